@@ -1,0 +1,5 @@
+pub mod Letters
+pub mod Message
+pub mod Names
+pub mod Spelling
+pub mod Text

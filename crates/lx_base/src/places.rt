@@ -1,0 +1,103 @@
+//! Places in source files, and the files' names.
+ghost use Rattle.std.specs.Prelude.{◌≡◌, ◌<◌, ◌≤◌, [], ◌∷◌, ◌++◌, length, string_bytes, IfOk, OnErr, MatchOption, Some, slice_get};
+
+use crate::lists::Memory;
+use std::alloc::Global;
+use std::marker::Model;
+
+/// A place in a source file.
+///
+/// `file` is the place of the file's name in `FileNames`. Lines and columns count from 1, columns in
+/// bytes, and a line feed ends a line.
+#[derive(Clone, Copy, Debug, PartialEq, Eq)]
+pub struct Pos {
+    pub file: u32,
+    pub line: u32,
+    pub col: u32,
+}
+
+/// The name of a file or a folder, as the command line spells it.
+#[derive(Debug, Drop)]
+pub struct FileName {
+    name: String,
+}
+
+impl Model for FileName {
+    ghost use Rattle.std.specs.Prelude.{List, ℕ};
+    ghost use Rattle.std.specs.Coded.{coded_ℕ, coded_list};
+    ghost use Rattle.std.specs.Prelude.{string_bytes};
+
+    ghost Value = { List ℕ };
+
+    ghost coded = { coded_list coded_ℕ };
+
+    ghost view = { λ file. string_bytes file.name };
+}
+
+impl FileName {
+    /// The name with these characters. It takes no memory.
+    pub fn from_string(name: String) -> Self
+        ensures { result ≡ string_bytes name }
+    {
+        FileName { name }
+    }
+
+    /// The name's characters.
+    pub fn as_str(&self) -> &str
+        ensures { result.now ≡ self.now }
+    {
+        self.name.as_str()
+    }
+}
+
+/// The names of the files met so far, in order; contracts see the list of their bytes.
+#[derive(Debug, Drop)]
+pub struct FileNames {
+    names: Vec<FileName>,
+}
+
+impl Model for FileNames {
+    ghost use Rattle.std.specs.Prelude.{List, ℕ};
+    ghost use Rattle.std.specs.Coded.{coded_ℕ, coded_list};
+
+    ghost Value = { List (List ℕ) };
+
+    ghost coded = { coded_list (coded_list coded_ℕ) };
+
+    ghost view = { λ files. files.names.items };
+}
+
+impl FileNames {
+    /// The empty list. It takes no memory.
+    pub fn new(alloc: Global) -> FileNames
+        ensures { result ≡ [] }
+    {
+        FileNames {
+            names: Vec::new(alloc),
+        }
+    }
+
+    /// Puts a name at the end and answers its place, counted from 0.
+    ///
+    /// Where memory runs out the list stays as it was.
+    pub fn add(&mut self, name: &str) -> Result<u32, Memory>
+        requires { length self.old < 4294967295 }
+        ensures added { IfOk result (λ file. (file ≡ length self.old) × (self.new ≡ self.old ++ name.now ∷ [])) }
+        ensures kept { OnErr result (self.new ≡ self.old) }
+    {
+        let file = self.names.len() as u32;
+        let name = String::from_str(*self.names.allocator(), name)?;
+        self.names.push(FileName::from_string(name))?;
+        Ok(file)
+    }
+
+    /// The name at a place; `None` exactly where the place is past the list.
+    pub fn get(&self, file: u32) -> Option<&str>
+        ensures { MatchOption result (length self.now ≤ file) (λ name. slice_get self.now file ≡ Some name.now) }
+    {
+        match self.names.get(file as usize) {
+            None => None,
+            Some(name) => Some(name.as_str()),
+        }
+    }
+}
