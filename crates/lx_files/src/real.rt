@@ -1,0 +1,166 @@
+//! The files of the system, and sinks over its writers.
+//!
+//! They tell neither what is held nor what was given: no contract can say what a system keeps.
+ghost use Rattle.std.specs.Prelude.{◌<◌, ◌≤◌, None, IfSome, length};
+
+use crate::counts::one_more;
+use crate::files::{Files, ReadAnswer, WriteAnswer};
+use crate::sinks::{PutAnswer, Sink};
+use std::alloc::Global;
+use std::io::{Read, Write};
+use std::{fs, io, rt};
+
+/// The length in bytes past which a file is not read: this counts as a fault.
+const LONGEST_FILE: usize = 268_435_456;
+
+/// The files of the system, by their paths.
+#[derive(Drop)]
+pub struct RealFiles<'r, R> {
+    system: &'r R,
+    faults: u64,
+    write_faults: u64,
+}
+
+impl<'r, R: rt::Files> RealFiles<'r, R> {
+    /// The files of this system, with no fault so far.
+    pub fn new(system: &'r R) -> RealFiles<'r, R> {
+        RealFiles {
+            system,
+            faults: 0,
+            write_faults: 0,
+        }
+    }
+}
+
+impl<'r, R: rt::Files> Files for RealFiles<'r, R> {
+    ghost held = { λ _. None };
+
+    ghost faults = { λ files. files.faults };
+
+    ghost write_faults = { λ files. files.write_faults };
+
+    /// An absent file counts as a fault too.
+    fn read(&mut self, alloc: Global, name: &str) -> Result<Vec<u8>, ReadAnswer> {
+        match read_file(self.system, alloc, name) {
+            Ok(bytes) => Ok(bytes),
+            Err(answer) => {
+                self.faults = one_more(self.faults);
+                Err(answer)
+            }
+        }
+    }
+
+    fn write(&mut self, name: &str, bytes: &[u8]) -> Result<(), WriteAnswer> {
+        match write_file(self.system, name, bytes) {
+            Ok(()) => Ok(()),
+            Err(_) => {
+                self.write_faults = one_more(self.write_faults);
+                Err(WriteAnswer::Failed)
+            }
+        }
+    }
+}
+
+fn read_file<R: rt::Files>(system: &R, alloc: Global, name: &str) -> Result<Vec<u8>, ReadAnswer> {
+    match fs::open(system, name) {
+        Ok(mut file) => read_to_end(alloc, &mut file),
+        Err(error) => Err(answer_of(&error)),
+    }
+}
+
+fn answer_of(error: &io::Error) -> ReadAnswer {
+    match error.kind() {
+        io::ErrorKind::NotFound => ReadAnswer::Missing,
+        io::ErrorKind::OutOfMemory => ReadAnswer::Memory,
+        _ => ReadAnswer::Failed,
+    }
+}
+
+/// All bytes of a file, read piece by piece. Each turn gets a byte or was interrupted, so there are no more
+/// turns than bytes that a file may have, and then one.
+pub fn read_to_end<F: Read>(alloc: Global, file: &mut F) -> Result<Vec<u8>, ReadAnswer> {
+    let mut bytes = Vec::new(alloc);
+    let mut buffer = [0u8; 16384];
+    for _ in 0..=LONGEST_FILE {
+        match file.read(&mut buffer) {
+            Ok(0) => return Ok(bytes),
+            Ok(count) => {
+                if count > LONGEST_FILE - bytes.len().min(LONGEST_FILE) {
+                    return Err(ReadAnswer::Failed);
+                }
+                if bytes.extend_from_slice(&buffer[..count]).is_err() {
+                    return Err(ReadAnswer::Memory);
+                }
+            }
+            Err(error) => {
+                if error.kind() != io::ErrorKind::Interrupted {
+                    return Err(answer_of(&error));
+                }
+            }
+        }
+    }
+    Err(ReadAnswer::Failed)
+}
+
+fn write_file<R: rt::Files>(system: &R, name: &str, bytes: &[u8]) -> io::Result<()> {
+    let mut file = fs::create(system, name)?;
+    file.write_all(bytes)?;
+    file.flush()
+}
+
+/// How often a write that was interrupted is tried again.
+const TRIES: u32 = 1024;
+
+/// A writer as a sink. Each put is flushed, and a failed flush counts as a fault.
+#[derive(Drop)]
+pub struct RealSink<W> {
+    to: W,
+    faults: u64,
+}
+
+impl<W: Write> RealSink<W> {
+    /// The sink over this writer, with no fault so far.
+    pub fn new(to: W) -> RealSink<W> {
+        RealSink { to, faults: 0 }
+    }
+}
+
+impl<W: Write> Sink for RealSink<W> {
+    ghost given = { λ _. None };
+
+    ghost faults = { λ sink. sink.faults };
+
+    fn put(&mut self, bytes: &[u8]) -> Result<usize, PutAnswer> {
+        match write_some(&mut self.to, bytes) {
+            Some(count) => Ok(count),
+            None => {
+                self.faults = one_more(self.faults);
+                Err(PutAnswer::Failed)
+            }
+        }
+    }
+}
+
+/// Writes a front of the bytes and flushes it, and answers its length; `None` where that failed, or where
+/// nothing of some bytes was taken.
+fn write_some<W: Write>(to: &mut W, bytes: &[u8]) -> Option<usize>
+    ensures within { IfSome result (λ count. count ≤ length bytes.now) }
+    ensures progress { IfSome result (λ count. 0 < length bytes.now → 0 < count) }
+{
+    for _ in 0..TRIES {
+        match to.write(bytes) {
+            Ok(count) => {
+                if count == 0 && !bytes.is_empty() {
+                    return None;
+                }
+                return to.flush().ok().map(|()| count);
+            }
+            Err(error) => {
+                if error.kind() != io::ErrorKind::Interrupted {
+                    return None;
+                }
+            }
+        }
+    }
+    None
+}

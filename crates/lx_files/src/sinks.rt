@@ -1,0 +1,34 @@
+//! What a sink means.
+ghost use Rattle.std.specs.Prelude.{◌≡◌, ℕ, ◌≤◌, List, Option, IfOk, IfErr, OnOk, OnErr};
+ghost use Rattle.lx_files.specs.Taking.{Takes, RefusesPut};
+
+use thiserror::Error;
+
+/// Why a sink took nothing: the put failed, or memory ran out.
+#[derive(Clone, Copy, Debug, PartialEq, Eq, Error)]
+pub enum PutAnswer {
+    #[error("the put failed")]
+    Failed,
+    #[error("out of memory")]
+    Memory,
+}
+
+/// What takes bytes: the standard output, the standard error, or a list.
+///
+/// `given` is what was taken so far, where that is told. `faults` counts the puts that failed, and never
+/// falls.
+pub trait Sink {
+    ghost given: { Self → Option (List ℕ) };
+
+    ghost faults: { Self → ℕ };
+
+    /// Takes a front of the bytes and answers its length, which is positive where there are bytes.
+    ///
+    /// `Failed` comes only with a fault. On a refusal nothing was taken.
+    fn put(&mut self, bytes: &[u8]) -> Result<usize, PutAnswer>
+        ensures takes { IfOk result (Takes (given self.old) (given self.new) bytes.now) }
+        ensures refuses { IfErr result (RefusesPut (faults self.old) (faults self.new)) }
+        ensures calm { OnOk result (faults self.new ≡ faults self.old) }
+        ensures kept { OnErr result (given self.new ≡ given self.old) }
+        ensures never_falls { faults self.old ≤ faults self.new };
+}
