@@ -127,3 +127,6 @@ fn append_window(
         ],
     )
 }
+
+#[cfg(test)]
+mod tests;

@@ -1,5 +1,5 @@
 //! Places in source files, and the files' names.
-ghost use Rattle.std.specs.Prelude.{◌≡◌, ◌<◌, ◌≤◌, [], ◌∷◌, ◌++◌, length, string_bytes, IfOk, OnErr, MatchOption, Some, slice_get};
+ghost use Rattle.std.specs.Prelude.{◌≡◌, ◌<◌, ◌↔◌, IsTrue, ◌≤◌, [], ◌∷◌, ◌++◌, length, string_bytes, IfOk, OnErr, MatchOption, Some, slice_get};
 
 use crate::lists::Memory;
 use std::alloc::Global;
@@ -89,6 +89,20 @@ impl FileNames {
         let name = String::from_str(*self.names.allocator(), name)?;
         self.names.push(FileName::from_string(name))?;
         Ok(file)
+    }
+
+    /// How many names there are.
+    pub fn len(&self) -> usize
+        ensures { result ≡ length self.now }
+    {
+        self.names.len()
+    }
+
+    /// Whether there is no name.
+    pub fn is_empty(&self) -> bool
+        ensures { IsTrue result ↔ (self.now ≡ []) }
+    {
+        self.names.is_empty()
     }
 
     /// The name at a place; `None` exactly where the place is past the list.

@@ -1,9 +1,9 @@
 -- Counts of faults.
-use Rattle.std.specs.Prelude.{◌≡◌, ℕ, ◌<◌, ◌≤◌}
+use Rattle.std.specs.Prelude.{ℕ, ◌<◌, ◌≤◌}
 
 -- A count rose: it is greater than before, or it stands at the last value that a count can have.
 abbrev pub Rose : ℕ → ℕ → Type 0
-Rose before after = after ≤ before → after ≡ 18446744073709551615
+Rose before after = after ≤ before → 18446744073709551615 ≤ after
 
 -- A count did not rise.
 abbrev pub IsCalm : ℕ → ℕ → Type 0

@@ -4,7 +4,7 @@ ghost use Rattle.lx_files.specs.declared.files.HeldFile.{HeldFile};
 ghost use Rattle.lx_files.specs.Held.{Binds, WhereTold};
 ghost use Rattle.lx_files.specs.Reading.{Gives, RefusesRead, RefusesWrite};
 
-use lx_base::{ByteText, FileName};
+use lx_base::{ByteText, FileName, Memory};
 use std::alloc::Global;
 use thiserror::Error;
 
@@ -33,6 +33,17 @@ pub enum WriteAnswer {
     Failed,
     #[error("out of memory")]
     Memory,
+}
+
+impl From<Memory> for WriteAnswer {
+    ghost use Rattle.std.specs.Prelude.{◌≡◌};
+    ghost use Rattle.lx_files.specs.declared.files.WriteAnswer.TheVariants as answer;
+
+    ghost from_gives = { λ _ given. given ≡ answer.Memory };
+
+    fn from(_error: Memory) -> WriteAnswer {
+        WriteAnswer::Memory
+    }
 }
 
 /// Files that are read and written whole, by name.

@@ -1,5 +1,5 @@
 //! Files in memory.
-ghost use Rattle.std.specs.Prelude.{◌≡◌, ◌+◌, ◌-◌, ◌≤◌, ◌↔◌, min, List, [], ◌∷◌, ◌++◌, Some, None, IsTrue, IfOk, IfErr, IsErrOf, OnOk, OnErr, MatchOption, Contains};
+ghost use Rattle.std.specs.Prelude.{◌≡◌, ℕ, ◌+◌, ◌-◌, ◌≤◌, ◌↔◌, min, List, [], ◌∷◌, ◌++◌, Some, None, IsTrue, IfOk, IfErr, IsErrOf, OnOk, OnErr, MatchOption, Contains};
 ghost use Rattle.lx_files.specs.declared.files.HeldFile.{HeldFile};
 ghost use Rattle.lx_files.specs.Held.{bytes_of, Binds, WhereTold};
 ghost use Rattle.lx_files.specs.Reading.{Gives, RefusesRead, RefusesWrite};
@@ -43,6 +43,17 @@ impl Bindings {
             }
         }
         None
+    }
+
+    fn read(&self, alloc: Global, name: &str) -> Result<Vec<u8>, ReadAnswer>
+        ensures gives { IfOk result (λ bytes. Gives (Some self.now) name.now bytes.items) }
+        ensures refuses { IfErr result (λ answer. (before after : ℕ) → RefusesRead (Some self.now) name.now before after answer) }
+        ensures never_fails { IsErrOf result ReadAnswer.Failed → ⊥ }
+    {
+        match self.find(name) {
+            None => Err(ReadAnswer::Missing),
+            Some(bytes) => Vec::from_slice(alloc, bytes).map_err(|_| ReadAnswer::Memory),
+        }
     }
 
     fn bind(&mut self, name: &str, bytes: &[u8]) -> Result<(), Memory>
@@ -130,10 +141,7 @@ impl Files for MemFiles {
             self.faults = one_more(self.faults);
             return Err(ReadAnswer::Failed);
         }
-        match self.bindings.find(name) {
-            None => Err(ReadAnswer::Missing),
-            Some(bytes) => Vec::from_slice(alloc, bytes).map_err(|_| ReadAnswer::Memory),
-        }
+        self.bindings.read(alloc, name)
     }
 
     fn write(&mut self, name: &str, bytes: &[u8]) -> Result<(), WriteAnswer>
@@ -148,10 +156,8 @@ impl Files for MemFiles {
             self.write_faults = one_more(self.write_faults);
             return Err(WriteAnswer::Failed);
         }
-        match self.bindings.bind(name, bytes) {
-            Ok(()) => Ok(()),
-            Err(Memory) => Err(WriteAnswer::Memory),
-        }
+        self.bindings.bind(name, bytes)?;
+        Ok(())
     }
 }
 
@@ -197,16 +203,11 @@ impl Files for QuietFiles {
     ghost write_faults = { λ _. 0 };
 
     fn read(&mut self, alloc: Global, name: &str) -> Result<Vec<u8>, ReadAnswer> {
-        match self.bindings.find(name) {
-            None => Err(ReadAnswer::Missing),
-            Some(bytes) => Vec::from_slice(alloc, bytes).map_err(|_| ReadAnswer::Memory),
-        }
+        self.bindings.read(alloc, name)
     }
 
     fn write(&mut self, name: &str, bytes: &[u8]) -> Result<(), WriteAnswer> {
-        match self.bindings.bind(name, bytes) {
-            Ok(()) => Ok(()),
-            Err(Memory) => Err(WriteAnswer::Memory),
-        }
+        self.bindings.bind(name, bytes)?;
+        Ok(())
     }
 }

@@ -8,6 +8,18 @@ use lx_base::Memory;
 use std::alloc::Global;
 use std::marker::Model;
 
+/// Takes all the bytes, or none where memory runs out.
+fn take_all(given: &mut Vec<u8>, bytes: &[u8]) -> Result<usize, PutAnswer>
+    ensures takes { IfOk result (Takes (Some given.old.items) (Some given.new.items) bytes.now) }
+    ensures refuses { IfErr result (λ answer. answer ≡ PutAnswer.Memory) }
+    ensures kept { OnErr result (given.new.items ≡ given.old.items) }
+{
+    match given.extend_from_slice(bytes) {
+        Ok(()) => Ok(bytes.len()),
+        Err(_) => Err(PutAnswer::Memory),
+    }
+}
+
 /// A list of bytes that takes what is put to it, and of which chosen calls fail.
 #[derive(Debug, Drop)]
 pub struct MemSink {
@@ -73,10 +85,7 @@ impl Sink for MemSink {
             self.faults = one_more(self.faults);
             return Err(PutAnswer::Failed);
         }
-        match self.given.extend_from_slice(bytes) {
-            Ok(()) => Ok(bytes.len()),
-            Err(_) => Err(PutAnswer::Memory),
-        }
+        take_all(&mut self.given, bytes)
     }
 }
 
@@ -118,9 +127,6 @@ impl Sink for QuietSink {
     ghost faults = { λ _. 0 };
 
     fn put(&mut self, bytes: &[u8]) -> Result<usize, PutAnswer> {
-        match self.given.extend_from_slice(bytes) {
-            Ok(()) => Ok(bytes.len()),
-            Err(_) => Err(PutAnswer::Memory),
-        }
+        take_all(&mut self.given, bytes)
     }
 }

@@ -1,0 +1,4 @@
+pub mod CompileLemmas
+pub mod EndingLemmas
+pub mod PutLemmas
+pub mod ReportLemmas

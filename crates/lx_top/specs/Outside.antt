@@ -1,0 +1,47 @@
+-- The outside of the program: files and sinks, before and after a run.
+use Rattle.std.specs.Prelude.{◌≡◌, ℕ, List, Option, IfSome}
+use Rattle.lx_files.specs.Counts.{IsCalm}
+use Rattle.lx_files.specs.Held.{IsFront}
+use Rattle.lx_files.specs.Taking.{given_then}
+use Rattle.lx_files.specs.declared.files.HeldFile.{HeldFile}
+
+-- what the files hold, where that is told, and their counts of faults of reads and of writes
+pub record FilesView : Type 0 where
+  pub held : Option (List HeldFile)
+  pub faults : ℕ
+  pub write_faults : ℕ
+
+-- what was given to a sink, where that is told, and its count of faults
+pub record SinkView : Type 0 where
+  pub given : Option (List ℕ)
+  pub faults : ℕ
+
+abbrev pub files_view : Option (List HeldFile) → ℕ → ℕ → FilesView
+files_view held faults write_faults = record { held = held; faults = faults; write_faults = write_faults }
+
+abbrev pub sink_view : Option (List ℕ) → ℕ → SinkView
+sink_view given faults = record { given = given; faults = faults }
+
+-- the files, the standard output and the standard error
+pub record Outside : Type 0 where
+  pub files : FilesView
+  pub out : SinkView
+  pub err : SinkView
+
+abbrev pub outside : FilesView → SinkView → SinkView → Outside
+outside files out err = record { files = files; out = out; err = err }
+
+-- the files as a run saw them: those that are held, where that is told
+abbrev pub Sees : Option (List HeldFile) → List HeldFile → Type 0
+Sees held seen = IfSome held (λ files. seen ≡ files)
+
+-- no count of faults rose
+pub record NoCountRose (before after : Outside) : Type 0 where
+  pub reads : IsCalm before.files.faults after.files.faults
+  pub writes : IsCalm before.files.write_faults after.files.write_faults
+  pub out : IsCalm before.out.faults after.out.faults
+  pub err : IsCalm before.err.faults after.err.faults
+
+-- a front of the text was given, and nothing else
+abbrev pub GivesFront : Option (List ℕ) → Option (List ℕ) → List ℕ → Type 0
+GivesFront given given' text = (front : List ℕ) × IsFront front text × (given' ≡ given_then given front)

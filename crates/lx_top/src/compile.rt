@@ -1,0 +1,119 @@
+//! The compilation of one source.
+ghost use Rattle.std.specs.Prelude.{◌≡◌, [], ◌∷◌, List, map, string_bytes, IfOk, IfErr, Some, MatchResult};
+ghost use Rattle.lx_files.specs.Counts.{Rose};
+ghost use Rattle.lx_files.specs.Held.{bytes_of};
+ghost use Rattle.lx_files.specs.declared.files.HeldFile.{HeldFile};
+ghost use Rattle.lx_top.specs.Endings.{Compiles};
+ghost use Rattle.lx_top.specs.FirstFault.{file_fault, first_fault, source_fault};
+ghost use Rattle.lx_top.specs.Outside.{Sees, sink_view};
+ghost use Rattle.lx_top.specs.Output.{IsOutput, IsOutputOf, IsOutputOfFile};
+ghost use Rattle.lx_top.specs.Steps.{CitesNames, Halts, HaltsRead, IsNoFile, IsPlacedHalt};
+
+use crate::endings::Halt;
+use crate::puts::put_all;
+use crate::sources::{is_plain, source_name};
+use lx_base::{ByteText, Fault, FileNames, Memory, Pos};
+use lx_files::{Files, ReadAnswer, Sink};
+use std::alloc::Global;
+
+/// Line 1, column 1 of the file that is compiled, whose name is the first that is met.
+const SOURCE_START: Pos = Pos {
+    file: 0,
+    line: 1,
+    col: 1,
+};
+
+/// Compiles the source that the words name and gives its output to `out`. The names of the files that are met
+/// stand in `names` afterwards.
+pub fn compile<F: Files, O: Sink>(
+    alloc: Global,
+    words: &[String],
+    files: &mut F,
+    out: &mut O,
+    names: &mut FileNames,
+) -> Result<(), Halt>
+    requires { names.old ≡ [] }
+    ensures ended { let texts = map string_bytes words.now in
+        let before = sink_view (O.given out.old) (O.faults out.old) in
+        let after = sink_view (O.given out.new) (O.faults out.new) in
+        (seen : List HeldFile) × Sees (F.held files.old) seen × MatchResult result
+        (λ _. Compiles (first_fault texts seen) (IsOutputOf texts seen) before after)
+        (Halts (first_fault texts seen) (IsOutputOf texts seen) (Rose (F.faults files.old) (F.faults files.new)) before after) }
+    ensures cites { IfErr result (CitesNames (map string_bytes words.now) names.new) }
+    ensures held_stays { F.held files.new ≡ F.held files.old }
+    ensures write_faults_stay { F.write_faults files.new ≡ F.write_faults files.old }
+{
+    match source_name(words) {
+        None => Err(Halt::Fault(Fault::Unsupported { at: None })),
+        Some(name) => {
+            names.add(name)?;
+            compile_file(alloc, name, files, out)
+        }
+    }
+}
+
+/// Compiles the source in a file.
+fn compile_file<F: Files, O: Sink>(
+    alloc: Global,
+    name: &str,
+    files: &mut F,
+    out: &mut O,
+) -> Result<(), Halt>
+    ensures ended { let before = sink_view (O.given out.old) (O.faults out.old) in
+        let after = sink_view (O.given out.new) (O.faults out.new) in
+        (seen : List HeldFile) × Sees (F.held files.old) seen × MatchResult result
+        (λ _. Compiles (file_fault name.now (bytes_of seen name.now)) (IsOutputOfFile (bytes_of seen name.now)) before after)
+        (Halts (file_fault name.now (bytes_of seen name.now)) (IsOutputOfFile (bytes_of seen name.now)) (Rose (F.faults files.old) (F.faults files.new)) before after) }
+    ensures placed { IfErr result (IsPlacedHalt (name.now ∷ [])) }
+    ensures held_stays { F.held files.new ≡ F.held files.old }
+    ensures write_faults_stay { F.write_faults files.new ≡ F.write_faults files.old }
+{
+    let source = read_source(alloc, files, name)?;
+    compile_source(&source, out)
+}
+
+/// Compiles a source.
+fn compile_source<O: Sink>(source: &[u8], out: &mut O) -> Result<(), Halt>
+    ensures ended { let before = sink_view (O.given out.old) (O.faults out.old) in
+        let after = sink_view (O.given out.new) (O.faults out.new) in
+        MatchResult result
+        (λ _. Compiles (source_fault source.now) (IsOutput source.now) before after)
+        (Halts (source_fault source.now) (IsOutput source.now) ⊥ before after) }
+{
+    if !is_plain(source) {
+        return Err(Halt::Fault(Fault::Unsupported {
+            at: Some(SOURCE_START),
+        }));
+    }
+    put_all(out, source)?;
+    Ok(())
+}
+
+/// The bytes of the file that is compiled.
+fn read_source<F: Files>(alloc: Global, files: &mut F, name: &str) -> Result<Vec<u8>, Halt>
+    ensures read { (seen : List HeldFile) × Sees (F.held files.old) seen × MatchResult result
+        (λ source. bytes_of seen name.now ≡ Some source.items)
+        (HaltsRead seen (Rose (F.faults files.old) (F.faults files.new)) name.now) }
+    ensures held_stays { F.held files.new ≡ F.held files.old }
+    ensures write_faults_stay { F.write_faults files.new ≡ F.write_faults files.old }
+{
+    match files.read(alloc, name) {
+        Ok(source) => Ok(source),
+        Err(ReadAnswer::Missing) => Err(no_file(alloc, name)),
+        Err(ReadAnswer::Failed) => Err(Halt::ReadFailed),
+        Err(ReadAnswer::Memory) => Err(Halt::OutOfMemory),
+    }
+}
+
+/// The fault of a file that is not there.
+fn no_file(alloc: Global, name: &str) -> Halt
+    ensures { IsNoFile name.now result }
+{
+    match Vec::from_slice(alloc, name.as_bytes()) {
+        Ok(name) => Halt::Fault(Fault::NoFile {
+            at: SOURCE_START,
+            name: ByteText::from_vec(name),
+        }),
+        Err(_) => Halt::OutOfMemory,
+    }
+}

@@ -1,0 +1,74 @@
+//! How a run of the program ends.
+ghost use Rattle.std.specs.Prelude.{◌≡◌};
+ghost use Rattle.lx_top.specs.Endings.{status_of};
+
+use lx_base::{Fault, Memory};
+use lx_files::PutAnswer;
+
+/// How a run ends, each with its exit status.
+#[derive(Clone, Copy, Debug, PartialEq, Eq)]
+pub enum Ending {
+    /// Status 0: all was done.
+    Done,
+    /// Status 1: the words, a source or an input is refused, by the message at the standard error.
+    Refused,
+    /// Status 2: a read failed.
+    ReadFailed,
+    /// Status 3: a put or a write failed.
+    PutFailed,
+    /// Status 4: memory ran out.
+    OutOfMemory,
+}
+
+impl Ending {
+    /// The exit status.
+    pub fn status(self) -> u8
+        ensures { result ≡ status_of self }
+    {
+        match self {
+            Ending::Done => 0,
+            Ending::Refused => 1,
+            Ending::ReadFailed => 2,
+            Ending::PutFailed => 3,
+            Ending::OutOfMemory => 4,
+        }
+    }
+}
+
+/// Why a compilation broke off.
+#[derive(Debug, Drop)]
+pub enum Halt {
+    /// The words or the source have a fault.
+    Fault(Fault),
+    /// A read failed.
+    ReadFailed,
+    /// A put to the standard output failed.
+    PutFailed,
+    /// Memory ran out.
+    OutOfMemory,
+}
+
+impl From<Memory> for Halt {
+    ghost use Rattle.std.specs.Prelude.{◌≡◌};
+    ghost use Rattle.lx_top.specs.declared.endings.Halt.TheVariants as halt;
+
+    ghost from_gives = { λ _ given. given ≡ halt.OutOfMemory };
+
+    fn from(_error: Memory) -> Halt {
+        Halt::OutOfMemory
+    }
+}
+
+impl From<PutAnswer> for Halt {
+    ghost use Rattle.lx_top.specs.Puts.{halt_of};
+    ghost use Rattle.std.specs.Prelude.{◌≡◌};
+
+    ghost from_gives = { λ answer given. given ≡ halt_of answer };
+
+    fn from(answer: PutAnswer) -> Halt {
+        match answer {
+            PutAnswer::Failed => Halt::PutFailed,
+            PutAnswer::Memory => Halt::OutOfMemory,
+        }
+    }
+}

@@ -1,0 +1,16 @@
+//! The scanner generator as one call: from the words of the command line, files and sinks to an exit status.
+#![tactic(auto)]
+
+mod compile;
+pub mod endings;
+pub mod puts;
+mod report;
+pub mod run;
+mod sources;
+
+pub use endings::{Ending, Halt};
+pub use puts::put_all;
+pub use run::re2c;
+
+#[cfg(test)]
+mod tests;

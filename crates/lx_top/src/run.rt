@@ -1,0 +1,62 @@
+//! The program as one call.
+ghost use Rattle.std.specs.Prelude.{◌≡◌, map, string_bytes};
+ghost use Rattle.lx_top.specs.Endings.{Ends, EndsSo};
+ghost use Rattle.lx_top.specs.Outside.{files_view, outside, sink_view};
+
+use crate::compile::compile;
+use crate::endings::Ending;
+use crate::report::report;
+use lx_base::FileNames;
+use lx_files::{Files, Sink};
+use std::alloc::Global;
+
+/// Does all that the program does, and answers the exit status: 0 done, 1 refused, 2 a read failed, 3 a put or a
+/// write failed, 4 memory ran out.
+///
+/// `words` are the words of the command line behind the program's name, `out` is the standard output and `err` the
+/// standard error. What each status promises is said by `Ends`.
+pub fn re2c<F: Files, O: Sink, E: Sink>(
+    alloc: Global,
+    words: &[String],
+    files: &mut F,
+    out: &mut O,
+    err: &mut E,
+) -> u8
+    ensures ends { let files_before = files_view (F.held files.old) (F.faults files.old) (F.write_faults files.old) in
+        let files_after = files_view (F.held files.new) (F.faults files.new) (F.write_faults files.new) in
+        let out_before = sink_view (O.given out.old) (O.faults out.old) in
+        let out_after = sink_view (O.given out.new) (O.faults out.new) in
+        let err_before = sink_view (E.given err.old) (E.faults err.old) in
+        let err_after = sink_view (E.given err.new) (E.faults err.new) in
+        Ends (map string_bytes words.now) (outside files_before out_before err_before) (outside files_after out_after err_after) result }
+
+    // No file is written.
+    ensures held_stays { F.held files.new ≡ F.held files.old }
+    ensures write_faults_stay { F.write_faults files.new ≡ F.write_faults files.old }
+{
+    run(alloc, words, files, out, err).status()
+}
+
+fn run<F: Files, O: Sink, E: Sink>(
+    alloc: Global,
+    words: &[String],
+    files: &mut F,
+    out: &mut O,
+    err: &mut E,
+) -> Ending
+    ensures ends { let files_before = files_view (F.held files.old) (F.faults files.old) (F.write_faults files.old) in
+        let files_after = files_view (F.held files.new) (F.faults files.new) (F.write_faults files.new) in
+        let out_before = sink_view (O.given out.old) (O.faults out.old) in
+        let out_after = sink_view (O.given out.new) (O.faults out.new) in
+        let err_before = sink_view (E.given err.old) (E.faults err.old) in
+        let err_after = sink_view (E.given err.new) (E.faults err.new) in
+        EndsSo (map string_bytes words.now) (outside files_before out_before err_before) (outside files_after out_after err_after) result }
+    ensures held_stays { F.held files.new ≡ F.held files.old }
+    ensures write_faults_stay { F.write_faults files.new ≡ F.write_faults files.old }
+{
+    let mut names = FileNames::new(alloc);
+    match compile(alloc, words, files, out, &mut names) {
+        Ok(()) => Ending::Done,
+        Err(halt) => report(alloc, &names, halt, err),
+    }
+}

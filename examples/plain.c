@@ -1,0 +1,2 @@
+/* A file without a block: re2c gives it back as it is. */
+int x;
