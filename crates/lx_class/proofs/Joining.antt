@@ -1,11 +1,12 @@
 -- What becomes of a canonical list whose last range is stretched, or that gets one more range.
-use Rattle.std.proofs.Common.{◌≡◌, ℕ, ◌+◌, ◌-◌, ◌<◌, ◌≤◌, ◌⊎◌, ◌↔◌, List, [], ◌∷◌, ◌++◌, length, get_or, set, take, drop, max, refl, sym, ap, ◌∙◌, subst, inl, inr, ⊎_elim, arith, take_all}
+use Rattle.std.proofs.Common.{◌≡◌, ℕ, ◌+◌, ◌-◌, ◌<◌, ◌≤◌, ◌⊎◌, ◌↔◌, List, [], ◌∷◌, ◌++◌, length, get_or, set, take, max, sym, ap, ◌∙◌, subst, inl, inr, ⊎_elim, arith, take_all}
 use Rattle.std.proofs.lemmas.List.{take_more, take_more_set, length-set}
 use Rattle.std.proofs.lemmas.Bool.{cases_lt}
 use Rattle.lx_class.specs.declared.ranges.Range.{Range}
-use Rattle.lx_class.specs.Ranges.{InRanges, IsCanonicalFrom, IsCanonical}
-use Rattle.lx_class.specs.Merge.{BeginBy, EndBefore}
-use Rattle.lx_class.proofs.RangeLists.{InRanges-append, IsCanonicalFrom-back, front_ends, BeginBy-append, BeginBy-parts}
+use Rattle.lx_class.specs.Ranges.{InRanges, IsCanonicalFrom, IsCanonical, IsUnion}
+use Rattle.lx_class.specs.Bounds.{BeginBy, EndBefore}
+use Rattle.lx_class.proofs.RangeLists.{InRanges-append, IsCanonicalFrom-back, BeginBy-append, BeginBy-parts, ends_before}
+use Rattle.lx_class.proofs.Unions.{grows_behind}
 
 -- the same range with another end
 abbrev pub stretched : Range → ℕ → Range
@@ -27,17 +28,19 @@ IsCanonicalFrom-push n (y ∷ xs) x gap from ordered bound h =
 EndBefore-last : (n : ℕ) (front : List Range) (last : Range) → IsCanonicalFrom n (front ++ last ∷ []) → EndBefore (front ++ last ∷ []) (last.hi + 1)
 EndBefore-last n [] last h = (omega arith, tt)
 EndBefore-last n (x ∷ front) last h =
-    let at : (x.lo ≤ x.hi) × (x.hi ≤ x.hi) = (h.1, omega arith) in
-    let lt = front_ends n (x ∷ front) last [] x.hi h (inl at) in
-    let back = IsCanonicalFrom-back n (x ∷ front) (last ∷ []) h in
+    let back = IsCanonicalFrom-back (x.hi + 2) front (last ∷ []) h.3 in
     (omega arith, EndBefore-last (x.hi + 2) front last h.3)
 
 -- two ranges that overlap or touch hold what their hull holds
-hull : (last x : Range) (hi c : ℕ) → hi ≡ max last.hi x.hi → last.lo ≤ x.lo → x.lo ≤ last.hi + 1 → x.lo ≤ x.hi →
-    ((last.lo ≤ c) × (c ≤ hi)) ↔ (((last.lo ≤ c) × (c ≤ last.hi)) ⊎ ((x.lo ≤ c) × (c ≤ x.hi)))
-hull last x hi c e order touch some = (
-  λ h. ⊎_elim (λ lt. let after : last.hi < c = lt in inr (omega arith, omega arith)) (λ le. let to : c ≤ last.hi = le in inl (h.0, to)) (cases_lt last.hi c),
-  λ h. ⊎_elim (λ a. (a.0, omega arith)) (λ b. (omega arith, omega arith)) h,
+hull : (last x : Range) (hi : ℕ) → hi ≡ max last.hi x.hi → last.lo ≤ x.lo → x.lo ≤ last.hi + 1 → x.lo ≤ x.hi →
+    IsUnion (last ∷ []) (x ∷ []) (stretched last hi ∷ [])
+hull last x hi is_max order touch some c = (
+  λ at. ⊎_elim
+      (λ here. ⊎_elim (λ lt. inr (inl (omega arith, omega arith))) (λ le. inl (inl (here.0, le))) (cases_lt last.hi c))
+      (λ none. absurd none) at,
+  λ at. ⊎_elim
+      (λ old. ⊎_elim (λ here. inl (here.0, omega arith)) (λ none. absurd none) old)
+      (λ new. ⊎_elim (λ here. inl (omega arith, omega arith)) (λ none. absurd none) new) at,
 )
 
 -- the range at the end of a list of this length
@@ -47,7 +50,6 @@ pub record IsLast (xs : List Range) (len : ℕ) (last : Range) : Type 0 where
   pub last_is : last ≡ get_or xs (len - 1) last
 
 module _ {xs : List Range} {len : ℕ} {last : Range} (at_end : IsLast xs len last) where
-  -- a list is its front and its last range
   front_last : xs ≡ take (len - 1) xs ++ last ∷ []
   front_last =
       sym (take_all (len - 1 + 1) xs (omega arith)) ∙ take_more xs (len - 1) last (omega arith)
@@ -59,10 +61,12 @@ module _ {xs : List Range} {len : ℕ} {last : Range} (at_end : IsLast xs len la
       ∙ take_more_set xs (len - 1) x (omega arith)
 
   pub last_canonical : IsCanonical xs → IsCanonicalFrom 0 (last ∷ [])
-  last_canonical h = IsCanonicalFrom-back 0 (take (len - 1) xs) (last ∷ []) (subst (λ l. IsCanonical l) front_last h)
+  last_canonical h =
+      IsCanonicalFrom-back 0 (take (len - 1) xs) (last ∷ []) (subst (λ l. IsCanonical l) front_last h)
 
   pub last_begins : (c : ℕ) → BeginBy xs c → last.lo ≤ c
-  last_begins c h = ((BeginBy-parts (take (len - 1) xs) (last ∷ []) c (subst (λ l. BeginBy l c) front_last h)).1).0
+  last_begins c h =
+      ((BeginBy-parts (take (len - 1) xs) (last ∷ []) c (subst (λ l. BeginBy l c) front_last h)).1).0
 
   pub last_ends : IsCanonical xs → EndBefore xs (last.hi + 1)
   last_ends h =
@@ -80,19 +84,14 @@ module _ {xs : List Range} {len : ℕ} {last : Range} (at_end : IsLast xs len la
       subst (λ l. BeginBy l c) (sym (front_set (stretched last hi)))
       (BeginBy-append (take (len - 1) xs) (stretched last hi ∷ []) c parts.0 (parts.1.0, tt))
 
-  pub stretched_points : (x : Range) (hi c : ℕ) → hi ≡ max last.hi x.hi → last.lo ≤ x.lo → x.lo ≤ last.hi + 1 → x.lo ≤ x.hi →
-      InRanges (set xs (len - 1) (stretched last hi)) c ↔ (InRanges xs c ⊎ ((x.lo ≤ c) × (c ≤ x.hi)))
-  stretched_points x hi c e order touch ordered =
+  pub stretched_points : (x : Range) (hi : ℕ) → hi ≡ max last.hi x.hi → last.lo ≤ x.lo → x.lo ≤ last.hi + 1 → x.lo ≤ x.hi →
+      IsUnion xs (x ∷ []) (set xs (len - 1) (stretched last hi))
+  stretched_points x hi is_max order touch ordered c =
       let front = take (len - 1) xs in
-      let new = InRanges-append front (stretched last hi ∷ []) c in
-      let old = InRanges-append front (last ∷ []) c in
-      let both = hull last x hi c e order touch ordered in (
-        λ at.
-            ⊎_elim (λ a. inl (subst (λ l. InRanges l c) (sym front_last) (old.1 (inl a))))
-            (λ b. ⊎_elim (λ here. ⊎_elim (λ l. inl (subst (λ l. InRanges l c) (sym front_last) (old.1 (inr (inl l))))) (λ r. inr r) (both.0 here)) (λ none. absurd none) b)
-            (new.0 (subst (λ l. InRanges l c) (front_set (stretched last hi)) at)),
-        λ at. subst (λ l. InRanges l c) (sym (front_set (stretched last hi)))
-            (⊎_elim
-            (λ a. ⊎_elim (λ f. new.1 (inl f)) (λ b. ⊎_elim (λ here. new.1 (inr (inl (both.1 (inl here))))) (λ none. absurd none) b) (old.0 (subst (λ l. InRanges l c) front_last a)))
-            (λ b. new.1 (inr (inl (both.1 (inr b))))) at),
-      )
+      let new : InRanges (set xs (len - 1) (stretched last hi)) c ↔ (InRanges front c ⊎ InRanges (stretched last hi ∷ []) c) =
+      subst (λ l. InRanges l c ↔ (InRanges front c ⊎ InRanges (stretched last hi ∷ []) c)) (sym (front_set (stretched last hi)))
+      (InRanges-append front (stretched last hi ∷ []) c) in
+      let old : InRanges xs c ↔ (InRanges front c ⊎ InRanges (last ∷ []) c) =
+      subst (λ l. InRanges l c ↔ (InRanges front c ⊎ InRanges (last ∷ []) c)) (sym front_last)
+      (InRanges-append front (last ∷ []) c) in
+      grows_behind new (hull last x hi is_max order touch ordered c) old

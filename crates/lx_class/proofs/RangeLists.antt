@@ -1,17 +1,23 @@
--- Lemmas on lists of ranges: their points, where they begin and end, and what stays canonical.
-use Rattle.std.proofs.Common.{◌≡◌, ℕ, suc, ◌+◌, ◌<◌, ◌≤◌, ◌⊎◌, ◌↔◌, List, [], ◌∷◌, ◌++◌, length, get_or, take, drop, refl, sym, ap, ◌∙◌, subst, inl, inr, ⊎_elim, arith, ◌-◌, take_all}
-use Rattle.std.proofs.lemmas.List.{take-append-drop, nil_from_length, length-drop}
+-- Lists of ranges end to end, and their parts: which points they have, where they begin and end, what is canonical.
+use Rattle.std.proofs.Common.{◌≡◌, ℕ, ◌+◌, ◌-◌, ◌<◌, ◌≤◌, ◌⊎◌, ◌↔◌, List, [], ◌∷◌, ◌++◌, length, take, drop, sym, subst, inl, inr, ⊎_elim, arith, take_all}
+use Rattle.std.proofs.lemmas.List.{take-append-drop, length-drop}
 use Rattle.lx_class.specs.declared.ranges.Range.{Range}
 use Rattle.lx_class.specs.Ranges.{InRanges, IsCanonicalFrom, IsCanonical}
-use Rattle.lx_class.specs.Merge.{BeginBy, EndBefore}
+use Rattle.lx_class.specs.Bounds.{BeginBy, EndBefore}
 
 pub InRanges-append : (xs ys : List Range) (c : ℕ) → InRanges (xs ++ ys) c ↔ (InRanges xs c ⊎ InRanges ys c)
-InRanges-append [] ys c = (λ h. inr h, λ h. ⊎_elim (λ none. absurd none) (λ y. y) h)
+InRanges-append [] ys c = (λ at. inr at, λ at. ⊎_elim (λ none. absurd none) (λ back. back) at)
 InRanges-append (x ∷ xs) ys c =
     let rest = InRanges-append xs ys c in (
-      λ h. ⊎_elim (λ at. inl (inl at)) (λ r. ⊎_elim (λ a. inl (inr a)) (λ b. inr b) (rest.0 r)) h,
-      λ h. ⊎_elim (λ a. ⊎_elim (λ at. inl at) (λ r. inr (rest.1 (inl r))) a) (λ b. inr (rest.1 (inr b))) h,
+      λ at. ⊎_elim (λ here. inl (inl here)) (λ later. ⊎_elim (λ front. inl (inr front)) (λ back. inr back) (rest.0 later)) at,
+      λ at. ⊎_elim (λ front. ⊎_elim (λ here. inl here) (λ later. inr (rest.1 (inl later))) front) (λ back. inr (rest.1 (inr back))) at,
     )
+
+-- the parts before a place and from there on
+pub InRanges-split : (xs : List Range) (i c : ℕ) → InRanges xs c ↔ (InRanges (take i xs) c ⊎ InRanges (drop i xs) c)
+InRanges-split xs i c =
+    subst (λ l. InRanges l c ↔ (InRanges (take i xs) c ⊎ InRanges (drop i xs) c)) (take-append-drop i xs)
+    (InRanges-append (take i xs) (drop i xs) c)
 
 pub IsCanonicalFrom-earlier : (m n : ℕ) (xs : List Range) → n ≤ m → IsCanonicalFrom m xs → IsCanonicalFrom n xs
 IsCanonicalFrom-earlier m n [] le h = tt
@@ -23,28 +29,21 @@ begins_from n [] c h at = absurd at
 begins_from n (x ∷ xs) c h at =
     ⊎_elim (λ here. omega arith) (λ later. let le = begins_from (x.hi + 2) xs c h.3 later in omega arith) at
 
-pub IsCanonicalFrom-front : (n : ℕ) (xs ys : List Range) → IsCanonicalFrom n (xs ++ ys) → IsCanonicalFrom n xs
-IsCanonicalFrom-front n [] ys h = tt
-IsCanonicalFrom-front n (x ∷ xs) ys h = (h.0, h.1, h.2, IsCanonicalFrom-front (x.hi + 2) xs ys h.3)
-
 pub IsCanonicalFrom-back : (n : ℕ) (xs ys : List Range) → IsCanonicalFrom n (xs ++ ys) → IsCanonicalFrom n ys
 IsCanonicalFrom-back n [] ys h = h
 IsCanonicalFrom-back n (x ∷ xs) ys h =
     IsCanonicalFrom-back n xs ys (IsCanonicalFrom-earlier (x.hi + 2) n (xs ++ ys) (omega arith) h.3)
 
--- points of the ranges before one lie before it
-pub front_ends : (n : ℕ) (xs : List Range) (x : Range) (ys : List Range) (c : ℕ) → IsCanonicalFrom n (xs ++ x ∷ ys) → InRanges xs c → c < x.lo
-front_ends n [] x ys c h at = absurd at
-front_ends n (y ∷ xs) x ys c h at =
-    ⊎_elim
-    (λ here. let le = begins_from (y.hi + 2) (xs ++ x ∷ ys) x.lo h.3 (first_point (y.hi + 2) xs x ys h.3) in omega arith)
-    (λ later. front_ends (y.hi + 2) xs x ys c h.3 later) at
-  where
-    first_point : (n : ℕ) (xs : List Range) (x : Range) (ys : List Range) → IsCanonicalFrom n (xs ++ x ∷ ys) → InRanges (xs ++ x ∷ ys) x.lo
-    first_point n xs x ys h =
-        let back = IsCanonicalFrom-back n xs (x ∷ ys) h in
-        let at : (x.lo ≤ x.lo) × (x.lo ≤ x.hi) = (omega arith, back.1) in
-        (InRanges-append xs (x ∷ ys) x.lo).1 (inr (inl at))
+pub IsCanonical-drop : (xs : List Range) (i : ℕ) → IsCanonical xs → IsCanonical (drop i xs)
+IsCanonical-drop xs i h =
+    IsCanonicalFrom-back 0 (take i xs) (drop i xs) (subst (λ l. IsCanonical l) (sym (take-append-drop i xs)) h)
+
+-- what stands before a range lies before it
+pub ends_before : (n : ℕ) (xs : List Range) (x : Range) (ys : List Range) (c : ℕ) → IsCanonicalFrom n (xs ++ x ∷ ys) → InRanges xs c → c < x.lo
+ends_before n [] x ys c h at = absurd at
+ends_before n (y ∷ xs) x ys c h at =
+    let back = IsCanonicalFrom-back (y.hi + 2) xs (x ∷ ys) h.3 in
+    ⊎_elim (λ here. omega arith) (λ later. ends_before (y.hi + 2) xs x ys c h.3 later) at
 
 pub BeginBy-later : (xs : List Range) (m n : ℕ) → m ≤ n → BeginBy xs m → BeginBy xs n
 BeginBy-later [] m n le h = tt
@@ -71,19 +70,6 @@ pub ended : (xs : List Range) (n c : ℕ) → EndBefore xs n → n ≤ c → InR
 ended [] n c h le at = at
 ended (x ∷ xs) n c h le at = ⊎_elim (λ here. omega arith) (λ later. ended xs n c h.1 le later) at
 
--- a list and its parts before a place and from there on
-pub InRanges-split : (xs : List Range) (i c : ℕ) → InRanges xs c ↔ (InRanges (take i xs) c ⊎ InRanges (drop i xs) c)
-InRanges-split xs i c =
-    subst (λ l. InRanges l c ↔ (InRanges (take i xs) c ⊎ InRanges (drop i xs) c)) (take-append-drop i xs)
-    (InRanges-append (take i xs) (drop i xs) c)
-
-pub IsCanonical-drop : (xs : List Range) (i : ℕ) → IsCanonical xs → IsCanonical (drop i xs)
-IsCanonical-drop xs i h =
-    IsCanonicalFrom-back 0 (take i xs) (drop i xs) (subst (λ l. IsCanonical l) (sym (take-append-drop i xs)) h)
-
-pub drop-past : (xs : List Range) (i : ℕ) → length xs ≤ i → drop i xs ≡ []
-drop-past xs i le = nil_from_length (drop i xs) (omega (arith, length-drop i xs))
-
--- what `&xs[i..]` is
+-- what `&xs[i..]` holds
 pub suffix : (xs : List Range) (i : ℕ) → take (length xs - i) (drop i xs) ≡ drop i xs
 suffix xs i = take_all (length xs - i) (drop i xs) (omega (arith, length-drop i xs))

@@ -1,7 +1,7 @@
 //! Sorted lists of ranges, and the one pass by which two of them are united or taken from one another.
 ghost use Rattle.std.specs.Prelude.{◌≡◌, ℕ, ◌+◌, ◌<◌, ◌≤◌, ◌⊎◌, ◌↔◌, [], ◌∷◌, length, take, drop, IsTrue, IfOk, OnOk};
-ghost use Rattle.lx_class.specs.Ranges.{InRanges, IsCanonical};
-ghost use Rattle.lx_class.specs.Merge.{BeginBy, EndBefore};
+ghost use Rattle.lx_class.specs.Ranges.{InRanges, IsCanonical, IsDifference, IsUnion};
+ghost use Rattle.lx_class.specs.Bounds.{BeginBy, EndBefore};
 
 use lx_base::Memory;
 use std::alloc::Global;
@@ -44,8 +44,9 @@ fn append_range(ranges: &mut Vec<Range>, range: Range) -> Result<(), Memory>
     requires bounded { range.hi ≤ MAX_POINT }
     requires in_turn { BeginBy ranges.old.items range.lo }
     ensures canonical { OnOk result (IsCanonical ranges.new.items) }
-    ensures points { OnOk result ((point : ℕ) → InRanges ranges.new.items point ↔ (InRanges ranges.old.items point ⊎ ((range.lo ≤ point) × (point ≤ range.hi)))) }
-    ensures begin { OnOk result ((point : ℕ) → BeginBy ranges.old.items point → range.lo ≤ point → BeginBy ranges.new.items point) }
+    ensures points { OnOk result (IsUnion ranges.old.items (range ∷ []) ranges.new.items) }
+    ensures begin { OnOk result ((point : ℕ) →
+        BeginBy ranges.old.items point → range.lo ≤ point → BeginBy ranges.new.items point) }
 {
     let len = ranges.len();
     if len > 0 {
@@ -68,8 +69,9 @@ fn append_ranges(ranges: &mut Vec<Range>, rest: &[Range]) -> Result<(), Memory>
     requires canonical_rest { IsCanonical rest.now }
     requires in_turn { (point : ℕ) → InRanges rest.now point → BeginBy ranges.old.items point }
     ensures canonical { OnOk result (IsCanonical ranges.new.items) }
-    ensures points { OnOk result ((point : ℕ) → InRanges ranges.new.items point ↔ (InRanges ranges.old.items point ⊎ InRanges rest.now point)) }
-    ensures begin { OnOk result ((point : ℕ) → BeginBy ranges.old.items point → BeginBy rest.now point → BeginBy ranges.new.items point) }
+    ensures points { OnOk result (IsUnion ranges.old.items rest.now ranges.new.items) }
+    ensures begin { OnOk result ((point : ℕ) →
+        BeginBy ranges.old.items point → BeginBy rest.now point → BeginBy ranges.new.items point) }
 {
     for range in rest {
         append_range(ranges, *range)?;
@@ -82,7 +84,7 @@ pub(crate) fn union_of(alloc: Global, left: &[Range], right: &[Range]) -> Result
     requires left { IsCanonical left.now }
     requires right { IsCanonical right.now }
     ensures canonical { IfOk result (λ ranges. IsCanonical ranges.items) }
-    ensures points { IfOk result (λ ranges. (point : ℕ) → InRanges ranges.items point ↔ (InRanges left.now point ⊎ InRanges right.now point)) }
+    ensures points { IfOk result (λ ranges. IsUnion left.now right.now ranges.items) }
 {
     let mut ranges = Vec::new(alloc);
     let (mut i, mut j) = (0, 0);
@@ -106,8 +108,10 @@ fn append_points(ranges: &mut Vec<Range>, from: u32, until: u32) -> Result<(), M
     requires bounded { until ≤ MAX_POINT + 1 }
     requires in_turn { BeginBy ranges.old.items from }
     ensures canonical { OnOk result (IsCanonical ranges.new.items) }
-    ensures points { OnOk result ((point : ℕ) → InRanges ranges.new.items point ↔ (InRanges ranges.old.items point ⊎ ((from ≤ point) × (point < until)))) }
-    ensures begin { OnOk result ((point : ℕ) → BeginBy ranges.old.items point → from ≤ point → BeginBy ranges.new.items point) }
+    ensures points { OnOk result ((point : ℕ) → InRanges ranges.new.items point ↔
+        (InRanges ranges.old.items point ⊎ ((from ≤ point) × (point < until)))) }
+    ensures begin { OnOk result ((point : ℕ) →
+        BeginBy ranges.old.items point → from ≤ point → BeginBy ranges.new.items point) }
 {
     if from < until {
         append_range(
@@ -137,7 +141,8 @@ fn append_uncovered(
     requires within { place ≤ length holes.now }
     requires passed { EndBefore (take place holes.now) range.lo }
     ensures canonical { OnOk result (IsCanonical ranges.new.items) }
-    ensures points { OnOk result ((point : ℕ) → InRanges ranges.new.items point ↔ (InRanges ranges.old.items point ⊎ ((range.lo ≤ point) × (point ≤ range.hi) × (InRanges holes.now point → ⊥)))) }
+    ensures points { OnOk result ((point : ℕ) → InRanges ranges.new.items point ↔
+        (InRanges ranges.old.items point ⊎ (InRanges (range ∷ []) point × ¬ InRanges holes.now point))) }
     ensures begin { OnOk result (BeginBy ranges.new.items range.hi) }
     ensures within { IfOk result (λ next. next ≤ length holes.now) }
     ensures passed { IfOk result (λ next. EndBefore (take next holes.now) range.hi) }
@@ -165,7 +170,7 @@ pub(crate) fn difference_of(
     requires ranges { IsCanonical ranges.now }
     requires holes { IsCanonical holes.now }
     ensures canonical { IfOk result (λ left. IsCanonical left.items) }
-    ensures points { IfOk result (λ left. (point : ℕ) → InRanges left.items point ↔ (InRanges ranges.now point × (InRanges holes.now point → ⊥))) }
+    ensures points { IfOk result (λ left. IsDifference ranges.now holes.now left.items) }
 {
     let mut left = Vec::new(alloc);
     let mut place = 0;

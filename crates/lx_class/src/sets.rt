@@ -1,6 +1,6 @@
 //! The set of code points, as callers see it.
 ghost use Rattle.std.specs.Prelude.{◌≡◌, ℕ, ◌≤◌, ◌⊎◌, ◌↔◌, List, [], ◌∷◌, min, max, IsTrue, IfOk};
-ghost use Rattle.lx_class.specs.Ranges.{InRanges, IsCanonical};
+ghost use Rattle.lx_class.specs.Ranges.{HaveSamePoints, InRanges, IsCanonical, IsDifference, IsUnion};
 ghost use Rattle.lx_class.specs.declared.ranges.Range.{Range};
 
 use crate::ranges::{MAX_POINT, Range, difference_of, holds_point, union_of};
@@ -32,7 +32,8 @@ impl Model for ClassSet {
 impl ClassSet {
     /// The empty set. It takes no memory.
     pub fn none(alloc: Global) -> ClassSet
-        ensures { result ≡ [] }
+        ensures ranges { result ≡ [] }
+        ensures points { (point : ℕ) → ¬ InRanges result point }
     {
         ClassSet {
             ranges: Vec::new(alloc),
@@ -45,7 +46,8 @@ impl ClassSet {
         requires b_bounded { b ≤ MAX_POINT }
         ensures ranges { IfOk result (λ set. set ≡ record { lo = min a b; hi = max a b } ∷ []) }
         ensures canonical { IfOk result IsCanonical }
-        ensures points { IfOk result (λ set. (point : ℕ) → InRanges set point ↔ ((min a b ≤ point) × (point ≤ max a b))) }
+        ensures points { IfOk result (λ set. (point : ℕ) →
+            InRanges set point ↔ ((min a b ≤ point) × (point ≤ max a b))) }
     {
         let range = Range {
             lo: a.min(b),
@@ -58,7 +60,7 @@ impl ClassSet {
     /// The points that lie in one of two sets or in both.
     pub fn union(&self, alloc: Global, other: &ClassSet) -> Result<ClassSet, Memory>
         ensures canonical { IfOk result IsCanonical }
-        ensures points { IfOk result (λ set. (point : ℕ) → InRanges set point ↔ (InRanges self.now point ⊎ InRanges other.now point)) }
+        ensures points { IfOk result (IsUnion self.now other.now) }
     {
         let ranges = union_of(alloc, &self.ranges, &other.ranges)?;
         Ok(ClassSet { ranges })
@@ -67,7 +69,7 @@ impl ClassSet {
     /// The points of this set that do not lie in the other.
     pub fn minus(&self, alloc: Global, other: &ClassSet) -> Result<ClassSet, Memory>
         ensures canonical { IfOk result IsCanonical }
-        ensures points { IfOk result (λ set. (point : ℕ) → InRanges set point ↔ (InRanges self.now point × (InRanges other.now point → ⊥))) }
+        ensures points { IfOk result (IsDifference self.now other.now) }
     {
         let ranges = difference_of(alloc, &self.ranges, &other.ranges)?;
         Ok(ClassSet { ranges })
@@ -77,7 +79,7 @@ impl ClassSet {
     pub fn copy(&self, alloc: Global) -> Result<ClassSet, Memory>
         ensures ranges { IfOk result (λ set. set ≡ self.now) }
         ensures canonical { IfOk result IsCanonical }
-        ensures points { IfOk result (λ set. (point : ℕ) → InRanges set point ↔ InRanges self.now point) }
+        ensures points { IfOk result (HaveSamePoints self.now) }
     {
         let ranges = Vec::from_slice(alloc, &self.ranges)?;
         Ok(ClassSet { ranges })
@@ -101,5 +103,9 @@ impl ClassSet {
 
 /// Sets with the same points have the same ranges: it does nothing, and its contract is the law.
 pub fn same_points_same_ranges()
-    ensures { (left right : List Range) → IsCanonical left → IsCanonical right → ((point : ℕ) → InRanges left point ↔ InRanges right point) → left ≡ right }
+    ensures { (left right : List Range) →
+        IsCanonical left → IsCanonical right → HaveSamePoints left right → left ≡ right }
 {}
+
+#[cfg(test)]
+mod tests;

@@ -1,7 +1,7 @@
-use Rattle.std.proofs.Common.{◌≡◌, ◌+◌, ◌-◌, ◌<◌, ◌≤◌, ◌++◌, ◌∷◌, [], ℕ, ◌∙◌, ap, sym, subst, inl, inr, ⊎_elim, arith}
+use Rattle.std.proofs.Common.{◌⊎◌, ◌↔◌, ◌≡◌, ◌+◌, ◌-◌, ◌<◌, ◌≤◌, ◌++◌, ◌∷◌, [], ℕ, ◌∙◌, ap, sym, subst, inl, inr, ⊎_elim, arith}
 use Rattle.std.proofs.lemmas.List.{nil_from_length}
 use Rattle.lx_class.specs.Ranges.{InRanges, IsCanonical}
-use Rattle.lx_class.specs.Merge.{BeginBy, EndBefore}
+use Rattle.lx_class.specs.Bounds.{BeginBy, EndBefore}
 use Rattle.lx_class.proofs.RangeLists.{InRanges-append, BeginBy-append, EndBefore-later}
 use Rattle.lx_class.proofs.Joining.{IsLast, last_canonical, last_begins, last_ends, stretched_canonical, stretched_begin, stretched_points, IsCanonicalFrom-push}
 use Rattle.lx_class.proofs.ranges.append_range.Goals as goal
@@ -27,7 +27,7 @@ returns-then-range-last-clause-points c =
     let xs = c.args.ranges.now in
     let at_end : IsLast xs.items c.len-len.result c.index-last.result.now =
     record { length_is = c.len-len.ensures ∙ xs.ok.0; some = c.if-len-gt0.true; last_is = c.index-last.ensures } in
-    λ point. stretched_points at_end c.args.range c.max.result point c.max.ensures
+    stretched_points at_end c.args.range c.max.result c.max.ensures
     (last_begins at_end c.args.range.lo c.requires.in_turn) c.if-range-last.true c.requires.ordered
 
 pub returns-then-range-last-clause-begin : goal.returns-then-range-last-clause-begin
@@ -54,12 +54,9 @@ returns-clause-canonical c =
 pub returns-clause-points : goal.returns-clause-points
 returns-clause-points c = λ point.
     let xs = c.args.ranges.now.items in
-    let x = c.args.range in
-    let both = InRanges-append xs (x ∷ []) point in (
-      λ at. ⊎_elim (λ old. inl old) (λ new. ⊎_elim (λ here. inr here) (λ none. absurd none) new)
-          (both.0 (subst (λ l. InRanges l point) c.in_ok-push.ensures.items at)),
-      λ at. subst (λ l. InRanges l point) (sym c.in_ok-push.ensures.items) (both.1 (⊎_elim (λ old. inl old) (λ new. inr (inl new)) at)),
-    )
+    let added = c.args.range ∷ [] in
+    subst (λ l. InRanges l point ↔ (InRanges xs point ⊎ InRanges added point)) (sym c.in_ok-push.ensures.items)
+    (InRanges-append xs added point)
 
 pub returns-clause-begin : goal.returns-clause-begin
 returns-clause-begin c = λ point begin le.

@@ -1,6 +1,6 @@
 use Rattle.std.proofs.Common.{ℕ, ◌⊎◌, ◌↔◌, take, drop}
 use Rattle.lx_class.specs.Ranges.{InRanges, IsCanonical}
-use Rattle.lx_class.specs.Merge.{BeginBy}
+use Rattle.lx_class.specs.Bounds.{BeginBy}
 use Rattle.lx_class.proofs.ranges.append_ranges.Given as goal
 
 abbrev pub invariant-loop-range : goal.invariant-loop-range

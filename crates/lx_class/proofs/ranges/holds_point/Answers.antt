@@ -12,7 +12,7 @@ loop-low-preserved-then-point-range c =
       ordered = omega arith;
       within = omega arith;
       not_before = known.not_before;
-      not_after = λ at. let from = from_here _ _ (record { lo = 0; hi = 0 }) within c.args.point c.requires at in omega arith;
+      not_after = λ at. let from = from_here _ _ within c.args.point c.requires at in omega arith;
     }
 
 pub loop-low-preserved : goal.loop-low-preserved
@@ -22,7 +22,7 @@ loop-low-preserved c =
     record {
       ordered = omega arith;
       within = known.within;
-      not_before = not_through _ _ _ within c.args.point c.requires c.if-range-point.true;
+      not_before = not_through _ _ within c.args.point c.requires c.if-range-point.true;
       not_after = known.not_after;
     }
 
@@ -30,7 +30,7 @@ pub returns-else-range-point : goal.returns-else-range-point
 returns-else-range-point c =
     let known = c.loop-low.invariant in
     let within : c.loop-low.low + (c.loop-low.high - c.loop-low.low) / 2 < length c.args.ranges.now = omega arith in
-    (λ _. found_at _ _ _ within c.args.point c.if-point-range.false c.if-range-point.false, λ _. refl)
+    (λ _. found_at _ _ within c.args.point c.if-point-range.false c.if-range-point.false, λ _. refl)
 
 pub returns : goal.returns
 returns c =

@@ -6,8 +6,8 @@ abbrev pub invariant-loop-low : goal.invariant-loop-low
 invariant-loop-low l = record {
   ordered : l.low ≤ l.high;
   within : l.high ≤ length l.ranges;
-  not_before : InRanges (take l.low l.ranges) l.point → ⊥;
-  not_after : InRanges (drop l.high l.ranges) l.point → ⊥;
+  not_before : ¬ InRanges (take l.low l.ranges) l.point;
+  not_after : ¬ InRanges (drop l.high l.ranges) l.point;
 }
 
 abbrev pub decreases-loop-low : goal.decreases-loop-low

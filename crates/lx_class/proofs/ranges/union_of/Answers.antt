@@ -1,37 +1,37 @@
 use Rattle.std.proofs.Common.{ℕ, ◌+◌, ◌-◌, ◌<◌, ◌≤◌, ◌⊎◌, ◌↔◌, length, take, drop, sym, subst, arith}
 use Rattle.lx_class.specs.Ranges.{InRanges, IsCanonical}
-use Rattle.lx_class.specs.Merge.{BeginBy}
+use Rattle.lx_class.specs.Bounds.{BeginBy}
 use Rattle.lx_class.proofs.RangeLists.{InRanges-split, IsCanonical-drop, suffix}
 use Rattle.lx_class.proofs.Places.{canonical_at, first_left, from_here, past_here, still_left, InRanges-take_more}
 use Rattle.lx_class.proofs.Unions.{grows_left, grows_right, grows_by_both}
 use Rattle.lx_class.proofs.ranges.union_of.Goals as goal
 
 pub append_range-requires-clause-ordered : goal.append_range-requires-clause-ordered
-append_range-requires-clause-ordered c = (canonical_at _ _ _ c.loop-i-test.true c.requires.left).1
+append_range-requires-clause-ordered c = (canonical_at _ _ c.loop-i-test.true c.requires.left).1
 
 pub append_range-requires-clause-bounded : goal.append_range-requires-clause-bounded
-append_range-requires-clause-bounded c = (canonical_at _ _ _ c.loop-i-test.true c.requires.left).2
+append_range-requires-clause-bounded c = (canonical_at _ _ c.loop-i-test.true c.requires.left).2
 
 pub append_range-requires-clause-in_turn : goal.append_range-requires-clause-in_turn
 append_range-requires-clause-in_turn c =
-    c.loop-i.invariant.left_in_turn _ (first_left _ _ _ c.loop-i-test.true c.requires.left)
+    c.loop-i.invariant.left_in_turn _ (first_left _ _ c.loop-i-test.true c.requires.left)
 
 pub append_range-requires-else-left-i-clause-ordered : goal.append_range-requires-else-left-i-clause-ordered
-append_range-requires-else-left-i-clause-ordered c = (canonical_at _ _ _ c.if-j-right.true c.requires.right).1
+append_range-requires-else-left-i-clause-ordered c = (canonical_at _ _ c.if-j-right.true c.requires.right).1
 
 pub append_range-requires-else-left-i-clause-bounded : goal.append_range-requires-else-left-i-clause-bounded
-append_range-requires-else-left-i-clause-bounded c = (canonical_at _ _ _ c.if-j-right.true c.requires.right).2
+append_range-requires-else-left-i-clause-bounded c = (canonical_at _ _ c.if-j-right.true c.requires.right).2
 
 pub append_range-requires-else-left-i-clause-in_turn : goal.append_range-requires-else-left-i-clause-in_turn
 append_range-requires-else-left-i-clause-in_turn c =
-    c.loop-i.invariant.right_in_turn _ (first_left _ _ _ c.if-j-right.true c.requires.right)
+    c.loop-i.invariant.right_in_turn _ (first_left _ _ c.if-j-right.true c.requires.right)
 
 pub loop-i-preserved-then-left-i : goal.loop-i-preserved-then-left-i
 loop-i-preserved-then-left-i c =
     let xs = c.args.left.now in
     let i = c.loop-i.i in
     let lt : i < length xs = c.loop-i-test.true in
-    let parts = canonical_at xs i (record { lo = 0; hi = 0 }) lt c.requires.left in
+    let parts = canonical_at xs i lt c.requires.left in
     let known = c.loop-i.invariant in
     let now = c.in_ok-append_range.ensures in
     record {
@@ -39,12 +39,12 @@ loop-i-preserved-then-left-i c =
       within_right = known.within_right;
       canonical = now.canonical;
       left_in_turn = λ point at.
-          let past = past_here xs i (record { lo = 0; hi = 0 }) lt point c.requires.left at in
-          now.begin point (known.left_in_turn point (still_left xs i (record { lo = 0; hi = 0 }) lt point at)) (omega arith);
+          let past = past_here xs i lt point c.requires.left at in
+          now.begin point (known.left_in_turn point (still_left xs i lt point at)) (omega arith);
       right_in_turn = λ point at.
-          let from = from_here _ _ (record { lo = 0; hi = 0 }) c.if-j-right.true point c.requires.right at in
+          let from = from_here _ _ c.if-j-right.true point c.requires.right at in
           now.begin point (known.right_in_turn point at) (omega arith);
-      points = λ point. grows_left (now.points point) (known.points point) (InRanges-take_more xs i (record { lo = 0; hi = 0 }) lt point);
+      points = λ point. grows_left (now.points point) (known.points point) (InRanges-take_more xs i lt point);
     }
 
 pub loop-i-preserved : goal.loop-i-preserved
@@ -52,7 +52,7 @@ loop-i-preserved c =
     let ys = c.args.right.now in
     let j = c.loop-i.j in
     let lt : j < length ys = c.if-j-right.true in
-    let parts = canonical_at ys j (record { lo = 0; hi = 0 }) lt c.requires.right in
+    let parts = canonical_at ys j lt c.requires.right in
     let known = c.loop-i.invariant in
     let now = c.in_ok-append_range-2.ensures in
     record {
@@ -60,12 +60,12 @@ loop-i-preserved c =
       within_right = omega arith;
       canonical = now.canonical;
       left_in_turn = λ point at.
-          let from = from_here _ _ (record { lo = 0; hi = 0 }) c.loop-i-test.true point c.requires.left at in
+          let from = from_here _ _ c.loop-i-test.true point c.requires.left at in
           now.begin point (known.left_in_turn point at) (omega arith);
       right_in_turn = λ point at.
-          let past = past_here ys j (record { lo = 0; hi = 0 }) lt point c.requires.right at in
-          now.begin point (known.right_in_turn point (still_left ys j (record { lo = 0; hi = 0 }) lt point at)) (omega arith);
-      points = λ point. grows_right (now.points point) (known.points point) (InRanges-take_more ys j (record { lo = 0; hi = 0 }) lt point);
+          let past = past_here ys j lt point c.requires.right at in
+          now.begin point (known.right_in_turn point (still_left ys j lt point at)) (omega arith);
+      points = λ point. grows_right (now.points point) (known.points point) (InRanges-take_more ys j lt point);
     }
 
 pub append_ranges-requires-clause-canonical_rest : goal.append_ranges-requires-clause-canonical_rest

@@ -1,6 +1,6 @@
 use Rattle.std.proofs.Common.{ℕ, ◌+◌, ◌-◌, ◌≤◌, ◌⊎◌, ◌↔◌, length, take, drop}
 use Rattle.lx_class.specs.Ranges.{InRanges, IsCanonical}
-use Rattle.lx_class.specs.Merge.{BeginBy}
+use Rattle.lx_class.specs.Bounds.{BeginBy}
 use Rattle.lx_class.proofs.ranges.union_of.Given as goal
 
 abbrev pub invariant-loop-i : goal.invariant-loop-i
