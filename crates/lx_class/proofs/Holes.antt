@@ -1,5 +1,5 @@
 -- Which points no hole holds, as far as the holes are passed.
-use Rattle.std.proofs.Common.{ℕ, ◌+◌, ◌<◌, ◌≤◌, List, [], ◌∷◌, ◌++◌, length, take, drop, sym, subst, ⊎_elim, arith, take_all}
+use Rattle.std.proofs.Common.{ℕ, ◌+◌, ◌<◌, ◌≤◌, List, [], ◌∷◌, length, take, sym, subst, ⊎_elim, arith, take_all}
 use Rattle.std.proofs.lemmas.List.{take_more}
 use Rattle.lx_class.specs.declared.ranges.Range.{Range}
 use Rattle.lx_class.specs.Ranges.{InRanges, IsCanonical}

@@ -5,7 +5,7 @@ use Rattle.std.proofs.lemmas.Bool.{cases_lt}
 use Rattle.lx_class.specs.declared.ranges.Range.{Range}
 use Rattle.lx_class.specs.Ranges.{InRanges, IsCanonicalFrom, IsCanonical, IsUnion}
 use Rattle.lx_class.specs.Bounds.{BeginBy, EndBefore}
-use Rattle.lx_class.proofs.RangeLists.{InRanges-append, IsCanonicalFrom-back, BeginBy-append, BeginBy-parts, ends_before}
+use Rattle.lx_class.proofs.RangeLists.{InRanges-append, IsCanonicalFrom-back, BeginBy-append, BeginBy-parts}
 use Rattle.lx_class.proofs.Unions.{grows_behind}
 
 -- the same range with another end

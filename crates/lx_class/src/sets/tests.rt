@@ -3,6 +3,7 @@ ghost use Rattle.std.specs.Prelude.{◌+◌, ◌*◌, ◌<◌, ◌≤◌};
 
 use super::*;
 use std::test::Fail;
+use std::time::Instant;
 
 /// The set of some ranges, whose bounds come in either order.
 fn set_of(alloc: Global, bounds: &[(u32, u32)]) -> Result<ClassSet, Memory> {
@@ -151,5 +152,37 @@ fn sets_contain_their_ends(rt: HostRuntime) -> Result<(), Fail> {
         assert_eq!(rt; set.contains(point), wanted, "at {point}");
     }
     assert!(rt; !ClassSet::none(alloc).contains(0));
+    Ok(())
+}
+
+/// `count` ranges of three points each, ten points apart.
+fn comb(alloc: Global, first: u32, count: u32) -> Result<ClassSet, Memory>
+    requires some { 0 < count }
+    requires bounded { first + 10 * count ≤ 0x10_FFFF }
+{
+    if count == 1 {
+        return ClassSet::range(alloc, first, first + 2);
+    }
+    let half = count / 2;
+    let left = comb(alloc, first, half)?;
+    let right = comb(alloc, first + 10 * half, count - half)?;
+    left.union(alloc, &right)
+}
+
+/// Prints how long a union of two sets of 100,000 ranges takes (`bench/class_union.sh`).
+#[test]
+fn large_sets_are_united_in_one_pass(rt: HostRuntime) -> Result<(), Fail> {
+    let alloc = rt.alloc();
+    let left = comb(alloc, 0, 100_000)?;
+    let right = comb(alloc, 5, 100_000)?;
+    assert_eq!(rt; left.ranges().len(), 100_000);
+    assert_eq!(rt; right.ranges().len(), 100_000);
+
+    let start = Instant::now(&rt)?;
+    let both = left.union(alloc, &right)?;
+    let elapsed = start.elapsed(&rt)?;
+    println!(rt; "class_union: {} us", elapsed.as_micros())?;
+    assert_eq!(rt; both.ranges().len(), 200_000);
+    assert_eq!(rt; both.minus(alloc, &right)?.ranges(), left.ranges());
     Ok(())
 }

@@ -1,40 +1,40 @@
-use Rattle.std.proofs.Common.{◌⊎◌, ◌↔◌, ◌≡◌, ◌+◌, ◌-◌, ◌<◌, ◌≤◌, ◌++◌, ◌∷◌, [], ℕ, ◌∙◌, ap, sym, subst, inl, inr, ⊎_elim, arith}
+use Rattle.std.proofs.Common.{◌⊎◌, ◌↔◌, ◌+◌, ◌-◌, ◌∷◌, [], ◌∙◌, sym, subst, arith}
 use Rattle.std.proofs.lemmas.List.{nil_from_length}
 use Rattle.lx_class.specs.Ranges.{InRanges, IsCanonical}
 use Rattle.lx_class.specs.Bounds.{BeginBy, EndBefore}
 use Rattle.lx_class.proofs.RangeLists.{InRanges-append, BeginBy-append, EndBefore-later}
 use Rattle.lx_class.proofs.Joining.{IsLast, last_canonical, last_begins, last_ends, stretched_canonical, stretched_begin, stretched_points, IsCanonicalFrom-push}
 use Rattle.lx_class.proofs.ranges.append_range.Goals as goal
-use Rattle.lx_class.proofs.ranges.append_range.Goals.{then-len-gt0+else-range-last, else-len-gt0}
+use Rattle.lx_class.proofs.ranges.append_range.Goals.{After-index-last, then-len-gt0+else-range-last, else-len-gt0}
+
+-- the range that is read is the last one
+last_is_last : (c : After-index-last) → IsLast c.args.ranges.now.items c.len-len.result c.index-last.result.now
+last_is_last c = record {
+  length_is = c.len-len.ensures ∙ c.args.ranges.now.ok.0;
+  some = c.if-len-gt0.true;
+  last_is = c.index-last.ensures;
+}
 
 pub overflow_add-last : goal.overflow_add-last
 overflow_add-last c =
-    let xs = c.args.ranges.now in
-    let at_end : IsLast xs.items c.len-len.result c.index-last.result.now =
-    record { length_is = c.len-len.ensures ∙ xs.ok.0; some = c.if-len-gt0.true; last_is = c.index-last.ensures } in
+    let at_end = last_is_last (goal.at.overflow_add-last c).After-index-last in
     let last = last_canonical at_end c.requires.canonical in omega arith
 
 pub returns-then-range-last-clause-canonical : goal.returns-then-range-last-clause-canonical
 returns-then-range-last-clause-canonical c =
-    let xs = c.args.ranges.now in
-    let at_end : IsLast xs.items c.len-len.result c.index-last.result.now =
-    record { length_is = c.len-len.ensures ∙ xs.ok.0; some = c.if-len-gt0.true; last_is = c.index-last.ensures } in
+    let at_end = last_is_last (goal.at.returns-then-range-last-clause-canonical c).After-index-last in
     let last = last_canonical at_end c.requires.canonical in
     stretched_canonical at_end c.max.result (omega arith) (omega arith) c.requires.canonical
 
 pub returns-then-range-last-clause-points : goal.returns-then-range-last-clause-points
 returns-then-range-last-clause-points c =
-    let xs = c.args.ranges.now in
-    let at_end : IsLast xs.items c.len-len.result c.index-last.result.now =
-    record { length_is = c.len-len.ensures ∙ xs.ok.0; some = c.if-len-gt0.true; last_is = c.index-last.ensures } in
+    let at_end = last_is_last (goal.at.returns-then-range-last-clause-points c).After-index-last in
     stretched_points at_end c.args.range c.max.result c.max.ensures
     (last_begins at_end c.args.range.lo c.requires.in_turn) c.if-range-last.true c.requires.ordered
 
 pub returns-then-range-last-clause-begin : goal.returns-then-range-last-clause-begin
 returns-then-range-last-clause-begin c =
-    let xs = c.args.ranges.now in
-    let at_end : IsLast xs.items c.len-len.result c.index-last.result.now =
-    record { length_is = c.len-len.ensures ∙ xs.ok.0; some = c.if-len-gt0.true; last_is = c.index-last.ensures } in
+    let at_end = last_is_last (goal.at.returns-then-range-last-clause-begin c).After-index-last in
     λ point begin _. stretched_begin at_end c.max.result point begin
 
 pub returns-clause-canonical : goal.returns-clause-canonical

@@ -1,5 +1,5 @@
-use Rattle.std.proofs.Common.{length, ◌<◌, ◌+◌, ◌↔◌, ◌⊎◌, ◌≤◌, ℕ, take, subst, arith, take_all}
-use Rattle.lx_class.specs.Ranges.{InRanges}
+use Rattle.std.proofs.Common.{length, ◌<◌, subst, arith, take_all}
+use Rattle.lx_class.specs.Ranges.{IsUnion}
 use Rattle.lx_class.proofs.Places.{canonical_at, first_left, past_here, still_left, InRanges-take_more, begins_at}
 use Rattle.lx_class.proofs.Unions.{grows_right}
 use Rattle.lx_class.proofs.ranges.append_ranges.Goals as goal
@@ -33,6 +33,6 @@ loop-range-preserved c =
     }
 
 pub returns-clause-points : goal.returns-clause-points
-returns-clause-points c = λ point.
-    subst (λ l. InRanges c.loop-range.ranges.items point ↔ (InRanges c.args.ranges.now.items point ⊎ InRanges l point))
-    (take_all c.loop-range.range-index c.args.rest.now c.loop-range-test.false) (c.loop-range.invariant.points point)
+returns-clause-points c =
+    subst (λ l. IsUnion c.args.ranges.now.items l c.loop-range.ranges.items)
+    (take_all c.loop-range.range-index c.args.rest.now c.loop-range-test.false) c.loop-range.invariant.points

@@ -1,6 +1,5 @@
-use Rattle.std.proofs.Common.{ℕ, ◌+◌, ◌<◌, ◌≤◌, length, take, ⊎_elim, arith}
+use Rattle.std.proofs.Common.{◌+◌, ◌<◌, ◌≤◌, length, arith}
 use Rattle.lx_class.specs.Ranges.{InRanges}
-use Rattle.lx_class.specs.Bounds.{BeginBy, EndBefore}
 use Rattle.lx_class.proofs.RangeLists.{BeginBy-later, EndBefore-later}
 use Rattle.lx_class.proofs.Places.{canonical_at, found_at}
 use Rattle.lx_class.proofs.Holes.{free_past, free_before, passed_more}

@@ -11,7 +11,8 @@ invariant-loop-place l = record {
   canonical : IsCanonical l.ranges.items;
   in_turn : BeginBy l.ranges.items l.lo;
   passed : EndBefore (take l.place l.holes) l.lo;
-  points : (point : ℕ) → InRanges l.ranges.items point ↔ (InRanges l.initial.ranges.items point ⊎ ((l.range.lo ≤ point) × (point < l.lo) × ¬ InRanges l.holes point));
+  points : (point : ℕ) → InRanges l.ranges.items point ↔
+      (InRanges l.initial.ranges.items point ⊎ ((l.range.lo ≤ point) × (point < l.lo) × ¬ InRanges l.holes point));
 }
 
 abbrev pub decreases-loop-place : goal.decreases-loop-place

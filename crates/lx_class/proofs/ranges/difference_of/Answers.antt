@@ -1,4 +1,4 @@
-use Rattle.std.proofs.Common.{ℕ, ◌+◌, ◌<◌, ◌≤◌, length, take, drop, arith}
+use Rattle.std.proofs.Common.{◌<◌, length, arith}
 use Rattle.lx_class.proofs.RangeLists.{BeginBy-later, EndBefore-later}
 use Rattle.lx_class.proofs.Places.{canonical_at, first_left, past_here, InRanges-take_more}
 use Rattle.lx_class.proofs.Unions.{grows_uncovered}

@@ -1,5 +1,5 @@
-use Rattle.std.proofs.Common.{ℕ, ◌≤◌, ◌↔◌, length, take, drop}
-use Rattle.lx_class.specs.Ranges.{InRanges, IsCanonical}
+use Rattle.std.proofs.Common.{ℕ, ◌≤◌, length, take, drop}
+use Rattle.lx_class.specs.Ranges.{InRanges, IsCanonical, IsDifference}
 use Rattle.lx_class.specs.Bounds.{BeginBy, EndBefore}
 use Rattle.lx_class.proofs.ranges.difference_of.Given as goal
 
@@ -9,5 +9,5 @@ invariant-loop-range l = record {
   canonical : IsCanonical l.left.items;
   in_turn : (point : ℕ) → InRanges (drop l.range-index l.ranges) point → BeginBy l.left.items point;
   passed : (point : ℕ) → InRanges (drop l.range-index l.ranges) point → EndBefore (take l.place l.holes) point;
-  points : (point : ℕ) → InRanges l.left.items point ↔ (InRanges (take l.range-index l.ranges) point × ¬ InRanges l.holes point);
+  points : IsDifference (take l.range-index l.ranges) l.holes l.left.items;
 }

@@ -1,4 +1,4 @@
-use Rattle.std.proofs.Common.{rules, ◌+◌, ◌-◌, ◌/◌, ◌<◌, ◌≡◌, ◌++◌, length, take, drop, refl, sym, subst, ⊎_elim, arith, ap}
+use Rattle.std.proofs.Common.{rules, ◌+◌, ◌-◌, ◌/◌, ◌<◌, ◌≡◌, length, drop, refl, subst, ⊎_elim, arith}
 use Rattle.lx_class.specs.Ranges.{InRanges}
 use Rattle.lx_class.proofs.RangeLists.{InRanges-split}
 use Rattle.lx_class.proofs.Places.{found_at, from_here, not_through}

@@ -1,6 +1,5 @@
-use Rattle.std.proofs.Common.{ℕ, ◌+◌, ◌-◌, ◌<◌, ◌≤◌, ◌⊎◌, ◌↔◌, length, take, drop, sym, subst, arith}
-use Rattle.lx_class.specs.Ranges.{InRanges, IsCanonical}
-use Rattle.lx_class.specs.Bounds.{BeginBy}
+use Rattle.std.proofs.Common.{◌<◌, length, sym, subst, arith}
+use Rattle.lx_class.specs.Ranges.{IsCanonical, IsUnion}
 use Rattle.lx_class.proofs.RangeLists.{InRanges-split, IsCanonical-drop, suffix}
 use Rattle.lx_class.proofs.Places.{canonical_at, first_left, from_here, past_here, still_left, InRanges-take_more}
 use Rattle.lx_class.proofs.Unions.{grows_left, grows_right, grows_by_both}
@@ -77,13 +76,11 @@ append_ranges-requires-2-clause-canonical_rest c =
     subst (λ l. IsCanonical l) (sym (suffix c.args.right.now c.loop-i.j)) (IsCanonical-drop c.args.right.now c.loop-i.j c.requires.right)
 
 pub returns-clause-points : goal.returns-clause-points
-returns-clause-points c = λ point.
+returns-clause-points c =
     let xs = c.args.left.now in
     let ys = c.args.right.now in
-    let old = c.loop-i.ranges.items in
     let middle = c.append_ranges.new.ranges.items in
-    let new = c.append_ranges-2.new.ranges.items in
-    grows_by_both
-    (subst (λ l. InRanges new point ↔ (InRanges middle point ⊎ InRanges l point)) (suffix ys c.loop-i.j) (c.in_ok-append_ranges-2.ensures.points point))
-    (subst (λ l. InRanges middle point ↔ (InRanges old point ⊎ InRanges l point)) (suffix xs c.loop-i.i) (c.in_ok-append_ranges.ensures.points point))
-    (c.loop-i.invariant.points point) (InRanges-split xs c.loop-i.i point) (InRanges-split ys c.loop-i.j point)
+    let with_left = subst (λ l. IsUnion c.loop-i.ranges.items l middle) (suffix xs c.loop-i.i) c.in_ok-append_ranges.ensures.points in
+    let with_both = subst (λ l. IsUnion middle l c.append_ranges-2.new.ranges.items) (suffix ys c.loop-i.j) c.in_ok-append_ranges-2.ensures.points in
+    λ point. grows_by_both (with_both point) (with_left point) (c.loop-i.invariant.points point)
+    (InRanges-split xs c.loop-i.i point) (InRanges-split ys c.loop-i.j point)

@@ -1,5 +1,5 @@
-use Rattle.std.proofs.Common.{ℕ, ◌+◌, ◌-◌, ◌≤◌, ◌⊎◌, ◌↔◌, length, take, drop}
-use Rattle.lx_class.specs.Ranges.{InRanges, IsCanonical}
+use Rattle.std.proofs.Common.{ℕ, ◌+◌, ◌-◌, ◌≤◌, length, take, drop}
+use Rattle.lx_class.specs.Ranges.{InRanges, IsCanonical, IsUnion}
 use Rattle.lx_class.specs.Bounds.{BeginBy}
 use Rattle.lx_class.proofs.ranges.union_of.Given as goal
 
@@ -10,7 +10,7 @@ invariant-loop-i l = record {
   canonical : IsCanonical l.ranges.items;
   left_in_turn : (point : ℕ) → InRanges (drop l.i l.left) point → BeginBy l.ranges.items point;
   right_in_turn : (point : ℕ) → InRanges (drop l.j l.right) point → BeginBy l.ranges.items point;
-  points : (point : ℕ) → InRanges l.ranges.items point ↔ (InRanges (take l.i l.left) point ⊎ InRanges (take l.j l.right) point);
+  points : IsUnion (take l.i l.left) (take l.j l.right) l.ranges.items;
 }
 
 abbrev pub decreases-loop-i : goal.decreases-loop-i
