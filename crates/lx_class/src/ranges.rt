@@ -9,7 +9,7 @@ use std::alloc::Global;
 /// The greatest code point (The Unicode Standard, section 3.4, D9).
 pub const MAX_POINT: u32 = 0x10_FFFF;
 
-/// The code points from `lo` to `hi`, both among them.
+/// The code points from `lo` to `hi`, both among them. In a set `lo` is at most `hi`.
 #[derive(Clone, Copy, Debug, PartialEq, Eq)]
 pub struct Range {
     pub lo: u32,
