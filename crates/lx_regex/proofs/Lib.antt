@@ -1,0 +1,13 @@
+pub mod Clear
+pub mod Cuts
+pub mod Exchange
+pub mod Fronts
+pub mod Kernels
+pub mod Least
+pub mod PlainWalk
+pub mod Readings
+pub mod Rows
+pub mod Scripts
+pub mod TreeWalk
+pub mod WalkTree
+pub mod WholeWalk

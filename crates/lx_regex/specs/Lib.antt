@@ -1,0 +1,12 @@
+pub mod Automaton
+pub mod Cut
+pub mod Dictionary
+pub mod Kernel
+pub mod Least
+pub mod Order
+pub mod Plain
+pub mod Posix
+pub mod Script
+pub mod Term
+pub mod Tree
+pub mod Walk
