@@ -1,9 +1,11 @@
 pub mod Clear
 pub mod Cuts
 pub mod Exchange
+pub mod Folds
 pub mod Fronts
 pub mod Kernels
 pub mod Least
+pub mod NoUnits
 pub mod PlainWalk
 pub mod Readings
 pub mod Rows
