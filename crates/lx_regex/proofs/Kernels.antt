@@ -56,24 +56,24 @@ module _ (enc : Enc) (rules : List Term) where
   place_on i j k a b = record { rule = a.rule ∙ b.rule; part = a.part ∙ b.part; left = λ v. ((λ f. (b.left v).0 ((a.left v).0 f)), (λ f. (a.left v).1 ((b.left v).1 f))) }
 
   -- each cut of a kernel is the first at its place
-  pub kernel_first : (w : List ℕ) (ks : List Cut) → IsKernel enc rules w ks → w ≢ [] → (i : ℕ) (j : Cut) → slice_get ks i ≡ Some j → (k : Cut) → IsCut enc rules w k → SamePlace enc rules j k → Precedes enc rules k j → ⊥
+  pub kernel_first : (w : List ℕ) (ks : List Cut) → IsKernel Precedes enc rules w ks → w ≢ [] → (i : ℕ) (j : Cut) → slice_get ks i ≡ Some j → (k : Cut) → IsCut enc rules w k → SamePlace enc rules j k → Precedes k j → ⊥
   kernel_first w ks kernel ne i j at k is same before =
       let r = kernel.every k ne is in
       let twice = place_on j k r.1 same (place_back enc rules r.1 k r.3) in
       ⊎_elim
-      (λ e. let k' : j ≡ r.1 = unit_leaf e r.2 in r.4 (subst (λ n. Precedes enc rules k n) k' before))
+      (λ e. let k' : j ≡ r.1 = same_cut e r.2 in r.4 (subst (λ n. Precedes k n) k' before))
       (λ h. ⊎_elim (λ lt. (kernel.ordered i r.0 j r.1 lt at r.2).1 twice) (λ gt. (kernel.ordered r.0 i r.1 j gt r.2 at).1 (place_back enc rules j r.1 twice)) h)
       (cases_order i r.0)
     where
-      unit_leaf : {i' : ℕ} {j' : Cut} → i ≡ i' → slice_get ks i' ≡ Some j' → j ≡ j'
-      unit_leaf {i'} {j'} e at' = let s : Some j ≡ Some j' = sym at ∙ ap (λ n. slice_get ks n) e ∙ at' in cc
+      same_cut : {i' : ℕ} {j' : Cut} → i ≡ i' → slice_get ks i' ≡ Some j' → j ≡ j'
+      same_cut {i'} {j'} e at' = let s : Some j ≡ Some j' = sym at ∙ ap (λ n. slice_get ks n) e ∙ at' in cc
 
   -- no plain script of the cut's rule over the same units has lesser choices
   abbrev pub HasNoLesser : Cut → List Symbol → Type 0
   HasNoLesser k rest = (j : Cut) (more : List Symbol) → j.rule ≡ k.rule → GoesOn enc rules j more → units (j.front ++ more) ≡ units (k.front ++ rest) → IsBefore (choices (j.front ++ more)) (choices (k.front ++ rest)) → ⊥
 
   -- where the best tree of some word is cut after w, the kernel of w has this cut
-  pub kernel_best : (w : List ℕ) (ks : List Cut) → IsKernel enc rules w ks → w ≢ [] → (k : Cut) (rest : List Symbol) → IsCut enc rules w k → GoesOn enc rules k rest → HasNoLesser k rest → (i : ℕ) × (j : Cut) × (slice_get ks i ≡ Some j) × (j.rule ≡ k.rule) × (j.front ≡ k.front)
+  pub kernel_best : (w : List ℕ) (ks : List Cut) → IsKernel Precedes enc rules w ks → w ≢ [] → (k : Cut) (rest : List Symbol) → IsCut enc rules w k → GoesOn enc rules k rest → HasNoLesser k rest → (i : ℕ) × (j : Cut) × (slice_get ks i ≡ Some j) × (j.rule ≡ k.rule) × (j.front ≡ k.front)
   kernel_best w ks kernel ne k rest is on least =
       let r = kernel.every k ne is in
       let j = r.1 in
@@ -115,7 +115,7 @@ module _ (enc : Enc) (rules : List Term) where
           (f.0, subst (λ q. GoesOn enc rules (longer b mid) (map reads v ++ ends q ∷ f.0)) (same_longer a b mid s.part) go)
 
   -- The first cut of a longer word at its place goes on from a cut of the kernel of the word before.
-  pub kernel_step : (x : ℕ) (w : List ℕ) (y : ℕ) (v : List ℕ) (ks : List Cut) → IsKernel enc rules (x ∷ w) ks → (k : Cut) → IsCut enc rules ((x ∷ w) ++ y ∷ v) k → ((j : Cut) → IsCut enc rules ((x ∷ w) ++ y ∷ v) j → SamePlace enc rules j k → Precedes enc rules j k → ⊥) → (i : ℕ) × (j : Cut) × (mid : List Symbol) × (slice_get ks i ≡ Some j) × (j.rule ≡ k.rule) × (k.front ≡ j.front ++ mid) × (units mid ≡ y ∷ v)
+  pub kernel_step : (x : ℕ) (w : List ℕ) (y : ℕ) (v : List ℕ) (ks : List Cut) → IsKernel Precedes enc rules (x ∷ w) ks → (k : Cut) → IsCut enc rules ((x ∷ w) ++ y ∷ v) k → ((j : Cut) → IsCut enc rules ((x ∷ w) ++ y ∷ v) j → SamePlace enc rules j k → Precedes j k → ⊥) → (i : ℕ) × (j : Cut) × (mid : List Symbol) × (slice_get ks i ≡ Some j) × (j.rule ≡ k.rule) × (k.front ≡ j.front ++ mid) × (units mid ≡ y ∷ v)
   kernel_step x w y v ks kernel k is first =
       let p = part_at k.front x w (y ∷ v) is.reads_word in
       let a : Cut = record { rule = k.rule; front = p.fore ++ reads p.unit ∷ [] } in
@@ -165,8 +165,8 @@ before_asym (x ∷ xs) (y ∷ ys) a b =
     (λ k. let e = k.0 in ⊎_elim (λ gt. absurd (omega arith)) (λ j. before_asym xs ys k.1 j.1) b)
     a
 
-pub precedes_asym : (enc : Enc) (rules : List Term) (j k : Cut) → Precedes enc rules j k → Precedes enc rules k j → ⊥
-precedes_asym enc rules j k a b =
+pub precedes_asym : (j k : Cut) → Precedes j k → Precedes k j → ⊥
+precedes_asym j k a b =
     ⊎_elim
     (λ lt. ⊎_elim (λ gt. absurd (omega arith)) (λ m. let e = m.0 in absurd (omega arith)) b)
     (λ m. let e = m.0 in ⊎_elim (λ gt. absurd (omega arith)) (λ n. before_asym (choices j.front) (choices k.front) m.1 n.1) b)
@@ -215,7 +215,7 @@ module _ (A : Type 0) (R : A → A → Type 0) (asym : (x y : A) → R x y → R
       ap₂ (λ a b. a ∷ b) e t
 
 module _ (enc : Enc) (rules : List Term) where
-  kernel_member : (w : List ℕ) (ks ls : List Cut) → IsKernel enc rules w ks → IsKernel enc rules w ls → w ≢ [] → (k : Cut) → (i : ℕ) × (slice_get ks i ≡ Some k) → (i : ℕ) × (slice_get ls i ≡ Some k)
+  kernel_member : (w : List ℕ) (ks ls : List Cut) → IsKernel Precedes enc rules w ks → IsKernel Precedes enc rules w ls → w ≢ [] → (k : Cut) → (i : ℕ) × (slice_get ks i ≡ Some k) → (i : ℕ) × (slice_get ls i ≡ Some k)
   kernel_member w ks ls a b ne k m =
       let is = a.cuts m.0 k ne m.1 in
       let r = b.every k ne is in
@@ -230,10 +230,10 @@ module _ (enc : Enc) (rules : List Term) where
       (r.0, r.2 ∙ ap₂ (λ m n. Some (record { rule = m; front = n })) r.3.rule same)
 
   -- a word has one kernel
-  pub kernel_is_unique : (w : List ℕ) (ks ls : List Cut) → IsKernel enc rules w ks → IsKernel enc rules w ls → ks ≡ ls
+  pub kernel_is_unique : (w : List ℕ) (ks ls : List Cut) → IsKernel Precedes enc rules w ks → IsKernel Precedes enc rules w ls → ks ≡ ls
   kernel_is_unique [] ks ls a b = a.start refl ∙ sym (b.start refl)
   kernel_is_unique (x ∷ w) ks ls a b =
-      ascending_same Cut (Precedes enc rules) (precedes_asym enc rules) ks ls
+      ascending_same Cut Precedes precedes_asym ks ls
       (λ i j x y lt e f. (a.ordered i j x y lt e f).0) (λ i j x y lt e f. (b.ordered i j x y lt e f).0)
       (λ k m. kernel_member (x ∷ w) ks ls a b some k m) (λ k m. kernel_member (x ∷ w) ls ks b a some k m)
     where

@@ -6,6 +6,7 @@ pub mod Fronts
 pub mod Kernels
 pub mod Least
 pub mod NoUnits
+pub mod OneMatch
 pub mod PlainWalk
 pub mod Readings
 pub mod Rows

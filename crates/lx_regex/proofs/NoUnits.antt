@@ -1,12 +1,12 @@
 -- Which forms have a tree without units.
-use Rattle.std.proofs.Common.{◌≡◌, ℕ, zero, suc, ◌+◌, ◌<◌, ◌≤◌, ◌↔◌, arith, IsTrue, Bool, true, false, List, [], ◌∷◌, ◌++◌, map, length, get_or, drop, Some, Vec, Global, refl, sym, ap, ap₂, ◌∙◌, subst, append-nil}
+use Rattle.std.proofs.Common.{◌≡◌, ℕ, zero, suc, ◌+◌, ◌<◌, ◌≤◌, ◌↔◌, arith, IsTrue, Bool, true, false, List, [], ◌∷◌, ◌++◌, map, length, get_or, drop, Some, Vec, Global, refl, sym, ap, ap₂, ◌∙◌, subst}
 use Rattle.std.proofs.Math.Seq.{drop-cons}
 use Rattle.std.specs.Prelude.{slice_get}
 use Rattle.lx_base.specs.declared.settings.Enc.{Enc}
 use Rattle.lx_base.specs.Spelling.{spell}
-use Rattle.lx_regex.specs.Term.{Term, empty, class, any_unit, cat, Terms, nil, cons, parts}
+use Rattle.lx_regex.specs.Term.{Term, class, any_unit, cat, Terms, cons, parts}
 use Rattle.lx_regex.specs.Tree.{Tree, blank, point, unit, row, Row, row_end, beside}
-use Rattle.lx_regex.specs.Script.{Symbol, reads, ends, leaf_choice, script, row_script, units}
+use Rattle.lx_regex.specs.Script.{ends, leaf_choice, script, row_script, units}
 use Rattle.lx_regex.specs.Least.{HasTree}
 use Rattle.lx_regex.specs.Expr.{members_of, term_of}
 use Rattle.lx_regex.specs.declared.expr.Expr.{Expr}
@@ -37,7 +37,7 @@ class_reads enc part ranges has = at has.0 has.1
         let reading : Code enc (leaf ranges) (leaf_choice enc ranges number) (spell enc number) = of_point number within in
         let some = code_some enc reading in
         let says : spell enc number ++ [] ≡ [] =
-          sym (units_append (leaf_choice enc ranges number) _ ∙ ap₂ (λ a b. a ++ b) (code_quiet enc reading) (units_reads (spell enc number) (ends part ∷ []))) ∙ e in
+        sym (units_append (leaf_choice enc ranges number) _ ∙ ap₂ (λ a b. a ++ b) (code_quiet enc reading) (units_reads (spell enc number) (ends part ∷ []))) ∙ e in
         let none : some.0 ∷ some.1 ≡ [] = sym some.2 ∙ front_empty (spell enc number) [] says in
         cc
 
@@ -105,13 +105,13 @@ answer-any_unit e is = subst (λ y. IsAnswer false y) (sym is) (answer_no AnyUni
 pub answer-all : (e : Expr) (members : Vec Expr Global) → e ≡ Cat members → AreNullable members.items → IsAnswer true e
 answer-all e members is all =
     subst (λ y. IsAnswer true y) (sym is) (answer_yes (Cat members) (λ enc tags part.
-      subst (λ y. HasTree enc part y []) (sym (term_of-cat tags members)) (row_cat enc part _ (all enc tags (part + 1)))))
+    subst (λ y. HasTree enc part y []) (sym (term_of-cat tags members)) (row_cat enc part _ (all enc tags (part + 1)))))
 
 pub answer-some : (e : Expr) (members : Vec Expr Global) (i : ℕ) (member : Expr) → e ≡ Cat members → slice_get members.items i ≡ Some member → IsAnswer false member → IsAnswer false e
 answer-some e members i member is at answer =
     subst (λ y. IsAnswer false y) (sym is) (answer_no (Cat members) (λ enc tags part has.
-      let r = row_at enc tags (part + 1) members.items i member at (cat_row enc part _ (subst (λ y. HasTree enc part y []) (term_of-cat tags members) has)) in
-      absurd (not_true ((answer enc tags r.0).1 r.1))))
+    let r = row_at enc tags (part + 1) members.items i member at (cat_row enc part _ (subst (λ y. HasTree enc part y []) (term_of-cat tags members) has)) in
+    absurd (not_true ((answer enc tags r.0).1 r.1))))
 
 pub nullable_more : (members : List Expr) (i : ℕ) (member : Expr) → i < length members → member ≡ get_or members i member → IsAnswer true member → AreNullable (drop (suc i) members) → AreNullable (drop i members)
 nullable_more members i member lt at answer more =

@@ -32,6 +32,10 @@ last_part part (picks choice ∷ rest) = last_part part rest
 abbrev pub EndsInUnit : List Symbol → Type 0
 EndsInUnit front = (before : List Symbol) × (number : ℕ) × (front ≡ before ++ reads number ∷ [])
 
+-- leftmost greedy: the first cut is of an earlier rule, or of the same one with lesser choices
+abbrev pub Precedes : Cut → Cut → Type 0
+Precedes cut other = (cut.rule < other.rule) ⊎ ((cut.rule ≡ other.rule) × IsBefore (choices cut.front) (choices other.front))
+
 module _ (enc : Enc) (rules : List Term) where
   -- with these symbols behind it the cut is the script of a plain tree of its rule
   abbrev pub GoesOn : Cut → List Symbol → Type 0
@@ -54,10 +58,6 @@ module _ (enc : Enc) (rules : List Term) where
     pub rule : cut.rule ≡ other.rule
     pub part : last_part 0 cut.front ≡ last_part 0 other.front
     pub left : (left : List ℕ) → Finishes cut left ↔ Finishes other left
-
-  -- leftmost greedy: the first cut is of an earlier rule, or of the same one with lesser choices
-  abbrev pub Precedes : Cut → Cut → Type 0
-  Precedes cut other = (cut.rule < other.rule) ⊎ ((cut.rule ≡ other.rule) × IsBefore (choices cut.front) (choices other.front))
 
   -- a word begins a match if it is empty, or there is a cut at it
   abbrev pub BeginsMatch : List ℕ → Type 0

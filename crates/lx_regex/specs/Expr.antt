@@ -1,5 +1,5 @@
 -- What an `Expr` stands for, and its size.
-use Rattle.std.specs.Prelude.{ℕ, ◌+◌, List, [], ◌∷◌, sum}
+use Rattle.std.specs.Prelude.{ℕ, List, [], ◌∷◌, sum}
 use Rattle.lx_regex.specs.Term.{Term, empty, class, any_unit, cat, Terms, nil, cons}
 use Rattle.lx_regex.specs.declared.expr.Expr.{Expr}
 use Rattle.lx_regex.specs.declared.expr.Expr.TheOpen.{Expr-F}

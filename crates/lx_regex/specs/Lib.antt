@@ -4,10 +4,13 @@ pub mod Dictionary
 pub mod Expr
 pub mod Kernel
 pub mod Least
+pub mod Match
 pub mod Order
+pub mod Pattern
 pub mod Plain
 pub mod Posix
 pub mod Script
 pub mod Term
 pub mod Tree
+pub mod Values
 pub mod Walk

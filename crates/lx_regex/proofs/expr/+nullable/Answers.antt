@@ -1,7 +1,6 @@
 use Rattle.std.specs.Prelude.{slice_get, Some}
-use Rattle.std.proofs.Common.{◌≡◌, ◌+◌, suc, sym, ◌∙◌, ap, subst, Bool, true, false, length, drop, List, arith, ⊎_elim}
+use Rattle.std.proofs.Common.{◌≡◌, ◌+◌, suc, sym, ◌∙◌, ap, subst, true, false, drop, arith, ⊎_elim}
 use Rattle.std.proofs.lemmas.Option.{slice_get-get_or}
-use Rattle.lx_regex.specs.declared.expr.Expr.{Expr}
 use Rattle.lx_regex.proofs.NoUnits.{AreNullable, IsAnswer, answer-empty, answer-unit, answer-any_unit, answer-all, answer-some, nullable_more, nullable_end}
 use Rattle.lx_regex.proofs.expr.+nullable.Goals as goal
 
