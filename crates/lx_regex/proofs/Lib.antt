@@ -3,10 +3,12 @@ pub mod Cuts
 pub mod Exchange
 pub mod Folds
 pub mod Fronts
+pub mod Grouped
 pub mod Kernels
 pub mod Least
 pub mod NoUnits
 pub mod OneMatch
+pub mod PlainTest
 pub mod PlainWalk
 pub mod Readings
 pub mod Rows
@@ -14,3 +16,4 @@ pub mod Scripts
 pub mod TreeWalk
 pub mod WalkTree
 pub mod WholeWalk
+pub mod Worked

@@ -1,6 +1,7 @@
 pub mod Automaton
 pub mod Cut
 pub mod Dictionary
+pub mod Examples
 pub mod Expr
 pub mod Kernel
 pub mod Least

@@ -3,6 +3,7 @@ ghost use Rattle.std.specs.Prelude.{◌≡◌, ◌↔◌, ◌<◌, ◌+◌, ◌*
 ghost use Rattle.lx_base.specs.declared.settings.Enc.{Enc};
 ghost use Rattle.lx_regex.specs.Automaton.{automaton};
 ghost use Rattle.lx_regex.specs.Cut.{Cut, Precedes, rule_part};
+ghost use Rattle.lx_regex.specs.Examples.{tagged_letters, AlternativesUnsetTags, marked_letters, HistoriesKeepAllEvents, grouped_letters, EmptyIterationsAreNotPlain, letter_in_context, ContextsPutTheCursorBack, one_or_two_points, PairsComeBeforeSurrogates, overlapping_letters, PoliciesDiffer, TablesAre};
 ghost use Rattle.lx_regex.specs.Kernel.{IsKernel};
 ghost use Rattle.lx_regex.specs.Least.{HasTree, HasPlainTree, IsLeast};
 ghost use Rattle.lx_regex.specs.Match.{IsMatch, Outcome};
@@ -45,3 +46,15 @@ pub fn kernel_is_unique()
 pub fn match_is_unique()
     ensures { (enc : Enc) (patterns : List Pattern) (stream : List ℕ) (start : ℕ) (outcome other : Outcome) → IsMatch greedy enc patterns stream start outcome → IsMatch greedy enc patterns stream start other → outcome ≡ other }
 {}
+
+/// The worked examples hold, by computation.
+pub fn examples_hold()
+    ensures alternatives { (on_ab on_ba on_nothing : Tree tagged_letters) × AlternativesUnsetTags on_ab on_ba on_nothing }
+    ensures histories { (on_xyx : Tree marked_letters) × HistoriesKeepAllEvents on_xyx }
+    ensures contexts { (on_abbb : Tree letter_in_context) × ContextsPutTheCursorBack on_abbb }
+    ensures pairs { (as_pair as_two : Tree one_or_two_points) × PairsComeBeforeSurrogates as_pair as_two }
+    ensures empty_iterations { (on_xy in_two with_empty : Tree grouped_letters) × EmptyIterationsAreNotPlain on_xy in_two with_empty }
+    ensures policies { (in_one in_two : Tree overlapping_letters) × PoliciesDiffer in_one in_two }
+    ensures tables { TablesAre }
+{
+}
