@@ -1,14 +1,12 @@
 -- The least tree of (("x"?)(""|"y"))* on `xy`.
-use Rattle.std.specs.Prelude.{◌≡◌, ℕ, suc, ◌≤◌, ◌<◌, ◌⊎◌, List, [], ◌∷◌, ◌++◌, Option, Some, None, refl}
-use Rattle.std.proofs.Common.{inl, inr, lit≤, lit<, arith, ⊎_elim, sym, ap, ◌∙◌, subst}
+use Rattle.std.specs.Prelude.{◌≡◌, ℕ, suc, ◌≤◌, List, [], ◌∷◌, ◌++◌, Some, refl}
+use Rattle.std.proofs.Common.{inl, lit≤, arith, ⊎_elim, subst}
 use Rattle.lx_base.specs.declared.settings.Enc.TheVariants.{Utf8}
-use Rattle.lx_regex.specs.Term.{Term, empty, class, cat, alt, repeat, tag, group, Terms, nil, cons, IsInRanges, IsAtMost}
-use Rattle.lx_regex.specs.Tree.{Tree, blank, point, unit, row, chosen, iterations, event, inside, Row, row_end, beside, Choice, here, later, Iterations, stop, iteration}
-use Rattle.lx_regex.specs.Script.{Symbol, begins, ends, reads, sets, unsets, picks, script, units, choices}
+use Rattle.lx_regex.specs.Term.{Term, empty, cat, alt, repeat, group, IsInRanges, IsAtMost}
+use Rattle.lx_regex.specs.Tree.{Tree, blank, point, row, chosen, iterations, inside, row_end, beside, here, later, Iterations, stop, iteration}
+use Rattle.lx_regex.specs.Script.{Symbol, begins, ends, reads, sets, picks, script, units, choices}
 use Rattle.lx_regex.specs.Plain.{IsPlain}
 use Rattle.lx_regex.specs.Dictionary.{IsBefore}
-use Rattle.lx_regex.specs.Order.{greedy}
-use Rattle.lx_regex.specs.Least.{IsLeast}
 use Rattle.lx_regex.specs.Examples.{letter, two, grouped_letters, EmptyIterationsAreNotPlain}
 use Rattle.lx_regex.proofs.PlainWalk.{plain_list}
 use Rattle.lx_regex.proofs.PlainTest.{plain_by_test}
@@ -111,7 +109,7 @@ after_nothing i l m stop low u p b = cc
 after_nothing i l m (iteration (inside (row (beside (inside (iterations n stop l' m')) (beside second row_end)))) more) low u p b = p to_x round_x _ (ends 6) 13 refl refl refl
 after_nothing i l m (iteration (inside (row (beside (inside (iterations n (iteration (point c within) rest) l' m')) (beside second row_end)))) more) low u p b =
     subst (λ y. (j : IsInRanges ((120, 120) ∷ []) y) → units (script Utf8 1 (begun (inside (iterations 1 (iteration (point 120 i) stop) l m)) nothing (iteration (pair (inside (iterations n (iteration (point y j) rest) l' m')) second) more) low)) ≡ 120 ∷ 121 ∷ [] → ⊥)
-      (letter_is 120 c within) (λ j e. no_second_x _ e) within u
+    (letter_is 120 c within) (λ j e. no_second_x _ e) within u
 
 -- after `x` and `y`: either the choices are the same, or ""|"y" ends again, or a third letter is read
 after_y : {count : ℕ} (i : IsInRanges ((120, 120) ∷ []) 120) (l : 0 ≤ 1) (m : IsAtMost 1 (Some 1)) (j : IsInRanges ((121, 121) ∷ []) 121) (more : Iterations body count) → IsNoLesser (inside (iterations 1 (iteration (point 120 i) stop) l m)) (inside (chosen (later (here (point 121 j))))) more
@@ -119,11 +117,11 @@ after_y i l m j stop low u p b = before_self (0 ∷ 0 ∷ 1 ∷ 1 ∷ []) b
 after_y i l m j (iteration (inside (row (beside (inside (iterations n stop l' m')) (beside (inside (chosen (here blank))) row_end)))) more) low u p b = p to_y round_y _ (ends 9) 19 refl refl refl
 after_y i l m j (iteration (inside (row (beside (inside (iterations n stop l' m')) (beside (inside (chosen (later (here (point c within))))) row_end)))) more) low u p b =
     subst (λ y. (k : IsInRanges ((121, 121) ∷ []) y) → units (script Utf8 1 (begun (inside (iterations 1 (iteration (point 120 i) stop) l m)) (inside (chosen (later (here (point 121 j))))) (iteration (pair (inside (iterations n stop l' m')) (inside (chosen (later (here (point y k)))))) more) low)) ≡ 120 ∷ 121 ∷ [] → ⊥)
-      (letter_is 121 c within) (λ k e. no_third 121 _ e) within u
+    (letter_is 121 c within) (λ k e. no_third 121 _ e) within u
 after_y i l m j (iteration (inside (row (beside (inside (iterations n stop l' m')) (beside (inside (chosen (later (later none)))) row_end)))) more) low u p b = elim none [ ]
 after_y i l m j (iteration (inside (row (beside (inside (iterations n (iteration (point c within) rest) l' m')) (beside second row_end)))) more) low u p b =
     subst (λ y. (k : IsInRanges ((120, 120) ∷ []) y) → units (script Utf8 1 (begun (inside (iterations 1 (iteration (point 120 i) stop) l m)) (inside (chosen (later (here (point 121 j))))) (iteration (pair (inside (iterations n (iteration (point y k) rest) l' m')) second) more) low)) ≡ 120 ∷ 121 ∷ [] → ⊥)
-      (letter_is 120 c within) (λ k e. no_third 120 _ e) within u
+    (letter_is 120 c within) (λ k e. no_third 120 _ e) within u
 
 by_second : {count : ℕ} (i : IsInRanges ((120, 120) ∷ []) 120) (l : 0 ≤ 1) (m : IsAtMost 1 (Some 1)) (second : Tree nothing_or_y) (more : Iterations body count) → IsNoLesser (inside (iterations 1 (iteration (point 120 i) stop) l m)) second more
 by_second i l m (inside (chosen (here blank))) more = after_nothing i l m more
@@ -144,7 +142,12 @@ least (inside (iterations n (iteration (inside (row (beside first (beside second
 pub grouped : EmptyIterationsAreNotPlain on_xy in_two with_empty
 grouped = record {
   least = record { yields = refl; plain = plain_list _ (plain_by_test (script Utf8 1 on_xy) refl); least = least };
-  xy_choices = refl; xy_groups = refl;
-  two_units = refl; two_choices = refl; two_not_plain = two_not_plain;
-  empty_units = refl; empty_choices = refl; empty_not_plain = empty_not_plain;
+  xy_choices = refl;
+  xy_groups = refl;
+  two_units = refl;
+  two_choices = refl;
+  two_not_plain = two_not_plain;
+  empty_units = refl;
+  empty_choices = refl;
+  empty_not_plain = empty_not_plain;
 }

@@ -1,7 +1,6 @@
 -- Whether a list of symbols is plain, as a test.
 use Rattle.std.specs.Prelude.{◌≡◌, ℕ, List, [], ◌∷◌, Bool, true, false, ◌&&◌, not, nat_eq, refl}
-use Rattle.std.proofs.Common.{sym, ap, ◌∙◌, subst, eqb-true, eq-eqb}
-use Rattle.std.proofs.lemmas.Bool.{and_from}
+use Rattle.std.proofs.Common.{eq-eqb}
 use Rattle.lx_regex.specs.Script.{Symbol, begins, ends, reads, sets, unsets, picks}
 use Rattle.lx_regex.proofs.PlainWalk.{IsUnseen, IsPlainList}
 

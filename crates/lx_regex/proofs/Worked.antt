@@ -1,17 +1,12 @@
 -- The trees of the worked examples, and what holds of them.
-use Rattle.std.specs.Prelude.{◌≡◌, ℕ, ◌≤◌, ◌<◌, ◌⊎◌, List, [], ◌∷◌, ◌++◌, Option, Some, None, refl}
-use Rattle.std.proofs.Common.{inl, inr, lit≤, lit<, arith, ⊎_elim, sym, ap, ◌∙◌, subst}
-use Rattle.lx_base.specs.declared.settings.Enc.TheVariants.{Utf8, Utf16}
-use Rattle.lx_regex.specs.Term.{Term, empty, class, cat, alt, repeat, tag, group, Terms, nil, cons, IsInRanges}
-use Rattle.lx_regex.specs.Tree.{Tree, blank, point, unit, row, chosen, iterations, event, inside, Row, row_end, beside, Choice, here, later, Iterations, stop, iteration}
-use Rattle.lx_regex.specs.Script.{Symbol, begins, ends, reads, sets, unsets, picks, script, units, choices}
-use Rattle.lx_regex.specs.Plain.{IsPlain}
+use Rattle.std.specs.Prelude.{◌≡◌, ℕ, List, [], ◌∷◌, refl}
+use Rattle.std.proofs.Common.{inl, inr, lit≤, lit<, arith, ⊎_elim}
+use Rattle.lx_base.specs.declared.settings.Enc.TheVariants.{Utf8}
+use Rattle.lx_regex.specs.Term.{Term, cat, alt, tag}
+use Rattle.lx_regex.specs.Tree.{Tree, point, row, chosen, iterations, event, row_end, beside, here, later, stop, iteration}
 use Rattle.lx_regex.specs.Dictionary.{IsBefore}
 use Rattle.lx_regex.specs.Posix.{length_at, shape_of, whole}
-use Rattle.lx_regex.specs.Order.{greedy, posix}
-use Rattle.lx_regex.specs.Least.{IsLeast}
-use Rattle.lx_regex.specs.Examples.{letter, two, three, tagged_letters, AlternativesUnsetTags, marked_letters, HistoriesKeepAllEvents, grouped_letters, EmptyIterationsAreNotPlain, letter_in_context, ContextsPutTheCursorBack, one_or_two_points, PairsComeBeforeSurrogates, overlapping_letters, PoliciesDiffer, TablesAre}
-use Rattle.lx_regex.proofs.PlainWalk.{plain_list}
+use Rattle.lx_regex.specs.Examples.{letter, two, three, tagged_letters, AlternativesUnsetTags, marked_letters, HistoriesKeepAllEvents, letter_in_context, ContextsPutTheCursorBack, one_or_two_points, PairsComeBeforeSurrogates, overlapping_letters, PoliciesDiffer, TablesAre}
 
 abbrev a_then_tag : Tree (alt (two (cat (two (letter 97) (tag 0))) (letter 98)))
 a_then_tag = chosen (here (row (beside (point 97 (inl (lit≤ tt, lit≤ tt))) (beside event row_end))))
@@ -30,9 +25,15 @@ tagged_nothing = iterations 0 stop (lit≤ tt) tt
 
 pub alternatives : AlternativesUnsetTags tagged_ab tagged_ba tagged_nothing
 alternatives = record {
-  ab_units = refl; ab_script = refl; ab_choices = refl; ab_value = refl;
-  ba_units = refl; ba_choices = refl; ba_value = refl;
-  nothing_script = refl; nothing_value = refl;
+  ab_units = refl;
+  ab_script = refl;
+  ab_choices = refl;
+  ab_value = refl;
+  ba_units = refl;
+  ba_choices = refl;
+  ba_value = refl;
+  nothing_script = refl;
+  nothing_value = refl;
 }
 
 abbrev tag_then_x : Tree (alt (two (cat (two (tag 0) (letter 120))) (letter 121)))
@@ -66,7 +67,10 @@ surrogates_tree =
 
 pub pairs : PairsComeBeforeSurrogates pair_tree surrogates_tree
 pairs = record {
-  pair_units = refl; two_units = refl; pair_choices = refl; two_choices = refl;
+  pair_units = refl;
+  two_units = refl;
+  pair_choices = refl;
+  two_choices = refl;
   pair_first = inl (lit< tt);
   pair_value = refl;
 }
@@ -91,7 +95,8 @@ a_and_b = iterations 2 (iteration first_a (iteration third_b stop)) (lit≤ tt) 
 
 pub policies : PoliciesDiffer one_ab a_and_b
 policies = record {
-  one_units = refl; two_units = refl;
+  one_units = refl;
+  two_units = refl;
   leftmost = inr (refl, inl (lit< tt));
   longest = (0 ∷ [], lit< tt, equal_before);
 }

@@ -38,7 +38,8 @@ iteration_moves false false tags copy last = []
 -- the moves after so many iterations of a repetition that is this part
 abbrev pub moves_after : (part : ℕ) → (body : Term) → (low : ℕ) → (high : Option ℕ) → (done : ℕ) → List Move
 moves_after part body low high done =
-    iteration_moves (may_iterate done high) (nat_le low done) (if nat_eq done 0 then tags_in body else []) (2 * copy_part part body low high done) (2 * part + 1)
+    iteration_moves (may_iterate done high) (nat_le low done) (if nat_eq done 0 then tags_in body else [])
+    (2 * copy_part part body low high done) (2 * part + 1)
 
 -- where a sequence goes on: the beginning of the next member, or the end
 abbrev pub next_member : (part : ℕ) → Terms → (last : ℕ) → ℕ
@@ -53,10 +54,12 @@ member_moves (cons member members) place part merged =
     ∷ member_moves members (suc place) (part + parts member) (λ tags. merged (merge_tags (tags_in member) tags))
 
 -- so many copies of a body, from one number on
-abbrev pub copies_table : (ℕ → List Move → List State) → (part : ℕ) → (body : Term) → (low : ℕ) → (high : Option ℕ) → (left number : ℕ) → List State
+abbrev pub copies_table :
+    (rows : ℕ → List Move → List State) → (part : ℕ) → (body : Term) → (low : ℕ) → (high : Option ℕ) → (left number : ℕ) → List State
 copies_table rows part body low high zero number = []
 copies_table rows part body low high (suc left) number =
-    rows (part + 1 + number * parts body) (moves_after part body low high (suc number)) ++ copies_table rows part body low high left (suc number)
+    rows (part + 1 + number * parts body) (moves_after part body low high (suc number))
+    ++ copies_table rows part body low high left (suc number)
 
 -- The states of a term that is this part, from whose end these moves lead on: its beginning, its end, and the states of what
 -- stands in it.
@@ -66,23 +69,29 @@ abbrev mutual
   table (class ranges) part exits = leaf ranges ∷ moves exits ∷ []
   table any_unit part exits = unit_leaf ∷ moves exits ∷ []
   table (cat members) part exits =
-      moves (move None [] [] (next_member (part + 1) members (2 * part + 1)) ∷ []) ∷ moves exits ∷ members_table members (part + 1) (2 * part + 1)
+      moves (move None [] [] (next_member (part + 1) members (2 * part + 1)) ∷ []) ∷ moves exits
+      ∷ members_table members (part + 1) (2 * part + 1)
   table (alt members) part exits =
-      moves (member_moves members 0 (part + 1) (λ tags. tags)) ∷ moves exits ∷ alternatives_table members (part + 1) (2 * part + 1)
+      moves (member_moves members 0 (part + 1) (λ tags. tags)) ∷ moves exits
+      ∷ alternatives_table members (part + 1) (2 * part + 1)
   table (repeat body low high) part exits =
-      moves (moves_after part body low high 0) ∷ moves exits ∷ copies_table (λ copy ways. table body copy ways) part body low high (copies low high) 0
+      moves (moves_after part body low high 0) ∷ moves exits
+      ∷ copies_table (λ copy ways. table body copy ways) part body low high (copies low high) 0
   table (tag number) part exits = moves (move None (number ∷ []) [] (2 * part + 1) ∷ []) ∷ moves exits ∷ []
   table (group opening closing body) part exits =
-      moves (move None (opening ∷ []) [] (2 * (part + 1)) ∷ []) ∷ moves exits ∷ table body (part + 1) (move None (closing ∷ []) [] (2 * part + 1) ∷ [])
+      moves (move None (opening ∷ []) [] (2 * (part + 1)) ∷ []) ∷ moves exits
+      ∷ table body (part + 1) (move None (closing ∷ []) [] (2 * part + 1) ∷ [])
 
   pub members_table : Terms → (part last : ℕ) → List State
   members_table nil part last = []
   members_table (cons member members) part last =
-      table member part (move None [] [] (next_member (part + parts member) members last) ∷ []) ++ members_table members (part + parts member) last
+      table member part (move None [] [] (next_member (part + parts member) members last) ∷ [])
+      ++ members_table members (part + parts member) last
 
   pub alternatives_table : Terms → (part last : ℕ) → List State
   alternatives_table nil part last = []
-  alternatives_table (cons member members) part last = table member part (move None [] [] last ∷ []) ++ alternatives_table members (part + parts member) last
+  alternatives_table (cons member members) part last =
+      table member part (move None [] [] last ∷ []) ++ alternatives_table members (part + parts member) last
 
 -- from the end of a rule the one move leads to state 0, the last state of all
 abbrev pub final : List Move

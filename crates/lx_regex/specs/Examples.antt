@@ -1,5 +1,5 @@
 -- Worked examples. Letters stand for their codes: "a" is 97, "b" 98, "x" 120 and "y" 121.
-use Rattle.std.specs.Prelude.{◌≡◌, ℕ, List, [], ◌∷◌, Option, Some, None, Bool, false, true}
+use Rattle.std.specs.Prelude.{◌≡◌, ℕ, [], ◌∷◌, Some, None, false, true}
 use Rattle.lx_base.specs.declared.settings.Enc.TheVariants.{Utf8, Utf16}
 use Rattle.lx_regex.specs.Term.{Term, empty, class, cat, alt, repeat, tag, group, Terms, nil, cons}
 use Rattle.lx_regex.specs.Tree.{Tree}
@@ -7,7 +7,7 @@ use Rattle.lx_regex.specs.Script.{begins, ends, reads, sets, unsets, picks, scri
 use Rattle.lx_regex.specs.Plain.{IsPlain}
 use Rattle.lx_regex.specs.Order.{greedy, posix, TreePrecedes}
 use Rattle.lx_regex.specs.Least.{IsLeast}
-use Rattle.lx_regex.specs.Values.{Value, single, history, values_of, cursor_behind}
+use Rattle.lx_regex.specs.Values.{single, history, values_of, group_ends, cursor_behind}
 use Rattle.lx_regex.specs.Automaton.{move, moves, leaf, automaton}
 
 -- the class of one code point
@@ -25,8 +25,8 @@ three first second third = cons first (two second third)
 abbrev pub tagged_letters : Term
 tagged_letters = repeat (alt (two (cat (two (letter 97) (tag 0))) (letter 98))) 0 None
 
--- After `ab` the tag is unset: the second iteration chose the other alternative. After `ba` it stands at 2, and with no iteration
--- it is unset.
+-- After `ab` the tag is unset: the second iteration chose the other alternative. After `ba` it stands at 2, and with no
+-- iteration it is unset.
 pub record AlternativesUnsetTags (on_ab on_ba on_nothing : Tree tagged_letters) : Type 0 where
   pub ab_units : units (script Utf8 1 on_ab) ≡ 97 ∷ 98 ∷ []
   pub ab_script : script Utf8 1 on_ab ≡
@@ -54,15 +54,18 @@ pub record HistoriesKeepAllEvents (on_xyx : Tree marked_letters) : Type 0 where
 -- (("x"?)(""|"y"))* under captures: the whole is group 0, and group k has the numbers 2 k and 2 k + 1
 abbrev pub grouped_letters : Term
 grouped_letters =
-    group 0 1 (repeat (group 2 3 (cat (two (group 4 5 (repeat (letter 120) 0 (Some 1))) (group 6 7 (alt (two empty (letter 121))))))) 0 None)
+    group 0 1 (repeat (group 2 3 (cat (two
+    (group 4 5 (repeat (letter 120) 0 (Some 1)))
+    (group 6 7 (alt (two empty (letter 121))))))) 0 None)
 
 -- On `xy` one iteration takes both letters. The empty alternative first, and `y` in an iteration of its own, would be lesser
 -- choices, and so would an empty iteration at the end; but neither tree is plain.
 pub record EmptyIterationsAreNotPlain (on_xy in_two with_empty : Tree grouped_letters) : Type 0 where
   pub least : IsLeast greedy Utf8 1 grouped_letters (120 ∷ 121 ∷ []) on_xy
   pub xy_choices : choices (script Utf8 1 on_xy) ≡ 0 ∷ 0 ∷ 1 ∷ 1 ∷ []
-  pub xy_groups : values_of 0 (script Utf8 1 on_xy) 0 (false ∷ false ∷ false ∷ false ∷ false ∷ false ∷ false ∷ false ∷ []) ≡
-      single (Some 0) ∷ single (Some 2) ∷ single (Some 0) ∷ single (Some 2) ∷ single (Some 0) ∷ single (Some 1) ∷ single (Some 1) ∷ single (Some 2) ∷ []
+  pub xy_groups : values_of 0 (script Utf8 1 on_xy) 0 (group_ends 4) ≡
+      single (Some 0) ∷ single (Some 2) ∷ single (Some 0) ∷ single (Some 2)
+      ∷ single (Some 0) ∷ single (Some 1) ∷ single (Some 1) ∷ single (Some 2) ∷ []
   pub two_units : units (script Utf8 1 in_two) ≡ 120 ∷ 121 ∷ []
   pub two_choices : choices (script Utf8 1 in_two) ≡ 0 ∷ 0 ∷ 0 ∷ 0 ∷ 1 ∷ 1 ∷ 1 ∷ []
   pub two_not_plain : IsPlain (script Utf8 1 in_two) → ⊥
@@ -109,7 +112,8 @@ pub record TablesAre : Type 0 where
   pub tagged : automaton (tagged_letters ∷ []) ≡
       moves [] ∷ moves []
       ∷ moves (move (Some 0) [] [] 4 ∷ move (Some 1) [] (0 ∷ []) 3 ∷ []) ∷ moves (move None [] [] 0 ∷ [])
-      ∷ moves (move (Some 0) [] [] 6 ∷ move (Some 1) [] (0 ∷ []) 12 ∷ []) ∷ moves (move (Some 0) [] [] 4 ∷ move (Some 1) [] [] 3 ∷ [])
+      ∷ moves (move (Some 0) [] [] 6 ∷ move (Some 1) [] (0 ∷ []) 12 ∷ [])
+      ∷ moves (move (Some 0) [] [] 4 ∷ move (Some 1) [] [] 3 ∷ [])
       ∷ moves (move None [] [] 8 ∷ []) ∷ moves (move None [] [] 5 ∷ [])
       ∷ leaf ((97, 97) ∷ []) ∷ moves (move None [] [] 10 ∷ [])
       ∷ moves (move None (0 ∷ []) [] 11 ∷ []) ∷ moves (move None [] [] 7 ∷ [])

@@ -9,8 +9,10 @@ use Rattle.lx_regex.specs.Cut.{Cut, IsCut, SamePlace, Precedes}
 pub record IsKernel (Earlier : Cut → Cut → Type 0) (enc : Enc) (rules : List Term) (word : List ℕ) (kernel : List Cut) : Type 0 where
   pub start : word ≡ [] → kernel ≡ record { rule = 0; front = [] } ∷ []
   pub cuts : (i : ℕ) (cut : Cut) → word ≢ [] → slice_get kernel i ≡ Some cut → IsCut enc rules word cut
-  pub every : (cut : Cut) → word ≢ [] → IsCut enc rules word cut → (i : ℕ) × (first : Cut) × (slice_get kernel i ≡ Some first) × SamePlace enc rules first cut × (Earlier cut first → ⊥)
-  pub ordered : (i j : ℕ) (cut other : Cut) → i < j → slice_get kernel i ≡ Some cut → slice_get kernel j ≡ Some other → Earlier cut other × (SamePlace enc rules cut other → ⊥)
+  pub every : (cut : Cut) → word ≢ [] → IsCut enc rules word cut
+      → (i : ℕ) × (first : Cut) × (slice_get kernel i ≡ Some first) × SamePlace enc rules first cut × (Earlier cut first → ⊥)
+  pub ordered : (i j : ℕ) (cut other : Cut) → i < j → slice_get kernel i ≡ Some cut → slice_get kernel j ≡ Some other
+      → Earlier cut other × (SamePlace enc rules cut other → ⊥)
 
 module _ (enc : Enc) (rules : List Term) where
   -- these are the leftmost greedy kernels of the words, and none of them is empty
@@ -18,7 +20,8 @@ module _ (enc : Enc) (rules : List Term) where
   AreKernels [] [] = Unit {0}
   AreKernels [] (kernel ∷ kernels) = ⊥
   AreKernels (word ∷ words) [] = ⊥
-  AreKernels (word ∷ words) (kernel ∷ kernels) = IsKernel Precedes enc rules word kernel × (kernel ≢ []) × AreKernels words kernels
+  AreKernels (word ∷ words) (kernel ∷ kernels) =
+      IsKernel Precedes enc rules word kernel × (kernel ≢ []) × AreKernels words kernels
 
   -- two kernels have the same places in the same order
   abbrev pub SamePlaces : List Cut → List Cut → Type 0

@@ -19,4 +19,5 @@ HasPlainTree enc part e word = (tree : Tree e) × (units (script enc part tree) 
 pub record IsLeast (policy : Policy) (enc : Enc) (part : ℕ) (e : Term) (word : List ℕ) (tree : Tree e) : Type 0 where
   pub yields : units (script enc part tree) ≡ word
   pub plain : IsPlain (script enc part tree)
-  pub least : (other : Tree e) → units (script enc part other) ≡ word → IsPlain (script enc part other) → TreePrecedes policy enc part other tree → ⊥
+  pub least : (other : Tree e) → units (script enc part other) ≡ word → IsPlain (script enc part other)
+      → TreePrecedes policy enc part other tree → ⊥

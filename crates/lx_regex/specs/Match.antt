@@ -25,7 +25,8 @@ part_at patterns place = rule_part (terms_of patterns) place
 -- the rule at this place has a tree for the word
 abbrev pub Takes : Enc → List Pattern → (place : ℕ) → List ℕ → Type 0
 Takes enc patterns place word =
-    (pattern : Pattern) × (slice_get (with_terms patterns) place ≡ Some pattern) × HasTree enc (part_at patterns place) pattern.term word
+    (pattern : Pattern) × (slice_get (with_terms patterns) place ≡ Some pattern)
+    × HasTree enc (part_at patterns place) pattern.term word
 
 module _ (policy : Policy) (enc : Enc) (patterns : List Pattern) (stream : List ℕ) (start : ℕ) where
   -- there is a rule `$`, and nothing is left
@@ -36,14 +37,16 @@ module _ (policy : Policy) (enc : Enc) (patterns : List Pattern) (stream : List 
   pub record IsLongestFirst (word : List ℕ) (place : ℕ) : Type 0 where
     pub is_word : IsWordAt stream start word
     pub takes : Takes enc patterns place word
-    pub longest : (other : List ℕ) (taker : ℕ) → IsWordAt stream start other → Takes enc patterns taker other → length other ≤ length word
+    pub longest : (other : List ℕ) (taker : ℕ) → IsWordAt stream start other → Takes enc patterns taker other
+        → length other ≤ length word
     pub first : (earlier : ℕ) → earlier < place → Takes enc patterns earlier word → ⊥
 
   -- the longest word that begins a match, where no word has a rule that takes it
   pub record IsLongestBegun (word : List ℕ) : Type 0 where
     pub is_word : IsWordAt stream start word
     pub begins : BeginsMatch enc (terms_of patterns) word
-    pub longest : (other : List ℕ) → IsWordAt stream start other → BeginsMatch enc (terms_of patterns) other → length other ≤ length word
+    pub longest : (other : List ℕ) → IsWordAt stream start other → BeginsMatch enc (terms_of patterns) other
+        → length other ≤ length word
     pub untaken : (other : List ℕ) (taker : ℕ) → IsWordAt stream start other → Takes enc patterns taker other → ⊥
 
   -- what a rule answers with the tree that is meant: its number, the cursor, and the values of its tags
@@ -56,5 +59,8 @@ module _ (policy : Policy) (enc : Enc) (patterns : List Pattern) (stream : List 
   -- At the end the rule `$`, if there is one; else the first rule that takes the longest word that any rule takes; else no rule.
   pub data IsMatch : Outcome → Type 0 where
     at_end : (rule : ℕ) → IsEnd rule → IsMatch (matched rule start [])
-    by_rule : (word : List ℕ) (place : ℕ) (pattern : Pattern) (cursor : ℕ) (values : List Value) → ((rule : ℕ) → IsEnd rule → ⊥) → IsLongestFirst word place → slice_get (with_terms patterns) place ≡ Some pattern → IsAnswer pattern (part_at patterns place) word cursor values → IsMatch (matched pattern.number cursor values)
-    by_none : (word : List ℕ) → ((rule : ℕ) → IsEnd rule → ⊥) → IsLongestBegun word → IsMatch (unmatched (start + length word))
+    by_rule : (word : List ℕ) (place : ℕ) (pattern : Pattern) (cursor : ℕ) (values : List Value)
+        → ((rule : ℕ) → IsEnd rule → ⊥) → IsLongestFirst word place → slice_get (with_terms patterns) place ≡ Some pattern
+        → IsAnswer pattern (part_at patterns place) word cursor values → IsMatch (matched pattern.number cursor values)
+    by_none : (word : List ℕ)
+        → ((rule : ℕ) → IsEnd rule → ⊥) → IsLongestBegun word → IsMatch (unmatched (start + length word))

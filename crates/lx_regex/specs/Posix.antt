@@ -88,4 +88,5 @@ module _ (enc : Enc) where
   IsLonger tree other =
       (position : List ℕ)
       × (length_at (whole other) (shape_of other) position < length_at (whole tree) (shape_of tree) position)
-      × ((earlier : List ℕ) → IsBefore earlier position → length_at (whole tree) (shape_of tree) earlier ≡ length_at (whole other) (shape_of other) earlier)
+      × ((earlier : List ℕ) → IsBefore earlier position
+      → length_at (whole tree) (shape_of tree) earlier ≡ length_at (whole other) (shape_of other) earlier)

@@ -53,7 +53,8 @@ has_long (range ∷ ranges) = nat_le 0x10000 range.1 || has_long ranges
 
 -- in UTF-16 a class with spellings of both lengths prefers two units, 0, to one unit, 1
 abbrev pub leaf_choice : Enc → (ranges : List (ℕ × ℕ)) → (number : ℕ) → List Symbol
-leaf_choice Utf16 ranges number = if has_short ranges && has_long ranges then picks (if nat_lt number 0x10000 then 1 else 0) ∷ [] else []
+leaf_choice Utf16 ranges number =
+    if has_short ranges && has_long ranges then picks (if nat_lt number 0x10000 then 1 else 0) ∷ [] else []
 leaf_choice Byte ranges number = []
 leaf_choice Ucs2 ranges number = []
 leaf_choice Utf8 ranges number = []
@@ -91,13 +92,18 @@ module _ (enc : Enc) where
   abbrev mutual
     pub script : {e : Term} → (part : ℕ) → Tree e → List Symbol
     script part blank = begins part ∷ ends part ∷ []
-    script part (point {ranges} number within) = begins part ∷ (leaf_choice enc ranges number ++ (map reads (spell enc number) ++ ends part ∷ []))
+    script part (point {ranges} number within) =
+        begins part ∷ (leaf_choice enc ranges number ++ (map reads (spell enc number) ++ ends part ∷ []))
     script part (unit number) = begins part ∷ reads number ∷ ends part ∷ []
     script part (row trees) = begins part ∷ (row_script (part + 1) trees ++ ends part ∷ [])
-    script part (chosen choice) = begins part ∷ picks (chosen_place choice) ∷ (map unsets (tags_beside choice) ++ (choice_script (part + 1) choice ++ ends part ∷ []))
-    script part (iterations {body} {low} {high} count trees least most) = begins part ∷ (iterations_script part low high 0 trees ++ ends part ∷ [])
+    script part (chosen choice) =
+        begins part ∷ picks (chosen_place choice)
+        ∷ (map unsets (tags_beside choice) ++ (choice_script (part + 1) choice ++ ends part ∷ []))
+    script part (iterations {body} {low} {high} count trees least most) =
+        begins part ∷ (iterations_script part low high 0 trees ++ ends part ∷ [])
     script part (event {number}) = begins part ∷ sets number ∷ ends part ∷ []
-    script part (inside {opening} {closing} tree) = begins part ∷ sets opening ∷ (script (part + 1) tree ++ sets closing ∷ ends part ∷ [])
+    script part (inside {opening} {closing} tree) =
+        begins part ∷ sets opening ∷ (script (part + 1) tree ++ sets closing ∷ ends part ∷ [])
 
     pub row_script : {members : Terms} → (part : ℕ) → Row members → List Symbol
     row_script part row_end = []
@@ -108,10 +114,13 @@ module _ (enc : Enc) where
     choice_script part (later {member} {members} choice) = choice_script (part + parts member) choice
 
     -- the iterations that are left when so many are done; a repetition without iteration unsets the tags of its body
-    pub iterations_script : {body : Term} {count : ℕ} → (part low : ℕ) → (high : Option ℕ) → (done : ℕ) → Iterations body count → List Symbol
-    iterations_script part low high done (stop {body}) = stop_choice done high ++ (if nat_eq done 0 then map unsets (tags_in body) else [])
+    pub iterations_script :
+        {body : Term} {count : ℕ} → (part low : ℕ) → (high : Option ℕ) → (done : ℕ) → Iterations body count → List Symbol
+    iterations_script part low high done (stop {body}) =
+        stop_choice done high ++ (if nat_eq done 0 then map unsets (tags_in body) else [])
     iterations_script part low high done (iteration {body} {count} tree trees) =
-        iterate_choice low done ++ (script (copy_part part body low high done) tree ++ iterations_script part low high (suc done) trees)
+        iterate_choice low done
+        ++ (script (copy_part part body low high done) tree ++ iterations_script part low high (suc done) trees)
 
 -- the code units of a script
 abbrev pub units : List Symbol → List ℕ

@@ -11,7 +11,8 @@ mutual
     unit : (number : ℕ) → Tree any_unit
     row : {members : Terms} → Row members → Tree (cat members)
     chosen : {members : Terms} → Choice members → Tree (alt members)
-    iterations : {body : Term} {low : ℕ} {high : Option ℕ} → (count : ℕ) → Iterations body count → low ≤ count → IsAtMost count high → Tree (repeat body low high)
+    iterations : {body : Term} {low : ℕ} {high : Option ℕ}
+        → (count : ℕ) → Iterations body count → low ≤ count → IsAtMost count high → Tree (repeat body low high)
     event : {number : ℕ} → Tree (tag number)
     inside : {opening closing : ℕ} {body : Term} → Tree body → Tree (group opening closing body)
 

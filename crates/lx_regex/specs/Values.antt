@@ -17,8 +17,10 @@ last_event number here last (picks choice ∷ rest) = last_event number here las
 abbrev pub all_events : (number here : ℕ) → List Symbol → List (Option ℕ)
 all_events number here [] = []
 all_events number here (reads code ∷ rest) = all_events number (suc here) rest
-all_events number here (sets other ∷ rest) = if other == number then Some here ∷ all_events number here rest else all_events number here rest
-all_events number here (unsets other ∷ rest) = if other == number then None ∷ all_events number here rest else all_events number here rest
+all_events number here (sets other ∷ rest) =
+    if other == number then Some here ∷ all_events number here rest else all_events number here rest
+all_events number here (unsets other ∷ rest) =
+    if other == number then None ∷ all_events number here rest else all_events number here rest
 all_events number here (begins part ∷ rest) = all_events number here rest
 all_events number here (ends part ∷ rest) = all_events number here rest
 all_events number here (picks choice ∷ rest) = all_events number here rest

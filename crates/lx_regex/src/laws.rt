@@ -1,15 +1,14 @@
 //! What holds of the definitions. Each law is the contract of a function that does nothing.
-ghost use Rattle.std.specs.Prelude.{◌≡◌, ◌↔◌, ◌<◌, ◌+◌, ◌*◌, ℕ, List, [], Bool, Some, slice_get};
+ghost use Rattle.std.specs.Prelude.{◌≡◌, ◌<◌, ◌*◌, ℕ, List, [], Bool, Some, slice_get};
 ghost use Rattle.lx_base.specs.declared.settings.Enc.{Enc};
 ghost use Rattle.lx_regex.specs.Automaton.{automaton};
 ghost use Rattle.lx_regex.specs.Cut.{Cut, Precedes, rule_part};
-ghost use Rattle.lx_regex.specs.Examples.{tagged_letters, AlternativesUnsetTags, marked_letters, HistoriesKeepAllEvents, grouped_letters, EmptyIterationsAreNotPlain, letter_in_context, ContextsPutTheCursorBack, one_or_two_points, PairsComeBeforeSurrogates, overlapping_letters, PoliciesDiffer, TablesAre};
 ghost use Rattle.lx_regex.specs.Kernel.{IsKernel};
 ghost use Rattle.lx_regex.specs.Least.{HasTree, HasPlainTree, IsLeast};
 ghost use Rattle.lx_regex.specs.Match.{IsMatch, Outcome};
 ghost use Rattle.lx_regex.specs.Order.{greedy};
 ghost use Rattle.lx_regex.specs.Pattern.{Pattern};
-ghost use Rattle.lx_regex.specs.Script.{Symbol, script};
+ghost use Rattle.lx_regex.specs.Script.{script};
 ghost use Rattle.lx_regex.specs.Term.{Term};
 ghost use Rattle.lx_regex.specs.Tree.{Tree};
 ghost use Rattle.lx_regex.specs.Values.{value_of};
@@ -17,44 +16,44 @@ ghost use Rattle.lx_regex.specs.Walk.{Walk, symbols};
 
 /// A term that has a tree for a word has a plain one.
 pub fn plain_tree_exists()
-    ensures { (enc : Enc) (part : ℕ) (e : Term) (word : List ℕ) → 0 < part → HasTree enc part e word → HasPlainTree enc part e word }
+    ensures { (enc : Enc) (part : ℕ) (e : Term) (word : List ℕ) → 0 < part
+        → HasTree enc part e word → HasPlainTree enc part e word }
 {}
 
 /// A term that has a tree for a word has a leftmost greedy one.
 pub fn least_tree_exists()
-    ensures { (enc : Enc) (part : ℕ) (e : Term) (word : List ℕ) → 0 < part → HasTree enc part e word → (tree : Tree e) × IsLeast greedy enc part e word tree }
+    ensures { (enc : Enc) (part : ℕ) (e : Term) (word : List ℕ) → 0 < part
+        → HasTree enc part e word → (tree : Tree e) × IsLeast greedy enc part e word tree }
 {}
 
 /// All leftmost greedy trees of a word have one script, and so one value for each tag.
 pub fn least_script_is_unique()
-    ensures script { (enc : Enc) (part : ℕ) (e : Term) (word : List ℕ) (tree other : Tree e) → 0 < part → IsLeast greedy enc part e word tree → IsLeast greedy enc part e word other → script enc part tree ≡ script enc part other }
-    ensures values { (enc : Enc) (part : ℕ) (e : Term) (word : List ℕ) (tree other : Tree e) (start number : ℕ) (many : Bool) → 0 < part → IsLeast greedy enc part e word tree → IsLeast greedy enc part e word other → value_of start (script enc part tree) number many ≡ value_of start (script enc part other) number many }
+    ensures script { (enc : Enc) (part : ℕ) (e : Term) (word : List ℕ) (tree other : Tree e) → 0 < part
+        → IsLeast greedy enc part e word tree → IsLeast greedy enc part e word other
+        → script enc part tree ≡ script enc part other }
+    ensures values { (enc : Enc) (part : ℕ) (e : Term) (word : List ℕ) (tree other : Tree e) (start number : ℕ) (many : Bool) → 0 < part
+        → IsLeast greedy enc part e word tree → IsLeast greedy enc part e word other
+        → value_of start (script enc part tree) number many ≡ value_of start (script enc part other) number many }
 {}
 
-/// The walks of the automaton from the beginning of a rule to state 0 are the scripts of the rule's trees.
+/// The walks of an automaton from the beginning of a rule to state 0 are the scripts of the rule's trees.
 pub fn walks_are_scripts()
-    ensures walk { (enc : Enc) (rules : List Term) (place : ℕ) (e : Term) (tree : Tree e) → slice_get rules place ≡ Some e → (walk : Walk (automaton rules) 0 (2 * rule_part rules place)) × (symbols enc walk [] ≡ script enc (rule_part rules place) tree) }
-    ensures tree { (enc : Enc) (rules : List Term) (place : ℕ) (e : Term) (walk : Walk (automaton rules) 0 (2 * rule_part rules place)) → slice_get rules place ≡ Some e → (tree : Tree e) × (symbols enc walk [] ≡ script enc (rule_part rules place) tree) }
+    ensures walk { (enc : Enc) (rules : List Term) (place : ℕ) (e : Term) (tree : Tree e) → slice_get rules place ≡ Some e
+        → (walk : Walk (automaton rules) 0 (2 * rule_part rules place))
+        × (symbols enc walk [] ≡ script enc (rule_part rules place) tree) }
+    ensures tree { (enc : Enc) (rules : List Term) (place : ℕ) (e : Term) (walk : Walk (automaton rules) 0 (2 * rule_part rules place))
+        → slice_get rules place ≡ Some e
+        → (tree : Tree e) × (symbols enc walk [] ≡ script enc (rule_part rules place) tree) }
 {}
 
 /// A word has at most one leftmost greedy kernel.
 pub fn kernel_is_unique()
-    ensures { (enc : Enc) (rules : List Term) (word : List ℕ) (kernel other : List Cut) → IsKernel Precedes enc rules word kernel → IsKernel Precedes enc rules word other → kernel ≡ other }
+    ensures { (enc : Enc) (rules : List Term) (word : List ℕ) (kernel other : List Cut)
+        → IsKernel Precedes enc rules word kernel → IsKernel Precedes enc rules word other → kernel ≡ other }
 {}
 
 /// A rule list has at most one leftmost greedy match on a stream from a start.
 pub fn match_is_unique()
-    ensures { (enc : Enc) (patterns : List Pattern) (stream : List ℕ) (start : ℕ) (outcome other : Outcome) → IsMatch greedy enc patterns stream start outcome → IsMatch greedy enc patterns stream start other → outcome ≡ other }
+    ensures { (enc : Enc) (patterns : List Pattern) (stream : List ℕ) (start : ℕ) (outcome other : Outcome)
+        → IsMatch greedy enc patterns stream start outcome → IsMatch greedy enc patterns stream start other → outcome ≡ other }
 {}
-
-/// The worked examples hold, by computation.
-pub fn examples_hold()
-    ensures alternatives { (on_ab on_ba on_nothing : Tree tagged_letters) × AlternativesUnsetTags on_ab on_ba on_nothing }
-    ensures histories { (on_xyx : Tree marked_letters) × HistoriesKeepAllEvents on_xyx }
-    ensures contexts { (on_abbb : Tree letter_in_context) × ContextsPutTheCursorBack on_abbb }
-    ensures pairs { (as_pair as_two : Tree one_or_two_points) × PairsComeBeforeSurrogates as_pair as_two }
-    ensures empty_iterations { (on_xy in_two with_empty : Tree grouped_letters) × EmptyIterationsAreNotPlain on_xy in_two with_empty }
-    ensures policies { (in_one in_two : Tree overlapping_letters) × PoliciesDiffer in_one in_two }
-    ensures tables { TablesAre }
-{
-}

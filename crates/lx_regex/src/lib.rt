@@ -1,6 +1,7 @@
 //! Regular expressions with tags: what an expression matches, and which match of a rule list is meant.
 #![tactic(auto)]
 
+pub mod examples;
 pub mod expr;
 pub mod laws;
 pub mod rules;

@@ -1,4 +1,4 @@
-use Rattle.lx_regex.proofs.laws.examples_hold.Goals as goal
+use Rattle.lx_regex.proofs.examples.examples_hold.Goals as goal
 use Rattle.lx_regex.proofs.Grouped.{on_xy, in_two, with_empty, grouped}
 use Rattle.lx_regex.proofs.Worked.{tagged_ab, tagged_ba, tagged_nothing, alternatives, marked_xyx, histories, context_abbb, contexts, pair_tree, surrogates_tree, pairs, one_ab, a_and_b, policies, tables}
 
