@@ -17,3 +17,4 @@ pub mod TreeWalk
 pub mod WalkTree
 pub mod WholeWalk
 pub mod Worked
+pub mod WorkedMatches

@@ -1,13 +1,17 @@
 -- Worked examples. Letters stand for their codes: "a" is 97, "b" 98, "x" 120 and "y" 121.
-use Rattle.std.specs.Prelude.{◌≡◌, ℕ, [], ◌∷◌, Some, None, false, true}
+use Rattle.std.specs.Prelude.{◌≡◌, ℕ, List, [], ◌∷◌, Some, None, false, true}
 use Rattle.lx_base.specs.declared.settings.Enc.TheVariants.{Utf8, Utf16}
-use Rattle.lx_regex.specs.Term.{Term, empty, class, cat, alt, repeat, tag, group, Terms, nil, cons}
+use Rattle.lx_regex.specs.Term.{Term, empty, class, any_unit, cat, alt, repeat, tag, group, Terms, nil, cons}
 use Rattle.lx_regex.specs.Tree.{Tree}
 use Rattle.lx_regex.specs.Script.{begins, ends, reads, sets, unsets, picks, script, units, choices}
 use Rattle.lx_regex.specs.Plain.{IsPlain}
 use Rattle.lx_regex.specs.Order.{greedy, posix, TreePrecedes}
 use Rattle.lx_regex.specs.Least.{IsLeast}
 use Rattle.lx_regex.specs.Values.{single, history, values_of, group_ends, cursor_behind}
+use Rattle.lx_regex.specs.Pattern.{Pattern}
+use Rattle.lx_regex.specs.Match.{IsMatch, matched, unmatched}
+use Rattle.lx_regex.specs.declared.rules.Kind.{Kind}
+use Rattle.lx_regex.specs.declared.rules.Kind.TheVariants.{Plain, Default, Eof}
 use Rattle.lx_regex.specs.Automaton.{move, moves, leaf, automaton}
 
 -- the class of one code point
@@ -126,3 +130,28 @@ pub record TablesAre : Type 0 where
       ∷ leaf ((97, 97) ∷ []) ∷ moves (move (Some 0) [] [] 8 ∷ move (Some 1) [] [] 3 ∷ [])
       ∷ leaf ((97, 97) ∷ []) ∷ moves (move None [] [] 3 ∷ [])
       ∷ []
+
+-- a rule without tags
+abbrev pub plain_rule : (number : ℕ) → Kind → Term → Pattern
+plain_rule number kind term = record { number = number; kind = kind; term = term; many = []; slash = None; groups = 0 }
+
+-- "a", "a", `*` and `$`
+abbrev pub single_letters : List Pattern
+single_letters =
+    plain_rule 1 Plain (letter 97) ∷ plain_rule 2 Plain (letter 97) ∷ plain_rule 3 Default any_unit ∷ plain_rule 4 Eof empty ∷ []
+
+-- "a" and "ab"
+abbrev pub short_and_long : List Pattern
+short_and_long = plain_rule 1 Plain (letter 97) ∷ plain_rule 2 Plain (cat (two (letter 97) (letter 98))) ∷ []
+
+-- "ab" alone
+abbrev pub only_long : List Pattern
+only_long = plain_rule 1 Plain (cat (two (letter 97) (letter 98))) ∷ []
+
+-- Of several rules that take one letter the first is taken, and at the end `$`; a longer word goes before an earlier rule; and
+-- where no rule takes a word, the cursor stands behind what begins a match, which on `ac` is `a`.
+pub record MatchesAre : Type 0 where
+  pub first_rule : IsMatch greedy Utf8 single_letters (97 ∷ 97 ∷ []) 0 (matched 1 1 [])
+  pub at_end : IsMatch greedy Utf8 single_letters (97 ∷ 97 ∷ []) 2 (matched 4 2 [])
+  pub longest_word : IsMatch greedy Utf8 short_and_long (97 ∷ 98 ∷ []) 0 (matched 2 2 [])
+  pub no_rule : IsMatch greedy Utf8 only_long (97 ∷ 99 ∷ []) 0 (unmatched 1)
