@@ -1,18 +1,18 @@
 -- The worked examples of matches.
-use Rattle.std.specs.Prelude.{◌≡◌, ℕ, zero, suc, ◌+◌, ◌≤◌, ◌<◌, ◌⊎◌, List, [], ◌∷◌, ◌++◌, length, Option, Some, None, slice_get, refl}
-use Rattle.std.proofs.Common.{inl, inr, lit≤, lit<, arith, ⊎_elim, sym, ap, ap₂, ◌∙◌, subst}
+use Rattle.std.specs.Prelude.{◌≡◌, ℕ, zero, suc, ◌+◌, ◌≤◌, ◌<◌, List, [], ◌∷◌, ◌++◌, length, Some, None, slice_get, refl}
+use Rattle.std.proofs.Common.{inl, inr, lit≤, arith, ⊎_elim, sym, ap, ap₂, ◌∙◌, subst}
 use Rattle.lx_base.specs.declared.settings.Enc.TheVariants.{Utf8}
-use Rattle.lx_regex.specs.Term.{Term, class, any_unit, cat, nil, cons, IsInRanges}
-use Rattle.lx_regex.specs.Tree.{Tree, point, unit, row, Row, row_end, beside}
-use Rattle.lx_regex.specs.Script.{Symbol, begins, ends, reads, script, row_script, units, choices}
+use Rattle.lx_regex.specs.Term.{Term, any_unit, cat, IsInRanges}
+use Rattle.lx_regex.specs.Tree.{Tree, point, unit, row, row_end, beside}
+use Rattle.lx_regex.specs.Script.{Symbol, begins, ends, reads, script, units, choices}
 use Rattle.lx_regex.specs.Plain.{IsPlain}
 use Rattle.lx_regex.specs.Dictionary.{IsBefore}
 use Rattle.lx_regex.specs.Order.{greedy}
 use Rattle.lx_regex.specs.Least.{HasTree, IsLeast}
-use Rattle.lx_regex.specs.Cut.{Cut, IsCut, GoesOn, BeginsMatch}
+use Rattle.lx_regex.specs.Cut.{Cut, IsCut, BeginsMatch}
 use Rattle.lx_regex.specs.Pattern.{Pattern, with_terms, terms_of}
 use Rattle.lx_regex.specs.declared.rules.Kind.TheVariants.{Plain, Default}
-use Rattle.lx_regex.specs.Match.{matched, unmatched, IsWordAt, Takes, IsEnd, IsMatch, at_end, by_rule, by_none, part_at}
+use Rattle.lx_regex.specs.Match.{matched, unmatched, IsWordAt, Takes, IsMatch, at_end, by_rule, by_none, part_at}
 use Rattle.lx_regex.specs.Examples.{letter, two, plain_rule, single_letters, short_and_long, only_long, MatchesAre}
 use Rattle.lx_regex.proofs.PlainWalk.{plain_list, units_append}
 use Rattle.lx_regex.proofs.PlainTest.{plain_by_test}

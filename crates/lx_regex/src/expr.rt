@@ -20,8 +20,8 @@ pub enum Expr {
 /// The size that stands for itself and every greater one, 2^40.
 pub const SIZE_LIMIT: u64 = 1 << 40;
 
-/// The size of an expression, by which scanners are limited: 1 for each of its ends, and for a sequence the sum over its
-/// members. What is greater than 2^40 counts as 2^40. It takes no memory.
+/// The size of an expression, by which scanners are limited: that of a sequence is the sum over its members, and that of each
+/// other form is 1. What is greater than 2^40 counts as 2^40. It takes no memory.
 pub fn size(expr: &Expr) -> u64
     ensures { result ≡ min (size_of expr.now) (2 ^ 40) }
 {
