@@ -6,10 +6,15 @@ pub mod Fronts
 pub mod Grouped
 pub mod Kernels
 pub mod Least
+pub mod LeastScript
 pub mod NoUnits
 pub mod OneMatch
 pub mod PlainTest
 pub mod PlainWalk
+pub mod PosixAhead
+pub mod PosixOrder
+pub mod PosixShapes
+pub mod PosixUnique
 pub mod Readings
 pub mod Rows
 pub mod Scripts

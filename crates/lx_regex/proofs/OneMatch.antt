@@ -1,27 +1,27 @@
--- A rule list has one leftmost greedy match on a stream from a start.
+-- A rule list has one match on a stream from a start under one policy.
 use Rattle.std.specs.Prelude.{◌≡◌, ℕ, ◌+◌, ◌<◌, ◌≤◌, List, [], length, Some, slice_get}
 use Rattle.std.proofs.Common.{sym, ap, ap₂, ◌∙◌, subst, arith, ⊎_elim}
 use Rattle.std.proofs.lemmas.Bool.{cases_order}
 use Rattle.lx_base.specs.declared.settings.Enc.{Enc}
 use Rattle.lx_regex.specs.Script.{Symbol, script}
-use Rattle.lx_regex.specs.Order.{greedy}
+use Rattle.lx_regex.specs.Order.{Policy}
 use Rattle.lx_regex.specs.Values.{Value, values_of, cursor_behind}
 use Rattle.lx_regex.specs.Pattern.{Pattern, with_terms, terms_of, sorts_of}
 use Rattle.lx_regex.specs.Match.{Outcome, matched, unmatched, IsWordAt, part_at, Takes, IsLongestFirst, IsAnswer, IsMatch, at_end, by_rule, by_none}
 use Rattle.lx_regex.proofs.Readings.{front_same_length}
-use Rattle.lx_regex.proofs.Scripts.{least_script}
+use Rattle.lx_regex.proofs.LeastScript.{least_script}
 use Rattle.lx_regex.proofs.Cuts.{rule_positive}
 
 -- words of one length at one start are the same
 one_word : (stream : List ℕ) (start : ℕ) (word other : List ℕ) → IsWordAt stream start word → IsWordAt stream start other → length word ≡ length other → word ≡ other
 one_word stream start word other a b same = (front_same_length word other a.0 b.0 same (sym a.1 ∙ b.1)).0
 
-module _ (enc : Enc) (patterns : List Pattern) (stream : List ℕ) (start : ℕ) where
+module _ (policy : Policy) (enc : Enc) (patterns : List Pattern) (stream : List ℕ) (start : ℕ) where
   abbrev Longest : List ℕ → ℕ → Type 0
-  Longest word place = IsLongestFirst greedy enc patterns stream start word place
+  Longest word place = IsLongestFirst policy enc patterns stream start word place
 
   abbrev Answer : Pattern → ℕ → List ℕ → ℕ → List Value → Type 0
-  Answer pattern part word cursor values = IsAnswer greedy enc patterns stream start pattern part word cursor values
+  Answer pattern part word cursor values = IsAnswer policy enc patterns stream start pattern part word cursor values
 
   longest_word : (word other : List ℕ) (place place' : ℕ) → Longest word place → Longest other place' → word ≡ other
   longest_word word other place place' a b =
@@ -43,7 +43,7 @@ module _ (enc : Enc) (patterns : List Pattern) (stream : List ℕ) (start : ℕ)
   -- one rule answers one thing for a word
   one_answer : (pattern : Pattern) (part : ℕ) (word : List ℕ) (cursor cursor' : ℕ) (values values' : List Value) → 0 < part → Answer pattern part word cursor values → Answer pattern part word cursor' values' → matched pattern.number cursor values ≡ matched pattern.number cursor' values'
   one_answer pattern part word cursor cursor' values values' positive a b =
-      let same : script enc part a.tree ≡ script enc part b.tree = least_script enc pattern.term part positive word a.tree b.tree a.least b.least in
+      let same : script enc part a.tree ≡ script enc part b.tree = least_script policy enc pattern.term part positive word a.tree b.tree a.least b.least in
       let stands : Some cursor ≡ Some cursor' = sym a.stands ∙ ap (λ (s : List Symbol). cursor_behind start word s pattern.slash) same ∙ b.stands in
       let at : cursor ≡ cursor' = cc in
       let valued : values ≡ values' = a.valued ∙ ap (λ (s : List Symbol). values_of start s 0 (sorts_of pattern)) same ∙ sym b.valued in
@@ -55,7 +55,7 @@ module _ (enc : Enc) (patterns : List Pattern) (stream : List ℕ) (start : ℕ)
       subst (λ (x : Pattern). Answer x part word cursor' values') (sym e) (subst (λ x. Answer pattern' x word cursor' values') (sym p) (subst (λ x. Answer pattern' part' x cursor' values') (sym w) b)) in
       one_answer pattern part word cursor cursor' values values' positive a back ∙ ap (λ (x : Pattern). matched x.number cursor' values') e
 
-  pub match_is_unique : (outcome other : Outcome) → IsMatch greedy enc patterns stream start outcome → IsMatch greedy enc patterns stream start other → outcome ≡ other
+  pub match_is_unique : (outcome other : Outcome) → IsMatch policy enc patterns stream start outcome → IsMatch policy enc patterns stream start other → outcome ≡ other
   match_is_unique _ _ (at_end rule is) (at_end rule' is') =
       let same : Some rule ≡ Some rule' = sym is.1 ∙ is'.1 in
       let at : rule ≡ rule' = cc in

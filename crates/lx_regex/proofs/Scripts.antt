@@ -93,9 +93,9 @@ scripts_differ enc e p lt t t' same =
 pub differs_is_before : (xs ys : List ℕ) → DiffersBefore xs ys → IsBefore xs ys
 differs_is_before xs ys h = subst (λ k. IsBefore k ys) (append-nil xs) (subst (λ k. IsBefore (xs ++ []) k) (append-nil ys) (differs-before xs ys [] [] h))
 
--- all leftmost greedy trees of a word have one script
-pub least_script : (enc : Enc) (e : Term) (p : ℕ) → 0 < p → (w : List ℕ) (t t' : Tree e) → IsLeast greedy enc p e w t → IsLeast greedy enc p e w t' → script enc p t ≡ script enc p t'
-least_script enc e p lt w t t' b b' =
+-- all leftmost greedy least trees of a word have one script
+pub greedy_script : (enc : Enc) (e : Term) (p : ℕ) → 0 < p → (w : List ℕ) (t t' : Tree e) → IsLeast greedy enc p e w t → IsLeast greedy enc p e w t' → script enc p t ≡ script enc p t'
+greedy_script enc e p lt w t t' b b' =
     ⊎_elim
     (λ h. h)
     (λ r. ⊎_elim (λ s. absurd (b'.least t b.yields b.plain (differs_is_before _ _ s))) (λ s. absurd (b.least t' b'.yields b'.plain (differs_is_before _ _ s))) r)

@@ -6,7 +6,7 @@ ghost use Rattle.lx_regex.specs.Cut.{Cut, Precedes, rule_part};
 ghost use Rattle.lx_regex.specs.Kernel.{IsKernel};
 ghost use Rattle.lx_regex.specs.Least.{HasTree, HasPlainTree, IsLeast};
 ghost use Rattle.lx_regex.specs.Match.{IsMatch, Outcome};
-ghost use Rattle.lx_regex.specs.Order.{greedy};
+ghost use Rattle.lx_regex.specs.Order.{Policy, greedy};
 ghost use Rattle.lx_regex.specs.Pattern.{Pattern};
 ghost use Rattle.lx_regex.specs.Script.{script};
 ghost use Rattle.lx_regex.specs.Term.{Term};
@@ -26,13 +26,13 @@ pub fn least_tree_exists()
         → HasTree enc part e word → (tree : Tree e) × IsLeast greedy enc part e word tree }
 {}
 
-/// All leftmost greedy trees of a word have one script, and so one value for each tag.
+/// All least trees of a word under one policy have one script, and so one value for each tag.
 pub fn least_script_is_unique()
-    ensures script { (enc : Enc) (part : ℕ) (e : Term) (word : List ℕ) (tree other : Tree e) → 0 < part
-        → IsLeast greedy enc part e word tree → IsLeast greedy enc part e word other
+    ensures script { (policy : Policy) (enc : Enc) (part : ℕ) (e : Term) (word : List ℕ) (tree other : Tree e) → 0 < part
+        → IsLeast policy enc part e word tree → IsLeast policy enc part e word other
         → script enc part tree ≡ script enc part other }
-    ensures values { (enc : Enc) (part : ℕ) (e : Term) (word : List ℕ) (tree other : Tree e) (start number : ℕ) (many : Bool) → 0 < part
-        → IsLeast greedy enc part e word tree → IsLeast greedy enc part e word other
+    ensures values { (policy : Policy) (enc : Enc) (part : ℕ) (e : Term) (word : List ℕ) (tree other : Tree e) (start number : ℕ) (many : Bool) → 0 < part
+        → IsLeast policy enc part e word tree → IsLeast policy enc part e word other
         → value_of start (script enc part tree) number many ≡ value_of start (script enc part other) number many }
 {}
 
@@ -52,8 +52,8 @@ pub fn kernel_is_unique()
         → IsKernel Precedes enc rules word kernel → IsKernel Precedes enc rules word other → kernel ≡ other }
 {}
 
-/// A rule list has at most one leftmost greedy match on a stream from a start.
+/// A rule list has at most one match on a stream from a start, under either policy.
 pub fn match_is_unique()
-    ensures { (enc : Enc) (patterns : List Pattern) (stream : List ℕ) (start : ℕ) (outcome other : Outcome)
-        → IsMatch greedy enc patterns stream start outcome → IsMatch greedy enc patterns stream start other → outcome ≡ other }
+    ensures { (policy : Policy) (enc : Enc) (patterns : List Pattern) (stream : List ℕ) (start : ℕ) (outcome other : Outcome)
+        → IsMatch policy enc patterns stream start outcome → IsMatch policy enc patterns stream start other → outcome ≡ other }
 {}

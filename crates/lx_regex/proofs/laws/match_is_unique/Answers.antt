@@ -2,4 +2,4 @@ use Rattle.lx_regex.proofs.laws.match_is_unique.Goals as goal
 use Rattle.lx_regex.proofs.OneMatch.{match_is_unique}
 
 pub returns : goal.returns
-returns c enc patterns stream start outcome other is is' = match_is_unique enc patterns stream start outcome other is is'
+returns c policy enc patterns stream start outcome other is is' = match_is_unique policy enc patterns stream start outcome other is is'
