@@ -31,11 +31,14 @@ one_clear m a b first first e = refl
 one_clear m a b first (next j) e = elim j [ ]
 one_clear m a b (next i) j e = elim i [ ]
 
-two_clear : (x y : ℕ) (s s' t t' : List ℕ) (p q : ℕ) → (x ≡ y → ⊥) → AreClear (move (Some x) s t p ∷ move (Some y) s' t' q ∷ [])
+two_clear :
+    (x y : ℕ) (s s' t t' : List ℕ) (p q : ℕ) → (x ≡ y → ⊥) → AreClear (move (Some x) s t p ∷ move (Some y) s' t' q ∷ [])
 two_clear x y s s' t t' p q ne a b first first e = refl
-two_clear x y s s' t t' p q ne a b first (next first) e = absurd (⊎_elim (λ (h : Some x ≡ None). cc) (λ (h : Some x ≡ Some y). ne (cc)) e)
+two_clear x y s s' t t' p q ne a b first (next first) e =
+    absurd (⊎_elim (λ (h : Some x ≡ None). cc) (λ (h : Some x ≡ Some y). ne (cc)) e)
 two_clear x y s s' t t' p q ne a b first (next (next j)) e = elim j [ ]
-two_clear x y s s' t t' p q ne a b (next first) first e = absurd (⊎_elim (λ (h : Some y ≡ None). cc) (λ (h : Some y ≡ Some x). ne (cc)) e)
+two_clear x y s s' t t' p q ne a b (next first) first e =
+    absurd (⊎_elim (λ (h : Some y ≡ None). cc) (λ (h : Some y ≡ Some x). ne (cc)) e)
 two_clear x y s s' t t' p q ne a b (next first) (next first) e = refl
 two_clear x y s s' t t' p q ne a b (next first) (next (next j)) e = elim j [ ]
 two_clear x y s s' t t' p q ne a b (next (next i)) j e = elim i [ ]
@@ -49,7 +52,8 @@ iteration_clear false false tags copy last = none_clear
 moves_after_clear : (p : ℕ) (body : Term) (low : ℕ) (high : Option ℕ) (n : ℕ) → AreClear (moves_after p body low high n)
 moves_after_clear p body low high n = iteration_clear (may_iterate n high) (nat_le low n) _ _ _
 
-alt_above : (members : Terms) (i q : ℕ) (join : List ℕ → List ℕ) (a : Move) → IsAmong a (member_moves members i q join) → (k : ℕ) × (i ≤ k) × (picked a ≡ Some k)
+alt_above : (members : Terms) (i q : ℕ) (join : List ℕ → List ℕ) (a : Move) → IsAmong a (member_moves members i q join)
+    → (k : ℕ) × (i ≤ k) × (picked a ≡ Some k)
 alt_above nil i q join a h = elim h [ ]
 alt_above (cons e members) i q join a first = (i, omega arith, refl)
 alt_above (cons e members) i q join a (next h) = let r = alt_above members (suc i) _ _ a h in (r.0, omega (arith, r.1), r.2)
@@ -69,9 +73,14 @@ pub clear_append : (a b : List State) → AllAreClear a → AllAreClear b → Al
 clear_append [] b h k = k
 clear_append (r ∷ a) b h k = (h.0, clear_append a b h.1 k)
 
-copies_clear : (rows : ℕ → List Move → List State) (p : ℕ) (body : Term) (low : ℕ) (high : Option ℕ) (n c : ℕ) → ((q : ℕ) (ms : List Move) → AreClear ms → AllAreClear (rows q ms)) → AllAreClear (copies_table rows p body low high n c)
+copies_clear : (rows : ℕ → List Move → List State) (p : ℕ) (body : Term) (low : ℕ) (high : Option ℕ) (n c : ℕ)
+    → ((q : ℕ) (ms : List Move) → AreClear ms → AllAreClear (rows q ms))
+    → AllAreClear (copies_table rows p body low high n c)
 copies_clear rows p body low high zero c h = tt
-copies_clear rows p body low high (suc n) c h = clear_append (rows (p + 1 + c * parts body) (moves_after p body low high (suc c))) _ (h _ _ (moves_after_clear p body low high (suc c))) (copies_clear rows p body low high n (suc c) h)
+copies_clear rows p body low high (suc n) c h =
+    clear_append
+    (rows (p + 1 + c * parts body) (moves_after p body low high (suc c))) _
+    (h _ _ (moves_after_clear p body low high (suc c))) (copies_clear rows p body low high n (suc c) h)
 
 mutual
   pub table_clear : (e : Term) (p : ℕ) (ms : List Move) → AreClear ms → AllAreClear (table e p ms)
@@ -80,20 +89,26 @@ mutual
   table_clear any_unit p ms h = (tt, (h, tt))
   table_clear (cat members) p ms h = (one_clear _, (h, row_clear members (p + 1) (2 * p + 1)))
   table_clear (alt members) p ms h = (alt_clear members 0 (p + 1) (λ ts. ts), (h, alts_clear members (p + 1) (2 * p + 1)))
-  table_clear (repeat body low high) p ms h = (moves_after_clear p body low high 0, (h, copies_clear (λ q ms. table body q ms) p body low high (copies low high) 0 (λ q ms h. table_clear body q ms h)))
+  table_clear (repeat body low high) p ms h = (
+    moves_after_clear p body low high 0,
+    (h, copies_clear (λ q ms. table body q ms) p body low high (copies low high) 0 (λ q ms h. table_clear body q ms h)),
+  )
   table_clear (tag t) p ms h = (one_clear _, (h, tt))
   table_clear (group opening closing body) p ms h = (one_clear _, (h, table_clear body (p + 1) _ (one_clear _)))
 
   row_clear : (members : Terms) (q last : ℕ) → AllAreClear (members_table members q last)
   row_clear nil q last = tt
-  row_clear (cons e members) q last = clear_append (table e q _) _ (table_clear e q _ (one_clear _)) (row_clear members (q + parts e) last)
+  row_clear (cons e members) q last =
+      clear_append (table e q _) _ (table_clear e q _ (one_clear _)) (row_clear members (q + parts e) last)
 
   alts_clear : (members : Terms) (q last : ℕ) → AllAreClear (alternatives_table members q last)
   alts_clear nil q last = tt
-  alts_clear (cons e members) q last = clear_append (table e q _) _ (table_clear e q _ (one_clear _)) (alts_clear members (q + parts e) last)
+  alts_clear (cons e members) q last =
+      clear_append (table e q _) _ (table_clear e q _ (one_clear _)) (alts_clear members (q + parts e) last)
 
 pub alone_clear : (e : Term) (p : ℕ) → AllAreClear (alone e p)
-alone_clear e p = clear_append (blanks p) (table e p final) (blanks_clear p) (table_clear e p final (one_clear (move None [] [] 0)))
+alone_clear e p =
+    clear_append (blanks p) (table e p final) (blanks_clear p) (table_clear e p final (one_clear (move None [] [] 0)))
   where
     blanks_clear : (p : ℕ) → AllAreClear (blanks p)
     blanks_clear zero = tt

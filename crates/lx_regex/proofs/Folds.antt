@@ -14,10 +14,13 @@ pub term_of-empty : (tags : ℕ) → term_of tags Empty ≡ empty
 term_of-empty tags = ap (λ e. term_of tags e) (sym rolls-Empty) ∙ fold-roll-Expr Term (term_step tags) Expr-F.Empty
 
 pub term_of-unit : (tags number : ℕ) → term_of tags (Unit number) ≡ class ((number, number) ∷ [])
-term_of-unit tags number = ap (λ e. term_of tags e) (sym (rolls-Unit number)) ∙ fold-roll-Expr Term (term_step tags) (Expr-F.Unit number)
+term_of-unit tags number =
+    ap (λ e. term_of tags e) (sym (rolls-Unit number)) ∙ fold-roll-Expr Term (term_step tags) (Expr-F.Unit number)
 
 pub term_of-any_unit : (tags : ℕ) → term_of tags AnyUnit ≡ any_unit
 term_of-any_unit tags = ap (λ e. term_of tags e) (sym rolls-AnyUnit) ∙ fold-roll-Expr Term (term_step tags) Expr-F.AnyUnit
 
-pub term_of-cat : (tags : ℕ) (members : Vec Expr Global) → term_of tags (Cat members) ≡ cat (members_of (map (λ e. term_of tags e) members.items))
-term_of-cat tags members = ap (λ e. term_of tags e) (sym (rolls-Cat members)) ∙ fold-roll-Expr Term (term_step tags) (Expr-F.Cat members)
+pub term_of-cat : (tags : ℕ) (members : Vec Expr Global)
+    → term_of tags (Cat members) ≡ cat (members_of (map (λ e. term_of tags e) members.items))
+term_of-cat tags members =
+    ap (λ e. term_of tags e) (sym (rolls-Cat members)) ∙ fold-roll-Expr Term (term_step tags) (Expr-F.Cat members)

@@ -54,7 +54,8 @@ with_empty = inside (iterations 2 (iteration (pair with_x just_y) (iteration (pa
 
 -- up to the end of the first `x`, and of the first `y`
 abbrev to_x : List Symbol
-to_x = begins 1 ∷ sets 0 ∷ begins 2 ∷ picks 0 ∷ begins 3 ∷ sets 2 ∷ begins 4 ∷ begins 5 ∷ sets 4 ∷ begins 6 ∷ picks 0 ∷ begins 7 ∷ reads 120 ∷ ends 7 ∷ []
+to_x =
+    begins 1 ∷ sets 0 ∷ begins 2 ∷ picks 0 ∷ begins 3 ∷ sets 2 ∷ begins 4 ∷ begins 5 ∷ sets 4 ∷ begins 6 ∷ picks 0 ∷ begins 7 ∷ reads 120 ∷ ends 7 ∷ []
 
 abbrev to_y : List Symbol
 to_y = to_x ++ ends 6 ∷ sets 5 ∷ ends 5 ∷ begins 8 ∷ sets 6 ∷ begins 9 ∷ picks 1 ∷ begins 11 ∷ reads 121 ∷ ends 11 ∷ []
@@ -79,7 +80,8 @@ empty_not_plain : IsPlain (script Utf8 1 with_empty) → ⊥
 empty_not_plain plain = plain to_y round_y _ (ends 9) 19 refl refl refl
 
 -- a whole tree that begins with these two trees
-abbrev begun : {count : ℕ} → Tree optional_x → Tree nothing_or_y → Iterations body count → (low : 0 ≤ suc count) → Tree grouped_letters
+abbrev begun :
+    {count : ℕ} → Tree optional_x → Tree nothing_or_y → Iterations body count → (low : 0 ≤ suc count) → Tree grouped_letters
 begun {count} first second more low = inside (iterations (suc count) (iteration (pair first second) more) low tt)
 
 -- no plain tree of `xy` with lesser choices begins so
@@ -98,46 +100,69 @@ same_tail : (a b : ℕ) (xs ys : List ℕ) → a ∷ xs ≡ b ∷ ys → xs ≡ 
 same_tail a b xs ys e = cc
 
 no_second_x : (rest : List ℕ) → 120 ∷ 120 ∷ rest ≡ 120 ∷ 121 ∷ [] → ⊥
-no_second_x rest e = let same = same_head 120 121 rest [] (same_tail 120 120 (120 ∷ rest) (121 ∷ []) e) in omega (arith, same)
+no_second_x rest e =
+    let same = same_head 120 121 rest [] (same_tail 120 120 (120 ∷ rest) (121 ∷ []) e) in omega (arith, same)
 
 no_third : (third : ℕ) (rest : List ℕ) → 120 ∷ 121 ∷ third ∷ rest ≡ 120 ∷ 121 ∷ [] → ⊥
 no_third third rest e = cc
 
 -- after `x` and nothing: either the word has ended, or "x"? ends again, or a second `x` is read
-after_nothing : {count : ℕ} (i : IsInRanges ((120, 120) ∷ []) 120) (l : 0 ≤ 1) (m : IsAtMost 1 (Some 1)) (more : Iterations body count) → IsNoLesser (inside (iterations 1 (iteration (point 120 i) stop) l m)) nothing more
+after_nothing :
+    {count : ℕ} (i : IsInRanges ((120, 120) ∷ []) 120) (l : 0 ≤ 1) (m : IsAtMost 1 (Some 1)) (more : Iterations body count)
+    → IsNoLesser (inside (iterations 1 (iteration (point 120 i) stop) l m)) nothing more
 after_nothing i l m stop low u p b = cc
-after_nothing i l m (iteration (inside (row (beside (inside (iterations n stop l' m')) (beside second row_end)))) more) low u p b = p to_x round_x _ (ends 6) 13 refl refl refl
+after_nothing i l m
+    (iteration (inside (row (beside (inside (iterations n stop l' m')) (beside second row_end)))) more) low u p b =
+    p to_x round_x _ (ends 6) 13 refl refl refl
 after_nothing i l m (iteration (inside (row (beside (inside (iterations n (iteration (point c within) rest) l' m')) (beside second row_end)))) more) low u p b =
     subst (λ y. (j : IsInRanges ((120, 120) ∷ []) y) → units (script Utf8 1 (begun (inside (iterations 1 (iteration (point 120 i) stop) l m)) nothing (iteration (pair (inside (iterations n (iteration (point y j) rest) l' m')) second) more) low)) ≡ 120 ∷ 121 ∷ [] → ⊥)
     (letter_is 120 c within) (λ j e. no_second_x _ e) within u
 
 -- after `x` and `y`: either the choices are the same, or ""|"y" ends again, or a third letter is read
-after_y : {count : ℕ} (i : IsInRanges ((120, 120) ∷ []) 120) (l : 0 ≤ 1) (m : IsAtMost 1 (Some 1)) (j : IsInRanges ((121, 121) ∷ []) 121) (more : Iterations body count) → IsNoLesser (inside (iterations 1 (iteration (point 120 i) stop) l m)) (inside (chosen (later (here (point 121 j))))) more
+after_y :
+    {count : ℕ} (i : IsInRanges ((120, 120) ∷ []) 120) (l : 0 ≤ 1) (m : IsAtMost 1 (Some 1))
+    (j : IsInRanges ((121, 121) ∷ []) 121) (more : Iterations body count)
+    → IsNoLesser
+    (inside (iterations 1 (iteration (point 120 i) stop) l m)) (inside (chosen (later (here (point 121 j))))) more
 after_y i l m j stop low u p b = before_self (0 ∷ 0 ∷ 1 ∷ 1 ∷ []) b
-after_y i l m j (iteration (inside (row (beside (inside (iterations n stop l' m')) (beside (inside (chosen (here blank))) row_end)))) more) low u p b = p to_y round_y _ (ends 9) 19 refl refl refl
+after_y i l m j (iteration (inside (row (beside (inside (iterations n stop l' m')) (beside (inside (chosen (here blank))) row_end)))) more) low u p b =
+    p to_y round_y _ (ends 9) 19 refl refl refl
 after_y i l m j (iteration (inside (row (beside (inside (iterations n stop l' m')) (beside (inside (chosen (later (here (point c within))))) row_end)))) more) low u p b =
     subst (λ y. (k : IsInRanges ((121, 121) ∷ []) y) → units (script Utf8 1 (begun (inside (iterations 1 (iteration (point 120 i) stop) l m)) (inside (chosen (later (here (point 121 j))))) (iteration (pair (inside (iterations n stop l' m')) (inside (chosen (later (here (point y k)))))) more) low)) ≡ 120 ∷ 121 ∷ [] → ⊥)
     (letter_is 121 c within) (λ k e. no_third 121 _ e) within u
-after_y i l m j (iteration (inside (row (beside (inside (iterations n stop l' m')) (beside (inside (chosen (later (later none)))) row_end)))) more) low u p b = elim none [ ]
+after_y i l m j (iteration (inside (row (beside (inside (iterations n stop l' m')) (beside (inside (chosen (later (later none)))) row_end)))) more) low u p b =
+    elim none [ ]
 after_y i l m j (iteration (inside (row (beside (inside (iterations n (iteration (point c within) rest) l' m')) (beside second row_end)))) more) low u p b =
     subst (λ y. (k : IsInRanges ((120, 120) ∷ []) y) → units (script Utf8 1 (begun (inside (iterations 1 (iteration (point 120 i) stop) l m)) (inside (chosen (later (here (point 121 j))))) (iteration (pair (inside (iterations n (iteration (point y k) rest) l' m')) second) more) low)) ≡ 120 ∷ 121 ∷ [] → ⊥)
     (letter_is 120 c within) (λ k e. no_third 120 _ e) within u
 
-by_second : {count : ℕ} (i : IsInRanges ((120, 120) ∷ []) 120) (l : 0 ≤ 1) (m : IsAtMost 1 (Some 1)) (second : Tree nothing_or_y) (more : Iterations body count) → IsNoLesser (inside (iterations 1 (iteration (point 120 i) stop) l m)) second more
+by_second :
+    {count : ℕ} (i : IsInRanges ((120, 120) ∷ []) 120) (l : 0 ≤ 1) (m : IsAtMost 1 (Some 1)) (second : Tree nothing_or_y)
+    (more : Iterations body count) → IsNoLesser (inside (iterations 1 (iteration (point 120 i) stop) l m)) second more
 by_second i l m (inside (chosen (here blank))) more = after_nothing i l m more
 by_second i l m (inside (chosen (later (here (point c within))))) more =
-    subst (λ y. (j : IsInRanges ((121, 121) ∷ []) y) → IsNoLesser (inside (iterations 1 (iteration (point 120 i) stop) l m)) (inside (chosen (later (here (point y j))))) more) (letter_is 121 c within) (λ j. after_y i l m j more) within
+    subst
+    (λ y.
+    (j : IsInRanges ((121, 121) ∷ []) y) → IsNoLesser (inside (iterations 1 (iteration (point 120 i) stop) l m)) (inside (chosen (later (here (point y j))))) more)
+    (letter_is 121 c within) (λ j. after_y i l m j more) within
 by_second i l m (inside (chosen (later (later none)))) more = elim none [ ]
 
-by_first : {count : ℕ} (first : Tree optional_x) (second : Tree nothing_or_y) (more : Iterations body count) → IsNoLesser first second more
-by_first (inside (iterations n stop l m)) second more low u p b = ⊎_elim (λ h. omega arith) (λ h. ⊎_elim (λ k. omega arith) (λ k. let e = k.0 in omega arith) h.1) b
+by_first : {count : ℕ} (first : Tree optional_x) (second : Tree nothing_or_y) (more : Iterations body count)
+    → IsNoLesser first second more
+by_first (inside (iterations n stop l m)) second more low u p b =
+    ⊎_elim (λ h. omega arith) (λ h. ⊎_elim (λ k. omega arith) (λ k. let e = k.0 in omega arith) h.1) b
 by_first (inside (iterations n (iteration (point c within) stop) l m)) second more low u p b =
-    subst (λ y. (i : IsInRanges ((120, 120) ∷ []) y) → IsNoLesser (inside (iterations 1 (iteration (point y i) stop) l m)) second more) (letter_is 120 c within) (λ i. by_second i l m second more) within low u p b
+    subst
+    (λ y.
+    (i : IsInRanges ((120, 120) ∷ []) y) → IsNoLesser (inside (iterations 1 (iteration (point y i) stop) l m)) second more)
+    (letter_is 120 c within) (λ i. by_second i l m second more) within low u p b
 by_first (inside (iterations n (iteration once (iteration twice rest)) l m)) second more low u p b = absurd (omega arith)
 
-least : (other : Tree grouped_letters) → units (script Utf8 1 other) ≡ 120 ∷ 121 ∷ [] → IsPlain (script Utf8 1 other) → IsBefore (choices (script Utf8 1 other)) (0 ∷ 0 ∷ 1 ∷ 1 ∷ []) → ⊥
+least : (other : Tree grouped_letters) → units (script Utf8 1 other) ≡ 120 ∷ 121 ∷ [] → IsPlain (script Utf8 1 other)
+    → IsBefore (choices (script Utf8 1 other)) (0 ∷ 0 ∷ 1 ∷ 1 ∷ []) → ⊥
 least (inside (iterations n stop low high)) u p b = cc
-least (inside (iterations n (iteration (inside (row (beside first (beside second row_end)))) more) low high)) u p b = by_first first second more low u p b
+least (inside (iterations n (iteration (inside (row (beside first (beside second row_end)))) more) low high)) u p b =
+    by_first first second more low u p b
 
 pub grouped : EmptyIterationsAreNotPlain on_xy in_two with_empty
 grouped = record {

@@ -68,25 +68,44 @@ data LeastOf (P : List Symbol → Type 0) : Type 0 where
   attained : (l : List Symbol) → P l → ((l' : List Symbol) → P l' → IsBefore (choices l') (choices l) → ⊥) → LeastOf P
   none : ((l : List Symbol) → P l → ⊥) → LeastOf P
 
-least_or : (P Q R : List Symbol → Type 0) → LeastOf P → LeastOf Q → ((l : List Symbol) → R l → P l ⊎ Q l) → ((l : List Symbol) → P l → R l) → ((l : List Symbol) → Q l → R l) → LeastOf R
+least_or : (P Q R : List Symbol → Type 0) → LeastOf P → LeastOf Q → ((l : List Symbol) → R l → P l ⊎ Q l)
+    → ((l : List Symbol) → P l → R l) → ((l : List Symbol) → Q l → R l) → LeastOf R
 least_or P Q R (none n) (none m) from pr qr = none (λ l r. ⊎_elim (λ p. n l p) (λ q. m l q) (from l r))
-least_or P Q R (none n) (attained l q least) from pr qr = attained l (qr l q) (λ l' r b. ⊎_elim (λ p. n l' p) (λ q'. least l' q' b) (from l' r))
-least_or P Q R (attained l p least) (none n) from pr qr = attained l (pr l p) (λ l' r b. ⊎_elim (λ p'. least l' p' b) (λ q. n l' q) (from l' r))
+least_or P Q R (none n) (attained l q least) from pr qr =
+    attained l (qr l q) (λ l' r b. ⊎_elim (λ p. n l' p) (λ q'. least l' q' b) (from l' r))
+least_or P Q R (attained l p least) (none n) from pr qr =
+    attained l (pr l p) (λ l' r b. ⊎_elim (λ p'. least l' p' b) (λ q. n l' q) (from l' r))
 least_or P Q R (attained l p least) (attained m q least') from pr qr =
     ⊎_elim
-    (λ h. attained l (pr l p) (λ l' r b. ⊎_elim (λ p'. least l' p' b) (λ q'. least' l' q' (before_step (choices l') (choices l) (choices m) b h)) (from l' r)))
-    (λ h. attained m (qr m q) (λ l' r b. ⊎_elim (λ p'. least l' p' (before_step (choices l') (choices m) (choices l) b h)) (λ q'. least' l' q' b) (from l' r)))
+    (λ h.
+    attained l
+    (pr l p)
+    (λ l' r b.
+    ⊎_elim
+    (λ p'. least l' p' b) (λ q'. least' l' q' (before_step (choices l') (choices l) (choices m) b h)) (from l' r)))
+    (λ h.
+    attained m
+    (qr m q)
+    (λ l' r b.
+    ⊎_elim
+    (λ p'. least l' p' (before_step (choices l') (choices m) (choices l) b h)) (λ q'. least' l' q' b) (from l' r)))
     (before_total (choices l) (choices m))
 
-least_as : (P R : List Symbol → Type 0) → LeastOf P → ((l : List Symbol) → R l → P l) → ((l : List Symbol) → P l → R l) → LeastOf R
+least_as :
+    (P R : List Symbol → Type 0) → LeastOf P → ((l : List Symbol) → R l → P l) → ((l : List Symbol) → P l → R l) → LeastOf R
 least_as P R (none n) from pr = none (λ l r. n l (from l r))
 least_as P R (attained l p least) from pr = attained l (pr l p) (λ l' r b. least l' (from l' r) b)
 
 -- behind a front with these choices
-least_behind : (P : List Symbol → Type 0) (f : List Symbol → List Symbol) (c : List ℕ) → ((l : List Symbol) → choices (f l) ≡ c ++ choices l) → LeastOf P → LeastOf (λ l'. (l : List Symbol) × P l × (l' ≡ f l))
+least_behind : (P : List Symbol → Type 0) (f : List Symbol → List Symbol) (c : List ℕ)
+    → ((l : List Symbol) → choices (f l) ≡ c ++ choices l) → LeastOf P
+    → LeastOf (λ l'. (l : List Symbol) × P l × (l' ≡ f l))
 least_behind P f c is (none n) = none (λ l' r. n r.0 r.1)
 least_behind P f c is (attained l p least) =
-    attained (f l) (l, p, refl) (λ l' r b. least r.0 r.1 (before_drop c (choices r.0) (choices l) (subst (λ k. IsBefore k (c ++ choices l)) (ap choices r.2 ∙ is r.0) (subst (λ k. IsBefore (choices l') k) (is l) b))))
+    attained
+    (f l) (l, p, refl)
+    (λ l' r b.
+    least r.0 r.1 (before_drop c (choices r.0) (choices l) (subst (λ k. IsBefore k (c ++ choices l)) (ap choices r.2 ∙ is r.0) (subst (λ k. IsBefore (choices l') k) (is l) b))))
 
 -- membership, and the states not yet seen
 abbrev Has : ℕ → List ℕ → Type 0
@@ -95,14 +114,19 @@ Has s (x ∷ xs) = (s ≡ x) ⊎ Has s xs
 
 dec_has : (s : ℕ) (xs : List ℕ) → Has s xs ⊎ (Has s xs → ⊥)
 dec_has s [] = inr (λ h. h)
-dec_has s (x ∷ xs) = ⊎_elim (λ e. inl (inl e)) (λ ne. ⊎_elim (λ h. inl (inr h)) (λ n. inr (λ h. ⊎_elim ne n h)) (dec_has s xs)) (cases_eq s x)
+dec_has s (x ∷ xs) =
+    ⊎_elim
+    (λ e. inl (inl e)) (λ ne. ⊎_elim (λ h. inl (inr h)) (λ n. inr (λ h. ⊎_elim ne n h)) (dec_has s xs)) (cases_eq s x)
 
-take_out : (s : ℕ) (xs : List ℕ) → Has s xs → (ys : List ℕ) × (length xs ≡ suc (length ys)) × ((x : ℕ) → Has x xs → (x ≡ s) ⊎ Has x ys)
+take_out : (s : ℕ) (xs : List ℕ) → Has s xs
+    → (ys : List ℕ) × (length xs ≡ suc (length ys)) × ((x : ℕ) → Has x xs → (x ≡ s) ⊎ Has x ys)
 take_out s [] h = absurd h
 take_out s (x ∷ xs) h =
     ⊎_elim
     (λ e. (xs, refl, λ y k. ⊎_elim (λ a. inl (a ∙ sym e)) (λ a. inr a) k))
-    (λ i. let r = take_out s xs i in (x ∷ r.0, ap suc r.1, λ y k. ⊎_elim (λ a. inr (inl a)) (λ a. ⊎_elim (λ b. inl b) (λ b. inr (inr b)) (r.2 y a)) k))
+    (λ i.
+    let r = take_out s xs i in
+    (x ∷ r.0, ap suc r.1, λ y k. ⊎_elim (λ a. inr (inl a)) (λ a. ⊎_elim (λ b. inl b) (λ b. inr (inr b)) (r.2 y a)) k))
     h
 
 abbrev below_list : ℕ → List ℕ
@@ -111,7 +135,8 @@ below_list (suc n) = n ∷ below_list n
 
 below_has : (n s : ℕ) → s < n → Has s (below_list n)
 below_has zero s lt = absurd (omega arith)
-below_has (suc n) s lt = ⊎_elim (λ e. inl e) (λ r. ⊎_elim (λ a. inr (below_has n s a)) (λ a. absurd (omega arith)) r) (cases_order s n)
+below_has (suc n) s lt =
+    ⊎_elim (λ e. inl e) (λ r. ⊎_elim (λ a. inr (below_has n s a)) (λ a. absurd (omega arith)) r) (cases_order s n)
 
 -- what unseen and plain say behind a step
 pub unseen_sets_back : (x : Symbol) (ts : List ℕ) (l : List Symbol) → IsUnseen x (map sets ts ++ l) → IsUnseen x l
@@ -123,8 +148,12 @@ unseen_unsets_back x [] l h = h
 unseen_unsets_back x (t ∷ ts) l h = unseen_unsets_back x ts l h
 
 pub unseen_label_back : (x : Symbol) (m : Move) (l : List Symbol) → IsUnseen x (label m ++ l) → IsUnseen x l
-unseen_label_back x (move None set unset to) l h = unseen_unsets_back x unset l (unseen_sets_back x set _ (subst (IsUnseen x) (append_assoc (map sets set) (map unsets unset) l) h))
-unseen_label_back x (move (Some d) set unset to) l h = unseen_unsets_back x unset l (unseen_sets_back x set _ (subst (IsUnseen x) (append_assoc (map sets set) (map unsets unset) l) h))
+unseen_label_back x (move None set unset to) l h =
+    unseen_unsets_back x unset l
+    (unseen_sets_back x set _ (subst (IsUnseen x) (append_assoc (map sets set) (map unsets unset) l) h))
+unseen_label_back x (move (Some d) set unset to) l h =
+    unseen_unsets_back x unset l
+    (unseen_sets_back x set _ (subst (IsUnseen x) (append_assoc (map sets set) (map unsets unset) l) h))
 
 pub plain_tail : (a b : List Symbol) → IsPlainList (a ++ b) → IsPlainList b
 plain_tail [] b h = h
@@ -138,14 +167,16 @@ plain_tail (picks u ∷ a) b h = plain_tail a b h
 pub unseen_mark_back : (x : Symbol) (s : ℕ) (l : List Symbol) → IsUnseen x (mark s ∷ l) → (x ≡ mark s → ⊥) × IsUnseen x l
 unseen_mark_back x s l h = at (nat_eq (s % 2) 0) h
   where
-    at : (b : Bool) → IsUnseen x ((if b then begins (s / 2) else ends (s / 2)) ∷ l) → (x ≡ (if b then begins (s / 2) else ends (s / 2)) → ⊥) × IsUnseen x l
+    at : (b : Bool) → IsUnseen x ((if b then begins (s / 2) else ends (s / 2)) ∷ l)
+        → (x ≡ (if b then begins (s / 2) else ends (s / 2)) → ⊥) × IsUnseen x l
     at true k = k
     at false k = k
 
 pub plain_mark_back : (s : ℕ) (l : List Symbol) → IsPlainList (mark s ∷ l) → IsUnseen (mark s) l × IsPlainList l
 plain_mark_back s l h = at (nat_eq (s % 2) 0) h
   where
-    at : (b : Bool) → IsPlainList ((if b then begins (s / 2) else ends (s / 2)) ∷ l) → IsUnseen (if b then begins (s / 2) else ends (s / 2)) l × IsPlainList l
+    at : (b : Bool) → IsPlainList ((if b then begins (s / 2) else ends (s / 2)) ∷ l)
+        → IsUnseen (if b then begins (s / 2) else ends (s / 2)) l × IsPlainList l
     at true k = k
     at false k = k
 
@@ -175,24 +206,32 @@ module _ (enc : Enc) (g : List State) (z : slice_get g 0 ≡ Some (moves [])) wh
 
   -- behind the symbols of a spelling
   abbrev Via : (s : ℕ) → List ℕ → (d : List Symbol) (cs : List ℕ) → List Symbol → Type 0
-  Via s us d cs l' = (rest : List ℕ) × (l : List Symbol) × (us ≡ cs ++ rest) × Candidate (s + 1) rest [] l × (l' ≡ mark s ∷ (d ++ (map reads cs ++ l)))
+  Via s us d cs l' =
+      (rest : List ℕ) × (l : List Symbol) × (us ≡ cs ++ rest) × Candidate (s + 1) rest [] l
+      × (l' ≡ mark s ∷ (d ++ (map reads cs ++ l)))
 
-  least_via : (s : ℕ) (us : List ℕ) (d : List Symbol) (cs : List ℕ) → ((l : List Symbol) → choices (mark s ∷ (d ++ (map reads cs ++ l))) ≡ choices d ++ choices l) → ((rest : List ℕ) → us ≡ cs ++ rest → LeastOf (Candidate (s + 1) rest [])) → LeastOf (Via s us d cs)
+  least_via : (s : ℕ) (us : List ℕ) (d : List Symbol) (cs : List ℕ)
+      → ((l : List Symbol) → choices (mark s ∷ (d ++ (map reads cs ++ l))) ≡ choices d ++ choices l)
+      → ((rest : List ℕ) → us ≡ cs ++ rest → LeastOf (Candidate (s + 1) rest [])) → LeastOf (Via s us d cs)
   least_via s us d cs is more = at (dec_front cs us)
     where
       at : ((rest : List ℕ) × (us ≡ cs ++ rest)) ⊎ ((rest : List ℕ) → us ≡ cs ++ rest → ⊥) → LeastOf (Via s us d cs)
       at (inl r) =
           least_as _ _ (least_behind (Candidate (s + 1) r.0 []) (λ l. mark s ∷ (d ++ (map reads cs ++ l))) (choices d) is (more r.0 r.1))
-          (λ l v. let e : v.0 ≡ r.0 = (front_same_length cs cs v.0 r.0 refl (sym v.2 ∙ r.1)).1 in (v.1, subst (λ k. Candidate (s + 1) k [] v.1) e v.3, v.4))
+          (λ l v.
+          let e : v.0 ≡ r.0 = (front_same_length cs cs v.0 r.0 refl (sym v.2 ∙ r.1)).1 in
+          (v.1, subst (λ k. Candidate (s + 1) k [] v.1) e v.3, v.4))
           (λ l v. (r.0, v.0, r.1, v.1, v.2))
       at (inr n) = none (λ l v. n v.0 v.2)
 
   -- the points from lo on, n of them
   abbrev ViaPoints : (s : ℕ) → List ℕ → List (ℕ × ℕ) → (lo n : ℕ) → List Symbol → Type 0
   ViaPoints s us ranges lo zero l = ⊥
-  ViaPoints s us ranges lo (suc n) l = Via s us (leaf_choice enc ranges lo) (spell enc lo) l ⊎ ViaPoints s us ranges (suc lo) n l
+  ViaPoints s us ranges lo (suc n) l =
+      Via s us (leaf_choice enc ranges lo) (spell enc lo) l ⊎ ViaPoints s us ranges (suc lo) n l
 
-  via_at : (s : ℕ) (us : List ℕ) (ranges : List (ℕ × ℕ)) (lo n c : ℕ) (l : List Symbol) → lo ≤ c → c < lo + n → Via s us (leaf_choice enc ranges c) (spell enc c) l → ViaPoints s us ranges lo n l
+  via_at : (s : ℕ) (us : List ℕ) (ranges : List (ℕ × ℕ)) (lo n c : ℕ) (l : List Symbol) → lo ≤ c → c < lo + n
+      → Via s us (leaf_choice enc ranges c) (spell enc c) l → ViaPoints s us ranges lo n l
   via_at s us ranges lo zero c l a b v = absurd (omega arith)
   via_at s us ranges lo (suc n) c l a b v =
       ⊎_elim
@@ -200,53 +239,81 @@ module _ (enc : Enc) (g : List State) (z : slice_get g 0 ≡ Some (moves [])) wh
       (λ ne. inr (via_at s us ranges (suc lo) n c l (grind arith) (omega arith) v))
       (cases_eq lo c)
 
-  via_from : (s : ℕ) (us : List ℕ) (ranges : List (ℕ × ℕ)) (lo n : ℕ) (l : List Symbol) → ViaPoints s us ranges lo n l → (c : ℕ) × (lo ≤ c) × (c < lo + n) × Via s us (leaf_choice enc ranges c) (spell enc c) l
+  via_from : (s : ℕ) (us : List ℕ) (ranges : List (ℕ × ℕ)) (lo n : ℕ) (l : List Symbol) → ViaPoints s us ranges lo n l
+      → (c : ℕ) × (lo ≤ c) × (c < lo + n) × Via s us (leaf_choice enc ranges c) (spell enc c) l
   via_from s us ranges lo zero l v = absurd v
-  via_from s us ranges lo (suc n) l v = ⊎_elim (λ a. (lo, omega arith, omega arith, a)) (λ a. let r = via_from s us ranges (suc lo) n l a in (r.0, omega (arith, r.1), omega (arith, r.2), r.3)) v
+  via_from s us ranges lo (suc n) l v =
+      ⊎_elim
+      (λ a. (lo, omega arith, omega arith, a))
+      (λ a. let r = via_from s us ranges (suc lo) n l a in (r.0, omega (arith, r.1), omega (arith, r.2), r.3)) v
 
   -- the points of some of the ranges
   abbrev ViaRanges : (s : ℕ) → List ℕ → (all ranges : List (ℕ × ℕ)) → List Symbol → Type 0
   ViaRanges s us all ranges l = (c : ℕ) × IsInRanges ranges c × Via s us (leaf_choice enc all c) (spell enc c) l
 
-  choices_spelled : (s : ℕ) (d : List Symbol) (cs : List ℕ) (l : List Symbol) → choices (mark s ∷ (d ++ (map reads cs ++ l))) ≡ choices d ++ choices l
+  choices_spelled : (s : ℕ) (d : List Symbol) (cs : List ℕ) (l : List Symbol)
+      → choices (mark s ∷ (d ++ (map reads cs ++ l))) ≡ choices d ++ choices l
   choices_spelled s d cs l = choices_code enc g s d cs l
 
-  least_points : (s : ℕ) (us : List ℕ) (ranges : List (ℕ × ℕ)) (lo n : ℕ) → ((c : ℕ) (rest : List ℕ) → us ≡ spell enc c ++ rest → LeastOf (Candidate (s + 1) rest [])) → LeastOf (ViaPoints s us ranges lo n)
+  least_points : (s : ℕ) (us : List ℕ) (ranges : List (ℕ × ℕ)) (lo n : ℕ)
+      → ((c : ℕ) (rest : List ℕ) → us ≡ spell enc c ++ rest → LeastOf (Candidate (s + 1) rest []))
+      → LeastOf (ViaPoints s us ranges lo n)
   least_points s us ranges lo zero more = none (λ l v. v)
   least_points s us ranges lo (suc n) more =
-      least_or _ _ _ (least_via s us (leaf_choice enc ranges lo) (spell enc lo) (choices_spelled s _ _) (λ rest e. more lo rest e)) (least_points s us ranges (suc lo) n more) (λ l v. v) (λ l v. inl v) (λ l v. inr v)
+      least_or _ _ _
+      (least_via s us (leaf_choice enc ranges lo) (spell enc lo) (choices_spelled s _ _) (λ rest e. more lo rest e))
+      (least_points s us ranges (suc lo) n more) (λ l v. v) (λ l v. inl v) (λ l v. inr v)
 
-  least_ranges : (s : ℕ) (us : List ℕ) (all ranges : List (ℕ × ℕ)) → ((c : ℕ) (rest : List ℕ) → us ≡ spell enc c ++ rest → LeastOf (Candidate (s + 1) rest [])) → LeastOf (ViaRanges s us all ranges)
+  least_ranges : (s : ℕ) (us : List ℕ) (all ranges : List (ℕ × ℕ))
+      → ((c : ℕ) (rest : List ℕ) → us ≡ spell enc c ++ rest → LeastOf (Candidate (s + 1) rest []))
+      → LeastOf (ViaRanges s us all ranges)
   least_ranges s us all [] more = none (λ l v. v.1)
   least_ranges s us all (r ∷ ranges) more =
       least_or _ _ _ (least_points s us all r.0 (suc r.1 - r.0) more) (least_ranges s us all ranges more)
-      (λ l v. ⊎_elim (λ i. let a = i.0 in let b = i.1 in inl (via_at s us all r.0 (suc r.1 - r.0) v.0 l a (omega arith) v.2)) (λ i. inr (v.0, i, v.2)) v.1)
-      (λ l v. let q = via_from s us all r.0 (suc r.1 - r.0) l v in let a = q.1 in let b = q.2 in (q.0, inl (a, omega arith), q.3))
+      (λ l v.
+      ⊎_elim
+      (λ i. let a = i.0 in let b = i.1 in inl (via_at s us all r.0 (suc r.1 - r.0) v.0 l a (omega arith) v.2))
+      (λ i. inr (v.0, i, v.2)) v.1)
+      (λ l v.
+      let q = via_from s us all r.0 (suc r.1 - r.0) l v in let a = q.1 in let b = q.2 in (q.0, inl (a, omega arith), q.3))
       (λ l v. (v.0, inr v.1, v.2))
 
   -- behind one of some moves
   abbrev ByMoves : (s : ℕ) → (us seen : List ℕ) → List Move → List Symbol → Type 0
-  ByMoves s us seen ms l' = (m : Move) × IsAmong m ms × (l : List Symbol) × Candidate (target m) us (s ∷ seen) l × (l' ≡ mark s ∷ (label m ++ l))
+  ByMoves s us seen ms l' =
+      (m : Move) × IsAmong m ms × (l : List Symbol) × Candidate (target m) us (s ∷ seen) l × (l' ≡ mark s ∷ (label m ++ l))
 
-  least_moves : (s : ℕ) (us seen : List ℕ) (ms : List Move) → ((t : ℕ) → LeastOf (Candidate t us (s ∷ seen))) → LeastOf (ByMoves s us seen ms)
+  least_moves : (s : ℕ) (us seen : List ℕ) (ms : List Move) → ((t : ℕ) → LeastOf (Candidate t us (s ∷ seen)))
+      → LeastOf (ByMoves s us seen ms)
   least_moves s us seen [] more = none (λ l v. in_none [] refl v.1)
   least_moves s us seen (m ∷ ms) more =
-      least_or (λ l'. (l : List Symbol) × Candidate (target m) us (s ∷ seen) l × (l' ≡ mark s ∷ (label m ++ l))) (ByMoves s us seen ms) (ByMoves s us seen (m ∷ ms))
-      (least_behind (Candidate (target m) us (s ∷ seen)) (λ l. mark s ∷ (label m ++ l)) (choices (label m)) (λ l. choices_mark s _ ∙ choices_append (label m) l) (more (target m)))
+      least_or
+      (λ l'. (l : List Symbol) × Candidate (target m) us (s ∷ seen) l × (l' ≡ mark s ∷ (label m ++ l)))
+      (ByMoves s us seen ms) (ByMoves s us seen (m ∷ ms))
+      (least_behind
+      (Candidate (target m) us (s ∷ seen)) (λ l. mark s ∷ (label m ++ l)) (choices (label m))
+      (λ l. choices_mark s _ ∙ choices_append (label m) l) (more (target m)))
       (least_moves s us seen ms more)
       (λ l' v. by_cases v.0 l' v.1 v.2 v.3 v.4)
       (λ l' v. (m, first, v.0, v.1, v.2))
       (λ l' v. (v.0, next v.1, v.2, v.3, v.4))
     where
-      by_cases : (n : Move) (l' : List Symbol) → IsAmong n (m ∷ ms) → (l : List Symbol) → Candidate (target n) us (s ∷ seen) l → l' ≡ mark s ∷ (label n ++ l) → ((l : List Symbol) × Candidate (target m) us (s ∷ seen) l × (l' ≡ mark s ∷ (label m ++ l))) ⊎ ByMoves s us seen ms l'
+      by_cases :
+          (n : Move) (l' : List Symbol) → IsAmong n (m ∷ ms) → (l : List Symbol) → Candidate (target n) us (s ∷ seen) l
+          → l' ≡ mark s ∷ (label n ++ l)
+          → ((l : List Symbol) × Candidate (target m) us (s ∷ seen) l × (l' ≡ mark s ∷ (label m ++ l)))
+          ⊎ ByMoves s us seen ms l'
       by_cases n l' first l c e = inl (l, c, e)
       by_cases n l' (next i) l c e = inr (n, i, l, c, e)
 
   -- candidates by the row of their state
-  from_moves : (s : ℕ) (us seen : List ℕ) (ms : List Move) → slice_get g s ≡ Some (moves ms) → (s ≡ 0 → ⊥) → (l : List Symbol) → Candidate s us seen l → ByMoves s us seen ms l
+  from_moves :
+      (s : ℕ) (us seen : List ℕ) (ms : List Move) → slice_get g s ≡ Some (moves ms) → (s ≡ 0 → ⊥) → (l : List Symbol)
+      → Candidate s us seen l → ByMoves s us seen ms l
   from_moves s us seen ms h ne l c = at c.path c.over c.plain c.avoids
     where
-      at : {l : List Symbol} → Path enc g s l → units l ≡ us → IsPlainList l → ((x : ℕ) → Has x seen → IsUnseen (mark x) l) → ByMoves s us seen ms l
+      at : {l : List Symbol} → Path enc g s l → units l ≡ us → IsPlainList l → ((x : ℕ) → Has x seen → IsUnseen (mark x) l)
+          → ByMoves s us seen ms l
       at (ended e) u p a = absurd (ne e)
       at (then_move {l} ms' m h' i q) u p a =
           let k : ms' ≡ ms = cc in
@@ -258,13 +325,16 @@ module _ (enc : Enc) (g : List State) (z : slice_get g 0 ≡ Some (moves [])) wh
               path = q;
               over = sym (units_mark s (label m ++ l) ∙ units_label m l) ∙ u;
               plain = plain_tail (label m) l b.1;
-              avoids = λ x i. ⊎_elim (λ e. subst (λ n. IsUnseen (mark n) l) (sym e) (unseen_label_back (mark s) m l b.0)) (λ j. unseen_label_back (mark x) m l (unseen_mark_back (mark x) s (label m ++ l) (a x j)).1) i;
+              avoids =
+                  λ x i. ⊎_elim (λ e. subst (λ n. IsUnseen (mark n) l) (sym e) (unseen_label_back (mark s) m l b.0)) (λ j. unseen_label_back (mark x) m l (unseen_mark_back (mark x) s (label m ++ l) (a x j)).1) i;
             },
             refl,
           )
       at (then_code r d cs h' k q) u p a = absurd (no_rows enc g s ms r h h' k)
 
-  to_moves : (s : ℕ) (us seen : List ℕ) (ms : List Move) → slice_get g s ≡ Some (moves ms) → (Has s seen → ⊥) → (l : List Symbol) → ByMoves s us seen ms l → Candidate s us seen l
+  to_moves :
+      (s : ℕ) (us seen : List ℕ) (ms : List Move) → slice_get g s ≡ Some (moves ms) → (Has s seen → ⊥) → (l : List Symbol)
+      → ByMoves s us seen ms l → Candidate s us seen l
   to_moves s us seen ms h new l v =
       let m = v.0 in
       let c = v.3 in
@@ -272,10 +342,14 @@ module _ (enc : Enc) (g : List State) (z : slice_get g 0 ≡ Some (moves [])) wh
         path = then_move ms m h v.1 c.path;
         over = units_mark s (label m ++ v.2) ∙ units_label m v.2 ∙ c.over;
         plain = plain_mark s _ (unseen_label (mark s) m _ (c.avoids s (inl refl))) (plain_label m _ c.plain);
-        avoids = λ x i. unseen_mark (mark x) s _ (λ e. new (subst (λ n. Has n seen) (mark_same x s e) i)) (unseen_label (mark x) m _ (c.avoids x (inr i)));
+        avoids =
+            λ x i. unseen_mark (mark x) s _ (λ e. new (subst (λ n. Has n seen) (mark_same x s e) i)) (unseen_label (mark x) m _ (c.avoids x (inr i)));
       })
 
-  from_code : (s : ℕ) (us seen : List ℕ) (r : State) → slice_get g s ≡ Some r → (l : List Symbol) → (d : List Symbol) (cs : List ℕ) → Code enc r d cs → Path enc g (s + 1) l → units (mark s ∷ (d ++ (map reads cs ++ l))) ≡ us → IsPlainList (mark s ∷ (d ++ (map reads cs ++ l))) → Via s us d cs (mark s ∷ (d ++ (map reads cs ++ l)))
+  from_code :
+      (s : ℕ) (us seen : List ℕ) (r : State) → slice_get g s ≡ Some r → (l : List Symbol) → (d : List Symbol) (cs : List ℕ)
+      → Code enc r d cs → Path enc g (s + 1) l → units (mark s ∷ (d ++ (map reads cs ++ l))) ≡ us
+      → IsPlainList (mark s ∷ (d ++ (map reads cs ++ l))) → Via s us d cs (mark s ∷ (d ++ (map reads cs ++ l)))
   from_code s us seen r h l d cs k q u p = (
     units l,
     l,
@@ -289,15 +363,20 @@ module _ (enc : Enc) (g : List State) (z : slice_get g 0 ≡ Some (moves [])) wh
     refl,
   )
 
-  pub unseen_code : {r : State} {d : List Symbol} {cs : List ℕ} → Code enc r d cs → (x : Symbol) (l : List Symbol) → IsUnseen x (d ++ (map reads cs ++ l))
-  unseen_code (of_point {ranges} c i) x l = let q = code_some enc (of_point c i) in unseen_choice enc ranges c x _ (unseen_point x (spell enc c) q.0 q.1 l q.2)
+  pub unseen_code : {r : State} {d : List Symbol} {cs : List ℕ} → Code enc r d cs → (x : Symbol) (l : List Symbol)
+      → IsUnseen x (d ++ (map reads cs ++ l))
+  unseen_code (of_point {ranges} c i) x l =
+      let q = code_some enc (of_point c i) in unseen_choice enc ranges c x _ (unseen_point x (spell enc c) q.0 q.1 l q.2)
   unseen_code (of_unit u) x l = tt
 
-  pub plain_code : {r : State} {d : List Symbol} {cs : List ℕ} → Code enc r d cs → (l : List Symbol) → IsPlainList l → IsPlainList (d ++ (map reads cs ++ l))
+  pub plain_code : {r : State} {d : List Symbol} {cs : List ℕ} → Code enc r d cs → (l : List Symbol) → IsPlainList l
+      → IsPlainList (d ++ (map reads cs ++ l))
   plain_code (of_point {ranges} c i) l h = plain_choice enc ranges c _ (plain_reads (spell enc c) l h)
   plain_code (of_unit u) l h = h
 
-  to_code : (s : ℕ) (us seen : List ℕ) (r : State) → slice_get g s ≡ Some r → (Has s seen → ⊥) → (d : List Symbol) (cs : List ℕ) → Code enc r d cs → (l : List Symbol) → Via s us d cs l → Candidate s us seen l
+  to_code :
+      (s : ℕ) (us seen : List ℕ) (r : State) → slice_get g s ≡ Some r → (Has s seen → ⊥) → (d : List Symbol) (cs : List ℕ)
+      → Code enc r d cs → (l : List Symbol) → Via s us d cs l → Candidate s us seen l
   to_code s us seen r h new d cs k l' v =
       let l = v.1 in
       let c = v.3 in
@@ -305,17 +384,27 @@ module _ (enc : Enc) (g : List State) (z : slice_get g 0 ≡ Some (moves [])) wh
         path = then_code r d cs h k c.path;
         over = units_code enc g s r d cs l k ∙ ap (λ n. cs ++ n) c.over ∙ sym v.2;
         plain = plain_mark s _ (unseen_code k (mark s) l) (plain_code k l c.plain);
-        avoids = λ x i. unseen_mark (mark x) s _ (λ e. new (subst (λ n. Has n seen) (mark_same x s e) i)) (unseen_code k (mark x) l);
+        avoids =
+            λ x i. unseen_mark (mark x) s _ (λ e. new (subst (λ n. Has n seen) (mark_same x s e) i)) (unseen_code k (mark x) l);
       })
 
-  from_leaf : (s : ℕ) (us seen : List ℕ) (ranges : List (ℕ × ℕ)) → slice_get g s ≡ Some (leaf ranges) → (s ≡ 0 → ⊥) → (l : List Symbol) → Candidate s us seen l → ViaRanges s us ranges ranges l
+  from_leaf : (s : ℕ) (us seen : List ℕ) (ranges : List (ℕ × ℕ)) → slice_get g s ≡ Some (leaf ranges) → (s ≡ 0 → ⊥)
+      → (l : List Symbol) → Candidate s us seen l → ViaRanges s us ranges ranges l
   from_leaf s us seen ranges h ne l c = at c.path c.over c.plain
     where
-      code : {r : State} {d : List Symbol} {cs : List ℕ} → Code enc r d cs → r ≡ leaf ranges → {l : List Symbol} → Path enc g (s + 1) l → units (mark s ∷ (d ++ (map reads cs ++ l))) ≡ us → IsPlainList (mark s ∷ (d ++ (map reads cs ++ l))) → ViaRanges s us ranges ranges (mark s ∷ (d ++ (map reads cs ++ l)))
+      code : {r : State} {d : List Symbol} {cs : List ℕ} → Code enc r d cs → r ≡ leaf ranges → {l : List Symbol}
+          → Path enc g (s + 1) l → units (mark s ∷ (d ++ (map reads cs ++ l))) ≡ us
+          → IsPlainList (mark s ∷ (d ++ (map reads cs ++ l)))
+          → ViaRanges s us ranges ranges (mark s ∷ (d ++ (map reads cs ++ l)))
       code (of_point {ranges = ranges'} c i) e {l} q u p =
           let k : ranges' ≡ ranges = cc in
-          let v = from_code s us seen (leaf ranges') (h ∙ ap Some (sym e)) l (leaf_choice enc ranges' c) (spell enc c) (of_point c i) q u p in
-          (c, subst (λ n. IsInRanges n c) k i, subst (λ n. Via s us (leaf_choice enc n c) (spell enc c) (mark s ∷ (leaf_choice enc ranges' c ++ (map reads (spell enc c) ++ l)))) k v)
+          let v =
+          from_code s us seen
+          (leaf ranges') (h ∙ ap Some (sym e)) l (leaf_choice enc ranges' c) (spell enc c) (of_point c i) q u p in (
+            c,
+            subst (λ n. IsInRanges n c) k i,
+            subst (λ n. Via s us (leaf_choice enc n c) (spell enc c) (mark s ∷ (leaf_choice enc ranges' c ++ (map reads (spell enc c) ++ l)))) k v,
+          )
       code (of_unit u) e q n p = cc
 
       at : {l : List Symbol} → Path enc g s l → units l ≡ us → IsPlainList l → ViaRanges s us ranges ranges l
@@ -323,10 +412,15 @@ module _ (enc : Enc) (g : List State) (z : slice_get g 0 ≡ Some (moves [])) wh
       at (then_move ms m h' i q) u p = cc
       at (then_code r d cs h' k q) u p = code k (cc) q u p
 
-  from_unit : (s : ℕ) (us seen : List ℕ) → slice_get g s ≡ Some unit_leaf → (s ≡ 0 → ⊥) → (l : List Symbol) → Candidate s us seen l → (u : ℕ) × Via s us [] (u ∷ []) l
+  from_unit :
+      (s : ℕ) (us seen : List ℕ) → slice_get g s ≡ Some unit_leaf → (s ≡ 0 → ⊥) → (l : List Symbol) → Candidate s us seen l
+      → (u : ℕ) × Via s us [] (u ∷ []) l
   from_unit s us seen h ne l c = at c.path c.over c.plain
     where
-      code : {r : State} {d : List Symbol} {cs : List ℕ} → Code enc r d cs → r ≡ unit_leaf → {l : List Symbol} → Path enc g (s + 1) l → units (mark s ∷ (d ++ (map reads cs ++ l))) ≡ us → IsPlainList (mark s ∷ (d ++ (map reads cs ++ l))) → (u : ℕ) × Via s us [] (u ∷ []) (mark s ∷ (d ++ (map reads cs ++ l)))
+      code : {r : State} {d : List Symbol} {cs : List ℕ} → Code enc r d cs → r ≡ unit_leaf → {l : List Symbol}
+          → Path enc g (s + 1) l → units (mark s ∷ (d ++ (map reads cs ++ l))) ≡ us
+          → IsPlainList (mark s ∷ (d ++ (map reads cs ++ l)))
+          → (u : ℕ) × Via s us [] (u ∷ []) (mark s ∷ (d ++ (map reads cs ++ l)))
       code (of_point c i) e q u p = cc
       code (of_unit u) e {l} q n p = (u, from_code s us seen unit_leaf h l [] (u ∷ []) (of_unit u) q n p)
 
@@ -341,8 +435,10 @@ module _ (enc : Enc) (g : List State) (z : slice_get g 0 ≡ Some (moves [])) wh
       let n : us ≡ q.0 ∷ (q.1 ++ rest) = e ∙ ap (λ k. k ++ rest) q.2 in
       omega (arith, ap length n, length-append q.1 rest)
 
-  least_unit : (s : ℕ) (us seen : List ℕ) → slice_get g s ≡ Some unit_leaf → (s ≡ 0 → ⊥) → (Has s seen → ⊥) → ((rest : List ℕ) → length rest < length us → LeastOf (Candidate (s + 1) rest [])) → LeastOf (Candidate s us seen)
-  least_unit s [] seen h ne new later = none (λ l c. let v = from_unit s [] seen h ne l c in let e : [] ≡ v.0 ∷ v.1.0 = v.1.2 in no v.0 v.1.0 e)
+  least_unit : (s : ℕ) (us seen : List ℕ) → slice_get g s ≡ Some unit_leaf → (s ≡ 0 → ⊥) → (Has s seen → ⊥)
+      → ((rest : List ℕ) → length rest < length us → LeastOf (Candidate (s + 1) rest [])) → LeastOf (Candidate s us seen)
+  least_unit s [] seen h ne new later =
+      none (λ l c. let v = from_unit s [] seen h ne l c in let e : [] ≡ v.0 ∷ v.1.0 = v.1.2 in no v.0 v.1.0 e)
     where
       no : (x : ℕ) (xs : List ℕ) → [] ≡ x ∷ xs → ⊥
       no x xs e = cc
@@ -358,16 +454,23 @@ module _ (enc : Enc) (g : List State) (z : slice_get g 0 ≡ Some (moves [])) wh
       same u l v = subst (λ k. Via s (x ∷ us) [] (k ∷ []) l) (head u v.0 v.2) v
 
   -- the best candidate, by the row
-  least_row : (s : ℕ) (us seen : List ℕ) (r : Option State) → slice_get g s ≡ r → (s ≡ 0 → ⊥) → (Has s seen → ⊥) → ((rest : List ℕ) → length rest < length us → LeastOf (Candidate (s + 1) rest [])) → (s < length g → (t : ℕ) → LeastOf (Candidate t us (s ∷ seen))) → LeastOf (Candidate s us seen)
+  least_row : (s : ℕ) (us seen : List ℕ) (r : Option State) → slice_get g s ≡ r → (s ≡ 0 → ⊥) → (Has s seen → ⊥)
+      → ((rest : List ℕ) → length rest < length us → LeastOf (Candidate (s + 1) rest []))
+      → (s < length g → (t : ℕ) → LeastOf (Candidate t us (s ∷ seen))) → LeastOf (Candidate s us seen)
   least_row s us seen None h ne new later more = none (λ l c. no c.path)
     where
       no : {l : List Symbol} → Path enc g s l → ⊥
       no (ended e) = ne e
       no (then_move ms m h' i q) = cc
       no (then_code r d cs h' k q) = cc
-  least_row s us seen (Some (moves ms)) h ne new later more = least_as _ _ (least_moves s us seen ms (more (slice_get_within g s (moves ms) h))) (from_moves s us seen ms h ne) (to_moves s us seen ms h new)
+  least_row s us seen (Some (moves ms)) h ne new later more =
+      least_as _ _
+      (least_moves s us seen ms (more (slice_get_within g s (moves ms) h))) (from_moves s us seen ms h ne)
+      (to_moves s us seen ms h new)
   least_row s us seen (Some (leaf ranges)) h ne new later more =
-      least_as _ _ (least_ranges s us ranges ranges (λ c rest e. later rest (spell_shorter c us rest e))) (from_leaf s us seen ranges h ne)
+      least_as _ _
+      (least_ranges s us ranges ranges (λ c rest e. later rest (spell_shorter c us rest e)))
+      (from_leaf s us seen ranges h ne)
       (λ l v. to_code s us seen (leaf ranges) h new (leaf_choice enc ranges v.0) (spell enc v.0) (of_point v.0 v.1) l v.2)
   least_row s us seen (Some unit_leaf) h ne new later more = least_unit s us seen h ne new later
 
@@ -378,7 +481,13 @@ module _ (enc : Enc) (g : List State) (z : slice_get g 0 ≡ Some (moves [])) wh
   end_path e (then_code {s} r d cs h k q) = absurd (no_rows enc g s [] r (zero_is g s z e) h k)
 
   least_end : (s : ℕ) (us seen : List ℕ) → s ≡ 0 → LeastOf (Candidate s us seen)
-  least_end s [] seen e = attained [] (record { path = ended e; over = refl; plain = tt; avoids = λ x i. tt }) (λ l c b. not_before_none (choices l) b)
+  least_end s [] seen e =
+      attained [] (record {
+        path = ended e;
+        over = refl;
+        plain = tt;
+        avoids = λ x i. tt;
+      }) (λ l c b. not_before_none (choices l) b)
   least_end s (u ∷ us) seen e = none (λ l c. let k : [] ≡ u ∷ us = ap units (sym (end_path e c.path)) ∙ c.over in cc)
 
   -- a state that was seen
@@ -390,35 +499,64 @@ module _ (enc : Enc) (g : List State) (z : slice_get g 0 ≡ Some (moves [])) wh
       no (then_move {l} ms m h' j q) h = (unseen_mark_back (mark s) s (label m ++ l) h).0 refl
       no (then_code {l} r d cs h' k q) h = (unseen_mark_back (mark s) s (d ++ (map reads cs ++ l)) h).0 refl
 
-  least_state : (s : ℕ) (us seen : List ℕ) → ((rest : List ℕ) → length rest < length us → LeastOf (Candidate (s + 1) rest [])) → ((Has s seen → ⊥) → s < length g → (t : ℕ) → LeastOf (Candidate t us (s ∷ seen))) → LeastOf (Candidate s us seen)
+  least_state :
+      (s : ℕ) (us seen : List ℕ) → ((rest : List ℕ) → length rest < length us → LeastOf (Candidate (s + 1) rest []))
+      → ((Has s seen → ⊥) → s < length g → (t : ℕ) → LeastOf (Candidate t us (s ∷ seen))) → LeastOf (Candidate s us seen)
   least_state s us seen later more =
       ⊎_elim
       (λ e. least_end s us seen e)
-      (λ ne. ⊎_elim (λ i. seen_none s us seen ne i) (λ new. least_row s us seen (slice_get g s) refl ne new later (more new)) (dec_has s seen))
+      (λ ne.
+      ⊎_elim
+      (λ i. seen_none s us seen ne i) (λ new. least_row s us seen (slice_get g s) refl ne new later (more new))
+      (dec_has s seen))
       (cases_eq s 0)
 
   -- k states aren't seen yet
-  search_in : (us : List ℕ) → ((rest : List ℕ) → length rest < length us → (s : ℕ) → LeastOf (Candidate s rest [])) → (k : ℕ) (open' seen : List ℕ) → length open' ≤ k → ((x : ℕ) → x < length g → Has x seen ⊎ Has x open') → (s : ℕ) → LeastOf (Candidate s us seen)
-  search_in us later zero open' seen le cover s = least_state s us seen (λ rest lt. later rest lt (s + 1)) (λ new lt t. absurd (⊎_elim new (λ i. no open' le i) (cover s lt)))
+  search_in : (us : List ℕ) → ((rest : List ℕ) → length rest < length us → (s : ℕ) → LeastOf (Candidate s rest []))
+      → (k : ℕ) (open' seen : List ℕ) → length open' ≤ k → ((x : ℕ) → x < length g → Has x seen ⊎ Has x open') → (s : ℕ)
+      → LeastOf (Candidate s us seen)
+  search_in us later zero open' seen le cover s =
+      least_state s us seen
+      (λ rest lt. later rest lt (s + 1)) (λ new lt t. absurd (⊎_elim new (λ i. no open' le i) (cover s lt)))
     where
       no : (xs : List ℕ) → length xs ≤ 0 → Has s xs → ⊥
       no [] le i = i
       no (x ∷ xs) le i = absurd (omega arith)
-  search_in us later (suc k) open' seen le cover s = least_state s us seen (λ rest lt. later rest lt (s + 1)) (λ new lt t. ⊎_elim (λ i. absurd (new i)) (λ i. let r = take_out s open' i in search_in us later k r.0 (s ∷ seen) (omega (arith, r.1)) (λ x lx. ⊎_elim (λ a. inl (inr a)) (λ a. ⊎_elim (λ b. inl (inl b)) (λ b. inr b) (r.2 x a)) (cover x lx)) t) (cover s lt))
+  search_in us later (suc k) open' seen le cover s =
+      least_state s us seen
+      (λ rest lt. later rest lt (s + 1))
+      (λ new lt t.
+      ⊎_elim
+      (λ i. absurd (new i))
+      (λ i.
+      let r = take_out s open' i in
+      search_in us later k r.0
+      (s ∷ seen) (omega (arith, r.1))
+      (λ x lx. ⊎_elim (λ a. inl (inr a)) (λ a. ⊎_elim (λ b. inl (inl b)) (λ b. inr b) (r.2 x a)) (cover x lx)) t)
+      (cover s lt))
 
   search_all : (n : ℕ) (us : List ℕ) → length us < n → (s : ℕ) → LeastOf (Candidate s us [])
   search_all zero us lt s = absurd (omega arith)
   search_all (suc n) us lt s =
-      search_in us (λ rest less t. search_all n rest (omega arith) t) (length (below_list (length g))) (below_list (length g)) [] (omega arith) (λ x lx. inr (below_has (length g) x lx)) s
+      search_in us
+      (λ rest less t. search_all n rest (omega arith) t) (length (below_list (length g))) (below_list (length g)) []
+      (omega arith) (λ x lx. inr (below_has (length g) x lx)) s
 
 -- a word that has a tree has a leftmost greedy one
-pub least_tree : (enc : Enc) (e : Term) (p : ℕ) → 0 < p → (w : List ℕ) → HasTree enc p e w → (t : Tree e) × IsLeast greedy enc p e w t
+pub least_tree :
+    (enc : Enc) (e : Term) (p : ℕ) → 0 < p → (w : List ℕ) → HasTree enc p e w → (t : Tree e) × IsLeast greedy enc p e w t
 least_tree enc e p lt w has = at (search_all enc (alone e p) (alone_zero e p lt) (suc (length w)) w (omega arith) (2 * p))
   where
-    candidate : (t : Tree e) → units (script enc p t) ≡ w → IsPlain (script enc p t) → Candidate enc (alone e p) (alone_zero e p lt) (2 * p) w [] (script enc p t)
+    candidate : (t : Tree e) → units (script enc p t) ≡ w → IsPlain (script enc p t)
+        → Candidate enc (alone e p) (alone_zero e p lt) (2 * p) w [] (script enc p t)
     candidate t u plain =
         let a = walk_of enc (alone e p) e p (alone_stands e p) t in
-        record { path = subst (λ l. Path enc (alone e p) (2 * p) l) a.1 (path_of enc (alone e p) a.0); over = u; plain = plain_from _ plain; avoids = λ x i. absurd i }
+        record {
+          path = subst (λ l. Path enc (alone e p) (2 * p) l) a.1 (path_of enc (alone e p) a.0);
+          over = u;
+          plain = plain_from _ plain;
+          avoids = λ x i. absurd i;
+        }
 
     at : LeastOf (Candidate enc (alone e p) (alone_zero e p lt) (2 * p) w []) → (t : Tree e) × IsLeast greedy enc p e w t
     at (attained l c least) =
@@ -429,7 +567,8 @@ least_tree enc e p lt w has = at (search_all enc (alone e p) (alone_zero e p lt)
           record {
             yields = ap units is ∙ c.over;
             plain = subst IsPlain (sym is) (plain_list l c.plain);
-            least = λ other u plain b. least (script enc p other) (candidate other u plain) (subst (λ k. IsBefore (choices (script enc p other)) (choices k)) is b);
+            least =
+                λ other u plain b. least (script enc p other) (candidate other u plain) (subst (λ k. IsBefore (choices (script enc p other)) (choices k)) is b);
           },
         )
     at (none n) = let r = plain_tree enc e p lt w has in absurd (n (script enc p r.0) (candidate r.0 r.1 r.2))

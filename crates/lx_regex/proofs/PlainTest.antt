@@ -68,8 +68,10 @@ unseen_by_test x (picks t ∷ l) h = unseen_by_test x l h
 -- what passes the test is plain
 pub plain_by_test : (l : List Symbol) → is_plain l ≡ true → IsPlainList l
 plain_by_test [] h = tt
-plain_by_test (begins p ∷ l) h = let r = both_true (is_unseen (begins p) l) (is_plain l) h in (unseen_by_test (begins p) l r.0, plain_by_test l r.1)
-plain_by_test (ends p ∷ l) h = let r = both_true (is_unseen (ends p) l) (is_plain l) h in (unseen_by_test (ends p) l r.0, plain_by_test l r.1)
+plain_by_test (begins p ∷ l) h =
+    let r = both_true (is_unseen (begins p) l) (is_plain l) h in (unseen_by_test (begins p) l r.0, plain_by_test l r.1)
+plain_by_test (ends p ∷ l) h =
+    let r = both_true (is_unseen (ends p) l) (is_plain l) h in (unseen_by_test (ends p) l r.0, plain_by_test l r.1)
 plain_by_test (reads u ∷ l) h = plain_by_test l h
 plain_by_test (sets t ∷ l) h = plain_by_test l h
 plain_by_test (unsets t ∷ l) h = plain_by_test l h

@@ -35,8 +35,12 @@ units_unsets [] l = refl
 units_unsets (t ∷ ts) l = units_unsets ts l
 
 pub units_label : (m : Move) (l : List Symbol) → units (label m ++ l) ≡ units l
-units_label (move None set unset to) l = ap units (append_assoc (map sets set) (map unsets unset) l) ∙ units_sets set (map unsets unset ++ l) ∙ units_unsets unset l
-units_label (move (Some d) set unset to) l = ap units (append_assoc (map sets set) (map unsets unset) l) ∙ units_sets set (map unsets unset ++ l) ∙ units_unsets unset l
+units_label (move None set unset to) l =
+    ap units (append_assoc (map sets set) (map unsets unset) l) ∙ units_sets set (map unsets unset ++ l)
+    ∙ units_unsets unset l
+units_label (move (Some d) set unset to) l =
+    ap units (append_assoc (map sets set) (map unsets unset) l) ∙ units_sets set (map unsets unset ++ l)
+    ∙ units_unsets unset l
 
 -- a mark tells its state
 mark_if : (s : ℕ) (b : Bool) → nat_eq (s % 2) 0 ≡ b → mark_of (if b then begins (s / 2) else ends (s / 2)) ≡ Some s
@@ -65,7 +69,8 @@ IsPlainList (sets t ∷ l) = IsPlainList l
 IsPlainList (unsets t ∷ l) = IsPlainList l
 IsPlainList (picks d ∷ l) = IsPlainList l
 
-unseen_not : (x : Symbol) (m : ℕ) → mark_of x ≡ Some m → (between after : List Symbol) → units between ≡ [] → IsUnseen x (between ++ x ∷ after) → ⊥
+unseen_not : (x : Symbol) (m : ℕ) → mark_of x ≡ Some m → (between after : List Symbol) → units between ≡ []
+    → IsUnseen x (between ++ x ∷ after) → ⊥
 unseen_not (begins p) m e [] after n h = h.0 refl
 unseen_not (ends p) m e [] after n h = h.0 refl
 unseen_not (reads u) m e between after n h = cc
@@ -79,7 +84,8 @@ unseen_not x m e (sets t ∷ between) after n h = unseen_not x m e between after
 unseen_not x m e (unsets t ∷ between) after n h = unseen_not x m e between after n h
 unseen_not x m e (picks d ∷ between) after n h = unseen_not x m e between after n h
 
-plain_not : (x : Symbol) (m : ℕ) → mark_of x ≡ Some m → (before between after : List Symbol) → units between ≡ [] → IsPlainList (before ++ x ∷ (between ++ x ∷ after)) → ⊥
+plain_not : (x : Symbol) (m : ℕ) → mark_of x ≡ Some m → (before between after : List Symbol) → units between ≡ []
+    → IsPlainList (before ++ x ∷ (between ++ x ∷ after)) → ⊥
 plain_not (begins p) m e [] between after n h = unseen_not (begins p) m e between after n h.0
 plain_not (ends p) m e [] between after n h = unseen_not (ends p) m e between after n h.0
 plain_not (reads u) m e [] between after n h = cc
@@ -97,31 +103,36 @@ pub plain_list : (l : List Symbol) → IsPlainList l → IsPlain l
 plain_list l h before between after x m e n is = plain_not x m e before between after n (subst IsPlainList is h)
 
 -- every point has a unit
-if_some : (b : Bool) (u : ℕ) (us v : List ℕ) → ((x : ℕ) × (xs : List ℕ) × (v ≡ x ∷ xs)) → (x : ℕ) × (xs : List ℕ) × ((if b then u ∷ us else v) ≡ x ∷ xs)
+if_some : (b : Bool) (u : ℕ) (us v : List ℕ) → ((x : ℕ) × (xs : List ℕ) × (v ≡ x ∷ xs))
+    → (x : ℕ) × (xs : List ℕ) × ((if b then u ∷ us else v) ≡ x ∷ xs)
 if_some true u us v h = (u, us, refl)
 if_some false u us v h = h
 
 pub spell_some : (enc : Enc) (c : ℕ) → (x : ℕ) × (xs : List ℕ) × (spell enc c ≡ x ∷ xs)
 spell_some Byte c = (c, [], refl)
 spell_some Ucs2 c = (c, [], refl)
-spell_some Utf8 c = if_some (nat_lt c 0x80) _ _ _ (if_some (nat_lt c 0x800) _ _ _ (if_some (nat_lt c 0x10000) _ _ _ (_, _, refl)))
+spell_some Utf8 c =
+    if_some (nat_lt c 0x80) _ _ _ (if_some (nat_lt c 0x800) _ _ _ (if_some (nat_lt c 0x10000) _ _ _ (_, _, refl)))
 spell_some Utf16 c = if_some (nat_lt c 0x10000) _ _ _ (_, _, refl)
 spell_some Utf32 c = (c, [], refl)
 
-pub unseen_point : (x : Symbol) (us : List ℕ) (u : ℕ) (rest : List ℕ) (l : List Symbol) → us ≡ u ∷ rest → IsUnseen x (map reads us ++ l)
+pub unseen_point :
+    (x : Symbol) (us : List ℕ) (u : ℕ) (rest : List ℕ) (l : List Symbol) → us ≡ u ∷ rest → IsUnseen x (map reads us ++ l)
 unseen_point x us u rest l e = subst (λ k. IsUnseen x (map reads k ++ l)) (sym e) tt
 
 pub unseen_mark : (x : Symbol) (s : ℕ) (l : List Symbol) → (x ≡ mark s → ⊥) → IsUnseen x l → IsUnseen x (mark s ∷ l)
 unseen_mark x s l ne h = at (nat_eq (s % 2) 0) ne
   where
-    at : (b : Bool) → (x ≡ (if b then begins (s / 2) else ends (s / 2)) → ⊥) → IsUnseen x ((if b then begins (s / 2) else ends (s / 2)) ∷ l)
+    at : (b : Bool) → (x ≡ (if b then begins (s / 2) else ends (s / 2)) → ⊥)
+        → IsUnseen x ((if b then begins (s / 2) else ends (s / 2)) ∷ l)
     at true n = (n, h)
     at false n = (n, h)
 
 pub plain_mark : (s : ℕ) (l : List Symbol) → IsUnseen (mark s) l → IsPlainList l → IsPlainList (mark s ∷ l)
 plain_mark s l h p = at (nat_eq (s % 2) 0) h
   where
-    at : (b : Bool) → IsUnseen (if b then begins (s / 2) else ends (s / 2)) l → IsPlainList ((if b then begins (s / 2) else ends (s / 2)) ∷ l)
+    at : (b : Bool) → IsUnseen (if b then begins (s / 2) else ends (s / 2)) l
+        → IsPlainList ((if b then begins (s / 2) else ends (s / 2)) ∷ l)
     at true n = (n, p)
     at false n = (n, p)
 
@@ -134,8 +145,14 @@ unseen_unsets x [] l h = h
 unseen_unsets x (t ∷ ts) l h = unseen_unsets x ts l h
 
 pub unseen_label : (x : Symbol) (m : Move) (l : List Symbol) → IsUnseen x l → IsUnseen x (label m ++ l)
-unseen_label x (move None set unset to) l h = subst (IsUnseen x) (sym (append_assoc (map sets set) (map unsets unset) l)) (unseen_sets x set _ (unseen_unsets x unset l h))
-unseen_label x (move (Some d) set unset to) l h = subst (IsUnseen x) (sym (append_assoc (map sets set) (map unsets unset) l)) (unseen_sets x set _ (unseen_unsets x unset l h))
+unseen_label x (move None set unset to) l h =
+    subst
+    (IsUnseen x) (sym (append_assoc (map sets set) (map unsets unset) l))
+    (unseen_sets x set _ (unseen_unsets x unset l h))
+unseen_label x (move (Some d) set unset to) l h =
+    subst
+    (IsUnseen x) (sym (append_assoc (map sets set) (map unsets unset) l))
+    (unseen_sets x set _ (unseen_unsets x unset l h))
 
 plain_sets : (ts : List ℕ) (l : List Symbol) → IsPlainList l → IsPlainList (map sets ts ++ l)
 plain_sets [] l h = h
@@ -146,15 +163,18 @@ plain_unsets [] l h = h
 plain_unsets (t ∷ ts) l h = plain_unsets ts l h
 
 pub plain_label : (m : Move) (l : List Symbol) → IsPlainList l → IsPlainList (label m ++ l)
-plain_label (move None set unset to) l h = subst IsPlainList (sym (append_assoc (map sets set) (map unsets unset) l)) (plain_sets set _ (plain_unsets unset l h))
-plain_label (move (Some d) set unset to) l h = subst IsPlainList (sym (append_assoc (map sets set) (map unsets unset) l)) (plain_sets set _ (plain_unsets unset l h))
+plain_label (move None set unset to) l h =
+    subst IsPlainList (sym (append_assoc (map sets set) (map unsets unset) l)) (plain_sets set _ (plain_unsets unset l h))
+plain_label (move (Some d) set unset to) l h =
+    subst IsPlainList (sym (append_assoc (map sets set) (map unsets unset) l)) (plain_sets set _ (plain_unsets unset l h))
 
 pub plain_reads : (us : List ℕ) (l : List Symbol) → IsPlainList l → IsPlainList (map reads us ++ l)
 plain_reads [] l h = h
 plain_reads (u ∷ us) l h = plain_reads us l h
 
 -- the choice of a leaf is no mark
-pub unseen_choice : (enc : Enc) (ranges : List (ℕ × ℕ)) (c : ℕ) (x : Symbol) (l : List Symbol) → IsUnseen x l → IsUnseen x (leaf_choice enc ranges c ++ l)
+pub unseen_choice : (enc : Enc) (ranges : List (ℕ × ℕ)) (c : ℕ) (x : Symbol) (l : List Symbol) → IsUnseen x l
+    → IsUnseen x (leaf_choice enc ranges c ++ l)
 unseen_choice Byte ranges c x l h = h
 unseen_choice Ucs2 ranges c x l h = h
 unseen_choice Utf8 ranges c x l h = h
@@ -165,7 +185,8 @@ unseen_choice Utf16 ranges c x l h = at (has_short ranges && has_long ranges)
     at false = h
 unseen_choice Utf32 ranges c x l h = h
 
-pub plain_choice : (enc : Enc) (ranges : List (ℕ × ℕ)) (c : ℕ) (l : List Symbol) → IsPlainList l → IsPlainList (leaf_choice enc ranges c ++ l)
+pub plain_choice : (enc : Enc) (ranges : List (ℕ × ℕ)) (c : ℕ) (l : List Symbol) → IsPlainList l
+    → IsPlainList (leaf_choice enc ranges c ++ l)
 plain_choice Byte ranges c l h = h
 plain_choice Ucs2 ranges c l h = h
 plain_choice Utf8 ranges c l h = h
@@ -204,10 +225,22 @@ module _ (enc : Enc) (g : List State) (f : ℕ) where
   seek s (moved {state = s'} ms m h i w) p =
       ⊎_elim
       (λ e. inr (found_at s s' _ e (record { walk = moved ms m h i w; plain = p; same = refl })))
-      (λ ne. ⊎_elim (λ fr. inl (ne, fr)) (λ r. inr (record { walk = r.walk; plain = r.plain; same = r.same ∙ sym (units_mark s' (label m ++ symbols enc w []) ∙ units_label m (symbols enc w [])) })) (seek s w p.1))
+      (λ ne. ⊎_elim (λ fr. inl (ne, fr)) (λ r. inr (record {
+        walk = r.walk;
+        plain = r.plain;
+        same = r.same ∙ sym (units_mark s' (label m ++ symbols enc w []) ∙ units_label m (symbols enc w []));
+      })) (seek s w p.1))
       (cases_eq s s')
-  seek s (at_point {state = s'} ranges c h i w) p = ⊎_elim (λ e. inr (found_at s s' _ e (record { walk = at_point ranges c h i w; plain = p; same = refl }))) (λ ne. inl ne) (cases_eq s s')
-  seek s (at_unit {state = s'} u h w) p = ⊎_elim (λ e. inr (found_at s s' _ e (record { walk = at_unit u h w; plain = p; same = refl }))) (λ ne. inl ne) (cases_eq s s')
+  seek s (at_point {state = s'} ranges c h i w) p =
+      ⊎_elim (λ e. inr (found_at s s' _ e (record {
+        walk = at_point ranges c h i w;
+        plain = p;
+        same = refl;
+      }))) (λ ne. inl ne) (cases_eq s s')
+  seek s (at_unit {state = s'} u h w) p =
+      ⊎_elim
+      (λ e. inr (found_at s s' _ e (record { walk = at_unit u h w; plain = p; same = refl }))) (λ ne. inl ne)
+      (cases_eq s s')
 
   -- the walk without what it goes round
   pub cut : {s : ℕ} → (w : Walk g f s) → Found s (units (symbols enc w []))
@@ -218,38 +251,58 @@ module _ (enc : Enc) (g : List State) (f : ℕ) where
       at r =
           let e = units_mark s (label m ++ symbols enc w []) ∙ units_label m (symbols enc w []) in
           ⊎_elim
-          (λ fr. record { walk = moved ms m h i r.walk; plain = (fr, r.plain); same = units_mark s (label m ++ symbols enc r.walk []) ∙ units_label m (symbols enc r.walk []) ∙ r.same ∙ sym e })
+          (λ fr. record {
+            walk = moved ms m h i r.walk;
+            plain = (fr, r.plain);
+            same = units_mark s (label m ++ symbols enc r.walk []) ∙ units_label m (symbols enc r.walk []) ∙ r.same ∙ sym e;
+          })
           (λ q. record { walk = q.walk; plain = q.plain; same = q.same ∙ r.same ∙ sym e })
           (seek s r.walk r.plain)
   cut (at_point {state = s} ranges c h i w) =
       let r = cut w in
-      let lead = λ (k : List Symbol). units_mark s (leaf_choice enc ranges c ++ (map reads (spell enc c) ++ k)) ∙ units_append (leaf_choice enc ranges c) (map reads (spell enc c) ++ k) ∙ ap (λ j. units (leaf_choice enc ranges c) ++ j) (units_append (map reads (spell enc c)) k) in
+      let lead =
+      λ (k : List Symbol). units_mark s (leaf_choice enc ranges c ++ (map reads (spell enc c) ++ k)) ∙ units_append (leaf_choice enc ranges c) (map reads (spell enc c) ++ k) ∙ ap (λ j. units (leaf_choice enc ranges c) ++ j) (units_append (map reads (spell enc c)) k) in
       record {
         walk = at_point ranges c h i r.walk;
         plain = r.plain;
-        same = lead (symbols enc r.walk []) ∙ ap (λ k. units (leaf_choice enc ranges c) ++ (units (map reads (spell enc c)) ++ k)) r.same ∙ sym (lead (symbols enc w []));
+        same =
+            lead (symbols enc r.walk [])
+            ∙ ap (λ k. units (leaf_choice enc ranges c) ++ (units (map reads (spell enc c)) ++ k)) r.same
+            ∙ sym (lead (symbols enc w []));
       }
   cut (at_unit {state = s} u h w) =
       let r = cut w in
-      record { walk = at_unit u h r.walk; plain = r.plain; same = units_mark s (reads u ∷ symbols enc r.walk []) ∙ ap (λ k. u ∷ k) r.same ∙ sym (units_mark s (reads u ∷ symbols enc w [])) }
+      record {
+        walk = at_unit u h r.walk;
+        plain = r.plain;
+        same =
+            units_mark s (reads u ∷ symbols enc r.walk []) ∙ ap (λ k. u ∷ k) r.same
+            ∙ sym (units_mark s (reads u ∷ symbols enc w []));
+      }
 
   pub marks_differ : (s s' : ℕ) → (s ≡ s' → ⊥) → mark s ≡ mark s' → ⊥
   marks_differ s s' ne e = let k : Some s ≡ Some s' = sym (mark_tells s) ∙ ap mark_of e ∙ mark_tells s' in ne (cc)
 
   fresh_unseen : (s : ℕ) → {s' : ℕ} → (w : Walk g f s') → IsFresh s w → IsUnseen (mark s) (symbols enc w [])
   fresh_unseen s stay h = tt
-  fresh_unseen s (moved {state = s'} ms m a i w) h = unseen_mark (mark s) s' _ (marks_differ s s' h.0) (unseen_label (mark s) m _ (fresh_unseen s w h.1))
+  fresh_unseen s (moved {state = s'} ms m a i w) h =
+      unseen_mark (mark s) s' _ (marks_differ s s' h.0) (unseen_label (mark s) m _ (fresh_unseen s w h.1))
   fresh_unseen s (at_point {state = s'} ranges c a i w) h =
       let u = spell_some enc c in
-      unseen_mark (mark s) s' _ (marks_differ s s' h) (unseen_choice enc ranges c (mark s) _ (unseen_point (mark s) (spell enc c) u.0 u.1 _ u.2))
+      unseen_mark
+      (mark s) s' _ (marks_differ s s' h)
+      (unseen_choice enc ranges c (mark s) _ (unseen_point (mark s) (spell enc c) u.0 u.1 _ u.2))
   fresh_unseen s (at_unit {state = s'} u a w) h = unseen_mark (mark s) s' _ (marks_differ s s' h) tt
 
   pub walk_plain : {s : ℕ} → (w : Walk g f s) → IsPlainWalk w → IsPlainList (symbols enc w [])
   walk_plain stay h = tt
-  walk_plain (moved {state = s} ms m a i w) h = plain_mark s _ (unseen_label (mark s) m _ (fresh_unseen s w h.0)) (plain_label m _ (walk_plain w h.1))
+  walk_plain (moved {state = s} ms m a i w) h =
+      plain_mark s _ (unseen_label (mark s) m _ (fresh_unseen s w h.0)) (plain_label m _ (walk_plain w h.1))
   walk_plain (at_point {state = s} ranges c a i w) h =
       let u = spell_some enc c in
-      plain_mark s _ (unseen_choice enc ranges c (mark s) _ (unseen_point (mark s) (spell enc c) u.0 u.1 _ u.2)) (plain_choice enc ranges c _ (plain_reads (spell enc c) _ (walk_plain w h)))
+      plain_mark s _
+      (unseen_choice enc ranges c (mark s) _ (unseen_point (mark s) (spell enc c) u.0 u.1 _ u.2))
+      (plain_choice enc ranges c _ (plain_reads (spell enc c) _ (walk_plain w h)))
   walk_plain (at_unit {state = s} u a w) h = plain_mark s _ tt (walk_plain w h)
 
   -- a state with no way on

@@ -1,11 +1,10 @@
 -- The POSIX order is a strict order, total up to equal lengths.
-use Rattle.std.specs.Prelude.{◌≡◌, ℕ, zero, suc, ◌+◌, ◌-◌, ◌<◌, ◌≤◌, ◌⊎◌, min, List, [], ◌∷◌, length, refl}
-use Rattle.std.proofs.Common.{sym, ap, ap₂, ◌∙◌, subst, arith, inl, inr, ⊎_elim}
+use Rattle.std.specs.Prelude.{◌≡◌, ℕ, suc, ◌<◌, ◌⊎◌, List, [], ◌∷◌, refl}
+use Rattle.std.proofs.Common.{sym, ap₂, ◌∙◌, subst, arith, inl, inr, ⊎_elim}
 use Rattle.std.proofs.lemmas.Bool.{cases_order}
-use Rattle.lx_regex.specs.Posix.{IsLonger, Shape, shape_at, length_at, measure, shape_of, size, whole}
-use Rattle.lx_regex.proofs.PosixShapes.{Same, Wins}
+use Rattle.lx_regex.specs.Posix.{IsLonger, length_at, shape_of, size, whole}
 use Rattle.lx_base.specs.declared.settings.Enc.{Enc}
-use Rattle.lx_regex.proofs.PosixAhead.{Ahead, ahead_wins, decide}
+use Rattle.lx_regex.proofs.PosixAhead.{ahead_wins, decide}
 use Rattle.lx_regex.specs.Dictionary.{IsBefore}
 use Rattle.lx_regex.specs.Term.{Term}
 use Rattle.lx_regex.specs.Tree.{Tree}
@@ -17,7 +16,10 @@ position_order [] (j ∷ q) = inr (inl tt)
 position_order (i ∷ p) [] = inr (inr tt)
 position_order (i ∷ p) (j ∷ q) =
     ⊎_elim
-    (λ e. ⊎_elim (λ r. inl (ap₂ (λ x y. x ∷ y) e r)) (λ r. ⊎_elim (λ a. inr (inl (inr (e, a)))) (λ a. inr (inr (inr (sym e, a)))) r) (position_order p q))
+    (λ e.
+    ⊎_elim
+    (λ r. inl (ap₂ (λ x y. x ∷ y) e r)) (λ r. ⊎_elim (λ a. inr (inl (inr (e, a)))) (λ a. inr (inr (inr (sym e, a)))) r)
+    (position_order p q))
     (λ d. ⊎_elim (λ lt. inr (inl (inl lt))) (λ gt. inr (inr (inl gt))) d)
     (cases_order i j)
 
@@ -64,18 +66,26 @@ module _ (enc : Enc) {e : Term} where
   precedes_self t w = longer_self (λ p. length_at (whole enc t) (shape_of enc t) p) w
 
   pub precedes_trans : (t t' t'' : Tree e) → IsLonger enc t t' → IsLonger enc t' t'' → IsLonger enc t t''
-  precedes_trans t t' t'' a b = longer_trans (λ p. length_at (whole enc t) (shape_of enc t) p) (λ p. length_at (whole enc t') (shape_of enc t') p) (λ p. length_at (whole enc t'') (shape_of enc t'') p) a b
+  precedes_trans t t' t'' a b =
+      longer_trans
+      (λ p. length_at (whole enc t) (shape_of enc t) p) (λ p. length_at (whole enc t') (shape_of enc t') p)
+      (λ p. length_at (whole enc t'') (shape_of enc t'') p) a b
 
   -- the lengths of two trees at all positions
   abbrev pub SameLengths : Tree e → Tree e → Type 0
-  SameLengths t t' = (q : List ℕ) → length_at (whole enc t) (shape_of enc t) q ≡ length_at (whole enc t') (shape_of enc t') q
+  SameLengths t t' =
+      (q : List ℕ) → length_at (whole enc t) (shape_of enc t) q ≡ length_at (whole enc t') (shape_of enc t') q
 
-  pub precedes_total : (t t' : Tree e) → size (shape_of enc t) ≡ size (shape_of enc t') → SameLengths t t' ⊎ (IsLonger enc t t' ⊎ IsLonger enc t' t)
+  pub precedes_total : (t t' : Tree e) → size (shape_of enc t) ≡ size (shape_of enc t')
+      → SameLengths t t' ⊎ (IsLonger enc t t' ⊎ IsLonger enc t' t)
   precedes_total t t' k =
       ⊎_elim
-      (λ h. inl (subst (λ m. (q : List ℕ) → length_at (whole enc t) (shape_of enc t) q ≡ length_at (suc m) (shape_of enc t') q) k h))
+      (λ h.
+      inl (subst (λ m. (q : List ℕ) → length_at (whole enc t) (shape_of enc t) q ≡ length_at (suc m) (shape_of enc t') q) k h))
       (λ r. inr (⊎_elim
-      (λ a. inl (subst (λ m. Longer (λ p. length_at (whole enc t) (shape_of enc t) p) (λ p. length_at (suc m) (shape_of enc t') p)) k (ahead_wins a.1)))
-      (λ a. inr (subst (λ m. Longer (λ p. length_at (suc m) (shape_of enc t') p) (λ p. length_at (whole enc t) (shape_of enc t) p)) k (ahead_wins a.1)))
+      (λ a.
+      inl (subst (λ m. Longer (λ p. length_at (whole enc t) (shape_of enc t) p) (λ p. length_at (suc m) (shape_of enc t') p)) k (ahead_wins a.1)))
+      (λ a.
+      inr (subst (λ m. Longer (λ p. length_at (suc m) (shape_of enc t') p) (λ p. length_at (whole enc t) (shape_of enc t) p)) k (ahead_wins a.1)))
       r))
       (decide (whole enc t) (shape_of enc t) (shape_of enc t'))

@@ -26,4 +26,5 @@ abbrev pub Same : (n : ℕ) → Shape → Shape → Type 0
 Same n s s' = (q : List ℕ) → length_at n s q ≡ length_at n s' q
 
 abbrev pub Wins : (n : ℕ) → Shape → Shape → Type 0
-Wins n s s' = (p : List ℕ) × (length_at n s' p < length_at n s p) × ((q : List ℕ) → IsBefore q p → length_at n s q ≡ length_at n s' q)
+Wins n s s' =
+    (p : List ℕ) × (length_at n s' p < length_at n s p) × ((q : List ℕ) → IsBefore q p → length_at n s q ≡ length_at n s' q)

@@ -59,7 +59,8 @@ pub contexts : ContextsPutTheCursorBack context_abbb
 contexts = record { abbb_units = refl; cursor = refl; without_context = refl }
 
 abbrev pub pair_tree : Tree one_or_two_points
-pair_tree = row (beside (point 0x10000 (inl (lit≤ tt, lit≤ tt))) (beside event (beside (iterations 0 stop (lit≤ tt) (lit≤ tt)) row_end)))
+pair_tree =
+    row (beside (point 0x10000 (inl (lit≤ tt, lit≤ tt))) (beside event (beside (iterations 0 stop (lit≤ tt) (lit≤ tt)) row_end)))
 
 abbrev pub surrogates_tree : Tree one_or_two_points
 surrogates_tree =
@@ -101,9 +102,13 @@ policies = record {
   longest = (0 ∷ [], lit< tt, equal_before);
 }
   where
-    equal_before : (earlier : List ℕ) → IsBefore earlier (0 ∷ []) → length_at (whole Utf8 one_ab) (shape_of Utf8 one_ab) earlier ≡ length_at (whole Utf8 a_and_b) (shape_of Utf8 a_and_b) earlier
+    equal_before : (earlier : List ℕ) → IsBefore earlier (0 ∷ [])
+        → length_at
+        (whole Utf8 one_ab) (shape_of Utf8 one_ab) earlier ≡ length_at (whole Utf8 a_and_b)
+        (shape_of Utf8 a_and_b) earlier
     equal_before [] before = refl
-    equal_before (place ∷ position) before = ⊎_elim (λ lt. absurd (omega arith)) (λ same. absurd (none position same.1)) before
+    equal_before (place ∷ position) before =
+        ⊎_elim (λ lt. absurd (omega arith)) (λ same. absurd (none position same.1)) before
       where
         none : (position : List ℕ) → IsBefore position [] → ⊥
         none [] h = h

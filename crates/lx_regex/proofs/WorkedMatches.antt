@@ -23,29 +23,44 @@ letter_is number c within = ⊎_elim (λ h. let a = h.0 in let b = h.1 in omega 
 
 -- the scripts of the trees of "a", of "b" and of "ab"
 a_script : (part : ℕ) (tree : Tree (letter 97)) → script Utf8 part tree ≡ begins part ∷ reads 97 ∷ ends part ∷ []
-a_script part (point c within) = subst (λ y. (i : IsInRanges ((97, 97) ∷ []) y) → script Utf8 part (point {ranges = (97, 97) ∷ []} y i) ≡ begins part ∷ reads 97 ∷ ends part ∷ []) (letter_is 97 c within) (λ i. refl) within
+a_script part (point c within) =
+    subst
+    (λ y.
+    (i : IsInRanges ((97, 97) ∷ []) y) → script Utf8 part (point {ranges = (97, 97) ∷ []} y i) ≡ begins part ∷ reads 97 ∷ ends part ∷ [])
+    (letter_is 97 c within) (λ i. refl) within
 
 b_script : (part : ℕ) (tree : Tree (letter 98)) → script Utf8 part tree ≡ begins part ∷ reads 98 ∷ ends part ∷ []
-b_script part (point c within) = subst (λ y. (i : IsInRanges ((98, 98) ∷ []) y) → script Utf8 part (point {ranges = (98, 98) ∷ []} y i) ≡ begins part ∷ reads 98 ∷ ends part ∷ []) (letter_is 98 c within) (λ i. refl) within
+b_script part (point c within) =
+    subst
+    (λ y.
+    (i : IsInRanges ((98, 98) ∷ []) y) → script Utf8 part (point {ranges = (98, 98) ∷ []} y i) ≡ begins part ∷ reads 98 ∷ ends part ∷ [])
+    (letter_is 98 c within) (λ i. refl) within
 
 abbrev ab_symbols : ℕ → List Symbol
 ab_symbols part =
-    begins part ∷ begins (part + 1) ∷ reads 97 ∷ ends (part + 1) ∷ begins (part + 1 + 1) ∷ reads 98 ∷ ends (part + 1 + 1) ∷ ends part ∷ []
+    begins part ∷ begins
+    (part + 1) ∷ reads 97 ∷ ends (part + 1) ∷ begins (part + 1 + 1) ∷ reads 98 ∷ ends (part + 1 + 1) ∷ ends part ∷ []
 
 ab_script : (part : ℕ) (tree : Tree (cat (two (letter 97) (letter 98)))) → script Utf8 part tree ≡ ab_symbols part
 ab_script part (row (beside a (beside b row_end))) =
     ap₂ (λ x y. begins part ∷ ((x ++ (y ++ [])) ++ ends part ∷ [])) (a_script (part + 1) a) (b_script (part + 1 + 1) b)
 
 -- a tree whose choices are none is least
-no_choice : (part : ℕ) (e : Term) (word : List ℕ) (tree : Tree e) → units (script Utf8 part tree) ≡ word → IsPlain (script Utf8 part tree) → ((other : Tree e) → choices (script Utf8 part other) ≡ choices (script Utf8 part tree)) → IsLeast greedy Utf8 part e word tree
+no_choice : (part : ℕ) (e : Term) (word : List ℕ) (tree : Tree e) → units (script Utf8 part tree) ≡ word
+    → IsPlain (script Utf8 part tree)
+    → ((other : Tree e) → choices (script Utf8 part other) ≡ choices (script Utf8 part tree))
+    → IsLeast greedy Utf8 part e word tree
 no_choice part e word tree yields plain same = record {
   yields = yields;
   plain = plain;
-  least = λ other u p before. before_self (choices (script Utf8 part tree)) (subst (λ l. IsBefore l (choices (script Utf8 part tree))) (same other) before);
+  least =
+      λ other u p before. before_self (choices (script Utf8 part tree)) (subst (λ l. IsBefore l (choices (script Utf8 part tree))) (same other) before);
 }
 
 -- what a rule takes, by its term
-taken : (patterns : List Pattern) (place : ℕ) (word : List ℕ) (rule : Pattern) → slice_get (with_terms patterns) place ≡ Some rule → Takes Utf8 patterns place word → HasTree Utf8 (part_at patterns place) rule.term word
+taken : (patterns : List Pattern) (place : ℕ) (word : List ℕ) (rule : Pattern)
+    → slice_get (with_terms patterns) place ≡ Some rule → Takes Utf8 patterns place word
+    → HasTree Utf8 (part_at patterns place) rule.term word
 taken patterns place word rule at takes =
     let said : Some takes.0 ≡ Some rule = sym takes.1 ∙ at in
     let same : takes.0 ≡ rule = cc in
@@ -65,9 +80,14 @@ unit_word part word has = at has.0 has.1
 
 -- each rule of `single_letters` takes one letter
 one_letter : (place : ℕ) (word : List ℕ) → Takes Utf8 single_letters place word → length word ≤ 1
-one_letter zero word takes = let e = ap length (a_word _ word (taken single_letters 0 word (plain_rule 1 Plain (letter 97)) refl takes)) in omega arith
-one_letter (suc zero) word takes = let e = ap length (a_word _ word (taken single_letters 1 word (plain_rule 2 Plain (letter 97)) refl takes)) in omega arith
-one_letter (suc (suc zero)) word takes = let e = unit_word _ word (taken single_letters 2 word (plain_rule 3 Default any_unit) refl takes) in omega arith
+one_letter zero word takes =
+    let e = ap length (a_word _ word (taken single_letters 0 word (plain_rule 1 Plain (letter 97)) refl takes)) in
+    omega arith
+one_letter (suc zero) word takes =
+    let e = ap length (a_word _ word (taken single_letters 1 word (plain_rule 2 Plain (letter 97)) refl takes)) in
+    omega arith
+one_letter (suc (suc zero)) word takes =
+    let e = unit_word _ word (taken single_letters 2 word (plain_rule 3 Default any_unit) refl takes) in omega arith
 one_letter (suc (suc (suc place))) word takes = let none : None ≡ Some takes.0 = takes.1 in cc
 
 abbrev a_tree : Tree (letter 97)
@@ -88,7 +108,10 @@ first_rule =
     refl
     (record {
       tree = a_tree;
-      least = no_choice 1 (letter 97) (97 ∷ []) a_tree refl (plain_list _ (plain_by_test (script Utf8 1 a_tree) refl)) (λ other. ap choices (a_script 1 other));
+      least =
+          no_choice 1
+          (letter 97) (97 ∷ []) a_tree refl (plain_list _ (plain_by_test (script Utf8 1 a_tree) refl))
+          (λ other. ap choices (a_script 1 other));
       stands = refl;
       valued = refl;
     })
@@ -98,17 +121,28 @@ end_rule = at_end 4 (refl, refl)
 
 -- the rules of `short_and_long` take `a` and `ab`
 at_most_two : (place : ℕ) (word : List ℕ) → Takes Utf8 short_and_long place word → length word ≤ 2
-at_most_two zero word takes = let e = ap length (a_word _ word (taken short_and_long 0 word (plain_rule 1 Plain (letter 97)) refl takes)) in omega arith
-at_most_two (suc zero) word takes = let e = ap length (ab_word _ word (taken short_and_long 1 word (plain_rule 2 Plain (cat (two (letter 97) (letter 98)))) refl takes)) in omega arith
+at_most_two zero word takes =
+    let e = ap length (a_word _ word (taken short_and_long 0 word (plain_rule 1 Plain (letter 97)) refl takes)) in
+    omega arith
+at_most_two (suc zero) word takes =
+    let e =
+    ap length (ab_word _ word (taken short_and_long 1 word (plain_rule 2 Plain (cat (two (letter 97) (letter 98)))) refl takes)) in
+    omega arith
 at_most_two (suc (suc place)) word takes = let none : None ≡ Some takes.0 = takes.1 in cc
 
 not_the_first : (place : ℕ) → place < 1 → Takes Utf8 short_and_long place (97 ∷ 98 ∷ []) → ⊥
-not_the_first zero lt takes = let e = ap length (a_word _ (97 ∷ 98 ∷ []) (taken short_and_long 0 (97 ∷ 98 ∷ []) (plain_rule 1 Plain (letter 97)) refl takes)) in omega (arith, e)
+not_the_first zero lt takes =
+    let e =
+    ap length
+    (a_word _ (97 ∷ 98 ∷ []) (taken short_and_long 0 (97 ∷ 98 ∷ []) (plain_rule 1 Plain (letter 97)) refl takes)) in
+    omega (arith, e)
 not_the_first (suc place) lt takes = absurd (omega arith)
 
 longest_word : IsMatch greedy Utf8 short_and_long (97 ∷ 98 ∷ []) 0 (matched 2 2 [])
 longest_word =
-    by_rule (97 ∷ 98 ∷ []) 1 (plain_rule 2 Plain (cat (two (letter 97) (letter 98)))) 2 [] (λ rule is. absurd (omega (arith, is.0)))
+    by_rule
+    (97 ∷ 98 ∷ []) 1 (plain_rule 2 Plain (cat (two (letter 97) (letter 98)))) 2 []
+    (λ rule is. absurd (omega (arith, is.0)))
     (record {
       is_word = ([], refl);
       takes = (plain_rule 2 Plain (cat (two (letter 97) (letter 98))), refl, (ab_tree, refl));
@@ -118,7 +152,10 @@ longest_word =
     refl
     (record {
       tree = ab_tree;
-      least = no_choice 2 (cat (two (letter 97) (letter 98))) (97 ∷ 98 ∷ []) ab_tree refl (plain_list _ (plain_by_test (script Utf8 2 ab_tree) refl)) (λ other. ap choices (ab_script 2 other));
+      least =
+          no_choice 2
+          (cat (two (letter 97) (letter 98))) (97 ∷ 98 ∷ []) ab_tree refl
+          (plain_list _ (plain_by_test (script Utf8 2 ab_tree) refl)) (λ other. ap choices (ab_script 2 other));
       stands = refl;
       valued = refl;
     })
@@ -151,17 +188,27 @@ untaken word zero is takes =
 untaken word (suc place) is takes = let none : None ≡ Some takes.0 = takes.1 in cc
 
 -- a word at which the rule has a cut begins `ab`
-begun_word : (word : List ℕ) (cut : Cut) → IsCut Utf8 (terms_of only_long) word cut → (rest : List ℕ) × (97 ∷ 98 ∷ [] ≡ word ++ rest)
+begun_word :
+    (word : List ℕ) (cut : Cut) → IsCut Utf8 (terms_of only_long) word cut → (rest : List ℕ) × (97 ∷ 98 ∷ [] ≡ word ++ rest)
 begun_word word cut is = at cut.rule is.possible.1.0 is.possible.1.1 is.possible.1.2 is.possible.1.3
   where
-    at : (rule : ℕ) (e : Term) (tree : Tree e) → slice_get (terms_of only_long) rule ≡ Some e → script Utf8 (part_at only_long cut.rule) tree ≡ cut.front ++ is.possible.0 → (rest : List ℕ) × (97 ∷ 98 ∷ [] ≡ word ++ rest)
+    at : (rule : ℕ) (e : Term) (tree : Tree e) → slice_get (terms_of only_long) rule ≡ Some e
+        → script Utf8 (part_at only_long cut.rule) tree ≡ cut.front ++ is.possible.0
+        → (rest : List ℕ) × (97 ∷ 98 ∷ [] ≡ word ++ rest)
     at zero e tree said goes =
         let same : e ≡ cat (two (letter 97) (letter 98)) = cc in
-        let scripted = subst (λ y. (t : Tree y) → script Utf8 (part_at only_long cut.rule) t ≡ ab_symbols (part_at only_long cut.rule)) (sym same) (λ t. ab_script (part_at only_long cut.rule) t) tree in
-        (units is.possible.0, ap units (sym scripted ∙ goes) ∙ units_append cut.front is.possible.0 ∙ ap (λ l. l ++ units is.possible.0) is.reads_word)
+        let scripted =
+        subst
+        (λ y. (t : Tree y) → script Utf8 (part_at only_long cut.rule) t ≡ ab_symbols (part_at only_long cut.rule))
+        (sym same) (λ t. ab_script (part_at only_long cut.rule) t) tree in (
+          units is.possible.0,
+          ap units (sym scripted ∙ goes) ∙ units_append cut.front is.possible.0
+              ∙ ap (λ l. l ++ units is.possible.0) is.reads_word,
+        )
     at (suc rule) e tree said goes = cc
 
-begins_at_most_one : (word : List ℕ) → IsWordAt (97 ∷ 99 ∷ []) 0 word → BeginsMatch Utf8 (terms_of only_long) word → length word ≤ 1
+begins_at_most_one :
+    (word : List ℕ) → IsWordAt (97 ∷ 99 ∷ []) 0 word → BeginsMatch Utf8 (terms_of only_long) word → length word ≤ 1
 begins_at_most_one word is (inl none) = let e = ap length none in omega (arith, e)
 begins_at_most_one word is (inr cut) = let b = begun_word word cut.0 cut.1 in at_most_one word b.0 is.0 b.1 is.1
 
@@ -169,7 +216,10 @@ a_cut : IsCut Utf8 (terms_of only_long) (97 ∷ []) (record { rule = 0; front = 
 a_cut = record {
   reads_word = refl;
   after_unit = (begins 1 ∷ begins 2 ∷ [], 97, refl);
-  possible = (ends 2 ∷ begins 3 ∷ reads 98 ∷ ends 3 ∷ ends 1 ∷ [], (cat (two (letter 97) (letter 98)), ab_tree, refl, refl, plain_list _ (plain_by_test (script Utf8 1 ab_tree) refl)));
+  possible = (
+    ends 2 ∷ begins 3 ∷ reads 98 ∷ ends 3 ∷ ends 1 ∷ [],
+    (cat (two (letter 97) (letter 98)), ab_tree, refl, refl, plain_list _ (plain_by_test (script Utf8 1 ab_tree) refl)),
+  );
 }
 
 no_rule : IsMatch greedy Utf8 only_long (97 ∷ 99 ∷ []) 0 (unmatched 1)
