@@ -1,3 +1,4 @@
+pub mod Candidates
 pub mod Clear
 pub mod Cuts
 pub mod Exchange
@@ -5,8 +6,8 @@ pub mod Folds
 pub mod Fronts
 pub mod Grouped
 pub mod Kernels
-pub mod Least
 pub mod LeastScript
+pub mod LeastTree
 pub mod NoUnits
 pub mod OneMatch
 pub mod PlainTest
@@ -18,6 +19,7 @@ pub mod PosixUnique
 pub mod Readings
 pub mod Rows
 pub mod Scripts
+pub mod ShapeOfScript
 pub mod TreeWalk
 pub mod WalkTree
 pub mod WholeWalk

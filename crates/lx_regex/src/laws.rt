@@ -6,7 +6,7 @@ ghost use Rattle.lx_regex.specs.Cut.{Cut, Precedes, rule_part};
 ghost use Rattle.lx_regex.specs.Kernel.{IsKernel};
 ghost use Rattle.lx_regex.specs.Least.{HasTree, HasPlainTree, IsLeast};
 ghost use Rattle.lx_regex.specs.Match.{IsMatch, Outcome};
-ghost use Rattle.lx_regex.specs.Order.{Policy, greedy};
+ghost use Rattle.lx_regex.specs.Order.{Policy};
 ghost use Rattle.lx_regex.specs.Pattern.{Pattern};
 ghost use Rattle.lx_regex.specs.Script.{script};
 ghost use Rattle.lx_regex.specs.Term.{Term};
@@ -20,10 +20,10 @@ pub fn plain_tree_exists()
         → HasTree enc part e word → HasPlainTree enc part e word }
 {}
 
-/// A term that has a tree for a word has a leftmost greedy one.
+/// A term that has a tree for a word has a least one under either policy.
 pub fn least_tree_exists()
-    ensures { (enc : Enc) (part : ℕ) (e : Term) (word : List ℕ) → 0 < part
-        → HasTree enc part e word → (tree : Tree e) × IsLeast greedy enc part e word tree }
+    ensures { (policy : Policy) (enc : Enc) (part : ℕ) (e : Term) (word : List ℕ) → 0 < part
+        → HasTree enc part e word → (tree : Tree e) × IsLeast policy enc part e word tree }
 {}
 
 /// All least trees of a word under one policy have one script, and so one value for each tag.

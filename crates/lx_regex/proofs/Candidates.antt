@@ -1,4 +1,4 @@
--- A word that has a tree has a best one.
+-- The plain paths over a word are finitely many.
 use Rattle.std.specs.Prelude.{◌≡◌, ℕ, zero, suc, ◌+◌, ◌-◌, ◌*◌, ◌/◌, ◌%◌, ◌<◌, ◌≤◌, ◌⊎◌, List, [], ◌∷◌, ◌++◌, map, length, Option, Some, None, Bool, true, false, nat_eq, if◌then◌else◌, slice_get, refl}
 use Rattle.std.proofs.Common.{sym, ap, ap₂, ◌∙◌, subst, arith, append_assoc, length-append, inl, inr, ⊎_elim}
 use Rattle.std.proofs.lemmas.Bool.{cases_order, cases_eq}
@@ -21,91 +21,58 @@ use Rattle.lx_regex.proofs.Scripts.{Path, ended, in_none, path_of, then_code, th
 use Rattle.lx_regex.proofs.WholeWalk.{alone, alone_stands, alone_zero, walk_of, tree_of, plain_tree}
 use Rattle.lx_regex.specs.Order.{greedy}
 
--- the order of lists
-not_before_none : (ys : List ℕ) → IsBefore ys [] → ⊥
-not_before_none [] h = h
-not_before_none (y ∷ ys) h = h
+-- the list is among these lists
+abbrev pub Contains : List Symbol → List (List Symbol) → Type 0
+Contains l [] = ⊥
+Contains l (x ∷ xs) = (l ≡ x) ⊎ Contains l xs
 
-before_total : (xs ys : List ℕ) → (IsBefore ys xs → ⊥) ⊎ (IsBefore xs ys → ⊥)
-before_total [] ys = inl (not_before_none ys)
-before_total (x ∷ xs) [] = inr (λ h. h)
-before_total (x ∷ xs) (y ∷ ys) =
-    ⊎_elim
-    (λ e. ⊎_elim
-    (λ a. inl (λ h. ⊎_elim (λ lt. absurd (omega arith)) (λ k. a k.1) h))
-    (λ a. inr (λ h. ⊎_elim (λ lt. absurd (omega arith)) (λ k. a k.1) h))
-    (before_total xs ys))
-    (λ r. ⊎_elim
-    (λ lt. inl (λ h. ⊎_elim (λ gt. absurd (omega arith)) (λ k. let e = k.0 in absurd (omega arith)) h))
-    (λ lt. inr (λ h. ⊎_elim (λ gt. absurd (omega arith)) (λ k. let e = k.0 in absurd (omega arith)) h))
-    r)
-    (cases_order x y)
+-- finitely many lists: all for which P holds, and no others
+pub data AllOf (P : List Symbol → Type 0) : Type 0 where
+  listed : (ls : List (List Symbol)) → ((l : List Symbol) → Contains l ls → P l) → ((l : List Symbol) → P l → Contains l ls) → AllOf P
 
-before_step : (z x y : List ℕ) → IsBefore z x → (IsBefore y x → ⊥) → IsBefore z y
-before_step [] [] y b h = absurd b
-before_step [] (x ∷ xs) [] b h = absurd (h tt)
-before_step [] (x ∷ xs) (y ∷ ys) b h = tt
-before_step (z ∷ zs) [] y b h = absurd b
-before_step (z ∷ zs) (x ∷ xs) [] b h = absurd (h tt)
-before_step (z ∷ zs) (x ∷ xs) (y ∷ ys) b h =
-    ⊎_elim
-    (λ e. ⊎_elim
-    (λ lt. inl (omega arith))
-    (λ k. let a = k.0 in inr (a ∙ e, before_step zs xs ys k.1 (λ m. h (inr (sym e, m)))))
-    b)
-    (λ r. ⊎_elim
-    (λ lt. inl (⊎_elim (λ a. omega arith) (λ k. let a = k.0 in omega arith) b))
-    (λ gt. absurd (h (inl gt)))
-    r)
-    (cases_order x y)
+none_of : (P : List Symbol → Type 0) → ((l : List Symbol) → P l → ⊥) → AllOf P
+none_of P none = listed [] (λ l h. absurd h) none
 
-before_drop : (c xs ys : List ℕ) → IsBefore (c ++ xs) (c ++ ys) → IsBefore xs ys
-before_drop [] xs ys h = h
-before_drop (x ∷ c) xs ys h = ⊎_elim (λ lt. absurd (omega arith)) (λ k. before_drop c xs ys k.1) h
+contains_cases : (l : List Symbol) (xs ys : List (List Symbol)) → Contains l (xs ++ ys) → Contains l xs ⊎ Contains l ys
+contains_cases l [] ys h = inr h
+contains_cases l (x ∷ xs) ys h =
+    ⊎_elim (λ e. inl (inl e)) (λ k. ⊎_elim (λ a. inl (inr a)) (λ a. inr a) (contains_cases l xs ys k)) h
 
--- the least of some lists, or that there is none
-data LeastOf (P : List Symbol → Type 0) : Type 0 where
-  attained : (l : List Symbol) → P l → ((l' : List Symbol) → P l' → IsBefore (choices l') (choices l) → ⊥) → LeastOf P
-  none : ((l : List Symbol) → P l → ⊥) → LeastOf P
+contains_front : (l : List Symbol) (xs ys : List (List Symbol)) → Contains l xs → Contains l (xs ++ ys)
+contains_front l [] ys h = absurd h
+contains_front l (x ∷ xs) ys h = ⊎_elim (λ e. inl e) (λ k. inr (contains_front l xs ys k)) h
 
-least_or : (P Q R : List Symbol → Type 0) → LeastOf P → LeastOf Q → ((l : List Symbol) → R l → P l ⊎ Q l)
-    → ((l : List Symbol) → P l → R l) → ((l : List Symbol) → Q l → R l) → LeastOf R
-least_or P Q R (none n) (none m) from pr qr = none (λ l r. ⊎_elim (λ p. n l p) (λ q. m l q) (from l r))
-least_or P Q R (none n) (attained l q least) from pr qr =
-    attained l (qr l q) (λ l' r b. ⊎_elim (λ p. n l' p) (λ q'. least l' q' b) (from l' r))
-least_or P Q R (attained l p least) (none n) from pr qr =
-    attained l (pr l p) (λ l' r b. ⊎_elim (λ p'. least l' p' b) (λ q. n l' q) (from l' r))
-least_or P Q R (attained l p least) (attained m q least') from pr qr =
-    ⊎_elim
-    (λ h.
-    attained l
-    (pr l p)
-    (λ l' r b.
-    ⊎_elim
-    (λ p'. least l' p' b) (λ q'. least' l' q' (before_step (choices l') (choices l) (choices m) b h)) (from l' r)))
-    (λ h.
-    attained m
-    (qr m q)
-    (λ l' r b.
-    ⊎_elim
-    (λ p'. least l' p' (before_step (choices l') (choices m) (choices l) b h)) (λ q'. least' l' q' b) (from l' r)))
-    (before_total (choices l) (choices m))
+contains_back : (l : List Symbol) (xs ys : List (List Symbol)) → Contains l ys → Contains l (xs ++ ys)
+contains_back l [] ys h = h
+contains_back l (x ∷ xs) ys h = inr (contains_back l xs ys h)
 
-least_as :
-    (P R : List Symbol → Type 0) → LeastOf P → ((l : List Symbol) → R l → P l) → ((l : List Symbol) → P l → R l) → LeastOf R
-least_as P R (none n) from pr = none (λ l r. n l (from l r))
-least_as P R (attained l p least) from pr = attained l (pr l p) (λ l' r b. least l' (from l' r) b)
+contains_map : (f : List Symbol → List Symbol) (l : List Symbol) (xs : List (List Symbol)) → Contains l xs → Contains (f l) (map f xs)
+contains_map f l [] h = absurd h
+contains_map f l (x ∷ xs) h = ⊎_elim (λ e. inl (ap f e)) (λ k. inr (contains_map f l xs k)) h
 
--- behind a front with these choices
-least_behind : (P : List Symbol → Type 0) (f : List Symbol → List Symbol) (c : List ℕ)
-    → ((l : List Symbol) → choices (f l) ≡ c ++ choices l) → LeastOf P
-    → LeastOf (λ l'. (l : List Symbol) × P l × (l' ≡ f l))
-least_behind P f c is (none n) = none (λ l' r. n r.0 r.1)
-least_behind P f c is (attained l p least) =
-    attained
-    (f l) (l, p, refl)
-    (λ l' r b.
-    least r.0 r.1 (before_drop c (choices r.0) (choices l) (subst (λ k. IsBefore k (c ++ choices l)) (ap choices r.2 ∙ is r.0) (subst (λ k. IsBefore (choices l') k) (is l) b))))
+contains_unmap :
+    (f : List Symbol → List Symbol) (l : List Symbol) (xs : List (List Symbol)) → Contains l (map f xs)
+    → (k : List Symbol) × Contains k xs × (l ≡ f k)
+contains_unmap f l [] h = absurd h
+contains_unmap f l (x ∷ xs) h =
+    ⊎_elim (λ e. (x, inl refl, e)) (λ k. let r = contains_unmap f l xs k in (r.0, inr r.1, r.2)) h
+
+all_or : (P Q R : List Symbol → Type 0) → AllOf P → AllOf Q → ((l : List Symbol) → R l → P l ⊎ Q l)
+    → ((l : List Symbol) → P l → R l) → ((l : List Symbol) → Q l → R l) → AllOf R
+all_or P Q R (listed xs is p) (listed ys is' q) from pr qr =
+    listed (xs ++ ys)
+    (λ l h. ⊎_elim (λ k. pr l (is l k)) (λ k. qr l (is' l k)) (contains_cases l xs ys h))
+    (λ l r. ⊎_elim (λ h. contains_front l xs ys (p l h)) (λ h. contains_back l xs ys (q l h)) (from l r))
+
+all_as : (P R : List Symbol → Type 0) → AllOf P → ((l : List Symbol) → R l → P l) → ((l : List Symbol) → P l → R l) → AllOf R
+all_as P R (listed xs is p) from pr = listed xs (λ l h. pr l (is l h)) (λ l r. p l (from l r))
+
+-- behind a front
+all_behind : (P : List Symbol → Type 0) (f : List Symbol → List Symbol) → AllOf P → AllOf (λ l'. (l : List Symbol) × P l × (l' ≡ f l))
+all_behind P f (listed xs is p) =
+    listed (map f xs)
+    (λ l h. let r = contains_unmap f l xs h in (r.0, is r.0 r.1, r.2))
+    (λ l' r. subst (λ k. Contains k (map f xs)) (sym r.2) (contains_map f r.0 xs (p r.0 r.1)))
 
 -- membership, and the states not yet seen
 abbrev Has : ℕ → List ℕ → Type 0
@@ -210,19 +177,18 @@ module _ (enc : Enc) (g : List State) (z : slice_get g 0 ≡ Some (moves [])) wh
       (rest : List ℕ) × (l : List Symbol) × (us ≡ cs ++ rest) × Candidate (s + 1) rest [] l
       × (l' ≡ mark s ∷ (d ++ (map reads cs ++ l)))
 
-  least_via : (s : ℕ) (us : List ℕ) (d : List Symbol) (cs : List ℕ)
-      → ((l : List Symbol) → choices (mark s ∷ (d ++ (map reads cs ++ l))) ≡ choices d ++ choices l)
-      → ((rest : List ℕ) → us ≡ cs ++ rest → LeastOf (Candidate (s + 1) rest [])) → LeastOf (Via s us d cs)
-  least_via s us d cs is more = at (dec_front cs us)
+  all_via : (s : ℕ) (us : List ℕ) (d : List Symbol) (cs : List ℕ)
+      → ((rest : List ℕ) → us ≡ cs ++ rest → AllOf (Candidate (s + 1) rest [])) → AllOf (Via s us d cs)
+  all_via s us d cs more = at (dec_front cs us)
     where
-      at : ((rest : List ℕ) × (us ≡ cs ++ rest)) ⊎ ((rest : List ℕ) → us ≡ cs ++ rest → ⊥) → LeastOf (Via s us d cs)
+      at : ((rest : List ℕ) × (us ≡ cs ++ rest)) ⊎ ((rest : List ℕ) → us ≡ cs ++ rest → ⊥) → AllOf (Via s us d cs)
       at (inl r) =
-          least_as _ _ (least_behind (Candidate (s + 1) r.0 []) (λ l. mark s ∷ (d ++ (map reads cs ++ l))) (choices d) is (more r.0 r.1))
+          all_as _ _ (all_behind (Candidate (s + 1) r.0 []) (λ l. mark s ∷ (d ++ (map reads cs ++ l))) (more r.0 r.1))
           (λ l v.
           let e : v.0 ≡ r.0 = (front_same_length cs cs v.0 r.0 refl (sym v.2 ∙ r.1)).1 in
           (v.1, subst (λ k. Candidate (s + 1) k [] v.1) e v.3, v.4))
           (λ l v. (r.0, v.0, r.1, v.1, v.2))
-      at (inr n) = none (λ l v. n v.0 v.2)
+      at (inr n) = none_of _ (λ l v. n v.0 v.2)
 
   -- the points from lo on, n of them
   abbrev ViaPoints : (s : ℕ) → List ℕ → List (ℕ × ℕ) → (lo n : ℕ) → List Symbol → Type 0
@@ -251,25 +217,21 @@ module _ (enc : Enc) (g : List State) (z : slice_get g 0 ≡ Some (moves [])) wh
   abbrev ViaRanges : (s : ℕ) → List ℕ → (all ranges : List (ℕ × ℕ)) → List Symbol → Type 0
   ViaRanges s us all ranges l = (c : ℕ) × IsInRanges ranges c × Via s us (leaf_choice enc all c) (spell enc c) l
 
-  choices_spelled : (s : ℕ) (d : List Symbol) (cs : List ℕ) (l : List Symbol)
-      → choices (mark s ∷ (d ++ (map reads cs ++ l))) ≡ choices d ++ choices l
-  choices_spelled s d cs l = choices_code enc g s d cs l
+  all_points : (s : ℕ) (us : List ℕ) (ranges : List (ℕ × ℕ)) (lo n : ℕ)
+      → ((c : ℕ) (rest : List ℕ) → us ≡ spell enc c ++ rest → AllOf (Candidate (s + 1) rest []))
+      → AllOf (ViaPoints s us ranges lo n)
+  all_points s us ranges lo zero more = none_of _ (λ l v. v)
+  all_points s us ranges lo (suc n) more =
+      all_or _ _ _
+      (all_via s us (leaf_choice enc ranges lo) (spell enc lo) (λ rest e. more lo rest e))
+      (all_points s us ranges (suc lo) n more) (λ l v. v) (λ l v. inl v) (λ l v. inr v)
 
-  least_points : (s : ℕ) (us : List ℕ) (ranges : List (ℕ × ℕ)) (lo n : ℕ)
-      → ((c : ℕ) (rest : List ℕ) → us ≡ spell enc c ++ rest → LeastOf (Candidate (s + 1) rest []))
-      → LeastOf (ViaPoints s us ranges lo n)
-  least_points s us ranges lo zero more = none (λ l v. v)
-  least_points s us ranges lo (suc n) more =
-      least_or _ _ _
-      (least_via s us (leaf_choice enc ranges lo) (spell enc lo) (choices_spelled s _ _) (λ rest e. more lo rest e))
-      (least_points s us ranges (suc lo) n more) (λ l v. v) (λ l v. inl v) (λ l v. inr v)
-
-  least_ranges : (s : ℕ) (us : List ℕ) (all ranges : List (ℕ × ℕ))
-      → ((c : ℕ) (rest : List ℕ) → us ≡ spell enc c ++ rest → LeastOf (Candidate (s + 1) rest []))
-      → LeastOf (ViaRanges s us all ranges)
-  least_ranges s us all [] more = none (λ l v. v.1)
-  least_ranges s us all (r ∷ ranges) more =
-      least_or _ _ _ (least_points s us all r.0 (suc r.1 - r.0) more) (least_ranges s us all ranges more)
+  all_ranges : (s : ℕ) (us : List ℕ) (all ranges : List (ℕ × ℕ))
+      → ((c : ℕ) (rest : List ℕ) → us ≡ spell enc c ++ rest → AllOf (Candidate (s + 1) rest []))
+      → AllOf (ViaRanges s us all ranges)
+  all_ranges s us all [] more = none_of _ (λ l v. v.1)
+  all_ranges s us all (r ∷ ranges) more =
+      all_or _ _ _ (all_points s us all r.0 (suc r.1 - r.0) more) (all_ranges s us all ranges more)
       (λ l v.
       ⊎_elim
       (λ i. let a = i.0 in let b = i.1 in inl (via_at s us all r.0 (suc r.1 - r.0) v.0 l a (omega arith) v.2))
@@ -283,17 +245,16 @@ module _ (enc : Enc) (g : List State) (z : slice_get g 0 ≡ Some (moves [])) wh
   ByMoves s us seen ms l' =
       (m : Move) × IsAmong m ms × (l : List Symbol) × Candidate (target m) us (s ∷ seen) l × (l' ≡ mark s ∷ (label m ++ l))
 
-  least_moves : (s : ℕ) (us seen : List ℕ) (ms : List Move) → ((t : ℕ) → LeastOf (Candidate t us (s ∷ seen)))
-      → LeastOf (ByMoves s us seen ms)
-  least_moves s us seen [] more = none (λ l v. in_none [] refl v.1)
-  least_moves s us seen (m ∷ ms) more =
-      least_or
+  all_moves : (s : ℕ) (us seen : List ℕ) (ms : List Move) → ((t : ℕ) → AllOf (Candidate t us (s ∷ seen)))
+      → AllOf (ByMoves s us seen ms)
+  all_moves s us seen [] more = none_of _ (λ l v. in_none [] refl v.1)
+  all_moves s us seen (m ∷ ms) more =
+      all_or
       (λ l'. (l : List Symbol) × Candidate (target m) us (s ∷ seen) l × (l' ≡ mark s ∷ (label m ++ l)))
       (ByMoves s us seen ms) (ByMoves s us seen (m ∷ ms))
-      (least_behind
-      (Candidate (target m) us (s ∷ seen)) (λ l. mark s ∷ (label m ++ l)) (choices (label m))
-      (λ l. choices_mark s _ ∙ choices_append (label m) l) (more (target m)))
-      (least_moves s us seen ms more)
+      (all_behind
+      (Candidate (target m) us (s ∷ seen)) (λ l. mark s ∷ (label m ++ l)) (more (target m)))
+      (all_moves s us seen ms more)
       (λ l' v. by_cases v.0 l' v.1 v.2 v.3 v.4)
       (λ l' v. (m, first, v.0, v.1, v.2))
       (λ l' v. (v.0, next v.1, v.2, v.3, v.4))
@@ -435,15 +396,15 @@ module _ (enc : Enc) (g : List State) (z : slice_get g 0 ≡ Some (moves [])) wh
       let n : us ≡ q.0 ∷ (q.1 ++ rest) = e ∙ ap (λ k. k ++ rest) q.2 in
       omega (arith, ap length n, length-append q.1 rest)
 
-  least_unit : (s : ℕ) (us seen : List ℕ) → slice_get g s ≡ Some unit_leaf → (s ≡ 0 → ⊥) → (Has s seen → ⊥)
-      → ((rest : List ℕ) → length rest < length us → LeastOf (Candidate (s + 1) rest [])) → LeastOf (Candidate s us seen)
-  least_unit s [] seen h ne new later =
-      none (λ l c. let v = from_unit s [] seen h ne l c in let e : [] ≡ v.0 ∷ v.1.0 = v.1.2 in no v.0 v.1.0 e)
+  all_unit : (s : ℕ) (us seen : List ℕ) → slice_get g s ≡ Some unit_leaf → (s ≡ 0 → ⊥) → (Has s seen → ⊥)
+      → ((rest : List ℕ) → length rest < length us → AllOf (Candidate (s + 1) rest [])) → AllOf (Candidate s us seen)
+  all_unit s [] seen h ne new later =
+      none_of _ (λ l c. let v = from_unit s [] seen h ne l c in let e : [] ≡ v.0 ∷ v.1.0 = v.1.2 in no v.0 v.1.0 e)
     where
       no : (x : ℕ) (xs : List ℕ) → [] ≡ x ∷ xs → ⊥
       no x xs e = cc
-  least_unit s (x ∷ us) seen h ne new later =
-      least_as _ _ (least_via s (x ∷ us) [] (x ∷ []) (choices_spelled s [] (x ∷ [])) (λ rest e. let e' : x ∷ us ≡ x ∷ rest = e in later rest (omega (arith, ap length e'))))
+  all_unit s (x ∷ us) seen h ne new later =
+      all_as _ _ (all_via s (x ∷ us) [] (x ∷ []) (λ rest e. let e' : x ∷ us ≡ x ∷ rest = e in later rest (omega (arith, ap length e'))))
       (λ l c. let v = from_unit s (x ∷ us) seen h ne l c in same v.0 l v.1)
       (λ l v. to_code s (x ∷ us) seen unit_leaf h new [] (x ∷ []) (of_unit x) l v)
     where
@@ -454,25 +415,25 @@ module _ (enc : Enc) (g : List State) (z : slice_get g 0 ≡ Some (moves [])) wh
       same u l v = subst (λ k. Via s (x ∷ us) [] (k ∷ []) l) (head u v.0 v.2) v
 
   -- the best candidate, by the row
-  least_row : (s : ℕ) (us seen : List ℕ) (r : Option State) → slice_get g s ≡ r → (s ≡ 0 → ⊥) → (Has s seen → ⊥)
-      → ((rest : List ℕ) → length rest < length us → LeastOf (Candidate (s + 1) rest []))
-      → (s < length g → (t : ℕ) → LeastOf (Candidate t us (s ∷ seen))) → LeastOf (Candidate s us seen)
-  least_row s us seen None h ne new later more = none (λ l c. no c.path)
+  all_row : (s : ℕ) (us seen : List ℕ) (r : Option State) → slice_get g s ≡ r → (s ≡ 0 → ⊥) → (Has s seen → ⊥)
+      → ((rest : List ℕ) → length rest < length us → AllOf (Candidate (s + 1) rest []))
+      → (s < length g → (t : ℕ) → AllOf (Candidate t us (s ∷ seen))) → AllOf (Candidate s us seen)
+  all_row s us seen None h ne new later more = none_of _ (λ l c. no c.path)
     where
       no : {l : List Symbol} → Path enc g s l → ⊥
       no (ended e) = ne e
       no (then_move ms m h' i q) = cc
       no (then_code r d cs h' k q) = cc
-  least_row s us seen (Some (moves ms)) h ne new later more =
-      least_as _ _
-      (least_moves s us seen ms (more (slice_get_within g s (moves ms) h))) (from_moves s us seen ms h ne)
+  all_row s us seen (Some (moves ms)) h ne new later more =
+      all_as _ _
+      (all_moves s us seen ms (more (slice_get_within g s (moves ms) h))) (from_moves s us seen ms h ne)
       (to_moves s us seen ms h new)
-  least_row s us seen (Some (leaf ranges)) h ne new later more =
-      least_as _ _
-      (least_ranges s us ranges ranges (λ c rest e. later rest (spell_shorter c us rest e)))
+  all_row s us seen (Some (leaf ranges)) h ne new later more =
+      all_as _ _
+      (all_ranges s us ranges ranges (λ c rest e. later rest (spell_shorter c us rest e)))
       (from_leaf s us seen ranges h ne)
       (λ l v. to_code s us seen (leaf ranges) h new (leaf_choice enc ranges v.0) (spell enc v.0) (of_point v.0 v.1) l v.2)
-  least_row s us seen (Some unit_leaf) h ne new later more = least_unit s us seen h ne new later
+  all_row s us seen (Some unit_leaf) h ne new later more = all_unit s us seen h ne new later
 
   -- at the end
   end_path : {s : ℕ} {l : List Symbol} → s ≡ 0 → Path enc g s l → l ≡ []
@@ -480,50 +441,50 @@ module _ (enc : Enc) (g : List State) (z : slice_get g 0 ≡ Some (moves [])) wh
   end_path e (then_move {s} ms m h i q) = let k = zero_is g s z e in absurd (in_none ms (cc) i)
   end_path e (then_code {s} r d cs h k q) = absurd (no_rows enc g s [] r (zero_is g s z e) h k)
 
-  least_end : (s : ℕ) (us seen : List ℕ) → s ≡ 0 → LeastOf (Candidate s us seen)
-  least_end s [] seen e =
-      attained [] (record {
-        path = ended e;
-        over = refl;
-        plain = tt;
-        avoids = λ x i. tt;
-      }) (λ l c b. not_before_none (choices l) b)
-  least_end s (u ∷ us) seen e = none (λ l c. let k : [] ≡ u ∷ us = ap units (sym (end_path e c.path)) ∙ c.over in cc)
+  all_end : (s : ℕ) (us seen : List ℕ) → s ≡ 0 → AllOf (Candidate s us seen)
+  all_end s [] seen e =
+      listed ([] ∷ [])
+      (λ l h. ⊎_elim (λ k. subst (Candidate s [] seen) (sym k) at_end) (λ k. absurd k) h)
+      (λ l c. inl (end_path e c.path))
+    where
+      at_end : Candidate s [] seen []
+      at_end = record { path = ended e; over = refl; plain = tt; avoids = λ x i. tt }
+  all_end s (u ∷ us) seen e = none_of _ (λ l c. let k : [] ≡ u ∷ us = ap units (sym (end_path e c.path)) ∙ c.over in cc)
 
   -- a state that was seen
-  seen_none : (s : ℕ) (us seen : List ℕ) → (s ≡ 0 → ⊥) → Has s seen → LeastOf (Candidate s us seen)
-  seen_none s us seen ne i = none (λ l c. no c.path (c.avoids s i))
+  seen_none : (s : ℕ) (us seen : List ℕ) → (s ≡ 0 → ⊥) → Has s seen → AllOf (Candidate s us seen)
+  seen_none s us seen ne i = none_of _ (λ l c. no c.path (c.avoids s i))
     where
       no : {l : List Symbol} → Path enc g s l → IsUnseen (mark s) l → ⊥
       no (ended e) h = ne e
       no (then_move {l} ms m h' j q) h = (unseen_mark_back (mark s) s (label m ++ l) h).0 refl
       no (then_code {l} r d cs h' k q) h = (unseen_mark_back (mark s) s (d ++ (map reads cs ++ l)) h).0 refl
 
-  least_state :
-      (s : ℕ) (us seen : List ℕ) → ((rest : List ℕ) → length rest < length us → LeastOf (Candidate (s + 1) rest []))
-      → ((Has s seen → ⊥) → s < length g → (t : ℕ) → LeastOf (Candidate t us (s ∷ seen))) → LeastOf (Candidate s us seen)
-  least_state s us seen later more =
+  all_state :
+      (s : ℕ) (us seen : List ℕ) → ((rest : List ℕ) → length rest < length us → AllOf (Candidate (s + 1) rest []))
+      → ((Has s seen → ⊥) → s < length g → (t : ℕ) → AllOf (Candidate t us (s ∷ seen))) → AllOf (Candidate s us seen)
+  all_state s us seen later more =
       ⊎_elim
-      (λ e. least_end s us seen e)
+      (λ e. all_end s us seen e)
       (λ ne.
       ⊎_elim
-      (λ i. seen_none s us seen ne i) (λ new. least_row s us seen (slice_get g s) refl ne new later (more new))
+      (λ i. seen_none s us seen ne i) (λ new. all_row s us seen (slice_get g s) refl ne new later (more new))
       (dec_has s seen))
       (cases_eq s 0)
 
   -- k states aren't seen yet
-  search_in : (us : List ℕ) → ((rest : List ℕ) → length rest < length us → (s : ℕ) → LeastOf (Candidate s rest []))
+  search_in : (us : List ℕ) → ((rest : List ℕ) → length rest < length us → (s : ℕ) → AllOf (Candidate s rest []))
       → (k : ℕ) (open' seen : List ℕ) → length open' ≤ k → ((x : ℕ) → x < length g → Has x seen ⊎ Has x open') → (s : ℕ)
-      → LeastOf (Candidate s us seen)
+      → AllOf (Candidate s us seen)
   search_in us later zero open' seen le cover s =
-      least_state s us seen
+      all_state s us seen
       (λ rest lt. later rest lt (s + 1)) (λ new lt t. absurd (⊎_elim new (λ i. no open' le i) (cover s lt)))
     where
       no : (xs : List ℕ) → length xs ≤ 0 → Has s xs → ⊥
       no [] le i = i
       no (x ∷ xs) le i = absurd (omega arith)
   search_in us later (suc k) open' seen le cover s =
-      least_state s us seen
+      all_state s us seen
       (λ rest lt. later rest lt (s + 1))
       (λ new lt t.
       ⊎_elim
@@ -535,40 +496,40 @@ module _ (enc : Enc) (g : List State) (z : slice_get g 0 ≡ Some (moves [])) wh
       (λ x lx. ⊎_elim (λ a. inl (inr a)) (λ a. ⊎_elim (λ b. inl (inl b)) (λ b. inr b) (r.2 x a)) (cover x lx)) t)
       (cover s lt))
 
-  search_all : (n : ℕ) (us : List ℕ) → length us < n → (s : ℕ) → LeastOf (Candidate s us [])
+  search_all : (n : ℕ) (us : List ℕ) → length us < n → (s : ℕ) → AllOf (Candidate s us [])
   search_all zero us lt s = absurd (omega arith)
   search_all (suc n) us lt s =
       search_in us
       (λ rest less t. search_all n rest (omega arith) t) (length (below_list (length g))) (below_list (length g)) []
       (omega arith) (λ x lx. inr (below_has (length g) x lx)) s
 
--- a word that has a tree has a leftmost greedy one
-pub least_tree :
-    (enc : Enc) (e : Term) (p : ℕ) → 0 < p → (w : List ℕ) → HasTree enc p e w → (t : Tree e) × IsLeast greedy enc p e w t
-least_tree enc e p lt w has = at (search_all enc (alone e p) (alone_zero e p lt) (suc (length w)) w (omega arith) (2 * p))
+-- the scripts of the plain trees of a word
+pub all_scripts :
+    (enc : Enc) (e : Term) (p : ℕ) → 0 < p → (w : List ℕ)
+    → AllOf (λ l. (t : Tree e) × (script enc p t ≡ l) × (units l ≡ w) × IsPlain l)
+all_scripts enc e p lt w =
+    all_as
+    (Candidate enc (alone e p) (alone_zero e p lt) (2 * p) w []) (λ l. (t : Tree e) × (script enc p t ≡ l) × (units l ≡ w) × IsPlain l)
+    (search_all enc (alone e p) (alone_zero e p lt) (suc (length w)) w (omega arith) (2 * p))
+    (λ l r. candidate r.0 l r.1 r.2 r.3)
+    (λ l c. tree l c)
   where
-    candidate : (t : Tree e) → units (script enc p t) ≡ w → IsPlain (script enc p t)
-        → Candidate enc (alone e p) (alone_zero e p lt) (2 * p) w [] (script enc p t)
-    candidate t u plain =
+    candidate :
+        (t : Tree e) (l : List Symbol) → script enc p t ≡ l → units l ≡ w → IsPlain l
+        → Candidate enc (alone e p) (alone_zero e p lt) (2 * p) w [] l
+    candidate t l is u plain =
         let a = walk_of enc (alone e p) e p (alone_stands e p) t in
         record {
-          path = subst (λ l. Path enc (alone e p) (2 * p) l) a.1 (path_of enc (alone e p) a.0);
+          path = subst (λ k. Path enc (alone e p) (2 * p) k) (a.1 ∙ is) (path_of enc (alone e p) a.0);
           over = u;
-          plain = plain_from _ plain;
+          plain = plain_from l plain;
           avoids = λ x i. absurd i;
         }
 
-    at : LeastOf (Candidate enc (alone e p) (alone_zero e p lt) (2 * p) w []) → (t : Tree e) × IsLeast greedy enc p e w t
-    at (attained l c least) =
+    tree :
+        (l : List Symbol) → Candidate enc (alone e p) (alone_zero e p lt) (2 * p) w [] l
+        → (t : Tree e) × (script enc p t ≡ l) × (units l ≡ w) × IsPlain l
+    tree l c =
         let q = walk_from enc (alone e p) c.path in
         let t = tree_of enc (alone e p) e p (alone_stands e p) lt (alone_zero e p lt) q.0 in
-        let is : script enc p t.0 ≡ l = sym t.1 ∙ q.1 in (
-          t.0,
-          record {
-            yields = ap units is ∙ c.over;
-            plain = subst IsPlain (sym is) (plain_list l c.plain);
-            least =
-                λ other u plain b. least (script enc p other) (candidate other u plain) (subst (λ k. IsBefore (choices (script enc p other)) (choices k)) is b);
-          },
-        )
-    at (none n) = let r = plain_tree enc e p lt w has in absurd (n (script enc p r.0) (candidate r.0 r.1 r.2))
+        (t.0, sym t.1 ∙ q.1, c.over, plain_list l c.plain)
