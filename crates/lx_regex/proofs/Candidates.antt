@@ -6,25 +6,22 @@ use Rattle.std.proofs.lemmas.Option.{slice_get_within}
 use Rattle.lx_base.specs.declared.settings.Enc.{Enc}
 use Rattle.lx_base.specs.Spelling.{spell}
 use Rattle.lx_regex.specs.Automaton.{Move, State, label, leaf, move, moves, unit_leaf, target}
-use Rattle.lx_regex.specs.Dictionary.{IsBefore}
-use Rattle.lx_regex.specs.Least.{HasTree, IsLeast}
 use Rattle.lx_regex.specs.Plain.{IsPlain, mark_of}
-use Rattle.lx_regex.specs.Script.{Symbol, begins, choices, ends, leaf_choice, picks, reads, script, sets, units, unsets}
+use Rattle.lx_regex.specs.Script.{Symbol, begins, ends, leaf_choice, picks, reads, script, sets, units, unsets}
 use Rattle.lx_regex.specs.Term.{IsInRanges, Term}
 use Rattle.lx_regex.specs.Tree.{Tree}
 use Rattle.lx_regex.specs.Walk.{IsAmong, first, mark, next}
 use Rattle.lx_regex.proofs.Exchange.{plain_from}
-use Rattle.lx_regex.proofs.Fronts.{choices_append, choices_code, choices_mark, no_rows, units_code}
+use Rattle.lx_regex.proofs.Fronts.{no_rows, units_code}
 use Rattle.lx_regex.proofs.PlainWalk.{IsPlainList, IsUnseen, mark_tells, plain_choice, plain_label, plain_list, plain_mark, plain_reads, spell_some, units_label, units_mark, unseen_choice, unseen_label, unseen_mark, unseen_point}
 use Rattle.lx_regex.proofs.Readings.{Code, code_some, front_same_length, of_point, of_unit}
 use Rattle.lx_regex.proofs.Scripts.{Path, ended, in_none, path_of, then_code, then_move, walk_from, zero_is}
-use Rattle.lx_regex.proofs.WholeWalk.{alone, alone_stands, alone_zero, walk_of, tree_of, plain_tree}
-use Rattle.lx_regex.specs.Order.{greedy}
+use Rattle.lx_regex.proofs.WholeWalk.{alone, alone_stands, alone_zero, walk_of, tree_of}
 
--- the list is among these lists
-abbrev pub Contains : List Symbol → List (List Symbol) → Type 0
-Contains l [] = ⊥
-Contains l (x ∷ xs) = (l ≡ x) ⊎ Contains l xs
+-- a value is in a list
+abbrev pub Contains : {A : Type 0} → A → List A → Type 0
+Contains x [] = ⊥
+Contains x (y ∷ ys) = (x ≡ y) ⊎ Contains x ys
 
 -- finitely many lists: all for which P holds, and no others
 pub data AllOf (P : List Symbol → Type 0) : Type 0 where
@@ -74,19 +71,15 @@ all_behind P f (listed xs is p) =
     (λ l h. let r = contains_unmap f l xs h in (r.0, is r.0 r.1, r.2))
     (λ l' r. subst (λ k. Contains k (map f xs)) (sym r.2) (contains_map f r.0 xs (p r.0 r.1)))
 
--- membership, and the states not yet seen
-abbrev Has : ℕ → List ℕ → Type 0
-Has s [] = ⊥
-Has s (x ∷ xs) = (s ≡ x) ⊎ Has s xs
-
-dec_has : (s : ℕ) (xs : List ℕ) → Has s xs ⊎ (Has s xs → ⊥)
-dec_has s [] = inr (λ h. h)
-dec_has s (x ∷ xs) =
+-- the states not yet seen
+contains_or_not : (s : ℕ) (xs : List ℕ) → Contains s xs ⊎ (Contains s xs → ⊥)
+contains_or_not s [] = inr (λ h. h)
+contains_or_not s (x ∷ xs) =
     ⊎_elim
-    (λ e. inl (inl e)) (λ ne. ⊎_elim (λ h. inl (inr h)) (λ n. inr (λ h. ⊎_elim ne n h)) (dec_has s xs)) (cases_eq s x)
+    (λ e. inl (inl e)) (λ ne. ⊎_elim (λ h. inl (inr h)) (λ n. inr (λ h. ⊎_elim ne n h)) (contains_or_not s xs)) (cases_eq s x)
 
-take_out : (s : ℕ) (xs : List ℕ) → Has s xs
-    → (ys : List ℕ) × (length xs ≡ suc (length ys)) × ((x : ℕ) → Has x xs → (x ≡ s) ⊎ Has x ys)
+take_out : (s : ℕ) (xs : List ℕ) → Contains s xs
+    → (ys : List ℕ) × (length xs ≡ suc (length ys)) × ((x : ℕ) → Contains x xs → (x ≡ s) ⊎ Contains x ys)
 take_out s [] h = absurd h
 take_out s (x ∷ xs) h =
     ⊎_elim
@@ -100,10 +93,10 @@ abbrev below_list : ℕ → List ℕ
 below_list zero = []
 below_list (suc n) = n ∷ below_list n
 
-below_has : (n s : ℕ) → s < n → Has s (below_list n)
-below_has zero s lt = absurd (omega arith)
-below_has (suc n) s lt =
-    ⊎_elim (λ e. inl e) (λ r. ⊎_elim (λ a. inr (below_has n s a)) (λ a. absurd (omega arith)) r) (cases_order s n)
+below_contains : (n s : ℕ) → s < n → Contains s (below_list n)
+below_contains zero s lt = absurd (omega arith)
+below_contains (suc n) s lt =
+    ⊎_elim (λ e. inl e) (λ r. ⊎_elim (λ a. inr (below_contains n s a)) (λ a. absurd (omega arith)) r) (cases_order s n)
 
 -- what unseen and plain say behind a step
 pub unseen_sets_back : (x : Symbol) (ts : List ℕ) (l : List Symbol) → IsUnseen x (map sets ts ++ l) → IsUnseen x l
@@ -169,7 +162,7 @@ module _ (enc : Enc) (g : List State) (z : slice_get g 0 ≡ Some (moves [])) wh
     path : Path enc g s l
     over : units l ≡ us
     plain : IsPlainList l
-    avoids : (x : ℕ) → Has x seen → IsUnseen (mark x) l
+    avoids : (x : ℕ) → Contains x seen → IsUnseen (mark x) l
 
   -- behind the symbols of a spelling
   abbrev Via : (s : ℕ) → List ℕ → (d : List Symbol) (cs : List ℕ) → List Symbol → Type 0
@@ -273,7 +266,7 @@ module _ (enc : Enc) (g : List State) (z : slice_get g 0 ≡ Some (moves [])) wh
       → Candidate s us seen l → ByMoves s us seen ms l
   from_moves s us seen ms h ne l c = at c.path c.over c.plain c.avoids
     where
-      at : {l : List Symbol} → Path enc g s l → units l ≡ us → IsPlainList l → ((x : ℕ) → Has x seen → IsUnseen (mark x) l)
+      at : {l : List Symbol} → Path enc g s l → units l ≡ us → IsPlainList l → ((x : ℕ) → Contains x seen → IsUnseen (mark x) l)
           → ByMoves s us seen ms l
       at (ended e) u p a = absurd (ne e)
       at (then_move {l} ms' m h' i q) u p a =
@@ -294,7 +287,7 @@ module _ (enc : Enc) (g : List State) (z : slice_get g 0 ≡ Some (moves [])) wh
       at (then_code r d cs h' k q) u p a = absurd (no_rows enc g s ms r h h' k)
 
   to_moves :
-      (s : ℕ) (us seen : List ℕ) (ms : List Move) → slice_get g s ≡ Some (moves ms) → (Has s seen → ⊥) → (l : List Symbol)
+      (s : ℕ) (us seen : List ℕ) (ms : List Move) → slice_get g s ≡ Some (moves ms) → (Contains s seen → ⊥) → (l : List Symbol)
       → ByMoves s us seen ms l → Candidate s us seen l
   to_moves s us seen ms h new l v =
       let m = v.0 in
@@ -304,7 +297,7 @@ module _ (enc : Enc) (g : List State) (z : slice_get g 0 ≡ Some (moves [])) wh
         over = units_mark s (label m ++ v.2) ∙ units_label m v.2 ∙ c.over;
         plain = plain_mark s _ (unseen_label (mark s) m _ (c.avoids s (inl refl))) (plain_label m _ c.plain);
         avoids =
-            λ x i. unseen_mark (mark x) s _ (λ e. new (subst (λ n. Has n seen) (mark_same x s e) i)) (unseen_label (mark x) m _ (c.avoids x (inr i)));
+            λ x i. unseen_mark (mark x) s _ (λ e. new (subst (λ n. Contains n seen) (mark_same x s e) i)) (unseen_label (mark x) m _ (c.avoids x (inr i)));
       })
 
   from_code :
@@ -336,7 +329,7 @@ module _ (enc : Enc) (g : List State) (z : slice_get g 0 ≡ Some (moves [])) wh
   plain_code (of_unit u) l h = h
 
   to_code :
-      (s : ℕ) (us seen : List ℕ) (r : State) → slice_get g s ≡ Some r → (Has s seen → ⊥) → (d : List Symbol) (cs : List ℕ)
+      (s : ℕ) (us seen : List ℕ) (r : State) → slice_get g s ≡ Some r → (Contains s seen → ⊥) → (d : List Symbol) (cs : List ℕ)
       → Code enc r d cs → (l : List Symbol) → Via s us d cs l → Candidate s us seen l
   to_code s us seen r h new d cs k l' v =
       let l = v.1 in
@@ -346,7 +339,7 @@ module _ (enc : Enc) (g : List State) (z : slice_get g 0 ≡ Some (moves [])) wh
         over = units_code enc g s r d cs l k ∙ ap (λ n. cs ++ n) c.over ∙ sym v.2;
         plain = plain_mark s _ (unseen_code k (mark s) l) (plain_code k l c.plain);
         avoids =
-            λ x i. unseen_mark (mark x) s _ (λ e. new (subst (λ n. Has n seen) (mark_same x s e) i)) (unseen_code k (mark x) l);
+            λ x i. unseen_mark (mark x) s _ (λ e. new (subst (λ n. Contains n seen) (mark_same x s e) i)) (unseen_code k (mark x) l);
       })
 
   from_leaf : (s : ℕ) (us seen : List ℕ) (ranges : List (ℕ × ℕ)) → slice_get g s ≡ Some (leaf ranges) → (s ≡ 0 → ⊥)
@@ -396,7 +389,7 @@ module _ (enc : Enc) (g : List State) (z : slice_get g 0 ≡ Some (moves [])) wh
       let n : us ≡ q.0 ∷ (q.1 ++ rest) = e ∙ ap (λ k. k ++ rest) q.2 in
       omega (arith, ap length n, length-append q.1 rest)
 
-  all_unit : (s : ℕ) (us seen : List ℕ) → slice_get g s ≡ Some unit_leaf → (s ≡ 0 → ⊥) → (Has s seen → ⊥)
+  all_unit : (s : ℕ) (us seen : List ℕ) → slice_get g s ≡ Some unit_leaf → (s ≡ 0 → ⊥) → (Contains s seen → ⊥)
       → ((rest : List ℕ) → length rest < length us → AllOf (Candidate (s + 1) rest [])) → AllOf (Candidate s us seen)
   all_unit s [] seen h ne new later =
       none_of _ (λ l c. let v = from_unit s [] seen h ne l c in let e : [] ≡ v.0 ∷ v.1.0 = v.1.2 in no v.0 v.1.0 e)
@@ -415,7 +408,7 @@ module _ (enc : Enc) (g : List State) (z : slice_get g 0 ≡ Some (moves [])) wh
       same u l v = subst (λ k. Via s (x ∷ us) [] (k ∷ []) l) (head u v.0 v.2) v
 
   -- the best candidate, by the row
-  all_row : (s : ℕ) (us seen : List ℕ) (r : Option State) → slice_get g s ≡ r → (s ≡ 0 → ⊥) → (Has s seen → ⊥)
+  all_row : (s : ℕ) (us seen : List ℕ) (r : Option State) → slice_get g s ≡ r → (s ≡ 0 → ⊥) → (Contains s seen → ⊥)
       → ((rest : List ℕ) → length rest < length us → AllOf (Candidate (s + 1) rest []))
       → (s < length g → (t : ℕ) → AllOf (Candidate t us (s ∷ seen))) → AllOf (Candidate s us seen)
   all_row s us seen None h ne new later more = none_of _ (λ l c. no c.path)
@@ -452,7 +445,7 @@ module _ (enc : Enc) (g : List State) (z : slice_get g 0 ≡ Some (moves [])) wh
   all_end s (u ∷ us) seen e = none_of _ (λ l c. let k : [] ≡ u ∷ us = ap units (sym (end_path e c.path)) ∙ c.over in cc)
 
   -- a state that was seen
-  seen_none : (s : ℕ) (us seen : List ℕ) → (s ≡ 0 → ⊥) → Has s seen → AllOf (Candidate s us seen)
+  seen_none : (s : ℕ) (us seen : List ℕ) → (s ≡ 0 → ⊥) → Contains s seen → AllOf (Candidate s us seen)
   seen_none s us seen ne i = none_of _ (λ l c. no c.path (c.avoids s i))
     where
       no : {l : List Symbol} → Path enc g s l → IsUnseen (mark s) l → ⊥
@@ -462,25 +455,25 @@ module _ (enc : Enc) (g : List State) (z : slice_get g 0 ≡ Some (moves [])) wh
 
   all_state :
       (s : ℕ) (us seen : List ℕ) → ((rest : List ℕ) → length rest < length us → AllOf (Candidate (s + 1) rest []))
-      → ((Has s seen → ⊥) → s < length g → (t : ℕ) → AllOf (Candidate t us (s ∷ seen))) → AllOf (Candidate s us seen)
+      → ((Contains s seen → ⊥) → s < length g → (t : ℕ) → AllOf (Candidate t us (s ∷ seen))) → AllOf (Candidate s us seen)
   all_state s us seen later more =
       ⊎_elim
       (λ e. all_end s us seen e)
       (λ ne.
       ⊎_elim
       (λ i. seen_none s us seen ne i) (λ new. all_row s us seen (slice_get g s) refl ne new later (more new))
-      (dec_has s seen))
+      (contains_or_not s seen))
       (cases_eq s 0)
 
   -- k states aren't seen yet
   search_in : (us : List ℕ) → ((rest : List ℕ) → length rest < length us → (s : ℕ) → AllOf (Candidate s rest []))
-      → (k : ℕ) (open' seen : List ℕ) → length open' ≤ k → ((x : ℕ) → x < length g → Has x seen ⊎ Has x open') → (s : ℕ)
+      → (k : ℕ) (open' seen : List ℕ) → length open' ≤ k → ((x : ℕ) → x < length g → Contains x seen ⊎ Contains x open') → (s : ℕ)
       → AllOf (Candidate s us seen)
   search_in us later zero open' seen le cover s =
       all_state s us seen
       (λ rest lt. later rest lt (s + 1)) (λ new lt t. absurd (⊎_elim new (λ i. no open' le i) (cover s lt)))
     where
-      no : (xs : List ℕ) → length xs ≤ 0 → Has s xs → ⊥
+      no : (xs : List ℕ) → length xs ≤ 0 → Contains s xs → ⊥
       no [] le i = i
       no (x ∷ xs) le i = absurd (omega arith)
   search_in us later (suc k) open' seen le cover s =
@@ -501,7 +494,7 @@ module _ (enc : Enc) (g : List State) (z : slice_get g 0 ≡ Some (moves [])) wh
   search_all (suc n) us lt s =
       search_in us
       (λ rest less t. search_all n rest (omega arith) t) (length (below_list (length g))) (below_list (length g)) []
-      (omega arith) (λ x lx. inr (below_has (length g) x lx)) s
+      (omega arith) (λ x lx. inr (below_contains (length g) x lx)) s
 
 -- the scripts of the plain trees of a word
 pub all_scripts :

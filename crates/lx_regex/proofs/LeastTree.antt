@@ -1,5 +1,5 @@
 -- A word that has a tree has a least plain one, under either policy.
-use Rattle.std.specs.Prelude.{◌≡◌, ℕ, suc, ◌+◌, ◌<◌, ◌⊎◌, List, [], ◌∷◌, ◌++◌, length, refl}
+use Rattle.std.specs.Prelude.{◌≡◌, ℕ, suc, ◌<◌, ◌⊎◌, List, [], ◌∷◌, ◌++◌, length, refl}
 use Rattle.std.proofs.Common.{inl, inr, sym, ap, ◌∙◌, subst, arith, ⊎_elim}
 use Rattle.lx_base.specs.declared.settings.Enc.{Enc}
 use Rattle.lx_regex.specs.Term.{Term}
@@ -7,27 +7,23 @@ use Rattle.lx_regex.specs.Tree.{Tree}
 use Rattle.lx_regex.specs.Script.{Symbol, script, units, choices}
 use Rattle.lx_regex.specs.Plain.{IsPlain}
 use Rattle.lx_regex.specs.Dictionary.{IsBefore}
-use Rattle.lx_regex.specs.Posix.{Shape, size, length_at, shape_of, whole, IsLonger}
+use Rattle.lx_regex.specs.Posix.{size, length_at, shape_of, whole}
 use Rattle.lx_regex.specs.Order.{Policy, greedy, posix, TreePrecedes}
 use Rattle.lx_regex.specs.Least.{HasTree, HasPlainTree, IsLeast}
 use Rattle.lx_regex.proofs.Fronts.{before_self}
 use Rattle.lx_regex.proofs.WholeWalk.{plain_tree}
-use Rattle.lx_regex.proofs.PosixOrder.{position_order, position_trans, precedes_self, precedes_trans, precedes_total, SameLengths}
+use Rattle.lx_regex.proofs.PosixOrder.{position_order, position_trans, precedes_self, precedes_trans, precedes_total}
 use Rattle.lx_regex.proofs.PosixUnique.{count}
 use Rattle.lx_regex.proofs.ShapeOfScript.{one_shape}
 use Rattle.lx_regex.proofs.Candidates.{Contains, AllOf, listed, all_scripts}
 
 -- the first of finitely many, under an order that decides
 module _ (A : Type 0) (R : A → A → Type 0) (self : (a : A) → R a a → ⊥) (trans : (a b c : A) → R a b → R b c → R a c) (decide : (a b : A) → R a b ⊎ (R a b → ⊥)) where
-  abbrev pub Member : A → List A → Type 0
-  Member a [] = ⊥
-  Member a (x ∷ xs) = (a ≡ x) ⊎ Member a xs
-
-  pub minimum : (x : A) (xs : List A) → (m : A) × ((a : A) → Member a (x ∷ xs) → R a m → ⊥)
+  pub minimum : (x : A) (xs : List A) → (m : A) × ((a : A) → Contains a (x ∷ xs) → R a m → ⊥)
   minimum x [] = (x, λ a h r. ⊎_elim (λ e. self x (subst (λ b. R b x) e r)) (λ k. k) h)
   minimum x (y ∷ ys) = choose (minimum y ys)
     where
-      choose : (m : A) × ((a : A) → Member a (y ∷ ys) → R a m → ⊥) → (m : A) × ((a : A) → Member a (x ∷ y ∷ ys) → R a m → ⊥)
+      choose : (m : A) × ((a : A) → Contains a (y ∷ ys) → R a m → ⊥) → (m : A) × ((a : A) → Contains a (x ∷ y ∷ ys) → R a m → ⊥)
       choose m =
           ⊎_elim
           (λ before. (x, λ a h r. ⊎_elim (λ e. self x (subst (λ b. R b x) e r)) (λ k. m.1 a k (trans a x m.0 r before)) h))
@@ -42,9 +38,9 @@ precedes_by_script greedy enc p t t' m same before = subst (λ l. IsBefore (choi
 precedes_by_script posix enc p t t' m same before =
     let shape = (one_shape enc p t t' [] [] (ap (λ l. l ++ []) same)).0 in
     subst
-      (λ s. (position : List ℕ) × (length_at (whole enc m) (shape_of enc m) position < length_at (suc (size s)) s position)
-          × ((earlier : List ℕ) → IsBefore earlier position → length_at (suc (size s)) s earlier ≡ length_at (whole enc m) (shape_of enc m) earlier))
-      shape before
+    (λ s. (position : List ℕ) × (length_at (whole enc m) (shape_of enc m) position < length_at (suc (size s)) s position)
+    × ((earlier : List ℕ) → IsBefore earlier position → length_at (suc (size s)) s earlier ≡ length_at (whole enc m) (shape_of enc m) earlier))
+    shape before
 
 module _ (enc : Enc) (e : Term) (p : ℕ) (w : List ℕ) where
   abbrev Plain : Type 0
@@ -73,14 +69,10 @@ module _ (enc : Enc) (e : Term) (p : ℕ) (w : List ℕ) where
       (λ r. ⊎_elim (λ before. inl before) (λ after. inr (λ h. not_itself posix a (in_turn posix a b a h after))) r)
       (precedes_total enc a.0 b.0 (sym (count enc p a.0) ∙ ap length (a.1 ∙ sym b.1) ∙ count enc p b.0))
 
-  abbrev Among : Plain → List Plain → Type 0
-  Among a [] = ⊥
-  Among a (x ∷ xs) = (a ≡ x) ⊎ Among a xs
-
   -- trees for the listed scripts
   as_trees :
       (ls : List (List Symbol)) → ((l : List Symbol) → Contains l ls → (t : Tree e) × (script enc p t ≡ l) × (units l ≡ w) × IsPlain l)
-      → (xs : List Plain) × ((l : List Symbol) → Contains l ls → (a : Plain) × Among a xs × (script enc p a.0 ≡ l))
+      → (xs : List Plain) × ((l : List Symbol) → Contains l ls → (a : Plain) × Contains a xs × (script enc p a.0 ≡ l))
   as_trees [] is = ([], λ l h. absurd h)
   as_trees (k ∷ ls) is =
       let r = is k (inl refl) in
@@ -96,15 +88,17 @@ module _ (enc : Enc) (e : Term) (p : ℕ) (w : List ℕ) where
 
       -- the first of all of them, with the one that is known in front
       from_trees :
-          (xs : List Plain) → ((t : Tree e) → units (script enc p t) ≡ w → IsPlain (script enc p t) → (a : Plain) × Among a xs × (script enc p a.0 ≡ script enc p t))
+          (xs : List Plain) → ((t : Tree e) → units (script enc p t) ≡ w → IsPlain (script enc p t) → (a : Plain) × Contains a xs × (script enc p a.0 ≡ script enc p t))
           → (t : Tree e) × IsLeast policy enc p e w t
       from_trees xs complete =
-          let m = minimum Plain (Earlier policy) (not_itself policy) (in_turn policy) (decide policy) one xs in
-          (m.0.0, record {
-            yields = m.0.1;
-            plain = m.0.2;
-            least = λ other u is before. let a = complete other u is in m.1 a.0 (inr a.1) (precedes_by_script policy enc p other a.0.0 m.0.0 (sym a.2) before);
-          })
+          let m = minimum Plain (Earlier policy) (not_itself policy) (in_turn policy) (decide policy) one xs in (
+            m.0.0,
+            record {
+              yields = m.0.1;
+              plain = m.0.2;
+              least = λ other u is before. let a = complete other u is in m.1 a.0 (inr a.1) (precedes_by_script policy enc p other a.0.0 m.0.0 (sym a.2) before);
+            },
+          )
 
       from_scripts : AllOf (λ l. (t : Tree e) × (script enc p t ≡ l) × (units l ≡ w) × IsPlain l) → (t : Tree e) × IsLeast policy enc p e w t
       from_scripts (listed ls is complete) =

@@ -1,6 +1,6 @@
 -- Trees with one script have one shape.
-use Rattle.std.specs.Prelude.{◌≡◌, ℕ, zero, suc, ◌+◌, ◌*◌, List, [], ◌∷◌, ◌++◌, map, length, Option, Bool, true, false, ◌&&◌, nat_lt, nat_le, nat_eq, if◌then◌else◌, refl}
-use Rattle.std.proofs.Common.{sym, ap, ap₂, ◌∙◌, subst, append_assoc}
+use Rattle.std.specs.Prelude.{◌≡◌, ℕ, suc, ◌+◌, ◌*◌, List, [], ◌∷◌, ◌++◌, map, length, Option, Bool, true, false, ◌&&◌, nat_lt, nat_le, nat_eq, if◌then◌else◌, refl}
+use Rattle.std.proofs.Common.{sym, ap, ap₂, ◌∙◌, append_assoc}
 use Rattle.lx_base.specs.declared.settings.Enc.{Enc}
 use Rattle.lx_base.specs.declared.settings.Enc.TheVariants.{Byte, Ucs2, Utf8, Utf16, Utf32}
 use Rattle.lx_base.specs.Spelling.{spell}
@@ -43,14 +43,14 @@ tags_by_place (later {member} c) (later c') e = ap (λ ts. merge_tags (tags_in m
 chosen_rest :
     {members : Terms} → (p : ℕ) (c c' : Choice members) (s s' x y : List Symbol)
     → (begins p ∷ picks (chosen_place c) ∷ (map unsets (tags_beside c) ++ (s ++ ends p ∷ []))) ++ x
-        ≡ (begins p ∷ picks (chosen_place c') ∷ (map unsets (tags_beside c') ++ (s' ++ ends p ∷ []))) ++ y
+    ≡ (begins p ∷ picks (chosen_place c') ∷ (map unsets (tags_beside c') ++ (s' ++ ends p ∷ []))) ++ y
     → (chosen_place c ≡ chosen_place c') × (s ++ ends p ∷ x ≡ s' ++ ends p ∷ y)
 chosen_rest p c c' s s' x y h =
     let place : chosen_place c ≡ chosen_place c' = same_pick _ _ _ _ (same_tail (begins p) _ _ h) in
     let rest = behind_pick _ _ _ _ (same_tail (begins p) _ _ h) in
     let unset : map unsets (tags_beside c') ≡ map unsets (tags_beside c) = ap (λ ts. map unsets ts) (sym (tags_by_place c c' place)) in
     let a = sym (append_assoc (map unsets (tags_beside c)) (s ++ ends p ∷ []) x) ∙ rest ∙ append_assoc (map unsets (tags_beside c')) (s' ++ ends p ∷ []) y
-      ∙ ap (λ l. l ++ ((s' ++ ends p ∷ []) ++ y)) unset in
+    ∙ ap (λ l. l ++ ((s' ++ ends p ∷ []) ++ y)) unset in
     (place, sym (append_assoc s (ends p ∷ []) x) ∙ drop_front (map unsets (tags_beside c)) _ _ a ∙ append_assoc s' (ends p ∷ []) y)
   where
     same_pick : (m n : ℕ) (k l : List Symbol) → picks m ∷ k ≡ picks n ∷ l → m ≡ n
@@ -74,7 +74,7 @@ first_symbol enc p (inside t) = (_, refl)
 stop_or_go :
     (may none_yet enough : Bool) (tags : List ℕ) (p q : ℕ) (x y : List Symbol)
     → ((if may then picks 1 ∷ [] else []) ++ (if none_yet then map unsets tags else [])) ++ ends p ∷ x
-        ≡ (if enough then picks 0 ∷ [] else []) ++ begins q ∷ y
+    ≡ (if enough then picks 0 ∷ [] else []) ++ begins q ∷ y
     → ⊥
 stop_or_go true none_yet true tags p q x y e = cc
 stop_or_go true none_yet false tags p q x y e = cc

@@ -1,8 +1,8 @@
 //! What holds of the definitions. Each law is the contract of a function that does nothing.
-ghost use Rattle.std.specs.Prelude.{◌≡◌, ◌<◌, ◌*◌, ℕ, List, [], Bool, Some, slice_get};
+ghost use Rattle.std.specs.Prelude.{◌≡◌, ◌≢◌, ◌↔◌, ◌++◌, ◌<◌, ◌*◌, ℕ, List, [], Bool, Some, slice_get};
 ghost use Rattle.lx_base.specs.declared.settings.Enc.{Enc};
 ghost use Rattle.lx_regex.specs.Automaton.{automaton};
-ghost use Rattle.lx_regex.specs.Cut.{Cut, Precedes, rule_part};
+ghost use Rattle.lx_regex.specs.Cut.{BeginsMatch, Cut, Precedes, rule_part};
 ghost use Rattle.lx_regex.specs.Kernel.{IsKernel};
 ghost use Rattle.lx_regex.specs.Least.{HasTree, HasPlainTree, IsLeast};
 ghost use Rattle.lx_regex.specs.Match.{IsMatch, Outcome};
@@ -46,10 +46,20 @@ pub fn walks_are_scripts()
         → (tree : Tree e) × (symbols enc walk [] ≡ script enc (rule_part rules place) tree) }
 {}
 
-/// A word has at most one leftmost greedy kernel.
+/// A word for which a rule has a tree begins a match, and so does each front of a word that does.
+pub fn fronts_begin_matches()
+    ensures taken { (enc : Enc) (rules : List Term) (place : ℕ) (e : Term) (word : List ℕ) → slice_get rules place ≡ Some e
+        → HasTree enc (rule_part rules place) e word → BeginsMatch enc rules word }
+    ensures front { (enc : Enc) (rules : List Term) (word more : List ℕ)
+        → BeginsMatch enc rules (word ++ more) → BeginsMatch enc rules word }
+{}
+
+/// A word has at most one leftmost greedy kernel, and it is not empty exactly where the word begins a match.
 pub fn kernel_is_unique()
-    ensures { (enc : Enc) (rules : List Term) (word : List ℕ) (kernel other : List Cut)
+    ensures unique { (enc : Enc) (rules : List Term) (word : List ℕ) (kernel other : List Cut)
         → IsKernel Precedes enc rules word kernel → IsKernel Precedes enc rules word other → kernel ≡ other }
+    ensures begins { (enc : Enc) (rules : List Term) (word : List ℕ) (kernel : List Cut) → IsKernel Precedes enc rules word kernel
+        → BeginsMatch enc rules word ↔ (kernel ≢ []) }
 {}
 
 /// A rule list has at most one match on a stream from a start, under either policy.
