@@ -13,7 +13,9 @@ use Rattle.lx_regex.proofs.Kernels.{part_at}
 
 module _ (enc : Enc) (rules : List Term) where
   -- a word for which a rule has a tree begins a match
-  pub taken_begins : (place : ℕ) (e : Term) (word : List ℕ) → slice_get rules place ≡ Some e → HasTree enc (rule_part rules place) e word → BeginsMatch enc rules word
+  pub taken_begins :
+      (place : ℕ) (e : Term) (word : List ℕ) → slice_get rules place ≡ Some e → HasTree enc (rule_part rules place) e word
+      → BeginsMatch enc rules word
   taken_begins place e [] at has = inl refl
   taken_begins place e (x ∷ word) at has =
       let t = plain_tree enc e (rule_part rules place) (rule_positive rules place) (x ∷ word) has in
@@ -39,12 +41,23 @@ module _ (enc : Enc) (rules : List Term) where
         record {
           reads_word = p.first;
           after_unit = (p.fore, p.unit, refl);
-          possible = (p.mid ++ cut.1.possible.0, (go.0, go.1, go.2, go.3 ∙ ap (λ l. l ++ cut.1.possible.0) p.is ∙ append_assoc (p.fore ++ reads p.unit ∷ []) p.mid cut.1.possible.0, go.4));
+          possible = (
+            p.mid ++ cut.1.possible.0,
+            (
+              go.0,
+              go.1,
+              go.2,
+              go.3 ∙ ap (λ l. l ++ cut.1.possible.0) p.is
+                  ∙ append_assoc (p.fore ++ reads p.unit ∷ []) p.mid cut.1.possible.0,
+              go.4,
+            ),
+          );
         },
       )
 
   -- a word begins a match where its kernel is not empty
-  pub kernel_begins : (word : List ℕ) (kernel : List Cut) → IsKernel Precedes enc rules word kernel → BeginsMatch enc rules word ↔ (kernel ≢ [])
+  pub kernel_begins : (word : List ℕ) (kernel : List Cut) → IsKernel Precedes enc rules word kernel
+      → BeginsMatch enc rules word ↔ (kernel ≢ [])
   kernel_begins [] kernel is = ((λ begun none. some (sym (is.start refl) ∙ none)), (λ h. inl refl))
     where
       start : Cut
@@ -62,8 +75,10 @@ module _ (enc : Enc) (rules : List Term) where
 
       there : BeginsMatch enc rules (x ∷ word) → kernel ≢ []
       there (inl e) none = nonempty e
-      there (inr cut) none = let r = is.every cut.0 nonempty cut.1 in nothing r.0 r.1 (ap (λ l. slice_get l r.0) (sym none) ∙ r.2)
+      there (inr cut) none =
+          let r = is.every cut.0 nonempty cut.1 in nothing r.0 r.1 (ap (λ l. slice_get l r.0) (sym none) ∙ r.2)
 
-      back : (kernel : List Cut) → IsKernel Precedes enc rules (x ∷ word) kernel → kernel ≢ [] → BeginsMatch enc rules (x ∷ word)
+      back : (kernel : List Cut) → IsKernel Precedes enc rules (x ∷ word) kernel → kernel ≢ []
+          → BeginsMatch enc rules (x ∷ word)
       back [] is h = absurd (h refl)
       back (cut ∷ cuts) is h = inr (cut, is.cuts 0 cut nonempty refl)

@@ -25,7 +25,8 @@ Contains x (y ∷ ys) = (x ≡ y) ⊎ Contains x ys
 
 -- finitely many lists: all for which P holds, and no others
 pub data AllOf (P : List Symbol → Type 0) : Type 0 where
-  listed : (ls : List (List Symbol)) → ((l : List Symbol) → Contains l ls → P l) → ((l : List Symbol) → P l → Contains l ls) → AllOf P
+  listed : (ls : List (List Symbol)) → ((l : List Symbol) → Contains l ls → P l) → ((l : List Symbol) → P l → Contains l ls)
+      → AllOf P
 
 none_of : (P : List Symbol → Type 0) → ((l : List Symbol) → P l → ⊥) → AllOf P
 none_of P none = listed [] (λ l h. absurd h) none
@@ -43,7 +44,8 @@ contains_back : (l : List Symbol) (xs ys : List (List Symbol)) → Contains l ys
 contains_back l [] ys h = h
 contains_back l (x ∷ xs) ys h = inr (contains_back l xs ys h)
 
-contains_map : (f : List Symbol → List Symbol) (l : List Symbol) (xs : List (List Symbol)) → Contains l xs → Contains (f l) (map f xs)
+contains_map :
+    (f : List Symbol → List Symbol) (l : List Symbol) (xs : List (List Symbol)) → Contains l xs → Contains (f l) (map f xs)
 contains_map f l [] h = absurd h
 contains_map f l (x ∷ xs) h = ⊎_elim (λ e. inl (ap f e)) (λ k. inr (contains_map f l xs k)) h
 
@@ -61,11 +63,13 @@ all_or P Q R (listed xs is p) (listed ys is' q) from pr qr =
     (λ l h. ⊎_elim (λ k. pr l (is l k)) (λ k. qr l (is' l k)) (contains_cases l xs ys h))
     (λ l r. ⊎_elim (λ h. contains_front l xs ys (p l h)) (λ h. contains_back l xs ys (q l h)) (from l r))
 
-all_as : (P R : List Symbol → Type 0) → AllOf P → ((l : List Symbol) → R l → P l) → ((l : List Symbol) → P l → R l) → AllOf R
+all_as :
+    (P R : List Symbol → Type 0) → AllOf P → ((l : List Symbol) → R l → P l) → ((l : List Symbol) → P l → R l) → AllOf R
 all_as P R (listed xs is p) from pr = listed xs (λ l h. pr l (is l h)) (λ l r. p l (from l r))
 
 -- behind a front
-all_behind : (P : List Symbol → Type 0) (f : List Symbol → List Symbol) → AllOf P → AllOf (λ l'. (l : List Symbol) × P l × (l' ≡ f l))
+all_behind : (P : List Symbol → Type 0) (f : List Symbol → List Symbol) → AllOf P
+    → AllOf (λ l'. (l : List Symbol) × P l × (l' ≡ f l))
 all_behind P f (listed xs is p) =
     listed (map f xs)
     (λ l h. let r = contains_unmap f l xs h in (r.0, is r.0 r.1, r.2))
@@ -266,7 +270,8 @@ module _ (enc : Enc) (g : List State) (z : slice_get g 0 ≡ Some (moves [])) wh
       → Candidate s us seen l → ByMoves s us seen ms l
   from_moves s us seen ms h ne l c = at c.path c.over c.plain c.avoids
     where
-      at : {l : List Symbol} → Path enc g s l → units l ≡ us → IsPlainList l → ((x : ℕ) → Contains x seen → IsUnseen (mark x) l)
+      at : {l : List Symbol} → Path enc g s l → units l ≡ us → IsPlainList l
+          → ((x : ℕ) → Contains x seen → IsUnseen (mark x) l)
           → ByMoves s us seen ms l
       at (ended e) u p a = absurd (ne e)
       at (then_move {l} ms' m h' i q) u p a =

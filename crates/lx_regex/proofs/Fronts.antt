@@ -232,7 +232,9 @@ compare_lists (x ∷ xs) (y ∷ ys) =
     (λ r. inr (inr (⊎_elim (λ lt. inl (inl lt)) (λ gt. inr (inl gt)) r)))
     (cases_order x y)
 
-module _ (enc : Enc) (g : List State) (clear : AllAreClear g) (f f' : ℕ) (v v' : List ℕ) (s : ℕ) (l l' : List Symbol) (a : Front enc g f v s l) (b : Front enc g f' v' s l') (same : units l ≡ units l') where
+module _
+    (enc : Enc) (g : List State) (clear : AllAreClear g) (f f' : ℕ) (v v' : List ℕ) (s : ℕ) (l l' : List Symbol)
+    (a : Front enc g f v s l) (b : Front enc g f' v' s l') (same : units l ≡ units l') where
   -- two fronts over the same units are the same, or their choices differ before either's end
   pub fronts_differ :
       ((l ≡ l') × (f ≡ f')) ⊎ (DiffersBefore (choices l) (choices l') ⊎ DiffersBefore (choices l') (choices l))

@@ -55,40 +55,30 @@ with_empty = inside (iterations 2 (iteration (pair with_x just_y) (iteration (pa
 -- up to the end of the first `x`, and of the first `y`
 abbrev to_x : List Symbol
 to_x =
-    begins 1 ∷ sets 0 ∷ begins 2 ∷ picks 0 ∷ begins 3 ∷ sets 2 ∷ begins 4 ∷ begins 5 ∷ sets 4 ∷ begins 6 ∷ picks 0 ∷ begins 7 ∷ reads 120 ∷ ends 7 ∷ []
+    begins 1 ∷ sets 0 ∷ begins 2 ∷ picks 0 ∷ begins 3 ∷ sets 2 ∷ begins 4 ∷ begins 5 ∷ sets 4 ∷ begins 6 ∷ picks 0
+    ∷ begins 7 ∷ reads 120 ∷ ends 7 ∷ []
 
 abbrev to_y : List Symbol
-to_y = to_x ++ ends 6 ∷ sets 5 ∷ ends 5 ∷ begins 8 ∷ sets 6 ∷ begins 9 ∷ picks 1 ∷ begins 11 ∷ reads 121 ∷ ends 11 ∷ []
+to_y =
+    to_x ++ ends 6 ∷ sets 5 ∷ ends 5 ∷ begins 8 ∷ sets 6 ∷ begins 9 ∷ picks 1 ∷ begins 11 ∷ reads 121 ∷ ends 11 ∷ []
 
 -- from the end of "x"? to its next end without a unit
 abbrev round_x : List Symbol
 round_x =
-    sets 5 ∷ ends 5 ∷ begins 8 ∷ sets 6 ∷ begins 9 ∷ picks 0 ∷ begins 10 ∷ ends 10 ∷ ends 9 ∷ sets 7 ∷ ends 8 ∷ ends 4 ∷ sets 3 ∷ ends 3
-    ∷ picks 0 ∷ begins 3 ∷ sets 2 ∷ begins 4 ∷ begins 5 ∷ sets 4 ∷ begins 6 ∷ picks 1 ∷ []
+    sets 5 ∷ ends 5 ∷ begins 8 ∷ sets 6 ∷ begins 9 ∷ picks 0 ∷ begins 10 ∷ ends 10 ∷ ends 9 ∷ sets 7 ∷ ends 8 ∷ ends 4
+    ∷ sets 3 ∷ ends 3 ∷ picks 0 ∷ begins 3 ∷ sets 2 ∷ begins 4 ∷ begins 5 ∷ sets 4 ∷ begins 6 ∷ picks 1 ∷ []
 
 -- from the end of ""|"y" to its next end without a unit
 abbrev round_y : List Symbol
 round_y =
-    sets 7 ∷ ends 8 ∷ ends 4 ∷ sets 3 ∷ ends 3
-    ∷ picks 0 ∷ begins 3 ∷ sets 2 ∷ begins 4 ∷ begins 5 ∷ sets 4 ∷ begins 6 ∷ picks 1 ∷ ends 6 ∷ sets 5 ∷ ends 5
-    ∷ begins 8 ∷ sets 6 ∷ begins 9 ∷ picks 0 ∷ begins 10 ∷ ends 10 ∷ []
+    sets 7 ∷ ends 8 ∷ ends 4 ∷ sets 3 ∷ ends 3 ∷ picks 0 ∷ begins 3 ∷ sets 2 ∷ begins 4 ∷ begins 5 ∷ sets 4 ∷ begins 6
+    ∷ picks 1 ∷ ends 6 ∷ sets 5 ∷ ends 5 ∷ begins 8 ∷ sets 6 ∷ begins 9 ∷ picks 0 ∷ begins 10 ∷ ends 10 ∷ []
 
 two_not_plain : IsPlain (script Utf8 1 in_two) → ⊥
 two_not_plain plain = plain to_x round_x _ (ends 6) 13 refl refl refl
 
 empty_not_plain : IsPlain (script Utf8 1 with_empty) → ⊥
 empty_not_plain plain = plain to_y round_y _ (ends 9) 19 refl refl refl
-
--- a whole tree that begins with these two trees
-abbrev begun :
-    {count : ℕ} → Tree optional_x → Tree nothing_or_y → Iterations body count → (low : 0 ≤ suc count) → Tree grouped_letters
-begun {count} first second more low = inside (iterations (suc count) (iteration (pair first second) more) low tt)
-
--- no plain tree of `xy` with lesser choices begins so
-abbrev IsNoLesser : {count : ℕ} → Tree optional_x → Tree nothing_or_y → Iterations body count → Type 0
-IsNoLesser {count} first second more =
-    (low : 0 ≤ suc count) → units (script Utf8 1 (begun first second more low)) ≡ 120 ∷ 121 ∷ [] → IsPlain (script Utf8 1 (begun first second more low))
-    → IsBefore (choices (script Utf8 1 (begun first second more low))) (0 ∷ 0 ∷ 1 ∷ 1 ∷ []) → ⊥
 
 letter_is : (number c : ℕ) → IsInRanges ((number, number) ∷ []) c → number ≡ c
 letter_is number c within = ⊎_elim (λ h. let a = h.0 in let b = h.1 in omega arith) (λ h. absurd h) within
@@ -106,59 +96,79 @@ no_second_x rest e =
 no_third : (third : ℕ) (rest : List ℕ) → 120 ∷ 121 ∷ third ∷ rest ≡ 120 ∷ 121 ∷ [] → ⊥
 no_third third rest e = cc
 
--- after `x` and nothing: either the word has ended, or "x"? ends again, or a second `x` is read
-after_nothing :
-    {count : ℕ} (i : IsInRanges ((120, 120) ∷ []) 120) (l : 0 ≤ 1) (m : IsAtMost 1 (Some 1)) (more : Iterations body count)
-    → IsNoLesser (inside (iterations 1 (iteration (point 120 i) stop) l m)) nothing more
-after_nothing i l m stop low u p b = cc
-after_nothing i l m
-    (iteration (inside (row (beside (inside (iterations n stop l' m')) (beside second row_end)))) more) low u p b =
-    p to_x round_x _ (ends 6) 13 refl refl refl
-after_nothing i l m (iteration (inside (row (beside (inside (iterations n (iteration (point c within) rest) l' m')) (beside second row_end)))) more) low u p b =
-    subst (λ y. (j : IsInRanges ((120, 120) ∷ []) y) → units (script Utf8 1 (begun (inside (iterations 1 (iteration (point 120 i) stop) l m)) nothing (iteration (pair (inside (iterations n (iteration (point y j) rest) l' m')) second) more) low)) ≡ 120 ∷ 121 ∷ [] → ⊥)
-    (letter_is 120 c within) (λ j e. no_second_x _ e) within u
+-- a whole tree that begins with these two trees
+abbrev begun : {count : ℕ} → Tree optional_x → Tree nothing_or_y → Iterations body count → (low : 0 ≤ suc count) → Tree grouped_letters
+begun {count} first second more low = inside (iterations (suc count) (iteration (pair first second) more) low tt)
 
--- after `x` and `y`: either the choices are the same, or ""|"y" ends again, or a third letter is read
-after_y :
-    {count : ℕ} (i : IsInRanges ((120, 120) ∷ []) 120) (l : 0 ≤ 1) (m : IsAtMost 1 (Some 1))
-    (j : IsInRanges ((121, 121) ∷ []) 121) (more : Iterations body count)
-    → IsNoLesser
-    (inside (iterations 1 (iteration (point 120 i) stop) l m)) (inside (chosen (later (here (point 121 j))))) more
-after_y i l m j stop low u p b = before_self (0 ∷ 0 ∷ 1 ∷ 1 ∷ []) b
-after_y i l m j (iteration (inside (row (beside (inside (iterations n stop l' m')) (beside (inside (chosen (here blank))) row_end)))) more) low u p b =
-    p to_y round_y _ (ends 9) 19 refl refl refl
-after_y i l m j (iteration (inside (row (beside (inside (iterations n stop l' m')) (beside (inside (chosen (later (here (point c within))))) row_end)))) more) low u p b =
-    subst (λ y. (k : IsInRanges ((121, 121) ∷ []) y) → units (script Utf8 1 (begun (inside (iterations 1 (iteration (point 120 i) stop) l m)) (inside (chosen (later (here (point 121 j))))) (iteration (pair (inside (iterations n stop l' m')) (inside (chosen (later (here (point y k)))))) more) low)) ≡ 120 ∷ 121 ∷ [] → ⊥)
-    (letter_is 121 c within) (λ k e. no_third 121 _ e) within u
-after_y i l m j (iteration (inside (row (beside (inside (iterations n stop l' m')) (beside (inside (chosen (later (later none)))) row_end)))) more) low u p b =
-    elim none [ ]
-after_y i l m j (iteration (inside (row (beside (inside (iterations n (iteration (point c within) rest) l' m')) (beside second row_end)))) more) low u p b =
-    subst (λ y. (k : IsInRanges ((120, 120) ∷ []) y) → units (script Utf8 1 (begun (inside (iterations 1 (iteration (point 120 i) stop) l m)) (inside (chosen (later (here (point 121 j))))) (iteration (pair (inside (iterations n (iteration (point y k) rest) l' m')) second) more) low)) ≡ 120 ∷ 121 ∷ [] → ⊥)
-    (letter_is 120 c within) (λ k e. no_third 120 _ e) within u
+abbrev symbols_of : {count : ℕ} → Tree optional_x → Tree nothing_or_y → Iterations body count → (low : 0 ≤ suc count) → List Symbol
+symbols_of first second more low = script Utf8 1 (begun first second more low)
 
-by_second :
-    {count : ℕ} (i : IsInRanges ((120, 120) ∷ []) 120) (l : 0 ≤ 1) (m : IsAtMost 1 (Some 1)) (second : Tree nothing_or_y)
-    (more : Iterations body count) → IsNoLesser (inside (iterations 1 (iteration (point 120 i) stop) l m)) second more
-by_second i l m (inside (chosen (here blank))) more = after_nothing i l m more
-by_second i l m (inside (chosen (later (here (point c within))))) more =
-    subst
-    (λ y.
-    (j : IsInRanges ((121, 121) ∷ []) y) → IsNoLesser (inside (iterations 1 (iteration (point 120 i) stop) l m)) (inside (chosen (later (here (point y j))))) more)
-    (letter_is 121 c within) (λ j. after_y i l m j more) within
-by_second i l m (inside (chosen (later (later none)))) more = elim none [ ]
+-- no plain tree of `xy` with lesser choices begins so
+abbrev IsNoLesser : {count : ℕ} → Tree optional_x → Tree nothing_or_y → Iterations body count → Type 0
+IsNoLesser {count} first second more =
+    (low : 0 ≤ suc count) → units (symbols_of first second more low) ≡ 120 ∷ 121 ∷ [] → IsPlain (symbols_of first second more low)
+    → IsBefore (choices (symbols_of first second more low)) (0 ∷ 0 ∷ 1 ∷ 1 ∷ []) → ⊥
 
-by_first : {count : ℕ} (first : Tree optional_x) (second : Tree nothing_or_y) (more : Iterations body count)
-    → IsNoLesser first second more
+-- what is true of a letter's own code point is true of each point of its class
+at_letter :
+    (letter : ℕ) (P : (c : ℕ) → IsInRanges ((letter, letter) ∷ []) c → Type 0) → ((i : IsInRanges ((letter, letter) ∷ []) letter) → P letter i)
+    → (c : ℕ) (i : IsInRanges ((letter, letter) ∷ []) c) → P c i
+at_letter letter P own c i = subst (λ n. (j : IsInRanges ((letter, letter) ∷ []) n) → P n j) (letter_is letter c i) own i
+
+-- after the first `x`
+module _ (i : IsInRanges ((120, 120) ∷ []) 120) (l : 0 ≤ 1) (m : IsAtMost 1 (Some 1)) where
+  abbrev one_x : Tree optional_x
+  one_x = inside (iterations 1 (iteration (point 120 i) stop) l m)
+
+  abbrev one_y : IsInRanges ((121, 121) ∷ []) 121 → Tree nothing_or_y
+  one_y j = inside (chosen (later (here (point 121 j))))
+
+  -- after nothing more: "x"? ends again, or a second `x` is read
+  again_x : {count : ℕ} (first : Tree optional_x) (second : Tree nothing_or_y) (more : Iterations body count) → IsNoLesser one_x nothing (iteration (pair first second) more)
+  again_x (inside (iterations n stop l' m')) second more low u p b = p to_x round_x _ (ends 6) 13 refl refl refl
+  again_x (inside (iterations n (iteration (point c within) rest) l' m')) second more low u p b =
+      at_letter 120
+      (λ c i. units (symbols_of one_x nothing (iteration (pair (inside (iterations n (iteration (point c i) rest) l' m')) second) more) low) ≡ 120 ∷ 121 ∷ [] → ⊥)
+      (λ i e. no_second_x _ e) c within u
+
+  after_nothing : {count : ℕ} (more : Iterations body count) → IsNoLesser one_x nothing more
+  after_nothing stop low u p b = cc
+  after_nothing (iteration (inside (row (beside first (beside second row_end)))) more) low u p b = again_x first second more low u p b
+
+  -- after the first `y`: ""|"y" ends again, or a third letter is read
+  again_y :
+      {count : ℕ} (j : IsInRanges ((121, 121) ∷ []) 121) (first : Tree optional_x) (second : Tree nothing_or_y) (more : Iterations body count)
+      → IsNoLesser one_x (one_y j) (iteration (pair first second) more)
+  again_y j (inside (iterations n stop l' m')) (inside (chosen (here blank))) more low u p b = p to_y round_y _ (ends 9) 19 refl refl refl
+  again_y j (inside (iterations n stop l' m')) (inside (chosen (later (here (point c within))))) more low u p b =
+      at_letter 121
+      (λ c i. units (symbols_of one_x (one_y j) (iteration (pair (inside (iterations n stop l' m')) (inside (chosen (later (here (point c i)))))) more) low) ≡ 120 ∷ 121 ∷ [] → ⊥)
+      (λ i e. no_third 121 _ e) c within u
+  again_y j (inside (iterations n stop l' m')) (inside (chosen (later (later none)))) more low u p b = elim none [ ]
+  again_y j (inside (iterations n (iteration (point c within) rest) l' m')) second more low u p b =
+      at_letter 120
+      (λ c i. units (symbols_of one_x (one_y j) (iteration (pair (inside (iterations n (iteration (point c i) rest) l' m')) second) more) low) ≡ 120 ∷ 121 ∷ [] → ⊥)
+      (λ i e. no_third 120 _ e) c within u
+
+  after_y : {count : ℕ} (j : IsInRanges ((121, 121) ∷ []) 121) (more : Iterations body count) → IsNoLesser one_x (one_y j) more
+  after_y j stop low u p b = before_self (0 ∷ 0 ∷ 1 ∷ 1 ∷ []) b
+  after_y j (iteration (inside (row (beside first (beside second row_end)))) more) low u p b = again_y j first second more low u p b
+
+  by_second : {count : ℕ} (second : Tree nothing_or_y) (more : Iterations body count) → IsNoLesser one_x second more
+  by_second (inside (chosen (here blank))) more = after_nothing more
+  by_second (inside (chosen (later (here (point c within))))) more =
+      at_letter 121 (λ c j. IsNoLesser one_x (inside (chosen (later (here (point c j))))) more) (λ j. after_y j more) c within
+  by_second (inside (chosen (later (later none)))) more = elim none [ ]
+
+by_first : {count : ℕ} (first : Tree optional_x) (second : Tree nothing_or_y) (more : Iterations body count) → IsNoLesser first second more
 by_first (inside (iterations n stop l m)) second more low u p b =
     ⊎_elim (λ h. omega arith) (λ h. ⊎_elim (λ k. omega arith) (λ k. let e = k.0 in omega arith) h.1) b
 by_first (inside (iterations n (iteration (point c within) stop) l m)) second more low u p b =
-    subst
-    (λ y.
-    (i : IsInRanges ((120, 120) ∷ []) y) → IsNoLesser (inside (iterations 1 (iteration (point y i) stop) l m)) second more)
-    (letter_is 120 c within) (λ i. by_second i l m second more) within low u p b
+    at_letter 120 (λ c i. IsNoLesser (inside (iterations 1 (iteration (point c i) stop) l m)) second more) (λ i. by_second i l m second more) c within low u p b
 by_first (inside (iterations n (iteration once (iteration twice rest)) l m)) second more low u p b = absurd (omega arith)
 
-least : (other : Tree grouped_letters) → units (script Utf8 1 other) ≡ 120 ∷ 121 ∷ [] → IsPlain (script Utf8 1 other)
+least :
+    (other : Tree grouped_letters) → units (script Utf8 1 other) ≡ 120 ∷ 121 ∷ [] → IsPlain (script Utf8 1 other)
     → IsBefore (choices (script Utf8 1 other)) (0 ∷ 0 ∷ 1 ∷ 1 ∷ []) → ⊥
 least (inside (iterations n stop low high)) u p b = cc
 least (inside (iterations n (iteration (inside (row (beside first (beside second row_end)))) more) low high)) u p b =

@@ -18,12 +18,15 @@ use Rattle.lx_regex.proofs.ShapeOfScript.{one_shape}
 use Rattle.lx_regex.proofs.Candidates.{Contains, AllOf, listed, all_scripts}
 
 -- the first of finitely many, under an order that decides
-module _ (A : Type 0) (R : A → A → Type 0) (self : (a : A) → R a a → ⊥) (trans : (a b c : A) → R a b → R b c → R a c) (decide : (a b : A) → R a b ⊎ (R a b → ⊥)) where
+module _
+    (A : Type 0) (R : A → A → Type 0) (self : (a : A) → R a a → ⊥) (trans : (a b c : A) → R a b → R b c → R a c)
+    (decide : (a b : A) → R a b ⊎ (R a b → ⊥)) where
   pub minimum : (x : A) (xs : List A) → (m : A) × ((a : A) → Contains a (x ∷ xs) → R a m → ⊥)
   minimum x [] = (x, λ a h r. ⊎_elim (λ e. self x (subst (λ b. R b x) e r)) (λ k. k) h)
   minimum x (y ∷ ys) = choose (minimum y ys)
     where
-      choose : (m : A) × ((a : A) → Contains a (y ∷ ys) → R a m → ⊥) → (m : A) × ((a : A) → Contains a (x ∷ y ∷ ys) → R a m → ⊥)
+      choose :
+          (m : A) × ((a : A) → Contains a (y ∷ ys) → R a m → ⊥) → (m : A) × ((a : A) → Contains a (x ∷ y ∷ ys) → R a m → ⊥)
       choose m =
           ⊎_elim
           (λ before. (x, λ a h r. ⊎_elim (λ e. self x (subst (λ b. R b x) e r)) (λ k. m.1 a k (trans a x m.0 r before)) h))
@@ -34,7 +37,8 @@ module _ (A : Type 0) (R : A → A → Type 0) (self : (a : A) → R a a → ⊥
 precedes_by_script :
     (policy : Policy) (enc : Enc) {e : Term} (p : ℕ) (t t' m : Tree e) → script enc p t ≡ script enc p t'
     → TreePrecedes policy enc p t m → TreePrecedes policy enc p t' m
-precedes_by_script greedy enc p t t' m same before = subst (λ l. IsBefore (choices l) (choices (script enc p m))) same before
+precedes_by_script greedy enc p t t' m same before =
+    subst (λ l. IsBefore (choices l) (choices (script enc p m))) same before
 precedes_by_script posix enc p t t' m same before =
     let shape = (one_shape enc p t t' [] [] (ap (λ l. l ++ []) same)).0 in
     subst
@@ -54,7 +58,8 @@ module _ (enc : Enc) (e : Term) (p : ℕ) (w : List ℕ) where
   not_itself posix a before = precedes_self enc a.0 before
 
   in_turn : (policy : Policy) (a b c : Plain) → Earlier policy a b → Earlier policy b c → Earlier policy a c
-  in_turn greedy a b c h k = position_trans (choices (script enc p a.0)) (choices (script enc p b.0)) (choices (script enc p c.0)) h k
+  in_turn greedy a b c h k =
+      position_trans (choices (script enc p a.0)) (choices (script enc p b.0)) (choices (script enc p c.0)) h k
   in_turn posix a b c h k = precedes_trans enc a.0 b.0 c.0 h k
 
   decide : (policy : Policy) (a b : Plain) → Earlier policy a b ⊎ (Earlier policy a b → ⊥)
@@ -96,11 +101,15 @@ module _ (enc : Enc) (e : Term) (p : ℕ) (w : List ℕ) where
             record {
               yields = m.0.1;
               plain = m.0.2;
-              least = λ other u is before. let a = complete other u is in m.1 a.0 (inr a.1) (precedes_by_script policy enc p other a.0.0 m.0.0 (sym a.2) before);
+              least =
+                  λ other u is before. let a =
+                  complete other u is in m.1 a.0
+                  (inr a.1) (precedes_by_script policy enc p other a.0.0 m.0.0 (sym a.2) before);
             },
           )
 
-      from_scripts : AllOf (λ l. (t : Tree e) × (script enc p t ≡ l) × (units l ≡ w) × IsPlain l) → (t : Tree e) × IsLeast policy enc p e w t
+      from_scripts : AllOf (λ l. (t : Tree e) × (script enc p t ≡ l) × (units l ≡ w) × IsPlain l)
+          → (t : Tree e) × IsLeast policy enc p e w t
       from_scripts (listed ls is complete) =
           let r = as_trees ls is in
           from_trees r.0 (λ t u is'. r.1 (script enc p t) (complete (script enc p t) (t, refl, u, is')))

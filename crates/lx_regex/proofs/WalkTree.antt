@@ -171,7 +171,12 @@ module _ (enc : Enc) (g : List State) (f : ℕ) (y : List Symbol) where
     says : l ≡ iterations_script enc p low high begun trees ++ symbols enc walk y
     shorter : steps walk ≤ n
 
-  module _ (p : ℕ) (body : Term) (low : ℕ) (high : Option ℕ) (ih : (q : ℕ) (ms : List Move) → Stands g (2 * q) (table body q ms) → IsOutside f q (parts body) → (w : Walk g f (2 * q)) → Split body q ms (symbols enc w y) (steps w)) (h : Stands g (2 * (p + 1)) (copies_table (λ q ms. table body q ms) p body low high (copies low high) 0)) (out : IsOutside f p (1 + copies low high * parts body)) where
+  module _
+      (p : ℕ) (body : Term) (low : ℕ) (high : Option ℕ)
+      (ih : (q : ℕ) (ms : List Move) → Stands g (2 * q) (table body q ms) → IsOutside f q (parts body) → (w : Walk g f (2 * q))
+      → Split body q ms (symbols enc w y) (steps w))
+      (h : Stands g (2 * (p + 1)) (copies_table (λ q ms. table body q ms) p body low high (copies low high) 0))
+      (out : IsOutside f p (1 + copies low high * parts body)) where
     repeat_stop :
         (n : ℕ) (may : Bool) → may_iterate n high ≡ may → nat_le low n ≡ true → IsAtMost n high → (w : Walk g f (2 * p + 1))
         → RepeatSplit p body low high n

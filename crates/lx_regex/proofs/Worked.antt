@@ -1,8 +1,8 @@
 -- The trees of the worked examples, and what holds of them.
-use Rattle.std.specs.Prelude.{◌≡◌, ℕ, List, [], ◌∷◌, refl}
+use Rattle.std.specs.Prelude.{Some, None, ◌≡◌, ℕ, List, [], ◌∷◌, refl}
 use Rattle.std.proofs.Common.{inl, inr, lit≤, lit<, arith, ⊎_elim}
 use Rattle.lx_base.specs.declared.settings.Enc.TheVariants.{Utf8}
-use Rattle.lx_regex.specs.Term.{Term, cat, alt, tag}
+use Rattle.lx_regex.specs.Term.{Term, class, cat, alt, repeat, tag}
 use Rattle.lx_regex.specs.Tree.{Tree, point, row, chosen, iterations, event, row_end, beside, here, later, stop, iteration}
 use Rattle.lx_regex.specs.Dictionary.{IsBefore}
 use Rattle.lx_regex.specs.Posix.{length_at, shape_of, whole}
@@ -51,9 +51,12 @@ histories = record { xyx_units = refl; xyx_value = refl }
 abbrev just_b : Tree (letter 98)
 just_b = point 98 (inl (lit≤ tt, lit≤ tt))
 
+abbrev three_b : Tree (repeat (letter 98) 1 None)
+three_b = iterations 3 (iteration just_b (iteration just_b (iteration just_b stop))) (lit≤ tt) tt
+
 abbrev pub context_abbb : Tree letter_in_context
 context_abbb =
-    row (beside (point 97 (inl (lit≤ tt, lit≤ tt))) (beside event (beside (iterations 3 (iteration just_b (iteration just_b (iteration just_b stop))) (lit≤ tt) tt) row_end)))
+    row (beside (point 97 (inl (lit≤ tt, lit≤ tt))) (beside event (beside three_b row_end)))
 
 pub contexts : ContextsPutTheCursorBack context_abbb
 contexts = record { abbb_units = refl; cursor = refl; without_context = refl }
@@ -62,9 +65,11 @@ abbrev pub pair_tree : Tree one_or_two_points
 pair_tree =
     row (beside (point 0x10000 (inl (lit≤ tt, lit≤ tt))) (beside event (beside (iterations 0 stop (lit≤ tt) (lit≤ tt)) row_end)))
 
+abbrev second_surrogate : Tree (repeat (class ((1, 0x10FFFF) ∷ [])) 0 (Some 1))
+second_surrogate = iterations 1 (iteration (point 0xDC00 (inl (lit≤ tt, lit≤ tt))) stop) (lit≤ tt) (lit≤ tt)
+
 abbrev pub surrogates_tree : Tree one_or_two_points
-surrogates_tree =
-    row (beside (point 0xD800 (inl (lit≤ tt, lit≤ tt))) (beside event (beside (iterations 1 (iteration (point 0xDC00 (inl (lit≤ tt, lit≤ tt))) stop) (lit≤ tt) (lit≤ tt)) row_end)))
+surrogates_tree = row (beside (point 0xD800 (inl (lit≤ tt, lit≤ tt))) (beside event (beside second_surrogate row_end)))
 
 pub pairs : PairsComeBeforeSurrogates pair_tree surrogates_tree
 pairs = record {

@@ -126,7 +126,8 @@ at_most_two zero word takes =
     omega arith
 at_most_two (suc zero) word takes =
     let e =
-    ap length (ab_word _ word (taken short_and_long 1 word (plain_rule 2 Plain (cat (two (letter 97) (letter 98)))) refl takes)) in
+    ap length
+    (ab_word _ word (taken short_and_long 1 word (plain_rule 2 Plain (cat (two (letter 97) (letter 98)))) refl takes)) in
     omega arith
 at_most_two (suc (suc place)) word takes = let none : None ≡ Some takes.0 = takes.1 in cc
 
