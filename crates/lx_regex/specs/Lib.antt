@@ -7,6 +7,7 @@ pub mod Kernel
 pub mod Least
 pub mod Match
 pub mod Order
+pub mod Parts
 pub mod Pattern
 pub mod Plain
 pub mod Posix

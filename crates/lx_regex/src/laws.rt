@@ -1,5 +1,5 @@
 //! What holds of the definitions. Each law is the contract of a function that does nothing.
-ghost use Rattle.std.specs.Prelude.{◌≡◌, ◌≢◌, ◌↔◌, ◌++◌, ◌<◌, ◌*◌, ℕ, List, [], Bool, Some, slice_get};
+ghost use Rattle.std.specs.Prelude.{◌≡◌, ◌≢◌, ◌↔◌, ◌++◌, ◌<◌, ◌*◌, ℕ, List, [], length, Bool, Some, slice_get};
 ghost use Rattle.lx_base.specs.declared.settings.Enc.{Enc};
 ghost use Rattle.lx_regex.specs.Automaton.{automaton};
 ghost use Rattle.lx_regex.specs.Cut.{BeginsMatch, Cut, Precedes, rule_part};
@@ -7,12 +7,18 @@ ghost use Rattle.lx_regex.specs.Kernel.{IsKernel};
 ghost use Rattle.lx_regex.specs.Least.{HasTree, HasPlainTree, IsLeast};
 ghost use Rattle.lx_regex.specs.Match.{IsMatch, Outcome};
 ghost use Rattle.lx_regex.specs.Order.{Policy};
+ghost use Rattle.lx_regex.specs.Parts.{parts_in};
 ghost use Rattle.lx_regex.specs.Pattern.{Pattern};
 ghost use Rattle.lx_regex.specs.Script.{script};
-ghost use Rattle.lx_regex.specs.Term.{Term};
+ghost use Rattle.lx_regex.specs.Term.{Term, parts};
 ghost use Rattle.lx_regex.specs.Tree.{Tree};
 ghost use Rattle.lx_regex.specs.Values.{value_of};
 ghost use Rattle.lx_regex.specs.Walk.{Walk, symbols};
+
+/// A term has as many parts in preorder as are counted.
+pub fn parts_are_counted()
+    ensures { (rule up child part : ℕ) (e : Term) → length (parts_in rule up child part e) ≡ parts e }
+{}
 
 /// A term that has a tree for a word has a plain one.
 pub fn plain_tree_exists()
