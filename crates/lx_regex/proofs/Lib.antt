@@ -12,6 +12,7 @@ pub mod LeastTree
 pub mod NoUnits
 pub mod OneMatch
 pub mod PartCount
+pub mod PartStates
 pub mod PlainTest
 pub mod PlainWalk
 pub mod PosixAhead
