@@ -20,7 +20,8 @@ use Rattle.lx_regex.proofs.Rows.{mark_begins, mark_ends, stands_front, Stands}
 use Rattle.lx_regex.proofs.TreeWalk.{member_back}
 use Rattle.lx_regex.proofs.WholeWalk.{stands_all, walk_of, tree_of}
 
-rule_at : (states : List State) (rules : List Term) (c r : ℕ) (e : Term) → Stands states (2 * (c + 1)) (rules_table rules (c + 1))
+rule_at :
+    (states : List State) (rules : List Term) (c r : ℕ) (e : Term) → Stands states (2 * (c + 1)) (rules_table rules (c + 1))
     → slice_get rules r ≡ Some e → Stands states (2 * (c + rule_part rules r)) (table e (c + rule_part rules r) final)
 rule_at states [] c r e h k = cc
 rule_at states (x ∷ rules) c zero e h k =
@@ -111,7 +112,8 @@ code_even enc [] s r h k c = cc
 code_even enc (x ∷ []) s r h k c = absurd h
 code_even enc (x ∷ moves ms ∷ states) zero r h k c = (0, refl)
 code_even enc (x ∷ moves ms ∷ states) (suc zero) r h k c = absurd (code_row enc c ms (cc))
-code_even enc (x ∷ moves ms ∷ states) (suc (suc s)) r h k c = let z = code_even enc states s r h k c in (suc z.0, omega (arith, z.1))
+code_even enc (x ∷ moves ms ∷ states) (suc (suc s)) r h k c =
+    let z = code_even enc states s r h k c in (suc z.0, omega (arith, z.1))
 code_even enc (x ∷ leaf ranges ∷ states) s r h k c = absurd h
 code_even enc (x ∷ unit_leaf ∷ states) s r h k c = absurd h
 
@@ -148,7 +150,8 @@ pub front_part :
     (enc : Enc) (states : List State) → ArePaired states → (f : ℕ) (v : List ℕ) {s : ℕ} {l : List Symbol} → Front enc states f v s l
     → (q : ℕ) → f ≡ 2 * last_part q l
 front_part enc states h f v (by_move {s} {l} ms m k i a) q =
-    front_part enc states h f v a (last_part q (mark s ∷ label m)) ∙ ap (λ n. 2 * n) (sym (last_append q (mark s ∷ label m) l))
+    front_part enc states h f v a (last_part q (mark s ∷ label m))
+    ∙ ap (λ n. 2 * n) (sym (last_append q (mark s ∷ label m) l))
 front_part enc states h f v (by_code {s} {l} r d us k c a) q =
     front_part enc states h f v a (last_part (last_part q (mark s ∷ d)) (map reads us))
     ∙ ap

@@ -134,7 +134,8 @@ module _ (enc : Enc) (states : List State) (end : ℕ) where
             at = s;
             left = b.1;
             front =
-                subst (λ k. Front enc states s b.1 s k) same (within_at s r d b.0 u b.1 h (subst (λ k. Code enc r d k) b.2 c));
+                subst
+                (λ k. Front enc states s b.1 s k) same (within_at s r d b.0 u b.1 h (subst (λ k. Code enc r d k) b.2 c));
             walk = w;
             goes = b.4;
           }

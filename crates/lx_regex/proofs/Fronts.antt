@@ -16,7 +16,8 @@ pub data Front (enc : Enc) (states : List State) (f : ℕ) (v : List ℕ) : ℕ 
   by_move : {s : ℕ} {l : List Symbol} → (ms : List Move) (m : Move) → slice_get states s ≡ Some (moves ms) → IsAmong m ms
       → Front enc states f v (target m) l → Front enc states f v s (mark s ∷ (label m ++ l))
   by_code :
-      {s : ℕ} {l : List Symbol} → (r : State) (d : List Symbol) (us : List ℕ) → slice_get states s ≡ Some r → Code enc r d us
+      {s : ℕ} {l : List Symbol} →
+      (r : State) (d : List Symbol) (us : List ℕ) → slice_get states s ≡ Some r → Code enc r d us
       → Front enc states f v (s + 1) l → Front enc states f v s (mark s ∷ (d ++ (map reads us ++ l)))
   within : {s : ℕ} → s ≡ f → (r : State) (d : List Symbol) (u : ℕ) (us : List ℕ) → slice_get states s ≡ Some r
       → Code enc r d (u ∷ (us ++ v)) → Front enc states f v s (mark s ∷ (d ++ map reads (u ∷ us)))
@@ -89,7 +90,8 @@ drop_picks (Some d) x w e = cc
 module _ (enc : Enc) (states : List State) where
   -- a front has a unit
   front_some :
-      (f : ℕ) (v : List ℕ) {s : ℕ} {l : List Symbol} → Front enc states f v s l → (u : ℕ) × (us : List ℕ) × (units l ≡ u ∷ us)
+      (f : ℕ) (v : List ℕ) {s : ℕ} {l : List Symbol} → Front enc states f v s l → (u : ℕ) × (us : List ℕ)
+      × (units l ≡ u ∷ us)
   front_some f v (by_move {s} {l} ms m h i a) =
       let r = front_some f v a in (r.0, r.1, units_mark s (label m ++ l) ∙ units_label m l ∙ r.2)
   front_some f v (by_code {s} {l} r d us h c a) =
@@ -124,7 +126,8 @@ module _ (enc : Enc) (states : List State) where
 
   -- fronts over the same units, of which the choices of one begin those of the other, are the same, and stand in one leaf
   pub front_same :
-      AllAreClear states → (f f' : ℕ) (v v' : List ℕ) {s : ℕ} {l l' : List Symbol} → Front enc states f v s l → Front enc states f' v' s l'
+      AllAreClear states →
+      (f f' : ℕ) (v v' : List ℕ) {s : ℕ} {l l' : List Symbol} → Front enc states f v s l → Front enc states f' v' s l'
       → units l ≡ units l' → (rest : List ℕ) → choices l' ≡ choices l ++ rest → (l ≡ l') × (f ≡ f')
   front_same clear f f' v v' (by_move {s} {l} ms m h i a) (by_move {l = l'} ms' m' h' i' b) u rest c =
       let k : ms' ≡ ms = cc in

@@ -1,4 +1,4 @@
--- A term has as many parts in its list as are counted, and a rule's own part stands at its number.
+-- A term has as many parts in its list as are counted.
 use Rattle.std.specs.Prelude.{◌≡◌, ℕ, zero, suc, ◌+◌, ◌*◌, List, length, refl}
 use Rattle.std.proofs.Common.{arith, length-append}
 use Rattle.lx_regex.specs.Term.{Term, empty, class, any_unit, cat, alt, repeat, tag, group, Terms, nil, cons, copies, parts, parts_of_all}
@@ -23,7 +23,8 @@ mutual
   part_count rule up child part (tag number) = refl
   part_count rule up child part (group opening closing body) = omega (arith, part_count rule part 0 (part + 1) body)
 
-  among_count : (rule up child part : ℕ) (members : Terms) → length (parts_among rule up child part members) ≡ parts_of_all members
+  among_count :
+      (rule up child part : ℕ) (members : Terms) → length (parts_among rule up child part members) ≡ parts_of_all members
   among_count rule up child part nil = refl
   among_count rule up child part (cons member members) =
       omega (arith, length-append (parts_in rule up child part member) (parts_among rule up (suc child) (part + parts member) members), part_count rule up child part member, among_count rule up (suc child) (part + parts member) members)

@@ -31,40 +31,60 @@ copies_fit e p low high body rows (suc left) number c q each =
     (copies_fit e p low high body rows left (suc number) (suc c) (q + parts e) each)
 
 mutual
-  table_fits : (e : Term) (rule up child q p : ℕ) (exits : List Move) → AllFit (parts_in rule up child q e) (table e p exits)
+  table_fits :
+      (e : Term) (rule up child q p : ℕ) (exits : List Move) → AllFit (parts_in rule up child q e) (table e p exits)
   table_fits empty rule up child q p exits = (tt, tt)
   table_fits (class ranges) rule up child q p exits = (refl, tt)
   table_fits any_unit rule up child q p exits = (tt, tt)
   table_fits (cat members) rule up child q p exits = (tt, members_fit members rule q 0 (q + 1) (p + 1) (2 * p + 1))
   table_fits (alt members) rule up child q p exits = (tt, alternatives_fit members rule q 0 (q + 1) (p + 1) (2 * p + 1))
-  table_fits (repeat body low high) rule up child q p exits =
-      (tt, copies_fit body p low high (λ number copy. parts_in rule q number copy body) (λ copy ways. table body copy ways) (copies low high) 0 0 (q + 1) (λ number copy at ways. table_fits body rule q number copy at ways))
+  table_fits (repeat body low high) rule up child q p exits = (
+    tt,
+    copies_fit body p low high
+        (λ number copy. parts_in rule q number copy body) (λ copy ways. table body copy ways) (copies low high) 0 0
+        (q + 1) (λ number copy at ways. table_fits body rule q number copy at ways),
+  )
   table_fits (tag number) rule up child q p exits = (tt, tt)
   table_fits (group opening closing body) rule up child q p exits = (tt, table_fits body rule q 0 (q + 1) (p + 1) _)
 
-  members_fit : (members : Terms) (rule up child q p last : ℕ) → AllFit (parts_among rule up child q members) (members_table members p last)
+  members_fit : (members : Terms) (rule up child q p last : ℕ)
+      → AllFit (parts_among rule up child q members) (members_table members p last)
   members_fit nil rule up child q p last = tt
   members_fit (cons e members) rule up child q p last =
-      fit_append (parts_in rule up child q e) _ (table e p _) _ (table_fits e rule up child q p _) (members_fit members rule up (suc child) (q + parts e) (p + parts e) last)
+      fit_append
+      (parts_in rule up child q e) _ (table e p _) _ (table_fits e rule up child q p _)
+      (members_fit members rule up (suc child) (q + parts e) (p + parts e) last)
 
-  alternatives_fit : (members : Terms) (rule up child q p last : ℕ) → AllFit (parts_among rule up child q members) (alternatives_table members p last)
+  alternatives_fit : (members : Terms) (rule up child q p last : ℕ)
+      → AllFit (parts_among rule up child q members) (alternatives_table members p last)
   alternatives_fit nil rule up child q p last = tt
   alternatives_fit (cons e members) rule up child q p last =
-      fit_append (parts_in rule up child q e) _ (table e p _) _ (table_fits e rule up child q p _) (alternatives_fit members rule up (suc child) (q + parts e) (p + parts e) last)
+      fit_append
+      (parts_in rule up child q e) _ (table e p _) _ (table_fits e rule up child q p _)
+      (alternatives_fit members rule up (suc child) (q + parts e) (p + parts e) last)
 
-rules_fit : (patterns : List Pattern) (child q p : ℕ) → AllFit (parts_of_rules child q patterns) (rules_table (terms_of patterns) p)
+rules_fit :
+    (patterns : List Pattern) (child q p : ℕ) → AllFit (parts_of_rules child q patterns) (rules_table (terms_of patterns) p)
 rules_fit [] child q p = tt
-rules_fit (pattern ∷ patterns) child q p = by_kind (is_end pattern.kind) (rules_fit patterns (suc child) q p) (rules_fit patterns (suc child) (q + parts pattern.term) (p + parts pattern.term))
+rules_fit (pattern ∷ patterns) child q p =
+    by_kind
+    (is_end pattern.kind) (rules_fit patterns (suc child) q p)
+    (rules_fit patterns (suc child) (q + parts pattern.term) (p + parts pattern.term))
   where
     by_kind :
         (b : Bool) → AllFit (parts_of_rules (suc child) q patterns) (rules_table (terms_of patterns) p)
-        → AllFit (parts_of_rules (suc child) (q + parts pattern.term) patterns) (rules_table (terms_of patterns) (p + parts pattern.term))
+        → AllFit
+        (parts_of_rules (suc child) (q + parts pattern.term) patterns)
+        (rules_table (terms_of patterns) (p + parts pattern.term))
         → AllFit
         (if b then parts_of_rules (suc child) q patterns
         else parts_in pattern.number 0 child q pattern.term ++ parts_of_rules (suc child) (q + parts pattern.term) patterns)
         (rules_table (map (λ (x : Pattern). x.term) (if b then with_terms patterns else pattern ∷ with_terms patterns)) p)
     by_kind true without others = without
-    by_kind false without others = fit_append (parts_in pattern.number 0 child q pattern.term) _ (table pattern.term p final) _ (table_fits pattern.term pattern.number 0 child q p final) others
+    by_kind false without others =
+        fit_append
+        (parts_in pattern.number 0 child q pattern.term) _ (table pattern.term p final) _
+        (table_fits pattern.term pattern.number 0 child q p final) others
 
 pub list_fits : (patterns : List Pattern) → AllFit (parts_of patterns) (automaton (terms_of patterns))
 list_fits patterns = (tt, rules_fit patterns 0 1 1)

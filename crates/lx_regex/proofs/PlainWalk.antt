@@ -220,7 +220,8 @@ module _ (enc : Enc) (states : List State) (last_state : ℕ) where
   found_at : (s s' : ℕ) (us : List ℕ) → s ≡ s' → Found s' us → Found s us
   found_at s s' us e r = subst (λ n. Found n us) (sym e) r
 
-  seek : (s : ℕ) → {s' : ℕ} → (w : Walk states last_state s') → IsPlainWalk w → IsFresh s w ⊎ Found s (units (symbols enc w []))
+  seek : (s : ℕ) → {s' : ℕ} → (w : Walk states last_state s') → IsPlainWalk w
+      → IsFresh s w ⊎ Found s (units (symbols enc w []))
   seek s stay p = inl tt
   seek s (moved {state = s'} ms m h i w) p =
       ⊎_elim

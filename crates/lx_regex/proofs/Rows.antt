@@ -20,7 +20,8 @@ pub stands_front : (states : List State) (s : ℕ) (a b : List State) → Stands
 stands_front states s [] b h = tt
 stands_front states s (r ∷ a) b h = (h.0, stands_front states (s + 1) a b h.1)
 
-pub stands_back : (states : List State) (s s' : ℕ) (a b : List State) → s + length a ≡ s' → Stands states s (a ++ b) → Stands states s' b
+pub stands_back :
+    (states : List State) (s s' : ℕ) (a b : List State) → s + length a ≡ s' → Stands states s (a ++ b) → Stands states s' b
 stands_back states s s' [] b e h = let e' : s ≡ s' = omega arith in stands_at states s s' b e' h
 stands_back states s s' (r ∷ a) b e h =
     let e' : s + 1 + length a ≡ s' = omega arith in
@@ -140,14 +141,16 @@ copies_more low (Some high) n may = let lt : n < high = ltb-true n high may in o
 copies_more low None n may = omega arith
 
 -- the copy to which iteration n belongs
-pub copy_stands : (states : List State) (p : ℕ) (body : Term) (low : ℕ) (high : Option ℕ) (n : ℕ) → may_iterate n high ≡ true
+pub copy_stands :
+    (states : List State) (p : ℕ) (body : Term) (low : ℕ) (high : Option ℕ) (n : ℕ) → may_iterate n high ≡ true
     → Stands states (2 * (p + 1)) (copies_table (λ q ms. table body q ms) p body low high (copies low high) 0)
     → Stands states
     (2 * copy_part p body low high n) (table body (copy_part p body low high n) (moves_after p body low high (suc n)))
 copy_stands states p body low high n may h =
     let k = min n (copies low high - 1) in
     let e : 2 * (p + 1) ≡ 2 * (p + 1 + 0 * parts body) = omega arith in
-    let a = copy_at states p body low high (copies low high) 0 k (copies_more low high n may) (stands_at states _ _ _ e h) in
+    let a =
+    copy_at states p body low high (copies low high) 0 k (copies_more low high n may) (stands_at states _ _ _ e h) in
     let z : 0 + k ≡ k = omega arith in
     let b =
     subst (λ j. Stands states (2 * (p + 1 + j * parts body)) (table body (p + 1 + j * parts body) (moves_after p body low high (suc j)))) z a in

@@ -23,7 +23,8 @@ pub data Path (enc : Enc) (states : List State) : ℕ → List Symbol → Type 0
   then_move : {s : ℕ} {l : List Symbol} → (ms : List Move) (m : Move) → slice_get states s ≡ Some (moves ms) → IsAmong m ms
       → Path enc states (target m) l → Path enc states s (mark s ∷ (label m ++ l))
   then_code :
-      {s : ℕ} {l : List Symbol} → (r : State) (d : List Symbol) (us : List ℕ) → slice_get states s ≡ Some r → Code enc r d us
+      {s : ℕ} {l : List Symbol} →
+      (r : State) (d : List Symbol) (us : List ℕ) → slice_get states s ≡ Some r → Code enc r d us
       → Path enc states (s + 1) l → Path enc states s (mark s ∷ (d ++ (map reads us ++ l)))
 
 pub path_of : (enc : Enc) (states : List State) {s : ℕ} → (w : Walk states 0 s) → Path enc states s (symbols enc w [])
@@ -40,7 +41,8 @@ code_step enc states (of_point {ranges} c i) h w = (at_point ranges c h i w, ref
 code_step enc states (of_unit u) h w = (at_unit u h w, refl)
 
 pub walk_from :
-    (enc : Enc) (states : List State) {s : ℕ} {l : List Symbol} → Path enc states s l → (w : Walk states 0 s) × (symbols enc w [] ≡ l)
+    (enc : Enc) (states : List State) {s : ℕ} {l : List Symbol} → Path enc states s l → (w : Walk states 0 s)
+    × (symbols enc w [] ≡ l)
 walk_from enc states (ended e) = subst (λ n. (w : Walk states 0 n) × (symbols enc w [] ≡ [])) (sym e) (stay, refl)
 walk_from enc states (then_move {s} ms m h i a) =
     let r = walk_from enc states a in (moved ms m h i r.0, ap (λ k. mark s ∷ (label m ++ k)) r.1)
@@ -49,7 +51,8 @@ walk_from enc states (then_code {s} r d us h c a) =
     let x = code_step enc states c h q.0 in
     (x.0, x.1 ∙ ap (λ k. mark s ∷ (d ++ (map reads us ++ k))) q.1)
 
-pub zero_is : (states : List State) (s : ℕ) → slice_get states 0 ≡ Some (moves []) → s ≡ 0 → slice_get states s ≡ Some (moves [])
+pub zero_is :
+    (states : List State) (s : ℕ) → slice_get states 0 ≡ Some (moves []) → s ≡ 0 → slice_get states s ≡ Some (moves [])
 zero_is states s z e = ap (λ n. slice_get states n) e ∙ z
 
 pub in_none : {m : Move} (ms : List Move) → ms ≡ [] → IsAmong m ms → ⊥
@@ -60,7 +63,8 @@ in_none {m} ms e i = none (subst (λ k. IsAmong m k) e i)
 
 pub path_same :
     (enc : Enc) (states : List State) → AllAreClear states → slice_get states 0 ≡ Some (moves []) → {s : ℕ} {l l' : List Symbol}
-    → Path enc states s l → Path enc states s l' → units l ≡ units l' → (rest : List ℕ) → choices l' ≡ choices l ++ rest → l ≡ l'
+    → Path enc states s l → Path enc states s l' → units l ≡ units l' →
+    (rest : List ℕ) → choices l' ≡ choices l ++ rest → l ≡ l'
 path_same enc states clear z (ended h) (ended h') u rest c = refl
 path_same enc states clear z (ended {s} h) (then_move ms m h' i b) u rest c =
     let k = zero_is states s z h in absurd (in_none ms (cc) i)
@@ -83,8 +87,10 @@ path_same enc states clear z (then_move {s} {l} ms m h i a) (then_move {l = l'} 
     ap₂
     (λ n k. mark s ∷ (label n ++ k)) e
     (path_same enc states clear z a (subst (λ n. Path enc states (target n) l') (sym e) b) u1 rest c1)
-path_same enc states clear z (then_move {s} ms m h i a) (then_code r d us h' k b) u rest c = absurd (no_rows enc states s ms r h h' k)
-path_same enc states clear z (then_code {s} r d us h' k a) (then_move ms m h i b) u rest c = absurd (no_rows enc states s ms r h h' k)
+path_same enc states clear z (then_move {s} ms m h i a) (then_code r d us h' k b) u rest c =
+    absurd (no_rows enc states s ms r h h' k)
+path_same enc states clear z (then_code {s} r d us h' k a) (then_move ms m h i b) u rest c =
+    absurd (no_rows enc states s ms r h h' k)
 path_same enc states clear z (then_code {s} {l} r d us h k a) (then_code {l = l'} r' d' us' h' k' b) u rest c =
     let e : r' ≡ r = cc in
     let k'' : Code enc r d' us' = subst (λ n. Code enc n d' us') e k' in
@@ -111,7 +117,8 @@ scripts_differ enc e p lt t t' same =
     ⊎_elim
     (λ r. inl (path_same enc states (alone_clear e p) (alone_zero e p lt) v w same r.0 r.1))
     (λ r.
-    ⊎_elim (λ r. inl (sym (path_same enc states (alone_clear e p) (alone_zero e p lt) w v (sym same) r.0 r.1))) (λ d. inr d) r)
+    ⊎_elim
+    (λ r. inl (sym (path_same enc states (alone_clear e p) (alone_zero e p lt) w v (sym same) r.0 r.1))) (λ d. inr d) r)
     (compare_lists (choices (script enc p t)) (choices (script enc p t')))
 
 pub differs_is_before : (xs ys : List ℕ) → DiffersBefore xs ys → IsBefore xs ys

@@ -88,7 +88,8 @@ module _ (enc : Enc) (states : List State) (last_state : ℕ) (tail : List Symbo
   tells s l l' e t = record { walk = t.walk; says = t.says ∙ e }
 
   -- out of a part by one of its exits
-  pub leave : (e : Term) (p : ℕ) (exits : List Move) (l : List Symbol) → Stands states (2 * p) (table e p exits) → Enters exits l
+  pub leave :
+      (e : Term) (p : ℕ) (exits : List Move) (l : List Symbol) → Stands states (2 * p) (table e p exits) → Enters exits l
       → Tells (2 * p + 1) (ends p ∷ l)
   leave e p exits l h r = record {
     walk = moved exits r.by (exit_row states e p exits h) r.among r.walk;
@@ -110,7 +111,8 @@ module _ (enc : Enc) (states : List State) (last_state : ℕ) (tail : List Symbo
 
   mutual
     pub tree_walk :
-        {e : Term} → (t : Tree e) → (p : ℕ) (exits : List Move) → Stands states (2 * p) (table e p exits) → (z : List Symbol)
+        {e : Term} →
+        (t : Tree e) → (p : ℕ) (exits : List Move) → Stands states (2 * p) (table e p exits) → (z : List Symbol)
         → Tells (2 * p + 1) (ends p ∷ z) → Tells (2 * p) (script enc p t ++ z)
     tree_walk blank p exits h z v = enter p _ _ h.0 (by_only (move None [] [] (2 * p + 1)) _ _ refl v)
     tree_walk (point {ranges} c i) p exits h z v = record {
@@ -154,7 +156,8 @@ module _ (enc : Enc) (states : List State) (last_state : ℕ) (tail : List Symbo
         (ap (λ k. begins p ∷ sets opening ∷ k) (sym (append_assoc (script enc (p + 1) t) (sets closing ∷ ends p ∷ []) z)))
         (enter p _ _ h.0 (by_only (move None (opening ∷ []) [] (2 * (p + 1))) _ _ refl r))
 
-    pub row_walk : {members : Terms} → (ts : Row members) → (q last : ℕ) → Stands states (2 * q) (members_table members q last)
+    pub row_walk :
+        {members : Terms} → (ts : Row members) → (q last : ℕ) → Stands states (2 * q) (members_table members q last)
         → (z : List Symbol) → Tells last z → Tells (next_member q members last) (row_script enc q ts ++ z)
     row_walk row_end q last h z v = v
     row_walk (beside {member = e} {members} t ts) q last h z v =
@@ -182,7 +185,8 @@ module _ (enc : Enc) (states : List State) (last_state : ℕ) (tail : List Symbo
         }
     choice_walk (later {member = e} {members} c) i q last join h z v =
         let r =
-        choice_walk c (suc i) (q + parts e) last (λ ts. join (merge_tags (tags_in e) ts)) (member_back states q e _ _ h) z v in
+        choice_walk c
+        (suc i) (q + parts e) last (λ ts. join (merge_tags (tags_in e) ts)) (member_back states q e _ _ h) z v in
         let n : suc i + chosen_place c ≡ i + suc (chosen_place c) = omega arith in
         record {
           by = r.by;
@@ -194,7 +198,8 @@ module _ (enc : Enc) (states : List State) (last_state : ℕ) (tail : List Symbo
         }
 
     pub iterations_walk : {body : Term} {m : ℕ} → (ts : Iterations body m) → (p low : ℕ) (high : Option ℕ) (n : ℕ)
-        → Stands states (2 * (p + 1)) (copies_table (λ q ms. table body q ms) p body low high (copies low high) 0) → low ≤ n + m
+        → Stands states
+        (2 * (p + 1)) (copies_table (λ q ms. table body q ms) p body low high (copies low high) 0) → low ≤ n + m
         → IsAtMost (n + m) high → (z : List Symbol) → Tells (2 * p + 1) z
         → Enters (moves_after p body low high n) (iterations_script enc p low high n ts ++ z)
     iterations_walk (stop {body}) p low high n h l most z v =

@@ -31,7 +31,8 @@ none_first None = tt
 none_first (Some high) = omega arith
 
 copy_outside : (last_state p : ℕ) (body : Term) (low : ℕ) (high : Option ℕ) (n : ℕ) → may_iterate n high ≡ true
-    → IsOutside last_state p (1 + copies low high * parts body) → IsOutside last_state (copy_part p body low high n) (parts body)
+    → IsOutside last_state p
+    (1 + copies low high * parts body) → IsOutside last_state (copy_part p body low high n) (parts body)
 copy_outside last_state p body low high n may out a b =
     let h = copy_within p body low high n may in
     out (omega arith) (omega arith)
@@ -61,7 +62,8 @@ module _ (enc : Enc) (states : List State) (last_state : ℕ) (tail : List Symbo
     pub shorter : steps walk < n
 
   -- the first step, by the row
-  leave_moves : {s : ℕ} → (w : Walk states last_state s) → (ms : List Move) → slice_get states s ≡ Some (moves ms) → (s ≡ last_state → ⊥)
+  leave_moves : {s : ℕ} → (w : Walk states last_state s) → (ms : List Move) → slice_get states s ≡ Some (moves ms)
+      → (s ≡ last_state → ⊥)
       → Leaves (mark s ∷ []) ms (symbols enc w tail) (steps w)
   leave_moves stay ms h out = absurd (out refl)
   leave_moves (moved ms' m h' i w) ms h out =
@@ -77,7 +79,8 @@ module _ (enc : Enc) (states : List State) (last_state : ℕ) (tail : List Symbo
     says : l ≡ mark s ∷ (leaf_choice enc ranges at ++ (map reads (spell enc at) ++ symbols enc walk tail))
     shorter : steps walk < n
 
-  leave_leaf : {s : ℕ} → (w : Walk states last_state s) → (ranges : List (ℕ × ℕ)) → slice_get states s ≡ Some (leaf ranges) → (s ≡ last_state → ⊥)
+  leave_leaf : {s : ℕ} → (w : Walk states last_state s) → (ranges : List (ℕ × ℕ)) → slice_get states s ≡ Some (leaf ranges)
+      → (s ≡ last_state → ⊥)
       → LeavesLeaf s ranges (symbols enc w tail) (steps w)
   leave_leaf stay ranges h out = absurd (out refl)
   leave_leaf (moved ms m h' i w) ranges h out = cc
@@ -99,7 +102,9 @@ module _ (enc : Enc) (states : List State) (last_state : ℕ) (tail : List Symbo
     shorter : steps walk < n
 
   leave_unit :
-      {s : ℕ} → (w : Walk states last_state s) → slice_get states s ≡ Some unit_leaf → (s ≡ last_state → ⊥) → LeavesUnit s (symbols enc w tail) (steps w)
+      {s : ℕ} →
+      (w : Walk states last_state s) → slice_get states s ≡ Some unit_leaf → (s ≡ last_state → ⊥) → LeavesUnit s
+      (symbols enc w tail) (steps w)
   leave_unit stay h out = absurd (out refl)
   leave_unit (moved ms m h' i w) h out = cc
   leave_unit (at_point ranges c h' i w) h out = cc
@@ -118,7 +123,8 @@ module _ (enc : Enc) (states : List State) (last_state : ℕ) (tail : List Symbo
   only_of front m l n r = only front m r.by r.among r.walk l n r.says r.shorter
 
   -- from the beginning of a part by the only move of its first row
-  begin_only : (p : ℕ) (m : Move) → slice_get states (2 * p) ≡ Some (moves (m ∷ [])) → (2 * p ≡ last_state → ⊥) → (w : Walk states last_state (2 * p))
+  begin_only : (p : ℕ) (m : Move) → slice_get states (2 * p) ≡ Some (moves (m ∷ [])) → (2 * p ≡ last_state → ⊥)
+      → (w : Walk states last_state (2 * p))
       → Onward (begins p ∷ label m) (target m) (symbols enc w tail) (steps w)
   begin_only p m h out w =
       let r = only_of (mark (2 * p) ∷ []) m _ _ (leave_moves w (m ∷ []) h out) in
@@ -173,7 +179,9 @@ module _ (enc : Enc) (states : List State) (last_state : ℕ) (tail : List Symbo
 
   module _
       (p : ℕ) (body : Term) (low : ℕ) (high : Option ℕ)
-      (ih : (q : ℕ) (ms : List Move) → Stands states (2 * q) (table body q ms) → IsOutside last_state q (parts body) → (w : Walk states last_state (2 * q))
+      (ih :
+      (q : ℕ) (ms : List Move) → Stands states (2 * q) (table body q ms) → IsOutside last_state q (parts body) →
+      (w : Walk states last_state (2 * q))
       → Split body q ms (symbols enc w tail) (steps w))
       (h : Stands states (2 * (p + 1)) (copies_table (λ q ms. table body q ms) p body low high (copies low high) 0))
       (out : IsOutside last_state p (1 + copies low high * parts body)) where
@@ -251,7 +259,8 @@ module _ (enc : Enc) (states : List State) (last_state : ℕ) (tail : List Symbo
         (λ m' may i' w' lt'. repeat_split fuel (suc n) (below_high n high may) m' i' w' lt') i w lt
 
   mutual
-    pub split : (e : Term) (p : ℕ) (exits : List Move) → Stands states (2 * p) (table e p exits) → IsOutside last_state p (parts e)
+    pub split :
+        (e : Term) (p : ℕ) (exits : List Move) → Stands states (2 * p) (table e p exits) → IsOutside last_state p (parts e)
         → (w : Walk states last_state (2 * p)) → Split e p exits (symbols enc w tail) (steps w)
     split empty p exits h out w =
         finish empty p exits h
@@ -283,7 +292,8 @@ module _ (enc : Enc) (states : List State) (last_state : ℕ) (tail : List Symbo
     split (cat members) p exits h out w =
         let a = begin_only p _ h.0 (λ e. out (omega arith) (omega arith)) w in
         let r =
-        row_split members (p + 1) (2 * p + 1) (inner_rows states p _ _ _ h) (λ b c. out (omega arith) (omega arith)) a.walk in
+        row_split members
+        (p + 1) (2 * p + 1) (inner_rows states p _ _ _ h) (λ b c. out (omega arith) (omega arith)) a.walk in
         finish
         (cat members) p exits h (λ e. out (omega arith) (omega arith)) (row r.trees)
         (begins p ∷ row_script enc (p + 1) r.trees) refl _ _ (record {
@@ -352,7 +362,8 @@ module _ (enc : Enc) (states : List State) (last_state : ℕ) (tail : List Symbo
         let s = split e q _ hf (λ b c. out (omega arith) (omega arith)) w in
         let o = only (script enc q s.tree) _ s.by s.among s.walk _ _ s.says s.shorter in
         let r =
-        row_split members (q + parts e) last (member_back states q e _ _ h) (λ b c. out (omega arith) (omega arith)) o.walk in
+        row_split members
+        (q + parts e) last (member_back states q e _ _ h) (λ b c. out (omega arith) (omega arith)) o.walk in
         record {
           trees = beside s.tree r.trees;
           walk = r.walk;
@@ -395,7 +406,8 @@ module _ (enc : Enc) (states : List State) (last_state : ℕ) (tail : List Symbo
         }
 
 -- a walk from the beginning of a part that ends outside of it goes through a tree of the part and on by an exit
-pub tree_of_part : (enc : Enc) (states : List State) (last_state : ℕ) (tail : List Symbol) (e : Term) (p : ℕ) (exits : List Move)
+pub tree_of_part :
+    (enc : Enc) (states : List State) (last_state : ℕ) (tail : List Symbol) (e : Term) (p : ℕ) (exits : List Move)
     → Stands states (2 * p) (table e p exits) → IsOutside last_state p (parts e) → (w : Walk states last_state (2 * p))
     → (t : Tree e) × (m : Move) × IsAmong m exits × (rest : Walk states last_state (target m))
     × (symbols enc w tail ≡ script enc p t ++ (label m ++ symbols enc rest tail))

@@ -59,7 +59,8 @@ module _ (enc : Enc) (states : List State) (e : Term) (p : ℕ) (h : Stands stat
       (r.walk, r.says ∙ append-nil (script enc p t))
 
   pub tree_of :
-      0 < p → slice_get states 0 ≡ Some (moves []) → (w : Walk states 0 (2 * p)) → (t : Tree e) × (symbols enc w [] ≡ script enc p t)
+      0 < p → slice_get states 0 ≡ Some
+      (moves []) → (w : Walk states 0 (2 * p)) → (t : Tree e) × (symbols enc w [] ≡ script enc p t)
   tree_of lt z w =
       let s = split enc states 0 [] e p final h (λ a b. absurd (omega arith)) w in
       let o = only enc states 0 [] (script enc p s.tree) (move None [] [] 0) s.by s.among s.walk _ _ s.says s.shorter in (
