@@ -460,7 +460,8 @@ module _ (enc : Enc) (states : List State) (z : slice_get states 0 ≡ Some (mov
 
   all_state :
       (s : ℕ) (us seen : List ℕ) → ((rest : List ℕ) → length rest < length us → AllOf (Candidate (s + 1) rest []))
-      → ((Contains s seen → ⊥) → s < length states → (t : ℕ) → AllOf (Candidate t us (s ∷ seen))) → AllOf (Candidate s us seen)
+      → ((Contains s seen → ⊥) → s < length states → (t : ℕ) → AllOf (Candidate t us (s ∷ seen)))
+      → AllOf (Candidate s us seen)
   all_state s us seen later more =
       ⊎_elim
       (λ e. all_end s us seen e)
@@ -472,7 +473,10 @@ module _ (enc : Enc) (states : List State) (z : slice_get states 0 ≡ Some (mov
 
   -- k states aren't seen yet
   search_in : (us : List ℕ) → ((rest : List ℕ) → length rest < length us → (s : ℕ) → AllOf (Candidate s rest []))
-      → (k : ℕ) (open' seen : List ℕ) → length open' ≤ k → ((x : ℕ) → x < length states → Contains x seen ⊎ Contains x open') → (s : ℕ)
+      → (k : ℕ) (open' seen : List ℕ)
+      → length open' ≤ k
+      → ((x : ℕ) → x < length states → Contains x seen ⊎ Contains x open')
+      → (s : ℕ)
       → AllOf (Candidate s us seen)
   search_in us later zero open' seen le cover s =
       all_state s us seen

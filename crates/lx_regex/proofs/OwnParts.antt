@@ -44,8 +44,11 @@ own_in (first ∷ patterns) child part place n pattern at e =
         (b : Bool) (place n : ℕ) → slice_get (if b then with_terms patterns else first ∷ with_terms patterns) place ≡ Some pattern
         → suc n ≡ rule_part
         (map (λ (x : Pattern). x.term) (if b then with_terms patterns else first ∷ with_terms patterns)) place
-        → ((place n : ℕ) → slice_get (with_terms patterns) place ≡ Some pattern → suc n ≡ rule_part (terms_of patterns) place → IsOwn (parts_of_rules (suc child) part patterns) n pattern)
-        → ((place n : ℕ) → slice_get (with_terms patterns) place ≡ Some pattern → suc n ≡ rule_part (terms_of patterns) place → IsOwn (parts_of_rules (suc child) (part + parts first.term) patterns) n pattern)
+        → ((place n : ℕ) → slice_get (with_terms patterns) place ≡ Some pattern
+        → suc n ≡ rule_part (terms_of patterns) place → IsOwn (parts_of_rules (suc child) part patterns) n pattern)
+        → ((place n : ℕ) → slice_get (with_terms patterns) place ≡ Some pattern
+        → suc n ≡ rule_part (terms_of patterns) place
+        → IsOwn (parts_of_rules (suc child) (part + parts first.term) patterns) n pattern)
         → IsOwn (if b then parts_of_rules (suc child) part patterns else parts_in first.number 0 child part first.term ++ parts_of_rules (suc child) (part + parts first.term) patterns) n pattern
     by_kind true place n at e without others = without place n at e
     by_kind false zero n at e without others =

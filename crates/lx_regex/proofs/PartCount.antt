@@ -9,7 +9,12 @@ copied_count :
     → length (copied_parts body size left number part) ≡ left * size
 copied_count body size zero number part each = omega arith
 copied_count body size (suc left) number part each =
-    omega (arith, length-append (body number part) (copied_parts body size left (suc number) (part + size)), each number part, copied_count body size left (suc number) (part + size) each)
+    omega (
+      arith,
+      length-append (body number part) (copied_parts body size left (suc number) (part + size)),
+      each number part,
+      copied_count body size left (suc number) (part + size) each,
+    )
 
 mutual
   pub part_count : (rule up child part : ℕ) (e : Term) → length (parts_in rule up child part e) ≡ parts e
@@ -27,4 +32,9 @@ mutual
       (rule up child part : ℕ) (members : Terms) → length (parts_among rule up child part members) ≡ parts_of_all members
   among_count rule up child part nil = refl
   among_count rule up child part (cons member members) =
-      omega (arith, length-append (parts_in rule up child part member) (parts_among rule up (suc child) (part + parts member) members), part_count rule up child part member, among_count rule up (suc child) (part + parts member) members)
+      omega (
+        arith,
+        length-append (parts_in rule up child part member) (parts_among rule up (suc child) (part + parts member) members),
+        part_count rule up child part member,
+        among_count rule up (suc child) (part + parts member) members,
+      )

@@ -45,7 +45,13 @@ copies_length : (rows : ℕ → List Move → List State) (p : ℕ) (body : Term
 copies_length rows p body low high zero c each = omega arith
 copies_length rows p body low high (suc n) c each =
     let a = rows (p + 1 + c * parts body) (moves_after p body low high (suc c)) in
-    omega (arith, length-append a (copies_table rows p body low high n (suc c)), each (p + 1 + c * parts body) (moves_after p body low high (suc c)), copies_length rows p body low high n (suc c) each)
+    omega (
+      arith,
+      length-append a (copies_table rows p body low high n (suc c)),
+      each
+          (p + 1 + c * parts body) (moves_after p body low high (suc c)),
+      copies_length rows p body low high n (suc c) each,
+    )
 
 mutual
   pub table_length : (e : Term) (p : ℕ) (ms : List Move) → length (table e p ms) ≡ 2 * parts e
@@ -64,13 +70,23 @@ mutual
   row_length nil q last = refl
   row_length (cons e members) q last =
       let ms = move None [] [] (next_member (q + parts e) members last) ∷ [] in
-      omega (arith, length-append (table e q ms) (members_table members (q + parts e) last), table_length e q ms, row_length members (q + parts e) last)
+      omega (
+        arith,
+        length-append (table e q ms) (members_table members (q + parts e) last),
+        table_length e q ms,
+        row_length members (q + parts e) last,
+      )
 
   pub alt_length : (members : Terms) (q last : ℕ) → length (alternatives_table members q last) ≡ 2 * parts_of_all members
   alt_length nil q last = refl
   alt_length (cons e members) q last =
       let ms = move None [] [] last ∷ [] in
-      omega (arith, length-append (table e q ms) (alternatives_table members (q + parts e) last), table_length e q ms, alt_length members (q + parts e) last)
+      omega (
+        arith,
+        length-append (table e q ms) (alternatives_table members (q + parts e) last),
+        table_length e q ms,
+        alt_length members (q + parts e) last,
+      )
 
 -- the rows of copy c + j, among those from c on
 copy_at : (states : List State) (p : ℕ) (body : Term) (low : ℕ) (high : Option ℕ) (n c j : ℕ) → j < n

@@ -208,7 +208,8 @@ module _ (enc : Enc) (states : List State) (last_state : ℕ) (tail : List Symbo
         }
 
     repeat_iteration : (n fuel : ℕ) (enough : Bool) → may_iterate n high ≡ true → nat_le low n ≡ enough
-        → ((m : Move) → IsAmong m (moves_after p body low high (suc n)) → (w : Walk states last_state (target m)) → steps w < fuel → RepeatSplit p body low high (suc n) (label m ++ symbols enc w tail) (steps w))
+        → ((m : Move) → IsAmong m (moves_after p body low high (suc n)) → (w : Walk states last_state (target m))
+        → steps w < fuel → RepeatSplit p body low high (suc n) (label m ++ symbols enc w tail) (steps w))
         → (w : Walk states last_state (2 * copy_part p body low high n)) → steps w < suc fuel
         → RepeatSplit p body low high n
         (label (iteration_move enough (2 * copy_part p body low high n)) ++ symbols enc w tail) (steps w)
@@ -235,7 +236,9 @@ module _ (enc : Enc) (states : List State) (last_state : ℕ) (tail : List Symbo
         }
 
     repeat_step : (n fuel : ℕ) (may enough : Bool) → may_iterate n high ≡ may → nat_le low n ≡ enough → IsAtMost n high
-        → ((m : Move) → may_iterate n high ≡ true → IsAmong m (moves_after p body low high (suc n)) → (w : Walk states last_state (target m)) → steps w < fuel → RepeatSplit p body low high (suc n) (label m ++ symbols enc w tail) (steps w))
+        → ((m : Move) → may_iterate n high ≡ true → IsAmong m (moves_after p body low high (suc n))
+        → (w : Walk states last_state (target m)) → steps w < fuel
+        → RepeatSplit p body low high (suc n) (label m ++ symbols enc w tail) (steps w))
         → {m : Move}
         → IsAmong m (iteration_moves may enough (if nat_eq n 0 then tags_in body else []) (2 * copy_part p body low high n) (2 * p + 1))
         → (w : Walk states last_state (target m)) → steps w < suc fuel
@@ -374,7 +377,8 @@ module _ (enc : Enc) (states : List State) (last_state : ℕ) (tail : List Symbo
     choice_split :
         (members : Terms) (i q last : ℕ) (join : List ℕ → List ℕ) → Stands states (2 * q) (alternatives_table members q last)
         → IsOutside last_state q (parts_of_all members) → {m : Move} → IsAmong m (member_moves members i q join)
-        → (w : Walk states last_state (target m)) → ChoiceSplit members i q last join (label m ++ symbols enc w tail) (steps w)
+        → (w : Walk states last_state (target m))
+        → ChoiceSplit members i q last join (label m ++ symbols enc w tail) (steps w)
     choice_split nil i q last join h out a w = elim a [ ]
     choice_split (cons e members) i q last join h out first w =
         let hf = stands_front states (2 * q) (table e q _) _ h in
