@@ -28,4 +28,5 @@ pub mod TreeWalk
 pub mod WalkTree
 pub mod WholeWalk
 pub mod Worked
+pub mod WorkedKernels
 pub mod WorkedMatches

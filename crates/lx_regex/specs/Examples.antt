@@ -8,7 +8,9 @@ use Rattle.lx_regex.specs.Plain.{IsPlain}
 use Rattle.lx_regex.specs.Order.{greedy, posix, TreePrecedes}
 use Rattle.lx_regex.specs.Least.{IsLeast}
 use Rattle.lx_regex.specs.Values.{single, history, values_of, group_ends, cursor_behind}
-use Rattle.lx_regex.specs.Pattern.{Pattern}
+use Rattle.lx_regex.specs.Pattern.{Pattern, terms_of}
+use Rattle.lx_regex.specs.Cut.{Cut, IsCut, Precedes}
+use Rattle.lx_regex.specs.Kernel.{IsKernel}
 use Rattle.lx_regex.specs.Parts.{rule_list, code_points, sequence, alternation, repetition, tag_event, parts_of}
 use Rattle.lx_regex.specs.Match.{IsMatch, matched, unmatched}
 use Rattle.lx_regex.specs.declared.rules.Kind.{Kind}
@@ -165,3 +167,8 @@ pub record MatchesAre : Type 0 where
   pub at_end : IsMatch greedy Utf8 single_letters (97 ∷ 97 ∷ []) 2 (matched 4 2 [])
   pub longest_word : IsMatch greedy Utf8 short_and_long (97 ∷ 98 ∷ []) 0 (matched 2 2 [])
   pub no_rule : IsMatch greedy Utf8 only_long (97 ∷ 99 ∷ []) 0 (unmatched 1)
+
+-- Of the rule "ab" the kernel of `a` has one place, behind the "a" in part 2; at `b` there is no cut.
+pub record KernelsAre : Type 0 where
+  pub after_a : IsKernel Precedes Utf8 (terms_of only_long) (97 ∷ []) (record { rule = 0; front = begins 1 ∷ begins 2 ∷ reads 97 ∷ [] } ∷ [])
+  pub not_b : (cut : Cut) → IsCut Utf8 (terms_of only_long) (98 ∷ []) cut → ⊥
