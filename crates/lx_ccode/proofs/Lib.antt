@@ -3,5 +3,7 @@ pub mod Lengths
 pub mod ReadLines
 pub mod RoundTrip
 pub mod ReadSections
+pub mod RunSteps
+pub mod Steps
 pub mod Tails
 pub mod Words

@@ -179,3 +179,10 @@ piece_at-front b p s = ap piece_at s.text ∙ piece_at-text p s.rest s.valid
 -- where some piece stands, the one that is read stands: so it is enough to read, to test that what was read is valid, and to compare with its text
 pub BeginsWithPiece-read : (b : List ℕ) (p : Piece) → BeginsWithPiece b p → BeginsWithPiece b (piece_at b).0
 BeginsWithPiece-read b p s = subst (λ (r : Piece × List ℕ). BeginsWithPiece b r.0) (sym (piece_at-front b p s)) s
+
+-- a valid piece has a statement
+pub block_count-valid : (piece : Piece) → IsValid piece → 0 < block_count piece.blocks
+block_count-valid piece valid =
+    let more : length piece.blocks ≤ block_count piece.blocks = block_count-blocks piece.names piece.blocks valid.spelled in
+    let some : 0 < length piece.blocks = valid.blocks in
+    omega (arith, more, some)

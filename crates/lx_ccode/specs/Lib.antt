@@ -1,7 +1,12 @@
+pub mod Effects
 pub mod Front
+pub mod Machine
 pub mod Reading
 pub mod Registers
+pub mod Runs
+pub mod Schedules
 pub mod Statements
+pub mod States
 pub mod Text
 pub mod Validity
 pub mod Words

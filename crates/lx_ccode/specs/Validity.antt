@@ -10,6 +10,7 @@ use Rattle.lx_ccode.specs.declared.piece.StateCase.{StateCase}
 use Rattle.lx_ccode.specs.declared.piece.CodeBlock.{CodeBlock}
 use Rattle.lx_ccode.specs.declared.piece.Piece.{Piece}
 use Rattle.lx_ccode.specs.Words.{equal_words}
+use Rattle.lx_ccode.specs.States.{states_from, block_of, state_block}
 use Rattle.lx_ccode.specs.Statements.{all_statements, is_ending, is_state, is_need, is_try, is_refill, has_register_one}
 
 -- a number of a text, which has at most 4,294,967,295
@@ -95,11 +96,6 @@ abbrev pub refill_first : List Stmt → Bool
 refill_first [] = false
 refill_first (statement ∷ statements) = is_refill statement
 
--- the first statement is a Try
-abbrev pub try_first : List Stmt → Bool
-try_first [] = false
-try_first (statement ∷ statements) = is_try statement
-
 -- directly behind each State stands a Need or a Try
 abbrev pub refills_after_states : List Stmt → Bool
 refills_after_states [] = true
@@ -124,18 +120,6 @@ last_statements [] = []
 last_statements (block ∷ []) = block.stmts
 last_statements (block ∷ next ∷ blocks) = last_statements (next ∷ blocks)
 
--- the states of a block's statements, each with the block where it goes on: this one, or the next one before a Try
-abbrev pub states_in : (place : ℕ) → List Stmt → List StateCase → List StateCase
-states_in place [] others = others
-states_in place (State state ∷ statements) others =
-    record { state = state; block = if try_first statements then suc place else place } ∷ states_in place statements others
-states_in place (_ ∷ statements) others = states_in place statements others
-
--- the states of blocks, of which the first has this place
-abbrev pub states_from : (place : ℕ) → List CodeBlock → List StateCase
-states_from place [] = []
-states_from place (block ∷ blocks) = states_in place block.stmts (states_from (suc place) blocks)
-
 -- the states stand in order, each once
 abbrev pub AreAscending : List StateCase → Type 0
 AreAscending [] = Unit {0}
@@ -146,14 +130,9 @@ abbrev pub AreOnce : List StateCase → Type 0
 AreOnce [] = Unit {0}
 AreOnce (case ∷ cases) = AllByRecursion (λ other. other.state ≡ case.state → ⊥) cases × AreOnce cases
 
--- the block of a state
-abbrev pub block_of : List StateCase → ℕ → Option ℕ
-block_of [] state = None
-block_of (case ∷ cases) state = if case.state == state then Some case.block else block_of cases state
-
 -- the cases of the switch are the states of the blocks, in order
 abbrev pub IsStateSwitch : List CodeBlock → List StateCase → Type 0
-IsStateSwitch blocks cases = AreAscending cases × ((state : ℕ) → block_of cases state ≡ block_of (states_from 0 blocks) state)
+IsStateSwitch blocks cases = AreAscending cases × ((state : ℕ) → block_of cases state ≡ state_block blocks state)
 
 abbrev onto_labels : Option (List ℕ) → List (List ℕ) → List (List ℕ)
 onto_labels None labels = labels
