@@ -6,4 +6,6 @@ pub mod ReadSections
 pub mod RunSteps
 pub mod Steps
 pub mod Tails
+pub mod UsualNames
+pub mod ValidExamples
 pub mod Words

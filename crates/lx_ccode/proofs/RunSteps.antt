@@ -1,12 +1,12 @@
 -- The run of a match under a schedule is the one that its steps make, and no other.
-use Rattle.std.proofs.Common.{◌≡◌, ℕ, zero, suc, ◌+◌, ◌-◌, ◌*◌, ◌<◌, ◌≤◌, Bool, true, false, List, [], ◌∷◌, Option, Some, None, refl, sym, ap, subst, ◌∙◌, arith}
+use Rattle.std.proofs.Common.{◌≡◌, ℕ, zero, suc, ◌+◌, ◌-◌, ◌*◌, ◌<◌, ◌≤◌, Bool, true, false, List, [], ◌∷◌, Some, refl, sym, ap, subst, ◌∙◌, arith}
 use Rattle.std.specs.Prelude.{nat_le}
 use Rattle.std.proofs.lemmas.Bool.{false≢true, leb-false}
 use Rattle.std.proofs.Math.Nat.{mul-le-mul_left, mul-le-mul_right}
 use Rattle.lx_ccode.specs.declared.piece.Stmt.{Stmt}
 use Rattle.lx_ccode.specs.declared.piece.Piece.{Piece}
 use Rattle.lx_ccode.specs.Statements.{block_count}
-use Rattle.lx_ccode.specs.Machine.{Machine, Answer, units_of_answers, Outcome, looped, Next, goes_on, ends, code_at, step}
+use Rattle.lx_ccode.specs.Machine.{Machine, Answer, units_of_answers, looped, Next, goes_on, ends, code_at, step}
 use Rattle.lx_ccode.specs.Schedules.{Schedule}
 use Rattle.lx_ccode.specs.Runs.{Ended, ended, loop_count, fresh_machine, entry_block, gone_on, run, run_of, IsRun, no_code, last_step, loop_step, next_step}
 use Rattle.lx_ccode.proofs.Steps.{units_after, units_after-step}

@@ -1,13 +1,13 @@
 -- What one step keeps: the parts of the machine that the statement is not for, and the sum of the limit and of the units to come.
-use Rattle.std.proofs.Common.{◌≡◌, ℕ, ◌+◌, Bool, true, false, List, [], ◌∷◌, ◌++◌, Option, Some, None, refl, sym, ap, subst, ◌∙◌, arith, zero, suc}
-use Rattle.std.specs.Prelude.{if◌then◌else◌, nat_lt, nat_le, ◌==◌}
+use Rattle.std.proofs.Common.{◌≡◌, ℕ, ◌+◌, Bool, true, false, List, [], ◌∷◌, Option, Some, None, refl, sym, ap, ◌∙◌, arith, zero, suc}
+use Rattle.std.specs.Prelude.{if◌then◌else◌, nat_le, ◌==◌}
 use Rattle.std.proofs.lemmas.Bool.{eqb-true, false≢true}
 use Rattle.lx_ccode.specs.declared.piece.Stmt.{Stmt}
 use Rattle.lx_ccode.specs.declared.piece.Stmt.TheVariants.{Peek, Skip, Backup, Restore, Accept, Set, Unset, Copy, MSet, MUnset, MCopy, IfUnit, IfAccept, IfEnd, State, Need, Try, Cond, Tag, Count, End, Back, Goto, Leave, Code, Jump}
 use Rattle.lx_ccode.specs.declared.piece.CodeBlock.{CodeBlock}
 use Rattle.lx_ccode.specs.declared.piece.Piece.{Piece}
 use Rattle.lx_ccode.specs.Statements.{is_refill, is_state}
-use Rattle.lx_ccode.specs.Machine.{Value, Machine, Refill, more, no_more, Answer, refilled, left, units_of_answers, Outcome, Next, goes_on, ends, jump, code_at, stored_block, choose, come_back, unit_at, peek, skip, if_unit, write_history, back, has_units, need, try, updated, step}
+use Rattle.lx_ccode.specs.Machine.{Value, Machine, Refill, more, no_more, Answer, refilled, left, units_of_answers, Next, goes_on, ends, jump, choose, come_back, peek, skip, if_unit, write_history, back, has_units, need, try, updated, step}
 use Rattle.lx_ccode.specs.Effects.{machine_after, answers_after, moves_cursor, moves_marker, changes_unit, sets_accept, sets_condition, register_written, history_written, gives_value, ChangesOnly}
 
 -- ---- the limit and the units to come

@@ -1,4 +1,5 @@
 pub mod Effects
+pub mod Examples
 pub mod Front
 pub mod Machine
 pub mod Reading

@@ -1,5 +1,5 @@
 -- Which pieces are valid: those that the generator may emit and that a reader of outputs takes.
-use Rattle.std.specs.Prelude.{◌≡◌, ℕ, zero, suc, ◌<◌, ◌*◌, ◌≤◌, ◌^◌, ◌⊎◌, IfSome, Bool, true, false, List, [], ◌∷◌, length, map, Option, Some, None, ◌||◌, ◌==◌, if◌then◌else◌}
+use Rattle.std.specs.Prelude.{◌≡◌, ℕ, zero, suc, ◌<◌, ◌*◌, ◌≤◌, ◌^◌, ◌⊎◌, IfSome, Bool, true, false, List, [], ◌∷◌, length, map, Option, Some, None, ◌||◌, if◌then◌else◌}
 use Rattle.std.specs.List.{AllByRecursion, list_any}
 use Rattle.lx_base.specs.Letters.{IsIdentifier}
 use Rattle.lx_base.specs.Names.{Spellings, AreAllowed, DoNotClash, AreDistinct, IsTagName}

@@ -1,6 +1,7 @@
 //! Emitted pieces of C: their text, which of them are valid, and what they do.
 #![tactic(auto)]
 
+pub mod examples;
 pub mod laws;
 mod lines;
 pub mod piece;
