@@ -5,6 +5,7 @@ pub mod RoundTrip
 pub mod ReadSections
 pub mod RunSteps
 pub mod Steps
+pub mod StuckSteps
 pub mod Tails
 pub mod UsualNames
 pub mod ValidExamples

@@ -1,3 +1,4 @@
+pub mod Bodies
 pub mod Effects
 pub mod Examples
 pub mod Front
@@ -8,6 +9,7 @@ pub mod Runs
 pub mod Schedules
 pub mod Statements
 pub mod States
+pub mod Stuck
 pub mod Text
 pub mod Validity
 pub mod Words

@@ -2,7 +2,8 @@
 //! contract of a function with an empty body.
 ghost use Rattle.std.specs.Prelude.{◌≡◌, List, [], ◌∷◌, ◌++◌, Some, None, false, codes};
 ghost use Rattle.lx_ccode.specs.declared.piece.Stmt.TheVariants.{Leave};
-ghost use Rattle.lx_ccode.specs.Examples.{context_example, stored_example, checked_example, spinning_example, copying_example};
+ghost use Rattle.lx_ccode.specs.Bodies.{body_piece_text, no_body, max_fill, max_groups, registers, histories, conditions, state_switch};
+ghost use Rattle.lx_ccode.specs.Examples.{usual_names, context_example, stored_example, checked_example, spinning_example, copying_example};
 ghost use Rattle.lx_ccode.specs.Machine.{by_rule, by_jump, no_rule, at_end, stuck, looped, unanswered, refilled, left, more, no_more, tag_offset, tag_history, group_count, group_end, condition};
 ghost use Rattle.lx_ccode.specs.Runs.{run_of};
 ghost use Rattle.lx_ccode.specs.Schedules.{IsLegal};
@@ -48,4 +49,16 @@ pub fn schedules_of_examples()
     ensures dropped_too_many { IsLegal stored_example 3 1 (record { first = 1; answers = refilled (more 2 1) ∷ [] }) → ⊥ }
     ensures more_after_no_more { IsLegal stored_example 3 1 (record { first = 3; answers = refilled no_more ∷ left (no_more ∷ []) ∷ [] }) → ⊥ }
     ensures too_early { IsLegal stored_example 3 1 (record { first = 1; answers = refilled no_more ∷ [] }) → ⊥ }
+{}
+
+/// The texts of pieces without a scanner.
+pub fn texts_of_bodies()
+    ensures empty { body_piece_text 1 usual_names no_body (Some (record { line = 3; file = codes "a.re" })) ≡ codes "/*!begin:re2c 1*/\n#line 3 \"a.re\"\n/*!end:re2c*/" }
+    ensures max { body_piece_text 2 usual_names (max_fill 5) None ≡ codes "/*!begin:re2c 2*/\n#define YYMAXFILL 5\n/*!end:re2c*/" }
+    ensures max_nmatch { body_piece_text 3 usual_names (max_groups 4) None ≡ codes "/*!begin:re2c 3*/\n#define YYMAXNMATCH 4\n/*!end:re2c*/" }
+    ensures stags { body_piece_text 4 usual_names (registers (record { format = codes "char *@@, @@@;"; separator = codes " " }) (1 ∷ 2 ∷ [])) None ≡ codes "/*!begin:re2c 4*/\nchar *yyt1, yyt1@; char *yyt2, yyt2@;\n/*!end:re2c*/" }
+    ensures no_stags { body_piece_text 5 usual_names (registers (record { format = codes "@@"; separator = [] }) []) None ≡ codes "/*!begin:re2c 5*/\n/*!end:re2c*/" }
+    ensures mtags { body_piece_text 6 usual_names (histories (record { format = codes "@@"; separator = codes ", " }) (0 ∷ 1 ∷ [])) None ≡ codes "/*!begin:re2c 6*/\nyytm0, yytm1\n/*!end:re2c*/" }
+    ensures types { body_piece_text 7 usual_names (conditions (codes "A" ∷ codes "B" ∷ [])) None ≡ codes "/*!begin:re2c 7*/\nenum YYCONDTYPE {\n\tyycA,\n\tyycB,\n};\n/*!end:re2c*/" }
+    ensures getstate { body_piece_text 8 usual_names (state_switch (record { number = 1; case = record { state = 0; block = 4 } } ∷ record { number = 3; case = record { state = 1; block = 0 } } ∷ []) 1 []) None ≡ codes "/*!begin:re2c 8*/\n\tswitch (YYGETSTATE()) {\n\tcase 0: goto yy1_4;\n\tcase 1: goto yy3_0;\n\tdefault: goto yy1_0;\n\t}\n/*!end:re2c*/" }
 {}

@@ -1,5 +1,5 @@
 //! What holds of all pieces and of all runs: each law is the contract of a function with an empty body.
-ghost use Rattle.std.specs.Prelude.{◌≡◌, ℕ, List, [], ◌++◌, Some, false};
+ghost use Rattle.std.specs.Prelude.{◌≡◌, ◌↔◌, ◌≤◌, ℕ, List, [], ◌++◌, length, Some, false};
 ghost use Rattle.lx_ccode.specs.declared.piece.Stmt.{Stmt};
 ghost use Rattle.lx_ccode.specs.declared.piece.Piece.{Piece};
 ghost use Rattle.lx_ccode.specs.Effects.{ChangesOnly, answers_after, machine_after};
@@ -9,8 +9,9 @@ ghost use Rattle.lx_ccode.specs.Reading.{piece_at};
 ghost use Rattle.lx_ccode.specs.Runs.{Ended, IsRun, entry_block, fresh_machine, run_of};
 ghost use Rattle.lx_ccode.specs.Schedules.{Schedule};
 ghost use Rattle.lx_ccode.specs.Statements.{is_refill};
+ghost use Rattle.lx_ccode.specs.Stuck.{CannotDo, HasWayBack, IsStuck};
 ghost use Rattle.lx_ccode.specs.Text.{piece_text};
-ghost use Rattle.lx_ccode.specs.Validity.{IsValid};
+ghost use Rattle.lx_ccode.specs.Validity.{IsValid, JumpsBelow};
 
 /// A text has one reading: no text is that of two valid pieces, and none is a proper front of another's.
 pub fn texts_have_one_reading()
@@ -42,4 +43,10 @@ pub fn steps_change_only_their_part()
 pub fn schedules_determine_runs()
     ensures is_run { (piece : Piece) (stream : List ℕ) (start : ℕ) (cond : List ℕ) (schedule : Schedule) (code : List Stmt) → IsValid piece → code_at piece.blocks (entry_block piece.conds cond) ≡ Some code → IsRun piece stream start 0 code (fresh_machine start schedule.first cond) schedule.answers (run_of piece stream start cond schedule) }
     ensures no_other { (piece : Piece) (stream : List ℕ) (start steps : ℕ) (code : List Stmt) (machine : Machine) (answers : List Answer) (end other : Ended) → IsRun piece stream start steps code machine answers end → IsRun piece stream start steps code machine answers other → end ≡ other }
+{}
+
+/// A step is stuck exactly where its statement cannot do what it is for: in a piece whose jumps all go to
+/// its blocks, on a stream that holds the units up to the limit, and with a stored state at each refill.
+pub fn steps_are_stuck_where_they_cannot_go()
+    ensures { (piece : Piece) (stream : List ℕ) (statement : Stmt) (rest : List Stmt) (machine : Machine) (answers : List Answer) → machine.limit ≤ length stream → JumpsBelow (length piece.blocks) statement → HasWayBack piece statement machine → (IsStuck (step piece stream statement rest machine answers) ↔ CannotDo piece statement machine) }
 {}
