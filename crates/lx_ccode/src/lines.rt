@@ -440,3 +440,122 @@ fn append_action(alloc: Global, text: &mut Vec<u8>, rule: u32, action: &[u8]) ->
         ],
     )
 }
+
+#[cfg(test)]
+mod tests {
+    use super::*;
+    use crate::piece::Stmt;
+    use lx_base::{ByteText, Sequence};
+    use std::io;
+
+    /// The usual spellings, shortened to their first letters: what counts is where each one stands.
+    const SPELLINGS: [&str; 17] = [
+        "TYPE", "CUR", "LIM", "MARK", "CTX", "FILL", "GETS", "SETS", "GETC", "SETC", "TAGP",
+        "TAGN", "ch", "acc", "t", "l_", "c",
+    ];
+
+    fn text(alloc: Global, bytes: &[u8]) -> Result<ByteText, Memory> {
+        let mut text = Vec::new(alloc);
+        text.extend_from_slice(bytes)?;
+        Ok(ByteText::from_vec(text))
+    }
+
+    fn names(alloc: Global) -> Result<Names, Memory> {
+        let mut names = Sequence::new(alloc);
+        for word in SPELLINGS {
+            names.push(text(alloc, word.as_bytes())?)?;
+        }
+        Ok(names)
+    }
+
+    /// The line of a statement in piece 7.
+    fn line(alloc: Global, ctx: bool, statement: &Stmt) -> Result<Vec<u8>, Memory> {
+        let names = names(alloc)?;
+        let scope = Scope {
+            alloc,
+            number: 7,
+            names: &names,
+            ctx,
+        };
+        let mut text = Vec::new(alloc);
+        scope.append_statement(&mut text, statement)?;
+        Ok(text)
+    }
+
+    fn rows(alloc: Global) -> Result<Vec<(bool, Stmt, &'static str)>, Memory> {
+        let mark = LineMark {
+            line: 12,
+            file: text(alloc, b"d\\\"x\".re")?,
+        };
+        Ok(vec![in alloc;
+            (false, Stmt::Peek, "\tch = *CUR;\n"),
+            (false, Stmt::Skip, "\t++CUR;\n"),
+            (false, Stmt::Backup, "\tMARK = CUR;\n"),
+            (false, Stmt::Restore, "\tCUR = MARK;\n"),
+            (false, Stmt::Accept(3), "\tacc = 3;\n"),
+            (false, Stmt::Set(1), "\tt1 = CUR;\n"),
+            (true, Stmt::Set(1), "\tCTX = CUR;\n"),
+            (true, Stmt::Unset(12), "\tt12 = NULL;\n"),
+            (true, Stmt::Copy(2, 1), "\tt2 = CTX;\n"),
+            (false, Stmt::MSet(1), "\tTAGP(tm1);\n"),
+            (false, Stmt::MUnset(1), "\tTAGN(tm1);\n"),
+            (true, Stmt::MCopy(1, 0), "\ttm1 = tm0;\n"),
+            (
+                false,
+                Stmt::IfUnit(0xA, 0),
+                "\tif (ch <= 0x0A) goto yy7_0;\n"
+            ),
+            (
+                false,
+                Stmt::IfUnit(0x10FFFF, 4),
+                "\tif (ch <= 0x10FFFF) goto yy7_4;\n"
+            ),
+            (false, Stmt::IfAccept(3, 5), "\tif (acc == 3) goto yy7_5;\n"),
+            (false, Stmt::IfEnd(6), "\tif (CUR >= LIM) goto yy7_6;\n"),
+            (
+                false,
+                Stmt::State(18446744073709551615),
+                "\tSETS(18446744073709551615);\n"
+            ),
+            (false, Stmt::Need(9), "\tif ((LIM - CUR) < 9) FILL(9);\n"),
+            (false, Stmt::Try(10), "\tif (FILL() == 0) goto yy7_10;\n"),
+            (false, Stmt::Cond(text(alloc, b"A")?), "\tSETC(cA);\n"),
+            (
+                true,
+                Stmt::Tag(text(alloc, b"u")?, false, 1),
+                "\tu = CTX;\n"
+            ),
+            (true, Stmt::Tag(text(alloc, b"u")?, true, 1), "\tu = tm1;\n"),
+            (false, Stmt::Count(65), "\tyynmatch = 65;\n"),
+            (false, Stmt::End(129, 2), "\tyypmatch[129] = t2;\n"),
+            (false, Stmt::Back(2), "\tCUR = t2;\n"),
+            (false, Stmt::Goto(6), "\tgoto yy7_6;\n"),
+            (false, Stmt::Leave, "\tgoto yy7_none;\n"),
+            (
+                false,
+                Stmt::Code(1, None, text(alloc, b"{\n}")?),
+                "\t/*!code:re2c 1 3*/{\n}\n"
+            ),
+            (
+                false,
+                Stmt::Code(2, Some(mark), text(alloc, b"{}")?),
+                "#line 12 \"d\\\\\\\"x\\\".re\"\n\t/*!code:re2c 2 2*/{}\n"
+            ),
+            (
+                false,
+                Stmt::Jump(text(alloc, b"B")?, 11),
+                "\tgoto l_B; /* 11 */\n"
+            ),
+        ]?)
+    }
+
+    #[test]
+    fn each_statement_has_its_line(rt: HostRuntime) -> Result<(), Memory> {
+        let alloc = rt.alloc();
+        for (ctx, statement, expected) in &rows(alloc)? {
+            let line = line(alloc, *ctx, statement)?;
+            assert_eq!(rt; line.as_slice(), expected.as_bytes(), "{expected}");
+        }
+        Ok(())
+    }
+}
