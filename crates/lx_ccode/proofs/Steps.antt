@@ -278,7 +278,7 @@ history_changed statement machine place value is = record {
   values = λ h. refl;
 }
 
--- the machine of a piece whose steps change it
+-- a jump changes nothing more
 ChangesOnly-jump : (statement : Stmt) (before machine : Machine) (target : Option (List Stmt)) (answers : List Answer)
     → ChangesOnly statement before machine → ChangesOnly statement before (machine_after (jump target machine answers))
 ChangesOnly-jump statement before machine None answers changes = changes

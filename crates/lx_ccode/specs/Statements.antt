@@ -14,13 +14,13 @@ all_statements [] = []
 all_statements (block ∷ blocks) = block.stmts ++ all_statements blocks
 
 -- how many statements the blocks have
-abbrev pub statement_count : List (List Stmt) → ℕ
-statement_count [] = 0
-statement_count (statements ∷ blocks) = length statements + statement_count blocks
+abbrev pub code_length : List (List Stmt) → ℕ
+code_length [] = 0
+code_length (statements ∷ blocks) = length statements + code_length blocks
 
 -- how many statements the blocks of a piece have
-abbrev pub block_count : List CodeBlock → ℕ
-block_count blocks = statement_count (code_of blocks)
+abbrev pub statement_count : List CodeBlock → ℕ
+statement_count blocks = code_length (code_of blocks)
 
 -- Goto, Leave, Code or Jump
 abbrev pub is_ending : Stmt → Bool
