@@ -155,7 +155,7 @@ NamesOneOf conds (Cond cond) = list_any (equal_words cond) conds ≡ true
 NamesOneOf conds (Jump cond rule) = list_any (equal_words cond) conds ≡ true
 NamesOneOf conds _ = Unit {0}
 
--- a rule has at most 64 groups of its own and itself
+-- a rule has at most 64 groups beside itself, and two ends for each
 abbrev pub HasFewGroups : Stmt → Type 0
 HasFewGroups (Count groups) = groups ≤ 65
 HasFewGroups (End place register) = place ≤ 129
