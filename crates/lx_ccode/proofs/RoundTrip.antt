@@ -39,7 +39,7 @@ any_names_context-with : (statements : List Stmt) → any_names_context true sta
 any_names_context-with [] = refl
 any_names_context-with (s ∷ statements) = rw (names_context-with s, any_names_context-with statements) refl
 
-list_any-append : (f : Stmt → Bool) (statements ts : List Stmt) → list_any f (statements ++ ts) ≡ (list_any f statements || list_any f ts)
+pub list_any-append : (f : Stmt → Bool) (statements ts : List Stmt) → list_any f (statements ++ ts) ≡ (list_any f statements || list_any f ts)
 list_any-append f [] ts = refl
 list_any-append f (s ∷ statements) ts = by_first (f s) (list_any-append f statements ts) where
   by_first : (flag : Bool) → list_any f (statements ++ ts) ≡ (list_any f statements || list_any f ts)

@@ -11,7 +11,7 @@ use Rattle.lx_ccode.specs.Stuck.{outcome_after, IsStuck, CannotDo, HasWayBack}
 use Rattle.lx_ccode.specs.Validity.{JumpsBelow}
 
 -- a block below the number of blocks has code
-code_at-below : (blocks : List CodeBlock) (block : ℕ) → block < length blocks → code_at blocks (Some block) ≡ None → ⊥
+pub code_at-below : (blocks : List CodeBlock) (block : ℕ) → block < length blocks → code_at blocks (Some block) ≡ None → ⊥
 code_at-below [] block below none = omega arith
 code_at-below (first ∷ blocks) zero below none = cc
 code_at-below (first ∷ blocks) (suc block) below none = code_at-below blocks block (omega arith) none

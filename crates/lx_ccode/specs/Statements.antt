@@ -1,5 +1,5 @@
 -- The statements of a piece, and the sorts of statements.
-use Rattle.std.specs.Prelude.{ℕ, ◌+◌, Bool, true, false, List, [], ◌∷◌, ◌++◌, length, map, ◌||◌, ◌==◌}
+use Rattle.std.specs.Prelude.{ℕ, ◌+◌, Bool, true, false, List, [], ◌∷◌, ◌++◌, length, map, Option, Some, None, is_some, ◌||◌, ◌==◌}
 use Rattle.lx_ccode.specs.declared.piece.Stmt.{Stmt}
 use Rattle.lx_ccode.specs.declared.piece.Stmt.TheVariants.{Set, Unset, Copy, State, Need, Try, Tag, End, Back, Goto, Leave, Code, Jump}
 use Rattle.lx_ccode.specs.declared.piece.CodeBlock.{CodeBlock}
@@ -30,9 +30,13 @@ is_ending (Code rule line action) = true
 is_ending (Jump cond rule) = true
 is_ending _ = false
 
+-- the state that the statement stores
+abbrev pub state_of : Stmt → Option ℕ
+state_of (State state) = Some state
+state_of _ = None
+
 abbrev pub is_state : Stmt → Bool
-is_state (State state) = true
-is_state _ = false
+is_state statement = is_some (state_of statement)
 
 abbrev pub is_need : Stmt → Bool
 is_need (Need units) = true
