@@ -1,0 +1,63 @@
+//! The kinds of tokens, and which one is taken where several could stand.
+ghost use Rattle.std.specs.Prelude.{◌≡◌, ℕ, ◌<◌, length, IfSome};
+ghost use Rattle.std.specs.Option.{option_copied, option_map};
+ghost use Rattle.lx_token.specs.Rows.{longer, longest_token};
+
+use crate::braces::{after_bounds, after_code};
+use crate::quoted::after_quoted;
+use crate::signs::after_sign;
+use crate::words::{after_config, after_name, after_number, after_tag};
+
+/// The kinds of tokens. Which sign a token of kind `Signs` is, its text tells.
+#[derive(Clone, Copy, Debug, PartialEq, Eq)]
+pub enum TokenKind {
+    Name,
+    Config,
+    Number,
+    Str,
+    IStr,
+    Class,
+    STag,
+    MTag,
+    Bounds,
+    Code,
+    Signs,
+}
+
+/// A kind of token, and what follows the token.
+pub(crate) type Found<'a> = (TokenKind, &'a [u8]);
+
+/// The longer one of two tokens at one place.
+fn longer<'a>(
+    found: Option<Found<'a>>,
+    kind: TokenKind,
+    rest: Option<&'a [u8]>,
+) -> Option<Found<'a>>
+    ensures found { option_map (λ token. (token.0, token.1.now)) result ≡ longer (option_map (λ token. (token.0, token.1.now)) found.entry) kind (option_copied rest.entry) }
+    ensures within { (size : ℕ) → IfSome found.entry (λ token. length token.1.now < size) →
+        IfSome rest.entry (λ rest. length rest.now < size) → IfSome result (λ token. length token.1.now < size) }
+{
+    match (found, rest) {
+        (found, None) => found,
+        (Some((_, other)), Some(rest)) if other.len() <= rest.len() => found,
+        (_, Some(rest)) => Some((kind, rest)),
+    }
+}
+
+/// The longest token that begins here.
+pub(crate) fn longest_token(text: &[u8]) -> Option<Found<'_>>
+    ensures found { option_map (λ token. (token.0, token.1.now)) result ≡ longest_token text.now }
+    ensures shorter { IfSome result (λ token. length token.1.now < length text.now) }
+{
+    let found = longer(None, TokenKind::Name, after_name(text));
+    let found = longer(found, TokenKind::Config, after_config(text));
+    let found = longer(found, TokenKind::Number, after_number(text));
+    let found = longer(found, TokenKind::Str, after_quoted(text, b'"', b'"'));
+    let found = longer(found, TokenKind::IStr, after_quoted(text, b'\'', b'\''));
+    let found = longer(found, TokenKind::Class, after_quoted(text, b'[', b']'));
+    let found = longer(found, TokenKind::STag, after_tag(text, b'@'));
+    let found = longer(found, TokenKind::MTag, after_tag(text, b'#'));
+    let found = longer(found, TokenKind::Bounds, after_bounds(text));
+    let found = longer(found, TokenKind::Code, after_code(text));
+    longer(found, TokenKind::Signs, after_sign(text))
+}
