@@ -1,3 +1,4 @@
 pub mod Digits
 pub mod Nesting
 pub mod Passing
+pub mod Skipping

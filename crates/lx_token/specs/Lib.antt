@@ -1,5 +1,8 @@
 pub mod Blanks
 pub mod Braces
+pub mod Characters
+pub mod Classes
+pub mod Numbers
 pub mod Places
 pub mod Quoted
 pub mod Rows

@@ -1,14 +1,20 @@
-//! The tokens of a block of rules.
+//! The tokens of a block of rules, and what numbers, bounds, strings and classes among them say.
 #![tactic(auto)]
 
 mod blanks;
 mod braces;
+mod characters;
+mod classes;
 mod kinds;
 mod list;
+mod numbers;
 mod places;
 mod quoted;
 mod signs;
 mod words;
 
+pub use characters::{Character, characters_of};
+pub use classes::{Class, PointRange, class_of};
 pub use kinds::TokenKind;
 pub use list::{Token, TokenList, tokens};
+pub use numbers::{Number, Repeat, number_of, repeat_of};

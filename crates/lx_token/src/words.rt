@@ -16,6 +16,12 @@ fn is_in_identifier(letter: u8) -> bool
     letter.is_ascii_alphanumeric() || letter == b'_'
 }
 
+pub(crate) fn is_digit(letter: u8) -> bool
+    ensures { result ≡ is_digit letter }
+{
+    letter.is_ascii_digit()
+}
+
 fn is_in_word(letter: u8) -> bool
     ensures { result ≡ is_in_word letter }
 {
@@ -55,7 +61,7 @@ pub(crate) fn after_digits(text: &[u8]) -> &[u8]
 {
     let mut rest = text;
     while let Some((letter, tail)) = rest.split_first() {
-        if !letter.is_ascii_digit() {
+        if !is_digit(*letter) {
             break;
         }
         rest = tail;
@@ -116,7 +122,7 @@ pub(crate) fn after_numeral(text: &[u8]) -> Option<&[u8]>
     ensures shorter { IfSome result (λ rest. length rest.now < length text.now) }
 {
     match text.split_first() {
-        Some((letter, tail)) if letter.is_ascii_digit() => Some(after_digits(tail)),
+        Some((letter, tail)) if is_digit(*letter) => Some(after_digits(tail)),
         _ => None,
     }
 }
