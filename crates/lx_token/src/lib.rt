@@ -18,3 +18,6 @@ pub use classes::{Class, PointRange, class_of};
 pub use kinds::TokenKind;
 pub use list::{Token, TokenList, tokens};
 pub use numbers::{Number, Repeat, number_of, repeat_of};
+
+#[cfg(test)]
+mod tests;
