@@ -66,9 +66,9 @@ LeavesEnd-chain : (text : List ℕ) (next : List ℕ → Option (List ℕ)) (fir
 LeavesEnd-chain text next None h g = tt
 LeavesEnd-chain text next (Some first) h g = chained text first (next first) h (g first)
   where
-  chained : (text first : List ℕ) (rest : Option (List ℕ)) → IsShorterEnd text first → LeavesEnd first rest → LeavesEnd text rest
-  chained text first None h g = tt
-  chained text first (Some rest) h g = shorter_then text first rest h (IsShorterEnd-end first rest g)
+    chained : (text first : List ℕ) (rest : Option (List ℕ)) → IsShorterEnd text first → LeavesEnd first rest → LeavesEnd text rest
+    chained text first None h g = tt
+    chained text first (Some rest) h g = shorter_then text first rest h (IsShorterEnd-end first rest g)
 
 after_line-end : (text : List ℕ) → IsEnd text (after_line text)
 after_line-end [] = refl

@@ -1,5 +1,7 @@
 pub mod Digits
 pub mod Ends
+pub mod Longest
 pub mod Nesting
 pub mod Passing
 pub mod Skipping
+pub mod Walk

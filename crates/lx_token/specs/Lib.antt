@@ -7,5 +7,6 @@ pub mod Places
 pub mod Quoted
 pub mod Rows
 pub mod Signs
+pub mod Spans
 pub mod Tokens
 pub mod Words

@@ -16,7 +16,7 @@ mod words;
 pub use characters::{Character, characters_of};
 pub use classes::{Class, PointRange, class_of};
 pub use kinds::TokenKind;
-pub use list::{Token, TokenList, tokens};
+pub use list::{Token, TokenList, tokens, tokens_stand_in_order};
 pub use numbers::{Number, Repeat, number_of, repeat_of};
 
 #[cfg(test)]

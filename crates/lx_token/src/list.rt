@@ -1,5 +1,9 @@
 //! The tokens of a body.
-ghost use Rattle.std.specs.Prelude.{◌≡◌, ◌≤◌, length, MatchResult, Ok};
+ghost use Rattle.std.specs.Prelude.{◌≡◌, ℕ, ◌≤◌, List, length, MatchResult, Ok, Err};
+ghost use Rattle.lx_base.specs.declared.faults.Fault.{Fault};
+ghost use Rattle.lx_base.specs.declared.places.Pos.{Pos};
+ghost use Rattle.lx_token.specs.declared.list.Token.{Token};
+ghost use Rattle.lx_token.specs.Spans.{AreTokens, IsBadToken};
 ghost use Rattle.lx_token.specs.Tokens.{StopsWith, tokens_of};
 
 use crate::blanks::after_blank;
@@ -53,3 +57,11 @@ pub fn tokens(alloc: Global, body: &[u8], at: Pos) -> Result<TokenList, Stop>
     }
     Ok(found)
 }
+
+/// Where the tokens of a body stand, and when there are none: it does nothing, and its contract is the law.
+pub fn tokens_stand_in_order()
+    ensures tokens { (body : List ℕ) (start : Pos) (tokens : List Token) →
+        tokens_of body start ≡ Ok tokens → AreTokens body start tokens }
+    ensures fault { (body : List ℕ) (start : Pos) (fault : Fault) →
+        tokens_of body start ≡ Err fault → IsBadToken body start fault }
+{}

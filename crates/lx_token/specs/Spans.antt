@@ -1,0 +1,40 @@
+-- Where the tokens of a body stand, and what is true of each.
+use Rattle.std.specs.Prelude.{◌≡◌, ℕ, ◌<◌, ◌≤◌, List, [], ◌∷◌, length, take, drop, Some, None}
+use Rattle.lx_base.specs.declared.places.Pos.{Pos}
+use Rattle.lx_base.specs.declared.faults.Fault.{Fault}
+use Rattle.lx_base.specs.declared.faults.Fault.TheVariants.{BadToken}
+use Rattle.lx_token.specs.declared.kinds.TokenKind.{TokenKind}
+use Rattle.lx_token.specs.declared.list.Token.{Token}
+use Rattle.lx_token.specs.Blanks.{after_blank}
+use Rattle.lx_token.specs.Places.{place_after}
+use Rattle.lx_token.specs.Rows.{after_token}
+
+-- each token begins at `from` or later and where the one before it ends or later, has a byte, and ends within the body
+abbrev pub AreInOrder : (from size : ℕ) → List Token → Type 0
+AreInOrder from size [] = Unit {0}
+AreInOrder from size (token ∷ tokens) =
+    (from ≤ token.from) × (token.from < token.to) × (token.to ≤ size) × AreInOrder token.to size tokens
+
+-- the token is the longest one at its offset, and its place is that of its first byte
+pub record Stands (body : List ℕ) (start : Pos) (token : Token) : Type 0 where
+  pub place : token.at ≡ place_after start (take token.from body)
+  pub text : after_token token.kind (drop token.from body) ≡ Some (drop token.to body)
+  pub longest : (kind : TokenKind) (rest : List ℕ) → after_token kind (drop token.from body) ≡ Some rest →
+      length (drop token.to body) ≤ length rest
+
+abbrev pub EachStands : List ℕ → Pos → List Token → Type 0
+EachStands body start [] = Unit {0}
+EachStands body start (token ∷ tokens) = Stands body start token × EachStands body start tokens
+
+-- what is true of the tokens of a body
+pub record AreTokens (body : List ℕ) (start : Pos) (tokens : List Token) : Type 0 where
+  pub in_order : AreInOrder 0 (length body) tokens
+  pub each_stands : EachStands body start tokens
+
+-- what is true of the fault of a body: at an offset, neither a blank or a comment nor a token of any kind begins
+pub record IsBadToken (body : List ℕ) (start : Pos) (fault : Fault) : Type 0 where
+  pub offset : ℕ
+  pub within : offset < length body
+  pub fault_is : fault ≡ BadToken (place_after start (take offset body))
+  pub no_blank : after_blank (drop offset body) ≡ None
+  pub no_token : (kind : TokenKind) → after_token kind (drop offset body) ≡ None
