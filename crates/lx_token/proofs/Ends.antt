@@ -1,10 +1,10 @@
 -- What follows a token is an end of the text, and a shorter one.
-use Rattle.std.proofs.Common.{◌≡◌, ℕ, zero, suc, ◌+◌, ◌-◌, ◌<◌, ◌≤◌, Bool, true, false, cond, ◌==◌, ◌||◌, ◌⊎◌, inl, inr, ⊎_elim, List, [], ◌∷◌, length, drop, codes, Option, Some, None, IfSome, option_and_then, unwrap_or, is_some, refl, sym, subst, arith}
-use Rattle.lx_base.specs.Letters.{begins_identifier, is_in_identifier, is_digit, begins_with, is_within}
+use Rattle.std.proofs.Common.{◌≡◌, ℕ, zero, suc, ◌-◌, Bool, true, false, cond, ◌==◌, ◌||◌, ◌⊎◌, inl, inr, ⊎_elim, List, [], ◌∷◌, length, drop, codes, Option, Some, None, IfSome, option_and_then, unwrap_or, is_some, refl, sym, subst}
+use Rattle.lx_base.specs.Letters.{begins_identifier, is_in_identifier, is_digit, begins_with}
 use Rattle.lx_token.specs.Blanks.{is_blank, after_line, after_closing, after_comment, after_blank}
 use Rattle.lx_token.specs.Words.{after_letters, after_letter, after_name, is_in_word, begins_word, after_words, after_config, after_numeral, after_number, after_tag}
 use Rattle.lx_token.specs.Quoted.{is_escape, after_close, after_quoted}
-use Rattle.lx_token.specs.Braces.{after_first_bound, after_bounds, after_literal, after_piece, after_braces, after_code}
+use Rattle.lx_token.specs.Braces.{after_first_bound, after_bounds, after_literal, begins_comment, after_unquoted, after_piece, after_braces, after_code}
 use Rattle.lx_token.specs.Signs.{is_sign, after_sign}
 use Rattle.lx_token.specs.Rows.{after_token}
 use Rattle.lx_token.specs.declared.kinds.TokenKind.{TokenKind}
@@ -198,15 +198,27 @@ end_or_self : (text : List ℕ) (rest : Option (List ℕ)) → LeavesEnd text re
 end_or_self text None h = IsEnd-self text
 end_or_self text (Some rest) h = IsShorterEnd-end text rest h
 
+behind_quote-end : (quote : ℕ) (text : List ℕ) → IsEnd text (unwrap_or (after_literal quote false text) text)
+behind_quote-end quote text = end_or_self text (after_literal quote false text) (after_literal-end quote false text)
+
+pub IsEnd-behind_quote : (quote : ℕ) (text rest : List ℕ) → rest ≡ unwrap_or (after_literal quote false text) text → IsEnd text rest
+IsEnd-behind_quote quote text rest is = subst (λ l. IsEnd text l) (sym is) (behind_quote-end quote text)
+
+after_unquoted-end : (text : List ℕ) → LeavesEnd text (after_unquoted text)
+after_unquoted-end [] = tt
+after_unquoted-end (letter ∷ text) =
+    either (LeavesEnd (letter ∷ text)) (begins_comment (letter ∷ text)) (after_comment (letter ∷ text)) (Some text)
+    (after_comment-end (letter ∷ text)) (IsEnd-self text)
+
+pub IsEnd-after_unquoted : (text rest : List ℕ) → after_unquoted text ≡ Some rest → IsEnd text rest
+IsEnd-after_unquoted text rest is =
+    let P : Option (List ℕ) → Type 0 = λ o. LeavesEnd text o in IsShorterEnd-end text rest (subst P is (after_unquoted-end text))
+
 after_piece-end : (text : List ℕ) → LeavesEnd text (after_piece text)
 after_piece-end [] = tt
 after_piece-end (letter ∷ text) =
-    let P = LeavesEnd (letter ∷ text) in
-    let comment = begins_with (codes "//") (letter ∷ text) || begins_with (codes "/*") (letter ∷ text) in
-    either P ((letter == 34) || (letter == 39)) (Some (unwrap_or (after_literal letter false text) text))
-    (cond comment (after_comment (letter ∷ text)) (Some text))
-    (end_or_self text (after_literal letter false text) (after_literal-end letter false text))
-    (either P comment (after_comment (letter ∷ text)) (Some text) (after_comment-end (letter ∷ text)) (IsEnd-self text))
+    either (LeavesEnd (letter ∷ text)) ((letter == 34) || (letter == 39)) (Some (unwrap_or (after_literal letter false text) text))
+    (after_unquoted (letter ∷ text)) (behind_quote-end letter text) (after_unquoted-end (letter ∷ text))
 
 after_braces-end : (steps depth : ℕ) (text : List ℕ) → LeavesEnd text (after_braces steps depth text)
 after_braces-end zero depth text = tt

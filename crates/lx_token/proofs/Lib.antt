@@ -4,4 +4,5 @@ pub mod Longest
 pub mod Nesting
 pub mod Passing
 pub mod Skipping
+pub mod Unclosed
 pub mod Walk

@@ -1,5 +1,5 @@
 -- Bounds of repetitions, and actions.
-use Rattle.std.specs.Prelude.{ℕ, zero, suc, ◌-◌, Bool, true, false, List, [], ◌∷◌, length, codes, Option, Some, None, option_and_then, unwrap_or, is_some, ◌==◌, ◌||◌, if◌then◌else◌}
+use Rattle.std.specs.Prelude.{◌≡◌, ℕ, zero, suc, ◌-◌, ◌≤◌, Bool, true, false, List, [], ◌∷◌, ◌++◌, length, codes, Option, Some, None, option_and_then, unwrap_or, is_some, ◌==◌, ◌||◌, if◌then◌else◌}
 use Rattle.lx_base.specs.Letters.{is_digit, begins_with}
 use Rattle.lx_token.specs.Words.{after_letters, after_letter, after_numeral}
 use Rattle.lx_token.specs.Blanks.{after_comment}
@@ -22,13 +22,25 @@ after_literal quote true (letter ∷ text) = if letter == 10 then None else afte
 after_literal quote false (letter ∷ text) =
     if letter == 10 then None else (if letter == quote then Some text else after_literal quote (letter == 92) text)
 
+-- each such quote of the text behind which `size` bytes or more are left is not closed in its line
+abbrev pub AreUnclosed : (quote size : ℕ) → List ℕ → Type 0
+AreUnclosed quote size text =
+    (front tail : List ℕ) → text ≡ front ++ quote ∷ tail → size ≤ length tail → after_literal quote false tail ≡ None
+
+abbrev pub begins_comment : List ℕ → Bool
+begins_comment text = begins_with (codes "//") text || begins_with (codes "/*") text
+
+-- what follows the comment or the byte at the front
+abbrev pub after_unquoted : List ℕ → Option (List ℕ)
+after_unquoted [] = None
+after_unquoted (letter ∷ text) = if begins_comment (letter ∷ text) then after_comment (letter ∷ text) else Some text
+
 -- what follows the piece of C at the front, which is no brace: a literal that is closed in its line, a comment, or a byte
 abbrev pub after_piece : List ℕ → Option (List ℕ)
 after_piece [] = None
 after_piece (letter ∷ text) =
     if (letter == 34) || (letter == 39) then Some (unwrap_or (after_literal letter false text) text)
-    else (if begins_with (codes "//") (letter ∷ text) || begins_with (codes "/*") (letter ∷ text)
-    then after_comment (letter ∷ text) else Some text)
+    else after_unquoted (letter ∷ text)
 
 -- what follows the brace that closes the outermost of the open ones, of which there are `depth` inside it. No piece is
 -- empty, so as many steps serve as the text has bytes

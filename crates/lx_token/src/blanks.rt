@@ -10,7 +10,7 @@ fn is_blank(letter: u8) -> bool
 }
 
 /// What is left of the text behind its first line.
-fn after_line(text: &[u8]) -> &[u8]
+pub(crate) fn after_line(text: &[u8]) -> &[u8]
     ensures rest { result.now ≡ after_line text.now }
     ensures shorter { length result.now ≤ length text.now }
 {

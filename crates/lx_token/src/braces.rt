@@ -1,9 +1,9 @@
 //! Bounds of repetitions, and actions.
-ghost use Rattle.std.specs.Prelude.{◌≡◌, ◌<◌, false, length, IfSome};
+ghost use Rattle.std.specs.Prelude.{◌≡◌, ◌≢◌, ◌<◌, ◌≤◌, ◌∷◌, false, length, IfSome, unwrap_or};
 ghost use Rattle.std.specs.Option.{option_copied};
-ghost use Rattle.lx_token.specs.Braces.{after_bounds, after_braces, after_code, after_first_bound, after_literal, after_piece};
+ghost use Rattle.lx_token.specs.Braces.{AreUnclosed, after_bounds, after_braces, after_code, after_first_bound, after_literal, after_unquoted};
 
-use crate::blanks::after_comment;
+use crate::blanks::{after_comment, after_line};
 use crate::words::{after_digits, after_letter, after_numeral};
 
 /// What follows bounds behind their first number.
@@ -46,15 +46,36 @@ fn after_literal(text: &[u8], quote: u8) -> Option<&[u8]>
     None
 }
 
-/// What follows the piece of C at the front, which is no brace.
-fn after_piece(text: &[u8]) -> Option<&[u8]>
-    ensures rest { option_copied result ≡ after_piece text.now }
+/// What follows the literal behind its opening quote, or the text itself where it is not closed in its line.
+///
+/// A quote behind which `unclosed` bytes or more are left is known to be not closed, so that no line is searched again for
+/// each of its quotes.
+fn after_quote<'a>(text: &'a [u8], quote: u8, unclosed: &mut usize) -> &'a [u8]
+    requires quote { quote ≢ 10 }
+    requires known { AreUnclosed quote unclosed.old (quote ∷ text.now) }
+    ensures rest { result.now ≡ unwrap_or (after_literal quote false text.now) text.now }
+    ensures shorter { length result.now ≤ length text.now }
+    ensures known { AreUnclosed quote unclosed.new text.now }
+{
+    if text.len() >= *unclosed {
+        return text;
+    }
+    match after_literal(text, quote) {
+        Some(rest) => rest,
+        None => {
+            *unclosed = after_line(text).len();
+            text
+        }
+    }
+}
+
+/// What follows the comment or the byte at the front.
+fn after_unquoted(text: &[u8]) -> Option<&[u8]>
+    ensures rest { option_copied result ≡ after_unquoted text.now }
     ensures shorter { IfSome result (λ rest. length rest.now < length text.now) }
 {
-    let (letter, tail) = text.split_first()?;
-    if *letter == b'"' || *letter == b'\'' {
-        Some(after_literal(tail, *letter).unwrap_or(tail))
-    } else if text.starts_with(b"//") || text.starts_with(b"/*") {
+    let (_, tail) = text.split_first()?;
+    if text.starts_with(b"//") || text.starts_with(b"/*") {
         after_comment(text)
     } else {
         Some(tail)
@@ -68,6 +89,8 @@ fn after_braces(text: &[u8]) -> Option<&[u8]>
 {
     let mut rest = text;
     let mut depth: usize = 0;
+    let mut unclosed_strings = usize::MAX;
+    let mut unclosed_characters = usize::MAX;
     while let Some((letter, tail)) = rest.split_first() {
         match *letter {
             b'{' => {
@@ -81,7 +104,9 @@ fn after_braces(text: &[u8]) -> Option<&[u8]>
                 depth -= 1;
                 rest = tail;
             }
-            _ => rest = after_piece(rest)?,
+            b'"' => rest = after_quote(tail, b'"', &mut unclosed_strings),
+            b'\'' => rest = after_quote(tail, b'\'', &mut unclosed_characters),
+            _ => rest = after_unquoted(rest)?,
         }
     }
     None
