@@ -1,8 +1,10 @@
 pub mod Digits
 pub mod Ends
+pub mod Escapes
 pub mod Longest
 pub mod Nesting
 pub mod Passing
+pub mod QuotedItems
 pub mod Skipping
 pub mod Unclosed
 pub mod Walk

@@ -2,6 +2,7 @@ pub mod Blanks
 pub mod Braces
 pub mod Characters
 pub mod Classes
+pub mod Items
 pub mod Numbers
 pub mod Places
 pub mod Quoted

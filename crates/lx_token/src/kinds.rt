@@ -1,7 +1,9 @@
 //! The kinds of tokens, and which one is taken where several could stand.
-ghost use Rattle.std.specs.Prelude.{◌≡◌, ℕ, ◌<◌, length, IfSome};
+ghost use Rattle.std.specs.Prelude.{◌≡◌, ℕ, ◌<◌, ◌↔◌, List, length, IfSome, Some};
 ghost use Rattle.std.specs.Option.{option_copied, option_map};
-ghost use Rattle.lx_token.specs.Rows.{longer, longest_token};
+ghost use Rattle.lx_token.specs.Items.{BeginsQuoted};
+ghost use Rattle.lx_token.specs.Rows.{after_token, longer, longest_token};
+ghost use Rattle.lx_token.specs.declared.kinds.TokenKind.TheVariants as TokenKind;
 
 use crate::braces::{after_bounds, after_code};
 use crate::quoted::after_quoted;
@@ -61,3 +63,13 @@ pub(crate) fn longest_token(text: &[u8]) -> Option<Found<'_>>
     let found = longer(found, TokenKind::Code, after_code(text));
     longer(found, TokenKind::Signs, after_sign(text))
 }
+
+/// Which texts strings and classes are: it does nothing, and its contract is the law.
+pub fn quoted_texts_are_items()
+    ensures strings { (text rest : List ℕ) →
+        (after_token TokenKind.Str text ≡ Some rest) ↔ BeginsQuoted 34 34 text rest }
+    ensures caseless_strings { (text rest : List ℕ) →
+        (after_token TokenKind.IStr text ≡ Some rest) ↔ BeginsQuoted 39 39 text rest }
+    ensures classes { (text rest : List ℕ) →
+        (after_token TokenKind.Class text ≡ Some rest) ↔ BeginsQuoted 91 93 text rest }
+{}

@@ -15,7 +15,7 @@ mod words;
 
 pub use characters::{Character, characters_of};
 pub use classes::{Class, PointRange, class_of};
-pub use kinds::TokenKind;
+pub use kinds::{TokenKind, quoted_texts_are_items};
 pub use list::{Token, TokenList, tokens, tokens_stand_in_order};
 pub use numbers::{Number, Repeat, number_of, repeat_of};
 

@@ -303,6 +303,22 @@ fn classes_are_ranges(rt: HostRuntime) -> Result<(), Fail> {
     Ok(())
 }
 
+/// One line of escaped quotes, none of which is closed: searched again for each, it would take hours.
+#[test]
+fn a_line_of_unclosed_quotes_is_searched_once(rt: HostRuntime) -> Result<(), Fail> {
+    let alloc = rt.alloc();
+    let mut body = Vec::new(alloc);
+    body.extend_from_slice(b"{")?;
+    for _ in 0..2_000_000 {
+        body.extend_from_slice(b"\\\"\\'")?;
+    }
+    body.extend_from_slice(b"\n}")?;
+    assert!(rt; body.len() <= 16_777_216);
+    let list = tokens(alloc, body.as_slice(), START)?;
+    assert_eq!(rt; list.as_slice().len(), 1);
+    Ok(())
+}
+
 /// Measures 16 MiB of rules; `bench/tokens.sh` reads the figure.
 #[test]
 fn many_rules(rt: HostRuntime) -> Result<(), Fail> {
