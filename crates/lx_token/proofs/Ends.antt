@@ -1,5 +1,5 @@
 -- What follows a token is an end of the text, and a shorter one.
-use Rattle.std.proofs.Common.{◌≡◌, ℕ, zero, suc, ◌-◌, Bool, true, false, cond, ◌==◌, ◌||◌, ◌⊎◌, inl, inr, ⊎_elim, List, [], ◌∷◌, length, drop, codes, Option, Some, None, IfSome, option_and_then, unwrap_or, is_some, refl, sym, subst}
+use Rattle.std.proofs.Common.{◌≤◌, arith, ◌≡◌, ℕ, zero, suc, ◌-◌, Bool, true, false, cond, ◌==◌, ◌||◌, ◌⊎◌, inl, inr, ⊎_elim, List, [], ◌∷◌, length, drop, codes, Option, Some, None, IfSome, option_and_then, unwrap_or, is_some, refl, sym, subst}
 use Rattle.lx_base.specs.Letters.{begins_identifier, is_in_identifier, is_digit, begins_with}
 use Rattle.lx_token.specs.Blanks.{is_blank, after_line, after_closing, after_comment, after_blank}
 use Rattle.lx_token.specs.Words.{after_letters, after_letter, after_name, is_in_word, begins_word, after_words, after_config, after_numeral, after_number, after_tag}
@@ -120,6 +120,16 @@ after_words-end (letter ∷ text) =
     (inr (after_words-end text))
     (either P (letter == 58) (cond (begins_word text) (after_words text) (letter ∷ text)) (letter ∷ text)
     (either P (begins_word text) (after_words text) (letter ∷ text) (inr (after_words-end text)) (inl refl)) (inl refl))
+
+pub after_words-length : (text : List ℕ) → length (after_words text) ≤ length text
+after_words-length [] = omega arith
+after_words-length (letter ∷ text) =
+    let more = after_words-length text in
+    let P : List ℕ → Type 0 = λ l. length l ≤ length (letter ∷ text) in
+    either P (is_in_word letter) (after_words text) (cond (letter == 58) (cond (begins_word text) (after_words text) (letter ∷ text)) (letter ∷ text))
+    (omega arith)
+    (either P (letter == 58) (cond (begins_word text) (after_words text) (letter ∷ text)) (letter ∷ text)
+    (either P (begins_word text) (after_words text) (letter ∷ text) (omega arith) (omega arith)) (omega arith))
 
 after_config-end : (text : List ℕ) → LeavesEnd text (after_config text)
 after_config-end [] = tt

@@ -6,5 +6,6 @@ pub mod Nesting
 pub mod Passing
 pub mod QuotedItems
 pub mod Skipping
+pub mod Ties
 pub mod Unclosed
 pub mod Walk

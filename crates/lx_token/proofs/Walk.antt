@@ -1,17 +1,19 @@
 -- The tokens of a body stand in it, in order.
-use Rattle.std.proofs.Common.{◌≡◌, ℕ, zero, suc, ◌+◌, ◌-◌, ◌<◌, ◌≤◌, ⊎_elim, List, [], ◌∷◌, ◌++◌, length, take, drop, Option, Some, None, Ok, Err, refl, sym, ◌∙◌, ap, subst, arith, append_assoc}
+use Rattle.std.proofs.Common.{◌≡◌, ◌≢◌, ℕ, zero, suc, ◌+◌, ◌-◌, ◌<◌, ◌≤◌, ⊎_elim, List, [], ◌∷◌, ◌++◌, length, take, drop, Option, Some, None, Ok, Err, refl, sym, ◌∙◌, ap, subst, arith, append_assoc}
 use Rattle.std.proofs.Math.Seq.{take-add}
 use Rattle.std.proofs.lemmas.List.{append-nil, drop-drop}
 use Rattle.lx_base.specs.declared.places.Pos.{Pos}
 use Rattle.lx_base.specs.declared.faults.Fault.{Fault}
 use Rattle.lx_base.specs.declared.faults.Fault.TheVariants.{BadToken}
 use Rattle.lx_token.specs.declared.list.Token.{Token}
+use Rattle.lx_token.specs.declared.kinds.TokenKind.{TokenKind}
 use Rattle.lx_token.specs.Blanks.{after_blank}
 use Rattle.lx_token.specs.Places.{next_place, place_after}
 use Rattle.lx_token.specs.Rows.{Found, after_token, longest_token}
 use Rattle.lx_token.specs.Spans.{AreInOrder, Stands, EachStands, AreTokens, IsBadToken}
 use Rattle.lx_token.specs.Tokens.{Tokens, place_of_rest, token_at, step, tokens_from, tokens_of}
 use Rattle.lx_token.proofs.Ends.{IsEnd, IsShorterEnd, LeavesEnd, IsShorterEnd-end, after_blank-end, after_token-end}
+use Rattle.lx_token.proofs.Ties.{no_ties}
 use Rattle.lx_token.proofs.Longest.{longest_token-is, longest_token-longest, longest_token-none}
 
 place_after-append : (at : Pos) (front back : List ℕ) → place_after at (front ++ back) ≡ place_after (place_after at front) back
@@ -85,6 +87,14 @@ shorter_length : (text tail : List ℕ) → IsShorterEnd text tail → length ta
 shorter_length [] tail h = absurd h
 shorter_length (letter ∷ text) tail h = let drops = IsEnd-drop_is text tail h in let le = drops.within in omega arith
 
+-- what is found is longer than a token of another kind
+strictly : (text : List ℕ) (found : Found) → longest_token text ≡ Some found → (kind : TokenKind) (rest : List ℕ) → kind ≢ found.0 →
+    after_token kind text ≡ Some rest → length found.1 < length rest
+strictly text found is kind rest differs stands =
+    let le = longest_token-longest text found is kind rest stands in
+    let apart : length rest ≢ length found.1 = λ tie. differs (no_ties kind found.0 text rest found.1 stands (longest_token-is text found is) tie) in
+    omega arith
+
 module _ (body : List ℕ) (start : Pos) where
   abbrev Next : Type 0
   Next = (tokens : List Token) (at : Pos) (text : List ℕ) → Tokens
@@ -102,7 +112,7 @@ module _ (body : List ℕ) (start : Pos) where
       let rest = StaysIn-rest body start at text found.1 stays (shorter_drop text found.1 tail_end) in record {
         place = stays.at_is;
         text = rw (← stays.text_is, ← rest.text_is) here;
-        longest = λ kind other stands. rw (← rest.text_is) (longest_token-longest text found is kind other (rw (← stays.text_is) at stands));
+        longest = λ kind other differs stands. rw (← rest.text_is) (strictly text found is kind other differs (rw (← stays.text_is) at stands));
       }
 
   step_goes_on : (next : Next) → NextGoesOn next → (tokens : List Token) (at : Pos) (text : List ℕ) (list : List Token)

@@ -1,5 +1,5 @@
 -- Where the tokens of a body stand, and what is true of each.
-use Rattle.std.specs.Prelude.{◌≡◌, ℕ, ◌<◌, ◌≤◌, List, [], ◌∷◌, length, take, drop, Some, None}
+use Rattle.std.specs.Prelude.{◌≡◌, ◌≢◌, ℕ, ◌<◌, ◌≤◌, List, [], ◌∷◌, length, take, drop, Some, None}
 use Rattle.lx_base.specs.declared.places.Pos.{Pos}
 use Rattle.lx_base.specs.declared.faults.Fault.{Fault}
 use Rattle.lx_base.specs.declared.faults.Fault.TheVariants.{BadToken}
@@ -15,12 +15,12 @@ AreInOrder from size [] = Unit {0}
 AreInOrder from size (token ∷ tokens) =
     (from ≤ token.from) × (token.from < token.to) × (token.to ≤ size) × AreInOrder token.to size tokens
 
--- the token is the longest one at its offset, and its place is that of its first byte
+-- the token is longer than one of any other kind at its offset, and its place is that of its first byte
 pub record Stands (body : List ℕ) (start : Pos) (token : Token) : Type 0 where
   pub place : token.at ≡ place_after start (take token.from body)
   pub text : after_token token.kind (drop token.from body) ≡ Some (drop token.to body)
-  pub longest : (kind : TokenKind) (rest : List ℕ) → after_token kind (drop token.from body) ≡ Some rest →
-      length (drop token.to body) ≤ length rest
+  pub longest : (kind : TokenKind) (rest : List ℕ) → kind ≢ token.kind → after_token kind (drop token.from body) ≡ Some rest →
+      length (drop token.to body) < length rest
 
 abbrev pub EachStands : List ℕ → Pos → List Token → Type 0
 EachStands body start [] = Unit {0}
