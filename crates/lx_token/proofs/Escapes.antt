@@ -100,7 +100,7 @@ digits_begin-count : (test : ℕ → Bool) (count : ℕ) (digits text : List ℕ
 digits_begin-count test count digits text are =
     subst (λ n. begins_with_digits test n (digits ++ text) ≡ true) are.0 (digits-begin test digits text are.1)
 
-no_octal_digit : (letter : ℕ) → (letter < 48) ⊎ (55 < letter) → is_octal_digit letter ≡ false
+pub no_octal_digit : (letter : ℕ) → (letter < 48) ⊎ (55 < letter) → is_octal_digit letter ≡ false
 no_octal_digit letter outside = grind (arith, nat_tests)
 
 pub escape-begins : (letter : ℕ) (digits text : List ℕ) → IsEscape letter digits → is_escape letter (digits ++ text) ≡ true

@@ -1,6 +1,7 @@
 pub mod Digits
 pub mod Ends
 pub mod Escapes
+pub mod ItemCharacters
 pub mod Longest
 pub mod Nesting
 pub mod Passing

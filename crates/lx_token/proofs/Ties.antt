@@ -1,5 +1,5 @@
 -- No two kinds have tokens of one length at a place.
-use Rattle.std.proofs.Common.{◌≡◌, ◌≢◌, ℕ, ◌+◌, ◌<◌, ◌≤◌, ◌⊎◌, inl, inr, ⊎_elim, Bool, true, false, cond, List, [], ◌∷◌, ◌++◌, length, drop, codes, Option, Some, None, refl, sym, ◌∙◌, ap, subst, arith, ◌==◌, ◌||◌, if◌then◌else◌, is_some, option_and_then}
+use Rattle.std.proofs.Common.{◌≡◌, ℕ, ◌<◌, ◌⊎◌, inl, inr, ⊎_elim, Bool, true, false, cond, List, [], ◌∷◌, ◌++◌, length, drop, codes, Option, Some, None, refl, sym, ◌∙◌, ap, subst, arith, ◌==◌, ◌||◌, if◌then◌else◌, is_some, option_and_then}
 use Rattle.std.proofs.lemmas.Bool.{eqb-true}
 use Rattle.std.proofs.lemmas.Bool.Decides.{nat_tests}
 use Rattle.std.proofs.lemmas.Option.{same_Some, none-some}
@@ -84,29 +84,29 @@ sign_told letter =
     (λ is. at_sign 62 (eqb-true letter 62 is) refl))
     (λ is. at_sign 44 (eqb-true letter 44 is) refl))
   where
-  at_sign : (other : ℕ) → letter ≡ other → told other ≡ Signs → told letter ≡ Signs
-  at_sign other same is = told_at letter other Signs same is
+    at_sign : (other : ℕ) → letter ≡ other → told other ≡ Signs → told letter ≡ Signs
+    at_sign other same is = told_at letter other Signs same is
 
 number_told : (letter : ℕ) (text rest : List ℕ) → after_token Number (letter ∷ text) ≡ Some rest → told letter ≡ Number
 number_told letter text rest h = at (letter == 45) refl h
   where
-  at : (b : Bool) → (letter == 45) ≡ b → cond b (after_numeral text) (after_numeral (letter ∷ text)) ≡ Some rest → told letter ≡ Number
-  at true is h = told_at letter 45 Number (eqb-true letter 45 is) refl
-  at false is h = digit_told letter (tested (is_digit letter) (Some (after_letters is_digit text)) rest h)
+    at : (b : Bool) → (letter == 45) ≡ b → cond b (after_numeral text) (after_numeral (letter ∷ text)) ≡ Some rest → told letter ≡ Number
+    at true is h = told_at letter 45 Number (eqb-true letter 45 is) refl
+    at false is h = digit_told letter (tested (is_digit letter) (Some (after_letters is_digit text)) rest h)
 
 signs_told : (letter : ℕ) (text rest : List ℕ) → after_token Signs (letter ∷ text) ≡ Some rest → told letter ≡ Signs
 signs_told letter text rest h =
     at (begins_with (codes ":=>") (letter ∷ text)) (begins_with (codes "=>") (letter ∷ text)) (begins_with (codes "/*") (letter ∷ text)) refl refl h
   where
-  at : (three two comment : Bool) → begins_with (codes ":=>") (letter ∷ text) ≡ three → begins_with (codes "=>") (letter ∷ text) ≡ two →
-      cond three (Some (drop 3 (letter ∷ text))) (cond two (Some (drop 2 (letter ∷ text))) (cond comment None (cond (is_sign letter) (Some text) None))) ≡ Some rest →
-      told letter ≡ Signs
-  at true two comment is_three is_two h =
-      told_at letter 58 Signs (sym (eqb-true 58 letter (both (58 == letter) (begins_with (codes "=>") text) is_three))) refl
-  at false true comment is_three is_two h =
-      told_at letter 61 Signs (sym (eqb-true 61 letter (both (61 == letter) (begins_with (codes ">") text) is_two))) refl
-  at false false true is_three is_two h = absurd (cc)
-  at false false false is_three is_two h = sign_told letter (tested (is_sign letter) (Some text) rest h)
+    at : (three two comment : Bool) → begins_with (codes ":=>") (letter ∷ text) ≡ three → begins_with (codes "=>") (letter ∷ text) ≡ two →
+        cond three (Some (drop 3 (letter ∷ text))) (cond two (Some (drop 2 (letter ∷ text))) (cond comment None (cond (is_sign letter) (Some text) None))) ≡ Some rest →
+        told letter ≡ Signs
+    at true two comment is_three is_two h =
+        told_at letter 58 Signs (sym (eqb-true 58 letter (both (58 == letter) (begins_with (codes "=>") text) is_three))) refl
+    at false true comment is_three is_two h =
+        told_at letter 61 Signs (sym (eqb-true 61 letter (both (61 == letter) (begins_with (codes ">") text) is_two))) refl
+    at false false true is_three is_two h = absurd (cc)
+    at false false false is_three is_two h = sign_told letter (tested (is_sign letter) (Some text) rest h)
 
 told_group : (kind : TokenKind) (letter : ℕ) (text rest : List ℕ) → after_token kind (letter ∷ text) ≡ Some rest → told letter ≡ group kind
 told_group Name letter text rest h =
@@ -201,32 +201,32 @@ no_ties kind other text rest rest' h h' tie =
     let same = same_group kind other text rest rest' h h' in
     ⊎_elim
     (λ self. ⊎_elim
-      (λ self'. sym self ∙ same ∙ self')
-      (λ pair. ⊎_elim
-        (λ config.
-        let name : kind ≡ Name = sym self ∙ same ∙ ap group config in
-        let at_name = subst (λ k. after_token k text ≡ Some rest) name h in
-        let at_config = subst (λ k. after_token k text ≡ Some rest') config h' in
-        let less = config_is_longer text rest rest' at_name at_config in absurd (omega arith))
-        (λ code.
-        let bounds : kind ≡ Bounds = sym self ∙ same ∙ ap group code in
-        absurd (no_code_at_bounds text rest rest' (subst (λ k. after_token k text ≡ Some rest) bounds h) (subst (λ k. after_token k text ≡ Some rest') code h')))
-        pair)
-      (group_cases other))
+    (λ self'. sym self ∙ same ∙ self')
     (λ pair. ⊎_elim
-      (λ config. ⊎_elim
-        (λ self'.
-        let name : other ≡ Name = sym self' ∙ sym same ∙ ap group config in
-        let at_name = subst (λ k. after_token k text ≡ Some rest') name h' in
-        let at_config = subst (λ k. after_token k text ≡ Some rest) config h in
-        let less = config_is_longer text rest' rest at_name at_config in absurd (omega arith))
-        (λ pair'. ⊎_elim (λ config'. config ∙ sym config') (λ code'. absurd (let clash : Name ≡ Bounds = ap group (sym config) ∙ same ∙ ap group code' in cc)) pair')
-        (group_cases other))
-      (λ code. ⊎_elim
-        (λ self'.
-        let bounds : other ≡ Bounds = sym self' ∙ sym same ∙ ap group code in
-        absurd (no_code_at_bounds text rest' rest (subst (λ k. after_token k text ≡ Some rest') bounds h') (subst (λ k. after_token k text ≡ Some rest) code h)))
-        (λ pair'. ⊎_elim (λ config'. absurd (let clash : Bounds ≡ Name = ap group (sym code) ∙ same ∙ ap group config' in cc)) (λ code'. code ∙ sym code') pair')
-        (group_cases other))
-      pair)
+    (λ config.
+    let name : kind ≡ Name = sym self ∙ same ∙ ap group config in
+    let at_name = subst (λ k. after_token k text ≡ Some rest) name h in
+    let at_config = subst (λ k. after_token k text ≡ Some rest') config h' in
+    let less = config_is_longer text rest rest' at_name at_config in absurd (omega arith))
+    (λ code.
+    let bounds : kind ≡ Bounds = sym self ∙ same ∙ ap group code in
+    absurd (no_code_at_bounds text rest rest' (subst (λ k. after_token k text ≡ Some rest) bounds h) (subst (λ k. after_token k text ≡ Some rest') code h')))
+    pair)
+    (group_cases other))
+    (λ pair. ⊎_elim
+    (λ config. ⊎_elim
+    (λ self'.
+    let name : other ≡ Name = sym self' ∙ sym same ∙ ap group config in
+    let at_name = subst (λ k. after_token k text ≡ Some rest') name h' in
+    let at_config = subst (λ k. after_token k text ≡ Some rest) config h in
+    let less = config_is_longer text rest' rest at_name at_config in absurd (omega arith))
+    (λ pair'. ⊎_elim (λ config'. config ∙ sym config') (λ code'. absurd (let clash : Name ≡ Bounds = ap group (sym config) ∙ same ∙ ap group code' in cc)) pair')
+    (group_cases other))
+    (λ code. ⊎_elim
+    (λ self'.
+    let bounds : other ≡ Bounds = sym self' ∙ sym same ∙ ap group code in
+    absurd (no_code_at_bounds text rest' rest (subst (λ k. after_token k text ≡ Some rest') bounds h') (subst (λ k. after_token k text ≡ Some rest) code h)))
+    (λ pair'. ⊎_elim (λ config'. absurd (let clash : Bounds ≡ Name = ap group (sym code) ∙ same ∙ ap group config' in cc)) (λ code'. code ∙ sym code') pair')
+    (group_cases other))
+    pair)
     (group_cases kind)

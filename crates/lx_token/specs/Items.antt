@@ -1,7 +1,9 @@
 -- What strings and classes are made of.
-use Rattle.std.specs.Prelude.{◌≡◌, ◌≢◌, ℕ, ◌<◌, ◌≤◌, ◌⊎◌, Bool, List, [], ◌∷◌, ◌++◌, length}
+use Rattle.std.specs.Prelude.{◌≡◌, ◌≢◌, ℕ, ◌<◌, ◌≤◌, ◌⊎◌, Bool, true, false, List, [], ◌∷◌, ◌++◌, length}
 use Rattle.lx_base.specs.Letters.{EachLetter}
 use Rattle.lx_token.specs.Quoted.{is_hex_digit, is_octal_digit}
+use Rattle.lx_token.specs.Characters.{character, escape_point}
+use Rattle.lx_token.specs.declared.characters.Character.{Character}
 
 -- as many digits, and nothing else
 abbrev pub AreDigits : (ℕ → Bool) → ℕ → List ℕ → Type 0
@@ -50,3 +52,8 @@ pub record BeginsQuoted (opener close : ℕ) (text rest : List ℕ) : Type 0 whe
   pub items : List Item
   pub are_items : AreItems close items
   pub text_is : text ≡ opener ∷ spelled items (close ∷ rest)
+
+-- the character that an item stands for
+abbrev pub character_of : Item → Character
+character_of (Plain letter) = character letter false
+character_of (Escape letter digits) = character (escape_point (letter ∷ digits)) true

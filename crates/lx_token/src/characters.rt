@@ -1,5 +1,6 @@
 //! The characters of strings and classes.
-ghost use Rattle.std.specs.Prelude.{◌≡◌, ◌+◌, ◌-◌, ◌*◌, ◌<◌, ◌≤◌, length, take, drop, IfOk};
+ghost use Rattle.std.specs.Prelude.{◌≡◌, ℕ, ◌+◌, ◌-◌, ◌*◌, ◌<◌, ◌≤◌, List, [], ◌∷◌, length, take, drop, map, IfOk};
+ghost use Rattle.lx_token.specs.Items.{AreItems, Item, character_of, spelled};
 ghost use Rattle.lx_token.specs.Characters.{characters_behind, characters_of, digit_value, digits_value, escape_point, escape_size};
 
 use lx_base::{Memory, Sequence};
@@ -147,3 +148,9 @@ fn between_ends(text: &[u8]) -> &[u8]
         _ => &[],
     }
 }
+
+/// Which characters a string or class has: it does nothing, and its contract is the law.
+pub fn characters_are_those_of_items()
+    ensures { (opener close : ℕ) (items : List Item) → AreItems close items →
+        characters_of (opener ∷ spelled items (close ∷ [])) ≡ map character_of items }
+{}

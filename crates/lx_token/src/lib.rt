@@ -13,7 +13,7 @@ mod quoted;
 mod signs;
 mod words;
 
-pub use characters::{Character, characters_of};
+pub use characters::{Character, characters_are_those_of_items, characters_of};
 pub use classes::{Class, PointRange, class_of};
 pub use kinds::{TokenKind, quoted_texts_are_items};
 pub use list::{Token, TokenList, tokens, tokens_stand_in_order};
