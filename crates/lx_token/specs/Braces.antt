@@ -27,6 +27,7 @@ abbrev pub AreUnclosed : (quote size : ℕ) → List ℕ → Type 0
 AreUnclosed quote size text =
     (front tail : List ℕ) → text ≡ front ++ quote ∷ tail → size ≤ length tail → after_literal quote false tail ≡ None
 
+-- whether a comment begins here, closed or not
 abbrev pub begins_comment : List ℕ → Bool
 begins_comment text = begins_with (codes "//") text || begins_with (codes "/*") text
 

@@ -31,6 +31,7 @@ escape_size (letter ∷ text) =
     if letter == 120 then 3 else (if (letter == 117) || (letter == 88) then 5 else (if letter == 85 then 9
     else (if is_octal_digit letter then 3 else 1)))
 
+-- a character, by its code point and whether an escape spells it
 abbrev pub character : ℕ → Bool → Character
 character point is_escaped = record { point = point; is_escaped = is_escaped }
 

@@ -32,5 +32,6 @@ class_behind (first ∷ characters) =
     if is_plain 94 first then record { is_negated = true; ranges = ranges_behind None false characters }
     else record { is_negated = false; ranges = ranges_behind None false (first ∷ characters) }
 
+-- the class that a token of kind `Class` is, by its text
 abbrev pub class_of : List ℕ → Class
 class_of text = class_behind (characters_of text)

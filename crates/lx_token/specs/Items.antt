@@ -37,6 +37,7 @@ abbrev pub IsItem : (close : ℕ) → Item → Type 0
 IsItem close (Plain letter) = (letter ≢ close) × (letter ≢ 92) × (letter ≢ 10)
 IsItem close (Escape letter digits) = IsEscape letter digits
 
+-- each of the items may stand before the closing letter
 abbrev pub AreItems : (close : ℕ) → List Item → Type 0
 AreItems close [] = Unit {0}
 AreItems close (item ∷ items) = IsItem close item × AreItems close items

@@ -2,9 +2,11 @@
 use Rattle.std.specs.Prelude.{ℕ, zero, suc, Bool, true, false, List, [], ◌∷◌, Option, Some, None, nat_le, ◌==◌, ◌||◌, if◌then◌else◌}
 use Rattle.lx_base.specs.Letters.{is_within, is_digit}
 
+-- 0 to 7
 abbrev pub is_octal_digit : ℕ → Bool
 is_octal_digit letter = is_within 48 55 letter
 
+-- 0 to 9, a to f, A to F
 abbrev pub is_hex_digit : ℕ → Bool
 is_hex_digit letter = is_digit letter || is_within 97 102 letter || is_within 65 70 letter
 

@@ -32,6 +32,8 @@ longer found kind None = found
 longer None kind (Some rest) = Some (kind, rest)
 longer (Some other) kind (Some rest) = if nat_lt (length rest) (length other.1) then Some (kind, rest) else Some other
 
+-- the longest of what was found and of the tokens of these kinds; of two equally long ones the one of the earlier kind,
+-- but no two kinds have tokens of one length at a place
 abbrev pub longest_of : Option Found → List TokenKind → List ℕ → Option Found
 longest_of found [] text = found
 longest_of found (kind ∷ kinds) text = longest_of (longer found kind (after_token kind text)) kinds text

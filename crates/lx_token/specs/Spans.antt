@@ -22,6 +22,7 @@ pub record Stands (body : List ℕ) (start : Pos) (token : Token) : Type 0 where
   pub longest : (kind : TokenKind) (rest : List ℕ) → kind ≢ token.kind → after_token kind (drop token.from body) ≡ Some rest →
       length (drop token.to body) < length rest
 
+-- each of the tokens stands in the body
 abbrev pub EachStands : List ℕ → Pos → List Token → Type 0
 EachStands body start [] = Unit {0}
 EachStands body start (token ∷ tokens) = Stands body start token × EachStands body start tokens

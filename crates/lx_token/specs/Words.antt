@@ -21,6 +21,7 @@ after_name (letter ∷ text) = if begins_identifier letter then Some (after_lett
 abbrev pub is_in_word : ℕ → Bool
 is_in_word letter = is_in_identifier letter || (letter == 45)
 
+-- whether a letter of a word stands here
 abbrev pub begins_word : List ℕ → Bool
 begins_word [] = false
 begins_word (letter ∷ text) = is_in_word letter

@@ -116,6 +116,8 @@ fn after_escape(text: &[u8]) -> &[u8]
 }
 
 /// The characters of a token of kind `Str`, `IStr` or `Class`, by its text.
+///
+/// An escape is one character, and so is any other byte. `Memory` comes only where memory runs out.
 pub fn characters_of(alloc: Global, text: &[u8]) -> Result<Sequence<Character>, Memory>
     ensures { IfOk result (λ characters. characters ≡ characters_of text.now) }
 {

@@ -16,7 +16,9 @@ pub struct PointRange {
 /// The class of a token: the points of its ranges, or all others.
 #[derive(Debug, Drop)]
 pub struct Class {
+    /// Whether a leading `^` takes all points but those of the ranges.
     pub is_negated: bool,
+    /// The ranges in the order of the text; they may overlap.
     pub ranges: Sequence<PointRange>,
 }
 
@@ -73,6 +75,9 @@ fn ranges_of(alloc: Global, characters: &[Character]) -> Result<Sequence<PointRa
 }
 
 /// The class of a token of kind `Class`, by its text.
+///
+/// `a-b` is a range, with its bounds exchanged where they are swapped. A `-` that stands first, last or directly behind a
+/// range is a point, and so are a `-` or a `^` that are escaped. `Memory` comes only where memory runs out.
 pub fn class_of(alloc: Global, text: &[u8]) -> Result<Class, Memory>
     ensures { IfOk result (λ class. class ≡ class_of text.now) }
 {

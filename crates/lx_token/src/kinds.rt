@@ -13,16 +13,27 @@ use crate::words::{after_config, after_name, after_number, after_tag};
 /// The kinds of tokens. Which sign a token of kind `Signs` is, its text tells.
 #[derive(Clone, Copy, Debug, PartialEq, Eq)]
 pub enum TokenKind {
+    /// A letter or `_`, then letters, digits and `_`.
     Name,
+    /// `re2c`, and one word or more that a colon leads.
     Config,
+    /// Digits, or `-` and digits.
     Number,
+    /// Characters between `"` and `"`.
     Str,
+    /// Characters between `'` and `'`, whose ASCII letters stand for both cases.
     IStr,
+    /// Characters between `[` and `]`.
     Class,
+    /// `@` and a name.
     STag,
+    /// `#` and a name.
     MTag,
+    /// `{n}`, `{n,}` or `{n,m}`.
     Bounds,
+    /// Any other `{` up to its matching `}`.
     Code,
+    /// One of `= ; | \ / ( ) * + ? . $ < > , => :=>`.
     Signs,
 }
 
@@ -46,7 +57,7 @@ fn longer<'a>(
     }
 }
 
-/// The longest token that begins here.
+/// The longest token that begins here: of two kinds that could stand, one is always longer.
 pub(crate) fn longest_token(text: &[u8]) -> Option<Found<'_>>
     ensures found { option_map (λ token. (token.0, token.1.now)) result ≡ longest_token text.now }
     ensures shorter { IfSome result (λ token. length token.1.now < length text.now) }

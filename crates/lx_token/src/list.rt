@@ -12,19 +12,25 @@ use crate::places::place_after;
 use lx_base::{Fault, Pos, Sequence, Stop};
 use std::alloc::Global;
 
-/// A token: the bytes of its body from `from` up to `to`, which begin at the place `at`.
+/// A token: the bytes of its body from `from` up to `to`.
 #[derive(Clone, Copy, Debug, PartialEq, Eq)]
 pub struct Token {
     pub kind: TokenKind,
+    /// How many bytes of the body stand before it.
     pub from: u32,
+    /// How many bytes of the body stand before what follows it.
     pub to: u32,
+    /// The line and column of its first byte.
     pub at: Pos,
 }
 
 /// The tokens of a body, in order.
 pub type TokenList = Sequence<Token>;
 
-/// The tokens of a body that begins at a place.
+/// The tokens of a body that begins at the place `at`.
+///
+/// Blanks and comments are passed over, and then the longest token of all kinds is taken. A comment or an action that is
+/// not closed begins no token.
 ///
 /// It refuses with `BadToken` exactly at the first byte where no token begins; `Memory` comes only where memory runs out.
 pub fn tokens(alloc: Global, body: &[u8], at: Pos) -> Result<TokenList, Stop>
@@ -33,6 +39,7 @@ pub fn tokens(alloc: Global, body: &[u8], at: Pos) -> Result<TokenList, Stop>
     requires col { at.col ≤ 16777217 }
     ensures { MatchResult result (λ list. tokens_of body.now at ≡ Ok list) (StopsWith (tokens_of body.now at)) }
 {
+    // A token has a byte at least, so the list never grows: that would take the memory of both lists at once.
     let mut found = Sequence::from_vec(Vec::with_capacity(alloc, body.len())?);
     let mut place = at;
     let mut rest = body;

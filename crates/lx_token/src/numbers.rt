@@ -10,14 +10,18 @@ const MOST: u64 = 1 << 40;
 /// The value of a number.
 #[derive(Clone, Copy, Debug, PartialEq, Eq)]
 pub struct Number {
+    /// Whether `-` stands before the digits.
     pub is_negative: bool,
+    /// The value of the digits; 2^40 stands for itself and for more.
     pub magnitude: u64,
 }
 
-/// How often what stands before bounds may be repeated; without `max`, there is no end.
+/// How often what stands before bounds may be repeated; 2^40 stands for itself and for more.
 #[derive(Clone, Copy, Debug, PartialEq, Eq)]
 pub struct Repeat {
+    /// The least count.
     pub min: u64,
+    /// The greatest count, which may be less than the least one; `None` where there is no end.
     pub max: Option<u64>,
 }
 
