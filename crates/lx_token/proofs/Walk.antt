@@ -10,7 +10,8 @@ use Rattle.lx_token.specs.declared.kinds.TokenKind.{TokenKind}
 use Rattle.lx_token.specs.Blanks.{after_blank}
 use Rattle.lx_token.specs.Places.{next_place, place_after}
 use Rattle.lx_token.specs.Rows.{Found, after_token, longest_token}
-use Rattle.lx_token.specs.Spans.{AreInOrder, Stands, EachStands, AreTokens, IsBadToken}
+use Rattle.lx_token.specs.Spans.{AreInOrder, Stands, EachStands, Covers, AreTokens, IsBadTokenFrom, IsBadToken}
+use Rattle.lx_token.specs.Spans.PassesBlanks.{stay, pass}
 use Rattle.lx_token.specs.Tokens.{Tokens, place_of_rest, token_at, step, tokens_from, tokens_of}
 use Rattle.lx_token.proofs.Ends.{IsEnd, IsShorterEnd, LeavesEnd, IsShorterEnd-end, after_blank-end, after_token-end}
 use Rattle.lx_token.proofs.Ties.{no_ties}
@@ -72,10 +73,18 @@ AreInOrder-earlier from later size (token ∷ tokens) le h = (omega arith, h.1, 
 
 -- the tokens that were answered are those that were there, and more that stand in the body
 record GoesOn (body : List ℕ) (start : Pos) (tokens list : List Token) (from : ℕ) : Type 0 where
-  pub more : List Token
-  pub all : list ≡ tokens ++ more
-  pub in_order : AreInOrder from (length body) more
-  pub each_stands : EachStands body start more
+  more : List Token
+  all : list ≡ tokens ++ more
+  in_order : AreInOrder from (length body) more
+  each_stands : EachStands body start more
+  covers : Covers body from (length body) more
+
+-- one more blank or comment before the tokens
+Covers-blank : (body : List ℕ) (from later to : ℕ) (tokens : List Token) → after_blank (drop from body) ≡ Some (drop later body) →
+    Covers body later to tokens → Covers body from to tokens
+Covers-blank body from later to [] blank covers = pass (drop from body) (drop later body) (drop to body) blank covers
+Covers-blank body from later to (token ∷ tokens) blank covers =
+    (pass (drop from body) (drop later body) (drop token.from body) blank covers.0, covers.1, covers.2)
 
 left_end : (text : List ℕ) (rest : Option (List ℕ)) (tail : List ℕ) → rest ≡ Some tail → LeavesEnd text rest → IsShorterEnd text tail
 left_end text rest tail is h = let P : Option (List ℕ) → Type 0 = λ o. LeavesEnd text o in subst P is h
@@ -99,10 +108,13 @@ module _ (body : List ℕ) (start : Pos) where
   abbrev Next : Type 0
   Next = (tokens : List Token) (at : Pos) (text : List ℕ) → Tokens
 
-  abbrev NextGoesOn : Next → Type 0
-  NextGoesOn next =
-      (tokens : List Token) (at : Pos) (text : List ℕ) (list : List Token) → StaysIn body start at text → next tokens at text ≡ Ok list →
-      GoesOn body start tokens list (length body - length text)
+  abbrev offset_of : List ℕ → ℕ
+  offset_of text = length body - length text
+
+  abbrev NextGoesOn : (room : ℕ) → Next → Type 0
+  NextGoesOn room next =
+      (tokens : List Token) (at : Pos) (text : List ℕ) (list : List Token) → StaysIn body start at text → length text ≤ room →
+      next tokens at text ≡ Ok list → GoesOn body start tokens list (offset_of text)
 
   stands_here : (at : Pos) (text : List ℕ) (found : Found) → StaysIn body start at text → longest_token text ≡ Some found →
       Stands body start (token_at (length body) at text found)
@@ -115,67 +127,100 @@ module _ (body : List ℕ) (start : Pos) where
         longest = λ kind other differs stands. rw (← rest.text_is) (strictly text found is kind other differs (rw (← stays.text_is) at stands));
       }
 
-  step_goes_on : (next : Next) → NextGoesOn next → (tokens : List Token) (at : Pos) (text : List ℕ) (list : List Token)
+  blank_here : (at at' : Pos) (text tail : List ℕ) → StaysIn body start at text → StaysIn body start at' tail → after_blank text ≡ Some tail →
+      after_blank (drop (offset_of text) body) ≡ Some (drop (offset_of tail) body)
+  blank_here at at' text tail stays stays' is = rw (← stays.text_is, ← stays'.text_is) is
+
+  step_goes_on : (room : ℕ) (next : Next) → NextGoesOn room next → (tokens : List Token) (at : Pos) (text : List ℕ) (list : List Token)
       (blank : Option (List ℕ)) (found : Option Found) → after_blank text ≡ blank → longest_token text ≡ found → StaysIn body start at text →
-      step next (length body) tokens at text blank found ≡ Ok list → GoesOn body start tokens list (length body - length text)
-  step_goes_on next goes tokens at text list (Some tail) found is_blank is_token stays is =
+      length text ≤ suc room → step next (length body) tokens at text blank found ≡ Ok list → GoesOn body start tokens list (offset_of text)
+  step_goes_on room next goes tokens at text list (Some tail) found is_blank is_token stays le is =
       let tail_end = left_end text (after_blank text) tail is_blank (after_blank-end text) in
       let less = shorter_length text tail tail_end in
       let stays' = StaysIn-rest body start at text tail stays (shorter_drop text tail tail_end) in
-      let more = goes tokens (place_of_rest at text tail) tail list stays' is in record {
-        more = more.more;
-        all = more.all;
-        in_order = AreInOrder-earlier (length body - length text) (length body - length tail) (length body) more.more (omega arith) more.in_order;
-        each_stands = more.each_stands;
+      let on = goes tokens (place_of_rest at text tail) tail list stays' (omega arith) is in record {
+        more = on.more;
+        all = on.all;
+        in_order = AreInOrder-earlier (offset_of text) (offset_of tail) (length body) on.more (omega arith) on.in_order;
+        each_stands = on.each_stands;
+        covers =
+            Covers-blank body (offset_of text) (offset_of tail) (length body) on.more
+            (blank_here at (place_of_rest at text tail) text tail stays stays' is_blank) on.covers;
       }
-  step_goes_on next goes tokens at text list None None is_blank is_token stays is = absurd (cc)
-  step_goes_on next goes tokens at text list None (Some found) is_blank is_token stays is =
+  step_goes_on room next goes tokens at text list None None is_blank is_token stays le is = absurd (cc)
+  step_goes_on room next goes tokens at text list None (Some found) is_blank is_token stays le is =
       let here = longest_token-is text found is_token in
       let tail_end = left_end text (after_token found.0 text) found.1 here (after_token-end found.0 text) in
       let less = shorter_length text found.1 tail_end in
       let within = stays.within in
       let stays' = StaysIn-rest body start at text found.1 stays (shorter_drop text found.1 tail_end) in
       let token = token_at (length body) at text found in
-      let more = goes (tokens ++ token ∷ []) (place_of_rest at text found.1) found.1 list stays' is in record {
-        more = token ∷ more.more;
-        all = more.all ∙ append_assoc tokens (token ∷ []) more.more;
-        in_order = (omega arith, omega arith, omega arith, more.in_order);
-        each_stands = (stands_here at text found stays is_token, more.each_stands);
+      let on = goes (tokens ++ token ∷ []) (place_of_rest at text found.1) found.1 list stays' (omega arith) is in record {
+        more = token ∷ on.more;
+        all = on.all ∙ append_assoc tokens (token ∷ []) on.more;
+        in_order = (omega arith, omega arith, omega arith, on.in_order);
+        each_stands = (stands_here at text found stays is_token, on.each_stands);
+        covers = (stay (drop (offset_of text) body), rw (← stays.text_is) is_blank, on.covers);
       }
 
-  tokens_go_on : (steps : ℕ) → NextGoesOn (tokens_from steps (length body))
-  tokens_go_on zero tokens at text list stays is =
-      record { more = []; all = sym (append-nil tokens ∙ let same : tokens ≡ list = cc in same); in_order = tt; each_stands = tt }
-  tokens_go_on (suc steps) tokens at [] list stays is =
-      record { more = []; all = sym (append-nil tokens ∙ let same : tokens ≡ list = cc in same); in_order = tt; each_stands = tt }
-  tokens_go_on (suc steps) tokens at (letter ∷ text) list stays is =
-      step_goes_on (tokens_from steps (length body)) (tokens_go_on steps) tokens at (letter ∷ text) list (after_blank (letter ∷ text))
-      (longest_token (letter ∷ text)) refl refl stays is
+  ended : (tokens list : List Token) (at : Pos) (text : List ℕ) → StaysIn body start at text → length text ≡ 0 → list ≡ tokens →
+      GoesOn body start tokens list (offset_of text)
+  ended tokens list at text stays empty same =
+      let from : offset_of text ≡ length body = omega arith in record {
+        more = [];
+        all = same ∙ sym (append-nil tokens);
+        in_order = tt;
+        each_stands = tt;
+        covers = rw from (stay (drop (length body) body));
+      }
+
+  tokens_go_on : (steps : ℕ) → NextGoesOn steps (tokens_from steps (length body))
+  tokens_go_on zero tokens at text list stays le is = ended tokens list at text stays (omega arith) (cc)
+  tokens_go_on (suc steps) tokens at [] list stays le is = ended tokens list at [] stays refl (cc)
+  tokens_go_on (suc steps) tokens at (letter ∷ text) list stays le is =
+      step_goes_on steps (tokens_from steps (length body)) (tokens_go_on steps) tokens at (letter ∷ text) list (after_blank (letter ∷ text))
+      (longest_token (letter ∷ text)) refl refl stays le is
 
   pub tokens_stand : (list : List Token) → tokens_of body start ≡ Ok list → AreTokens body start list
   tokens_stand list is =
-      let on = tokens_go_on (length body) [] start body list (StaysIn-start body start) is in
-      let none : length body - length body ≡ 0 = omega arith in
-      let all : on.more ≡ list = sym on.all in
-      subst (λ l. AreTokens body start l) all (record { in_order = rw none at on.in_order; each_stands = on.each_stands })
+      let on = tokens_go_on (length body) [] start body list (StaysIn-start body start) (omega arith) is in
+      let from : length body - length body ≡ 0 = omega arith in
+      subst (λ l. AreTokens body start l) (sym on.all)
+      (record { in_order = rw from at on.in_order; each_stands = on.each_stands; covers = rw from at on.covers })
 
   abbrev NextStops : Next → Type 0
   NextStops next =
       (tokens : List Token) (at : Pos) (text : List ℕ) (fault : Fault) → StaysIn body start at text → next tokens at text ≡ Err fault →
-      IsBadToken body start fault
+      IsBadTokenFrom (offset_of text) body start fault
 
   step_stops : (next : Next) → NextStops next → (tokens : List Token) (at : Pos) (letter : ℕ) (text : List ℕ) (fault : Fault)
       (blank : Option (List ℕ)) (found : Option Found) → after_blank (letter ∷ text) ≡ blank → longest_token (letter ∷ text) ≡ found →
-      StaysIn body start at (letter ∷ text) → step next (length body) tokens at (letter ∷ text) blank found ≡ Err fault → IsBadToken body start fault
+      StaysIn body start at (letter ∷ text) → step next (length body) tokens at (letter ∷ text) blank found ≡ Err fault →
+      IsBadTokenFrom (offset_of (letter ∷ text)) body start fault
   step_stops next stops tokens at letter text fault (Some tail) found is_blank is_token stays is =
-      let tail_end = left_end (letter ∷ text) (after_blank (letter ∷ text)) tail is_blank (after_blank-end (letter ∷ text)) in
-      stops tokens (place_of_rest at (letter ∷ text) tail) tail fault
-      (StaysIn-rest body start at (letter ∷ text) tail stays (shorter_drop (letter ∷ text) tail tail_end)) is
+      let whole = letter ∷ text in
+      let tail_end = left_end whole (after_blank whole) tail is_blank (after_blank-end whole) in
+      let stays' = StaysIn-rest body start at whole tail stays (shorter_drop whole tail tail_end) in
+      let bad = stops tokens (place_of_rest at whole tail) tail fault stays' is in record {
+        tokens = bad.tokens;
+        offset = bad.offset;
+        within = bad.within;
+        each_stands = bad.each_stands;
+        covers =
+            Covers-blank body (offset_of whole) (offset_of tail) bad.offset bad.tokens
+            (blank_here at (place_of_rest at whole tail) whole tail stays stays' is_blank) bad.covers;
+        fault_is = bad.fault_is;
+        no_blank = bad.no_blank;
+        no_token = bad.no_token;
+      }
   step_stops next stops tokens at letter text fault None None is_blank is_token stays is =
       let within = stays.within in
       let fault_is : fault ≡ BadToken at = cc in record {
-        offset = length body - length (letter ∷ text);
+        tokens = [];
+        offset = offset_of (letter ∷ text);
         within = omega arith;
+        each_stands = tt;
+        covers = stay (drop (offset_of (letter ∷ text)) body);
         fault_is = fault_is ∙ ap BadToken stays.at_is;
         no_blank = rw (← stays.text_is) is_blank;
         no_token = λ kind. rw (← stays.text_is) (longest_token-none (letter ∷ text) is_token kind);
@@ -184,8 +229,18 @@ module _ (body : List ℕ) (start : Pos) where
       let whole = letter ∷ text in
       let here = longest_token-is whole found is_token in
       let tail_end = left_end whole (after_token found.0 whole) found.1 here (after_token-end found.0 whole) in
-      stops (tokens ++ token_at (length body) at whole found ∷ []) (place_of_rest at whole found.1) found.1 fault
-      (StaysIn-rest body start at whole found.1 stays (shorter_drop whole found.1 tail_end)) is
+      let token = token_at (length body) at whole found in
+      let stays' = StaysIn-rest body start at whole found.1 stays (shorter_drop whole found.1 tail_end) in
+      let bad = stops (tokens ++ token ∷ []) (place_of_rest at whole found.1) found.1 fault stays' is in record {
+        tokens = token ∷ bad.tokens;
+        offset = bad.offset;
+        within = bad.within;
+        each_stands = (stands_here at whole found stays is_token, bad.each_stands);
+        covers = (stay (drop (offset_of whole) body), rw (← stays.text_is) is_blank, bad.covers);
+        fault_is = bad.fault_is;
+        no_blank = bad.no_blank;
+        no_token = bad.no_token;
+      }
 
   tokens_stop : (steps : ℕ) → NextStops (tokens_from steps (length body))
   tokens_stop zero tokens at text fault stays is = absurd (cc)
@@ -195,4 +250,6 @@ module _ (body : List ℕ) (start : Pos) where
       (longest_token (letter ∷ text)) refl refl stays is
 
   pub fault_is_bad_token : (fault : Fault) → tokens_of body start ≡ Err fault → IsBadToken body start fault
-  fault_is_bad_token fault is = tokens_stop (length body) [] start body fault (StaysIn-start body start) is
+  fault_is_bad_token fault is =
+      let bad = tokens_stop (length body) [] start body fault (StaysIn-start body start) is in
+      let from : length body - length body ≡ 0 = omega arith in subst (λ n. IsBadTokenFrom n body start fault) from bad

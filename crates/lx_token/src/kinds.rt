@@ -46,7 +46,8 @@ fn longer<'a>(
     kind: TokenKind,
     rest: Option<&'a [u8]>,
 ) -> Option<Found<'a>>
-    ensures found { option_map (λ token. (token.0, token.1.now)) result ≡ longer (option_map (λ token. (token.0, token.1.now)) found.entry) kind (option_copied rest.entry) }
+    ensures found { option_map (λ token. (token.0, token.1.now)) result ≡
+        longer (option_map (λ token. (token.0, token.1.now)) found.entry) kind (option_copied rest.entry) }
     ensures within { (size : ℕ) → IfSome found.entry (λ token. length token.1.now < size) →
         IfSome rest.entry (λ rest. length rest.now < size) → IfSome result (λ token. length token.1.now < size) }
 {
