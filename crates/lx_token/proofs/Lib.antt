@@ -1,0 +1,12 @@
+pub mod Digits
+pub mod Ends
+pub mod Escapes
+pub mod ItemCharacters
+pub mod Longest
+pub mod Nesting
+pub mod Passing
+pub mod QuotedItems
+pub mod Skipping
+pub mod Ties
+pub mod Unclosed
+pub mod Walk

@@ -1,0 +1,13 @@
+pub mod Blanks
+pub mod Braces
+pub mod Characters
+pub mod Classes
+pub mod Items
+pub mod Numbers
+pub mod Places
+pub mod Quoted
+pub mod Rows
+pub mod Signs
+pub mod Spans
+pub mod Tokens
+pub mod Words

@@ -1,0 +1,126 @@
+//! Bounds of repetitions, and actions.
+ghost use Rattle.std.specs.Prelude.{◌≡◌, ◌≢◌, ◌<◌, ◌≤◌, ◌∷◌, false, length, IfSome, unwrap_or};
+ghost use Rattle.std.specs.Option.{option_copied};
+ghost use Rattle.lx_token.specs.Braces.{AreUnclosed, after_bounds, after_braces, after_code, after_first_bound, after_literal, after_unquoted};
+
+use crate::blanks::{after_comment, after_line};
+use crate::words::{after_digits, after_letter, after_numeral};
+
+/// What follows bounds behind their first number.
+fn after_first_bound(text: &[u8]) -> Option<&[u8]>
+    ensures rest { option_copied result ≡ after_first_bound text.now }
+    ensures shorter { IfSome result (λ rest. length rest.now < length text.now) }
+{
+    match text.split_first() {
+        Some((b'}', tail)) => Some(tail),
+        Some((b',', tail)) => after_letter(after_digits(tail), b'}'),
+        _ => None,
+    }
+}
+
+/// What follows the bounds that begin here.
+pub(crate) fn after_bounds(text: &[u8]) -> Option<&[u8]>
+    ensures rest { option_copied result ≡ after_bounds text.now }
+    ensures shorter { IfSome result (λ rest. length rest.now < length text.now) }
+{
+    after_first_bound(after_numeral(after_letter(text, b'{')?)?)
+}
+
+/// What follows a C string or a character literal behind its opening quote, where it is closed in its line.
+fn after_literal(text: &[u8], quote: u8) -> Option<&[u8]>
+    ensures rest { option_copied result ≡ after_literal quote false text.now }
+    ensures shorter { IfSome result (λ rest. length rest.now < length text.now) }
+{
+    let mut rest = text;
+    let mut escaped = false;
+    while let Some((letter, tail)) = rest.split_first() {
+        if *letter == b'\n' {
+            return None;
+        }
+        if !escaped && *letter == quote {
+            return Some(tail);
+        }
+        escaped = !escaped && *letter == b'\\';
+        rest = tail;
+    }
+    None
+}
+
+/// What follows the literal behind its opening quote, or the text itself where it is not closed in its line.
+///
+/// A quote behind which `unclosed` bytes or more are left is known to be not closed, so that no line is searched again for
+/// each of its quotes.
+fn after_quote<'a>(text: &'a [u8], quote: u8, unclosed: &mut usize) -> &'a [u8]
+    requires quote { quote ≢ 10 }
+    requires known { AreUnclosed quote unclosed.old (quote ∷ text.now) }
+    ensures rest { result.now ≡ unwrap_or (after_literal quote false text.now) text.now }
+    ensures shorter { length result.now ≤ length text.now }
+    ensures known { AreUnclosed quote unclosed.new text.now }
+{
+    if text.len() >= *unclosed {
+        return text;
+    }
+    match after_literal(text, quote) {
+        Some(rest) => rest,
+        None => {
+            *unclosed = after_line(text).len();
+            text
+        }
+    }
+}
+
+/// What follows the comment or the byte at the front.
+fn after_unquoted(text: &[u8]) -> Option<&[u8]>
+    ensures rest { option_copied result ≡ after_unquoted text.now }
+    ensures shorter { IfSome result (λ rest. length rest.now < length text.now) }
+{
+    let (_, tail) = text.split_first()?;
+    if text.starts_with(b"//") || text.starts_with(b"/*") {
+        after_comment(text)
+    } else {
+        Some(tail)
+    }
+}
+
+/// What follows the brace that closes the one before the text.
+fn after_braces(text: &[u8]) -> Option<&[u8]>
+    ensures rest { option_copied result ≡ after_braces (length text.now) 0 text.now }
+    ensures shorter { IfSome result (λ rest. length rest.now < length text.now) }
+{
+    let mut rest = text;
+    let mut depth: usize = 0;
+    let mut unclosed_strings = usize::MAX;
+    let mut unclosed_characters = usize::MAX;
+    while let Some((letter, tail)) = rest.split_first() {
+        match *letter {
+            b'{' => {
+                depth += 1;
+                rest = tail;
+            }
+            b'}' => {
+                if depth == 0 {
+                    return Some(tail);
+                }
+                depth -= 1;
+                rest = tail;
+            }
+            b'"' => rest = after_quote(tail, b'"', &mut unclosed_strings),
+            b'\'' => rest = after_quote(tail, b'\'', &mut unclosed_characters),
+            _ => rest = after_unquoted(rest)?,
+        }
+    }
+    None
+}
+
+/// What follows the action that begins here.
+pub(crate) fn after_code(text: &[u8]) -> Option<&[u8]>
+    ensures rest { option_copied result ≡ after_code text.now }
+    ensures shorter { IfSome result (λ rest. length rest.now < length text.now) }
+{
+    let tail = after_letter(text, b'{')?;
+    if after_bounds(text).is_some() {
+        None
+    } else {
+        after_braces(tail)
+    }
+}

@@ -1,0 +1,23 @@
+//! The tokens of a block of rules, and what numbers, bounds, strings and classes among them say.
+#![tactic(auto)]
+
+mod blanks;
+mod braces;
+mod characters;
+mod classes;
+mod kinds;
+mod list;
+mod numbers;
+mod places;
+mod quoted;
+mod signs;
+mod words;
+
+pub use characters::{Character, characters_are_those_of_items, characters_of};
+pub use classes::{Class, PointRange, class_of};
+pub use kinds::{TokenKind, quoted_texts_are_items};
+pub use list::{Token, TokenList, tokens, tokens_stand_in_order};
+pub use numbers::{Number, Repeat, number_of, repeat_of};
+
+#[cfg(test)]
+mod tests;
