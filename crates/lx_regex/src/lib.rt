@@ -1,0 +1,10 @@
+//! Regular expressions with tags: what an expression matches, and which match of a rule list is meant.
+#![tactic(auto)]
+
+pub mod examples;
+pub mod expr;
+pub mod laws;
+pub mod rules;
+
+pub use expr::{Expr, nullable, size};
+pub use rules::{Kind, Rule, RuleSet, Tag};
