@@ -1,0 +1,12 @@
+pub mod Assignments
+pub mod Lengths
+pub mod ReadLines
+pub mod RoundTrip
+pub mod ReadSections
+pub mod RunSteps
+pub mod Steps
+pub mod StuckSteps
+pub mod Tails
+pub mod UsualNames
+pub mod ValidExamples
+pub mod Words

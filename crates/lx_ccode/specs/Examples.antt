@@ -1,0 +1,102 @@
+-- Small pieces, which together have every statement.
+use Rattle.std.specs.Prelude.{ℕ, true, false, List, [], ◌∷◌, codes, Some, None}
+use Rattle.lx_base.specs.Names.{Spellings}
+use Rattle.lx_ccode.specs.declared.piece.Stmt.{Stmt}
+use Rattle.lx_ccode.specs.declared.piece.Stmt.TheVariants.{Peek, Skip, Backup, Restore, Accept, Set, Unset, Copy, MSet, MUnset, MCopy, IfUnit, IfAccept, IfEnd, State, Need, Try, Cond, Tag, Count, End, Back, Goto, Leave, Code, Jump}
+use Rattle.lx_ccode.specs.declared.piece.CodeBlock.{CodeBlock}
+use Rattle.lx_ccode.specs.declared.piece.Piece.{Piece}
+
+-- the spellings of a source that configures none
+abbrev pub usual_names : Spellings
+usual_names =
+    codes "YYCTYPE" ∷ codes "YYCURSOR" ∷ codes "YYLIMIT" ∷ codes "YYMARKER" ∷ codes "YYCTXMARKER" ∷ codes "YYFILL" ∷ codes "YYGETSTATE"
+    ∷ codes "YYSETSTATE" ∷ codes "YYGETCONDITION" ∷ codes "YYSETCONDITION" ∷ codes "YYMTAGP" ∷ codes "YYMTAGN" ∷ codes "yych" ∷ codes "yyaccept"
+    ∷ codes "yyt" ∷ codes "yyc_" ∷ codes "yyc" ∷ []
+
+-- a block that is the start of no condition
+abbrev pub block : List Stmt → CodeBlock
+block statements = record { cond = None; stmts = statements }
+
+-- a block that is the start of a condition
+abbrev pub start_of : List ℕ → List Stmt → CodeBlock
+start_of cond statements = record { cond = Some cond; stmts = statements }
+
+-- `a` before a `b`, by its context marker and with two tags, or else `a` alone, after a step back to the marker
+abbrev pub context_example : Piece
+context_example = record {
+  number = 1;
+  names = usual_names;
+  unit = 1;
+  eof = None;
+  declares = true;
+  ctx = true;
+  states = None;
+  conds = [];
+  blocks =
+      block (Peek ∷ IfUnit 0x60 5 ∷ IfUnit 0x61 1 ∷ Goto 5 ∷ [])
+      ∷ block (Skip ∷ Set 1 ∷ Unset 2 ∷ MSet 1 ∷ Backup ∷ Accept 1 ∷ Peek ∷ IfUnit 0x61 3 ∷ IfUnit 0x62 2 ∷ Goto 3 ∷ [])
+      ∷ block (Skip ∷ Copy 2 1 ∷ MUnset 2 ∷ MCopy 3 1 ∷ Tag (codes "s") false 2 ∷ Tag (codes "h") true 3 ∷ Back 1
+      ∷ Code 1 (Some (record { line = 3; file = codes "a\"b.re" })) (codes "{ return 1; }") ∷ [])
+      ∷ block (IfAccept 1 4 ∷ Goto 5 ∷ [])
+      ∷ block (Restore ∷ Code 2 (Some (record { line = 4; file = codes "a\"b.re" })) (codes "{ return 2; }") ∷ [])
+      ∷ block (Leave ∷ [])
+      ∷ [];
+  line = Some (record { line = 5; file = codes "a\"b.re" });
+}
+
+-- in condition A an `a` goes on in condition B, where a `b` goes back to A; it stores its state before each refill
+abbrev pub stored_example : Piece
+stored_example = record {
+  number = 2;
+  names = usual_names;
+  unit = 1;
+  eof = Some 0;
+  declares = false;
+  ctx = false;
+  states = Some (record { state = 0; block = 4 } ∷ record { state = 1; block = 10 } ∷ []);
+  conds = record { cond = codes "A"; block = 0 } ∷ record { cond = codes "B"; block = 6 } ∷ [];
+  blocks =
+      start_of (codes "A") (Peek ∷ IfUnit 0x00 2 ∷ IfUnit 0x60 5 ∷ IfUnit 0x61 1 ∷ Goto 5 ∷ [])
+      ∷ block (Skip ∷ Cond (codes "B") ∷ Jump (codes "B") 1 ∷ [])
+      ∷ block (IfEnd 3 ∷ Goto 5 ∷ [])
+      ∷ block (State 0 ∷ Try 0 ∷ Goto 5 ∷ [])
+      ∷ block (IfEnd 5 ∷ Goto 0 ∷ [])
+      ∷ block (Leave ∷ [])
+      ∷ start_of (codes "B") (Peek ∷ IfUnit 0x00 8 ∷ IfUnit 0x61 11 ∷ IfUnit 0x62 7 ∷ Goto 11 ∷ [])
+      ∷ block (Skip ∷ Cond (codes "A") ∷ Code 2 None (codes "{ return 2; }") ∷ [])
+      ∷ block (IfEnd 9 ∷ Goto 11 ∷ [])
+      ∷ block (State 1 ∷ Try 6 ∷ Goto 11 ∷ [])
+      ∷ block (IfEnd 11 ∷ Goto 6 ∷ [])
+      ∷ block (Leave ∷ [])
+      ∷ [];
+  line = None;
+}
+
+-- two units of which the first is an `a` or comes behind it, as a group; it checks for both before it reads
+abbrev pub checked_example : Piece
+checked_example = record {
+  number = 3;
+  names = usual_names;
+  unit = 2;
+  eof = None;
+  declares = false;
+  ctx = false;
+  states = Some (record { state = 7; block = 0 } ∷ []);
+  conds = [];
+  blocks =
+      block (State 7 ∷ Need 2 ∷ Set 1 ∷ Peek ∷ IfUnit 0x60 2 ∷ IfUnit 0x100A 1 ∷ Goto 2 ∷ [])
+      ∷ block (Skip ∷ Set 2 ∷ Skip ∷ Count 1 ∷ End 0 1 ∷ End 1 2 ∷ Code 1 None (codes "{ return 1; }") ∷ [])
+      ∷ block (Leave ∷ [])
+      ∷ [];
+  line = None;
+}
+
+-- reads the same unit for ever
+abbrev pub spinning_example : Piece
+spinning_example = record context_example { blocks = block (Peek ∷ Goto 0 ∷ []) ∷ []; ctx = false }
+
+-- copies between two registers, one behind another
+abbrev pub copying_example : Piece
+copying_example = record context_example {
+  blocks = block (Set 1 ∷ Skip ∷ Set 2 ∷ Copy 1 2 ∷ Copy 2 1 ∷ Tag (codes "s") false 1 ∷ Tag (codes "t") false 2 ∷ Leave ∷ []) ∷ [];
+}

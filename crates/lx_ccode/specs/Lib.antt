@@ -1,0 +1,15 @@
+pub mod Bodies
+pub mod Effects
+pub mod Examples
+pub mod Front
+pub mod Machine
+pub mod Reading
+pub mod Registers
+pub mod Runs
+pub mod Schedules
+pub mod Statements
+pub mod States
+pub mod Stuck
+pub mod Text
+pub mod Validity
+pub mod Words

@@ -1,0 +1,52 @@
+//! What holds of all pieces and of all runs: each law is the contract of a function with an empty body.
+ghost use Rattle.std.specs.Prelude.{◌≡◌, ◌↔◌, ◌≤◌, ℕ, List, [], ◌++◌, length, Some, false};
+ghost use Rattle.lx_ccode.specs.declared.piece.Stmt.{Stmt};
+ghost use Rattle.lx_ccode.specs.declared.piece.Piece.{Piece};
+ghost use Rattle.lx_ccode.specs.Effects.{ChangesOnly, answers_after, machine_after};
+ghost use Rattle.lx_ccode.specs.Front.{BeginsWithPiece};
+ghost use Rattle.lx_ccode.specs.Machine.{Answer, Machine, code_at, step};
+ghost use Rattle.lx_ccode.specs.Reading.{piece_at};
+ghost use Rattle.lx_ccode.specs.Runs.{Ended, IsRun, entry_block, fresh_machine, run_of};
+ghost use Rattle.lx_ccode.specs.Schedules.{Schedule};
+ghost use Rattle.lx_ccode.specs.Statements.{is_refill};
+ghost use Rattle.lx_ccode.specs.Stuck.{CannotDo, HasWayBack, IsStuck};
+ghost use Rattle.lx_ccode.specs.Text.{piece_text};
+ghost use Rattle.lx_ccode.specs.Validity.{IsValid, JumpsBelow};
+
+/// A text has one reading: no text is that of two valid pieces, and none is a proper front of another's.
+pub fn texts_have_one_reading()
+    ensures one_piece { (piece other : Piece) → IsValid piece → IsValid other → piece_text piece ≡ piece_text other → piece ≡ other }
+    ensures no_front { (piece other : Piece) (tail : List ℕ) → IsValid piece → IsValid other → piece_text piece ++ tail ≡ piece_text other → tail ≡ [] }
+    ensures before_any_bytes { (piece other : Piece) (tail rest : List ℕ) → IsValid piece → IsValid other → piece_text piece ++ tail ≡ piece_text other ++ rest → (piece ≡ other) × (tail ≡ rest) }
+{}
+
+/// Reading the text of a valid piece, with any bytes behind it, gives the piece and those bytes.
+pub fn reading_gives_the_piece()
+    ensures { (piece : Piece) (tail : List ℕ) → IsValid piece → piece_at (piece_text piece ++ tail) ≡ (piece, tail) }
+{}
+
+/// Where the text of some valid piece stands at the front of bytes, it is the text of the piece that is
+/// read there. So a reader need only test what it reads: where that piece is not valid, or its text does
+/// not stand there, no piece's text does.
+pub fn reading_finds_the_piece()
+    ensures { (bytes : List ℕ) (piece : Piece) → BeginsWithPiece bytes piece → BeginsWithPiece bytes (piece_at bytes).0 }
+{}
+
+/// A step changes only what its statement is for, and only a refill takes answers from the schedule.
+pub fn steps_change_only_their_part()
+    ensures machine { (piece : Piece) (stream : List ℕ) (statement : Stmt) (rest : List Stmt) (machine : Machine) (answers : List Answer) → ChangesOnly statement machine (machine_after (step piece stream statement rest machine answers)) }
+    ensures answers { (piece : Piece) (stream : List ℕ) (statement : Stmt) (rest : List Stmt) (machine : Machine) (answers : List Answer) → is_refill statement ≡ false → answers_after answers (step piece stream statement rest machine answers) ≡ answers }
+{}
+
+/// A schedule determines the run of a match: the steps of the machine, one after another, make that run
+/// and no other.
+pub fn schedules_determine_runs()
+    ensures is_run { (piece : Piece) (stream : List ℕ) (start : ℕ) (cond : List ℕ) (schedule : Schedule) (code : List Stmt) → IsValid piece → code_at piece.blocks (entry_block piece.conds cond) ≡ Some code → IsRun piece stream start 0 code (fresh_machine start schedule.first cond) schedule.answers (run_of piece stream start cond schedule) }
+    ensures no_other { (piece : Piece) (stream : List ℕ) (start steps : ℕ) (code : List Stmt) (machine : Machine) (answers : List Answer) (end other : Ended) → IsRun piece stream start steps code machine answers end → IsRun piece stream start steps code machine answers other → end ≡ other }
+{}
+
+/// A step is stuck exactly where its statement cannot do what it is for: in a piece whose jumps all go to
+/// its blocks, on a stream that holds the units up to the limit, and with a stored state at each refill.
+pub fn steps_are_stuck_where_they_cannot_go()
+    ensures { (piece : Piece) (stream : List ℕ) (statement : Stmt) (rest : List Stmt) (machine : Machine) (answers : List Answer) → machine.limit ≤ length stream → JumpsBelow (length piece.blocks) statement → HasWayBack piece statement machine → (IsStuck (step piece stream statement rest machine answers) ↔ CannotDo piece statement machine) }
+{}

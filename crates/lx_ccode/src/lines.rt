@@ -1,0 +1,561 @@
+//! Writes the lines of statements.
+ghost use Rattle.std.specs.Prelude.{◌≡◌, ◌++◌, [], ◌∷◌, length, map, OnOk, codes};
+ghost use Rattle.std.specs.Fmt.{decimal};
+ghost use Rattle.lx_base.specs.Text.{joined};
+ghost use Rattle.lx_base.specs.Names.{cursor, limit, refill, current_unit, last_accept, set_condition, condition_prefix, label_prefix};
+ghost use Rattle.lx_ccode.specs.Registers.{register_text, history_text};
+ghost use Rattle.lx_ccode.specs.Text.{statement_then, statements_then, line_then, goto_then, block_then, escaped, hexadecimal};
+
+use crate::piece::{LineMark, Stmt};
+use crate::spellings;
+use crate::spellings::{decimal, hexadecimal, history_text, register_text};
+use lx_base::{Memory, Names, append_parts};
+use std::alloc::Global;
+
+/// What the lines of a piece depend on beside their statements.
+///
+/// Each method appends to a text, and where memory runs out a part of it may stand there.
+#[derive(Clone, Copy)]
+pub struct Scope<'a> {
+    pub alloc: Global,
+    /// The number of the piece.
+    pub number: u32,
+    /// The seventeen spellings.
+    pub names: &'a Names,
+    /// Whether register 1 is spelled as the context marker.
+    pub ctx: bool,
+}
+
+impl Scope<'_> {
+    /// Appends the lines of statements, in order.
+    pub fn append_statements(&self, text: &mut Vec<u8>, statements: &[Stmt]) -> Result<(), Memory>
+        ensures { OnOk result (text.new.items ≡ text.old.items ++ statements_then self.now.number self.now.names.now self.now.ctx statements.now []) }
+    {
+        for statement in statements {
+            self.append_statement(text, statement)?;
+        }
+        Ok(())
+    }
+
+    /// Appends the line of a statement.
+    pub fn append_statement(&self, text: &mut Vec<u8>, statement: &Stmt) -> Result<(), Memory>
+        ensures { OnOk result (text.new.items ≡ text.old.items ++ statement_then self.now.number self.now.names.now self.now.ctx statement.now []) }
+    {
+        let cursor = spellings::cursor(self.names);
+        let marker = spellings::marker(self.names);
+        let last_accept = spellings::last_accept(self.names);
+        match statement {
+            Stmt::Peek => self.append_peek(text),
+            Stmt::Skip => append_parts(text, &[b"\t++", cursor, b";\n"]),
+            Stmt::Backup => append_assignment(text, marker, cursor),
+            Stmt::Restore => append_assignment(text, cursor, marker),
+            Stmt::Accept(accept) => self.append_number(text, last_accept, *accept),
+            Stmt::Set(register) => self.append_to_register(text, *register, cursor),
+            Stmt::Unset(register) => self.append_to_register(text, *register, b"NULL"),
+            Stmt::Copy(register, source) => self.append_copy(text, *register, *source),
+            Stmt::MSet(history) => self.append_event(
+                text,
+                spellings::append_offset(self.names),
+                *history,
+            ),
+            Stmt::MUnset(history) => self.append_event(
+                text,
+                spellings::append_negative(self.names),
+                *history,
+            ),
+            Stmt::MCopy(history, source) => self.append_history_copy(text, *history, *source),
+            Stmt::IfUnit(greatest, block) => self.append_if_unit(text, *greatest, *block),
+            Stmt::IfAccept(accept, block) => self.append_if_accept(text, *accept, *block),
+            Stmt::IfEnd(block) => self.append_if_end(text, *block),
+            Stmt::State(state) => self.append_state(text, *state),
+            Stmt::Need(units) => self.append_need(text, *units),
+            Stmt::Try(block) => self.append_try(text, *block),
+            Stmt::Cond(cond) => self.append_cond(text, cond.as_slice()),
+            Stmt::Tag(tag, true, history) => self.append_from_history(
+                text,
+                tag.as_slice(),
+                *history,
+            ),
+            Stmt::Tag(tag, false, register) => self.append_from_register(
+                text,
+                tag.as_slice(),
+                *register,
+            ),
+            Stmt::Count(groups) => self.append_number(text, b"yynmatch", *groups),
+            Stmt::End(place, register) => self.append_group_end(text, *place, *register),
+            Stmt::Back(register) => self.append_from_register(text, cursor, *register),
+            Stmt::Goto(block) => self.append_jump(text, *block),
+            Stmt::Leave => self.append_leave(text),
+            Stmt::Code(rule, line, action) => self.append_code(
+                text,
+                *rule,
+                line,
+                action.as_slice(),
+            ),
+            Stmt::Jump(cond, rule) => self.append_cond_jump(text, cond.as_slice(), *rule),
+        }
+    }
+
+    fn append_peek(&self, text: &mut Vec<u8>) -> Result<(), Memory>
+        ensures { OnOk result (text.new.items ≡ text.old.items ++ statement_then self.now.number self.now.names.now self.now.ctx (Stmt.Peek) []) }
+    {
+        let current_unit = spellings::current_unit(self.names);
+        append_parts(
+            text,
+            &[
+                b"\t",
+                current_unit,
+                b" = *",
+                spellings::cursor(self.names),
+                b";\n",
+            ],
+        )
+    }
+
+    fn append_number(&self, text: &mut Vec<u8>, target: &[u8], number: u32) -> Result<(), Memory>
+        ensures { OnOk result (text.new.items ≡ text.old.items ++ joined (codes "\t" ∷ target.now ∷ codes " = " ∷ decimal number ∷ codes ";\n" ∷ []) []) }
+    {
+        let number = decimal(self.alloc, u64::from(number))?;
+        append_assignment(text, target, number.as_bytes())
+    }
+
+    fn append_to_register(
+        &self,
+        text: &mut Vec<u8>,
+        register: u32,
+        source: &[u8],
+    ) -> Result<(), Memory>
+        ensures { OnOk result (text.new.items ≡ text.old.items ++ joined (codes "\t" ∷ register_text self.now.names.now self.now.ctx register ∷ codes " = " ∷ source.now ∷ codes ";\n" ∷ []) []) }
+    {
+        let register = register_text(self.alloc, self.names, self.ctx, register)?;
+        append_assignment(text, &register, source)
+    }
+
+    fn append_from_register(
+        &self,
+        text: &mut Vec<u8>,
+        target: &[u8],
+        register: u32,
+    ) -> Result<(), Memory>
+        ensures { OnOk result (text.new.items ≡ text.old.items ++ joined (codes "\t" ∷ target.now ∷ codes " = " ∷ register_text self.now.names.now self.now.ctx register ∷ codes ";\n" ∷ []) []) }
+    {
+        let register = register_text(self.alloc, self.names, self.ctx, register)?;
+        append_assignment(text, target, &register)
+    }
+
+    fn append_copy(&self, text: &mut Vec<u8>, register: u32, source: u32) -> Result<(), Memory>
+        ensures { OnOk result (text.new.items ≡ text.old.items ++ statement_then self.now.number self.now.names.now self.now.ctx (Stmt.Copy register source) []) }
+    {
+        let source = register_text(self.alloc, self.names, self.ctx, source)?;
+        self.append_to_register(text, register, &source)
+    }
+
+    fn append_group_end(&self, text: &mut Vec<u8>, place: u32, register: u32) -> Result<(), Memory>
+        ensures { OnOk result (text.new.items ≡ text.old.items ++ statement_then self.now.number self.now.names.now self.now.ctx (Stmt.End place register) []) }
+    {
+        let place = decimal(self.alloc, u64::from(place))?;
+        let register = register_text(self.alloc, self.names, self.ctx, register)?;
+        append_parts(
+            text,
+            &[b"\tyypmatch[", place.as_bytes(), b"] = ", &register, b";\n"],
+        )
+    }
+
+    fn append_event(&self, text: &mut Vec<u8>, name: &[u8], history: u32) -> Result<(), Memory>
+        ensures { OnOk result (text.new.items ≡ text.old.items ++ joined (codes "\t" ∷ name.now ∷ codes "(" ∷ history_text self.now.names.now history ∷ codes ");\n" ∷ []) []) }
+    {
+        let history = history_text(self.alloc, self.names, history)?;
+        append_call(text, name, &history)
+    }
+
+    fn append_from_history(
+        &self,
+        text: &mut Vec<u8>,
+        target: &[u8],
+        history: u32,
+    ) -> Result<(), Memory>
+        ensures { OnOk result (text.new.items ≡ text.old.items ++ joined (codes "\t" ∷ target.now ∷ codes " = " ∷ history_text self.now.names.now history ∷ codes ";\n" ∷ []) []) }
+    {
+        let history = history_text(self.alloc, self.names, history)?;
+        append_assignment(text, target, &history)
+    }
+
+    fn append_history_copy(
+        &self,
+        text: &mut Vec<u8>,
+        history: u32,
+        source: u32,
+    ) -> Result<(), Memory>
+        ensures { OnOk result (text.new.items ≡ text.old.items ++ statement_then self.now.number self.now.names.now self.now.ctx (Stmt.MCopy history source) []) }
+    {
+        let history = history_text(self.alloc, self.names, history)?;
+        self.append_from_history(text, &history, source)
+    }
+
+    fn append_if_unit(&self, text: &mut Vec<u8>, greatest: u32, block: u64) -> Result<(), Memory>
+        ensures { OnOk result (text.new.items ≡ text.old.items ++ statement_then self.now.number self.now.names.now self.now.ctx (Stmt.IfUnit greatest block) []) }
+    {
+        let current_unit = spellings::current_unit(self.names);
+        let greatest = hexadecimal(self.alloc, greatest)?;
+        let number = decimal(self.alloc, u64::from(self.number))?;
+        let block = decimal(self.alloc, block)?;
+        append_parts(
+            text,
+            &[
+                b"\tif (",
+                current_unit,
+                b" <= 0x",
+                greatest.as_bytes(),
+                b") goto yy",
+                number.as_bytes(),
+                b"_",
+                block.as_bytes(),
+                b";\n",
+            ],
+        )
+    }
+
+    fn append_if_accept(&self, text: &mut Vec<u8>, accept: u32, block: u64) -> Result<(), Memory>
+        ensures { OnOk result (text.new.items ≡ text.old.items ++ statement_then self.now.number self.now.names.now self.now.ctx (Stmt.IfAccept accept block) []) }
+    {
+        let last_accept = spellings::last_accept(self.names);
+        let accept = decimal(self.alloc, u64::from(accept))?;
+        let number = decimal(self.alloc, u64::from(self.number))?;
+        let block = decimal(self.alloc, block)?;
+        append_parts(
+            text,
+            &[
+                b"\tif (",
+                last_accept,
+                b" == ",
+                accept.as_bytes(),
+                b") goto yy",
+                number.as_bytes(),
+                b"_",
+                block.as_bytes(),
+                b";\n",
+            ],
+        )
+    }
+
+    fn append_if_end(&self, text: &mut Vec<u8>, block: u64) -> Result<(), Memory>
+        ensures { OnOk result (text.new.items ≡ text.old.items ++ statement_then self.now.number self.now.names.now self.now.ctx (Stmt.IfEnd block) []) }
+    {
+        let cursor = spellings::cursor(self.names);
+        let limit = spellings::limit(self.names);
+        let number = decimal(self.alloc, u64::from(self.number))?;
+        let block = decimal(self.alloc, block)?;
+        append_parts(
+            text,
+            &[
+                b"\tif (",
+                cursor,
+                b" >= ",
+                limit,
+                b") goto yy",
+                number.as_bytes(),
+                b"_",
+                block.as_bytes(),
+                b";\n",
+            ],
+        )
+    }
+
+    fn append_state(&self, text: &mut Vec<u8>, state: u64) -> Result<(), Memory>
+        ensures { OnOk result (text.new.items ≡ text.old.items ++ statement_then self.now.number self.now.names.now self.now.ctx (Stmt.State state) []) }
+    {
+        let state = decimal(self.alloc, state)?;
+        append_call(text, spellings::set_state(self.names), state.as_bytes())
+    }
+
+    fn append_need(&self, text: &mut Vec<u8>, units: u32) -> Result<(), Memory>
+        ensures { OnOk result (text.new.items ≡ text.old.items ++ statement_then self.now.number self.now.names.now self.now.ctx (Stmt.Need units) []) }
+    {
+        let limit = spellings::limit(self.names);
+        let cursor = spellings::cursor(self.names);
+        let refill = spellings::refill(self.names);
+        let units = decimal(self.alloc, u64::from(units))?;
+        let units = units.as_bytes();
+        append_parts(
+            text,
+            &[
+                b"\tif ((", limit, b" - ", cursor, b") < ", units, b") ", refill, b"(", units,
+                b");\n",
+            ],
+        )
+    }
+
+    fn append_try(&self, text: &mut Vec<u8>, block: u64) -> Result<(), Memory>
+        ensures { OnOk result (text.new.items ≡ text.old.items ++ statement_then self.now.number self.now.names.now self.now.ctx (Stmt.Try block) []) }
+    {
+        let refill = spellings::refill(self.names);
+        let number = decimal(self.alloc, u64::from(self.number))?;
+        let block = decimal(self.alloc, block)?;
+        append_refill_test(text, refill, number.as_bytes(), block.as_bytes())
+    }
+
+    fn append_cond(&self, text: &mut Vec<u8>, cond: &[u8]) -> Result<(), Memory>
+        ensures { OnOk result (text.new.items ≡ text.old.items ++ statement_then self.now.number self.now.names.now self.now.ctx (Stmt.Cond cond.now) []) }
+    {
+        let set_condition = spellings::set_condition(self.names);
+        let condition_prefix = spellings::condition_prefix(self.names);
+        append_parts(
+            text,
+            &[b"\t", set_condition, b"(", condition_prefix, cond, b");\n"],
+        )
+    }
+
+    fn append_jump(&self, text: &mut Vec<u8>, block: u64) -> Result<(), Memory>
+        ensures { OnOk result (text.new.items ≡ text.old.items ++ statement_then self.now.number self.now.names.now self.now.ctx (Stmt.Goto block) []) }
+    {
+        let number = decimal(self.alloc, u64::from(self.number))?;
+        let block = decimal(self.alloc, block)?;
+        append_parts(
+            text,
+            &[
+                b"\tgoto yy",
+                number.as_bytes(),
+                b"_",
+                block.as_bytes(),
+                b";\n",
+            ],
+        )
+    }
+
+    fn append_leave(&self, text: &mut Vec<u8>) -> Result<(), Memory>
+        ensures { OnOk result (text.new.items ≡ text.old.items ++ statement_then self.now.number self.now.names.now self.now.ctx (Stmt.Leave) []) }
+    {
+        let number = decimal(self.alloc, u64::from(self.number))?;
+        append_parts(text, &[b"\tgoto yy", number.as_bytes(), b"_none;\n"])
+    }
+
+    fn append_code(
+        &self,
+        text: &mut Vec<u8>,
+        rule: u32,
+        line: &Option<LineMark>,
+        action: &[u8],
+    ) -> Result<(), Memory>
+        ensures { OnOk result (text.new.items ≡ text.old.items ++ statement_then self.now.number self.now.names.now self.now.ctx (Stmt.Code rule line.now action.now) []) }
+    {
+        append_line(self.alloc, text, line)?;
+        append_action(self.alloc, text, rule, action)
+    }
+
+    fn append_cond_jump(&self, text: &mut Vec<u8>, cond: &[u8], rule: u32) -> Result<(), Memory>
+        ensures { OnOk result (text.new.items ≡ text.old.items ++ statement_then self.now.number self.now.names.now self.now.ctx (Stmt.Jump cond.now rule) []) }
+    {
+        let label_prefix = spellings::label_prefix(self.names);
+        let rule = decimal(self.alloc, u64::from(rule))?;
+        append_parts(
+            text,
+            &[
+                b"\tgoto ",
+                label_prefix,
+                cond,
+                b"; /* ",
+                rule.as_bytes(),
+                b" */\n",
+            ],
+        )
+    }
+}
+
+fn append_assignment(text: &mut Vec<u8>, target: &[u8], source: &[u8]) -> Result<(), Memory>
+    ensures { OnOk result (text.new.items ≡ text.old.items ++ joined (codes "\t" ∷ target.now ∷ codes " = " ∷ source.now ∷ codes ";\n" ∷ []) []) }
+{
+    append_parts(text, &[b"\t", target, b" = ", source, b";\n"])
+}
+
+fn append_call(text: &mut Vec<u8>, name: &[u8], value: &[u8]) -> Result<(), Memory>
+    ensures { OnOk result (text.new.items ≡ text.old.items ++ joined (codes "\t" ∷ name.now ∷ codes "(" ∷ value.now ∷ codes ");\n" ∷ []) []) }
+{
+    append_parts(text, &[b"\t", name, b"(", value, b");\n"])
+}
+
+fn append_refill_test(
+    text: &mut Vec<u8>,
+    refill: &[u8],
+    number: &[u8],
+    block: &[u8],
+) -> Result<(), Memory>
+    ensures { OnOk result (text.new.items ≡ text.old.items ++ joined (codes "\tif (" ∷ refill.now ∷ codes "() == 0) goto yy" ∷ number.now ∷ codes "_" ∷ block.now ∷ codes ";\n" ∷ []) []) }
+{
+    append_parts(
+        text,
+        &[
+            b"\tif (",
+            refill,
+            b"() == 0) goto yy",
+            number,
+            b"_",
+            block,
+            b";\n",
+        ],
+    )
+}
+
+/// Appends the line `#line L "FILE"`, where there is one. Where memory runs out a part of it may stand there.
+pub fn append_line(alloc: Global, text: &mut Vec<u8>, line: &Option<LineMark>) -> Result<(), Memory>
+    ensures { OnOk result (text.new.items ≡ text.old.items ++ line_then line.now []) }
+{
+    match line {
+        None => Ok(()),
+        Some(mark) => {
+            let line = decimal(alloc, u64::from(mark.line))?;
+            append_parts(text, &[b"#line ", line.as_bytes(), b" \""])?;
+            append_escaped(text, mark.file.as_slice())?;
+            append_parts(text, &[b"\"\n"])
+        }
+    }
+}
+
+fn append_escaped(text: &mut Vec<u8>, file: &[u8]) -> Result<(), Memory>
+    ensures { OnOk result (text.new.items ≡ text.old.items ++ escaped file.now) }
+{
+    for letter in file {
+        if *letter == b'"' || *letter == b'\\' {
+            text.push(b'\\')?;
+        }
+        text.push(*letter)?;
+    }
+    Ok(())
+}
+
+fn append_action(alloc: Global, text: &mut Vec<u8>, rule: u32, action: &[u8]) -> Result<(), Memory>
+    ensures { OnOk result (text.new.items ≡ text.old.items ++ joined (codes "\t/*!code:re2c " ∷ decimal rule ∷ codes " " ∷ decimal (length action.now) ∷ codes "*/" ∷ action.now ∷ codes "\n" ∷ []) []) }
+{
+    let rule = decimal(alloc, u64::from(rule))?;
+    let size = decimal(alloc, action.len() as u64)?;
+    append_parts(
+        text,
+        &[
+            b"\t/*!code:re2c ",
+            rule.as_bytes(),
+            b" ",
+            size.as_bytes(),
+            b"*/",
+            action,
+            b"\n",
+        ],
+    )
+}
+
+#[cfg(test)]
+mod tests {
+    use super::*;
+    use crate::piece::Stmt;
+    use lx_base::{ByteText, Sequence};
+    use std::io;
+
+    /// The usual spellings, shortened to their first letters: what counts is where each one stands.
+    const SPELLINGS: [&str; 17] = [
+        "TYPE", "CUR", "LIM", "MARK", "CTX", "FILL", "GETS", "SETS", "GETC", "SETC", "TAGP",
+        "TAGN", "ch", "acc", "t", "l_", "c",
+    ];
+
+    fn text(alloc: Global, bytes: &[u8]) -> Result<ByteText, Memory> {
+        let mut text = Vec::new(alloc);
+        text.extend_from_slice(bytes)?;
+        Ok(ByteText::from_vec(text))
+    }
+
+    fn names(alloc: Global) -> Result<Names, Memory> {
+        let mut names = Sequence::new(alloc);
+        for word in SPELLINGS {
+            names.push(text(alloc, word.as_bytes())?)?;
+        }
+        Ok(names)
+    }
+
+    /// The line of a statement in piece 7.
+    fn line(alloc: Global, ctx: bool, statement: &Stmt) -> Result<Vec<u8>, Memory> {
+        let names = names(alloc)?;
+        let scope = Scope {
+            alloc,
+            number: 7,
+            names: &names,
+            ctx,
+        };
+        let mut text = Vec::new(alloc);
+        scope.append_statement(&mut text, statement)?;
+        Ok(text)
+    }
+
+    fn rows(alloc: Global) -> Result<Vec<(bool, Stmt, &'static str)>, Memory> {
+        let mark = LineMark {
+            line: 12,
+            file: text(alloc, b"d\\\"x\".re")?,
+        };
+        Ok(vec![in alloc;
+            (false, Stmt::Peek, "\tch = *CUR;\n"),
+            (false, Stmt::Skip, "\t++CUR;\n"),
+            (false, Stmt::Backup, "\tMARK = CUR;\n"),
+            (false, Stmt::Restore, "\tCUR = MARK;\n"),
+            (false, Stmt::Accept(3), "\tacc = 3;\n"),
+            (false, Stmt::Set(1), "\tt1 = CUR;\n"),
+            (true, Stmt::Set(1), "\tCTX = CUR;\n"),
+            (true, Stmt::Unset(12), "\tt12 = NULL;\n"),
+            (true, Stmt::Copy(2, 1), "\tt2 = CTX;\n"),
+            (false, Stmt::MSet(1), "\tTAGP(tm1);\n"),
+            (false, Stmt::MUnset(1), "\tTAGN(tm1);\n"),
+            (true, Stmt::MCopy(1, 0), "\ttm1 = tm0;\n"),
+            (
+                false,
+                Stmt::IfUnit(0xA, 0),
+                "\tif (ch <= 0x0A) goto yy7_0;\n"
+            ),
+            (
+                false,
+                Stmt::IfUnit(0x10FFFF, 4),
+                "\tif (ch <= 0x10FFFF) goto yy7_4;\n"
+            ),
+            (false, Stmt::IfAccept(3, 5), "\tif (acc == 3) goto yy7_5;\n"),
+            (false, Stmt::IfEnd(6), "\tif (CUR >= LIM) goto yy7_6;\n"),
+            (
+                false,
+                Stmt::State(18446744073709551615),
+                "\tSETS(18446744073709551615);\n"
+            ),
+            (false, Stmt::Need(9), "\tif ((LIM - CUR) < 9) FILL(9);\n"),
+            (false, Stmt::Try(10), "\tif (FILL() == 0) goto yy7_10;\n"),
+            (false, Stmt::Cond(text(alloc, b"A")?), "\tSETC(cA);\n"),
+            (
+                true,
+                Stmt::Tag(text(alloc, b"u")?, false, 1),
+                "\tu = CTX;\n"
+            ),
+            (true, Stmt::Tag(text(alloc, b"u")?, true, 1), "\tu = tm1;\n"),
+            (false, Stmt::Count(65), "\tyynmatch = 65;\n"),
+            (false, Stmt::End(129, 2), "\tyypmatch[129] = t2;\n"),
+            (false, Stmt::Back(2), "\tCUR = t2;\n"),
+            (false, Stmt::Goto(6), "\tgoto yy7_6;\n"),
+            (false, Stmt::Leave, "\tgoto yy7_none;\n"),
+            (
+                false,
+                Stmt::Code(1, None, text(alloc, b"{\n}")?),
+                "\t/*!code:re2c 1 3*/{\n}\n"
+            ),
+            (
+                false,
+                Stmt::Code(2, Some(mark), text(alloc, b"{}")?),
+                "#line 12 \"d\\\\\\\"x\\\".re\"\n\t/*!code:re2c 2 2*/{}\n"
+            ),
+            (
+                false,
+                Stmt::Jump(text(alloc, b"B")?, 11),
+                "\tgoto l_B; /* 11 */\n"
+            ),
+        ]?)
+    }
+
+    #[test]
+    fn each_statement_has_its_line(rt: HostRuntime) -> Result<(), Memory> {
+        let alloc = rt.alloc();
+        for (ctx, statement, expected) in &rows(alloc)? {
+            let line = line(alloc, *ctx, statement)?;
+            assert_eq!(rt; line.as_slice(), expected.as_bytes(), "{expected}");
+        }
+        Ok(())
+    }
+}

@@ -1,0 +1,118 @@
+//! Emitted pieces: what stands in an output in the place of a block with rules.
+use lx_base::{ByteText, Names, Sequence};
+
+/// A scanner as it is emitted: a brace block of C between a begin mark and an end mark.
+///
+/// Which pieces are valid is said in `specs/Validity.antt`, how a piece is spelled in `specs/Text.antt`,
+/// and what it does in `specs/Machine.antt` and `specs/Runs.antt`.
+#[derive(Debug, Drop)]
+pub struct Piece {
+    /// The number of the piece in its output, counted from 1. Its labels begin with it.
+    pub number: u32,
+    /// The seventeen spellings.
+    pub names: Names,
+    /// The bytes of a code unit: 1, 2 or 4.
+    pub unit: u32,
+    /// The unit that a user's buffer holds at its end, if there is one.
+    pub eof: Option<u32>,
+    /// Whether the piece declares the current unit and the last accepting state itself.
+    pub declares: bool,
+    /// Whether register 1 is spelled as the context marker.
+    pub ctx: bool,
+    /// The cases of the switch over stored states, if the piece has one.
+    pub states: Option<Sequence<StateCase>>,
+    /// The cases of the switch over conditions; none where the piece has no conditions.
+    pub conds: Sequence<CondCase>,
+    /// The blocks of statements, which jumps name by their place, counted from 0.
+    pub blocks: Sequence<CodeBlock>,
+    /// The place in the source behind the block, told to the C compiler where there is one.
+    pub line: Option<LineMark>,
+}
+
+/// A stored state, and the block where a scanner that stored it goes on.
+#[derive(Clone, Copy, Debug)]
+pub struct StateCase {
+    pub state: u64,
+    pub block: u64,
+}
+
+/// A condition's name, and the block where its scanner starts.
+#[derive(Debug, Drop)]
+pub struct CondCase {
+    pub cond: ByteText,
+    pub block: u64,
+}
+
+/// Statements under one label, and a condition's name where they are the start of its scanner.
+#[derive(Debug, Drop)]
+pub struct CodeBlock {
+    pub cond: Option<ByteText>,
+    pub stmts: Sequence<Stmt>,
+}
+
+/// A line of a file, counted from 1, as a `#line` names it.
+#[derive(Debug, Drop)]
+pub struct LineMark {
+    pub line: u32,
+    pub file: ByteText,
+}
+
+/// A statement: one line of a piece. The values stand in the order in which the line has them.
+///
+/// A register holds an offset or nothing, and is counted from 1. A history holds the offsets and the
+/// negative events of a tag that may match often, and is counted from 0; history 0 is never written.
+#[derive(Debug, Drop)]
+pub enum Stmt {
+    /// Reads the unit at the cursor.
+    Peek,
+    /// Moves the cursor on by one unit.
+    Skip,
+    /// Keeps the cursor in the marker.
+    Backup,
+    /// Moves the cursor to the marker.
+    Restore,
+    /// Keeps the number of an accepting state.
+    Accept(u32),
+    /// Puts the cursor into a register.
+    Set(u32),
+    /// Empties a register.
+    Unset(u32),
+    /// Puts the second register's content into the first.
+    Copy(u32, u32),
+    /// Appends the cursor to a history.
+    MSet(u32),
+    /// Appends a negative event to a history.
+    MUnset(u32),
+    /// Puts the second history into the first.
+    MCopy(u32, u32),
+    /// Jumps to a block where the unit is at most the number.
+    IfUnit(u32, u64),
+    /// Jumps to a block where the number is the accepting state kept last.
+    IfAccept(u32, u64),
+    /// Jumps to a block where the cursor is at or past the limit.
+    IfEnd(u64),
+    /// Stores a state, so that the scanner can come back after it was left.
+    State(u64),
+    /// Asks for a refill until so many units stand between the cursor and the limit.
+    Need(u32),
+    /// Asks for a refill, and jumps to a block where it added units.
+    Try(u64),
+    /// Sets the condition.
+    Cond(ByteText),
+    /// Gives a user's tag the content of a register, or of a history where the truth value says so.
+    Tag(ByteText, bool, u32),
+    /// Tells how many groups the rule has.
+    Count(u32),
+    /// Gives an end of a group the content of a register.
+    End(u32, u32),
+    /// Moves the cursor back to a register, before the trailing context.
+    Back(u32),
+    /// Jumps to a block.
+    Goto(u64),
+    /// Ends the match without a rule.
+    Leave,
+    /// Ends the match by the rule with this number, and does the user's action.
+    Code(u32, Option<LineMark>, ByteText),
+    /// Ends the match by the rule with this number, and goes on at the condition's start.
+    Jump(ByteText, u32),
+}

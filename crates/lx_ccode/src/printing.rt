@@ -1,0 +1,104 @@
+//! Writes pieces, and counts their statements.
+ghost use Rattle.std.specs.Prelude.{◌≡◌, ◌<◌, ◌^◌, ◌++◌, [], ◌∷◌, length, OnOk, IfOk, Some, codes};
+ghost use Rattle.std.specs.Fmt.{decimal};
+ghost use Rattle.lx_base.specs.Text.{joined};
+ghost use Rattle.lx_ccode.specs.Statements.{block_count};
+ghost use Rattle.lx_ccode.specs.Text.{name_then, names_then, eof_then, piece_text};
+ghost use Rattle.lx_ccode.specs.Validity.{IsValid};
+
+use crate::lines::{Scope, append_line};
+use crate::piece::{CodeBlock, Piece};
+use crate::spellings::decimal;
+use lx_base::{ByteText, Memory, append_parts};
+use std::alloc::Global;
+
+/// The text of a valid piece, from its begin mark to its end mark.
+pub fn print(alloc: Global, piece: &Piece) -> Result<ByteText, Memory>
+    requires { IsValid piece.now }
+    ensures { IfOk result (λ text. text ≡ piece_text piece.now) }
+{
+    let scope = Scope {
+        alloc,
+        number: piece.number,
+        names: &piece.names,
+        ctx: piece.ctx,
+    };
+    let conds = piece.conds.as_slice();
+    let mut text = Vec::new(alloc);
+    append_head(alloc, &mut text, piece.number, piece.unit)?;
+    append_eof(alloc, &mut text, piece.eof)?;
+    append_names(alloc, &mut text, piece.names.as_slice())?;
+    append_parts(&mut text, &[b"*/\n{\n"])?;
+    scope.append_declarations(&mut text, piece.declares)?;
+    scope.append_state_switch(&mut text, conds, &piece.states)?;
+    scope.append_cond_switch(&mut text, conds)?;
+    scope.append_blocks(&mut text, piece.blocks.as_slice())?;
+    scope.append_none(&mut text)?;
+    append_line(alloc, &mut text, &piece.line)?;
+    append_parts(&mut text, &[b"/*!end:re2c*/"])?;
+    Ok(ByteText::from_vec(text))
+}
+
+/// The number of statements of a valid piece. It takes no memory.
+pub fn statements(piece: &Piece) -> u64
+    requires { IsValid piece.now }
+    ensures { result ≡ block_count piece.now.blocks }
+{
+    count_statements(piece.blocks.as_slice())
+}
+
+fn count_statements(blocks: &[CodeBlock]) -> u64
+    requires { block_count blocks.now < 2 ^ 64 }
+    ensures { result ≡ block_count blocks.now }
+{
+    let mut count = 0;
+    for block in blocks {
+        count += block.stmts.as_slice().len() as u64;
+    }
+    count
+}
+
+fn append_head(alloc: Global, text: &mut Vec<u8>, number: u32, unit: u32) -> Result<(), Memory>
+    ensures { OnOk result (text.new.items ≡ text.old.items ++ joined (codes "/*!begin:re2c " ∷ decimal number ∷ codes "*/\n/*!names:re2c " ∷ decimal unit ∷ codes " " ∷ []) []) }
+{
+    let number = decimal(alloc, u64::from(number))?;
+    let unit = decimal(alloc, u64::from(unit))?;
+    append_head_of(text, number.as_bytes(), unit.as_bytes())
+}
+
+fn append_head_of(text: &mut Vec<u8>, number: &[u8], unit: &[u8]) -> Result<(), Memory>
+    ensures { OnOk result (text.new.items ≡ text.old.items ++ joined (codes "/*!begin:re2c " ∷ number.now ∷ codes "*/\n/*!names:re2c " ∷ unit.now ∷ codes " " ∷ []) []) }
+{
+    append_parts(
+        text,
+        &[b"/*!begin:re2c ", number, b"*/\n/*!names:re2c ", unit, b" "],
+    )
+}
+
+fn append_eof(alloc: Global, text: &mut Vec<u8>, eof: Option<u32>) -> Result<(), Memory>
+    ensures { OnOk result (text.new.items ≡ text.old.items ++ eof_then eof []) }
+{
+    match eof {
+        None => append_parts(text, &[b"-"]),
+        Some(unit) => {
+            let unit = decimal(alloc, u64::from(unit))?;
+            append_parts(text, &[unit.as_bytes()])
+        }
+    }
+}
+
+fn append_names(alloc: Global, text: &mut Vec<u8>, names: &[ByteText]) -> Result<(), Memory>
+    ensures { OnOk result (text.new.items ≡ text.old.items ++ names_then names.now []) }
+{
+    for name in names {
+        append_name(alloc, text, name)?;
+    }
+    Ok(())
+}
+
+fn append_name(alloc: Global, text: &mut Vec<u8>, name: &ByteText) -> Result<(), Memory>
+    ensures { OnOk result (text.new.items ≡ text.old.items ++ name_then name.now []) }
+{
+    let size = decimal(alloc, name.as_slice().len() as u64)?;
+    append_parts(text, &[b" ", size.as_bytes(), b":", name.as_slice()])
+}

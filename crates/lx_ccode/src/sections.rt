@@ -1,0 +1,255 @@
+//! Writes the parts of a piece that hold statements and switches.
+ghost use Rattle.std.specs.Prelude.{◌≡◌, ◌++◌, [], ◌∷◌, length, OnOk, Some, codes};
+ghost use Rattle.std.specs.Fmt.{decimal};
+ghost use Rattle.lx_base.specs.Text.{joined};
+ghost use Rattle.lx_ccode.specs.Text.{label_then, block_then, code_block_then, blocks_then, declarations_then, state_case_then, state_cases_then, start_then, state_switch_then, cond_case_then, cond_cases_then, cond_switch_then};
+
+use crate::lines::Scope;
+use crate::piece::{CodeBlock, CondCase, StateCase};
+use crate::spellings;
+use crate::spellings::decimal;
+use lx_base::{ByteText, Memory, Sequence, append_parts};
+
+impl Scope<'_> {
+    /// Appends the declarations of the two variables, where the piece has them.
+    pub fn append_declarations(&self, text: &mut Vec<u8>, declares: bool) -> Result<(), Memory>
+        ensures { OnOk result (text.new.items ≡ text.old.items ++ declarations_then self.now.names.now declares []) }
+    {
+        if declares {
+            let unit_type = spellings::unit_type(self.names);
+            let current_unit = spellings::current_unit(self.names);
+            append_two_variables(
+                text,
+                unit_type,
+                current_unit,
+                spellings::last_accept(self.names),
+            )
+        } else {
+            Ok(())
+        }
+    }
+
+    /// Appends the switch over stored states, where there is one.
+    pub fn append_state_switch(
+        &self,
+        text: &mut Vec<u8>,
+        conds: &[CondCase],
+        states: &Option<Sequence<StateCase>>,
+    ) -> Result<(), Memory>
+        ensures { OnOk result (text.new.items ≡ text.old.items ++ state_switch_then self.now.number self.now.names.now conds.now states.now []) }
+    {
+        match states {
+            None => Ok(()),
+            Some(cases) => self.append_states(text, conds, cases.as_slice()),
+        }
+    }
+
+    fn append_states(
+        &self,
+        text: &mut Vec<u8>,
+        conds: &[CondCase],
+        cases: &[StateCase],
+    ) -> Result<(), Memory>
+        ensures { OnOk result (text.new.items ≡ text.old.items ++ state_switch_then self.now.number self.now.names.now conds.now (Some cases.now) []) }
+    {
+        append_parts(
+            text,
+            &[b"\tswitch (", spellings::get_state(self.names), b"()) {\n"],
+        )?;
+        self.append_state_cases(text, cases)?;
+        append_parts(text, &[b"\tdefault: goto "])?;
+        self.append_start(text, conds)?;
+        Ok(())
+    }
+
+    fn append_state_cases(&self, text: &mut Vec<u8>, cases: &[StateCase]) -> Result<(), Memory>
+        ensures { OnOk result (text.new.items ≡ text.old.items ++ state_cases_then self.now.number cases.now []) }
+    {
+        for case in cases {
+            self.append_state_case(text, case)?;
+        }
+        Ok(())
+    }
+
+    fn append_state_case(&self, text: &mut Vec<u8>, case: &StateCase) -> Result<(), Memory>
+        ensures { OnOk result (text.new.items ≡ text.old.items ++ state_case_then self.now.number case.now []) }
+    {
+        let state = decimal(self.alloc, case.state)?;
+        let number = decimal(self.alloc, u64::from(self.number))?;
+        let block = decimal(self.alloc, case.block)?;
+        append_parts(
+            text,
+            &[
+                b"\tcase ",
+                state.as_bytes(),
+                b": goto yy",
+                number.as_bytes(),
+                b"_",
+                block.as_bytes(),
+                b";\n",
+            ],
+        )
+    }
+
+    fn append_start(&self, text: &mut Vec<u8>, conds: &[CondCase]) -> Result<(), Memory>
+        ensures { OnOk result (text.new.items ≡ text.old.items ++ start_then self.now.number conds.now (joined (codes ";\n\t}\n" ∷ []) [])) }
+    {
+        let number = decimal(self.alloc, u64::from(self.number))?;
+        if conds.is_empty() {
+            let first = decimal(self.alloc, 0)?;
+            append_parts(
+                text,
+                &[
+                    b"yy",
+                    number.as_bytes(),
+                    b"_",
+                    first.as_bytes(),
+                    b";\n\t}\n",
+                ],
+            )
+        } else {
+            append_parts(text, &[b"yy", number.as_bytes(), b"_cond;\n\t}\n"])
+        }
+    }
+
+    /// Appends the switch over conditions, where there are any.
+    pub fn append_cond_switch(&self, text: &mut Vec<u8>, conds: &[CondCase]) -> Result<(), Memory>
+        ensures { OnOk result (text.new.items ≡ text.old.items ++ cond_switch_then self.now.number self.now.names.now conds.now []) }
+    {
+        if conds.is_empty() {
+            return Ok(());
+        }
+        let number = decimal(self.alloc, u64::from(self.number))?;
+        append_cond_head(
+            text,
+            number.as_bytes(),
+            spellings::get_condition(self.names),
+        )?;
+        self.append_cond_cases(text, conds)?;
+        append_parts(text, &[b"\t}\n"])?;
+        Ok(())
+    }
+
+    fn append_cond_cases(&self, text: &mut Vec<u8>, cases: &[CondCase]) -> Result<(), Memory>
+        ensures { OnOk result (text.new.items ≡ text.old.items ++ cond_cases_then self.now.number self.now.names.now cases.now []) }
+    {
+        for case in cases {
+            self.append_cond_case(text, case)?;
+        }
+        Ok(())
+    }
+
+    fn append_cond_case(&self, text: &mut Vec<u8>, case: &CondCase) -> Result<(), Memory>
+        ensures { OnOk result (text.new.items ≡ text.old.items ++ cond_case_then self.now.number self.now.names.now case.now []) }
+    {
+        let prefix = spellings::condition_prefix(self.names);
+        let number = decimal(self.alloc, u64::from(self.number))?;
+        let block = decimal(self.alloc, case.block)?;
+        append_parts(
+            text,
+            &[
+                b"\tcase ",
+                prefix,
+                case.cond.as_slice(),
+                b": goto yy",
+                number.as_bytes(),
+                b"_",
+                block.as_bytes(),
+                b";\n",
+            ],
+        )
+    }
+
+    /// Appends blocks, of which the first is block 0.
+    pub fn append_blocks(&self, text: &mut Vec<u8>, blocks: &[CodeBlock]) -> Result<(), Memory>
+        ensures { OnOk result (text.new.items ≡ text.old.items ++ blocks_then self.now.number self.now.names.now self.now.ctx 0 blocks.now []) }
+    {
+        for (place, block) in blocks.iter().enumerate() {
+            self.append_code_block(text, place as u64, block)?;
+        }
+        Ok(())
+    }
+
+    #[tactic(auto, using(crate::proofs::Tails::code_block_parts))]
+    fn append_code_block(
+        &self,
+        text: &mut Vec<u8>,
+        place: u64,
+        block: &CodeBlock,
+    ) -> Result<(), Memory>
+        ensures { OnOk result (text.new.items ≡ text.old.items ++ code_block_then self.now.number self.now.names.now self.now.ctx place block.now []) }
+    {
+        self.append_cond_label(text, &block.cond)?;
+        self.append_label(text, place)?;
+        self.append_statements(text, block.stmts.as_slice())?;
+        Ok(())
+    }
+
+    fn append_cond_label(&self, text: &mut Vec<u8>, cond: &Option<ByteText>) -> Result<(), Memory>
+        ensures { OnOk result (text.new.items ≡ text.old.items ++ label_then self.now.names.now cond.now []) }
+    {
+        match cond {
+            None => Ok(()),
+            Some(cond) => append_parts(
+                text,
+                &[spellings::label_prefix(self.names), cond.as_slice(), b":\n"],
+            ),
+        }
+    }
+
+    fn append_label(&self, text: &mut Vec<u8>, place: u64) -> Result<(), Memory>
+        ensures { OnOk result (text.new.items ≡ text.old.items ++ block_then self.now.number place (joined (codes ":\n" ∷ []) [])) }
+    {
+        let number = decimal(self.alloc, u64::from(self.number))?;
+        let place = decimal(self.alloc, place)?;
+        append_parts(
+            text,
+            &[b"yy", number.as_bytes(), b"_", place.as_bytes(), b":\n"],
+        )
+    }
+
+    /// Appends the label behind the blocks and the closing brace.
+    pub fn append_none(&self, text: &mut Vec<u8>) -> Result<(), Memory>
+        ensures { OnOk result (text.new.items ≡ text.old.items ++ joined (codes "yy" ∷ decimal self.now.number ∷ codes "_none:;\n}\n" ∷ []) []) }
+    {
+        let number = decimal(self.alloc, u64::from(self.number))?;
+        append_parts(text, &[b"yy", number.as_bytes(), b"_none:;\n}\n"])
+    }
+}
+
+fn append_two_variables(
+    text: &mut Vec<u8>,
+    unit_type: &[u8],
+    current_unit: &[u8],
+    last_accept: &[u8],
+) -> Result<(), Memory>
+    ensures { OnOk result (text.new.items ≡ text.old.items ++ joined (codes "\t" ∷ unit_type.now ∷ codes " " ∷ current_unit.now ∷ codes ";\n\tunsigned int " ∷ last_accept.now ∷ codes " = 0;\n" ∷ []) []) }
+{
+    append_parts(
+        text,
+        &[
+            b"\t",
+            unit_type,
+            b" ",
+            current_unit,
+            b";\n\tunsigned int ",
+            last_accept,
+            b" = 0;\n",
+        ],
+    )
+}
+
+fn append_cond_head(text: &mut Vec<u8>, number: &[u8], get_condition: &[u8]) -> Result<(), Memory>
+    ensures { OnOk result (text.new.items ≡ text.old.items ++ joined (codes "yy" ∷ number.now ∷ codes "_cond:\n\tswitch (" ∷ get_condition.now ∷ codes "()) {\n" ∷ []) []) }
+{
+    append_parts(
+        text,
+        &[
+            b"yy",
+            number,
+            b"_cond:\n\tswitch (",
+            get_condition,
+            b"()) {\n",
+        ],
+    )
+}

@@ -1,0 +1,35 @@
+#!/bin/sh
+# Compiles the printed example pieces as C. They stand in crates/piece_samples/stdout, which the gate
+# compares with what the program prints. Each piece goes into a function, behind a user's declarations.
+#
+# Usage: tests/c/compile.sh, from anywhere; CC names the compiler (cc where it is unset).
+set -eu
+
+here=$(cd "$(dirname "$0")" && pwd)
+pieces=$here/../../crates/piece_samples/stdout
+compiler=${CC:-cc}
+
+# Labels that no jump reaches, and variables that are only set, are a matter of the rules and of the
+# user's actions: a piece has a label for each block and for its end.
+options="-std=c99 -Wall -Wextra -Werror -Wno-unused-label -Wno-unused-variable -Wno-unused-but-set-variable"
+
+work=$(mktemp -d)
+trap 'rm -rf "$work"' EXIT
+
+awk -v work="$work" '
+    /^\/\*!begin:re2c / { split($2, part, "*"); file = work "/piece" part[1] ".inc" }
+    file != "" { print > file }
+    /^\/\*!end:re2c\*\// { close(file); file = "" }
+' "$pieces"
+
+count=0
+for piece in "$work"/piece*.inc; do
+    number=$(basename "$piece" .inc)
+    cat "$here/$number.h" "$piece" "$here/end.h" > "$work/$number.c"
+    # shellcheck disable=SC2086
+    "$compiler" $options -c "$work/$number.c" -o "$work/$number.o"
+    count=$((count + 1))
+done
+
+test "$count" -eq 3
+echo "$count pieces compiled"
