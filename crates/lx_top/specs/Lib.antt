@@ -2,7 +2,10 @@ pub mod Endings
 pub mod FirstFault
 pub mod Outside
 pub mod Output
-pub mod Source
-pub mod Words
 pub mod Puts
+pub mod Quoted
+pub mod Scan
+pub mod Scanner
+pub mod Source
 pub mod Steps
+pub mod Words
