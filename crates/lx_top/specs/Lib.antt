@@ -6,6 +6,7 @@ pub mod Puts
 pub mod Quoted
 pub mod Scan
 pub mod Scanner
+pub mod Serving
 pub mod Source
 pub mod Steps
 pub mod Words
