@@ -2,3 +2,6 @@ pub mod CompileLemmas
 pub mod EndingLemmas
 pub mod PutLemmas
 pub mod ReportLemmas
+pub mod ScanLaw
+pub mod ScanSteps
+pub mod ScanTrees
