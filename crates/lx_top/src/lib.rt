@@ -3,6 +3,7 @@
 
 mod compile;
 pub mod endings;
+pub mod laws;
 pub mod puts;
 mod report;
 pub mod run;
