@@ -1,4 +1,5 @@
 pub mod CompileLemmas
+pub mod EmissionLemmas
 pub mod EndingLemmas
 pub mod PutLemmas
 pub mod ReportLemmas

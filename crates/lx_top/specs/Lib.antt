@@ -1,3 +1,4 @@
+pub mod Emission
 pub mod Endings
 pub mod FirstFault
 pub mod Outside

@@ -2,6 +2,7 @@
 #![tactic(auto)]
 
 mod compile;
+mod emit;
 pub mod endings;
 pub mod laws;
 pub mod puts;

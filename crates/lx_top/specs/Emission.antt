@@ -1,0 +1,89 @@
+-- What holds while the blocks of a scanner are emitted.
+use Rattle.std.specs.Prelude.{◌≡◌, ℕ, zero, suc, ◌+◌, ◌<◌, ◌≤◌, ◌^◌, ◌++◌, Bool, true, false, List, [], ◌∷◌, length, map, Option, Some, None, slice_get, ◌==◌, if◌then◌else◌}
+use Rattle.std.specs.List.{AllByRecursion}
+use Rattle.lx_ccode.specs.declared.piece.Stmt.{Stmt}
+use Rattle.lx_ccode.specs.declared.piece.Stmt.TheVariants.{Peek, Skip, Backup, Restore, IfUnit, Goto, Leave, Code}
+use Rattle.lx_ccode.specs.declared.piece.CodeBlock.{CodeBlock}
+use Rattle.lx_ccode.specs.Statements.{all_statements}
+use Rattle.lx_ccode.specs.Validity.{ends_once}
+use Rattle.lx_top.specs.declared.emit.Item.{Item}
+use Rattle.lx_top.specs.declared.emit.Emitter.{Emitter}
+use Rattle.lx_top.specs.Scan as scan
+use Rattle.lx_top.specs.Scanner.{action_count}
+use Rattle.lx_top.specs.Serving.{Test, code_in, tested, IsActionBlock, Serves, ServesNext}
+
+-- an item of the code as one of the definitions
+abbrev pub item_of : Item → scan.Item
+item_of item = record { rule = item.rule; rest = item.rest.now }
+
+abbrev pub items_of : List Item → List scan.Item
+items_of items = map item_of items
+
+-- every letter of the word is a byte
+abbrev pub AreBytes : List ℕ → Type 0
+AreBytes [] = Unit {0}
+AreBytes (letter ∷ word) = (letter < 256) × AreBytes word
+
+-- the items go on with fewer letters than the depth, all of them bytes, and their rules have actions
+abbrev pub AreItems : (depth rules : ℕ) → List scan.Item → Type 0
+AreItems depth rules [] = Unit {0}
+AreItems depth rules (item ∷ items) =
+    ((length item.rest < depth) × AreBytes item.rest × (0 < item.rule) × (item.rule < rules)) × AreItems depth rules items
+
+-- a statement that the emission uses, in a piece of so many blocks, and with these actions of its rules
+abbrev pub IsGoodStatement : (actions : List (List ℕ)) → (blocks : ℕ) → Stmt → Type 0
+IsGoodStatement actions blocks Peek = Unit {0}
+IsGoodStatement actions blocks Skip = Unit {0}
+IsGoodStatement actions blocks Backup = Unit {0}
+IsGoodStatement actions blocks Restore = Unit {0}
+IsGoodStatement actions blocks Leave = Unit {0}
+IsGoodStatement actions blocks (IfUnit greatest block) = (greatest < 256) × (block < blocks)
+IsGoodStatement actions blocks (Goto block) = block < blocks
+IsGoodStatement actions blocks (Code number line action) =
+    (place : ℕ) × (number ≡ suc place) × (line ≡ None) × (slice_get actions place ≡ Some action)
+IsGoodStatement actions blocks _ = ⊥
+
+-- a block that the emission makes
+pub record IsGoodBlock (actions : List (List ℕ)) (blocks : ℕ) (block : CodeBlock) : Type 0 where
+  pub cond : block.cond ≡ None
+  pub ends : ends_once block.stmts ≡ true
+  pub short : length block.stmts ≤ 1024
+  pub statements : AllByRecursion (IsGoodStatement actions blocks) block.stmts
+
+-- how many actions of the rule were emitted
+abbrev pub is_emitted : Option (Option ℕ) → ℕ
+is_emitted None = 0
+is_emitted (Some None) = 0
+is_emitted (Some (Some block)) = 1
+
+abbrev pub emitted : List (Option ℕ) → (number : ℕ) → ℕ
+emitted table zero = 0
+emitted table (suc place) = is_emitted (slice_get table place)
+
+-- The blocks so far, and for each rule the block of its action where that was emitted: each block is well-formed, and each
+-- action stands in one block.
+pub record IsEmission (actions : List (List ℕ)) (blocks : List CodeBlock) (table : List (Option ℕ)) : Type 0 where
+  pub good : AllByRecursion (IsGoodBlock actions (length blocks)) blocks
+  pub rules : length table ≡ length actions
+  pub placed : (place block : ℕ) → slice_get table place ≡ Some (Some block) → IsActionBlock blocks (suc place) block
+  pub once : (number : ℕ) → action_count number (all_statements blocks) ≤ emitted table number
+
+-- Blocks that were emitted stay as they are, but for such as only leave.
+abbrev pub Keeps : List CodeBlock → List CodeBlock → Type 0
+Keeps before after =
+    (number : ℕ) (code : List Stmt) → code_in before number ≡ Some code → (code ≡ Leave ∷ [] → ⊥) → code_in after number ≡ Some code
+
+-- the emitter's blocks and actions are as they should be
+abbrev pub IsEmitting : Emitter → Type 0
+IsEmitting emitter = IsEmission emitter.actions.now emitter.blocks.items emitter.action_blocks.items
+
+-- a further emission: the actions are the same, and the blocks stay
+pub record Emits (before after : Emitter) : Type 0 where
+  pub actions : after.actions.now ≡ before.actions.now
+  pub keeps : Keeps before.blocks.items after.blocks.items
+  pub emitting : IsEmitting after
+
+-- a block of these statements, which has no action, may be emitted
+pub record IsPlainBlock (emitter : Emitter) (statements : List Stmt) : Type 0 where
+  pub good : IsGoodBlock emitter.actions.now (length emitter.blocks.items) (record { cond = None; stmts = statements })
+  pub plain : (number : ℕ) → action_count number statements ≡ 0

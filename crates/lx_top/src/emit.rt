@@ -1,0 +1,191 @@
+//! The emission of a scanner of quoted strings: blocks that scan them letter by letter.
+//!
+//! A block serves a word that some strings begin with. It is entered with the cursor at the word's last unit, which it takes;
+//! then it tests the next unit, and goes on to the block of the longer word, or to the rule that was accepted last.
+ghost use Rattle.std.specs.Prelude.{◌≡◌, ℕ, suc, ◌<◌, ◌≤◌, List, [], ◌∷◌, ◌++◌, map, vec_len, IfOk, OnOk, Some, None, length, slice_get, slice_set};
+ghost use Rattle.lx_ccode.specs.declared.piece.CodeBlock.{CodeBlock};
+ghost use Rattle.lx_ccode.specs.declared.piece.Stmt.TheVariants.{Peek, Skip, Restore, Goto, Code};
+ghost use Rattle.lx_top.specs.Emission.{items_of, IsEmission, IsGoodBlock, Keeps};
+ghost use Rattle.lx_top.specs.Scan.{accepted, derived, goes_on};
+ghost use Rattle.lx_top.specs.Serving.{IsActionBlock, backup, code_in};
+
+use lx_base::{ByteText, Memory, Sequence};
+use lx_ccode::{CodeBlock, Stmt};
+use std::alloc::Global;
+
+/// A rule whose string goes on with the rest.
+#[derive(Clone, Copy, Debug)]
+pub struct Item<'s> {
+    pub rule: u32,
+    pub rest: &'s [u8],
+}
+
+/// The items that go on with the unit, and what comes behind it.
+fn derived<'s>(alloc: Global, items: &[Item<'s>], unit: u8) -> Result<Vec<Item<'s>>, Memory>
+    ensures { IfOk result (λ next. items_of next.items ≡ derived unit (items_of items.now)) }
+{
+    let mut next = Vec::new(alloc);
+    for item in items {
+        if let Some((first, rest)) = item.rest.split_first() {
+            if *first == unit {
+                next.push(Item {
+                    rule: item.rule,
+                    rest,
+                })?;
+            }
+        }
+    }
+    Ok(next)
+}
+
+/// The first rule whose string ends here.
+fn accepted(items: &[Item<'_>]) -> Option<u32>
+    ensures { result ≡ accepted (items_of items.now) }
+{
+    for item in items {
+        if item.rest.is_empty() {
+            return Some(item.rule);
+        }
+    }
+    None
+}
+
+/// Whether some string goes on.
+fn goes_on(items: &[Item<'_>]) -> bool
+    ensures { result ≡ goes_on (items_of items.now) }
+{
+    for item in items {
+        if !item.rest.is_empty() {
+            return true;
+        }
+    }
+    false
+}
+
+/// The blocks so far, and for each rule the block of its action where that was emitted.
+#[derive(Drop)]
+pub struct Emitter<'s> {
+    actions: &'s [ByteText],
+    blocks: Vec<CodeBlock>,
+    action_blocks: Vec<Option<u64>>,
+}
+
+/// Puts a block behind the others and answers its number.
+fn push_block(blocks: &mut Vec<CodeBlock>, statements: Vec<Stmt>) -> Result<u64, Memory>
+    ensures number { IfOk result (λ number. number ≡ length blocks.old.items) }
+    ensures pushed { OnOk result (blocks.new.items ≡ blocks.old.items ++ record { cond = None; stmts = statements.items } ∷ []) }
+{
+    let number = blocks.len() as u64;
+    blocks.push(CodeBlock {
+        cond: None,
+        stmts: Sequence::from_vec(statements),
+    })?;
+    Ok(number)
+}
+
+/// The action of a rule.
+fn action_code(alloc: Global, rule: u32, action: ByteText) -> Result<Vec<Stmt>, Memory>
+    ensures { IfOk result (λ code. code.items ≡ Code rule None action ∷ []) }
+{
+    let code = vec![in alloc; Stmt::Code(rule, None, action)]?;
+    Ok(code)
+}
+
+/// Takes the unit and goes on to a block.
+fn skip_code(alloc: Global, block: u64) -> Result<Vec<Stmt>, Memory>
+    ensures { IfOk result (λ code. code.items ≡ Skip ∷ Goto block ∷ []) }
+{
+    let code = vec![in alloc; Stmt::Skip, Stmt::Goto(block)]?;
+    Ok(code)
+}
+
+/// Puts the cursor back to the marker and goes on to a block.
+fn restore_code(alloc: Global, block: u64) -> Result<Vec<Stmt>, Memory>
+    ensures { IfOk result (λ code. code.items ≡ Restore ∷ Goto block ∷ []) }
+{
+    let code = vec![in alloc; Stmt::Restore, Stmt::Goto(block)]?;
+    Ok(code)
+}
+
+/// Takes the unit, and keeps the marker where that is wanted.
+fn read_code(alloc: Global, keeps: bool) -> Result<Vec<Stmt>, Memory>
+    ensures { IfOk result (λ code. code.items ≡ Skip ∷ backup keeps (Peek ∷ [])) }
+{
+    let code = if keeps {
+        vec![in alloc; Stmt::Skip, Stmt::Backup, Stmt::Peek]?
+    } else {
+        vec![in alloc; Stmt::Skip, Stmt::Peek]?
+    };
+    Ok(code)
+}
+
+fn entry(table: &[Option<u64>], place: usize) -> Option<u64>
+    requires { place < length table.now }
+    ensures { slice_get table.now place ≡ Some result }
+{
+    table[place]
+}
+
+fn set_entry(table: &mut Vec<Option<u64>>, place: usize, number: u64)
+    requires { place < length table.old.items }
+    ensures { table.new.items ≡ slice_set table.old.items place (Some number) }
+{
+    table[place] = Some(number);
+}
+
+/// A copy of one of the texts.
+fn copied(alloc: Global, texts: &[ByteText], place: usize) -> Result<ByteText, Memory>
+    requires { place < length texts.now }
+    ensures { IfOk result (λ text. slice_get texts.now place ≡ Some text) }
+{
+    let text = Vec::from_slice(alloc, texts[place].as_slice())?;
+    Ok(ByteText::from_vec(text))
+}
+
+impl<'s> Emitter<'s> {
+    ghost use Rattle.lx_top.specs.Emission.{Emits, IsEmitting, IsPlainBlock};
+
+    /// Puts a block without an action behind the others and answers its number.
+    fn emit(&mut self, statements: Vec<Stmt>) -> Result<u64, Memory>
+        requires emitting { IsEmitting self.old }
+        requires plain { IsPlainBlock self.old statements.items }
+        ensures emits { OnOk result (Emits self.old self.new) }
+        ensures block { IfOk result (λ number. code_in self.new.blocks.items number ≡ Some statements.items) }
+        ensures last { IfOk result (λ number. number < length self.new.blocks.items) }
+    {
+        let number = push_block(&mut self.blocks, statements)?;
+        Ok(number)
+    }
+
+    /// The block of a rule's action, which is emitted where it was not yet.
+    fn action_block(&mut self, alloc: Global, rule: u32) -> Result<u64, Memory>
+        requires emitting { IsEmitting self.old }
+        requires positive { 0 < rule }
+        requires known { rule ≤ length self.old.actions.now }
+        ensures emits { OnOk result (Emits self.old self.new) }
+        ensures action { IfOk result (IsActionBlock self.new.blocks.items rule) }
+        ensures last { IfOk result (λ number. number < length self.new.blocks.items) }
+    {
+        let place = (rule - 1) as usize;
+        match entry(&self.action_blocks, place) {
+            Some(number) => Ok(number),
+            None => self.emit_action(alloc, rule, place),
+        }
+    }
+
+    /// Emits the block of a rule's action.
+    fn emit_action(&mut self, alloc: Global, rule: u32, place: usize) -> Result<u64, Memory>
+        requires emitting { IsEmitting self.old }
+        requires place { rule ≡ suc place }
+        requires free { slice_get self.old.action_blocks.items place ≡ Some None }
+        ensures emits { OnOk result (Emits self.old self.new) }
+        ensures action { IfOk result (IsActionBlock self.new.blocks.items rule) }
+        ensures last { IfOk result (λ number. number < length self.new.blocks.items) }
+    {
+        let action = copied(alloc, self.actions, place)?;
+        let statements = action_code(alloc, rule, action)?;
+        let number = push_block(&mut self.blocks, statements)?;
+        set_entry(&mut self.action_blocks, place, number);
+        Ok(number)
+    }
+}
