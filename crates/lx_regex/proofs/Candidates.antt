@@ -160,10 +160,10 @@ dec_front (c ∷ cs) (u ∷ us) =
     (λ ne. inr (λ rest k. ne (cc)))
     (cases_eq u c)
 
-module _ (enc : Enc) (g : List State) (z : slice_get g 0 ≡ Some (moves [])) where
+module _ (enc : Enc) (states : List State) (z : slice_get states 0 ≡ Some (moves [])) where
   -- a plain path over these units that passes none of the states seen before its first unit
   record Candidate (s : ℕ) (us seen : List ℕ) (l : List Symbol) : Type 0 where
-    path : Path enc g s l
+    path : Path enc states s l
     over : units l ≡ us
     plain : IsPlainList l
     avoids : (x : ℕ) → Contains x seen → IsUnseen (mark x) l
@@ -266,11 +266,11 @@ module _ (enc : Enc) (g : List State) (z : slice_get g 0 ≡ Some (moves [])) wh
 
   -- candidates by the row of their state
   from_moves :
-      (s : ℕ) (us seen : List ℕ) (ms : List Move) → slice_get g s ≡ Some (moves ms) → (s ≡ 0 → ⊥) → (l : List Symbol)
+      (s : ℕ) (us seen : List ℕ) (ms : List Move) → slice_get states s ≡ Some (moves ms) → (s ≡ 0 → ⊥) → (l : List Symbol)
       → Candidate s us seen l → ByMoves s us seen ms l
   from_moves s us seen ms h ne l c = at c.path c.over c.plain c.avoids
     where
-      at : {l : List Symbol} → Path enc g s l → units l ≡ us → IsPlainList l
+      at : {l : List Symbol} → Path enc states s l → units l ≡ us → IsPlainList l
           → ((x : ℕ) → Contains x seen → IsUnseen (mark x) l)
           → ByMoves s us seen ms l
       at (ended e) u p a = absurd (ne e)
@@ -289,10 +289,10 @@ module _ (enc : Enc) (g : List State) (z : slice_get g 0 ≡ Some (moves [])) wh
             },
             refl,
           )
-      at (then_code r d cs h' k q) u p a = absurd (no_rows enc g s ms r h h' k)
+      at (then_code r d cs h' k q) u p a = absurd (no_rows enc states s ms r h h' k)
 
   to_moves :
-      (s : ℕ) (us seen : List ℕ) (ms : List Move) → slice_get g s ≡ Some (moves ms) → (Contains s seen → ⊥) → (l : List Symbol)
+      (s : ℕ) (us seen : List ℕ) (ms : List Move) → slice_get states s ≡ Some (moves ms) → (Contains s seen → ⊥) → (l : List Symbol)
       → ByMoves s us seen ms l → Candidate s us seen l
   to_moves s us seen ms h new l v =
       let m = v.0 in
@@ -306,13 +306,13 @@ module _ (enc : Enc) (g : List State) (z : slice_get g 0 ≡ Some (moves [])) wh
       })
 
   from_code :
-      (s : ℕ) (us seen : List ℕ) (r : State) → slice_get g s ≡ Some r → (l : List Symbol) → (d : List Symbol) (cs : List ℕ)
-      → Code enc r d cs → Path enc g (s + 1) l → units (mark s ∷ (d ++ (map reads cs ++ l))) ≡ us
+      (s : ℕ) (us seen : List ℕ) (r : State) → slice_get states s ≡ Some r → (l : List Symbol) → (d : List Symbol) (cs : List ℕ)
+      → Code enc r d cs → Path enc states (s + 1) l → units (mark s ∷ (d ++ (map reads cs ++ l))) ≡ us
       → IsPlainList (mark s ∷ (d ++ (map reads cs ++ l))) → Via s us d cs (mark s ∷ (d ++ (map reads cs ++ l)))
   from_code s us seen r h l d cs k q u p = (
     units l,
     l,
-    sym u ∙ units_code enc g s r d cs l k,
+    sym u ∙ units_code enc states s r d cs l k,
     record {
       path = q;
       over = refl;
@@ -334,25 +334,25 @@ module _ (enc : Enc) (g : List State) (z : slice_get g 0 ≡ Some (moves [])) wh
   plain_code (of_unit u) l h = h
 
   to_code :
-      (s : ℕ) (us seen : List ℕ) (r : State) → slice_get g s ≡ Some r → (Contains s seen → ⊥) → (d : List Symbol) (cs : List ℕ)
+      (s : ℕ) (us seen : List ℕ) (r : State) → slice_get states s ≡ Some r → (Contains s seen → ⊥) → (d : List Symbol) (cs : List ℕ)
       → Code enc r d cs → (l : List Symbol) → Via s us d cs l → Candidate s us seen l
   to_code s us seen r h new d cs k l' v =
       let l = v.1 in
       let c = v.3 in
       subst (Candidate s us seen) (sym v.4) (record {
         path = then_code r d cs h k c.path;
-        over = units_code enc g s r d cs l k ∙ ap (λ n. cs ++ n) c.over ∙ sym v.2;
+        over = units_code enc states s r d cs l k ∙ ap (λ n. cs ++ n) c.over ∙ sym v.2;
         plain = plain_mark s _ (unseen_code k (mark s) l) (plain_code k l c.plain);
         avoids =
             λ x i. unseen_mark (mark x) s _ (λ e. new (subst (λ n. Contains n seen) (mark_same x s e) i)) (unseen_code k (mark x) l);
       })
 
-  from_leaf : (s : ℕ) (us seen : List ℕ) (ranges : List (ℕ × ℕ)) → slice_get g s ≡ Some (leaf ranges) → (s ≡ 0 → ⊥)
+  from_leaf : (s : ℕ) (us seen : List ℕ) (ranges : List (ℕ × ℕ)) → slice_get states s ≡ Some (leaf ranges) → (s ≡ 0 → ⊥)
       → (l : List Symbol) → Candidate s us seen l → ViaRanges s us ranges ranges l
   from_leaf s us seen ranges h ne l c = at c.path c.over c.plain
     where
       code : {r : State} {d : List Symbol} {cs : List ℕ} → Code enc r d cs → r ≡ leaf ranges → {l : List Symbol}
-          → Path enc g (s + 1) l → units (mark s ∷ (d ++ (map reads cs ++ l))) ≡ us
+          → Path enc states (s + 1) l → units (mark s ∷ (d ++ (map reads cs ++ l))) ≡ us
           → IsPlainList (mark s ∷ (d ++ (map reads cs ++ l)))
           → ViaRanges s us ranges ranges (mark s ∷ (d ++ (map reads cs ++ l)))
       code (of_point {ranges = ranges'} c i) e {l} q u p =
@@ -366,24 +366,24 @@ module _ (enc : Enc) (g : List State) (z : slice_get g 0 ≡ Some (moves [])) wh
           )
       code (of_unit u) e q n p = cc
 
-      at : {l : List Symbol} → Path enc g s l → units l ≡ us → IsPlainList l → ViaRanges s us ranges ranges l
+      at : {l : List Symbol} → Path enc states s l → units l ≡ us → IsPlainList l → ViaRanges s us ranges ranges l
       at (ended e) u p = absurd (ne e)
       at (then_move ms m h' i q) u p = cc
       at (then_code r d cs h' k q) u p = code k (cc) q u p
 
   from_unit :
-      (s : ℕ) (us seen : List ℕ) → slice_get g s ≡ Some unit_leaf → (s ≡ 0 → ⊥) → (l : List Symbol) → Candidate s us seen l
+      (s : ℕ) (us seen : List ℕ) → slice_get states s ≡ Some unit_leaf → (s ≡ 0 → ⊥) → (l : List Symbol) → Candidate s us seen l
       → (u : ℕ) × Via s us [] (u ∷ []) l
   from_unit s us seen h ne l c = at c.path c.over c.plain
     where
       code : {r : State} {d : List Symbol} {cs : List ℕ} → Code enc r d cs → r ≡ unit_leaf → {l : List Symbol}
-          → Path enc g (s + 1) l → units (mark s ∷ (d ++ (map reads cs ++ l))) ≡ us
+          → Path enc states (s + 1) l → units (mark s ∷ (d ++ (map reads cs ++ l))) ≡ us
           → IsPlainList (mark s ∷ (d ++ (map reads cs ++ l)))
           → (u : ℕ) × Via s us [] (u ∷ []) (mark s ∷ (d ++ (map reads cs ++ l)))
       code (of_point c i) e q u p = cc
       code (of_unit u) e {l} q n p = (u, from_code s us seen unit_leaf h l [] (u ∷ []) (of_unit u) q n p)
 
-      at : {l : List Symbol} → Path enc g s l → units l ≡ us → IsPlainList l → (u : ℕ) × Via s us [] (u ∷ []) l
+      at : {l : List Symbol} → Path enc states s l → units l ≡ us → IsPlainList l → (u : ℕ) × Via s us [] (u ∷ []) l
       at (ended e) u p = absurd (ne e)
       at (then_move ms m h' i q) u p = cc
       at (then_code r d cs h' k q) u p = code k (cc) q u p
@@ -394,7 +394,7 @@ module _ (enc : Enc) (g : List State) (z : slice_get g 0 ≡ Some (moves [])) wh
       let n : us ≡ q.0 ∷ (q.1 ++ rest) = e ∙ ap (λ k. k ++ rest) q.2 in
       omega (arith, ap length n, length-append q.1 rest)
 
-  all_unit : (s : ℕ) (us seen : List ℕ) → slice_get g s ≡ Some unit_leaf → (s ≡ 0 → ⊥) → (Contains s seen → ⊥)
+  all_unit : (s : ℕ) (us seen : List ℕ) → slice_get states s ≡ Some unit_leaf → (s ≡ 0 → ⊥) → (Contains s seen → ⊥)
       → ((rest : List ℕ) → length rest < length us → AllOf (Candidate (s + 1) rest [])) → AllOf (Candidate s us seen)
   all_unit s [] seen h ne new later =
       none_of _ (λ l c. let v = from_unit s [] seen h ne l c in let e : [] ≡ v.0 ∷ v.1.0 = v.1.2 in no v.0 v.1.0 e)
@@ -412,19 +412,19 @@ module _ (enc : Enc) (g : List State) (z : slice_get g 0 ≡ Some (moves [])) wh
       same : (u : ℕ) (l : List Symbol) → Via s (x ∷ us) [] (u ∷ []) l → Via s (x ∷ us) [] (x ∷ []) l
       same u l v = subst (λ k. Via s (x ∷ us) [] (k ∷ []) l) (head u v.0 v.2) v
 
-  -- the best candidate, by the row
-  all_row : (s : ℕ) (us seen : List ℕ) (r : Option State) → slice_get g s ≡ r → (s ≡ 0 → ⊥) → (Contains s seen → ⊥)
+  -- all candidates, by the row of their state
+  all_row : (s : ℕ) (us seen : List ℕ) (r : Option State) → slice_get states s ≡ r → (s ≡ 0 → ⊥) → (Contains s seen → ⊥)
       → ((rest : List ℕ) → length rest < length us → AllOf (Candidate (s + 1) rest []))
-      → (s < length g → (t : ℕ) → AllOf (Candidate t us (s ∷ seen))) → AllOf (Candidate s us seen)
+      → (s < length states → (t : ℕ) → AllOf (Candidate t us (s ∷ seen))) → AllOf (Candidate s us seen)
   all_row s us seen None h ne new later more = none_of _ (λ l c. no c.path)
     where
-      no : {l : List Symbol} → Path enc g s l → ⊥
+      no : {l : List Symbol} → Path enc states s l → ⊥
       no (ended e) = ne e
       no (then_move ms m h' i q) = cc
       no (then_code r d cs h' k q) = cc
   all_row s us seen (Some (moves ms)) h ne new later more =
       all_as _ _
-      (all_moves s us seen ms (more (slice_get_within g s (moves ms) h))) (from_moves s us seen ms h ne)
+      (all_moves s us seen ms (more (slice_get_within states s (moves ms) h))) (from_moves s us seen ms h ne)
       (to_moves s us seen ms h new)
   all_row s us seen (Some (leaf ranges)) h ne new later more =
       all_as _ _
@@ -434,10 +434,10 @@ module _ (enc : Enc) (g : List State) (z : slice_get g 0 ≡ Some (moves [])) wh
   all_row s us seen (Some unit_leaf) h ne new later more = all_unit s us seen h ne new later
 
   -- at the end
-  end_path : {s : ℕ} {l : List Symbol} → s ≡ 0 → Path enc g s l → l ≡ []
+  end_path : {s : ℕ} {l : List Symbol} → s ≡ 0 → Path enc states s l → l ≡ []
   end_path e (ended k) = refl
-  end_path e (then_move {s} ms m h i q) = let k = zero_is g s z e in absurd (in_none ms (cc) i)
-  end_path e (then_code {s} r d cs h k q) = absurd (no_rows enc g s [] r (zero_is g s z e) h k)
+  end_path e (then_move {s} ms m h i q) = let k = zero_is states s z e in absurd (in_none ms (cc) i)
+  end_path e (then_code {s} r d cs h k q) = absurd (no_rows enc states s [] r (zero_is states s z e) h k)
 
   all_end : (s : ℕ) (us seen : List ℕ) → s ≡ 0 → AllOf (Candidate s us seen)
   all_end s [] seen e =
@@ -453,26 +453,30 @@ module _ (enc : Enc) (g : List State) (z : slice_get g 0 ≡ Some (moves [])) wh
   seen_none : (s : ℕ) (us seen : List ℕ) → (s ≡ 0 → ⊥) → Contains s seen → AllOf (Candidate s us seen)
   seen_none s us seen ne i = none_of _ (λ l c. no c.path (c.avoids s i))
     where
-      no : {l : List Symbol} → Path enc g s l → IsUnseen (mark s) l → ⊥
+      no : {l : List Symbol} → Path enc states s l → IsUnseen (mark s) l → ⊥
       no (ended e) h = ne e
       no (then_move {l} ms m h' j q) h = (unseen_mark_back (mark s) s (label m ++ l) h).0 refl
       no (then_code {l} r d cs h' k q) h = (unseen_mark_back (mark s) s (d ++ (map reads cs ++ l)) h).0 refl
 
   all_state :
       (s : ℕ) (us seen : List ℕ) → ((rest : List ℕ) → length rest < length us → AllOf (Candidate (s + 1) rest []))
-      → ((Contains s seen → ⊥) → s < length g → (t : ℕ) → AllOf (Candidate t us (s ∷ seen))) → AllOf (Candidate s us seen)
+      → ((Contains s seen → ⊥) → s < length states → (t : ℕ) → AllOf (Candidate t us (s ∷ seen)))
+      → AllOf (Candidate s us seen)
   all_state s us seen later more =
       ⊎_elim
       (λ e. all_end s us seen e)
       (λ ne.
       ⊎_elim
-      (λ i. seen_none s us seen ne i) (λ new. all_row s us seen (slice_get g s) refl ne new later (more new))
+      (λ i. seen_none s us seen ne i) (λ new. all_row s us seen (slice_get states s) refl ne new later (more new))
       (contains_or_not s seen))
       (cases_eq s 0)
 
   -- k states aren't seen yet
   search_in : (us : List ℕ) → ((rest : List ℕ) → length rest < length us → (s : ℕ) → AllOf (Candidate s rest []))
-      → (k : ℕ) (open' seen : List ℕ) → length open' ≤ k → ((x : ℕ) → x < length g → Contains x seen ⊎ Contains x open') → (s : ℕ)
+      → (k : ℕ) (open' seen : List ℕ)
+      → length open' ≤ k
+      → ((x : ℕ) → x < length states → Contains x seen ⊎ Contains x open')
+      → (s : ℕ)
       → AllOf (Candidate s us seen)
   search_in us later zero open' seen le cover s =
       all_state s us seen
@@ -498,8 +502,8 @@ module _ (enc : Enc) (g : List State) (z : slice_get g 0 ≡ Some (moves [])) wh
   search_all zero us lt s = absurd (omega arith)
   search_all (suc n) us lt s =
       search_in us
-      (λ rest less t. search_all n rest (omega arith) t) (length (below_list (length g))) (below_list (length g)) []
-      (omega arith) (λ x lx. inr (below_contains (length g) x lx)) s
+      (λ rest less t. search_all n rest (omega arith) t) (length (below_list (length states))) (below_list (length states)) []
+      (omega arith) (λ x lx. inr (below_contains (length states) x lx)) s
 
 -- the scripts of the plain trees of a word
 pub all_scripts :

@@ -1,4 +1,4 @@
--- The laws of the cuts of Kernel.antt: one place goes on as another, and the order of two cuts of a word is that of what
+-- What holds of cuts: one place goes on as another, and the order of two cuts of a word is that of what
 -- goes on from them.
 use Rattle.std.specs.Prelude.{◌≡◌, ℕ, zero, suc, ◌+◌, ◌*◌, ◌<◌, ◌⊎◌, List, [], ◌∷◌, ◌++◌, map, Option, Some, Bool, true, false, ◌&&◌, nat_lt, if◌then◌else◌, slice_get, refl}
 use Rattle.std.proofs.Common.{sym, ap, ap₂, ◌∙◌, subst, arith, append_assoc, inl, inr, ⊎_elim}
@@ -20,18 +20,19 @@ use Rattle.lx_regex.proofs.Rows.{mark_begins, mark_ends, stands_front, Stands}
 use Rattle.lx_regex.proofs.TreeWalk.{member_back}
 use Rattle.lx_regex.proofs.WholeWalk.{stands_all, walk_of, tree_of}
 
-rule_at : (g : List State) (rules : List Term) (c r : ℕ) (e : Term) → Stands g (2 * (c + 1)) (rules_table rules (c + 1))
-    → slice_get rules r ≡ Some e → Stands g (2 * (c + rule_part rules r)) (table e (c + rule_part rules r) final)
-rule_at g [] c r e h k = cc
-rule_at g (x ∷ rules) c zero e h k =
+rule_at :
+    (states : List State) (rules : List Term) (c r : ℕ) (e : Term) → Stands states (2 * (c + 1)) (rules_table rules (c + 1))
+    → slice_get rules r ≡ Some e → Stands states (2 * (c + rule_part rules r)) (table e (c + rule_part rules r) final)
+rule_at states [] c r e h k = cc
+rule_at states (x ∷ rules) c zero e h k =
     let z : x ≡ e = cc in
-    subst (λ n. Stands g (2 * (c + 1)) (table n (c + 1) final)) z (stands_front g _ (table x (c + 1) final) _ h)
-rule_at g (x ∷ rules) c (suc r) e h k =
-    let back = member_back g (c + 1) x final (rules_table rules (c + 1 + parts x)) h in
+    subst (λ n. Stands states (2 * (c + 1)) (table n (c + 1) final)) z (stands_front states _ (table x (c + 1) final) _ h)
+rule_at states (x ∷ rules) c (suc r) e h k =
+    let back = member_back states (c + 1) x final (rules_table rules (c + 1 + parts x)) h in
     let z : c + 1 + parts x ≡ (c + parts x) + 1 = omega arith in
-    let i = rule_at g rules (c + parts x) r e (subst (λ n. Stands g (2 * n) (rules_table rules n)) z back) k in
+    let i = rule_at states rules (c + parts x) r e (subst (λ n. Stands states (2 * n) (rules_table rules n)) z back) k in
     let y : (c + parts x) + rule_part rules r ≡ c + (parts x + rule_part rules r) = omega arith in
-    subst (λ n. Stands g (2 * n) (table e n final)) y i
+    subst (λ n. Stands states (2 * n) (table e n final)) y i
 
 pub rule_stands : (rules : List Term) (r : ℕ) (e : Term) → slice_get rules r ≡ Some e
     → Stands (automaton rules) (2 * rule_part rules r) (table e (rule_part rules r) final)
@@ -105,15 +106,16 @@ paired_rules (e ∷ rules) p = paired_append (table e p final) _ (paired_table e
 
 -- a row that is no list of moves is the first of a pair
 pub code_even :
-    (enc : Enc) (g : List State) (s : ℕ) (r : State) {d : List Symbol} {us : List ℕ} → ArePaired g → slice_get g s ≡ Some r
+    (enc : Enc) (states : List State) (s : ℕ) (r : State) {d : List Symbol} {us : List ℕ} → ArePaired states → slice_get states s ≡ Some r
     → Code enc r d us → (p : ℕ) × (s ≡ 2 * p)
 code_even enc [] s r h k c = cc
 code_even enc (x ∷ []) s r h k c = absurd h
-code_even enc (x ∷ moves ms ∷ g) zero r h k c = (0, refl)
-code_even enc (x ∷ moves ms ∷ g) (suc zero) r h k c = absurd (code_row enc c ms (cc))
-code_even enc (x ∷ moves ms ∷ g) (suc (suc s)) r h k c = let z = code_even enc g s r h k c in (suc z.0, omega (arith, z.1))
-code_even enc (x ∷ leaf ranges ∷ g) s r h k c = absurd h
-code_even enc (x ∷ unit_leaf ∷ g) s r h k c = absurd h
+code_even enc (x ∷ moves ms ∷ states) zero r h k c = (0, refl)
+code_even enc (x ∷ moves ms ∷ states) (suc zero) r h k c = absurd (code_row enc c ms (cc))
+code_even enc (x ∷ moves ms ∷ states) (suc (suc s)) r h k c =
+    let z = code_even enc states s r h k c in (suc z.0, omega (arith, z.1))
+code_even enc (x ∷ leaf ranges ∷ states) s r h k c = absurd h
+code_even enc (x ∷ unit_leaf ∷ states) s r h k c = absurd h
 
 pub last_append : (q : ℕ) (a b : List Symbol) → last_part q (a ++ b) ≡ last_part (last_part q a) b
 last_append q [] b = refl
@@ -145,18 +147,19 @@ last_code enc (of_unit u) q = refl
 
 -- the leaf in which a front stands is the part that began last
 pub front_part :
-    (enc : Enc) (g : List State) → ArePaired g → (f : ℕ) (v : List ℕ) {s : ℕ} {l : List Symbol} → Front enc g f v s l
+    (enc : Enc) (states : List State) → ArePaired states → (f : ℕ) (v : List ℕ) {s : ℕ} {l : List Symbol} → Front enc states f v s l
     → (q : ℕ) → f ≡ 2 * last_part q l
-front_part enc g h f v (by_move {s} {l} ms m k i a) q =
-    front_part enc g h f v a (last_part q (mark s ∷ label m)) ∙ ap (λ n. 2 * n) (sym (last_append q (mark s ∷ label m) l))
-front_part enc g h f v (by_code {s} {l} r d us k c a) q =
-    front_part enc g h f v a (last_part (last_part q (mark s ∷ d)) (map reads us))
+front_part enc states h f v (by_move {s} {l} ms m k i a) q =
+    front_part enc states h f v a (last_part q (mark s ∷ label m))
+    ∙ ap (λ n. 2 * n) (sym (last_append q (mark s ∷ label m) l))
+front_part enc states h f v (by_code {s} {l} r d us k c a) q =
+    front_part enc states h f v a (last_part (last_part q (mark s ∷ d)) (map reads us))
     ∙ ap
     (λ n. 2 * n)
     (sym (last_append (last_part q (mark s ∷ d)) (map reads us) l)
     ∙ sym (last_append q (mark s ∷ d) (map reads us ++ l)))
-front_part enc g h f v (within {s} at r d u us k c) q =
-    let z = code_even enc g s r h k c in
+front_part enc states h f v (within {s} at r d u us k c) q =
+    let z = code_even enc states s r h k c in
     let e : last_part q (mark s ∷ (d ++ map reads (u ∷ us))) ≡ z.0 =
     ap (λ x. last_part q (x ∷ (d ++ map reads (u ∷ us)))) (ap mark z.1 ∙ mark_begins z.0)
     ∙ last_append z.0 d (map reads (u ∷ us)) ∙ last_reads (last_part z.0 d) (u ∷ us) ∙ last_code enc c z.0 in

@@ -69,13 +69,13 @@ reads_match (a ∷ v) (b ∷ w) x y m n k l ex ey e =
     let r = reads_match v w x y m n k l ex ey (cc) in
     (ap₂ (λ p q. p ∷ q) h r.0, r.1, r.2)
 
-module _ (enc : Enc) (g : List State) (end : ℕ) where
+module _ (enc : Enc) (states : List State) (end : ℕ) where
   -- a walk from s taken apart behind a unit
   pub record Cutting (s : ℕ) (l rest : List Symbol) : Type 0 where
     pub at : ℕ
     pub left : List ℕ
-    pub front : Front enc g at left s l
-    pub walk : Walk g end (at + 1)
+    pub front : Front enc states at left s l
+    pub walk : Walk states end (at + 1)
     pub goes : rest ≡ map reads left ++ symbols enc walk []
 
   cutting_as : (s : ℕ) (l l' rest : List Symbol) → l ≡ l' → Cutting s l rest → Cutting s l' rest
@@ -83,26 +83,26 @@ module _ (enc : Enc) (g : List State) (end : ℕ) where
       record {
         at = c.at;
         left = c.left;
-        front = subst (λ k. Front enc g c.at c.left s k) e c.front;
+        front = subst (λ k. Front enc states c.at c.left s k) e c.front;
         walk = c.walk;
         goes = c.goes;
       }
 
-  within_at : (s : ℕ) (r : State) (d : List Symbol) (fore : List ℕ) (u : ℕ) (back : List ℕ) → slice_get g s ≡ Some r
-      → Code enc r d (fore ++ u ∷ back) → Front enc g s back s (mark s ∷ (d ++ (map reads fore ++ reads u ∷ [])))
+  within_at : (s : ℕ) (r : State) (d : List Symbol) (fore : List ℕ) (u : ℕ) (back : List ℕ) → slice_get states s ≡ Some r
+      → Code enc r d (fore ++ u ∷ back) → Front enc states s back s (mark s ∷ (d ++ (map reads fore ++ reads u ∷ [])))
   within_at s r d [] u back h c = within refl r d u [] h c
   within_at s r d (x ∷ fore) u back h c =
       let e : fore ++ u ∷ back ≡ (fore ++ u ∷ []) ++ back = sym (append_assoc fore (u ∷ []) back) in
       subst
-      (λ k. Front enc g s back s (mark s ∷ (d ++ reads x ∷ k))) (map_one fore)
+      (λ k. Front enc states s back s (mark s ∷ (d ++ reads x ∷ k))) (map_one fore)
       (within refl r d x (fore ++ u ∷ []) h (subst (λ k. Code enc r d (x ∷ k)) e c))
     where
       map_one : (us : List ℕ) → map reads (us ++ u ∷ []) ≡ map reads us ++ reads u ∷ []
       map_one [] = refl
       map_one (y ∷ us) = ap (λ k. reads y ∷ k) (map_one us)
 
-  cut_code : (s : ℕ) (r : State) (d : List Symbol) (us : List ℕ) → slice_get g s ≡ Some r → Code enc r d us
-      → (w : Walk g end (s + 1)) → (before : List Symbol) (u : ℕ) (rest : List Symbol)
+  cut_code : (s : ℕ) (r : State) (d : List Symbol) (us : List ℕ) → slice_get states s ≡ Some r → Code enc r d us
+      → (w : Walk states end (s + 1)) → (before : List Symbol) (u : ℕ) (rest : List Symbol)
       → ((l : List Symbol) → symbols enc w [] ≡ l ++ reads u ∷ rest → Cutting (s + 1) (l ++ reads u ∷ []) rest)
       → mark s ∷ (d ++ (map reads us ++ symbols enc w [])) ≡ before ++ reads u ∷ rest
       → Cutting s (before ++ reads u ∷ []) rest
@@ -120,7 +120,7 @@ module _ (enc : Enc) (g : List State) (end : ℕ) where
           record {
             at = i.at;
             left = i.left;
-            front = subst (λ k. Front enc g i.at i.left s k) same (by_code r d us h c i.front);
+            front = subst (λ k. Front enc states i.at i.left s k) same (by_code r d us h c i.front);
             walk = i.walk;
             goes = i.goes;
           }
@@ -134,12 +134,13 @@ module _ (enc : Enc) (g : List State) (end : ℕ) where
             at = s;
             left = b.1;
             front =
-                subst (λ k. Front enc g s b.1 s k) same (within_at s r d b.0 u b.1 h (subst (λ k. Code enc r d k) b.2 c));
+                subst
+                (λ k. Front enc states s b.1 s k) same (within_at s r d b.0 u b.1 h (subst (λ k. Code enc r d k) b.2 c));
             walk = w;
             goes = b.4;
           }
 
-  pub cut_walk : {s : ℕ} → (w : Walk g end s) → (before : List Symbol) (u : ℕ) (rest : List Symbol)
+  pub cut_walk : {s : ℕ} → (w : Walk states end s) → (before : List Symbol) (u : ℕ) (rest : List Symbol)
       → symbols enc w [] ≡ before ++ reads u ∷ rest → Cutting s (before ++ reads u ∷ []) rest
   cut_walk stay [] u rest e = cc
   cut_walk stay (x ∷ before) u rest e = cc
@@ -153,7 +154,7 @@ module _ (enc : Enc) (g : List State) (end : ℕ) where
       record {
         at = c.at;
         left = c.left;
-        front = subst (λ k. Front enc g c.at c.left s k) same (by_move ms m h i c.front);
+        front = subst (λ k. Front enc states c.at c.left s k) same (by_move ms m h i c.front);
         walk = c.walk;
         goes = c.goes;
       }
@@ -165,14 +166,14 @@ module _ (enc : Enc) (g : List State) (end : ℕ) where
       cut_code s unit_leaf [] (x ∷ []) h (of_unit x) w before u rest (λ l k. cut_walk w l u rest k) e
 
   -- and put together again
-  pub code_walk : {s : ℕ} {r : State} {d : List Symbol} {us : List ℕ} → Code enc r d us → slice_get g s ≡ Some r
-      → (w : Walk g end (s + 1))
-      → (w' : Walk g end s) × (symbols enc w' [] ≡ mark s ∷ (d ++ (map reads us ++ symbols enc w [])))
+  pub code_walk : {s : ℕ} {r : State} {d : List Symbol} {us : List ℕ} → Code enc r d us → slice_get states s ≡ Some r
+      → (w : Walk states end (s + 1))
+      → (w' : Walk states end s) × (symbols enc w' [] ≡ mark s ∷ (d ++ (map reads us ++ symbols enc w [])))
   code_walk (of_point {ranges} c i) h w = (at_point ranges c h i w, refl)
   code_walk (of_unit u) h w = (at_unit u h w, refl)
 
-  pub resume : {f : ℕ} {v : List ℕ} {s : ℕ} {l : List Symbol} → Front enc g f v s l → (w : Walk g end (f + 1))
-      → (w' : Walk g end s) × (symbols enc w' [] ≡ l ++ (map reads v ++ symbols enc w []))
+  pub resume : {f : ℕ} {v : List ℕ} {s : ℕ} {l : List Symbol} → Front enc states f v s l → (w : Walk states end (f + 1))
+      → (w' : Walk states end s) × (symbols enc w' [] ≡ l ++ (map reads v ++ symbols enc w []))
   resume (by_move {s} {l} ms m h i a) w =
       let r = resume a w in
       (moved ms m h i r.0, ap (λ k. mark s ∷ (label m ++ k)) r.1 ∙ sym (ap (λ k. mark s ∷ k) (append_assoc (label m) l _)))
@@ -181,8 +182,8 @@ module _ (enc : Enc) (g : List State) (end : ℕ) where
       let q = code_walk c h r.0 in
       (q.0, q.1 ∙ ap (λ k. mark s ∷ (d ++ (map reads us ++ k))) r.1 ∙ sym (simp append_assoc))
   resume {v} (within {s} at r d u us h c) w =
-      let w2 : (w2 : Walk g end (s + 1)) × (symbols enc w2 [] ≡ symbols enc w []) =
-      subst (λ n. (w2 : Walk g end (n + 1)) × (symbols enc w2 [] ≡ symbols enc w [])) (sym at) (w, refl) in
+      let w2 : (w2 : Walk states end (s + 1)) × (symbols enc w2 [] ≡ symbols enc w []) =
+      subst (λ n. (w2 : Walk states end (n + 1)) × (symbols enc w2 [] ≡ symbols enc w [])) (sym at) (w, refl) in
       let q = code_walk c h w2.0 in (
         q.0,
         q.1 ∙ ap (λ k. mark s ∷ (d ++ (map reads (u ∷ (us ++ v)) ++ k))) w2.1
@@ -193,7 +194,7 @@ module _ (enc : Enc) (g : List State) (end : ℕ) where
       map_append [] b = refl
       map_append (x ∷ a) b = ap (λ k. reads x ∷ k) (map_append a b)
 
-  pub first_mark : {s : ℕ} → (w : Walk g end s) → (s ≡ end → ⊥) → (k : List Symbol) × (symbols enc w [] ≡ mark s ∷ k)
+  pub first_mark : {s : ℕ} → (w : Walk states end s) → (s ≡ end → ⊥) → (k : List Symbol) × (symbols enc w [] ≡ mark s ∷ k)
   first_mark stay h = absurd (h refl)
   first_mark (moved ms m h i w) ne = (_, refl)
   first_mark (at_point ranges c h i w) ne = (_, refl)
@@ -213,18 +214,18 @@ module _ (enc : Enc) (g : List State) (end : ℕ) where
       (q.0, omega arith, k.1 ∙ ap₂ (λ x y. x ∷ y) (sym q.1) (sym q.2))
 
   pub swap_walks :
-      (s p : ℕ) (v : List ℕ) (b b' : List Symbol) (u u' : ℕ) (r r' : List Symbol) → end ≡ 0 → (w w' : Walk g end s)
+      (s p : ℕ) (v : List ℕ) (b b' : List Symbol) (u u' : ℕ) (r r' : List Symbol) → end ≡ 0 → (w w' : Walk states end s)
       → symbols enc w [] ≡ b ++ reads u ∷ (map reads v ++ ends p ∷ r)
       → symbols enc w' [] ≡ b' ++ reads u' ∷ (map reads v ++ ends p ∷ r')
-      → (x : Walk g end s) × (symbols enc x [] ≡ b' ++ reads u' ∷ (map reads v ++ ends p ∷ r))
+      → (x : Walk states end s) × (symbols enc x [] ≡ b' ++ reads u' ∷ (map reads v ++ ends p ∷ r))
   swap_walks s p v b b' u u' r r' z w w' e e' =
       let c = cut_walk w b u _ e in
       let c' = cut_walk w' b' u' _ e' in
       let k = cut_ends s p v _ r z c in
       let k' = cut_ends s p v _ r' z c' in
       let same : c.at ≡ c'.at = sym k.1 ∙ k'.1 in
-      let on : (y : Walk g end (c'.at + 1)) × (symbols enc y [] ≡ symbols enc c.walk []) =
-      subst (λ n. (y : Walk g end (n + 1)) × (symbols enc y [] ≡ symbols enc c.walk [])) same (c.walk, refl) in
+      let on : (y : Walk states end (c'.at + 1)) × (symbols enc y [] ≡ symbols enc c.walk []) =
+      subst (λ n. (y : Walk states end (n + 1)) × (symbols enc y [] ≡ symbols enc c.walk [])) same (c.walk, refl) in
       let x = resume c'.front on.0 in (
         x.0,
         x.1 ∙ ap₂ (λ m n. (b' ++ reads u' ∷ []) ++ (map reads m ++ n)) (sym k'.0) (on.1 ∙ k.2)
@@ -304,17 +305,17 @@ pub plain_swap :
     → IsPlain (b' ++ reads u' ∷ r)
 plain_swap b b' u u' r r' h h' = plain_list _ (plain_join b' u' r' r (plain_from _ h') (plain_back b u r (plain_from _ h)))
 
-module _ (enc : Enc) (g : List State) (e : Term) (p : ℕ) (h : Stands g (2 * p) (table e p final)) where
+module _ (enc : Enc) (states : List State) (e : Term) (p : ℕ) (h : Stands states (2 * p) (table e p final)) where
   -- The exchange: of two trees whose scripts, each up to a unit, stand in one part that the units v finish, the second goes
   -- on as the first does.
-  pub exchange : 0 < p → slice_get g 0 ≡ Some (moves [])
+  pub exchange : 0 < p → slice_get states 0 ≡ Some (moves [])
       → (t t' : Tree e) (b b' : List Symbol) (u u' q : ℕ) (v : List ℕ) (r r' : List Symbol)
       → script enc p t ≡ b ++ reads u ∷ (map reads v ++ ends q ∷ r)
       → script enc p t' ≡ b' ++ reads u' ∷ (map reads v ++ ends q ∷ r')
       → (x : Tree e) × (script enc p x ≡ b' ++ reads u' ∷ (map reads v ++ ends q ∷ r))
   exchange lt z t t' b b' u u' q v r r' k k' =
-      let w = walk_of enc g e p h t in
-      let w' = walk_of enc g e p h t' in
-      let x = swap_walks enc g 0 (2 * p) q v b b' u u' r r' refl w.0 w'.0 (w.1 ∙ k) (w'.1 ∙ k') in
-      let y = tree_of enc g e p h lt z x.0 in
+      let w = walk_of enc states e p h t in
+      let w' = walk_of enc states e p h t' in
+      let x = swap_walks enc states 0 (2 * p) q v b b' u u' r r' refl w.0 w'.0 (w.1 ∙ k) (w'.1 ∙ k') in
+      let y = tree_of enc states e p h lt z x.0 in
       (y.0, sym y.1 ∙ x.1)

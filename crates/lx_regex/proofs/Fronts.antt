@@ -12,14 +12,15 @@ use Rattle.lx_regex.proofs.PlainWalk.{units_append, units_label, units_mark}
 use Rattle.lx_regex.proofs.Readings.{Code, code_choice, code_free, code_quiet, code_row, code_some}
 
 -- The symbols of a walk from a state up to a unit, after which it stands in the leaf at f; the units v may finish it there.
-pub data Front (enc : Enc) (g : List State) (f : ℕ) (v : List ℕ) : ℕ → List Symbol → Type 0 where
-  by_move : {s : ℕ} {l : List Symbol} → (ms : List Move) (m : Move) → slice_get g s ≡ Some (moves ms) → IsAmong m ms
-      → Front enc g f v (target m) l → Front enc g f v s (mark s ∷ (label m ++ l))
+pub data Front (enc : Enc) (states : List State) (f : ℕ) (v : List ℕ) : ℕ → List Symbol → Type 0 where
+  by_move : {s : ℕ} {l : List Symbol} → (ms : List Move) (m : Move) → slice_get states s ≡ Some (moves ms) → IsAmong m ms
+      → Front enc states f v (target m) l → Front enc states f v s (mark s ∷ (label m ++ l))
   by_code :
-      {s : ℕ} {l : List Symbol} → (r : State) (d : List Symbol) (us : List ℕ) → slice_get g s ≡ Some r → Code enc r d us
-      → Front enc g f v (s + 1) l → Front enc g f v s (mark s ∷ (d ++ (map reads us ++ l)))
-  within : {s : ℕ} → s ≡ f → (r : State) (d : List Symbol) (u : ℕ) (us : List ℕ) → slice_get g s ≡ Some r
-      → Code enc r d (u ∷ (us ++ v)) → Front enc g f v s (mark s ∷ (d ++ map reads (u ∷ us)))
+      {s : ℕ} {l : List Symbol} →
+      (r : State) (d : List Symbol) (us : List ℕ) → slice_get states s ≡ Some r → Code enc r d us
+      → Front enc states f v (s + 1) l → Front enc states f v s (mark s ∷ (d ++ (map reads us ++ l)))
+  within : {s : ℕ} → s ≡ f → (r : State) (d : List Symbol) (u : ℕ) (us : List ℕ) → slice_get states s ≡ Some r
+      → Code enc r d (u ∷ (us ++ v)) → Front enc states f v s (mark s ∷ (d ++ map reads (u ∷ us)))
 
 pub units_reads : (us : List ℕ) (l : List Symbol) → units (map reads us ++ l) ≡ us ++ units l
 units_reads [] l = refl
@@ -86,10 +87,11 @@ pub drop_picks : (d : Option ℕ) (x w : List ℕ) → pick_list d ++ x ≡ pick
 drop_picks None x w e = e
 drop_picks (Some d) x w e = cc
 
-module _ (enc : Enc) (g : List State) where
+module _ (enc : Enc) (states : List State) where
   -- a front has a unit
   front_some :
-      (f : ℕ) (v : List ℕ) {s : ℕ} {l : List Symbol} → Front enc g f v s l → (u : ℕ) × (us : List ℕ) × (units l ≡ u ∷ us)
+      (f : ℕ) (v : List ℕ) {s : ℕ} {l : List Symbol} → Front enc states f v s l → (u : ℕ) × (us : List ℕ)
+      × (units l ≡ u ∷ us)
   front_some f v (by_move {s} {l} ms m h i a) =
       let r = front_some f v a in (r.0, r.1, units_mark s (label m ++ l) ∙ units_label m l ∙ r.2)
   front_some f v (by_code {s} {l} r d us h c a) =
@@ -118,13 +120,14 @@ module _ (enc : Enc) (g : List State) where
   choices_within : (s : ℕ) (d : List Symbol) (us : List ℕ) → choices (mark s ∷ (d ++ map reads us)) ≡ choices d ++ []
   choices_within s d us = choices_mark s _ ∙ choices_append d _ ∙ ap (λ k. choices d ++ k) (choices_reads_all us)
 
-  pub no_rows : (s : ℕ) (ms : List Move) (r : State) {d : List Symbol} {us : List ℕ} → slice_get g s ≡ Some (moves ms)
-      → slice_get g s ≡ Some r → Code enc r d us → ⊥
+  pub no_rows : (s : ℕ) (ms : List Move) (r : State) {d : List Symbol} {us : List ℕ} → slice_get states s ≡ Some (moves ms)
+      → slice_get states s ≡ Some r → Code enc r d us → ⊥
   no_rows s ms r h h' c = code_row enc c ms (cc)
 
   -- fronts over the same units, of which the choices of one begin those of the other, are the same, and stand in one leaf
   pub front_same :
-      AllAreClear g → (f f' : ℕ) (v v' : List ℕ) {s : ℕ} {l l' : List Symbol} → Front enc g f v s l → Front enc g f' v' s l'
+      AllAreClear states →
+      (f f' : ℕ) (v v' : List ℕ) {s : ℕ} {l l' : List Symbol} → Front enc states f v s l → Front enc states f' v' s l'
       → units l ≡ units l' → (rest : List ℕ) → choices l' ≡ choices l ++ rest → (l ≡ l') × (f ≡ f')
   front_same clear f f' v v' (by_move {s} {l} ms m h i a) (by_move {l = l'} ms' m' h' i' b) u rest c =
       let k : ms' ≡ ms = cc in
@@ -132,11 +135,11 @@ module _ (enc : Enc) (g : List State) where
       let c0 : pick_list (picked m') ++ choices l' ≡ pick_list (picked m) ++ (choices l ++ rest) =
       sym (choices_mark s _ ∙ choices_label m' l') ∙ c ∙ ap (λ n. n ++ rest) (choices_mark s _ ∙ choices_label m l)
       ∙ append_assoc (pick_list (picked m)) (choices l) rest in
-      let e : m ≡ m' = same_pick ms m m' (clear_at g s (moves ms) clear h) i j _ _ c0 in
+      let e : m ≡ m' = same_pick ms m m' (clear_at states s (moves ms) clear h) i j _ _ c0 in
       let c1 : choices l' ≡ choices l ++ rest =
       drop_picks (picked m) _ _ (ap (λ n. pick_list (picked n) ++ choices l') e ∙ c0) in
       let u1 : units l ≡ units l' = sym (units_mark s _ ∙ units_label m l) ∙ u ∙ (units_mark s _ ∙ units_label m' l') in
-      let r = front_same clear f f' v v' a (subst (λ n. Front enc g f' v' (target n) l') (sym e) b) u1 rest c1 in
+      let r = front_same clear f f' v v' a (subst (λ n. Front enc states f' v' (target n) l') (sym e) b) u1 rest c1 in
       (ap₂ (λ n k. mark s ∷ (label n ++ k)) e r.0, r.1)
   front_same clear f f' v v' (by_move {s} ms m h i a) (by_code r d us h' k b) u rest c = absurd (no_rows s ms r h h' k)
   front_same clear f f' v v' (by_move {s} ms m h i a) (within at r d x us h' k) u rest c = absurd (no_rows s ms r h h' k)
@@ -233,17 +236,17 @@ compare_lists (x ∷ xs) (y ∷ ys) =
     (cases_order x y)
 
 module _
-    (enc : Enc) (g : List State) (clear : AllAreClear g) (f f' : ℕ) (v v' : List ℕ) (s : ℕ) (l l' : List Symbol)
-    (a : Front enc g f v s l) (b : Front enc g f' v' s l') (same : units l ≡ units l') where
+    (enc : Enc) (states : List State) (clear : AllAreClear states) (f f' : ℕ) (v v' : List ℕ) (s : ℕ) (l l' : List Symbol)
+    (a : Front enc states f v s l) (b : Front enc states f' v' s l') (same : units l ≡ units l') where
   -- two fronts over the same units are the same, or their choices differ before either's end
   pub fronts_differ :
       ((l ≡ l') × (f ≡ f')) ⊎ (DiffersBefore (choices l) (choices l') ⊎ DiffersBefore (choices l') (choices l))
   fronts_differ =
       ⊎_elim
-      (λ p. inl (front_same enc g clear f f' v v' a b same p.0 p.1))
+      (λ p. inl (front_same enc states clear f f' v v' a b same p.0 p.1))
       (λ r.
       ⊎_elim
-      (λ p. let q = front_same enc g clear f' f v' v b a (sym same) p.0 p.1 in inl (sym q.0, sym q.1)) (λ d. inr d) r)
+      (λ p. let q = front_same enc states clear f' f v' v b a (sym same) p.0 p.1 in inl (sym q.0, sym q.1)) (λ d. inr d) r)
       (compare_lists (choices l) (choices l'))
 
   -- so the order of two fronts is that of whatever goes on from them

@@ -97,10 +97,12 @@ no_third : (third : ℕ) (rest : List ℕ) → 120 ∷ 121 ∷ third ∷ rest �
 no_third third rest e = cc
 
 -- a whole tree that begins with these two trees
-abbrev begun : {count : ℕ} → Tree optional_x → Tree nothing_or_y → Iterations body count → (low : 0 ≤ suc count) → Tree grouped_letters
+abbrev begun :
+    {count : ℕ} → Tree optional_x → Tree nothing_or_y → Iterations body count → (low : 0 ≤ suc count) → Tree grouped_letters
 begun {count} first second more low = inside (iterations (suc count) (iteration (pair first second) more) low tt)
 
-abbrev symbols_of : {count : ℕ} → Tree optional_x → Tree nothing_or_y → Iterations body count → (low : 0 ≤ suc count) → List Symbol
+abbrev symbols_of :
+    {count : ℕ} → Tree optional_x → Tree nothing_or_y → Iterations body count → (low : 0 ≤ suc count) → List Symbol
 symbols_of first second more low = script Utf8 1 (begun first second more low)
 
 -- no plain tree of `xy` with lesser choices begins so
@@ -124,47 +126,61 @@ module _ (i : IsInRanges ((120, 120) ∷ []) 120) (l : 0 ≤ 1) (m : IsAtMost 1 
   one_y j = inside (chosen (later (here (point 121 j))))
 
   -- after nothing more: "x"? ends again, or a second `x` is read
-  again_x : {count : ℕ} (first : Tree optional_x) (second : Tree nothing_or_y) (more : Iterations body count) → IsNoLesser one_x nothing (iteration (pair first second) more)
+  again_x : {count : ℕ} (first : Tree optional_x) (second : Tree nothing_or_y) (more : Iterations body count)
+      → IsNoLesser one_x nothing (iteration (pair first second) more)
   again_x (inside (iterations n stop l' m')) second more low u p b = p to_x round_x _ (ends 6) 13 refl refl refl
   again_x (inside (iterations n (iteration (point c within) rest) l' m')) second more low u p b =
       at_letter 120
-      (λ c i. units (symbols_of one_x nothing (iteration (pair (inside (iterations n (iteration (point c i) rest) l' m')) second) more) low) ≡ 120 ∷ 121 ∷ [] → ⊥)
+      (λ c i.
+      units (symbols_of one_x nothing (iteration (pair (inside (iterations n (iteration (point c i) rest) l' m')) second) more) low) ≡ 120 ∷ 121 ∷ [] → ⊥)
       (λ i e. no_second_x _ e) c within u
 
   after_nothing : {count : ℕ} (more : Iterations body count) → IsNoLesser one_x nothing more
   after_nothing stop low u p b = cc
-  after_nothing (iteration (inside (row (beside first (beside second row_end)))) more) low u p b = again_x first second more low u p b
+  after_nothing (iteration (inside (row (beside first (beside second row_end)))) more) low u p b =
+      again_x first second more low u p b
 
   -- after the first `y`: ""|"y" ends again, or a third letter is read
   again_y :
-      {count : ℕ} (j : IsInRanges ((121, 121) ∷ []) 121) (first : Tree optional_x) (second : Tree nothing_or_y) (more : Iterations body count)
+      {count : ℕ}
+      (j : IsInRanges ((121, 121) ∷ []) 121) (first : Tree optional_x) (second : Tree nothing_or_y)
+      (more : Iterations body count)
       → IsNoLesser one_x (one_y j) (iteration (pair first second) more)
-  again_y j (inside (iterations n stop l' m')) (inside (chosen (here blank))) more low u p b = p to_y round_y _ (ends 9) 19 refl refl refl
+  again_y j (inside (iterations n stop l' m')) (inside (chosen (here blank))) more low u p b =
+      p to_y round_y _ (ends 9) 19 refl refl refl
   again_y j (inside (iterations n stop l' m')) (inside (chosen (later (here (point c within))))) more low u p b =
       at_letter 121
-      (λ c i. units (symbols_of one_x (one_y j) (iteration (pair (inside (iterations n stop l' m')) (inside (chosen (later (here (point c i)))))) more) low) ≡ 120 ∷ 121 ∷ [] → ⊥)
+      (λ c i.
+      units (symbols_of one_x (one_y j) (iteration (pair (inside (iterations n stop l' m')) (inside (chosen (later (here (point c i)))))) more) low) ≡ 120 ∷ 121 ∷ [] → ⊥)
       (λ i e. no_third 121 _ e) c within u
   again_y j (inside (iterations n stop l' m')) (inside (chosen (later (later none)))) more low u p b = elim none [ ]
   again_y j (inside (iterations n (iteration (point c within) rest) l' m')) second more low u p b =
       at_letter 120
-      (λ c i. units (symbols_of one_x (one_y j) (iteration (pair (inside (iterations n (iteration (point c i) rest) l' m')) second) more) low) ≡ 120 ∷ 121 ∷ [] → ⊥)
+      (λ c i.
+      units (symbols_of one_x (one_y j) (iteration (pair (inside (iterations n (iteration (point c i) rest) l' m')) second) more) low) ≡ 120 ∷ 121 ∷ [] → ⊥)
       (λ i e. no_third 120 _ e) c within u
 
-  after_y : {count : ℕ} (j : IsInRanges ((121, 121) ∷ []) 121) (more : Iterations body count) → IsNoLesser one_x (one_y j) more
+  after_y :
+      {count : ℕ} (j : IsInRanges ((121, 121) ∷ []) 121) (more : Iterations body count) → IsNoLesser one_x (one_y j) more
   after_y j stop low u p b = before_self (0 ∷ 0 ∷ 1 ∷ 1 ∷ []) b
-  after_y j (iteration (inside (row (beside first (beside second row_end)))) more) low u p b = again_y j first second more low u p b
+  after_y j (iteration (inside (row (beside first (beside second row_end)))) more) low u p b =
+      again_y j first second more low u p b
 
   by_second : {count : ℕ} (second : Tree nothing_or_y) (more : Iterations body count) → IsNoLesser one_x second more
   by_second (inside (chosen (here blank))) more = after_nothing more
   by_second (inside (chosen (later (here (point c within))))) more =
-      at_letter 121 (λ c j. IsNoLesser one_x (inside (chosen (later (here (point c j))))) more) (λ j. after_y j more) c within
+      at_letter 121
+      (λ c j. IsNoLesser one_x (inside (chosen (later (here (point c j))))) more) (λ j. after_y j more) c within
   by_second (inside (chosen (later (later none)))) more = elim none [ ]
 
-by_first : {count : ℕ} (first : Tree optional_x) (second : Tree nothing_or_y) (more : Iterations body count) → IsNoLesser first second more
+by_first : {count : ℕ} (first : Tree optional_x) (second : Tree nothing_or_y) (more : Iterations body count)
+    → IsNoLesser first second more
 by_first (inside (iterations n stop l m)) second more low u p b =
     ⊎_elim (λ h. omega arith) (λ h. ⊎_elim (λ k. omega arith) (λ k. let e = k.0 in omega arith) h.1) b
 by_first (inside (iterations n (iteration (point c within) stop) l m)) second more low u p b =
-    at_letter 120 (λ c i. IsNoLesser (inside (iterations 1 (iteration (point c i) stop) l m)) second more) (λ i. by_second i l m second more) c within low u p b
+    at_letter 120
+    (λ c i. IsNoLesser (inside (iterations 1 (iteration (point c i) stop) l m)) second more)
+    (λ i. by_second i l m second more) c within low u p b
 by_first (inside (iterations n (iteration once (iteration twice rest)) l m)) second more low u p b = absurd (omega arith)
 
 least :

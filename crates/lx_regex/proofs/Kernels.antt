@@ -1,4 +1,4 @@
--- A kernel holds the cuts through which the best trees go.
+-- A kernel holds the cuts through which the least trees go.
 use Rattle.std.specs.Prelude.{◌≡◌, ◌≢◌, ℕ, zero, suc, map, ◌<◌, ◌⊎◌, List, [], ◌∷◌, ◌++◌, Some, slice_get, refl}
 use Rattle.std.proofs.Common.{sym, ap, ap₂, ◌∙◌, subst, arith, append_assoc, inl, inr, ⊎_elim}
 use Rattle.std.proofs.lemmas.Bool.{cases_order}
@@ -100,7 +100,7 @@ module _ (enc : Enc) (rules : List Term) where
   HasNoLesser k rest =
       (j : Cut) (more : List Symbol) → j.rule ≡ k.rule → GoesOn enc rules j more → units (j.front ++ more) ≡ units (k.front ++ rest) → IsBefore (choices (j.front ++ more)) (choices (k.front ++ rest)) → ⊥
 
-  -- where the best tree of some word is cut after w, the kernel of w has this cut
+  -- where the least tree of some word is cut after w, the kernel of w has this cut
   pub kernel_best :
       (w : List ℕ) (ks : List Cut) → IsKernel Precedes enc rules w ks → w ≢ [] → (k : Cut) (rest : List Symbol)
       → IsCut enc rules w k → GoesOn enc rules k rest → HasNoLesser k rest

@@ -11,7 +11,9 @@ pub mod LeastScript
 pub mod LeastTree
 pub mod NoUnits
 pub mod OneMatch
+pub mod OwnParts
 pub mod PartCount
+pub mod PartStates
 pub mod PlainTest
 pub mod PlainWalk
 pub mod PosixAhead
@@ -26,4 +28,5 @@ pub mod TreeWalk
 pub mod WalkTree
 pub mod WholeWalk
 pub mod Worked
+pub mod WorkedKernels
 pub mod WorkedMatches

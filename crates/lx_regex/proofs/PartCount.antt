@@ -1,6 +1,6 @@
--- A term has as many parts in its list as are counted, and a rule's own part stands at its number.
-use Rattle.std.specs.Prelude.{◌≡◌, ℕ, zero, suc, ◌+◌, ◌*◌, ◌<◌, ◌≤◌, List, [], ◌∷◌, ◌++◌, length, Option, Some, None, Bool, true, false, slice_get, if◌then◌else◌, refl}
-use Rattle.std.proofs.Common.{sym, ap, ◌∙◌, subst, arith, length-append}
+-- A term has as many parts in its list as are counted.
+use Rattle.std.specs.Prelude.{◌≡◌, ℕ, zero, suc, ◌+◌, ◌*◌, List, length, refl}
+use Rattle.std.proofs.Common.{arith, length-append}
 use Rattle.lx_regex.specs.Term.{Term, empty, class, any_unit, cat, alt, repeat, tag, group, Terms, nil, cons, copies, parts, parts_of_all}
 use Rattle.lx_regex.specs.Parts.{Part, copied_parts, parts_in, parts_among}
 
@@ -9,7 +9,12 @@ copied_count :
     → length (copied_parts body size left number part) ≡ left * size
 copied_count body size zero number part each = omega arith
 copied_count body size (suc left) number part each =
-    omega (arith, length-append (body number part) (copied_parts body size left (suc number) (part + size)), each number part, copied_count body size left (suc number) (part + size) each)
+    omega (
+      arith,
+      length-append (body number part) (copied_parts body size left (suc number) (part + size)),
+      each number part,
+      copied_count body size left (suc number) (part + size) each,
+    )
 
 mutual
   pub part_count : (rule up child part : ℕ) (e : Term) → length (parts_in rule up child part e) ≡ parts e
@@ -23,7 +28,13 @@ mutual
   part_count rule up child part (tag number) = refl
   part_count rule up child part (group opening closing body) = omega (arith, part_count rule part 0 (part + 1) body)
 
-  among_count : (rule up child part : ℕ) (members : Terms) → length (parts_among rule up child part members) ≡ parts_of_all members
+  among_count :
+      (rule up child part : ℕ) (members : Terms) → length (parts_among rule up child part members) ≡ parts_of_all members
   among_count rule up child part nil = refl
   among_count rule up child part (cons member members) =
-      omega (arith, length-append (parts_in rule up child part member) (parts_among rule up (suc child) (part + parts member) members), part_count rule up child part member, among_count rule up (suc child) (part + parts member) members)
+      omega (
+        arith,
+        length-append (parts_in rule up child part member) (parts_among rule up (suc child) (part + parts member) members),
+        part_count rule up child part member,
+        among_count rule up (suc child) (part + parts member) members,
+      )

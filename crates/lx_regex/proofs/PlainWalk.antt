@@ -197,30 +197,31 @@ plain_choice Utf16 ranges c l h = at (has_short ranges && has_long ranges)
     at false = h
 plain_choice Utf32 ranges c l h = h
 
-module _ (enc : Enc) (g : List State) (f : ℕ) where
+module _ (enc : Enc) (states : List State) (last_state : ℕ) where
   -- a walk doesn't pass s before its first unit
-  abbrev pub IsFresh : (s : ℕ) → {s' : ℕ} → Walk g f s' → Type 0
+  abbrev pub IsFresh : (s : ℕ) → {s' : ℕ} → Walk states last_state s' → Type 0
   IsFresh s stay = Unit {0}
   IsFresh s (moved {state = s'} ms m h i w) = (s ≡ s' → ⊥) × IsFresh s w
   IsFresh s (at_point {state = s'} ranges c h i w) = s ≡ s' → ⊥
   IsFresh s (at_unit {state = s'} u h w) = s ≡ s' → ⊥
 
   -- between two units it passes no state twice
-  abbrev pub IsPlainWalk : {s : ℕ} → Walk g f s → Type 0
+  abbrev pub IsPlainWalk : {s : ℕ} → Walk states last_state s → Type 0
   IsPlainWalk stay = Unit {0}
   IsPlainWalk (moved {state = s} ms m h i w) = IsFresh s w × IsPlainWalk w
   IsPlainWalk (at_point ranges c h i w) = IsPlainWalk w
   IsPlainWalk (at_unit u h w) = IsPlainWalk w
 
   pub record Found (s : ℕ) (us : List ℕ) : Type 0 where
-    pub walk : Walk g f s
+    pub walk : Walk states last_state s
     pub plain : IsPlainWalk walk
     pub same : units (symbols enc walk []) ≡ us
 
   found_at : (s s' : ℕ) (us : List ℕ) → s ≡ s' → Found s' us → Found s us
   found_at s s' us e r = subst (λ n. Found n us) (sym e) r
 
-  seek : (s : ℕ) → {s' : ℕ} → (w : Walk g f s') → IsPlainWalk w → IsFresh s w ⊎ Found s (units (symbols enc w []))
+  seek : (s : ℕ) → {s' : ℕ} → (w : Walk states last_state s') → IsPlainWalk w
+      → IsFresh s w ⊎ Found s (units (symbols enc w []))
   seek s stay p = inl tt
   seek s (moved {state = s'} ms m h i w) p =
       ⊎_elim
@@ -243,7 +244,7 @@ module _ (enc : Enc) (g : List State) (f : ℕ) where
       (cases_eq s s')
 
   -- the walk without what it goes round
-  pub cut : {s : ℕ} → (w : Walk g f s) → Found s (units (symbols enc w []))
+  pub cut : {s : ℕ} → (w : Walk states last_state s) → Found s (units (symbols enc w []))
   cut stay = record { walk = stay; plain = tt; same = refl }
   cut (moved {state = s} ms m h i w) = at (cut w)
     where
@@ -283,7 +284,7 @@ module _ (enc : Enc) (g : List State) (f : ℕ) where
   pub marks_differ : (s s' : ℕ) → (s ≡ s' → ⊥) → mark s ≡ mark s' → ⊥
   marks_differ s s' ne e = let k : Some s ≡ Some s' = sym (mark_tells s) ∙ ap mark_of e ∙ mark_tells s' in ne (cc)
 
-  fresh_unseen : (s : ℕ) → {s' : ℕ} → (w : Walk g f s') → IsFresh s w → IsUnseen (mark s) (symbols enc w [])
+  fresh_unseen : (s : ℕ) → {s' : ℕ} → (w : Walk states last_state s') → IsFresh s w → IsUnseen (mark s) (symbols enc w [])
   fresh_unseen s stay h = tt
   fresh_unseen s (moved {state = s'} ms m a i w) h =
       unseen_mark (mark s) s' _ (marks_differ s s' h.0) (unseen_label (mark s) m _ (fresh_unseen s w h.1))
@@ -294,7 +295,7 @@ module _ (enc : Enc) (g : List State) (f : ℕ) where
       (unseen_choice enc ranges c (mark s) _ (unseen_point (mark s) (spell enc c) u.0 u.1 _ u.2))
   fresh_unseen s (at_unit {state = s'} u a w) h = unseen_mark (mark s) s' _ (marks_differ s s' h) tt
 
-  pub walk_plain : {s : ℕ} → (w : Walk g f s) → IsPlainWalk w → IsPlainList (symbols enc w [])
+  pub walk_plain : {s : ℕ} → (w : Walk states last_state s) → IsPlainWalk w → IsPlainList (symbols enc w [])
   walk_plain stay h = tt
   walk_plain (moved {state = s} ms m a i w) h =
       plain_mark s _ (unseen_label (mark s) m _ (fresh_unseen s w h.0)) (plain_label m _ (walk_plain w h.1))
@@ -306,7 +307,7 @@ module _ (enc : Enc) (g : List State) (f : ℕ) where
   walk_plain (at_unit {state = s} u a w) h = plain_mark s _ tt (walk_plain w h)
 
   -- a state with no way on
-  pub no_way : {s : ℕ} → (w : Walk g f s) → slice_get g s ≡ Some (moves []) → symbols enc w [] ≡ []
+  pub no_way : {s : ℕ} → (w : Walk states last_state s) → slice_get states s ≡ Some (moves []) → symbols enc w [] ≡ []
   no_way stay e = refl
   no_way (moved ms m h i w) e =
       let k : ms ≡ [] = cc in

@@ -1,4 +1,4 @@
--- shapes taken apart
+-- Shapes taken apart.
 use Rattle.std.specs.Prelude.{◌≡◌, ℕ, ◌<◌, ◌≤◌, List}
 use Rattle.lx_regex.specs.Dictionary.{IsBefore}
 use Rattle.lx_regex.specs.Posix.{Shape, absent, leaf, inner, Shapes, none, more, size, shape_at, length_at}

@@ -10,21 +10,22 @@ use Rattle.lx_regex.specs.Walk.{mark}
 
 -- these rows stand in the table from this state on
 abbrev pub Stands : List State → ℕ → List State → Type 0
-Stands g s [] = Unit {0}
-Stands g s (r ∷ rows) = (slice_get g s ≡ Some r) × Stands g (s + 1) rows
+Stands states s [] = Unit {0}
+Stands states s (r ∷ rows) = (slice_get states s ≡ Some r) × Stands states (s + 1) rows
 
-pub stands_at : (g : List State) (s s' : ℕ) (rows : List State) → s ≡ s' → Stands g s rows → Stands g s' rows
-stands_at g s s' rows e h = subst (λ n. Stands g n rows) e h
+pub stands_at : (states : List State) (s s' : ℕ) (rows : List State) → s ≡ s' → Stands states s rows → Stands states s' rows
+stands_at states s s' rows e h = subst (λ n. Stands states n rows) e h
 
-pub stands_front : (g : List State) (s : ℕ) (a b : List State) → Stands g s (a ++ b) → Stands g s a
-stands_front g s [] b h = tt
-stands_front g s (r ∷ a) b h = (h.0, stands_front g (s + 1) a b h.1)
+pub stands_front : (states : List State) (s : ℕ) (a b : List State) → Stands states s (a ++ b) → Stands states s a
+stands_front states s [] b h = tt
+stands_front states s (r ∷ a) b h = (h.0, stands_front states (s + 1) a b h.1)
 
-pub stands_back : (g : List State) (s s' : ℕ) (a b : List State) → s + length a ≡ s' → Stands g s (a ++ b) → Stands g s' b
-stands_back g s s' [] b e h = let e' : s ≡ s' = omega arith in stands_at g s s' b e' h
-stands_back g s s' (r ∷ a) b e h =
+pub stands_back :
+    (states : List State) (s s' : ℕ) (a b : List State) → s + length a ≡ s' → Stands states s (a ++ b) → Stands states s' b
+stands_back states s s' [] b e h = let e' : s ≡ s' = omega arith in stands_at states s s' b e' h
+stands_back states s s' (r ∷ a) b e h =
     let e' : s + 1 + length a ≡ s' = omega arith in
-    stands_back g (s + 1) s' a b e' h.1
+    stands_back states (s + 1) s' a b e' h.1
 
 pub mark_begins : (p : ℕ) → mark (2 * p) ≡ begins p
 mark_begins p =
@@ -44,7 +45,13 @@ copies_length : (rows : ℕ → List Move → List State) (p : ℕ) (body : Term
 copies_length rows p body low high zero c each = omega arith
 copies_length rows p body low high (suc n) c each =
     let a = rows (p + 1 + c * parts body) (moves_after p body low high (suc c)) in
-    omega (arith, length-append a (copies_table rows p body low high n (suc c)), each (p + 1 + c * parts body) (moves_after p body low high (suc c)), copies_length rows p body low high n (suc c) each)
+    omega (
+      arith,
+      length-append a (copies_table rows p body low high n (suc c)),
+      each
+          (p + 1 + c * parts body) (moves_after p body low high (suc c)),
+      copies_length rows p body low high n (suc c) each,
+    )
 
 mutual
   pub table_length : (e : Term) (p : ℕ) (ms : List Move) → length (table e p ms) ≡ 2 * parts e
@@ -63,41 +70,51 @@ mutual
   row_length nil q last = refl
   row_length (cons e members) q last =
       let ms = move None [] [] (next_member (q + parts e) members last) ∷ [] in
-      omega (arith, length-append (table e q ms) (members_table members (q + parts e) last), table_length e q ms, row_length members (q + parts e) last)
+      omega (
+        arith,
+        length-append (table e q ms) (members_table members (q + parts e) last),
+        table_length e q ms,
+        row_length members (q + parts e) last,
+      )
 
   pub alt_length : (members : Terms) (q last : ℕ) → length (alternatives_table members q last) ≡ 2 * parts_of_all members
   alt_length nil q last = refl
   alt_length (cons e members) q last =
       let ms = move None [] [] last ∷ [] in
-      omega (arith, length-append (table e q ms) (alternatives_table members (q + parts e) last), table_length e q ms, alt_length members (q + parts e) last)
+      omega (
+        arith,
+        length-append (table e q ms) (alternatives_table members (q + parts e) last),
+        table_length e q ms,
+        alt_length members (q + parts e) last,
+      )
 
 -- the rows of copy c + j, among those from c on
-copy_at : (g : List State) (p : ℕ) (body : Term) (low : ℕ) (high : Option ℕ) (n c j : ℕ) → j < n
-    → Stands g (2 * (p + 1 + c * parts body)) (copies_table (λ q ms. table body q ms) p body low high n c)
-    → Stands g
+copy_at : (states : List State) (p : ℕ) (body : Term) (low : ℕ) (high : Option ℕ) (n c j : ℕ) → j < n
+    → Stands states (2 * (p + 1 + c * parts body)) (copies_table (λ q ms. table body q ms) p body low high n c)
+    → Stands states
     (2 * (p + 1 + (c + j) * parts body))
     (table body (p + 1 + (c + j) * parts body) (moves_after p body low high (suc (c + j))))
-copy_at g p body low high zero c j lt h = absurd (omega arith)
-copy_at g p body low high (suc n) c zero lt h =
+copy_at states p body low high zero c j lt h = absurd (omega arith)
+copy_at states p body low high (suc n) c zero lt h =
     let e : c ≡ c + 0 = omega arith in
     subst
     (λ k.
-    Stands g
+    Stands states
     (2 * (p + 1 + k * parts body)) (table body (p + 1 + k * parts body) (moves_after p body low high (suc k)))) e
-    (stands_front g _ (table body (p + 1 + c * parts body) (moves_after p body low high (suc c))) _ h)
-copy_at g p body low high (suc n) c (suc j) lt h =
+    (stands_front states _ (table body (p + 1 + c * parts body) (moves_after p body low high (suc c))) _ h)
+copy_at states p body low high (suc n) c (suc j) lt h =
     let a = table body (p + 1 + c * parts body) (moves_after p body low high (suc c)) in
     let len : 2 * (p + 1 + c * parts body) + length a ≡ 2 * (p + 1 + suc c * parts body) =
     omega (arith, table_length body (p + 1 + c * parts body) (moves_after p body low high (suc c))) in
     let h' =
-    stands_back g _
+    stands_back states _
     (2 * (p + 1 + suc c * parts body)) a (copies_table (λ q ms. table body q ms) p body low high n (suc c)) len h in
     let e : suc c + j ≡ c + suc j = omega arith in
     subst
     (λ k.
-    Stands g
+    Stands states
     (2 * (p + 1 + k * parts body)) (table body (p + 1 + k * parts body) (moves_after p body low high (suc k)))) e
-    (copy_at g p body low high n (suc c) j (omega arith) h')
+    (copy_at states p body low high n (suc c) j (omega arith) h')
 
 -- beyond the last copy the iterations go round in it
 moves_after_cap : (p : ℕ) (body : Term) (low : ℕ) (high : Option ℕ) (n : ℕ) → may_iterate n high ≡ true
@@ -140,19 +157,21 @@ copies_more low (Some high) n may = let lt : n < high = ltb-true n high may in o
 copies_more low None n may = omega arith
 
 -- the copy to which iteration n belongs
-pub copy_stands : (g : List State) (p : ℕ) (body : Term) (low : ℕ) (high : Option ℕ) (n : ℕ) → may_iterate n high ≡ true
-    → Stands g (2 * (p + 1)) (copies_table (λ q ms. table body q ms) p body low high (copies low high) 0)
-    → Stands g
+pub copy_stands :
+    (states : List State) (p : ℕ) (body : Term) (low : ℕ) (high : Option ℕ) (n : ℕ) → may_iterate n high ≡ true
+    → Stands states (2 * (p + 1)) (copies_table (λ q ms. table body q ms) p body low high (copies low high) 0)
+    → Stands states
     (2 * copy_part p body low high n) (table body (copy_part p body low high n) (moves_after p body low high (suc n)))
-copy_stands g p body low high n may h =
+copy_stands states p body low high n may h =
     let k = min n (copies low high - 1) in
     let e : 2 * (p + 1) ≡ 2 * (p + 1 + 0 * parts body) = omega arith in
-    let a = copy_at g p body low high (copies low high) 0 k (copies_more low high n may) (stands_at g _ _ _ e h) in
+    let a =
+    copy_at states p body low high (copies low high) 0 k (copies_more low high n may) (stands_at states _ _ _ e h) in
     let z : 0 + k ≡ k = omega arith in
     let b =
-    subst (λ j. Stands g (2 * (p + 1 + j * parts body)) (table body (p + 1 + j * parts body) (moves_after p body low high (suc j)))) z a in
+    subst (λ j. Stands states (2 * (p + 1 + j * parts body)) (table body (p + 1 + j * parts body) (moves_after p body low high (suc j)))) z a in
     subst
-    (λ ms. Stands g (2 * (p + 1 + k * parts body)) (table body (p + 1 + k * parts body) ms))
+    (λ ms. Stands states (2 * (p + 1 + k * parts body)) (table body (p + 1 + k * parts body) ms))
     (moves_after_cap p body low high n may) b
 
 -- the copies lie within the part

@@ -56,7 +56,8 @@ chosen_rest p c c' s s' x y h =
     ∙ append_assoc (map unsets (tags_beside c')) (s' ++ ends p ∷ []) y
     ∙ ap (λ l. l ++ ((s' ++ ends p ∷ []) ++ y)) unset in (
       place,
-      sym (append_assoc s (ends p ∷ []) x) ∙ drop_front (map unsets (tags_beside c)) _ _ a ∙ append_assoc s' (ends p ∷ []) y,
+      sym (append_assoc s (ends p ∷ []) x) ∙ drop_front (map unsets (tags_beside c)) _ _ a
+          ∙ append_assoc s' (ends p ∷ []) y,
     )
   where
     same_pick : (m n : ℕ) (k l : List Symbol) → picks m ∷ k ≡ picks n ∷ l → m ≡ n
@@ -162,12 +163,14 @@ module _ (enc : Enc) where
     iterations_shape p low high n (stop {body}) (iteration t' ts') x y h =
         let f = first_symbol enc (copy_part p body low high n) t' in
         let rest = iterations_script enc p low high (suc n) ts' in
-        let e = append_assoc (iterate_choice low n) _ _ ∙ ap (λ s. iterate_choice low n ++ ((s ++ rest) ++ ends p ∷ y)) f.1 in
+        let e =
+        append_assoc (iterate_choice low n) _ _ ∙ ap (λ s. iterate_choice low n ++ ((s ++ rest) ++ ends p ∷ y)) f.1 in
         absurd (stop_or_go (may_iterate n high) (nat_eq n 0) (nat_le low n) (tags_in body) p (copy_part p body low high n) x _ (h ∙ e))
     iterations_shape p low high n (iteration {body} t ts) stop x y h =
         let f = first_symbol enc (copy_part p body low high n) t in
         let rest = iterations_script enc p low high (suc n) ts in
-        let e = append_assoc (iterate_choice low n) _ _ ∙ ap (λ s. iterate_choice low n ++ ((s ++ rest) ++ ends p ∷ x)) f.1 in
+        let e =
+        append_assoc (iterate_choice low n) _ _ ∙ ap (λ s. iterate_choice low n ++ ((s ++ rest) ++ ends p ∷ x)) f.1 in
         absurd (stop_or_go (may_iterate n high) (nat_eq n 0) (nat_le low n) (tags_in body) p (copy_part p body low high n) y _ (sym h ∙ e))
     iterations_shape p low high n (iteration {body} t ts) (iteration t' ts') x y h =
         let q = copy_part p body low high n in

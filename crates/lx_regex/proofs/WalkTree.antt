@@ -12,15 +12,15 @@ use Rattle.lx_regex.proofs.Rows.{copy_stands, copy_within, mark_begins, mark_end
 use Rattle.lx_regex.proofs.TreeWalk.{exit_row, inner_rows, member_back, iteration_label, iteration_move, stop_label, stop_move}
 
 -- how many steps a walk has
-abbrev pub steps : {g : List State} {f s : ℕ} → Walk g f s → ℕ
+abbrev pub steps : {states : List State} {last_state s : ℕ} → Walk states last_state s → ℕ
 steps stay = 0
 steps (moved ms m h i w) = suc (steps w)
 steps (at_point ranges c h i w) = suc (steps w)
 steps (at_unit u h w) = suc (steps w)
 
 -- the last state of a walk isn't one of a part and what is inside, n parts in all
-abbrev pub IsOutside : (f p n : ℕ) → Type 0
-IsOutside f p n = 2 * p ≤ f → f < 2 * (p + n) → ⊥
+abbrev pub IsOutside : (last_state p n : ℕ) → Type 0
+IsOutside last_state p n = 2 * p ≤ last_state → last_state < 2 * (p + n) → ⊥
 
 below_high : (n : ℕ) (high : Option ℕ) → may_iterate n high ≡ true → IsAtMost (suc n) high
 below_high n None e = tt
@@ -30,25 +30,26 @@ none_first : (high : Option ℕ) → IsAtMost 0 high
 none_first None = tt
 none_first (Some high) = omega arith
 
-copy_outside : (f p : ℕ) (body : Term) (low : ℕ) (high : Option ℕ) (n : ℕ) → may_iterate n high ≡ true
-    → IsOutside f p (1 + copies low high * parts body) → IsOutside f (copy_part p body low high n) (parts body)
-copy_outside f p body low high n may out a b =
+copy_outside : (last_state p : ℕ) (body : Term) (low : ℕ) (high : Option ℕ) (n : ℕ) → may_iterate n high ≡ true
+    → IsOutside last_state p
+    (1 + copies low high * parts body) → IsOutside last_state (copy_part p body low high n) (parts body)
+copy_outside last_state p body low high n may out a b =
     let h = copy_within p body low high n may in
     out (omega arith) (omega arith)
 
-module _ (enc : Enc) (g : List State) (f : ℕ) (y : List Symbol) where
+module _ (enc : Enc) (states : List State) (last_state : ℕ) (tail : List Symbol) where
   -- the symbols l are front and those of a walk from s, which has fewer than n steps
   pub record Onward (front : List Symbol) (s : ℕ) (l : List Symbol) (n : ℕ) : Type 0 where
-    pub walk : Walk g f s
-    pub says : l ≡ front ++ symbols enc walk y
+    pub walk : Walk states last_state s
+    pub says : l ≡ front ++ symbols enc walk tail
     pub shorter : steps walk < n
 
   -- the same by one of some moves
   pub record Leaves (front : List Symbol) (ms : List Move) (l : List Symbol) (n : ℕ) : Type 0 where
     pub by : Move
     pub among : IsAmong by ms
-    pub walk : Walk g f (target by)
-    pub says : l ≡ front ++ (label by ++ symbols enc walk y)
+    pub walk : Walk states last_state (target by)
+    pub says : l ≡ front ++ (label by ++ symbols enc walk tail)
     pub shorter : steps walk < n
 
   -- the symbols of a tree, and those from one of the exits on
@@ -56,13 +57,14 @@ module _ (enc : Enc) (g : List State) (f : ℕ) (y : List Symbol) where
     pub tree : Tree e
     pub by : Move
     pub among : IsAmong by exits
-    pub walk : Walk g f (target by)
-    pub says : l ≡ script enc p tree ++ (label by ++ symbols enc walk y)
+    pub walk : Walk states last_state (target by)
+    pub says : l ≡ script enc p tree ++ (label by ++ symbols enc walk tail)
     pub shorter : steps walk < n
 
   -- the first step, by the row
-  leave_moves : {s : ℕ} → (w : Walk g f s) → (ms : List Move) → slice_get g s ≡ Some (moves ms) → (s ≡ f → ⊥)
-      → Leaves (mark s ∷ []) ms (symbols enc w y) (steps w)
+  leave_moves : {s : ℕ} → (w : Walk states last_state s) → (ms : List Move) → slice_get states s ≡ Some (moves ms)
+      → (s ≡ last_state → ⊥)
+      → Leaves (mark s ∷ []) ms (symbols enc w tail) (steps w)
   leave_moves stay ms h out = absurd (out refl)
   leave_moves (moved ms' m h' i w) ms h out =
       let e : ms' ≡ ms = cc in
@@ -73,12 +75,13 @@ module _ (enc : Enc) (g : List State) (f : ℕ) (y : List Symbol) where
   record LeavesLeaf (s : ℕ) (ranges : List (ℕ × ℕ)) (l : List Symbol) (n : ℕ) : Type 0 where
     at : ℕ
     within : IsInRanges ranges at
-    walk : Walk g f (s + 1)
-    says : l ≡ mark s ∷ (leaf_choice enc ranges at ++ (map reads (spell enc at) ++ symbols enc walk y))
+    walk : Walk states last_state (s + 1)
+    says : l ≡ mark s ∷ (leaf_choice enc ranges at ++ (map reads (spell enc at) ++ symbols enc walk tail))
     shorter : steps walk < n
 
-  leave_leaf : {s : ℕ} → (w : Walk g f s) → (ranges : List (ℕ × ℕ)) → slice_get g s ≡ Some (leaf ranges) → (s ≡ f → ⊥)
-      → LeavesLeaf s ranges (symbols enc w y) (steps w)
+  leave_leaf : {s : ℕ} → (w : Walk states last_state s) → (ranges : List (ℕ × ℕ)) → slice_get states s ≡ Some (leaf ranges)
+      → (s ≡ last_state → ⊥)
+      → LeavesLeaf s ranges (symbols enc w tail) (steps w)
   leave_leaf stay ranges h out = absurd (out refl)
   leave_leaf (moved ms m h' i w) ranges h out = cc
   leave_leaf (at_point {state = s} ranges' c h' i w) ranges h out =
@@ -87,19 +90,21 @@ module _ (enc : Enc) (g : List State) (f : ℕ) (y : List Symbol) where
         at = c;
         within = subst (λ k. IsInRanges k c) e i;
         walk = w;
-        says = ap (λ k. mark s ∷ (leaf_choice enc k c ++ (map reads (spell enc c) ++ symbols enc w y))) e;
+        says = ap (λ k. mark s ∷ (leaf_choice enc k c ++ (map reads (spell enc c) ++ symbols enc w tail))) e;
         shorter = omega arith;
       }
   leave_leaf (at_unit u h' w) ranges h out = cc
 
   record LeavesUnit (s : ℕ) (l : List Symbol) (n : ℕ) : Type 0 where
     at : ℕ
-    walk : Walk g f (s + 1)
-    says : l ≡ mark s ∷ reads at ∷ symbols enc walk y
+    walk : Walk states last_state (s + 1)
+    says : l ≡ mark s ∷ reads at ∷ symbols enc walk tail
     shorter : steps walk < n
 
   leave_unit :
-      {s : ℕ} → (w : Walk g f s) → slice_get g s ≡ Some unit_leaf → (s ≡ f → ⊥) → LeavesUnit s (symbols enc w y) (steps w)
+      {s : ℕ} →
+      (w : Walk states last_state s) → slice_get states s ≡ Some unit_leaf → (s ≡ last_state → ⊥) → LeavesUnit s
+      (symbols enc w tail) (steps w)
   leave_unit stay h out = absurd (out refl)
   leave_unit (moved ms m h' i w) h out = cc
   leave_unit (at_point ranges c h' i w) h out = cc
@@ -107,10 +112,10 @@ module _ (enc : Enc) (g : List State) (f : ℕ) (y : List Symbol) where
 
   -- the only move
   pub only :
-      (front : List Symbol) (m by : Move) → IsAmong by (m ∷ []) → (w : Walk g f (target by)) → (l : List Symbol) (n : ℕ)
-      → l ≡ front ++ (label by ++ symbols enc w y) → steps w < n → Onward (front ++ label m) (target m) l n
+      (front : List Symbol) (m by : Move) → IsAmong by (m ∷ []) → (w : Walk states last_state (target by)) → (l : List Symbol) (n : ℕ)
+      → l ≡ front ++ (label by ++ symbols enc w tail) → steps w < n → Onward (front ++ label m) (target m) l n
   only front m by first w l n e lt =
-      record { walk = w; says = e ∙ sym (append_assoc front (label m) (symbols enc w y)); shorter = lt }
+      record { walk = w; says = e ∙ sym (append_assoc front (label m) (symbols enc w tail)); shorter = lt }
   only front m by (next i) w l n e lt = elim i [ ]
 
   only_of : (front : List Symbol) (m : Move) (l : List Symbol) (n : ℕ) → Leaves front (m ∷ []) l n
@@ -118,22 +123,23 @@ module _ (enc : Enc) (g : List State) (f : ℕ) (y : List Symbol) where
   only_of front m l n r = only front m r.by r.among r.walk l n r.says r.shorter
 
   -- from the beginning of a part by the only move of its first row
-  begin_only : (p : ℕ) (m : Move) → slice_get g (2 * p) ≡ Some (moves (m ∷ [])) → (2 * p ≡ f → ⊥) → (w : Walk g f (2 * p))
-      → Onward (begins p ∷ label m) (target m) (symbols enc w y) (steps w)
+  begin_only : (p : ℕ) (m : Move) → slice_get states (2 * p) ≡ Some (moves (m ∷ [])) → (2 * p ≡ last_state → ⊥)
+      → (w : Walk states last_state (2 * p))
+      → Onward (begins p ∷ label m) (target m) (symbols enc w tail) (steps w)
   begin_only p m h out w =
       let r = only_of (mark (2 * p) ∷ []) m _ _ (leave_moves w (m ∷ []) h out) in
       record {
         walk = r.walk;
-        says = r.says ∙ ap (λ x. x ∷ (label m ++ symbols enc r.walk y)) (mark_begins p);
+        says = r.says ∙ ap (λ x. x ∷ (label m ++ symbols enc r.walk tail)) (mark_begins p);
         shorter = r.shorter;
       }
 
   -- the end of a part, and an exit
-  finish : (e : Term) (p : ℕ) (exits : List Move) → Stands g (2 * p) (table e p exits) → (2 * p + 1 ≡ f → ⊥)
+  finish : (e : Term) (p : ℕ) (exits : List Move) → Stands states (2 * p) (table e p exits) → (2 * p + 1 ≡ last_state → ⊥)
       → (t : Tree e) (front : List Symbol) → script enc p t ≡ front ++ ends p ∷ [] → (l : List Symbol) (n : ℕ)
       → Onward front (2 * p + 1) l n → Split e p exits l n
   finish e p exits h out t front is l n r =
-      let a = leave_moves r.walk exits (exit_row g e p exits h) out in
+      let a = leave_moves r.walk exits (exit_row states e p exits h) out in
       record {
         tree = t;
         by = a.by;
@@ -141,25 +147,25 @@ module _ (enc : Enc) (g : List State) (f : ℕ) (y : List Symbol) where
         walk = a.walk;
         says =
             r.says
-            ∙ ap (λ k. front ++ k) (a.says ∙ ap (λ x. x ∷ (label a.by ++ symbols enc a.walk y)) (mark_ends p))
-            ∙ sym (append_assoc front (ends p ∷ []) (label a.by ++ symbols enc a.walk y))
-            ∙ ap (λ k. k ++ (label a.by ++ symbols enc a.walk y)) (sym is);
+            ∙ ap (λ k. front ++ k) (a.says ∙ ap (λ x. x ∷ (label a.by ++ symbols enc a.walk tail)) (mark_ends p))
+            ∙ sym (append_assoc front (ends p ∷ []) (label a.by ++ symbols enc a.walk tail))
+            ∙ ap (λ k. k ++ (label a.by ++ symbols enc a.walk tail)) (sym is);
         shorter = omega (arith, a.shorter, r.shorter);
       }
 
   record RowSplit (members : Terms) (q last : ℕ) (l : List Symbol) (n : ℕ) : Type 0 where
     trees : Row members
-    walk : Walk g f last
-    says : l ≡ row_script enc q trees ++ symbols enc walk y
+    walk : Walk states last_state last
+    says : l ≡ row_script enc q trees ++ symbols enc walk tail
     shorter : steps walk ≤ n
 
   record ChoiceSplit (members : Terms) (i q last : ℕ) (join : List ℕ → List ℕ) (l : List Symbol) (n : ℕ) : Type 0 where
     choice : Choice members
-    walk : Walk g f last
+    walk : Walk states last_state last
     says :
         l ≡ picks
         (i + chosen_place choice) ∷
-        (map unsets (join (tags_beside choice)) ++ (choice_script enc q choice ++ symbols enc walk y))
+        (map unsets (join (tags_beside choice)) ++ (choice_script enc q choice ++ symbols enc walk tail))
     shorter : steps walk ≤ n
 
   record RepeatSplit (p : ℕ) (body : Term) (low : ℕ) (high : Option ℕ) (begun : ℕ) (l : List Symbol) (n : ℕ) : Type 0 where
@@ -167,20 +173,22 @@ module _ (enc : Enc) (g : List State) (f : ℕ) (y : List Symbol) where
     trees : Iterations body count
     least : low ≤ begun + count
     most : IsAtMost (begun + count) high
-    walk : Walk g f (2 * p + 1)
-    says : l ≡ iterations_script enc p low high begun trees ++ symbols enc walk y
+    walk : Walk states last_state (2 * p + 1)
+    says : l ≡ iterations_script enc p low high begun trees ++ symbols enc walk tail
     shorter : steps walk ≤ n
 
   module _
       (p : ℕ) (body : Term) (low : ℕ) (high : Option ℕ)
-      (ih : (q : ℕ) (ms : List Move) → Stands g (2 * q) (table body q ms) → IsOutside f q (parts body) → (w : Walk g f (2 * q))
-      → Split body q ms (symbols enc w y) (steps w))
-      (h : Stands g (2 * (p + 1)) (copies_table (λ q ms. table body q ms) p body low high (copies low high) 0))
-      (out : IsOutside f p (1 + copies low high * parts body)) where
+      (ih :
+      (q : ℕ) (ms : List Move) → Stands states (2 * q) (table body q ms) → IsOutside last_state q (parts body) →
+      (w : Walk states last_state (2 * q))
+      → Split body q ms (symbols enc w tail) (steps w))
+      (h : Stands states (2 * (p + 1)) (copies_table (λ q ms. table body q ms) p body low high (copies low high) 0))
+      (out : IsOutside last_state p (1 + copies low high * parts body)) where
     repeat_stop :
-        (n : ℕ) (may : Bool) → may_iterate n high ≡ may → nat_le low n ≡ true → IsAtMost n high → (w : Walk g f (2 * p + 1))
+        (n : ℕ) (may : Bool) → may_iterate n high ≡ may → nat_le low n ≡ true → IsAtMost n high → (w : Walk states last_state (2 * p + 1))
         → RepeatSplit p body low high n
-        (label (stop_move may (if nat_eq n 0 then tags_in body else []) (2 * p + 1)) ++ symbols enc w y) (steps w)
+        (label (stop_move may (if nat_eq n 0 then tags_in body else []) (2 * p + 1)) ++ symbols enc w tail) (steps w)
     repeat_stop n may e1 e2 most w =
         let le : low ≤ n = leb-true low n e2 in
         let z : n ≡ n + 0 = omega arith in
@@ -191,25 +199,26 @@ module _ (enc : Enc) (g : List State) (f : ℕ) (y : List Symbol) where
           most = subst (λ k. IsAtMost k high) z most;
           walk = w;
           says =
-              stop_label may (nat_eq n 0) (tags_in body) (2 * p + 1) (symbols enc w y)
+              stop_label may (nat_eq n 0) (tags_in body) (2 * p + 1) (symbols enc w tail)
               ∙ ap
               (λ b.
-              ((if b then picks 1 ∷ [] else []) ++ (if nat_eq n 0 then map unsets (tags_in body) else [])) ++ symbols enc w y)
+              ((if b then picks 1 ∷ [] else []) ++ (if nat_eq n 0 then map unsets (tags_in body) else [])) ++ symbols enc w tail)
               (sym e1);
           shorter = omega arith;
         }
 
     repeat_iteration : (n fuel : ℕ) (enough : Bool) → may_iterate n high ≡ true → nat_le low n ≡ enough
-        → ((m : Move) → IsAmong m (moves_after p body low high (suc n)) → (w : Walk g f (target m)) → steps w < fuel → RepeatSplit p body low high (suc n) (label m ++ symbols enc w y) (steps w))
-        → (w : Walk g f (2 * copy_part p body low high n)) → steps w < suc fuel
+        → ((m : Move) → IsAmong m (moves_after p body low high (suc n)) → (w : Walk states last_state (target m))
+        → steps w < fuel → RepeatSplit p body low high (suc n) (label m ++ symbols enc w tail) (steps w))
+        → (w : Walk states last_state (2 * copy_part p body low high n)) → steps w < suc fuel
         → RepeatSplit p body low high n
-        (label (iteration_move enough (2 * copy_part p body low high n)) ++ symbols enc w y) (steps w)
+        (label (iteration_move enough (2 * copy_part p body low high n)) ++ symbols enc w tail) (steps w)
     repeat_iteration n fuel enough e1 e2 more w lt =
         let cp = copy_part p body low high n in
         let s =
         ih cp
-        (moves_after p body low high (suc n)) (copy_stands g p body low high n e1 h)
-        (copy_outside f p body low high n e1 out) w in
+        (moves_after p body low high (suc n)) (copy_stands states p body low high n e1 h)
+        (copy_outside last_state p body low high n e1 out) w in
         let r = more s.by s.among s.walk (omega (arith, s.shorter)) in
         let c : suc n + r.count ≡ n + suc r.count = omega arith in
         record {
@@ -219,19 +228,21 @@ module _ (enc : Enc) (g : List State) (f : ℕ) (y : List Symbol) where
           most = subst (λ k. IsAtMost k high) c r.most;
           walk = r.walk;
           says =
-              iteration_label enough (2 * cp) (symbols enc w y)
-              ∙ ap (λ b. (if b then picks 0 ∷ [] else []) ++ symbols enc w y) (sym e2)
+              iteration_label enough (2 * cp) (symbols enc w tail)
+              ∙ ap (λ b. (if b then picks 0 ∷ [] else []) ++ symbols enc w tail) (sym e2)
               ∙ ap (λ k. iterate_choice low n ++ k) (s.says ∙ ap (λ k. script enc cp s.tree ++ k) r.says)
               ∙ sym (simp append_assoc);
           shorter = omega (arith, r.shorter, s.shorter);
         }
 
     repeat_step : (n fuel : ℕ) (may enough : Bool) → may_iterate n high ≡ may → nat_le low n ≡ enough → IsAtMost n high
-        → ((m : Move) → may_iterate n high ≡ true → IsAmong m (moves_after p body low high (suc n)) → (w : Walk g f (target m)) → steps w < fuel → RepeatSplit p body low high (suc n) (label m ++ symbols enc w y) (steps w))
+        → ((m : Move) → may_iterate n high ≡ true → IsAmong m (moves_after p body low high (suc n))
+        → (w : Walk states last_state (target m)) → steps w < fuel
+        → RepeatSplit p body low high (suc n) (label m ++ symbols enc w tail) (steps w))
         → {m : Move}
         → IsAmong m (iteration_moves may enough (if nat_eq n 0 then tags_in body else []) (2 * copy_part p body low high n) (2 * p + 1))
-        → (w : Walk g f (target m)) → steps w < suc fuel
-        → RepeatSplit p body low high n (label m ++ symbols enc w y) (steps w)
+        → (w : Walk states last_state (target m)) → steps w < suc fuel
+        → RepeatSplit p body low high n (label m ++ symbols enc w tail) (steps w)
     repeat_step n fuel true true e1 e2 most more first w lt = repeat_iteration n fuel true e1 e2 (λ m. more m e1) w lt
     repeat_step n fuel true true e1 e2 most more (next first) w lt = repeat_stop n true e1 e2 most w
     repeat_step n fuel true true e1 e2 most more (next (next i)) w lt = elim i [ ]
@@ -242,8 +253,8 @@ module _ (enc : Enc) (g : List State) (f : ℕ) (y : List Symbol) where
     repeat_step n fuel false false e1 e2 most more i w lt = elim i [ ]
 
     repeat_split :
-        (fuel n : ℕ) → IsAtMost n high → (m : Move) → IsAmong m (moves_after p body low high n) → (w : Walk g f (target m))
-        → steps w < fuel → RepeatSplit p body low high n (label m ++ symbols enc w y) (steps w)
+        (fuel n : ℕ) → IsAtMost n high → (m : Move) → IsAmong m (moves_after p body low high n) → (w : Walk states last_state (target m))
+        → steps w < fuel → RepeatSplit p body low high n (label m ++ symbols enc w tail) (steps w)
     repeat_split zero n most m i w lt = absurd (omega arith)
     repeat_split (suc fuel) n most m i w lt =
         repeat_step n fuel
@@ -251,8 +262,9 @@ module _ (enc : Enc) (g : List State) (f : ℕ) (y : List Symbol) where
         (λ m' may i' w' lt'. repeat_split fuel (suc n) (below_high n high may) m' i' w' lt') i w lt
 
   mutual
-    pub split : (e : Term) (p : ℕ) (exits : List Move) → Stands g (2 * p) (table e p exits) → IsOutside f p (parts e)
-        → (w : Walk g f (2 * p)) → Split e p exits (symbols enc w y) (steps w)
+    pub split :
+        (e : Term) (p : ℕ) (exits : List Move) → Stands states (2 * p) (table e p exits) → IsOutside last_state p (parts e)
+        → (w : Walk states last_state (2 * p)) → Split e p exits (symbols enc w tail) (steps w)
     split empty p exits h out w =
         finish empty p exits h
         (λ e. out (omega arith) (omega arith)) blank (begins p ∷ []) refl _ _
@@ -267,7 +279,7 @@ module _ (enc : Enc) (g : List State) (f : ℕ) (y : List Symbol) where
           says =
               r.says
               ∙ ap
-              (λ x. x ∷ (leaf_choice enc ranges r.at ++ (map reads (spell enc r.at) ++ symbols enc r.walk y)))
+              (λ x. x ∷ (leaf_choice enc ranges r.at ++ (map reads (spell enc r.at) ++ symbols enc r.walk tail)))
               (mark_begins p)
               ∙ sym (simp append_assoc);
           shorter = r.shorter;
@@ -277,13 +289,14 @@ module _ (enc : Enc) (g : List State) (f : ℕ) (y : List Symbol) where
         finish any_unit p exits h
         (λ e. out (omega arith) (omega arith)) (unit r.at) (begins p ∷ reads r.at ∷ []) refl _ _ (record {
           walk = r.walk;
-          says = r.says ∙ ap (λ x. x ∷ reads r.at ∷ symbols enc r.walk y) (mark_begins p);
+          says = r.says ∙ ap (λ x. x ∷ reads r.at ∷ symbols enc r.walk tail) (mark_begins p);
           shorter = r.shorter;
         })
     split (cat members) p exits h out w =
         let a = begin_only p _ h.0 (λ e. out (omega arith) (omega arith)) w in
         let r =
-        row_split members (p + 1) (2 * p + 1) (inner_rows g p _ _ _ h) (λ b c. out (omega arith) (omega arith)) a.walk in
+        row_split members
+        (p + 1) (2 * p + 1) (inner_rows states p _ _ _ h) (λ b c. out (omega arith) (omega arith)) a.walk in
         finish
         (cat members) p exits h (λ e. out (omega arith) (omega arith)) (row r.trees)
         (begins p ∷ row_script enc (p + 1) r.trees) refl _ _ (record {
@@ -295,7 +308,7 @@ module _ (enc : Enc) (g : List State) (f : ℕ) (y : List Symbol) where
         let a = leave_moves w _ h.0 (λ e. out (omega arith) (omega arith)) in
         let r =
         choice_split members 0
-        (p + 1) (2 * p + 1) (λ ts. ts) (inner_rows g p _ _ _ h)
+        (p + 1) (2 * p + 1) (λ ts. ts) (inner_rows states p _ _ _ h)
         (λ b c. out (omega arith) (omega arith)) a.among a.walk in
         let e : 0 + chosen_place r.choice ≡ chosen_place r.choice = omega arith in
         let front =
@@ -307,7 +320,7 @@ module _ (enc : Enc) (g : List State) (f : ℕ) (y : List Symbol) where
           walk = r.walk;
           says =
               a.says ∙ ap₂ (λ x k. x ∷ k) (mark_begins p) r.says
-              ∙ ap (λ k. begins p ∷ picks k ∷ (map unsets (tags_beside r.choice) ++ (choice_script enc (p + 1) r.choice ++ symbols enc r.walk y))) e
+              ∙ ap (λ k. begins p ∷ picks k ∷ (map unsets (tags_beside r.choice) ++ (choice_script enc (p + 1) r.choice ++ symbols enc r.walk tail))) e
               ∙ sym (simp append_assoc);
           shorter = omega (arith, r.shorter, a.shorter);
         })
@@ -315,7 +328,7 @@ module _ (enc : Enc) (g : List State) (f : ℕ) (y : List Symbol) where
         let a = leave_moves w _ h.0 (λ e. out (omega arith) (omega arith)) in
         let r =
         repeat_split p body low high
-        (λ q ms. split body q ms) (inner_rows g p _ _ _ h) out (steps w) 0
+        (λ q ms. split body q ms) (inner_rows states p _ _ _ h) out (steps w) 0
         (none_first high) a.by a.among a.walk a.shorter in
         let e : 0 + r.count ≡ r.count = omega arith in
         finish
@@ -332,7 +345,7 @@ module _ (enc : Enc) (g : List State) (f : ℕ) (y : List Symbol) where
         (begin_only p _ h.0 (λ e. out (omega arith) (omega arith)) w)
     split (group opening closing body) p exits h out w =
         let a = begin_only p _ h.0 (λ e. out (omega arith) (omega arith)) w in
-        let s = split body (p + 1) _ (inner_rows g p _ _ _ h) (λ b c. out (omega arith) (omega arith)) a.walk in
+        let s = split body (p + 1) _ (inner_rows states p _ _ _ h) (λ b c. out (omega arith) (omega arith)) a.walk in
         let o = only (script enc (p + 1) s.tree) _ s.by s.among s.walk _ _ s.says s.shorter in
         finish
         (group opening closing body) p exits h (λ e. out (omega arith) (omega arith)) (inside s.tree)
@@ -343,16 +356,17 @@ module _ (enc : Enc) (g : List State) (f : ℕ) (y : List Symbol) where
           shorter = omega (arith, o.shorter, a.shorter);
         })
 
-    row_split : (members : Terms) (q last : ℕ) → Stands g (2 * q) (members_table members q last)
-        → IsOutside f q (parts_of_all members) → (w : Walk g f (next_member q members last))
-        → RowSplit members q last (symbols enc w y) (steps w)
+    row_split : (members : Terms) (q last : ℕ) → Stands states (2 * q) (members_table members q last)
+        → IsOutside last_state q (parts_of_all members) → (w : Walk states last_state (next_member q members last))
+        → RowSplit members q last (symbols enc w tail) (steps w)
     row_split nil q last h out w = record { trees = row_end; walk = w; says = refl; shorter = omega arith }
     row_split (cons e members) q last h out w =
-        let hf = stands_front g (2 * q) (table e q _) _ h in
+        let hf = stands_front states (2 * q) (table e q _) _ h in
         let s = split e q _ hf (λ b c. out (omega arith) (omega arith)) w in
         let o = only (script enc q s.tree) _ s.by s.among s.walk _ _ s.says s.shorter in
         let r =
-        row_split members (q + parts e) last (member_back g q e _ _ h) (λ b c. out (omega arith) (omega arith)) o.walk in
+        row_split members
+        (q + parts e) last (member_back states q e _ _ h) (λ b c. out (omega arith) (omega arith)) o.walk in
         record {
           trees = beside s.tree r.trees;
           walk = r.walk;
@@ -361,12 +375,13 @@ module _ (enc : Enc) (g : List State) (f : ℕ) (y : List Symbol) where
         }
 
     choice_split :
-        (members : Terms) (i q last : ℕ) (join : List ℕ → List ℕ) → Stands g (2 * q) (alternatives_table members q last)
-        → IsOutside f q (parts_of_all members) → {m : Move} → IsAmong m (member_moves members i q join)
-        → (w : Walk g f (target m)) → ChoiceSplit members i q last join (label m ++ symbols enc w y) (steps w)
+        (members : Terms) (i q last : ℕ) (join : List ℕ → List ℕ) → Stands states (2 * q) (alternatives_table members q last)
+        → IsOutside last_state q (parts_of_all members) → {m : Move} → IsAmong m (member_moves members i q join)
+        → (w : Walk states last_state (target m))
+        → ChoiceSplit members i q last join (label m ++ symbols enc w tail) (steps w)
     choice_split nil i q last join h out a w = elim a [ ]
     choice_split (cons e members) i q last join h out first w =
-        let hf = stands_front g (2 * q) (table e q _) _ h in
+        let hf = stands_front states (2 * q) (table e q _) _ h in
         let s = split e q _ hf (λ b c. out (omega arith) (omega arith)) w in
         let o = only (script enc q s.tree) _ s.by s.among s.walk _ _ s.says s.shorter in
         let z : i ≡ i + 0 = omega arith in
@@ -376,13 +391,13 @@ module _ (enc : Enc) (g : List State) (f : ℕ) (y : List Symbol) where
           says =
               ap₂
               (λ n k. picks n ∷ (map unsets (join (tags_among members)) ++ k)) z
-              (o.says ∙ ap (λ k. k ++ symbols enc o.walk y) (append-nil (script enc q s.tree)));
+              (o.says ∙ ap (λ k. k ++ symbols enc o.walk tail) (append-nil (script enc q s.tree)));
           shorter = omega (arith, o.shorter);
         }
     choice_split (cons e members) i q last join h out (next a) w =
         let r =
         choice_split members
-        (suc i) (q + parts e) last (λ ts. join (merge_tags (tags_in e) ts)) (member_back g q e _ _ h)
+        (suc i) (q + parts e) last (λ ts. join (merge_tags (tags_in e) ts)) (member_back states q e _ _ h)
         (λ b c. out (omega arith) (omega arith)) a w in
         let n : suc i + chosen_place r.choice ≡ i + suc (chosen_place r.choice) = omega arith in
         record {
@@ -390,15 +405,16 @@ module _ (enc : Enc) (g : List State) (f : ℕ) (y : List Symbol) where
           walk = r.walk;
           says =
               r.says
-              ∙ ap (λ k. picks k ∷ (map unsets (join (merge_tags (tags_in e) (tags_beside r.choice))) ++ (choice_script enc (q + parts e) r.choice ++ symbols enc r.walk y))) n;
+              ∙ ap (λ k. picks k ∷ (map unsets (join (merge_tags (tags_in e) (tags_beside r.choice))) ++ (choice_script enc (q + parts e) r.choice ++ symbols enc r.walk tail))) n;
           shorter = r.shorter;
         }
 
--- Law B: a walk from the beginning of a part that ends outside of it goes through a tree of the part and on by an exit
-pub tree_of_part : (enc : Enc) (g : List State) (f : ℕ) (y : List Symbol) (e : Term) (p : ℕ) (exits : List Move)
-    → Stands g (2 * p) (table e p exits) → IsOutside f p (parts e) → (w : Walk g f (2 * p))
-    → (t : Tree e) × (m : Move) × IsAmong m exits × (rest : Walk g f (target m))
-    × (symbols enc w y ≡ script enc p t ++ (label m ++ symbols enc rest y))
-tree_of_part enc g f y e p exits h out w =
-    let s = split enc g f y e p exits h out w in
+-- a walk from the beginning of a part that ends outside of it goes through a tree of the part and on by an exit
+pub tree_of_part :
+    (enc : Enc) (states : List State) (last_state : ℕ) (tail : List Symbol) (e : Term) (p : ℕ) (exits : List Move)
+    → Stands states (2 * p) (table e p exits) → IsOutside last_state p (parts e) → (w : Walk states last_state (2 * p))
+    → (t : Tree e) × (m : Move) × IsAmong m exits × (rest : Walk states last_state (target m))
+    × (symbols enc w tail ≡ script enc p t ++ (label m ++ symbols enc rest tail))
+tree_of_part enc states last_state tail e p exits h out w =
+    let s = split enc states last_state tail e p exits h out w in
     (s.tree, s.by, s.among, s.walk, s.says)

@@ -49,34 +49,35 @@ alone_zero e zero lt = absurd (omega arith)
 alone_zero e (suc p) lt = refl
 
 -- The walk of a tree, and the tree of a walk, where the term is a part whose exit leads to state 0.
-module _ (enc : Enc) (g : List State) (e : Term) (p : ℕ) (h : Stands g (2 * p) (table e p final)) where
-  pub walk_of : (t : Tree e) → (w : Walk g 0 (2 * p)) × (symbols enc w [] ≡ script enc p t)
+module _ (enc : Enc) (states : List State) (e : Term) (p : ℕ) (h : Stands states (2 * p) (table e p final)) where
+  pub walk_of : (t : Tree e) → (w : Walk states 0 (2 * p)) × (symbols enc w [] ≡ script enc p t)
   walk_of t =
       let v =
-      leave enc g 0 [] e p final [] h
-      (by_only enc g 0 [] (move None [] [] 0) 0 [] refl (record { walk = stay; says = refl })) in
-      let r = tree_walk enc g 0 [] t p final h [] v in
+      leave enc states 0 [] e p final [] h
+      (by_only enc states 0 [] (move None [] [] 0) 0 [] refl (record { walk = stay; says = refl })) in
+      let r = tree_walk enc states 0 [] t p final h [] v in
       (r.walk, r.says ∙ append-nil (script enc p t))
 
   pub tree_of :
-      0 < p → slice_get g 0 ≡ Some (moves []) → (w : Walk g 0 (2 * p)) → (t : Tree e) × (symbols enc w [] ≡ script enc p t)
+      0 < p → slice_get states 0 ≡ Some
+      (moves []) → (w : Walk states 0 (2 * p)) → (t : Tree e) × (symbols enc w [] ≡ script enc p t)
   tree_of lt z w =
-      let s = split enc g 0 [] e p final h (λ a b. absurd (omega arith)) w in
-      let o = only enc g 0 [] (script enc p s.tree) (move None [] [] 0) s.by s.among s.walk _ _ s.says s.shorter in (
+      let s = split enc states 0 [] e p final h (λ a b. absurd (omega arith)) w in
+      let o = only enc states 0 [] (script enc p s.tree) (move None [] [] 0) s.by s.among s.walk _ _ s.says s.shorter in (
         s.tree,
-        o.says ∙ ap (λ k. (script enc p s.tree ++ []) ++ k) (no_way enc g 0 o.walk z)
+        o.says ∙ ap (λ k. (script enc p s.tree ++ []) ++ k) (no_way enc states 0 o.walk z)
             ∙ append-nil (script enc p s.tree ++ []) ∙ append-nil (script enc p s.tree),
       )
 
 -- where a term has a tree for a word, it has a plain one
 pub plain_tree : (enc : Enc) (e : Term) (p : ℕ) → 0 < p → (w : List ℕ) → HasTree enc p e w → HasPlainTree enc p e w
 plain_tree enc e p lt w has =
-    let g = alone e p in
+    let states = alone e p in
     let h = alone_stands e p in
-    let a = walk_of enc g e p h has.0 in
-    let r = cut enc g 0 a.0 in
-    let b = tree_of enc g e p h lt (alone_zero e p lt) r.walk in (
+    let a = walk_of enc states e p h has.0 in
+    let r = cut enc states 0 a.0 in
+    let b = tree_of enc states e p h lt (alone_zero e p lt) r.walk in (
       b.0,
       ap units (sym b.1) ∙ r.same ∙ ap units a.1 ∙ has.1,
-      subst IsPlain b.1 (plain_list _ (walk_plain enc g 0 r.walk r.plain)),
+      subst IsPlain b.1 (plain_list _ (walk_plain enc states 0 r.walk r.plain)),
     )

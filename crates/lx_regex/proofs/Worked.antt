@@ -120,4 +120,4 @@ policies = record {
         none (x ∷ xs) h = h
 
 pub tables : TablesAre
-tables = record { tagged = refl; copied = refl }
+tables = record { tagged_parts = refl; tagged = refl; copied = refl }

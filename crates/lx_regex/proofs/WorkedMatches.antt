@@ -36,12 +36,12 @@ b_script part (point c within) =
     (i : IsInRanges ((98, 98) ∷ []) y) → script Utf8 part (point {ranges = (98, 98) ∷ []} y i) ≡ begins part ∷ reads 98 ∷ ends part ∷ [])
     (letter_is 98 c within) (λ i. refl) within
 
-abbrev ab_symbols : ℕ → List Symbol
+abbrev pub ab_symbols : ℕ → List Symbol
 ab_symbols part =
     begins part ∷ begins
     (part + 1) ∷ reads 97 ∷ ends (part + 1) ∷ begins (part + 1 + 1) ∷ reads 98 ∷ ends (part + 1 + 1) ∷ ends part ∷ []
 
-ab_script : (part : ℕ) (tree : Tree (cat (two (letter 97) (letter 98)))) → script Utf8 part tree ≡ ab_symbols part
+pub ab_script : (part : ℕ) (tree : Tree (cat (two (letter 97) (letter 98)))) → script Utf8 part tree ≡ ab_symbols part
 ab_script part (row (beside a (beside b row_end))) =
     ap₂ (λ x y. begins part ∷ ((x ++ (y ++ [])) ++ ends part ∷ [])) (a_script (part + 1) a) (b_script (part + 1 + 1) b)
 
@@ -162,7 +162,7 @@ longest_word =
     })
 
 -- a word that begins both `ab` and `ac` has at most one letter
-same_head : (a b : ℕ) (xs ys : List ℕ) → a ∷ xs ≡ b ∷ ys → a ≡ b
+pub same_head : (a b : ℕ) (xs ys : List ℕ) → a ∷ xs ≡ b ∷ ys → a ≡ b
 same_head a b xs ys e = cc
 
 same_tail : (a b : ℕ) (xs ys : List ℕ) → a ∷ xs ≡ b ∷ ys → xs ≡ ys
@@ -189,7 +189,7 @@ untaken word zero is takes =
 untaken word (suc place) is takes = let none : None ≡ Some takes.0 = takes.1 in cc
 
 -- a word at which the rule has a cut begins `ab`
-begun_word :
+pub begun_word :
     (word : List ℕ) (cut : Cut) → IsCut Utf8 (terms_of only_long) word cut → (rest : List ℕ) × (97 ∷ 98 ∷ [] ≡ word ++ rest)
 begun_word word cut is = at cut.rule is.possible.1.0 is.possible.1.1 is.possible.1.2 is.possible.1.3
   where
@@ -213,7 +213,7 @@ begins_at_most_one :
 begins_at_most_one word is (inl none) = let e = ap length none in omega (arith, e)
 begins_at_most_one word is (inr cut) = let b = begun_word word cut.0 cut.1 in at_most_one word b.0 is.0 b.1 is.1
 
-a_cut : IsCut Utf8 (terms_of only_long) (97 ∷ []) (record { rule = 0; front = begins 1 ∷ begins 2 ∷ reads 97 ∷ [] })
+pub a_cut : IsCut Utf8 (terms_of only_long) (97 ∷ []) (record { rule = 0; front = begins 1 ∷ begins 2 ∷ reads 97 ∷ [] })
 a_cut = record {
   reads_word = refl;
   after_unit = (begins 1 ∷ begins 2 ∷ [], 97, refl);

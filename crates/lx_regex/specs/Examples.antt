@@ -8,7 +8,10 @@ use Rattle.lx_regex.specs.Plain.{IsPlain}
 use Rattle.lx_regex.specs.Order.{greedy, posix, TreePrecedes}
 use Rattle.lx_regex.specs.Least.{IsLeast}
 use Rattle.lx_regex.specs.Values.{single, history, values_of, group_ends, cursor_behind}
-use Rattle.lx_regex.specs.Pattern.{Pattern}
+use Rattle.lx_regex.specs.Pattern.{Pattern, terms_of}
+use Rattle.lx_regex.specs.Cut.{Cut, IsCut, Precedes}
+use Rattle.lx_regex.specs.Kernel.{IsKernel}
+use Rattle.lx_regex.specs.Parts.{rule_list, code_points, sequence, alternation, repetition, tag_event, parts_of}
 use Rattle.lx_regex.specs.Match.{IsMatch, matched, unmatched}
 use Rattle.lx_regex.specs.declared.rules.Kind.{Kind}
 use Rattle.lx_regex.specs.declared.rules.Kind.TheVariants.{Plain, Default, Eof}
@@ -111,8 +114,21 @@ pub record PoliciesDiffer (in_one in_two : Tree overlapping_letters) : Type 0 wh
   pub leftmost : TreePrecedes greedy Utf8 1 in_two in_one
   pub longest : TreePrecedes posix Utf8 1 in_one in_two
 
--- the states of ("a" @t | "b")*, and of "a"{2,3}, whose three copies are parts of their own
+-- a rule without tags
+abbrev pub plain_rule : (number : ℕ) → Kind → Term → Pattern
+plain_rule number kind term = record { number = number; kind = kind; term = term; many = []; slash = None; groups = 0 }
+
+-- the parts and the states of ("a" @t | "b")*, and the states of "a"{2,3}, whose three copies are parts of their own
 pub record TablesAre : Type 0 where
+  pub tagged_parts : parts_of (plain_rule 1 Plain tagged_letters ∷ []) ≡
+      record { rule = 0; up = 0; child = 0; sort = rule_list }
+      ∷ record { rule = 1; up = 0; child = 0; sort = repetition 0 None }
+      ∷ record { rule = 1; up = 1; child = 0; sort = alternation }
+      ∷ record { rule = 1; up = 2; child = 0; sort = sequence }
+      ∷ record { rule = 1; up = 3; child = 0; sort = code_points ((97, 97) ∷ []) }
+      ∷ record { rule = 1; up = 3; child = 1; sort = tag_event 0 }
+      ∷ record { rule = 1; up = 2; child = 1; sort = code_points ((98, 98) ∷ []) }
+      ∷ []
   pub tagged : automaton (tagged_letters ∷ []) ≡
       moves [] ∷ moves []
       ∷ moves (move (Some 0) [] [] 4 ∷ move (Some 1) [] (0 ∷ []) 3 ∷ []) ∷ moves (move None [] [] 0 ∷ [])
@@ -130,10 +146,6 @@ pub record TablesAre : Type 0 where
       ∷ leaf ((97, 97) ∷ []) ∷ moves (move (Some 0) [] [] 8 ∷ move (Some 1) [] [] 3 ∷ [])
       ∷ leaf ((97, 97) ∷ []) ∷ moves (move None [] [] 3 ∷ [])
       ∷ []
-
--- a rule without tags
-abbrev pub plain_rule : (number : ℕ) → Kind → Term → Pattern
-plain_rule number kind term = record { number = number; kind = kind; term = term; many = []; slash = None; groups = 0 }
 
 -- "a", "a", `*` and `$`
 abbrev pub single_letters : List Pattern
@@ -155,3 +167,8 @@ pub record MatchesAre : Type 0 where
   pub at_end : IsMatch greedy Utf8 single_letters (97 ∷ 97 ∷ []) 2 (matched 4 2 [])
   pub longest_word : IsMatch greedy Utf8 short_and_long (97 ∷ 98 ∷ []) 0 (matched 2 2 [])
   pub no_rule : IsMatch greedy Utf8 only_long (97 ∷ 99 ∷ []) 0 (unmatched 1)
+
+-- Of the rule "ab" the kernel of `a` has one place, behind the "a" in part 2; at `b` there is no cut.
+pub record KernelsAre : Type 0 where
+  pub after_a : IsKernel Precedes Utf8 (terms_of only_long) (97 ∷ []) (record { rule = 0; front = begins 1 ∷ begins 2 ∷ reads 97 ∷ [] } ∷ [])
+  pub not_b : (cut : Cut) → IsCut Utf8 (terms_of only_long) (98 ∷ []) cut → ⊥

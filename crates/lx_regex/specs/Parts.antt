@@ -1,7 +1,8 @@
 -- The parts of a rule list, in preorder: each occurrence of a term is a part of its own.
-use Rattle.std.specs.Prelude.{ℕ, zero, suc, ◌+◌, ◌*◌, List, [], ◌∷◌, ◌++◌, Option, if◌then◌else◌}
+use Rattle.std.specs.Prelude.{◌≡◌, ℕ, zero, suc, ◌+◌, List, [], ◌∷◌, ◌++◌, Option, if◌then◌else◌}
 use Rattle.lx_regex.specs.Term.{Term, empty, class, any_unit, cat, alt, repeat, tag, group, Terms, nil, cons, copies, parts}
 use Rattle.lx_regex.specs.Pattern.{Pattern, is_end}
+use Rattle.lx_regex.specs.Automaton.{State, moves, leaf, unit_leaf}
 
 -- what stands at a part
 pub data Sort : Type 0 where
@@ -60,3 +61,20 @@ parts_of_rules child part (pattern ∷ patterns) =
 -- the parts of a rule list, which is itself part 0
 abbrev pub parts_of : List Pattern → List Part
 parts_of patterns = record { rule = 0; up = 0; child = 0; sort = rule_list } ∷ parts_of_rules 0 1 patterns
+
+-- what stands at the beginning of a part: a leaf of the same class, a leaf of any unit, or else moves
+abbrev pub IsBeginning : Sort → State → Type 0
+IsBeginning (code_points ranges) (leaf others) = ranges ≡ others
+IsBeginning (code_points ranges) (moves ways) = ⊥
+IsBeginning (code_points ranges) unit_leaf = ⊥
+IsBeginning code_unit unit_leaf = Unit {0}
+IsBeginning code_unit (moves ways) = ⊥
+IsBeginning code_unit (leaf ranges) = ⊥
+IsBeginning rule_list (moves ways) = Unit {0}
+IsBeginning empty_word (moves ways) = Unit {0}
+IsBeginning sequence (moves ways) = Unit {0}
+IsBeginning alternation (moves ways) = Unit {0}
+IsBeginning (repetition low high) (moves ways) = Unit {0}
+IsBeginning (tag_event number) (moves ways) = Unit {0}
+IsBeginning (tag_group opening closing) (moves ways) = Unit {0}
+IsBeginning sort state = ⊥

@@ -16,20 +16,20 @@ abbrev pub mark : ℕ → Symbol
 mark state = if nat_eq (state % 2) 0 then begins (state / 2) else ends (state / 2)
 
 -- a walk over the states `g`, to the state `last`: by a move, by a code point of a leaf's class, or by any unit
-pub data Walk (g : List State) (last : ℕ) : ℕ → Type 0 where
-  stay : Walk g last last
+pub data Walk (states : List State) (last : ℕ) : ℕ → Type 0 where
+  stay : Walk states last last
   moved : {state : ℕ}
-      → (ways : List Move) (way : Move) → slice_get g state ≡ Some (moves ways) → IsAmong way ways → Walk g last (target way)
-      → Walk g last state
+      → (ways : List Move) (way : Move) → slice_get states state ≡ Some (moves ways) → IsAmong way ways → Walk states last (target way)
+      → Walk states last state
   at_point : {state : ℕ}
-      → (ranges : List (ℕ × ℕ)) (number : ℕ) → slice_get g state ≡ Some (leaf ranges) → IsInRanges ranges number
-      → Walk g last (state + 1) → Walk g last state
+      → (ranges : List (ℕ × ℕ)) (number : ℕ) → slice_get states state ≡ Some (leaf ranges) → IsInRanges ranges number
+      → Walk states last (state + 1) → Walk states last state
   at_unit : {state : ℕ}
-      → (number : ℕ) → slice_get g state ≡ Some unit_leaf → Walk g last (state + 1) → Walk g last state
+      → (number : ℕ) → slice_get states state ≡ Some unit_leaf → Walk states last (state + 1) → Walk states last state
 
 module _ (enc : Enc) where
   -- the symbols of a walk, and then the tail
-  abbrev pub symbols : {g : List State} {last state : ℕ} → Walk g last state → (tail : List Symbol) → List Symbol
+  abbrev pub symbols : {states : List State} {last state : ℕ} → Walk states last state → (tail : List Symbol) → List Symbol
   symbols stay tail = tail
   symbols (moved {state} ways way stands among walk) tail = mark state ∷ (label way ++ symbols walk tail)
   symbols (at_point {state} ranges number stands within walk) tail =

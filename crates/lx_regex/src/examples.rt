@@ -1,5 +1,5 @@
 //! The worked examples, which hold by computation.
-ghost use Rattle.lx_regex.specs.Examples.{tagged_letters, AlternativesUnsetTags, marked_letters, HistoriesKeepAllEvents, grouped_letters, EmptyIterationsAreNotPlain, letter_in_context, ContextsPutTheCursorBack, one_or_two_points, PairsComeBeforeSurrogates, overlapping_letters, PoliciesDiffer, TablesAre, MatchesAre};
+ghost use Rattle.lx_regex.specs.Examples.{tagged_letters, AlternativesUnsetTags, marked_letters, HistoriesKeepAllEvents, grouped_letters, EmptyIterationsAreNotPlain, letter_in_context, ContextsPutTheCursorBack, one_or_two_points, PairsComeBeforeSurrogates, overlapping_letters, PoliciesDiffer, TablesAre, MatchesAre, KernelsAre};
 ghost use Rattle.lx_regex.specs.Tree.{Tree};
 
 /// The examples of `specs/Examples.antt` are right.
@@ -12,4 +12,5 @@ pub fn examples_hold()
     ensures policies { (in_one in_two : Tree overlapping_letters) × PoliciesDiffer in_one in_two }
     ensures tables { TablesAre }
     ensures matches { MatchesAre }
+    ensures kernels { KernelsAre }
 {}

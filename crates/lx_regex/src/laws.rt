@@ -1,23 +1,29 @@
 //! What holds of the definitions. Each law is the contract of a function that does nothing.
 ghost use Rattle.std.specs.Prelude.{◌≡◌, ◌≢◌, ◌↔◌, ◌++◌, ◌<◌, ◌*◌, ℕ, List, [], length, Bool, Some, slice_get};
 ghost use Rattle.lx_base.specs.declared.settings.Enc.{Enc};
-ghost use Rattle.lx_regex.specs.Automaton.{automaton};
+ghost use Rattle.lx_regex.specs.Automaton.{State, automaton};
 ghost use Rattle.lx_regex.specs.Cut.{BeginsMatch, Cut, Precedes, rule_part};
 ghost use Rattle.lx_regex.specs.Kernel.{IsKernel};
 ghost use Rattle.lx_regex.specs.Least.{HasTree, HasPlainTree, IsLeast};
-ghost use Rattle.lx_regex.specs.Match.{IsMatch, Outcome};
+ghost use Rattle.lx_regex.specs.Match.{IsMatch, Outcome, part_at};
 ghost use Rattle.lx_regex.specs.Order.{Policy};
-ghost use Rattle.lx_regex.specs.Parts.{parts_in};
-ghost use Rattle.lx_regex.specs.Pattern.{Pattern};
+ghost use Rattle.lx_regex.specs.Parts.{IsBeginning, Part, parts_in, parts_of};
+ghost use Rattle.lx_regex.specs.Pattern.{Pattern, terms_of, with_terms};
 ghost use Rattle.lx_regex.specs.Script.{script};
 ghost use Rattle.lx_regex.specs.Term.{Term, parts};
 ghost use Rattle.lx_regex.specs.Tree.{Tree};
 ghost use Rattle.lx_regex.specs.Values.{value_of};
 ghost use Rattle.lx_regex.specs.Walk.{Walk, symbols};
 
-/// A term has as many parts in preorder as are counted.
-pub fn parts_are_counted()
-    ensures { (rule up child part : ℕ) (e : Term) → length (parts_in rule up child part e) ≡ parts e }
+/// A term has as many parts in preorder as are counted, a rule's own part stands at its number, and the automaton has the
+/// beginning of part p as its state 2 p.
+pub fn parts_are_numbered()
+    ensures counted { (rule up child part : ℕ) (e : Term) → length (parts_in rule up child part e) ≡ parts e }
+    ensures own { (patterns : List Pattern) (place : ℕ) (pattern : Pattern) → slice_get (with_terms patterns) place ≡ Some pattern
+        → (part : Part) × (slice_get (parts_of patterns) (part_at patterns place) ≡ Some part)
+        × (part.rule ≡ pattern.number) × (part.up ≡ 0) }
+    ensures states { (patterns : List Pattern) (place : ℕ) (part : Part) (state : State) → slice_get (parts_of patterns) place ≡ Some part
+        → slice_get (automaton (terms_of patterns)) (2 * place) ≡ Some state → IsBeginning part.sort state }
 {}
 
 /// A term that has a tree for a word has a plain one.

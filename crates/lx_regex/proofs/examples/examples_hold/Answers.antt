@@ -1,6 +1,7 @@
 use Rattle.lx_regex.proofs.examples.examples_hold.Goals as goal
 use Rattle.lx_regex.proofs.Grouped.{on_xy, in_two, with_empty, grouped}
 use Rattle.lx_regex.proofs.WorkedMatches.{matches}
+use Rattle.lx_regex.proofs.WorkedKernels.{kernels}
 use Rattle.lx_regex.proofs.Worked.{tagged_ab, tagged_ba, tagged_nothing, alternatives, marked_xyx, histories, context_abbb, contexts, pair_tree, surrogates_tree, pairs, one_ab, a_and_b, policies, tables}
 
 pub returns-clause-alternatives : goal.returns-clause-alternatives
@@ -26,3 +27,6 @@ returns-clause-empty_iterations c = (on_xy, in_two, with_empty, grouped)
 
 pub returns-clause-matches : goal.returns-clause-matches
 returns-clause-matches c = matches
+
+pub returns-clause-kernels : goal.returns-clause-kernels
+returns-clause-kernels c = kernels
