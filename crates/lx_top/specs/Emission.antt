@@ -1,5 +1,5 @@
 -- What holds while the blocks of a scanner are emitted.
-use Rattle.std.specs.Prelude.{◌≡◌, ℕ, zero, suc, ◌+◌, ◌<◌, ◌≤◌, ◌^◌, ◌++◌, Bool, true, false, List, [], ◌∷◌, length, map, Option, Some, None, slice_get, ◌==◌, if◌then◌else◌}
+use Rattle.std.specs.Prelude.{◌≡◌, ℕ, zero, suc, ◌+◌, ◌-◌, ◌*◌, ◌<◌, ◌≤◌, nat_lt, ◌++◌, Bool, true, false, List, [], ◌∷◌, length, map, Option, Some, None, slice_get, ◌==◌, if◌then◌else◌}
 use Rattle.std.specs.List.{AllByRecursion}
 use Rattle.lx_ccode.specs.declared.piece.Stmt.{Stmt}
 use Rattle.lx_ccode.specs.declared.piece.Stmt.TheVariants.{Peek, Skip, Backup, Restore, IfUnit, Goto, Leave, Code}
@@ -8,9 +8,11 @@ use Rattle.lx_ccode.specs.Statements.{all_statements}
 use Rattle.lx_ccode.specs.Validity.{ends_once}
 use Rattle.lx_top.specs.declared.emit.Item.{Item}
 use Rattle.lx_top.specs.declared.emit.Emitter.{Emitter}
+use Rattle.lx_top.specs.declared.emit.WordBegin.{WordBegin}
 use Rattle.lx_top.specs.Scan as scan
 use Rattle.lx_top.specs.Scanner.{action_count}
-use Rattle.lx_top.specs.Serving.{Test, code_in, tested, IsActionBlock, Serves, ServesNext}
+use Rattle.lx_top.specs.Scan.{accepted, derived}
+use Rattle.lx_top.specs.Serving.{Test, code_in, tested, Falls, IsActionBlock, IsFallback, Serves, ServesNext}
 
 -- an item of the code as one of the definitions
 abbrev pub item_of : Item → scan.Item
@@ -80,6 +82,7 @@ IsEmitting emitter = IsEmission emitter.actions.now emitter.blocks.items emitter
 -- a further emission: the actions are the same, and the blocks stay
 pub record Emits (before after : Emitter) : Type 0 where
   pub actions : after.actions.now ≡ before.actions.now
+  pub grows : length before.blocks.items ≤ length after.blocks.items
   pub keeps : Keeps before.blocks.items after.blocks.items
   pub emitting : IsEmitting after
 
@@ -87,3 +90,42 @@ pub record Emits (before after : Emitter) : Type 0 where
 pub record IsPlainBlock (emitter : Emitter) (statements : List Stmt) : Type 0 where
   pub good : IsGoodBlock emitter.actions.now (length emitter.blocks.items) (record { cond = None; stmts = statements })
   pub plain : (number : ℕ) → action_count number statements ≡ 0
+
+-- behind the unit nothing goes on, or a rule is accepted there
+abbrev pub AcceptsNext : List scan.Item → Option ℕ → Type 0
+AcceptsNext [] found = Unit {0}
+AcceptsNext (item ∷ items) None = ⊥
+AcceptsNext (item ∷ items) (Some rule) = Unit {0}
+
+-- where a word's block goes on where the next unit is not taken: the rule that was accepted last is found from there, and
+-- from the fallback too where the marker holds
+pub record Begins (blocks : List CodeBlock) (items : List scan.Item) (rule : ℕ) (accepts : Bool) (begin : WordBegin) : Type 0 where
+  pub falls : Falls blocks rule accepts begin.miss
+  pub keeps_here : accepts ≡ false → begin.keeps ≡ false
+  pub marks : accepts ≡ true → begin.keeps ≡ false → (unit : ℕ) → unit < 256 → AcceptsNext (derived unit items) (accepted (derived unit items))
+  pub fallback : (accepts ≡ true → begin.keeps ≡ true) → IsFallback blocks rule begin.fallback
+  pub within : begin.miss < length blocks
+
+-- the tests as statements
+abbrev pub test_statements : List Test → List Stmt
+test_statements [] = []
+test_statements (test ∷ tests) = IfUnit test.greatest test.block ∷ test_statements tests
+
+-- The tests so far, behind other code: they decide the units below one bound, and no unit from there up to the next one is
+-- taken.
+pub record AreTests (actions : List (List ℕ)) (depth : ℕ) (blocks : List CodeBlock) (items : List scan.Item) (rule : ℕ) (accepts keeps : Bool) (miss : ℕ) (front code : List Stmt) (bound unit : ℕ) : Type 0 where
+  pub tests : List Test
+  pub code_is : code ≡ front ++ test_statements tests
+  pub below : bound ≤ unit
+  pub decided : (given : ℕ) → given < bound → (more : List Test) → tested (tests ++ more) miss given ≡ tested tests miss given
+  pub undecided : (given : ℕ) → bound ≤ given → (more : List Test) → tested (tests ++ more) miss given ≡ tested more miss given
+  pub serves : (given : ℕ) → given < bound → ServesNext (Serves depth blocks) (derived given items) (accepted (derived given items)) rule accepts keeps miss (tested tests miss given)
+  pub none : (given : ℕ) → bound ≤ given → given < unit → derived given items ≡ []
+  pub good : AllByRecursion (IsGoodStatement actions (length blocks)) (test_statements tests)
+  pub few : length tests ≤ 2 * bound
+
+-- the tests of the units between one bound and a unit that is taken, and of this unit
+abbrev pub unit_tests : (bound unit miss number : ℕ) → List Test
+unit_tests bound unit miss number =
+    if nat_lt bound unit then record { greatest = unit - 1; block = miss } ∷ record { greatest = unit; block = number } ∷ []
+    else record { greatest = unit; block = number } ∷ []

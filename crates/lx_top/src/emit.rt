@@ -2,12 +2,12 @@
 //!
 //! A block serves a word that some strings begin with. It is entered with the cursor at the word's last unit, which it takes;
 //! then it tests the next unit, and goes on to the block of the longer word, or to the rule that was accepted last.
-ghost use Rattle.std.specs.Prelude.{◌≡◌, ℕ, suc, ◌<◌, ◌≤◌, List, [], ◌∷◌, ◌++◌, map, vec_len, IfOk, OnOk, Some, None, length, slice_get, slice_set};
+ghost use Rattle.std.specs.Prelude.{◌≡◌, ℕ, suc, ◌<◌, ◌≤◌, List, [], ◌∷◌, ◌++◌, map, vec_len, IfOk, OnOk, Some, None, false, length, slice_get, slice_set};
 ghost use Rattle.lx_ccode.specs.declared.piece.CodeBlock.{CodeBlock};
 ghost use Rattle.lx_ccode.specs.declared.piece.Stmt.TheVariants.{Peek, Skip, Restore, Goto, Code};
-ghost use Rattle.lx_top.specs.Emission.{items_of, IsEmission, IsGoodBlock, Keeps};
+ghost use Rattle.lx_top.specs.Emission.{items_of, test_statements, unit_tests, AcceptsNext};
 ghost use Rattle.lx_top.specs.Scan.{accepted, derived, goes_on};
-ghost use Rattle.lx_top.specs.Serving.{IsActionBlock, backup, code_in};
+ghost use Rattle.lx_top.specs.Serving.{IsActionBlock, IsFallback, backup, code_in};
 
 use lx_base::{ByteText, Memory, Sequence};
 use lx_ccode::{CodeBlock, Stmt};
@@ -21,13 +21,13 @@ pub struct Item<'s> {
 }
 
 /// The items that go on with the unit, and what comes behind it.
-fn derived<'s>(alloc: Global, items: &[Item<'s>], unit: u8) -> Result<Vec<Item<'s>>, Memory>
+fn derived<'s>(alloc: Global, items: &[Item<'s>], unit: u32) -> Result<Vec<Item<'s>>, Memory>
     ensures { IfOk result (λ next. items_of next.items ≡ derived unit (items_of items.now)) }
 {
     let mut next = Vec::new(alloc);
     for item in items {
         if let Some((first, rest)) = item.rest.split_first() {
-            if *first == unit {
+            if u32::from(*first) == unit {
                 next.push(Item {
                     rule: item.rule,
                     rest,
@@ -81,6 +81,41 @@ fn push_block(blocks: &mut Vec<CodeBlock>, statements: Vec<Stmt>) -> Result<u64,
         stmts: Sequence::from_vec(statements),
     })?;
     Ok(number)
+}
+
+/// Where a word's block goes on where the next unit is not taken.
+#[derive(Clone, Copy, Debug)]
+pub struct WordBegin {
+    /// The block to go on to.
+    miss: u64,
+    /// Whether the block keeps the marker.
+    keeps: bool,
+    /// The block to which longer words fall back that are not accepted themselves.
+    fallback: u64,
+}
+
+/// Whether some word that is one unit longer is not accepted, so that it may have to fall back to this one.
+fn needs_marker(alloc: Global, items: &[Item<'_>]) -> Result<bool, Memory>
+    ensures { IfOk result (λ needs. needs ≡ false → (unit : ℕ) → unit < 256 → AcceptsNext (derived unit (items_of items.now)) (accepted (derived unit (items_of items.now)))) }
+{
+    for unit in 0..256 {
+        let next = derived(alloc, items, unit)?;
+        if !next.is_empty() && accepted(&next).is_none() {
+            return Ok(true);
+        }
+    }
+    Ok(false)
+}
+
+/// The tests of the units from a bound up to one that is taken, which do not go on, and of that one.
+fn push_tests(code: &mut Vec<Stmt>, bound: u32, unit: u32, miss: u64, number: u64) -> Result<(), Memory>
+    ensures { OnOk result (code.new.items ≡ code.old.items ++ test_statements (unit_tests bound unit miss number)) }
+{
+    if bound < unit {
+        code.push(Stmt::IfUnit(unit - 1, miss))?;
+    }
+    code.push(Stmt::IfUnit(unit, number))?;
+    Ok(())
 }
 
 /// The action of a rule.
@@ -143,7 +178,7 @@ fn copied(alloc: Global, texts: &[ByteText], place: usize) -> Result<ByteText, M
 }
 
 impl<'s> Emitter<'s> {
-    ghost use Rattle.lx_top.specs.Emission.{Emits, IsEmitting, IsPlainBlock};
+    ghost use Rattle.lx_top.specs.Emission.{Begins, Emits, IsEmitting, IsPlainBlock};
 
     /// Puts a block without an action behind the others and answers its number.
     fn emit(&mut self, statements: Vec<Stmt>) -> Result<u64, Memory>
@@ -187,5 +222,46 @@ impl<'s> Emitter<'s> {
         let number = push_block(&mut self.blocks, statements)?;
         set_entry(&mut self.action_blocks, place, number);
         Ok(number)
+    }
+
+    /// What stands before the block of a word: the block of its rule's action where it is accepted, and where longer
+    /// words may have to fall back to it, the block by which they do.
+    fn begin_word(
+        &mut self,
+        alloc: Global,
+        items: &[Item<'_>],
+        rule: u32,
+        accepts: bool,
+        fallback: u64,
+    ) -> Result<WordBegin, Memory>
+        requires emitting { IsEmitting self.old }
+        requires positive { 0 < rule }
+        requires known { rule ≤ length self.old.actions.now }
+        requires fallback { accepts ≡ false → IsFallback self.old.blocks.items rule fallback × (fallback < length self.old.blocks.items) }
+        ensures emits { OnOk result (Emits self.old self.new) }
+        ensures begins { IfOk result (Begins self.new.blocks.items (items_of items.now) rule accepts) }
+    {
+        if !accepts {
+            return Ok(WordBegin {
+                miss: fallback,
+                keeps: false,
+                fallback,
+            });
+        }
+        let action = self.action_block(alloc, rule)?;
+        if !needs_marker(alloc, items)? {
+            return Ok(WordBegin {
+                miss: action,
+                keeps: false,
+                fallback: action,
+            });
+        }
+        let code = restore_code(alloc, action)?;
+        let fallback = self.emit(code)?;
+        Ok(WordBegin {
+            miss: action,
+            keeps: true,
+            fallback,
+        })
     }
 }
