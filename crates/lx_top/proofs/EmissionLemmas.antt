@@ -32,7 +32,7 @@ Keeps-refl blocks number code at some = at
 pub Keeps-trans : (blocks others more : List CodeBlock) → Keeps blocks others → Keeps others more → Keeps blocks more
 Keeps-trans blocks others more first second number code at some = second number code (first number code at some) some
 
-IsGoodStatement-more : (actions : List (List ℕ)) (blocks more : ℕ) (statement : Stmt) → blocks ≤ more → IsGoodStatement actions blocks statement → IsGoodStatement actions more statement
+pub IsGoodStatement-more : (actions : List (List ℕ)) (blocks more : ℕ) (statement : Stmt) → blocks ≤ more → IsGoodStatement actions blocks statement → IsGoodStatement actions more statement
 IsGoodStatement-more actions blocks more (IfUnit greatest block) le good = (good.0, omega (arith, good.1))
 IsGoodStatement-more actions blocks more (Goto block) le good = omega (arith, good)
 IsGoodStatement-more actions blocks more _ le good = good

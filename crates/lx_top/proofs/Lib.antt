@@ -7,3 +7,5 @@ pub mod ScanLaw
 pub mod ScanSteps
 pub mod ScanTrees
 pub mod Simulation
+pub mod TestLemmas
+pub mod WordLemmas
