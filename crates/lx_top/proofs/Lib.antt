@@ -7,5 +7,6 @@ pub mod ScanLaw
 pub mod ScanSteps
 pub mod ScanTrees
 pub mod Simulation
+pub mod StepLemmas
 pub mod TestLemmas
 pub mod WordLemmas

@@ -85,7 +85,7 @@ test_statements-append : (tests more : List Test) → test_statements (tests ++ 
 test_statements-append [] more = refl
 test_statements-append (test ∷ tests) more = ap (λ rest. IfUnit test.greatest test.block ∷ rest) (test_statements-append tests more)
 
-tests_code-statements : (tests : List Test) (miss : ℕ) → test_statements tests ++ Goto miss ∷ [] ≡ tests_code tests miss
+pub tests_code-statements : (tests : List Test) (miss : ℕ) → test_statements tests ++ Goto miss ∷ [] ≡ tests_code tests miss
 tests_code-statements [] miss = refl
 tests_code-statements (test ∷ tests) miss = ap (λ rest. IfUnit test.greatest test.block ∷ rest) (tests_code-statements tests miss)
 

@@ -6,6 +6,7 @@ use Rattle.std.proofs.lemmas.Bool.{false≢true, ne_eqb, lt-leb, le-leb}
 use Rattle.lx_ccode.specs.declared.piece.Stmt.{Stmt}
 use Rattle.lx_ccode.specs.declared.piece.Stmt.TheVariants.{Peek, Skip, Backup, Restore, IfUnit, Goto, Leave, Code}
 use Rattle.lx_ccode.specs.declared.piece.CodeBlock.{CodeBlock}
+use Rattle.lx_top.specs.declared.emit.WordBegin.{WordBegin}
 use Rattle.lx_top.specs.Scan.{Item, accepted, derived, goes_on}
 use Rattle.lx_top.specs.Serving.{Test, tested, tests_code, code_in, backup, IsActionBlock, IsFallback, Falls, ServesNext, ReadsOn, Stops, ServesBy, Serves}
 use Rattle.lx_top.specs.Emission.{AreBytes, AreItems, Keeps, IsGoodStatement, AreTests, Begins, test_statements, unit_tests}
@@ -91,3 +92,14 @@ Serves-keeps (suc depth) before after keeps items rule accepts number serves = b
         action_block = IsActionBlock-keeps before after rule stops.action keeps stops.action_block;
         code = keeps number (Skip ∷ Goto stops.action ∷ []) stops.code (λ e. cc);
       }
+
+pub Begins-keeps : (before after : List CodeBlock) (items : List Item) (rule : ℕ) (accepts : Bool) (begin : WordBegin) → Keeps before after → length before ≤ length after →
+    Begins before items rule accepts begin → Begins after items rule accepts begin
+Begins-keeps before after items rule accepts begin keeps grows begins = record {
+  falls = Falls-keeps before after rule accepts begin.miss keeps begins.falls;
+  keeps_here = begins.keeps_here;
+  marks = begins.marks;
+  fallback = λ kept. IsFallback-keeps before after rule begin.fallback keeps (begins.fallback kept);
+  within = omega (arith, begins.within, grows);
+  reach = omega (arith, begins.reach, grows);
+}

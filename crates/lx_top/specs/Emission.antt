@@ -12,7 +12,7 @@ use Rattle.lx_top.specs.declared.emit.WordBegin.{WordBegin}
 use Rattle.lx_top.specs.Scan as scan
 use Rattle.lx_top.specs.Scanner.{action_count}
 use Rattle.lx_top.specs.Scan.{accepted, derived}
-use Rattle.lx_top.specs.Serving.{Test, code_in, tested, Falls, IsActionBlock, IsFallback, Serves, ServesNext}
+use Rattle.lx_top.specs.Serving.{Test, backup, code_in, tested, Falls, IsActionBlock, IsFallback, Serves, ServesNext}
 
 -- an item of the code as one of the definitions
 abbrev pub item_of : Item → scan.Item
@@ -105,6 +105,7 @@ pub record Begins (blocks : List CodeBlock) (items : List scan.Item) (rule : ℕ
   pub marks : accepts ≡ true → begin.keeps ≡ false → (unit : ℕ) → unit < 256 → AcceptsNext (derived unit items) (accepted (derived unit items))
   pub fallback : (accepts ≡ true → begin.keeps ≡ true) → IsFallback blocks rule begin.fallback
   pub within : begin.miss < length blocks
+  pub reach : begin.fallback < length blocks
 
 -- the tests as statements
 abbrev pub test_statements : List Test → List Stmt
@@ -129,3 +130,9 @@ abbrev pub unit_tests : (bound unit miss number : ℕ) → List Test
 unit_tests bound unit miss number =
     if nat_lt bound unit then record { greatest = unit - 1; block = miss } ∷ record { greatest = unit; block = number } ∷ []
     else record { greatest = unit; block = number } ∷ []
+
+-- while the units behind a word are tested: what was emitted since the word was begun, where it falls back, and its tests
+pub record TestsWord (before emitter : Emitter) (depth : ℕ) (items : List scan.Item) (rule : ℕ) (accepts : Bool) (begin : WordBegin) (code : List Stmt) (bound unit : ℕ) : Type 0 where
+  pub emits : Emits before emitter
+  pub begins : Begins emitter.blocks.items items rule accepts begin
+  pub tests : AreTests emitter.actions.now depth emitter.blocks.items items rule accepts begin.keeps begin.miss (Skip ∷ backup begin.keeps (Peek ∷ [])) code bound unit

@@ -2,12 +2,12 @@
 //!
 //! A block serves a word that some strings begin with. It is entered with the cursor at the word's last unit, which it takes;
 //! then it tests the next unit, and goes on to the block of the longer word, or to the rule that was accepted last.
-ghost use Rattle.std.specs.Prelude.{◌≡◌, ℕ, suc, ◌<◌, ◌≤◌, List, [], ◌∷◌, ◌++◌, map, vec_len, IfOk, OnOk, Some, None, false, length, slice_get, slice_set};
+ghost use Rattle.std.specs.Prelude.{◌≡◌, ℕ, suc, ◌<◌, ◌≤◌, List, [], ◌∷◌, ◌++◌, map, vec_len, IfOk, OnOk, Some, None, false, true, length, slice_get, slice_set, is_some};
 ghost use Rattle.lx_ccode.specs.declared.piece.CodeBlock.{CodeBlock};
 ghost use Rattle.lx_ccode.specs.declared.piece.Stmt.TheVariants.{Peek, Skip, Restore, Goto, Code};
 ghost use Rattle.lx_top.specs.Emission.{items_of, test_statements, unit_tests, AcceptsNext};
 ghost use Rattle.lx_top.specs.Scan.{accepted, derived, goes_on};
-ghost use Rattle.lx_top.specs.Serving.{IsActionBlock, IsFallback, backup, code_in};
+ghost use Rattle.lx_top.specs.Serving.{IsActionBlock, IsFallback, Serves, backup, code_in, rule_or};
 
 use lx_base::{ByteText, Memory, Sequence};
 use lx_ccode::{CodeBlock, Stmt};
@@ -81,6 +81,31 @@ fn push_block(blocks: &mut Vec<CodeBlock>, statements: Vec<Stmt>) -> Result<u64,
         stmts: Sequence::from_vec(statements),
     })?;
     Ok(number)
+}
+
+/// The rule that was accepted last.
+#[derive(Clone, Copy, Debug)]
+struct LastRule {
+    rule: u32,
+    /// Whether it is accepted behind the present word.
+    accepts: bool,
+}
+
+/// The rule that was accepted last behind a word where these items go on, where it was this one before.
+fn last_rule(items: &[Item<'_>], rule: u32) -> LastRule
+    ensures rule { result.rule ≡ rule_or rule (accepted (items_of items.now)) }
+    ensures accepts { result.accepts ≡ is_some (accepted (items_of items.now)) }
+{
+    match accepted(items) {
+        Some(rule) => LastRule {
+            rule,
+            accepts: true,
+        },
+        None => LastRule {
+            rule,
+            accepts: false,
+        },
+    }
 }
 
 /// Where a word's block goes on where the next unit is not taken.
@@ -178,7 +203,7 @@ fn copied(alloc: Global, texts: &[ByteText], place: usize) -> Result<ByteText, M
 }
 
 impl<'s> Emitter<'s> {
-    ghost use Rattle.lx_top.specs.Emission.{Begins, Emits, IsEmitting, IsPlainBlock};
+    ghost use Rattle.lx_top.specs.Emission.{AreItems, Begins, Emits, IsEmitting, IsPlainBlock};
 
     /// Puts a block without an action behind the others and answers its number.
     fn emit(&mut self, statements: Vec<Stmt>) -> Result<u64, Memory>
@@ -263,5 +288,74 @@ impl<'s> Emitter<'s> {
             keeps: true,
             fallback,
         })
+    }
+
+    /// Emits the block of a word behind which the items go on, and all blocks that it leads to, and answers its number.
+    ///
+    /// The rule is the one that was accepted last, `accepts` says whether it is accepted behind this very word, and if it is
+    /// not, `fallback` is the block by which it is found. The items go on with fewer letters than `depth`.
+    fn emit_word(
+        &mut self,
+        alloc: Global,
+        depth: usize,
+        items: &[Item<'_>],
+        rule: u32,
+        accepts: bool,
+        fallback: u64,
+    ) -> Result<u64, Memory>
+        requires emitting { IsEmitting self.old }
+        requires positive { 0 < rule }
+        requires known { rule ≤ length self.old.actions.now }
+        requires fallback { accepts ≡ false → IsFallback self.old.blocks.items rule fallback × (fallback < length self.old.blocks.items) }
+        requires depth { 0 < depth }
+        requires items { AreItems depth (suc (length self.old.actions.now)) (items_of items.now) }
+        requires stops { goes_on (items_of items.now) ≡ false → accepts ≡ true }
+        ensures emits { OnOk result (Emits self.old self.new) }
+        ensures serves { IfOk result (Serves depth self.new.blocks.items (items_of items.now) rule accepts) }
+        ensures last { IfOk result (λ number. number < length self.new.blocks.items) }
+    {
+        if !goes_on(items) {
+            return self.emit_stop(alloc, depth, items, rule, accepts);
+        }
+        let begin = self.begin_word(alloc, items, rule, accepts, fallback)?;
+        let mut code = read_code(alloc, begin.keeps)?;
+        let mut bound = 0;
+        for unit in 0..256 {
+            let next = derived(alloc, items, unit)?;
+            if !next.is_empty() {
+                let last = last_rule(&next, rule);
+                let number = self.emit_word(alloc, depth - 1, &next, last.rule, last.accepts, begin.fallback)?;
+                push_tests(&mut code, bound, unit, begin.miss, number)?;
+                bound = unit + 1;
+            }
+        }
+        code.push(Stmt::Goto(begin.miss))?;
+        let number = self.emit(code)?;
+        Ok(number)
+    }
+
+    /// The block of a word behind which no item goes on.
+    fn emit_stop(
+        &mut self,
+        alloc: Global,
+        depth: usize,
+        items: &[Item<'_>],
+        rule: u32,
+        accepts: bool,
+    ) -> Result<u64, Memory>
+        requires emitting { IsEmitting self.old }
+        requires positive { 0 < rule }
+        requires known { rule ≤ length self.old.actions.now }
+        requires depth { 0 < depth }
+        requires stops { goes_on (items_of items.now) ≡ false }
+        requires accepts { accepts ≡ true }
+        ensures emits { OnOk result (Emits self.old self.new) }
+        ensures serves { IfOk result (Serves depth self.new.blocks.items (items_of items.now) rule accepts) }
+        ensures last { IfOk result (λ number. number < length self.new.blocks.items) }
+    {
+        let action = self.action_block(alloc, rule)?;
+        let code = skip_code(alloc, action)?;
+        let number = self.emit(code)?;
+        Ok(number)
     }
 }
