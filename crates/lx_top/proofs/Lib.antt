@@ -1,6 +1,7 @@
 pub mod CompileLemmas
 pub mod EndingLemmas
 pub mod PutLemmas
+pub mod ReadingLemmas
 pub mod ReportLemmas
 pub mod ScanLaw
 pub mod ScanSteps

@@ -5,6 +5,7 @@ mod compile;
 pub mod endings;
 pub mod laws;
 pub mod puts;
+mod quoted;
 mod report;
 pub mod run;
 mod sources;
