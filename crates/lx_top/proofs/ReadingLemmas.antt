@@ -367,6 +367,7 @@ source_at-append source rules action =
 
 -- a text that is short and has one opener is read from it
 quoted_of-once : (text : List ℕ) → length text ≤ 4000 → opener_count text ≡ 1 → quoted_of text ≡ source_at (opener_place text) text
+unfolding quoted_of
 quoted_of-once text short once =
     let fits : nat_le (length text) 4000 ≡ true = grind (arith, nat_tests) in
     let one : (opener_count text == 1) ≡ true = rw once refl in
@@ -385,6 +386,7 @@ quoted_of-source_text source quoted =
 
 -- what is read is a source of quoted strings, and the text is its text
 pub quoted_of-some : (text : List ℕ) (source : QuotedSource) → quoted_of text ≡ Some source → IsQuoted source × (text ≡ source_text source)
+unfolding quoted_of
 quoted_of-some text source is =
     let short = chosen (nat_le (length text) 4000) (if opener_count text == 1 then source_at (opener_place text) text else None) source is in
     let once = chosen (opener_count text == 1) (source_at (opener_place text) text) source short.1 in

@@ -86,7 +86,7 @@ source_at place text = do
   source_with (take place text) lines
 
 -- the source of quoted strings that is spelled so, if one is
-abbrev pub quoted_of : List ℕ → Option QuotedSource
+unfoldable pub quoted_of : List ℕ → Option QuotedSource
 quoted_of text =
     if nat_le (length text) 4000 then (if opener_count text == 1 then source_at (opener_place text) text else None) else None
 

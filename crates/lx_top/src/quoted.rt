@@ -38,6 +38,7 @@ pub struct SourceParts<'s> {
 /// line for each rule, as `"if" { return 1; }`, and a last one for the rule `*`.
 ///
 /// `Memory` comes where there is no memory for the list of the rules.
+#[tactic(auto, unfolding(crate::specs::Reading::quoted_of))]
 pub fn read_quoted<'s>(alloc: Global, source: &'s [u8]) -> Result<Option<SourceParts<'s>>, Memory>
     ensures read { IfOk result (λ read. MatchOption read
         ((quoted : QuotedSource) → IsQuoted quoted → source.now ≡ source_text quoted → ⊥)
