@@ -5,6 +5,7 @@ pub mod Outside
 pub mod Output
 pub mod Puts
 pub mod Quoted
+pub mod Reading
 pub mod Scan
 pub mod Scanner
 pub mod Serving

@@ -6,6 +6,7 @@ mod emit;
 pub mod endings;
 pub mod laws;
 pub mod puts;
+mod quoted;
 mod report;
 pub mod run;
 mod sources;
