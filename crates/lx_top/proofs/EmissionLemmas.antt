@@ -13,7 +13,7 @@ use Rattle.lx_top.specs.Scanner.{action_count}
 use Rattle.lx_top.specs.Serving.{code_in, IsActionBlock}
 
 -- a block keeps its place
-code_in-append : (blocks more : List CodeBlock) (number : ℕ) (code : List Stmt) → code_in blocks number ≡ Some code → code_in (blocks ++ more) number ≡ Some code
+pub code_in-append : (blocks more : List CodeBlock) (number : ℕ) (code : List Stmt) → code_in blocks number ≡ Some code → code_in (blocks ++ more) number ≡ Some code
 code_in-append [] more number code at = absurd (let h = at in cc)
 code_in-append (block ∷ blocks) more zero code at = at
 code_in-append (block ∷ blocks) more (suc number) code at = code_in-append blocks more number code at
@@ -22,6 +22,10 @@ code_in-append (block ∷ blocks) more (suc number) code at = code_in-append blo
 pub code_in-end : (blocks : List CodeBlock) (block : CodeBlock) → code_in (blocks ++ block ∷ []) (length blocks) ≡ Some block.stmts
 code_in-end [] block = refl
 code_in-end (other ∷ blocks) block = code_in-end blocks block
+
+-- the first block keeps its code behind others
+pub waits_append : (blocks after : List CodeBlock) (block : CodeBlock) → after ≡ blocks ++ block ∷ [] → code_in blocks 0 ≡ Some (Leave ∷ []) → code_in after 0 ≡ Some (Leave ∷ [])
+waits_append blocks after block e waits = ap (λ after. code_in after 0) e ∙ code_in-append blocks (block ∷ []) 0 (Leave ∷ []) waits
 
 pub Keeps-append : (blocks more : List CodeBlock) → Keeps blocks (blocks ++ more)
 Keeps-append blocks more number code at some = code_in-append blocks more number code at

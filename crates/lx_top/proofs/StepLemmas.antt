@@ -13,10 +13,10 @@ use Rattle.lx_top.specs.declared.emit.WordBegin.{WordBegin}
 use Rattle.lx_top.specs.Scan.{Item, accepted, derived, goes_on}
 use Rattle.lx_top.specs.Scanner.{action_count}
 use Rattle.lx_top.specs.Serving.{Test, backup, code_in, tested, tests_code, rule_or, IsFallback, ServesNext, ServesBy, Serves, ReadsOn}
-use Rattle.lx_top.specs.Emission.{items_of, AreItems, AcceptsNext, Begins, Emits, IsEmitting, Keeps, IsGoodStatement, IsGoodBlock, IsPlainBlock, AreTests, TestsWord, test_statements, unit_tests}
+use Rattle.lx_top.specs.Emission.{items_of, AreItems, AcceptsNext, Begins, Emits, IsEmitting, Keeps, IsGoodStatement, IsGoodBlock, IsPlainBlock, AreTests, LeadsOn, LeadsIn, TestsWord, TestsStart, test_statements, unit_tests}
 use Rattle.lx_top.proofs.EmissionLemmas.{AllByRecursion-append, Keeps-trans}
-use Rattle.lx_top.proofs.WordLemmas.{AreItems-derived, accepted-known, accepted-none, Serves-keeps, Begins-keeps}
-use Rattle.lx_top.proofs.TestLemmas.{AreTests-start, AreTests-skip, AreTests-keeps, AreTests-add, AreTests-all, tests_code-statements}
+use Rattle.lx_top.proofs.WordLemmas.{AreItems-derived, accepted-known, accepted-none, ServesNext-keeps, Serves-keeps, Begins-keeps}
+use Rattle.lx_top.proofs.TestLemmas.{MissesTo, AreTests-start, AreTests-skip, AreTests-keeps, AreTests-add, AreTests-all, tests_code-statements}
 
 -- one emission behind another
 pub Emits-trans : (before middle after : Emitter) → Emits before middle → Emits middle after → Emits before after
@@ -24,6 +24,7 @@ Emits-trans before middle after first second = record {
   actions = second.actions ∙ first.actions;
   grows = omega (arith, first.grows, second.grows);
   keeps = Keeps-trans before.blocks.items middle.blocks.items after.blocks.items first.keeps second.keeps;
+  waits = λ waits. second.waits (first.waits waits);
   emitting = second.emitting;
 }
 
@@ -35,14 +36,27 @@ pub TestsWord-start : (before emitter : Emitter) (depth : ℕ) (items : List Ite
     Begins emitter.blocks.items items rule accepts begin → code ≡ front_of begin → TestsWord before emitter depth items rule accepts begin code 0 0
 TestsWord-start before emitter depth items rule accepts begin code emits begins is =
     let P : List Stmt → Type 0 = λ code. TestsWord before emitter depth items rule accepts begin code 0 0 in
-    subst P (sym is) (record { emits = emits; begins = begins; tests = AreTests-start emitter.actions.now depth items rule accepts begin.keeps begin.miss (front_of begin) emitter.blocks.items })
+    subst P (sym is) (record { emits = emits; begins = begins; tests = AreTests-start emitter.actions.now items begin.miss (front_of begin) emitter.blocks.items (LeadsOn depth emitter.blocks.items items rule accepts begin.keeps begin.miss) })
+
+-- behind a word a unit that is not taken leads to the block of the others
+misses_on : (depth : ℕ) (blocks : List CodeBlock) (items : List Item) (rule : ℕ) (accepts keeps : Bool) (miss : ℕ) → MissesTo items miss (LeadsOn depth blocks items rule accepts keeps miss)
+misses_on depth blocks items rule accepts keeps miss unit none = subst (λ items. ServesNext (Serves depth blocks) items (accepted items) rule accepts keeps miss miss) (sym none) refl
+
+-- the tests behind a word, after further emissions
+word_tests_kept : (emitter after : Emitter) (depth : ℕ) (items : List Item) (rule : ℕ) (accepts : Bool) (begin : WordBegin) (code : List Stmt) (bound unit : ℕ) → Emits emitter after →
+    AreTests emitter.actions.now emitter.blocks.items (LeadsOn depth emitter.blocks.items items rule accepts begin.keeps begin.miss) items begin.miss (front_of begin) code bound unit →
+    AreTests emitter.actions.now after.blocks.items (LeadsOn depth after.blocks.items items rule accepts begin.keeps begin.miss) items begin.miss (front_of begin) code bound unit
+word_tests_kept emitter after depth items rule accepts begin code bound unit emits tests =
+    AreTests-keeps emitter.actions.now items begin.miss (front_of begin) emitter.blocks.items after.blocks.items (LeadsOn depth emitter.blocks.items items rule accepts begin.keeps begin.miss) (LeadsOn depth after.blocks.items items rule accepts begin.keeps begin.miss)
+        code bound unit (λ given number. ServesNext-keeps (Serves depth emitter.blocks.items) (Serves depth after.blocks.items) (Serves-keeps depth emitter.blocks.items after.blocks.items emits.keeps) (derived given items) (accepted (derived given items)) rule accepts begin.keeps begin.miss number)
+        emits.grows tests
 
 pub TestsWord-skip : (before emitter : Emitter) (depth : ℕ) (items : List Item) (rule : ℕ) (accepts : Bool) (begin : WordBegin) (code : List Stmt) (bound unit : ℕ) → derived unit items ≡ [] →
     TestsWord before emitter depth items rule accepts begin code bound unit → TestsWord before emitter depth items rule accepts begin code bound (unit + 1)
 TestsWord-skip before emitter depth items rule accepts begin code bound unit none so =
     let P : ℕ → Type 0 = λ unit. TestsWord before emitter depth items rule accepts begin code bound unit in
     let next : suc unit ≡ unit + 1 = omega arith in
-    subst P next (record { emits = so.emits; begins = so.begins; tests = AreTests-skip emitter.actions.now depth items rule accepts begin.keeps begin.miss (front_of begin) emitter.blocks.items code bound unit none so.tests })
+    subst P next (record { emits = so.emits; begins = so.begins; tests = AreTests-skip emitter.actions.now items begin.miss (front_of begin) emitter.blocks.items (LeadsOn depth emitter.blocks.items items rule accepts begin.keeps begin.miss) code bound unit none so.tests })
 
 -- the block of the longer word serves it
 serves_next : (depth : ℕ) (blocks : List CodeBlock) (items : List Item) (rule : ℕ) (accepts keeps : Bool) (miss number : ℕ) → (items ≡ [] → ⊥) → (accepted items ≡ None → accepts ≡ true → keeps ≡ true) →
@@ -76,14 +90,13 @@ pub TestsWord-add : (before emitter after : Emitter) (depth : ℕ) (items : List
     TestsWord before emitter depth items rule accepts begin code bound unit → TestsWord before after depth items rule accepts begin more (unit + 1) (unit + 1)
 TestsWord-add before emitter after depth items rule accepts begin code more bound unit number small some emits within serves e so =
     let begins = Begins-keeps emitter.blocks.items after.blocks.items items rule accepts begin emits.keeps emits.grows so.begins in
-    let kept : AreTests emitter.actions.now depth after.blocks.items items rule accepts begin.keeps begin.miss (front_of begin) code bound unit =
-        AreTests-keeps emitter.actions.now depth items rule accepts begin.keeps begin.miss (front_of begin) emitter.blocks.items after.blocks.items code bound unit emits.keeps emits.grows so.tests in
+    let kept = word_tests_kept emitter after depth items rule accepts begin code bound unit emits so.tests in
     let next : ServesNext (Serves depth after.blocks.items) (derived unit items) (accepted (derived unit items)) rule accepts begin.keeps begin.miss number =
         serves_next depth after.blocks.items (derived unit items) rule accepts begin.keeps begin.miss number some (λ none. marks_kept after.blocks.items items rule accepts begin unit begins small some none) serves in
-    let added : AreTests emitter.actions.now depth after.blocks.items items rule accepts begin.keeps begin.miss (front_of begin) more (suc unit) (suc unit) =
-        AreTests-add emitter.actions.now depth items rule accepts begin.keeps begin.miss (front_of begin) after.blocks.items code more bound unit number small begins.within within next e kept in
+    let added = AreTests-add emitter.actions.now items begin.miss (front_of begin) after.blocks.items (LeadsOn depth after.blocks.items items rule accepts begin.keeps begin.miss) code more bound unit number
+        (misses_on depth after.blocks.items items rule accepts begin.keeps begin.miss) small begins.within within next e kept in
     let P : ℕ → Type 0 = λ unit. TestsWord before after depth items rule accepts begin more unit unit in
-    let Q : List (List ℕ) → Type 0 = λ actions. AreTests actions depth after.blocks.items items rule accepts begin.keeps begin.miss (front_of begin) more (suc unit) (suc unit) in
+    let Q : List (List ℕ) → Type 0 = λ actions. AreTests actions after.blocks.items (LeadsOn depth after.blocks.items items rule accepts begin.keeps begin.miss) items begin.miss (front_of begin) more (suc unit) (suc unit) in
     let is : suc unit ≡ unit + 1 = omega arith in
     subst P is (record { emits = Emits-trans before emitter after so.emits emits; begins = begins; tests = subst Q (sym emits.actions) added })
 
@@ -204,8 +217,7 @@ pub TestsWord-serves : (before emitter after : Emitter) (depth rules : ℕ) (ite
     Serves (suc depth) after.blocks.items items rule accepts number
 TestsWord-serves before emitter after depth rules items rule accepts begin code more bound number are on e emits at so =
     let begins = Begins-keeps emitter.blocks.items after.blocks.items items rule accepts begin emits.keeps emits.grows so.begins in
-    let kept : AreTests emitter.actions.now depth after.blocks.items items rule accepts begin.keeps begin.miss (front_of begin) code bound 256 =
-        AreTests-keeps emitter.actions.now depth items rule accepts begin.keeps begin.miss (front_of begin) emitter.blocks.items after.blocks.items code bound 256 emits.keeps emits.grows so.tests in
+    let kept = word_tests_kept emitter after depth items rule accepts begin code bound 256 emits so.tests in
     let reads : ReadsOn (Serves depth after.blocks.items) after.blocks.items items rule accepts number = record {
       keeps = begin.keeps;
       tests = kept.tests;
@@ -213,7 +225,8 @@ TestsWord-serves before emitter after depth rules items rule accepts begin code 
       code = at ∙ ap Some (code_of_tests begin code more kept.tests kept.code_is e);
       falls = begins.falls;
       keeps_here = begins.keeps_here;
-      next = AreTests-all emitter.actions.now depth items rule accepts begin.keeps begin.miss (front_of begin) after.blocks.items code bound rules are kept;
+      next = AreTests-all emitter.actions.now items begin.miss (front_of begin) after.blocks.items (LeadsOn depth after.blocks.items items rule accepts begin.keeps begin.miss) code bound (suc depth) rules
+          (misses_on depth after.blocks.items items rule accepts begin.keeps begin.miss) are kept;
     } in
     subst (λ on. ServesBy on (Serves depth after.blocks.items) after.blocks.items items rule accepts number) (sym on) reads
 

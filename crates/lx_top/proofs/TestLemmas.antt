@@ -91,40 +91,41 @@ tests_code-statements (test ∷ tests) miss = ap (λ rest. IfUnit test.greatest 
 
 -- ---- the tests so far
 
-module _ (actions : List (List ℕ)) (depth : ℕ) (items : List Item) (rule : ℕ) (accepts keeps : Bool) (miss : ℕ) (front : List Stmt) where
-  abbrev So : List CodeBlock → (code : List Stmt) → (bound unit : ℕ) → Type 0
-  So blocks code bound unit = AreTests actions depth blocks items rule accepts keeps miss front code bound unit
+-- a unit that is not taken leads to the block of the others
+abbrev pub MissesTo : List Item → (miss : ℕ) → (Leads : ℕ → ℕ → Type 0) → Type 0
+MissesTo items miss Leads = (unit : ℕ) → derived unit items ≡ [] → Leads unit miss
 
-  abbrev Next : List CodeBlock → (unit number : ℕ) → Type 0
-  Next blocks unit number = ServesNext (Serves depth blocks) (derived unit items) (accepted (derived unit items)) rule accepts keeps miss number
+module _ (actions : List (List ℕ)) (items : List Item) (miss : ℕ) (front : List Stmt) where
+  abbrev So : List CodeBlock → (Leads : ℕ → ℕ → Type 0) → (code : List Stmt) → (bound unit : ℕ) → Type 0
+  So blocks Leads code bound unit = AreTests actions blocks Leads items miss front code bound unit
 
   -- what tests say of a unit, whichever tests follow
   abbrev ValueOf : (tests : List Test) → (given found : ℕ) → Type 0
   ValueOf tests given found = (more : List Test) → tested (tests ++ more) miss given ≡ found
 
   -- before the first unit
-  pub AreTests-start : (blocks : List CodeBlock) → So blocks front 0 0
-  AreTests-start blocks = record {
+  pub AreTests-start : (blocks : List CodeBlock) (Leads : ℕ → ℕ → Type 0) → So blocks Leads front 0 0
+  AreTests-start blocks Leads = record {
     tests = [];
     code_is = sym (append-nil front);
     below = omega arith;
     decided = λ given low more. absurd (omega (arith, low));
     undecided = λ given high more. refl;
-    serves = λ given low. absurd (omega (arith, low));
+    leads = λ given low. absurd (omega (arith, low));
     none = λ given high low. absurd (omega (arith, low));
     good = tt;
     few = omega arith;
   }
 
   -- a unit that is not taken
-  pub AreTests-skip : (blocks : List CodeBlock) (code : List Stmt) (bound unit : ℕ) → derived unit items ≡ [] → So blocks code bound unit → So blocks code bound (suc unit)
-  AreTests-skip blocks code bound unit none so = record {
+  pub AreTests-skip : (blocks : List CodeBlock) (Leads : ℕ → ℕ → Type 0) (code : List Stmt) (bound unit : ℕ) → derived unit items ≡ [] → So blocks Leads code bound unit → So blocks Leads code bound (suc unit)
+  AreTests-skip blocks Leads code bound unit none so = record {
     tests = so.tests;
     code_is = so.code_is;
     below = omega (arith, so.below);
     decided = so.decided;
     undecided = so.undecided;
-    serves = so.serves;
+    leads = so.leads;
     none = λ given high low. by given high (eq-or-lt_of_le (omega (arith, low)));
     good = so.good;
     few = so.few;
@@ -135,29 +136,30 @@ module _ (actions : List (List ℕ)) (depth : ℕ) (items : List Item) (rule : �
       by given high (inr low) = so.none given high low
 
   -- further emissions
-  pub AreTests-keeps : (blocks after : List CodeBlock) (code : List Stmt) (bound unit : ℕ) → Keeps blocks after → length blocks ≤ length after → So blocks code bound unit → So after code bound unit
-  AreTests-keeps blocks after code bound unit stays grows so = record {
+  pub AreTests-keeps : (blocks after : List CodeBlock) (Leads Leads' : ℕ → ℕ → Type 0) (code : List Stmt) (bound unit : ℕ) → ((unit number : ℕ) → Leads unit number → Leads' unit number) → length blocks ≤ length after →
+      So blocks Leads code bound unit → So after Leads' code bound unit
+  AreTests-keeps blocks after Leads Leads' code bound unit lead grows so = record {
     tests = so.tests;
     code_is = so.code_is;
     below = so.below;
     decided = so.decided;
     undecided = so.undecided;
-    serves = λ given low. ServesNext-keeps (Serves depth blocks) (Serves depth after) (Serves-keeps depth blocks after stays) (derived given items) (accepted (derived given items)) rule accepts keeps miss (tested so.tests miss given) (so.serves given low);
+    leads = λ given low. lead given (tested so.tests miss given) (so.leads given low);
     none = so.none;
     good = AllByRecursion-map (IsGoodStatement actions (length blocks)) (IsGoodStatement actions (length after)) (λ statement. IsGoodStatement-more actions (length blocks) (length after) statement grows) (test_statements so.tests) so.good;
     few = so.few;
   }
 
   -- a unit that is taken
-  pub AreTests-add : (blocks : List CodeBlock) (code more : List Stmt) (bound unit number : ℕ) → unit < 256 → miss < length blocks → number < length blocks → Next blocks unit number →
-      more ≡ code ++ test_statements (unit_tests bound unit miss number) → So blocks code bound unit → So blocks more (suc unit) (suc unit)
-  AreTests-add blocks code more bound unit number small inside within serves e so = record {
+  pub AreTests-add : (blocks : List CodeBlock) (Leads : ℕ → ℕ → Type 0) (code more : List Stmt) (bound unit number : ℕ) → MissesTo items miss Leads → unit < 256 → miss < length blocks → number < length blocks → Leads unit number →
+      more ≡ code ++ test_statements (unit_tests bound unit miss number) → So blocks Leads code bound unit → So blocks Leads more (suc unit) (suc unit)
+  AreTests-add blocks Leads code more bound unit number misses small inside within lead e so = record {
     tests = tests;
     code_is = e ∙ ap (λ code. code ++ test_statements added) so.code_is ∙ append_assoc front (test_statements so.tests) (test_statements added) ∙ ap (λ rest. front ++ rest) (sym (test_statements-append so.tests added));
     below = omega arith;
     decided = decides;
     undecided = λ given high more. ap (λ tests. tested tests miss given) (append_assoc so.tests added more) ∙ so.undecided given (omega (arith, so.below, high)) (added ++ more) ∙ tested-high bound unit miss number given more (omega (arith, high));
-    serves = serving;
+    leads = leading;
     none = λ given high low. absurd (omega (arith, high, low));
     good = subst (λ statements. AllByRecursion (IsGoodStatement actions (length blocks)) statements) (sym (test_statements-append so.tests added))
         (AllByRecursion-append (IsGoodStatement actions (length blocks)) (test_statements so.tests) (test_statements added) so.good (good-unit_tests actions (length blocks) bound unit miss number small inside within));
@@ -183,18 +185,15 @@ module _ (actions : List (List ℕ)) (depth : ℕ) (items : List Item) (rule : �
       unit_value given is more = ap (λ given. tested (tests ++ more) miss given) is ∙ pass unit so.below more ∙ tested-at bound unit miss number more
 
       -- each unit up to the one that was added has a value, which serves it
-      valued : (given : ℕ) → given < suc unit → (found : ℕ) × ValueOf (so.tests ++ added) given found × Next blocks given found
+      valued : (given : ℕ) → given < suc unit → (found : ℕ) × ValueOf (so.tests ++ added) given found × Leads given found
       valued given low = by (lt_or_le given bound)
         where
-          at : bound ≤ given → (given ≡ unit) ⊎ (given < unit) → (found : ℕ) × ValueOf (so.tests ++ added) given found × Next blocks given found
-          at high (inl is) = (number, unit_value given is, subst (λ given. Next blocks given number) (sym is) serves)
-          at high (inr less) = (miss, between_value given high less, nothing (so.none given high less))
-            where
-              nothing : derived given items ≡ [] → Next blocks given miss
-              nothing none = subst (λ items. ServesNext (Serves depth blocks) items (accepted items) rule accepts keeps miss miss) (sym none) refl
+          at : bound ≤ given → (given ≡ unit) ⊎ (given < unit) → (found : ℕ) × ValueOf (so.tests ++ added) given found × Leads given found
+          at high (inl is) = (number, unit_value given is, subst (λ given. Leads given number) (sym is) lead)
+          at high (inr less) = (miss, between_value given high less, misses given (so.none given high less))
 
-          by : (given < bound) ⊎ (bound ≤ given) → (found : ℕ) × ValueOf (so.tests ++ added) given found × Next blocks given found
-          by (inl less) = (tested so.tests miss given, low_value given less, so.serves given less)
+          by : (given < bound) ⊎ (bound ≤ given) → (found : ℕ) × ValueOf (so.tests ++ added) given found × Leads given found
+          by (inl less) = (tested so.tests miss given, low_value given less, so.leads given less)
           by (inr high) = at high (eq-or-lt_of_le (omega (arith, low)))
 
       whole : (given found : ℕ) → ValueOf (so.tests ++ added) given found → tested tests miss given ≡ found
@@ -203,28 +202,25 @@ module _ (actions : List (List ℕ)) (depth : ℕ) (items : List Item) (rule : �
       decides : (given : ℕ) → given < suc unit → (more : List Test) → tested (tests ++ more) miss given ≡ tested tests miss given
       decides given low more = let v = valued given low in v.1 more ∙ sym (whole given v.0 v.1)
 
-      serving : (given : ℕ) → given < suc unit → Next blocks given (tested tests miss given)
-      serving given low = let v = valued given low in subst (λ number. Next blocks given number) (sym (whole given v.0 v.1)) v.2
+      leading : (given : ℕ) → given < suc unit → Leads given (tested tests miss given)
+      leading given low = let v = valued given low in subst (λ number. Leads given number) (sym (whole given v.0 v.1)) v.2
 
       fewness : (length added ≤ 2 * (suc unit - bound)) ⊎ (unit < bound) → length tests ≤ 2 * suc unit
       fewness (inl few) = omega (arith, few, so.few, so.below, length-append so.tests added)
       fewness (inr high) = absurd (omega (arith, high, so.below))
 
   -- behind the last unit the tests serve every unit, and the block is whole
-  pub AreTests-all : (blocks : List CodeBlock) (code : List Stmt) (bound rules : ℕ) → AreItems (suc depth) rules items → (so : So blocks code bound 256) →
-      (unit : ℕ) → Next blocks unit (tested so.tests miss unit)
-  AreTests-all blocks code bound rules are so unit = by (lt_or_le unit bound)
+  pub AreTests-all : (blocks : List CodeBlock) (Leads : ℕ → ℕ → Type 0) (code : List Stmt) (bound depth rules : ℕ) → MissesTo items miss Leads → AreItems depth rules items → (so : So blocks Leads code bound 256) →
+      (unit : ℕ) → Leads unit (tested so.tests miss unit)
+  AreTests-all blocks Leads code bound depth rules misses are so unit = by (lt_or_le unit bound)
     where
-      missed : bound ≤ unit → tested so.tests miss unit ≡ miss
-      missed high = ap (λ tests. tested tests miss unit) (sym (append-nil so.tests)) ∙ so.undecided unit high []
+      missed : bound ≤ unit → derived unit items ≡ [] → Leads unit (tested so.tests miss unit)
+      missed high none = subst (λ number. Leads unit number) (sym (ap (λ tests. tested tests miss unit) (sym (append-nil so.tests)) ∙ so.undecided unit high [])) (misses unit none)
 
-      nothing : (found : ℕ) → found ≡ miss → derived unit items ≡ [] → Next blocks unit found
-      nothing found is none = subst (λ items. ServesNext (Serves depth blocks) items (accepted items) rule accepts keeps miss found) (sym none) is
+      at : bound ≤ unit → (unit < 256) ⊎ (256 ≤ unit) → Leads unit (tested so.tests miss unit)
+      at high (inl small) = missed high (so.none unit high small)
+      at high (inr large) = missed high (derived-high depth rules unit items are large)
 
-      at : bound ≤ unit → (unit < 256) ⊎ (256 ≤ unit) → Next blocks unit (tested so.tests miss unit)
-      at high (inl small) = nothing (tested so.tests miss unit) (missed high) (so.none unit high small)
-      at high (inr large) = nothing (tested so.tests miss unit) (missed high) (derived-high (suc depth) rules unit items are large)
-
-      by : (unit < bound) ⊎ (bound ≤ unit) → Next blocks unit (tested so.tests miss unit)
-      by (inl low) = so.serves unit low
+      by : (unit < bound) ⊎ (bound ≤ unit) → Leads unit (tested so.tests miss unit)
+      by (inl low) = so.leads unit low
       by (inr high) = at high (lt_or_le unit 256)

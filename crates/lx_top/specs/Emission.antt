@@ -12,7 +12,7 @@ use Rattle.lx_top.specs.declared.emit.WordBegin.{WordBegin}
 use Rattle.lx_top.specs.Scan as scan
 use Rattle.lx_top.specs.Scanner.{action_count}
 use Rattle.lx_top.specs.Scan.{accepted, derived}
-use Rattle.lx_top.specs.Serving.{Test, backup, code_in, tested, Falls, IsActionBlock, IsFallback, Serves, ServesNext}
+use Rattle.lx_top.specs.Serving.{Test, backup, code_in, tested, Falls, IsActionBlock, IsFallback, Serves, ServesNext, rule_or}
 
 -- an item of the code as one of the definitions
 abbrev pub item_of : Item → scan.Item
@@ -79,11 +79,12 @@ Keeps before after =
 abbrev pub IsEmitting : Emitter → Type 0
 IsEmitting emitter = IsEmission emitter.actions.now emitter.blocks.items emitter.action_blocks.items
 
--- a further emission: the actions are the same, and the blocks stay
+-- a further emission: the actions are the same, and the blocks stay, also one for the start that still waits for its code
 pub record Emits (before after : Emitter) : Type 0 where
   pub actions : after.actions.now ≡ before.actions.now
   pub grows : length before.blocks.items ≤ length after.blocks.items
   pub keeps : Keeps before.blocks.items after.blocks.items
+  pub waits : code_in before.blocks.items 0 ≡ Some (Leave ∷ []) → code_in after.blocks.items 0 ≡ Some (Leave ∷ [])
   pub emitting : IsEmitting after
 
 -- a block of these statements, which has no action, may be emitted
@@ -113,17 +114,27 @@ test_statements [] = []
 test_statements (test ∷ tests) = IfUnit test.greatest test.block ∷ test_statements tests
 
 -- The tests so far, behind other code: they decide the units below one bound, and no unit from there up to the next one is
--- taken.
-pub record AreTests (actions : List (List ℕ)) (depth : ℕ) (blocks : List CodeBlock) (items : List scan.Item) (rule : ℕ) (accepts keeps : Bool) (miss : ℕ) (front code : List Stmt) (bound unit : ℕ) : Type 0 where
+-- taken. `Leads unit number` says that a block is one to which the unit may lead.
+pub record AreTests (actions : List (List ℕ)) (blocks : List CodeBlock) (Leads : ℕ → ℕ → Type 0) (items : List scan.Item) (miss : ℕ) (front code : List Stmt) (bound unit : ℕ) : Type 0 where
   pub tests : List Test
   pub code_is : code ≡ front ++ test_statements tests
   pub below : bound ≤ unit
   pub decided : (given : ℕ) → given < bound → (more : List Test) → tested (tests ++ more) miss given ≡ tested tests miss given
   pub undecided : (given : ℕ) → bound ≤ given → (more : List Test) → tested (tests ++ more) miss given ≡ tested more miss given
-  pub serves : (given : ℕ) → given < bound → ServesNext (Serves depth blocks) (derived given items) (accepted (derived given items)) rule accepts keeps miss (tested tests miss given)
+  pub leads : (given : ℕ) → given < bound → Leads given (tested tests miss given)
   pub none : (given : ℕ) → bound ≤ given → given < unit → derived given items ≡ []
   pub good : AllByRecursion (IsGoodStatement actions (length blocks)) (test_statements tests)
   pub few : length tests ≤ 2 * bound
+
+-- the block to which a unit may lead behind a word
+abbrev pub LeadsOn : (depth : ℕ) → List CodeBlock → List scan.Item → (rule : ℕ) → (accepts keeps : Bool) → (miss unit number : ℕ) → Type 0
+LeadsOn depth blocks items rule accepts keeps miss unit number =
+    ServesNext (Serves depth blocks) (derived unit items) (accepted (derived unit items)) rule accepts keeps miss number
+
+-- the block to which a unit may lead at the start, where `*` is accepted behind each unit
+abbrev pub LeadsIn : (depth : ℕ) → List CodeBlock → List scan.Item → (default : ℕ) → (unit number : ℕ) → Type 0
+LeadsIn depth blocks items default unit number =
+    Serves depth blocks (derived unit items) (rule_or default (accepted (derived unit items))) true number
 
 -- the tests of the units between one bound and a unit that is taken, and of this unit
 abbrev pub unit_tests : (bound unit miss number : ℕ) → List Test
@@ -135,4 +146,11 @@ unit_tests bound unit miss number =
 pub record TestsWord (before emitter : Emitter) (depth : ℕ) (items : List scan.Item) (rule : ℕ) (accepts : Bool) (begin : WordBegin) (code : List Stmt) (bound unit : ℕ) : Type 0 where
   pub emits : Emits before emitter
   pub begins : Begins emitter.blocks.items items rule accepts begin
-  pub tests : AreTests emitter.actions.now depth emitter.blocks.items items rule accepts begin.keeps begin.miss (Skip ∷ backup begin.keeps (Peek ∷ [])) code bound unit
+  pub tests : AreTests emitter.actions.now emitter.blocks.items (LeadsOn depth emitter.blocks.items items rule accepts begin.keeps begin.miss) items begin.miss (Skip ∷ backup begin.keeps (Peek ∷ [])) code bound unit
+
+-- while the units at the start are tested: what was emitted since, the block of the units that begin no string, and the tests
+pub record TestsStart (before emitter : Emitter) (depth : ℕ) (items : List scan.Item) (default miss : ℕ) (code : List Stmt) (bound unit : ℕ) : Type 0 where
+  pub emits : Emits before emitter
+  pub other : Serves depth emitter.blocks.items [] default true miss
+  pub within : miss < length emitter.blocks.items
+  pub tests : AreTests emitter.actions.now emitter.blocks.items (LeadsIn depth emitter.blocks.items items default) items miss (Peek ∷ []) code bound unit
