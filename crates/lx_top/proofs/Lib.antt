@@ -1,6 +1,7 @@
 pub mod CompileLemmas
 pub mod EmissionLemmas
 pub mod EndingLemmas
+pub mod LetterLemmas
 pub mod PutLemmas
 pub mod ReadingLemmas
 pub mod ReportLemmas

@@ -32,6 +32,20 @@ AreItems depth rules [] = Unit {0}
 AreItems depth rules (item ∷ items) =
     ((length item.rest < depth) × AreBytes item.rest × (0 < item.rule) × (item.rule < rules)) × AreItems depth rules items
 
+-- how many letters the items go on with
+abbrev pub letters : List scan.Item → ℕ
+letters [] = 0
+letters (item ∷ items) = length item.rest + letters items
+
+abbrev pub letters_after : (unit : ℕ) → List ℕ → ℕ
+letters_after unit [] = 0
+letters_after unit (letter ∷ rest) = if nat_lt letter unit then suc (length rest) else 0
+
+-- how many letters those items go on with whose first one is below a unit
+abbrev pub letters_below : (unit : ℕ) → List scan.Item → ℕ
+letters_below unit [] = 0
+letters_below unit (item ∷ items) = letters_after unit item.rest + letters_below unit items
+
 -- a statement that the emission uses, in a piece of so many blocks, and with these actions of its rules
 abbrev pub IsGoodStatement : (actions : List (List ℕ)) → (blocks : ℕ) → Stmt → Type 0
 IsGoodStatement actions blocks Peek = Unit {0}

@@ -2,7 +2,7 @@
 //!
 //! A block serves a word that some strings begin with. It is entered with the cursor at the word's last unit, which it takes;
 //! then it tests the next unit, and goes on to the block of the longer word, or to the rule that was accepted last.
-ghost use Rattle.std.specs.Prelude.{◌≡◌, ℕ, suc, ◌<◌, ◌≤◌, List, [], ◌∷◌, ◌++◌, map, vec_len, IfOk, OnOk, Some, None, false, true, length, slice_get, slice_set, is_some};
+ghost use Rattle.std.specs.Prelude.{◌≡◌, ℕ, suc, ◌+◌, ◌*◌, ◌<◌, ◌≤◌, List, [], ◌∷◌, ◌++◌, map, vec_len, IfOk, OnOk, Some, None, false, true, length, slice_get, slice_set, is_some};
 ghost use Rattle.lx_ccode.specs.declared.piece.CodeBlock.{CodeBlock};
 ghost use Rattle.lx_ccode.specs.declared.piece.Stmt.TheVariants.{Peek, Skip, Restore, Goto, Code};
 ghost use Rattle.lx_top.specs.Emission.{items_of, test_statements, unit_tests, AcceptsNext};
@@ -203,7 +203,7 @@ fn copied(alloc: Global, texts: &[ByteText], place: usize) -> Result<ByteText, M
 }
 
 impl<'s> Emitter<'s> {
-    ghost use Rattle.lx_top.specs.Emission.{AreItems, Begins, Emits, IsEmitting, IsPlainBlock};
+    ghost use Rattle.lx_top.specs.Emission.{AreItems, Begins, Emits, IsEmitting, IsPlainBlock, letters};
 
     /// Puts a block without an action behind the others and answers its number.
     fn emit(&mut self, statements: Vec<Stmt>) -> Result<u64, Memory>
@@ -212,6 +212,7 @@ impl<'s> Emitter<'s> {
         ensures emits { OnOk result (Emits self.old self.new) }
         ensures block { IfOk result (λ number. code_in self.new.blocks.items number ≡ Some statements.items) }
         ensures last { IfOk result (λ number. number < length self.new.blocks.items) }
+        ensures few { OnOk result (length self.new.blocks.items ≤ suc (length self.old.blocks.items)) }
     {
         let number = push_block(&mut self.blocks, statements)?;
         Ok(number)
@@ -225,6 +226,7 @@ impl<'s> Emitter<'s> {
         ensures emits { OnOk result (Emits self.old self.new) }
         ensures action { IfOk result (IsActionBlock self.new.blocks.items rule) }
         ensures last { IfOk result (λ number. number < length self.new.blocks.items) }
+        ensures few { OnOk result (length self.new.blocks.items ≤ suc (length self.old.blocks.items)) }
     {
         let place = (rule - 1) as usize;
         match entry(&self.action_blocks, place) {
@@ -241,6 +243,7 @@ impl<'s> Emitter<'s> {
         ensures emits { OnOk result (Emits self.old self.new) }
         ensures action { IfOk result (IsActionBlock self.new.blocks.items rule) }
         ensures last { IfOk result (λ number. number < length self.new.blocks.items) }
+        ensures few { OnOk result (length self.new.blocks.items ≤ suc (length self.old.blocks.items)) }
     {
         let action = copied(alloc, self.actions, place)?;
         let statements = action_code(alloc, rule, action)?;
@@ -265,6 +268,7 @@ impl<'s> Emitter<'s> {
         requires fallback { accepts ≡ false → IsFallback self.old.blocks.items rule fallback × (fallback < length self.old.blocks.items) }
         ensures emits { OnOk result (Emits self.old self.new) }
         ensures begins { IfOk result (Begins self.new.blocks.items (items_of items.now) rule accepts) }
+        ensures few { OnOk result (length self.new.blocks.items ≤ length self.old.blocks.items + 2) }
     {
         if !accepts {
             return Ok(WordBegin {
@@ -313,6 +317,7 @@ impl<'s> Emitter<'s> {
         ensures emits { OnOk result (Emits self.old self.new) }
         ensures serves { IfOk result (Serves depth self.new.blocks.items (items_of items.now) rule accepts) }
         ensures last { IfOk result (λ number. number < length self.new.blocks.items) }
+        ensures few { OnOk result (length self.new.blocks.items ≤ length self.old.blocks.items + 3 * suc (letters (items_of items.now))) }
     {
         if !goes_on(items) {
             return self.emit_stop(alloc, depth, items, rule, accepts);
@@ -352,6 +357,7 @@ impl<'s> Emitter<'s> {
         ensures emits { OnOk result (Emits self.old self.new) }
         ensures serves { IfOk result (Serves depth self.new.blocks.items (items_of items.now) rule accepts) }
         ensures last { IfOk result (λ number. number < length self.new.blocks.items) }
+        ensures few { OnOk result (length self.new.blocks.items ≤ length self.old.blocks.items + 2) }
     {
         let action = self.action_block(alloc, rule)?;
         let code = skip_code(alloc, action)?;
