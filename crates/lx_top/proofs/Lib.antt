@@ -1,6 +1,7 @@
 pub mod CompileLemmas
 pub mod EmissionLemmas
 pub mod EndingLemmas
+pub mod PieceLemmas
 pub mod PutLemmas
 pub mod ReportLemmas
 pub mod ScanLaw
