@@ -2,6 +2,7 @@ pub mod CompileLemmas
 pub mod EmissionLemmas
 pub mod EndingLemmas
 pub mod LetterLemmas
+pub mod PieceLemmas
 pub mod PutLemmas
 pub mod ReadingLemmas
 pub mod ReportLemmas

@@ -3,6 +3,7 @@ pub mod Endings
 pub mod FirstFault
 pub mod Outside
 pub mod Output
+pub mod Pieces
 pub mod Puts
 pub mod Quoted
 pub mod Reading
