@@ -12,7 +12,7 @@ use Rattle.lx_ccode.specs.declared.piece.Piece.{Piece}
 use Rattle.lx_ccode.specs.declared.piece.StateCase.{StateCase}
 use Rattle.lx_ccode.specs.declared.piece.Stmt.{Stmt}
 use Rattle.lx_ccode.specs.Reading.{begins_statement}
-use Rattle.lx_ccode.specs.Statements.{block_count}
+use Rattle.lx_ccode.specs.Statements.{statement_count}
 use Rattle.lx_ccode.specs.Text.{block_then, blocks_then, cond_cases_then, cond_switch_then, declarations_then, eof_then, label_then, line_then, names_then, piece_then, start_then, state_cases_then, state_switch_then, statement_then, statements_then}
 use Rattle.lx_ccode.proofs.ReadSections.{begins_statement-statement}
 use Rattle.lx_ccode.proofs.Tails.{statement_then-append}
@@ -22,9 +22,9 @@ abbrev pub case_count : Option (List StateCase) → ℕ
 case_count None = 0
 case_count (Some cases) = length cases
 
--- as many as list_any list of the piece has elements
+-- at least as many as each list of the piece has items
 abbrev pub list_sizes : Piece → ℕ
-list_sizes p = case_count p.states + length p.conds + block_count p.blocks
+list_sizes p = case_count p.states + length p.conds + statement_count p.blocks
 
 joined-length : (words : List (List ℕ)) (tail : List ℕ) → length tail ≤ length (joined words tail)
 joined-length [] tail = omega arith
@@ -37,32 +37,35 @@ statement_not_empty : (l : List ℕ) → begins_statement l ≡ true → 0 < len
 statement_not_empty [] h = absurd (false≢true h)
 statement_not_empty (c ∷ l) h = omega arith
 
-statement_then-length : (number : ℕ) (names : Spellings) (ctx : Bool) (s : Stmt) (tail : List ℕ) → length tail < length (statement_then number names ctx s tail)
-statement_then-length number names ctx s tail =
-    let whole : length (statement_then number names ctx s [] ++ tail) ≡ length (statement_then number names ctx s tail) = ap (λ (l : List ℕ). length l) (statement_then-append number names ctx s [] tail) in
-    let both : length (statement_then number names ctx s [] ++ tail) ≡ length (statement_then number names ctx s []) + length tail = length-append (statement_then number names ctx s []) tail in
-    let some : 0 < length (statement_then number names ctx s []) = statement_not_empty (statement_then number names ctx s []) (begins_statement-statement number names ctx s []) in
+statement_then-length : (number : ℕ) (names : Spellings) (ctx : Bool) (statement : Stmt) (tail : List ℕ)
+    → length tail < length (statement_then number names ctx statement tail)
+statement_then-length number names ctx statement tail =
+    let whole : length (statement_then number names ctx statement [] ++ tail) ≡ length (statement_then number names ctx statement tail) = ap (λ (l : List ℕ). length l) (statement_then-append number names ctx statement [] tail) in
+    let both : length (statement_then number names ctx statement [] ++ tail) ≡ length (statement_then number names ctx statement []) + length tail = length-append (statement_then number names ctx statement []) tail in
+    let some : 0 < length (statement_then number names ctx statement []) = statement_not_empty (statement_then number names ctx statement []) (begins_statement-statement number names ctx statement []) in
     omega arith
 
-statements_then-length : (number : ℕ) (names : Spellings) (ctx : Bool) (statements : List Stmt) (tail : List ℕ) → length statements + length tail ≤ length (statements_then number names ctx statements tail)
+statements_then-length : (number : ℕ) (names : Spellings) (ctx : Bool) (statements : List Stmt) (tail : List ℕ)
+    → length statements + length tail ≤ length (statements_then number names ctx statements tail)
 statements_then-length number names ctx [] tail = omega arith
 statements_then-length number names ctx (s ∷ statements) tail =
     let rest : length statements + length tail ≤ length (statements_then number names ctx statements tail) = statements_then-length number names ctx statements tail in
     let here : length (statements_then number names ctx statements tail) < length (statement_then number names ctx s (statements_then number names ctx statements tail)) = statement_then-length number names ctx s (statements_then number names ctx statements tail) in
     omega arith
 
-label_then-length : (names : Spellings) (l : Option (List ℕ)) (tail : List ℕ) → length tail ≤ length (label_then names l tail)
+label_then-length : (names : Spellings) (label : Option (List ℕ)) (tail : List ℕ) → length tail ≤ length (label_then names label tail)
 label_then-length names None tail = omega arith
 label_then-length names (Some word) tail = joined-length ((label_prefix names ++ word) ∷ codes ":\n" ∷ []) tail
 
-blocks_then-length : (number : ℕ) (names : Spellings) (ctx : Bool) (s : ℕ) (blocks : List CodeBlock) (tail : List ℕ) → block_count blocks + length tail ≤ length (blocks_then number names ctx s blocks tail)
-blocks_then-length number names ctx s [] tail = omega arith
-blocks_then-length number names ctx s (b ∷ blocks) tail =
-    let appended_next : List ℕ = blocks_then number names ctx (suc s) blocks tail in
-    let rest : block_count blocks + length tail ≤ length (blocks_then number names ctx (suc s) blocks tail) = blocks_then-length number names ctx (suc s) blocks tail in
-    let stmts : length b.stmts + length (blocks_then number names ctx (suc s) blocks tail) ≤ length (statements_then number names ctx b.stmts (blocks_then number names ctx (suc s) blocks tail)) = statements_then-length number names ctx b.stmts appended_next in
-    let line : length (statements_then number names ctx b.stmts (blocks_then number names ctx (suc s) blocks tail)) ≤ length (block_then number s (codes ":\n" ++ statements_then number names ctx b.stmts (blocks_then number names ctx (suc s) blocks tail))) = joined-length (codes "yy" ∷ decimal number ∷ codes "_" ∷ decimal s ∷ codes ":\n" ∷ []) (statements_then number names ctx b.stmts appended_next) in
-    let label : length (block_then number s (codes ":\n" ++ statements_then number names ctx b.stmts (blocks_then number names ctx (suc s) blocks tail))) ≤ length (blocks_then number names ctx s (b ∷ blocks) tail) = label_then-length names b.cond (block_then number s (codes ":\n" ++ statements_then number names ctx b.stmts appended_next)) in
+blocks_then-length : (number : ℕ) (names : Spellings) (ctx : Bool) (place : ℕ) (blocks : List CodeBlock) (tail : List ℕ)
+    → statement_count blocks + length tail ≤ length (blocks_then number names ctx place blocks tail)
+blocks_then-length number names ctx place [] tail = omega arith
+blocks_then-length number names ctx place (b ∷ blocks) tail =
+    let others : List ℕ = blocks_then number names ctx (suc place) blocks tail in
+    let rest : statement_count blocks + length tail ≤ length (blocks_then number names ctx (suc place) blocks tail) = blocks_then-length number names ctx (suc place) blocks tail in
+    let stmts : length b.stmts + length (blocks_then number names ctx (suc place) blocks tail) ≤ length (statements_then number names ctx b.stmts (blocks_then number names ctx (suc place) blocks tail)) = statements_then-length number names ctx b.stmts others in
+    let line : length (statements_then number names ctx b.stmts (blocks_then number names ctx (suc place) blocks tail)) ≤ length (block_then number place (codes ":\n" ++ statements_then number names ctx b.stmts (blocks_then number names ctx (suc place) blocks tail))) = joined-length (codes "yy" ∷ decimal number ∷ codes "_" ∷ decimal place ∷ codes ":\n" ∷ []) (statements_then number names ctx b.stmts others) in
+    let label : length (block_then number place (codes ":\n" ++ statements_then number names ctx b.stmts (blocks_then number names ctx (suc place) blocks tail))) ≤ length (blocks_then number names ctx place (b ∷ blocks) tail) = label_then-length names b.cond (block_then number place (codes ":\n" ++ statements_then number names ctx b.stmts others)) in
     omega arith
 
 names_then-length : (words : Spellings) (tail : List ℕ) → length tail ≤ length (names_then words tail)
@@ -72,15 +75,16 @@ names_then-length (word ∷ words) tail =
     let here : length (names_then words tail) ≤ length (names_then (word ∷ words) tail) = joined-length (codes " " ∷ decimal (length word) ∷ codes ":" ∷ word ∷ []) (names_then words tail) in
     omega arith
 
-eof_then-length : (e : Option ℕ) (tail : List ℕ) → length tail ≤ length (eof_then e tail)
+eof_then-length : (eof : Option ℕ) (tail : List ℕ) → length tail ≤ length (eof_then eof tail)
 eof_then-length None tail = joined-length (codes "-" ∷ []) tail
-eof_then-length (Some e) tail = joined-length (decimal e ∷ []) tail
+eof_then-length (Some eof) tail = joined-length (decimal eof ∷ []) tail
 
-declarations_then-length : (names : Spellings) (d : Bool) (tail : List ℕ) → length tail ≤ length (declarations_then names d tail)
+declarations_then-length : (names : Spellings) (declares : Bool) (tail : List ℕ) → length tail ≤ length (declarations_then names declares tail)
 declarations_then-length names false tail = omega arith
 declarations_then-length names true tail = joined-length (codes "\t" ∷ unit_type names ∷ codes " " ∷ current_unit names ∷ codes ";\n\tunsigned int " ∷ last_accept names ∷ codes " = 0;\n" ∷ []) tail
 
-state_cases_then-length : (number : ℕ) (cases : List StateCase) (tail : List ℕ) → length cases + length tail ≤ length (state_cases_then number cases tail)
+state_cases_then-length : (number : ℕ) (cases : List StateCase) (tail : List ℕ)
+    → length cases + length tail ≤ length (state_cases_then number cases tail)
 state_cases_then-length number [] tail = omega arith
 state_cases_then-length number (c ∷ cases) tail =
     let rest : length cases + length tail ≤ length (state_cases_then number cases tail) = state_cases_then-length number cases tail in
@@ -88,49 +92,52 @@ state_cases_then-length number (c ∷ cases) tail =
     let tab : length (state_cases_then number (c ∷ cases) tail) ≡ suc (length (joined (codes "case " ∷ decimal c.state ∷ codes ": goto yy" ∷ decimal number ∷ codes "_" ∷ decimal c.block ∷ codes ";\n" ∷ []) (state_cases_then number cases tail))) = refl in
     omega arith
 
-start_then-length : (number : ℕ) (cases : List CondCase) (tail : List ℕ) → length tail ≤ length (start_then number cases tail)
+start_then-length : (number : ℕ) (conds : List CondCase) (tail : List ℕ) → length tail ≤ length (start_then number conds tail)
 start_then-length number [] tail = joined-length (codes "yy" ∷ decimal number ∷ codes "_" ∷ decimal 0 ∷ []) tail
-start_then-length number (c ∷ cases) tail = joined-length (codes "yy" ∷ decimal number ∷ codes "_cond" ∷ []) tail
+start_then-length number (c ∷ conds) tail = joined-length (codes "yy" ∷ decimal number ∷ codes "_cond" ∷ []) tail
 
-state_switch_then-length : (number : ℕ) (names : Spellings) (cases : List CondCase) (st : Option (List StateCase)) (tail : List ℕ) → case_count st + length tail ≤ length (state_switch_then number names cases st tail)
-state_switch_then-length number names cases None tail = omega arith
-state_switch_then-length number names cases (Some st) tail =
+state_switch_then-length : (number : ℕ) (names : Spellings) (conds : List CondCase) (states : Option (List StateCase)) (tail : List ℕ)
+    → case_count states + length tail ≤ length (state_switch_then number names conds states tail)
+state_switch_then-length number names conds None tail = omega arith
+state_switch_then-length number names conds (Some states) tail =
     let end : length tail ≤ length (codes ";\n\t}\n" ++ tail) = joined-length (codes ";\n\t}\n" ∷ []) tail in
-    let start : length (codes ";\n\t}\n" ++ tail) ≤ length (start_then number cases (codes ";\n\t}\n" ++ tail)) = start_then-length number cases (codes ";\n\t}\n" ++ tail) in
-    let default : length (start_then number cases (codes ";\n\t}\n" ++ tail)) ≤ length (codes "\tdefault: goto " ++ start_then number cases (codes ";\n\t}\n" ++ tail)) = joined-length (codes "\tdefault: goto " ∷ []) (start_then number cases (codes ";\n\t}\n" ++ tail)) in
-    let length_cases : length st + length (codes "\tdefault: goto " ++ start_then number cases (codes ";\n\t}\n" ++ tail)) ≤ length (state_cases_then number st (codes "\tdefault: goto " ++ start_then number cases (codes ";\n\t}\n" ++ tail))) = state_cases_then-length number st (codes "\tdefault: goto " ++ start_then number cases (codes ";\n\t}\n" ++ tail)) in
-    let head : length (state_cases_then number st (codes "\tdefault: goto " ++ start_then number cases (codes ";\n\t}\n" ++ tail))) ≤ length (state_switch_then number names cases (Some st) tail) = joined-length (codes "\tswitch (" ∷ get_state names ∷ codes "()) {\n" ∷ []) (state_cases_then number st (codes "\tdefault: goto " ++ start_then number cases (codes ";\n\t}\n" ++ tail))) in
+    let start : length (codes ";\n\t}\n" ++ tail) ≤ length (start_then number conds (codes ";\n\t}\n" ++ tail)) = start_then-length number conds (codes ";\n\t}\n" ++ tail) in
+    let default : length (start_then number conds (codes ";\n\t}\n" ++ tail)) ≤ length (codes "\tdefault: goto " ++ start_then number conds (codes ";\n\t}\n" ++ tail)) = joined-length (codes "\tdefault: goto " ∷ []) (start_then number conds (codes ";\n\t}\n" ++ tail)) in
+    let length_cases : length states + length (codes "\tdefault: goto " ++ start_then number conds (codes ";\n\t}\n" ++ tail)) ≤ length (state_cases_then number states (codes "\tdefault: goto " ++ start_then number conds (codes ";\n\t}\n" ++ tail))) = state_cases_then-length number states (codes "\tdefault: goto " ++ start_then number conds (codes ";\n\t}\n" ++ tail)) in
+    let head : length (state_cases_then number states (codes "\tdefault: goto " ++ start_then number conds (codes ";\n\t}\n" ++ tail))) ≤ length (state_switch_then number names conds (Some states) tail) = joined-length (codes "\tswitch (" ∷ get_state names ∷ codes "()) {\n" ∷ []) (state_cases_then number states (codes "\tdefault: goto " ++ start_then number conds (codes ";\n\t}\n" ++ tail))) in
     omega arith
 
-cond_cases_then-length : (number : ℕ) (names : Spellings) (cases : List CondCase) (tail : List ℕ) → length cases + length tail ≤ length (cond_cases_then number names cases tail)
+cond_cases_then-length : (number : ℕ) (names : Spellings) (conds : List CondCase) (tail : List ℕ)
+    → length conds + length tail ≤ length (cond_cases_then number names conds tail)
 cond_cases_then-length number names [] tail = omega arith
-cond_cases_then-length number names (c ∷ cases) tail =
-    let rest : length cases + length tail ≤ length (cond_cases_then number names cases tail) = cond_cases_then-length number names cases tail in
+cond_cases_then-length number names (c ∷ conds) tail =
+    let rest : length conds + length tail ≤ length (cond_cases_then number names conds tail) = cond_cases_then-length number names conds tail in
     let parts : List (List ℕ) = codes "case " ∷ (condition_prefix names ++ c.cond) ∷ codes ": goto yy" ∷ decimal number ∷ codes "_" ∷ decimal c.block ∷ codes ";\n" ∷ [] in
-    let here : length (cond_cases_then number names cases tail) < length (cond_cases_then number names (c ∷ cases) tail) = (let h = joined-length parts (cond_cases_then number names cases tail) in omega (arith, h)) in
+    let here : length (cond_cases_then number names conds tail) < length (cond_cases_then number names (c ∷ conds) tail) = (let h = joined-length parts (cond_cases_then number names conds tail) in omega (arith, h)) in
     omega arith
 
-cond_switch_then-length : (number : ℕ) (names : Spellings) (cases : List CondCase) (tail : List ℕ) → length cases + length tail ≤ length (cond_switch_then number names cases tail)
+cond_switch_then-length : (number : ℕ) (names : Spellings) (conds : List CondCase) (tail : List ℕ)
+    → length conds + length tail ≤ length (cond_switch_then number names conds tail)
 cond_switch_then-length number names [] tail = omega arith
-cond_switch_then-length number names (c ∷ cases) tail =
+cond_switch_then-length number names (c ∷ conds) tail =
     let end : length tail ≤ length (codes "\t}\n" ++ tail) = joined-length (codes "\t}\n" ∷ []) tail in
-    let length_cases : length (c ∷ cases) + length (codes "\t}\n" ++ tail) ≤ length (cond_cases_then number names (c ∷ cases) (codes "\t}\n" ++ tail)) = cond_cases_then-length number names (c ∷ cases) (codes "\t}\n" ++ tail) in
-    let head : length (cond_cases_then number names (c ∷ cases) (codes "\t}\n" ++ tail)) ≤ length (cond_switch_then number names (c ∷ cases) tail) = joined-length (codes "yy" ∷ decimal number ∷ codes "_cond:\n\tswitch (" ∷ get_condition names ∷ codes "()) {\n" ∷ []) (cond_cases_then number names (c ∷ cases) (codes "\t}\n" ++ tail)) in
+    let length_cases : length (c ∷ conds) + length (codes "\t}\n" ++ tail) ≤ length (cond_cases_then number names (c ∷ conds) (codes "\t}\n" ++ tail)) = cond_cases_then-length number names (c ∷ conds) (codes "\t}\n" ++ tail) in
+    let head : length (cond_cases_then number names (c ∷ conds) (codes "\t}\n" ++ tail)) ≤ length (cond_switch_then number names (c ∷ conds) tail) = joined-length (codes "yy" ∷ decimal number ∷ codes "_cond:\n\tswitch (" ∷ get_condition names ∷ codes "()) {\n" ∷ []) (cond_cases_then number names (c ∷ conds) (codes "\t}\n" ++ tail)) in
     omega arith
 
-pub list_sizes-length : (p : Piece) (tail : List ℕ) → list_sizes p ≤ length (piece_then p tail)
-list_sizes-length p tail =
-    let joined-append : List ℕ = joined (codes "yy" ∷ decimal p.number ∷ codes "_none:;\n}\n" ∷ []) (line_then p.line (joined (codes "/*!end:re2c*/" ∷ []) tail)) in
-    let blocks = blocks_then-length p.number p.names p.ctx 0 p.blocks joined-append in
-    let b : List ℕ = blocks_then p.number p.names p.ctx 0 p.blocks joined-append in
-    let conds = cond_switch_then-length p.number p.names p.conds b in
-    let c : List ℕ = cond_switch_then p.number p.names p.conds b in
-    let states = state_switch_then-length p.number p.names p.conds p.states c in
-    let s : List ℕ = state_switch_then p.number p.names p.conds p.states c in
-    let declarations = declarations_then-length p.names p.declares s in
-    let d : List ℕ = codes "*/\n{\n" ++ declarations_then p.names p.declares s in
-    let opened = joined-length (codes "*/\n{\n" ∷ []) (declarations_then p.names p.declares s) in
-    let names = names_then-length p.names d in
-    let eof = eof_then-length p.eof (names_then p.names d) in
-    let head = joined-length (codes "/*!begin:re2c " ∷ decimal p.number ∷ codes "*/\n/*!names:re2c " ∷ decimal p.unit ∷ codes " " ∷ []) (eof_then p.eof (names_then p.names d)) in
+pub list_sizes-length : (piece : Piece) (tail : List ℕ) → list_sizes piece ≤ length (piece_then piece tail)
+list_sizes-length piece tail =
+    let joined-append : List ℕ = joined (codes "yy" ∷ decimal piece.number ∷ codes "_none:;\n}\n" ∷ []) (line_then piece.line (joined (codes "/*!end:re2c*/" ∷ []) tail)) in
+    let blocks = blocks_then-length piece.number piece.names piece.ctx 0 piece.blocks joined-append in
+    let b : List ℕ = blocks_then piece.number piece.names piece.ctx 0 piece.blocks joined-append in
+    let conds = cond_switch_then-length piece.number piece.names piece.conds b in
+    let c : List ℕ = cond_switch_then piece.number piece.names piece.conds b in
+    let states = state_switch_then-length piece.number piece.names piece.conds piece.states c in
+    let s : List ℕ = state_switch_then piece.number piece.names piece.conds piece.states c in
+    let declarations = declarations_then-length piece.names piece.declares s in
+    let d : List ℕ = codes "*/\n{\n" ++ declarations_then piece.names piece.declares s in
+    let opened = joined-length (codes "*/\n{\n" ∷ []) (declarations_then piece.names piece.declares s) in
+    let names = names_then-length piece.names d in
+    let eof = eof_then-length piece.eof (names_then piece.names d) in
+    let head = joined-length (codes "/*!begin:re2c " ∷ decimal piece.number ∷ codes "*/\n/*!names:re2c " ∷ decimal piece.unit ∷ codes " " ∷ []) (eof_then piece.eof (names_then piece.names d)) in
     omega (arith, blocks, conds, states, declarations, opened, names, eof, head)

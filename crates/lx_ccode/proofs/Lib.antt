@@ -9,4 +9,5 @@ pub mod StuckSteps
 pub mod Tails
 pub mod UsualNames
 pub mod ValidExamples
+pub mod WaysBack
 pub mod Words

@@ -14,7 +14,7 @@ use Rattle.lx_ccode.specs.declared.piece.StateCase.{StateCase}
 use Rattle.lx_ccode.specs.declared.piece.Stmt.{Stmt}
 use Rattle.lx_ccode.specs.declared.piece.Stmt.TheVariants.{Code, Tag}
 use Rattle.lx_ccode.specs.Reading.{begins_statement, block_at, blocks_at, byte_at, code_block_at, cond_cases_at, cond_switch_at, declarations_at, eof_at, is_tab, line_at, names_at, state_cases_at, state_switch_at, statements_at}
-use Rattle.lx_ccode.specs.Statements.{block_count}
+use Rattle.lx_ccode.specs.Statements.{statement_count}
 use Rattle.lx_ccode.specs.Text.{block_then, blocks_then, cond_cases_then, cond_switch_then, declarations_then, eof_then, goto_then, label_then, line_then, names_then, start_then, state_cases_then, state_switch_then, statement_then, statements_then}
 use Rattle.lx_ccode.specs.Validity.{EachBlockHasSpelling, EachHasSpelling, IsLabel, IsLine}
 use Rattle.lx_ccode.specs.Words.{behind, front, is_in_type}
@@ -23,7 +23,8 @@ use Rattle.lx_ccode.proofs.Words.{EachLetter-append, EachLetter-from, EachLetter
 
 -- ---- statements
 
-pub begins_statement-statement : (number : ℕ) (names : Spellings) (ctx : Bool) (s : Stmt) (tail : List ℕ) → begins_statement (statement_then number names ctx s tail) ≡ true
+pub begins_statement-statement : (number : ℕ) (names : Spellings) (ctx : Bool) (statement : Stmt) (tail : List ℕ)
+    → begins_statement (statement_then number names ctx statement tail) ≡ true
 begins_statement-statement number names ctx (Tag word true k) tail = refl
 begins_statement-statement number names ctx (Tag word false k) tail = refl
 begins_statement-statement number names ctx (Code k None word) tail = refl
@@ -34,7 +35,8 @@ abbrev pub any_names_context : Bool → List Stmt → Bool
 any_names_context ctx [] = false
 any_names_context ctx (s ∷ statements) = names_context ctx s || any_names_context ctx statements
 
-statements_at-statements : (fuel number : ℕ) (names : Spellings) (ctx : Bool) (statements : List Stmt) (tail : List ℕ) → number < 2 ^ 64 → AreAllowed names → DoNotClash names → EachHasSpelling names statements → length statements ≤ fuel → begins_statement tail ≡ false
+statements_at-statements : (fuel number : ℕ) (names : Spellings) (ctx : Bool) (statements : List Stmt) (tail : List ℕ) → number < 2 ^ 64
+    → AreAllowed names → DoNotClash names → EachHasSpelling names statements → length statements ≤ fuel → begins_statement tail ≡ false
     → statements_at fuel names (statements_then number names ctx statements tail) ≡ (statements, any_names_context ctx statements, tail)
 unfolding statements_at
 statements_at-statements zero number names ctx [] tail short allowed clash spelled le q = refl
@@ -49,61 +51,71 @@ statements_at-statements (suc fuel) number names ctx (s ∷ statements) tail sho
 identifier_no_statement : (c : ℕ) → begins_identifier c ≡ true → ((c == 9) || (c == 35)) ≡ false
 identifier_no_statement c h = rw (identifier_no_sign c 9 refl h, identifier_no_sign c 35 refl h) refl
 
-begins_statement-word : (v tail : List ℕ) → IsIdentifier v → begins_statement (v ++ tail) ≡ false
+begins_statement-word : (front_word tail : List ℕ) → IsIdentifier front_word → begins_statement (front_word ++ tail) ≡ false
 begins_statement-word [] tail h = absurd h
-begins_statement-word (c ∷ v) tail h = identifier_no_statement c h.0
+begins_statement-word (c ∷ front_word) tail h = identifier_no_statement c h.0
 
-begins_statement-label : (names : Spellings) (l : Option (List ℕ)) (tail : List ℕ) → AreAllowed names → begins_statement tail ≡ false → begins_statement (label_then names l tail) ≡ false
+begins_statement-label : (names : Spellings) (label : Option (List ℕ)) (tail : List ℕ) → AreAllowed names → begins_statement tail ≡ false
+    → begins_statement (label_then names label tail) ≡ false
 begins_statement-label names None tail allowed q = q
-begins_statement-label names (Some word) tail allowed q = ap begins_statement (append_assoc (label_prefix names) word (58 ∷ 10 ∷ tail)) ∙ begins_statement-word (label_prefix names) (word ++ 58 ∷ 10 ∷ tail) allowed.label_prefix
+begins_statement-label names (Some word) tail allowed q = ap begins_statement (append_assoc (label_prefix names) word (58 ∷ 10 ∷ tail))
+    ∙ begins_statement-word (label_prefix names) (word ++ 58 ∷ 10 ∷ tail) allowed.label_prefix
 
-pub begins_statement-blocks : (number : ℕ) (names : Spellings) (ctx : Bool) (s : ℕ) (blocks : List CodeBlock) (tail : List ℕ) → AreAllowed names → begins_statement tail ≡ false → begins_statement (blocks_then number names ctx s blocks tail) ≡ false
-begins_statement-blocks number names ctx s [] tail allowed q = q
-begins_statement-blocks number names ctx s (b ∷ blocks) tail allowed q = begins_statement-label names b.cond (block_then number s (joined (codes ":\n" ∷ []) (statements_then number names ctx b.stmts (blocks_then number names ctx (suc s) blocks tail)))) allowed refl
+pub begins_statement-blocks : (number : ℕ) (names : Spellings) (ctx : Bool) (place : ℕ) (blocks : List CodeBlock) (tail : List ℕ) → AreAllowed names
+    → begins_statement tail ≡ false → begins_statement (blocks_then number names ctx place blocks tail) ≡ false
+begins_statement-blocks number names ctx place [] tail allowed q = q
+begins_statement-blocks number names ctx place (b ∷ blocks) tail allowed q = begins_statement-label names b.cond (block_then number place (joined (codes ":\n" ∷ []) (statements_then number names ctx b.stmts (blocks_then number names ctx (suc place) blocks tail)))) allowed refl
 
-begins_statement-statements : (number : ℕ) (names : Spellings) (ctx : Bool) (statements : List Stmt) (tail : List ℕ) → 0 < length statements → begins_statement (statements_then number names ctx statements tail) ≡ true
+begins_statement-statements : (number : ℕ) (names : Spellings) (ctx : Bool) (statements : List Stmt) (tail : List ℕ) → 0 < length statements
+    → begins_statement (statements_then number names ctx statements tail) ≡ true
 begins_statement-statements number names ctx [] tail h = absurd (omega arith)
 begins_statement-statements number names ctx (s ∷ statements) tail h = begins_statement-statement number names ctx s (statements_then number names ctx statements tail)
 
 -- a line `yyN_S:`
-behind-block : (number s : ℕ) (tail : List ℕ) → number < 2 ^ 64 → s < 2 ^ 64 → behind is_in_identifier (block_then number s (58 ∷ tail)) ≡ 58 ∷ tail
-behind-block number s tail h k = rw (behind-word is_in_identifier (decimal number) (95 ∷ (decimal s ++ 58 ∷ tail)) (decimal_identifier number h), behind-stop is_in_identifier (decimal s) 58 tail (decimal_identifier s k) refl) refl
+behind-block : (number place : ℕ) (tail : List ℕ) → number < 2 ^ 64 → place < 2 ^ 64
+    → behind is_in_identifier (block_then number place (58 ∷ tail)) ≡ 58 ∷ tail
+behind-block number place tail h k = rw (behind-word is_in_identifier (decimal number) (95 ∷ (decimal place ++ 58 ∷ tail)) (decimal_identifier number h), behind-stop is_in_identifier (decimal place) 58 tail (decimal_identifier place k) refl) refl
 
-code_block_at-block : (fuel number : ℕ) (names : Spellings) (ctx : Bool) (s : ℕ) (l : Option (List ℕ)) (statements : List Stmt) (tail : List ℕ) → number < 2 ^ 64 → s < 2 ^ 64 → AreAllowed names → DoNotClash names
-    → 0 < length statements → IsLabel l → EachHasSpelling names statements → length statements ≤ fuel → begins_statement tail ≡ false
-    → code_block_at fuel names (label_then names l (block_then number s (codes ":\n" ++ statements_then number names ctx statements tail))) ≡ (record { cond = l; stmts = statements }, any_names_context ctx statements, tail)
+code_block_at-block : (fuel number : ℕ) (names : Spellings) (ctx : Bool) (place : ℕ) (label : Option (List ℕ)) (statements : List Stmt) (tail : List ℕ)
+    → number < 2 ^ 64 → place < 2 ^ 64 → AreAllowed names → DoNotClash names
+    → 0 < length statements → IsLabel label → EachHasSpelling names statements → length statements ≤ fuel → begins_statement tail ≡ false
+    → code_block_at fuel names (label_then names label (block_then number place (codes ":\n" ++ statements_then number names ctx statements tail))) ≡ (record { cond = label; stmts = statements }, any_names_context ctx statements, tail)
 unfolding code_block_at
-code_block_at-block fuel number names ctx s None statements tail short hs allowed clash ne hl spelled le q =
-    rw (behind-block number s (10 ∷ statements_then number names ctx statements tail) short hs, begins_statement-statements number names ctx statements tail ne, statements_at-statements fuel number names ctx statements tail short allowed clash spelled le q) refl
-code_block_at-block fuel number names ctx s (Some v) statements tail short hs allowed clash ne hl spelled le q =
+code_block_at-block fuel number names ctx place None statements tail short hs allowed clash ne hl spelled le q =
+    rw (behind-block number place (10 ∷ statements_then number names ctx statements tail) short hs, begins_statement-statements number names ctx statements tail ne, statements_at-statements fuel number names ctx statements tail short allowed clash spelled le q) refl
+code_block_at-block fuel number names ctx place (Some v) statements tail short hs allowed clash ne hl spelled le q =
     let hv : EachLetter is_in_identifier (label_prefix names ++ v) = EachLetter-append is_in_identifier (label_prefix names) v (EachLetter-identifier (label_prefix names) allowed.label_prefix) (EachLetter-identifier v hl) in
-    let t : List ℕ = block_then number s (codes ":\n" ++ statements_then number names ctx statements tail) in
-    rw (behind-stop is_in_identifier (label_prefix names ++ v) 58 (10 ∷ t) hv refl, front-stop is_in_identifier (label_prefix names ++ v) 58 (10 ∷ t) hv refl, behind-block number s (10 ∷ statements_then number names ctx statements tail) short hs, drop-front (label_prefix names) v, statements_at-statements fuel number names ctx statements tail short allowed clash spelled le q) refl
+    let t : List ℕ = block_then number place (codes ":\n" ++ statements_then number names ctx statements tail) in
+    rw (behind-stop is_in_identifier (label_prefix names ++ v) 58 (10 ∷ t) hv refl, front-stop is_in_identifier (label_prefix names ++ v) 58 (10 ∷ t) hv refl, behind-block number place (10 ∷ statements_then number names ctx statements tail) short hs, drop-front (label_prefix names) v, statements_at-statements fuel number names ctx statements tail short allowed clash spelled le q) refl
 
 -- the first line of a block has a colon and a line feed
-first_line : (number : ℕ) (names : Spellings) (s : ℕ) (l : Option (List ℕ)) (tail : List ℕ) → number < 2 ^ 64 → s < 2 ^ 64 → AreAllowed names → IsLabel l → (byte_at (behind is_in_identifier (label_then names l (block_then number s (codes ":\n" ++ tail)))) 1 == 59) ≡ false
-first_line number names s None tail short hs allowed hl = rw (behind-block number s (10 ∷ tail) short hs) refl
-first_line number names s (Some v) tail short hs allowed hl =
+first_line : (number : ℕ) (names : Spellings) (place : ℕ) (label : Option (List ℕ)) (tail : List ℕ) → number < 2 ^ 64 → place < 2 ^ 64
+    → AreAllowed names → IsLabel label
+    → (byte_at (behind is_in_identifier (label_then names label (block_then number place (codes ":\n" ++ tail)))) 1 == 59) ≡ false
+first_line number names place None tail short hs allowed hl = rw (behind-block number place (10 ∷ tail) short hs) refl
+first_line number names place (Some v) tail short hs allowed hl =
     let hv : EachLetter is_in_identifier (label_prefix names ++ v) = EachLetter-append is_in_identifier (label_prefix names) v (EachLetter-identifier (label_prefix names) allowed.label_prefix) (EachLetter-identifier v hl) in
-    rw (behind-stop is_in_identifier (label_prefix names ++ v) 58 (10 ∷ block_then number s (codes ":\n" ++ tail)) hv refl) refl
+    rw (behind-stop is_in_identifier (label_prefix names ++ v) 58 (10 ∷ block_then number place (codes ":\n" ++ tail)) hv refl) refl
 
 abbrev pub blocks_name_context : Bool → List CodeBlock → Bool
 blocks_name_context ctx [] = false
 blocks_name_context ctx (b ∷ blocks) = any_names_context ctx b.stmts || blocks_name_context ctx blocks
 
-pub blocks_at-blocks : (k fuel number : ℕ) (names : Spellings) (ctx : Bool) (s : ℕ) (blocks : List CodeBlock) (tail y : List ℕ) → number < 2 ^ 64 → s + length blocks < 2 ^ 64 → AreAllowed names → DoNotClash names
-    → EachBlockHasSpelling names blocks → length blocks ≤ k → block_count blocks ≤ fuel → begins_statement tail ≡ false → behind is_in_identifier tail ≡ codes ":;" ++ y
-    → blocks_at k fuel names (blocks_then number names ctx s blocks tail) ≡ (blocks, blocks_name_context ctx blocks, tail)
+pub blocks_at-blocks : (k fuel number : ℕ) (names : Spellings) (ctx : Bool) (place : ℕ) (blocks : List CodeBlock) (tail y : List ℕ) → number < 2 ^ 64
+    → place + length blocks < 2 ^ 64 → AreAllowed names → DoNotClash names
+    → EachBlockHasSpelling names blocks → length blocks ≤ k → statement_count blocks ≤ fuel → begins_statement tail ≡ false
+    → behind is_in_identifier tail ≡ codes ":;" ++ y
+    → blocks_at k fuel names (blocks_then number names ctx place blocks tail) ≡ (blocks, blocks_name_context ctx blocks, tail)
 unfolding blocks_at
-blocks_at-blocks zero fuel number names ctx s [] tail y short hs allowed clash spelled le lc q e = refl
-blocks_at-blocks (suc k) fuel number names ctx s [] tail y short hs allowed clash spelled le lc q e = rw e refl
-blocks_at-blocks zero fuel number names ctx s (b ∷ blocks) tail y short hs allowed clash spelled le lc q e = absurd (omega arith)
-blocks_at-blocks (suc k) fuel number names ctx s (b ∷ blocks) tail y short hs allowed clash spelled le lc q e =
-    let rest : blocks_at k fuel names (blocks_then number names ctx (suc s) blocks tail) ≡ (blocks, blocks_name_context ctx blocks, tail) = blocks_at-blocks k fuel number names ctx (suc s) blocks tail y short (omega arith) allowed clash spelled.1 (omega arith) (omega arith) q e in
-    let small : s < 2 ^ 64 = omega arith in
+blocks_at-blocks zero fuel number names ctx place [] tail y short hs allowed clash spelled le lc q e = refl
+blocks_at-blocks (suc k) fuel number names ctx place [] tail y short hs allowed clash spelled le lc q e = rw e refl
+blocks_at-blocks zero fuel number names ctx place (b ∷ blocks) tail y short hs allowed clash spelled le lc q e = absurd (omega arith)
+blocks_at-blocks (suc k) fuel number names ctx place (b ∷ blocks) tail y short hs allowed clash spelled le lc q e =
+    let rest : blocks_at k fuel names (blocks_then number names ctx (suc place) blocks tail) ≡ (blocks, blocks_name_context ctx blocks, tail) = blocks_at-blocks k fuel number names ctx (suc place) blocks tail y short (omega arith) allowed clash spelled.1 (omega arith) (omega arith) q e in
+    let small : place < 2 ^ 64 = omega arith in
     let few : length b.stmts ≤ fuel = omega arith in
-    let appended_next : List ℕ = blocks_then number names ctx (suc s) blocks tail in
-    rw (first_line number names s b.cond (statements_then number names ctx b.stmts appended_next) short small allowed spelled.0.1, code_block_at-block fuel number names ctx s b.cond b.stmts appended_next short small allowed clash spelled.0.0 spelled.0.1 spelled.0.2 few (begins_statement-blocks number names ctx (suc s) blocks tail allowed q), rest) refl
+    let others : List ℕ = blocks_then number names ctx (suc place) blocks tail in
+    rw (first_line number names place b.cond (statements_then number names ctx b.stmts others) short small allowed spelled.0.1, code_block_at-block fuel number names ctx place b.cond b.stmts others short small allowed clash spelled.0.0 spelled.0.1 spelled.0.2 few (begins_statement-blocks number names ctx (suc place) blocks tail allowed q), rest) refl
 
 -- ---- the names line
 
@@ -124,7 +136,8 @@ names_at-names (word ∷ words) tail h =
     let rest : names_at (length words) (names_then words tail) ≡ (words, tail) = names_at-names words tail h.1 in
     rw (front-stop is_digit (decimal (length word)) 58 t (decimal_digits (length word) hl) refl, behind-stop is_digit (decimal (length word)) 58 t (decimal_digits (length word) hl) refl, decimal_value (length word) hl, take-front word (names_then words tail), drop-front word (names_then words tail), rest) refl
 
-pub names_at-seventeen : (names : Spellings) (tail : List ℕ) → length names ≡ 17 → EachIsShort names → names_at 17 (names_then names tail) ≡ (names, tail)
+pub names_at-seventeen : (names : Spellings) (tail : List ℕ) → length names ≡ 17 → EachIsShort names
+    → names_at 17 (names_then names tail) ≡ (names, tail)
 names_at-seventeen names tail e h = subst (λ (k : ℕ). names_at k (names_then names tail) ≡ (names, tail)) e (names_at-names names tail h)
 
 names_no_digit : (names : Spellings) (tail : List ℕ) → length names ≡ 17 → is_digit (byte_at (names_then names tail) 0) ≡ false
@@ -138,16 +151,17 @@ IsEof (Some e) = e < 2 ^ 64
 is_digit-dash : (c : ℕ) → is_digit c ≡ true → (c == 45) ≡ false
 is_digit-dash c h = is_false (c == 45) (λ e. false≢true (subst (λ (b : ℕ). is_digit b ≡ true) (eqb-true c 45 e) h))
 
-pub eof_at-eof : (e : Option ℕ) (names : Spellings) (tail : List ℕ) → IsEof e → length names ≡ 17 → eof_at (eof_then e (names_then names tail)) ≡ (e, names_then names tail)
+pub eof_at-eof : (eof : Option ℕ) (names : Spellings) (tail : List ℕ) → IsEof eof → length names ≡ 17
+    → eof_at (eof_then eof (names_then names tail)) ≡ (eof, names_then names tail)
 unfolding eof_at
 eof_at-eof None names tail h l = refl
-eof_at-eof (Some e) names tail h l =
+eof_at-eof (Some eof) names tail h l =
     let t : List ℕ = names_then names tail in
-    rw (is_digit-dash (byte_at (decimal e ++ names_then names tail) 0) (decimal_first e (names_then names tail) h), front-until is_digit (decimal e) (names_then names tail) (decimal_digits e h) (names_no_digit names tail l), behind-until is_digit (decimal e) (names_then names tail) (decimal_digits e h) (names_no_digit names tail l), decimal_value e h) refl
+    rw (is_digit-dash (byte_at (decimal eof ++ names_then names tail) 0) (decimal_first eof (names_then names tail) h), front-until is_digit (decimal eof) (names_then names tail) (decimal_digits eof h) (names_no_digit names tail l), behind-until is_digit (decimal eof) (names_then names tail) (decimal_digits eof h) (names_no_digit names tail l), decimal_value eof h) refl
 
 -- ---- the declarations
 
-EachLetter-words : (b : Bool) (word : List ℕ) → IsWords b word → EachLetter is_in_type word
+EachLetter-words : (flag : Bool) (word : List ℕ) → IsWords flag word → EachLetter is_in_type word
 EachLetter-words true [] h = tt
 EachLetter-words false [] h = tt
 EachLetter-words true (c ∷ word) h = (is_in_type-identifier c h.0, EachLetter-words false word h.1)
@@ -157,7 +171,8 @@ EachLetter-words false (c ∷ word) h = (h.0, EachLetter-words (c == 32) word h.
 pub record NoDeclarations (tail : List ℕ) : Type 0 where
   pub no_semicolon : (if is_tab tail then byte_at (behind is_in_type (drop 1 tail)) 0 == 59 else false) ≡ false
 
-pub declarations_at-declarations : (names : Spellings) (d : Bool) (tail : List ℕ) → AreAllowed names → NoDeclarations tail → declarations_at (declarations_then names d tail) ≡ (d, tail)
+pub declarations_at-declarations : (names : Spellings) (declares : Bool) (tail : List ℕ) → AreAllowed names → NoDeclarations tail
+    → declarations_at (declarations_then names declares tail) ≡ (declares, tail)
 unfolding declarations_at
 declarations_at-declarations names false tail allowed q = rw q.no_semicolon refl
 declarations_at-declarations names true tail allowed q =
@@ -171,24 +186,26 @@ abbrev pub AreCases : List StateCase → Type 0
 AreCases [] = Unit {0}
 AreCases (c ∷ cases) = ((c.state < 2 ^ 64) × (c.block < 2 ^ 64)) × AreCases cases
 
-state_cases_at-cases : (k number : ℕ) (cases : List StateCase) (tail : List ℕ) → number < 2 ^ 64 → AreCases cases → length cases ≤ k → (byte_at tail 1 == 99) ≡ false → state_cases_at k (state_cases_then number cases tail) ≡ (cases, tail)
+state_cases_at-cases : (k number : ℕ) (cases : List StateCase) (tail : List ℕ) → number < 2 ^ 64 → AreCases cases → length cases ≤ k
+    → (byte_at tail 1 == 99) ≡ false → state_cases_at k (state_cases_then number cases tail) ≡ (cases, tail)
 unfolding state_cases_at
 state_cases_at-cases zero number [] tail short h le q = refl
 state_cases_at-cases (suc k) number [] tail short h le q = rw q refl
 state_cases_at-cases zero number (c ∷ cases) tail short h le q = absurd (omega arith)
 state_cases_at-cases (suc k) number (c ∷ cases) tail short h le q =
-    let appended_next : List ℕ = state_cases_then number cases tail in
+    let others : List ℕ = state_cases_then number cases tail in
     let rest : state_cases_at k (state_cases_then number cases tail) ≡ (cases, tail) = state_cases_at-cases k number cases tail short h.1 (omega arith) q in
     rw (
-      front-stop is_digit (decimal c.state) 58 (goto_then number c.block appended_next) (decimal_digits c.state h.0.0) refl,
-      behind-stop is_digit (decimal c.state) 58 (goto_then number c.block appended_next) (decimal_digits c.state h.0.0) refl,
+      front-stop is_digit (decimal c.state) 58 (goto_then number c.block others) (decimal_digits c.state h.0.0) refl,
+      behind-stop is_digit (decimal c.state) 58 (goto_then number c.block others) (decimal_digits c.state h.0.0) refl,
       decimal_value c.state h.0.0,
-      goto_block-goto number c.block appended_next short h.0.1,
-      goto_tail-goto number c.block appended_next short h.0.1,
+      goto_block-goto number c.block others short h.0.1,
+      goto_tail-goto number c.block others short h.0.1,
       rest,
     ) refl
 
-behind-start : (number : ℕ) (conds : List CondCase) (tail : List ℕ) → number < 2 ^ 64 → behind is_in_identifier (start_then number conds (59 ∷ tail)) ≡ 59 ∷ tail
+behind-start : (number : ℕ) (conds : List CondCase) (tail : List ℕ) → number < 2 ^ 64
+    → behind is_in_identifier (start_then number conds (59 ∷ tail)) ≡ 59 ∷ tail
 behind-start number [] tail h = rw (behind-word is_in_identifier (decimal number) (95 ∷ (decimal 0 ++ 59 ∷ tail)) (decimal_identifier number h), behind-stop is_in_identifier (decimal 0) 59 tail (decimal_identifier 0 (omega arith)) refl) refl
 behind-start number (c ∷ cases) tail h = rw (behind-word is_in_identifier (decimal number) (codes "_cond" ++ 59 ∷ tail) (decimal_identifier number h)) refl
 
@@ -196,14 +213,17 @@ abbrev pub AreStates : ℕ → Option (List StateCase) → Type 0
 AreStates fuel None = Unit {0}
 AreStates fuel (Some cases) = AreCases cases × (length cases ≤ fuel)
 
-pub state_switch_at-switch : (fuel number : ℕ) (names : Spellings) (conds : List CondCase) (st : Option (List StateCase)) (tail : List ℕ) → number < 2 ^ 64 → AreAllowed names → AreStates fuel st → is_tab tail ≡ false → state_switch_at fuel (state_switch_then number names conds st tail) ≡ (st, tail)
+pub state_switch_at-switch : (fuel number : ℕ) (names : Spellings) (conds : List CondCase) (states : Option (List StateCase)) (tail : List ℕ)
+    → number < 2 ^ 64 → AreAllowed names → AreStates fuel states → is_tab tail ≡ false
+    → state_switch_at fuel (state_switch_then number names conds states tail) ≡ (states, tail)
 unfolding state_switch_at
 state_switch_at-switch fuel number names conds None tail short allowed h q = rw q refl
 state_switch_at-switch fuel number names conds (Some cases) tail short allowed h q =
     let y : List ℕ = codes "\tdefault: goto " ++ start_then number conds (codes ";\n\t}\n" ++ tail) in
     rw (behind-word is_in_spelling (get_state names) (codes "()) {\n" ++ state_cases_then number cases y) allowed.get_state.1, state_cases_at-cases fuel number cases y short h.0 h.1 refl, behind-start number conds (codes "\n\t}\n" ++ tail) short) refl
 
-pub NoDeclarations-states : (number : ℕ) (names : Spellings) (conds : List CondCase) (st : Option (List StateCase)) (tail : List ℕ) → is_tab tail ≡ false → NoDeclarations (state_switch_then number names conds st tail)
+pub NoDeclarations-states : (number : ℕ) (names : Spellings) (conds : List CondCase) (states : Option (List StateCase)) (tail : List ℕ)
+    → is_tab tail ≡ false → NoDeclarations (state_switch_then number names conds states tail)
 NoDeclarations-states number names conds None tail q = record { no_semicolon = rw q refl }
 NoDeclarations-states number names conds (Some cases) tail q = record { no_semicolon = refl }
 
@@ -213,40 +233,45 @@ abbrev pub AreConds : List CondCase → Type 0
 AreConds [] = Unit {0}
 AreConds (c ∷ cases) = (IsIdentifier c.cond × (c.block < 2 ^ 64)) × AreConds cases
 
-cond_cases_at-cases : (k number : ℕ) (names : Spellings) (cases : List CondCase) (tail : List ℕ) → number < 2 ^ 64 → AreAllowed names → AreConds cases → length cases ≤ k → (byte_at tail 1 == 99) ≡ false → cond_cases_at k names (cond_cases_then number names cases tail) ≡ (cases, tail)
+cond_cases_at-cases : (k number : ℕ) (names : Spellings) (conds : List CondCase) (tail : List ℕ) → number < 2 ^ 64 → AreAllowed names → AreConds conds
+    → length conds ≤ k → (byte_at tail 1 == 99) ≡ false → cond_cases_at k names (cond_cases_then number names conds tail) ≡ (conds, tail)
 unfolding cond_cases_at
 cond_cases_at-cases zero number names [] tail short allowed h le q = refl
 cond_cases_at-cases (suc k) number names [] tail short allowed h le q = rw q refl
-cond_cases_at-cases zero number names (c ∷ cases) tail short allowed h le q = absurd (omega arith)
-cond_cases_at-cases (suc k) number names (c ∷ cases) tail short allowed h le q =
-    let appended_next : List ℕ = cond_cases_then number names cases tail in
-    let rest : cond_cases_at k names (cond_cases_then number names cases tail) ≡ (cases, tail) = cond_cases_at-cases k number names cases tail short allowed h.1 (omega arith) q in
+cond_cases_at-cases zero number names (c ∷ conds) tail short allowed h le q = absurd (omega arith)
+cond_cases_at-cases (suc k) number names (c ∷ conds) tail short allowed h le q =
+    let others : List ℕ = cond_cases_then number names conds tail in
+    let rest : cond_cases_at k names (cond_cases_then number names conds tail) ≡ (conds, tail) = cond_cases_at-cases k number names conds tail short allowed h.1 (omega arith) q in
     let word : EachLetter is_in_identifier (condition_prefix names ++ c.cond) = EachLetter-append is_in_identifier (condition_prefix names) c.cond (EachLetter-identifier (condition_prefix names) allowed.condition_prefix) (EachLetter-identifier c.cond h.0.0) in
     rw (
-      front-stop is_in_identifier (condition_prefix names ++ c.cond) 58 (goto_then number c.block appended_next) word refl,
-      behind-stop is_in_identifier (condition_prefix names ++ c.cond) 58 (goto_then number c.block appended_next) word refl,
+      front-stop is_in_identifier (condition_prefix names ++ c.cond) 58 (goto_then number c.block others) word refl,
+      behind-stop is_in_identifier (condition_prefix names ++ c.cond) 58 (goto_then number c.block others) word refl,
       drop-front (condition_prefix names) c.cond,
-      goto_block-goto number c.block appended_next short h.0.1,
-      goto_tail-goto number c.block appended_next short h.0.1,
+      goto_block-goto number c.block others short h.0.1,
+      goto_tail-goto number c.block others short h.0.1,
       rest,
     ) refl
 
--- where there is no condition switch, block 0 follows byte_at once
-pub cond_switch_at-switch : (fuel number : ℕ) (names : Spellings) (cases : List CondCase) (tail : List ℕ) → number < 2 ^ 64 → AreAllowed names → AreConds cases → length cases ≤ fuel → (length cases ≡ 0 → is_digit (byte_at (block_at tail) 0) ≡ true) → cond_switch_at fuel names (cond_switch_then number names cases tail) ≡ (cases, tail)
+-- where there is no switch over conditions, block 0 follows at once
+pub cond_switch_at-switch : (fuel number : ℕ) (names : Spellings) (conds : List CondCase) (tail : List ℕ) → number < 2 ^ 64 → AreAllowed names
+    → AreConds conds → length conds ≤ fuel → (length conds ≡ 0 → is_digit (byte_at (block_at tail) 0) ≡ true)
+    → cond_switch_at fuel names (cond_switch_then number names conds tail) ≡ (conds, tail)
 unfolding cond_switch_at
 cond_switch_at-switch fuel number names [] tail short allowed h le q = rw (q refl) refl
-cond_switch_at-switch fuel number names (c ∷ cases) tail short allowed h le q =
+cond_switch_at-switch fuel number names (c ∷ conds) tail short allowed h le q =
     let y : List ℕ = codes "\t}\n" ++ tail in
-    let t : List ℕ = cond_cases_then number names (c ∷ cases) y in
-    rw (behind-stop is_digit (decimal number) 95 (codes "cond:\n\tswitch (" ++ (get_condition names ++ (codes "()) {\n" ++ t))) (decimal_digits number short) refl, behind-word is_in_spelling (get_condition names) (codes "()) {\n" ++ t) allowed.get_condition.1, cond_cases_at-cases fuel number names (c ∷ cases) y short allowed h le refl) refl
+    let t : List ℕ = cond_cases_then number names (c ∷ conds) y in
+    rw (behind-stop is_digit (decimal number) 95 (codes "cond:\n\tswitch (" ++ (get_condition names ++ (codes "()) {\n" ++ t))) (decimal_digits number short) refl, behind-word is_in_spelling (get_condition names) (codes "()) {\n" ++ t) allowed.get_condition.1, cond_cases_at-cases fuel number names (c ∷ conds) y short allowed h le refl) refl
 
-pub is_tab-conds : (number : ℕ) (names : Spellings) (cases : List CondCase) (tail : List ℕ) → is_tab tail ≡ false → is_tab (cond_switch_then number names cases tail) ≡ false
+pub is_tab-conds : (number : ℕ) (names : Spellings) (conds : List CondCase) (tail : List ℕ) → is_tab tail ≡ false
+    → is_tab (cond_switch_then number names conds tail) ≡ false
 is_tab-conds number names [] tail q = q
-is_tab-conds number names (c ∷ cases) tail q = refl
+is_tab-conds number names (c ∷ conds) tail q = refl
 
 pub is_tab-statement : (tail : List ℕ) → begins_statement tail ≡ false → is_tab tail ≡ false
 is_tab-statement tail h = is_false (is_tab tail) (λ e. false≢true (sym h ∙ or-left (byte_at tail 0 == 9) (byte_at tail 0 == 35) e))
 
-pub line_at-line : (l : Option LineMark) (tail : List ℕ) → IsLine l → (byte_at tail 0 == 35) ≡ false → line_at (line_then l tail) ≡ (l, tail)
+pub line_at-line : (line : Option LineMark) (tail : List ℕ) → IsLine line → (byte_at tail 0 == 35) ≡ false
+    → line_at (line_then line tail) ≡ (line, tail)
 line_at-line None tail h q = rw q refl
-line_at-line (Some l) tail h q = rw (mark_at-line l tail (omega arith)) refl
+line_at-line (Some line) tail h q = rw (mark_at-line line tail (omega arith)) refl

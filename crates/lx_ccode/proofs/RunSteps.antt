@@ -5,7 +5,7 @@ use Rattle.std.proofs.lemmas.Bool.{false≢true, leb-false}
 use Rattle.std.proofs.Math.Nat.{mul-le-mul_left, mul-le-mul_right}
 use Rattle.lx_ccode.specs.declared.piece.Stmt.{Stmt}
 use Rattle.lx_ccode.specs.declared.piece.Piece.{Piece}
-use Rattle.lx_ccode.specs.Statements.{block_count}
+use Rattle.lx_ccode.specs.Statements.{statement_count}
 use Rattle.lx_ccode.specs.Machine.{Machine, Answer, units_of_answers, looped, Next, goes_on, ends, code_at, step}
 use Rattle.lx_ccode.specs.Schedules.{Schedule}
 use Rattle.lx_ccode.specs.Runs.{Ended, ended, loop_count, fresh_machine, entry_block, gone_on, run, run_of, IsRun, no_code, last_step, loop_step, next_step}
@@ -14,12 +14,12 @@ use Rattle.lx_ccode.proofs.Steps.{units_after, units_after-step}
 loop_count-more : (piece : Piece) (start limit more : ℕ) → loop_count piece start limit ≤ loop_count piece start (limit + more)
 loop_count-more piece start limit more =
     let grows : (limit - start) + 2 ≤ ((limit + more) - start) + 2 = omega arith in
-    mul-le-mul_right (block_count piece.blocks) (mul-le-mul_left 2 grows)
+    mul-le-mul_right (statement_count piece.blocks) (mul-le-mul_left 2 grows)
 
-loop_count-some : (piece : Piece) (start limit : ℕ) → 0 < block_count piece.blocks → 0 < loop_count piece start limit
+loop_count-some : (piece : Piece) (start limit : ℕ) → 0 < statement_count piece.blocks → 0 < loop_count piece start limit
 loop_count-some piece start limit some =
     let factor : 1 ≤ 2 * ((limit - start) + 2) = omega arith in
-    let product = mul-le-mul_right (block_count piece.blocks) factor in
+    let product = mul-le-mul_right (statement_count piece.blocks) factor in
     omega (arith, product)
 
 module _ (piece : Piece) (stream : List ℕ) (start : ℕ) where
@@ -37,14 +37,17 @@ module _ (piece : Piece) (stream : List ℕ) (start : ℕ) where
   -- the run behind a step is one that the steps make
   abbrev GoesOn : (fuel steps : ℕ) → Type 0
   GoesOn fuel steps = (code : List Stmt) (machine : Machine) (answers : List Answer) → loop_count piece start (machine.limit + units_of_answers answers) ≤ suc steps + fuel
-      → suc steps < loop_count piece start machine.limit → IsRun piece stream start (suc steps) code machine answers (behind_step fuel steps code machine answers)
+      → suc steps < loop_count piece start machine.limit
+      → IsRun piece stream start (suc steps) code machine answers (behind_step fuel steps code machine answers)
 
   module _ (fuel steps : ℕ) (statement : Stmt) (rest : List Stmt) (machine : Machine) (answers : List Answer) where
     abbrev RunsTo : Ended → Type 0
     RunsTo end = IsRun piece stream start steps (statement ∷ rest) machine answers end
 
-    by_count : (code : List Stmt) (after : Machine) (others : List Answer) (test : Bool) → loop_count piece start (machine.limit + units_of_answers answers) ≤ steps + suc fuel → GoesOn fuel steps
-        → step piece stream statement rest machine answers ≡ goes_on code after others → nat_le (loop_count piece start after.limit) (suc steps) ≡ test
+    by_count : (code : List Stmt) (after : Machine) (others : List Answer) (test : Bool)
+        → loop_count piece start (machine.limit + units_of_answers answers) ≤ steps + suc fuel → GoesOn fuel steps
+        → step piece stream statement rest machine answers ≡ goes_on code after others
+        → nat_le (loop_count piece start after.limit) (suc steps) ≡ test
         → RunsTo (gone_on piece stream start (suc steps) (behind_step fuel steps) (goes_on code after others))
     by_count code after others true enough again e test = subst RunsTo (rw test refl) (loop_step e test)
     by_count code after others false enough again e test =
@@ -74,7 +77,8 @@ module _ (piece : Piece) (stream : List ℕ) (start : ℕ) where
       (λ code after others enough' few'. IsRun-run fuel (suc steps) code after others enough' few') refl
 
   -- the run under a schedule is one that the steps make
-  pub IsRun-run_of : (cond : List ℕ) (schedule : Schedule) (code : List Stmt) → 0 < block_count piece.blocks → code_at piece.blocks (entry_block piece.conds cond) ≡ Some code
+  pub IsRun-run_of : (cond : List ℕ) (schedule : Schedule) (code : List Stmt) → 0 < statement_count piece.blocks
+      → code_at piece.blocks (entry_block piece.conds cond) ≡ Some code
       → IsRun piece stream start 0 code (fresh_machine start schedule.first cond) schedule.answers (run_of piece stream start cond schedule)
   unfolding run_of
   IsRun-run_of cond schedule code some entry =

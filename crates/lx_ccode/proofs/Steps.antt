@@ -1,6 +1,6 @@
 -- What one step keeps: the parts of the machine that the statement is not for, and the sum of the limit and of the units to come.
 use Rattle.std.proofs.Common.{◌≡◌, ℕ, ◌+◌, Bool, true, false, List, [], ◌∷◌, Option, Some, None, refl, sym, ap, ◌∙◌, arith, zero, suc}
-use Rattle.std.specs.Prelude.{if◌then◌else◌, nat_le, ◌==◌}
+use Rattle.std.specs.Prelude.{if◌then◌else◌, ◌==◌}
 use Rattle.std.proofs.lemmas.Bool.{eqb-true, false≢true}
 use Rattle.lx_ccode.specs.declared.piece.Stmt.{Stmt}
 use Rattle.lx_ccode.specs.declared.piece.Stmt.TheVariants.{Peek, Skip, Backup, Restore, Accept, Set, Unset, Copy, MSet, MUnset, MCopy, IfUnit, IfAccept, IfEnd, State, Need, Try, Cond, Tag, Count, End, Back, Goto, Leave, Code, Jump}
@@ -66,7 +66,7 @@ units_after-skip sum false rest machine answers same = refl
 units_after-if_unit : (sum : ℕ) (unit : Option ℕ) (greatest : ℕ) (target : Option (List Stmt)) (rest : List Stmt) (machine : Machine) (answers : List Answer)
     → machine.limit + units_of_answers answers ≡ sum → units_after sum (if_unit unit greatest target rest machine answers) ≡ sum
 units_after-if_unit sum None greatest target rest machine answers same = refl
-units_after-if_unit sum (Some unit) greatest target rest machine answers same = units_after-choose sum (nat_le unit greatest) target rest machine answers same
+units_after-if_unit sum (Some unit) greatest target rest machine answers same = units_after-choose sum _ target rest machine answers same
 
 units_after-write_history : (sum history : ℕ) (content : List (Option ℕ)) (rest : List Stmt) (machine : Machine) (answers : List Answer)
     → machine.limit + units_of_answers answers ≡ sum → units_after sum (write_history history content rest machine answers) ≡ sum
@@ -278,7 +278,7 @@ history_changed statement machine place value is = record {
   values = λ h. refl;
 }
 
--- the machine of a piece whose steps change it
+-- a jump changes nothing more
 ChangesOnly-jump : (statement : Stmt) (before machine : Machine) (target : Option (List Stmt)) (answers : List Answer)
     → ChangesOnly statement before machine → ChangesOnly statement before (machine_after (jump target machine answers))
 ChangesOnly-jump statement before machine None answers changes = changes
@@ -310,7 +310,7 @@ ChangesOnly-choose statement false target rest machine answers = ChangesOnly-sel
 ChangesOnly-if_unit : (statement : Stmt) (unit : Option ℕ) (greatest : ℕ) (target : Option (List Stmt)) (rest : List Stmt) (machine : Machine) (answers : List Answer)
     → ChangesOnly statement machine (machine_after (if_unit unit greatest target rest machine answers))
 ChangesOnly-if_unit statement None greatest target rest machine answers = ChangesOnly-self statement machine
-ChangesOnly-if_unit statement (Some unit) greatest target rest machine answers = ChangesOnly-choose statement (nat_le unit greatest) target rest machine answers
+ChangesOnly-if_unit statement (Some unit) greatest target rest machine answers = ChangesOnly-choose statement _ target rest machine answers
 
 ChangesOnly-write_history : (statement : Stmt) (history : ℕ) (content : List (Option ℕ)) (rest : List Stmt) (machine : Machine) (answers : List Answer)
     → history_written statement ≡ Some history → ChangesOnly statement machine (machine_after (write_history history content rest machine answers))
@@ -356,22 +356,22 @@ module _ (piece : Piece) (stream : List ℕ) (rest : List Stmt) (machine : Machi
   pub ChangesOnly-step : (statement : Stmt) → ChangesOnly statement machine (machine_after (step piece stream statement rest machine answers))
   ChangesOnly-step Peek = ChangesOnly-peek Peek _ rest machine answers refl
   ChangesOnly-step Skip = ChangesOnly-skip Skip _ rest machine answers refl
-  ChangesOnly-step Backup = marker_moved Backup machine machine.cursor refl
-  ChangesOnly-step Restore = cursor_moved Restore machine machine.marker refl
-  ChangesOnly-step (Accept accept) = accept_kept (Accept accept) machine accept refl
-  ChangesOnly-step (Set register) = register_changed (Set register) machine register (Some machine.cursor) refl
-  ChangesOnly-step (Unset register) = register_changed (Unset register) machine register None refl
-  ChangesOnly-step (Copy register source) = register_changed (Copy register source) machine register (machine.registers source) refl
+  ChangesOnly-step Backup = marker_moved Backup machine _ refl
+  ChangesOnly-step Restore = cursor_moved Restore machine _ refl
+  ChangesOnly-step (Accept accept) = accept_kept (Accept accept) machine _ refl
+  ChangesOnly-step (Set register) = register_changed (Set register) machine register _ refl
+  ChangesOnly-step (Unset register) = register_changed (Unset register) machine register _ refl
+  ChangesOnly-step (Copy register source) = register_changed (Copy register source) machine register _ refl
   ChangesOnly-step (MSet history) = ChangesOnly-write_history (MSet history) history _ rest machine answers refl
   ChangesOnly-step (MUnset history) = ChangesOnly-write_history (MUnset history) history _ rest machine answers refl
   ChangesOnly-step (MCopy history source) = ChangesOnly-write_history (MCopy history source) history _ rest machine answers refl
   ChangesOnly-step (IfUnit greatest block) = ChangesOnly-if_unit (IfUnit greatest block) machine.unit greatest _ rest machine answers
   ChangesOnly-step (IfAccept accept block) = ChangesOnly-choose (IfAccept accept block) _ _ rest machine answers
   ChangesOnly-step (IfEnd block) = ChangesOnly-choose (IfEnd block) _ _ rest machine answers
-  ChangesOnly-step (State state) = state_stored (State state) machine (Some state) refl
+  ChangesOnly-step (State state) = state_stored (State state) machine _ refl
   ChangesOnly-step (Need units) = ChangesOnly-need piece.blocks units rest machine machine.limit answers
   ChangesOnly-step (Try block) = ChangesOnly-try piece.blocks block _ rest machine answers
-  ChangesOnly-step (Cond cond) = condition_set (Cond cond) machine cond _ refl refl
+  ChangesOnly-step (Cond cond) = condition_set (Cond cond) machine _ _ refl refl
   ChangesOnly-step (Tag tag true history) = value_given (Tag tag true history) machine _ refl
   ChangesOnly-step (Tag tag false register) = value_given (Tag tag false register) machine _ refl
   ChangesOnly-step (Count groups) = value_given (Count groups) machine _ refl
@@ -396,7 +396,7 @@ answers_after-choose false target rest machine answers = refl
 answers_after-if_unit : (unit : Option ℕ) (greatest : ℕ) (target : Option (List Stmt)) (rest : List Stmt) (machine : Machine) (answers : List Answer)
     → answers_after answers (if_unit unit greatest target rest machine answers) ≡ answers
 answers_after-if_unit None greatest target rest machine answers = refl
-answers_after-if_unit (Some unit) greatest target rest machine answers = answers_after-choose (nat_le unit greatest) target rest machine answers
+answers_after-if_unit (Some unit) greatest target rest machine answers = answers_after-choose _ target rest machine answers
 
 answers_after-peek : (unit : Option ℕ) (rest : List Stmt) (machine : Machine) (answers : List Answer) → answers_after answers (peek unit rest machine answers) ≡ answers
 answers_after-peek None rest machine answers = refl

@@ -1,6 +1,6 @@
 -- A step is stuck exactly where its statement cannot do what it is for.
 use Rattle.std.proofs.Common.{◌≡◌, ℕ, zero, suc, ◌+◌, ◌<◌, ◌≤◌, Bool, true, false, List, [], ◌∷◌, length, Option, Some, None, refl, sym, ap, ◌∙◌, arith}
-use Rattle.std.specs.Prelude.{if◌then◌else◌, nat_lt, nat_le, ◌==◌, ◌↔◌, slice_get}
+use Rattle.std.specs.Prelude.{if◌then◌else◌, nat_lt, ◌==◌, ◌↔◌, slice_get}
 use Rattle.std.proofs.lemmas.Bool.{false≢true, eq-eqb, eqb-true, ltb-true, ltb-false}
 use Rattle.lx_ccode.specs.declared.piece.Stmt.{Stmt}
 use Rattle.lx_ccode.specs.declared.piece.Stmt.TheVariants.{Peek, Skip, Backup, Restore, Accept, Set, Unset, Copy, MSet, MUnset, MCopy, IfUnit, IfAccept, IfEnd, State, Need, Try, Cond, Tag, Count, End, Back, Goto, Leave, Code, Jump}
@@ -11,7 +11,7 @@ use Rattle.lx_ccode.specs.Stuck.{outcome_after, IsStuck, CannotDo, HasWayBack}
 use Rattle.lx_ccode.specs.Validity.{JumpsBelow}
 
 -- a block below the number of blocks has code
-code_at-below : (blocks : List CodeBlock) (block : ℕ) → block < length blocks → code_at blocks (Some block) ≡ None → ⊥
+pub code_at-below : (blocks : List CodeBlock) (block : ℕ) → block < length blocks → code_at blocks (Some block) ≡ None → ⊥
 code_at-below [] block below none = omega arith
 code_at-below (first ∷ blocks) zero below none = cc
 code_at-below (first ∷ blocks) (suc block) below none = code_at-below blocks block (omega arith) none
@@ -96,7 +96,7 @@ IsStuck-if_unit : (unit : Option ℕ) (greatest : ℕ) (target : Option (List St
     → IsStuck (if_unit unit greatest target rest machine answers) ↔ (unit ≡ None)
 IsStuck-if_unit None greatest target rest machine answers some = (λ is. refl, λ h. refl)
 IsStuck-if_unit (Some unit) greatest target rest machine answers some =
-    (λ is. absurd (IsStuck-choose (nat_le unit greatest) target rest machine answers some is), λ h. absurd cc)
+    (λ is. absurd (IsStuck-choose _ target rest machine answers some is), λ h. absurd cc)
 
 IsStuck-back : (offset : Option ℕ) (rest : List Stmt) (machine : Machine) (answers : List Answer) → IsStuck (back offset rest machine answers) ↔ (offset ≡ None)
 IsStuck-back None rest machine answers = (λ is. refl, λ h. refl)

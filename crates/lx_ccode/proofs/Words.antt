@@ -12,13 +12,13 @@ use Rattle.lx_ccode.specs.Reading.{argument, byte_at, callee, file_at, is_hexade
 use Rattle.lx_ccode.specs.Text.{escaped, hexadecimal}
 use Rattle.lx_ccode.specs.Words.{behind, equal_words, front, is_in_type}
 
-pub or-left : (a b : Bool) → a ≡ true → a || b ≡ true
-or-left true b h = refl
-or-left false b h = absurd cc
+pub or-left : (a flag : Bool) → a ≡ true → a || flag ≡ true
+or-left true flag h = refl
+or-left false flag h = absurd cc
 
-pub or-right : (a b : Bool) → b ≡ true → a || b ≡ true
-or-right true b h = refl
-or-right false b h = h
+pub or-right : (a flag : Bool) → flag ≡ true → a || flag ≡ true
+or-right true flag h = refl
+or-right false flag h = h
 
 pub is_in_identifier-digit : (letter : ℕ) → is_digit letter ≡ true → is_in_identifier letter ≡ true
 is_in_identifier-digit letter h = or-left (is_digit letter) (begins_identifier letter) h
@@ -32,17 +32,19 @@ is_in_spelling-identifier letter h = rw h refl
 pub is_in_type-identifier : (letter : ℕ) → is_in_identifier letter ≡ true → is_in_type letter ≡ true
 is_in_type-identifier letter h = or-left (is_in_identifier letter) (letter == 32) h
 
-pub EachLetter-from : (test q : ℕ → Bool) → ((letter : ℕ) → test letter ≡ true → q letter ≡ true) → (word : List ℕ) → EachLetter test word → EachLetter q word
+pub EachLetter-from : (test q : ℕ → Bool) → ((letter : ℕ) → test letter ≡ true → q letter ≡ true) → (word : List ℕ) → EachLetter test word
+    → EachLetter q word
 EachLetter-from test q f [] h = tt
 EachLetter-from test q f (letter ∷ word) h = (f letter h.0, EachLetter-from test q f word h.1)
 
-pub EachLetter-append : (test : ℕ → Bool) (v word : List ℕ) → EachLetter test v → EachLetter test word → EachLetter test (v ++ word)
+pub EachLetter-append : (test : ℕ → Bool) (front_word word : List ℕ) → EachLetter test front_word → EachLetter test word
+    → EachLetter test (front_word ++ word)
 EachLetter-append test [] word h k = k
-EachLetter-append test (letter ∷ v) word h k = (h.0, EachLetter-append test v word h.1 k)
+EachLetter-append test (letter ∷ front_word) word h k = (h.0, EachLetter-append test front_word word h.1 k)
 
-pub EachLetter-right : (test : ℕ → Bool) (v word : List ℕ) → EachLetter test (v ++ word) → EachLetter test word
+pub EachLetter-right : (test : ℕ → Bool) (front_word word : List ℕ) → EachLetter test (front_word ++ word) → EachLetter test word
 EachLetter-right test [] word h = h
-EachLetter-right test (letter ∷ v) word h = EachLetter-right test v word h.1
+EachLetter-right test (letter ∷ front_word) word h = EachLetter-right test front_word word h.1
 
 pub each_letter-true : (test : ℕ → Bool) (word : List ℕ) → EachLetter test word → each_letter test word ≡ true
 each_letter-true test [] h = refl
@@ -74,37 +76,38 @@ pub equal_words-self : (word : List ℕ) → equal_words word word ≡ true
 equal_words-self [] = refl
 equal_words-self (a ∷ word) = rw (eqb-self a) (equal_words-self word)
 
-pub equal_words-true : (v word : List ℕ) → equal_words v word ≡ true → v ≡ word
+pub equal_words-true : (front_word word : List ℕ) → equal_words front_word word ≡ true → front_word ≡ word
 equal_words-true [] [] h = refl
 equal_words-true [] (b ∷ word) h = absurd cc
-equal_words-true (a ∷ v) [] h = absurd cc
-equal_words-true (a ∷ v) (b ∷ word) h = by_head (a == b) refl h (equal_words-true v word) where
-  by_head : (letter : Bool) → (a == b) ≡ letter → (if letter then equal_words v word else false) ≡ true → (equal_words v word ≡ true → v ≡ word) → a ∷ v ≡ b ∷ word
+equal_words-true (a ∷ front_word) [] h = absurd cc
+equal_words-true (a ∷ front_word) (b ∷ word) h = by_head (a == b) refl h (equal_words-true front_word word) where
+  by_head : (letter : Bool) → (a == b) ≡ letter → (if letter then equal_words front_word word else false) ≡ true
+      → (equal_words front_word word ≡ true → front_word ≡ word) → a ∷ front_word ≡ b ∷ word
   by_head true e k f =
       let heads : a ≡ b = eqb-true a b e in
-      let tails : v ≡ word = f k in
+      let tails : front_word ≡ word = f k in
       cc
   by_head false e k f = absurd cc
 
-pub equal_words-false : (v word : List ℕ) → (v ≡ word → ⊥) → equal_words v word ≡ false
-equal_words-false v word h = by_bool (equal_words v word) refl where
-  by_bool : (b : Bool) → equal_words v word ≡ b → equal_words v word ≡ false
-  by_bool true e = absurd (h (equal_words-true v word e))
+pub equal_words-false : (front_word word : List ℕ) → (front_word ≡ word → ⊥) → equal_words front_word word ≡ false
+equal_words-false front_word word h = by_bool (equal_words front_word word) refl where
+  by_bool : (flag : Bool) → equal_words front_word word ≡ flag → equal_words front_word word ≡ false
+  by_bool true e = absurd (h (equal_words-true front_word word e))
   by_bool false e = e
 
 -- ---- prefixes
 
-pub begins_with-append : (v tail : List ℕ) → begins_with v (v ++ tail) ≡ true
+pub begins_with-append : (front_word tail : List ℕ) → begins_with front_word (front_word ++ tail) ≡ true
 begins_with-append [] tail = refl
-begins_with-append (a ∷ v) tail = rw (eqb-self a) (begins_with-append v tail)
+begins_with-append (a ∷ front_word) tail = rw (eqb-self a) (begins_with-append front_word tail)
 
-pub drop-front : (v tail : List ℕ) → drop (length v) (v ++ tail) ≡ tail
+pub drop-front : (front_word tail : List ℕ) → drop (length front_word) (front_word ++ tail) ≡ tail
 drop-front [] tail = refl
-drop-front (a ∷ v) tail = drop-front v tail
+drop-front (a ∷ front_word) tail = drop-front front_word tail
 
-pub take-front : (v tail : List ℕ) → take (length v) (v ++ tail) ≡ v
+pub take-front : (front_word tail : List ℕ) → take (length front_word) (front_word ++ tail) ≡ front_word
 take-front [] tail = refl
-take-front (a ∷ v) tail = ap (λ (l : List ℕ). a ∷ l) (take-front v tail)
+take-front (a ∷ front_word) tail = ap (λ (l : List ℕ). a ∷ l) (take-front front_word tail)
 
 -- ---- numbers
 
@@ -145,7 +148,7 @@ hexadecimal_digits number lt = by_size (nat_lt number 16) where
   all : EachLetter is_hexadecimal (digits 16 true number)
   all = hexadecimal-digits (digits 16 true number) (digits_is_IsNumeral 16 true (omega arith) (omega arith) number (omega arith)).0.1
 
-  by_size : (b : Bool) → EachLetter is_hexadecimal (if b then 48 ∷ digits 16 true number else digits 16 true number)
+  by_size : (flag : Bool) → EachLetter is_hexadecimal (if flag then 48 ∷ digits 16 true number else digits 16 true number)
   by_size true = (refl, all)
   by_size false = all
 
@@ -154,7 +157,7 @@ hexadecimal_value number lt = by_size (nat_lt number 16) where
   value : digits_value 16 (digits 16 true number) ≡ number
   value = (digits_is_IsNumeral 16 true (omega arith) (omega arith) number (omega arith)).1
 
-  by_size : (b : Bool) → digits_value 16 (if b then 48 ∷ digits 16 true number else digits 16 true number) ≡ number
+  by_size : (flag : Bool) → digits_value 16 (if flag then 48 ∷ digits 16 true number else digits 16 true number) ≡ number
   by_size true = value
   by_size false = value
 
@@ -163,11 +166,13 @@ hexadecimal_value number lt = by_size (nat_lt number 16) where
 pub file_at-escaped : (word tail : List ℕ) → file_at false (escaped word ++ 34 ∷ tail) ≡ (word, tail)
 file_at-escaped [] tail = refl
 file_at-escaped (letter ∷ word) tail = by_quote (letter == 34) refl (file_at-escaped word tail) where
-  by_slash : (b : Bool) → (letter == 92) ≡ b → (letter == 34) ≡ false → file_at false (escaped word ++ 34 ∷ tail) ≡ (word, tail) → file_at false (escaped (letter ∷ word) ++ 34 ∷ tail) ≡ (letter ∷ word, tail)
+  by_slash : (flag : Bool) → (letter == 92) ≡ flag → (letter == 34) ≡ false → file_at false (escaped word ++ 34 ∷ tail) ≡ (word, tail)
+      → file_at false (escaped (letter ∷ word) ++ 34 ∷ tail) ≡ (letter ∷ word, tail)
   by_slash true e q rest = rw (q, e, rest) refl
   by_slash false e q rest = rw (q, e, q, e, rest) refl
 
-  by_quote : (b : Bool) → (letter == 34) ≡ b → file_at false (escaped word ++ 34 ∷ tail) ≡ (word, tail) → file_at false (escaped (letter ∷ word) ++ 34 ∷ tail) ≡ (letter ∷ word, tail)
+  by_quote : (flag : Bool) → (letter == 34) ≡ flag → file_at false (escaped word ++ 34 ∷ tail) ≡ (word, tail)
+      → file_at false (escaped (letter ∷ word) ++ 34 ∷ tail) ≡ (letter ∷ word, tail)
   by_quote true e rest = rw (e, rest) refl
   by_quote false e rest = by_slash (letter == 92) refl e rest
 
@@ -177,54 +182,56 @@ EachLetter-reverse : (test : ℕ → Bool) (word : List ℕ) → EachLetter test
 EachLetter-reverse test [] h = tt
 EachLetter-reverse test (letter ∷ word) h = subst (λ (l : List ℕ). EachLetter test l) (sym (reverse-append (letter ∷ []) word)) (EachLetter-append test (reverse word) (letter ∷ []) (EachLetter-reverse test word h.1) (h.0, tt))
 
-reverse-call : (g a : List ℕ) → reverse (g ++ 40 ∷ (a ++ 41 ∷ [])) ≡ 41 ∷ (reverse a ++ 40 ∷ reverse g)
-reverse-call g a = reverse-append g (40 ∷ (a ++ 41 ∷ []))
-    ∙ ap (λ (l : List ℕ). l ++ reverse g) (reverse-append (40 ∷ []) (a ++ 41 ∷ []) ∙ ap (λ (l : List ℕ). l ++ 40 ∷ []) (reverse-append a (41 ∷ [])))
-    ∙ append_assoc (41 ∷ reverse a) (40 ∷ []) (reverse g)
+reverse-call : (name before : List ℕ) → reverse (name ++ 40 ∷ (before ++ 41 ∷ [])) ≡ 41 ∷ (reverse before ++ 40 ∷ reverse name)
+reverse-call name before = reverse-append name (40 ∷ (before ++ 41 ∷ []))
+    ∙ ap (λ (l : List ℕ). l ++ reverse name) (reverse-append (40 ∷ []) (before ++ 41 ∷ []) ∙ ap (λ (l : List ℕ). l ++ 40 ∷ []) (reverse-append before (41 ∷ [])))
+    ∙ append_assoc (41 ∷ reverse before) (40 ∷ []) (reverse name)
 
-pub callee-call : (g a : List ℕ) → EachLetter is_in_identifier a → callee (g ++ 40 ∷ (a ++ 41 ∷ [])) ≡ g
+pub callee-call : (name before : List ℕ) → EachLetter is_in_identifier before → callee (name ++ 40 ∷ (before ++ 41 ∷ [])) ≡ name
 unfolding callee
-callee-call g a h = rw (reverse-call g a, behind-word is_in_identifier (reverse a) (40 ∷ reverse g) (EachLetter-reverse is_in_identifier a h)) (reverse-reverse g)
+callee-call name before h = rw (reverse-call name before, behind-word is_in_identifier (reverse before) (40 ∷ reverse name) (EachLetter-reverse is_in_identifier before h)) (reverse-reverse name)
 
-pub argument-call : (g a : List ℕ) → EachLetter is_in_identifier a → argument (g ++ 40 ∷ (a ++ 41 ∷ [])) ≡ a
+pub argument-call : (name before : List ℕ) → EachLetter is_in_identifier before → argument (name ++ 40 ∷ (before ++ 41 ∷ [])) ≡ before
 unfolding argument
-argument-call g a h = rw (reverse-call g a, front-word is_in_identifier (reverse a) (40 ∷ reverse g) (EachLetter-reverse is_in_identifier a h), append-nil (reverse a)) (reverse-reverse a)
+argument-call name before h = rw (reverse-call name before, front-word is_in_identifier (reverse before) (40 ∷ reverse name) (EachLetter-reverse is_in_identifier before h), append-nil (reverse before)) (reverse-reverse before)
 
 -- ---- registers
 
-pub is_register-register : (pre : List ℕ) (k : ℕ) → k < 2 ^ 64 → is_register pre (pre ++ decimal k) ≡ true
-is_register-register pre k h = rw (begins_with-append pre (decimal k), drop-front pre (decimal k)) (is_numeral-decimal k h)
+pub is_register-register : (pre : List ℕ) (register : ℕ) → register < 2 ^ 64 → is_register pre (pre ++ decimal register) ≡ true
+is_register-register pre register h = rw (begins_with-append pre (decimal register), drop-front pre (decimal register)) (is_numeral-decimal register h)
 
-pub is_history_register-history : (pre : List ℕ) (k : ℕ) → k < 2 ^ 64 → is_history_register pre (pre ++ 109 ∷ decimal k) ≡ true
-is_history_register-history pre k h = rw (begins_with-append pre (109 ∷ decimal k), drop-front pre (109 ∷ decimal k)) (is_numeral-decimal k h)
+pub is_history_register-history : (pre : List ℕ) (register : ℕ) → register < 2 ^ 64 → is_history_register pre (pre ++ 109 ∷ decimal register) ≡ true
+is_history_register-history pre register h = rw (begins_with-append pre (109 ∷ decimal register), drop-front pre (109 ∷ decimal register)) (is_numeral-decimal register h)
 
-pub is_register-history : (pre : List ℕ) (k : ℕ) → is_register pre (pre ++ 109 ∷ decimal k) ≡ false
-is_register-history pre k = rw (begins_with-append pre (109 ∷ decimal k), drop-front pre (109 ∷ decimal k)) refl
+pub is_register-history : (pre : List ℕ) (register : ℕ) → is_register pre (pre ++ 109 ∷ decimal register) ≡ false
+is_register-history pre register = rw (begins_with-append pre (109 ∷ decimal register), drop-front pre (109 ∷ decimal register)) refl
 
 is_history_numeral-digits : (word : List ℕ) → EachLetter is_digit word → is_history_numeral word ≡ false
 is_history_numeral-digits [] h = refl
 is_history_numeral-digits (letter ∷ word) h = by_m (letter == 109) refl where
-  by_m : (b : Bool) → (letter == 109) ≡ b → is_history_numeral (letter ∷ word) ≡ false
+  by_m : (flag : Bool) → (letter == 109) ≡ flag → is_history_numeral (letter ∷ word) ≡ false
   by_m true e = absurd (false≢true (subst (λ (d : ℕ). is_digit d ≡ true) (eqb-true letter 109 e) h.0))
   by_m false e = rw e refl
 
-pub is_history_register-register : (pre : List ℕ) (k : ℕ) → k < 2 ^ 64 → is_history_register pre (pre ++ decimal k) ≡ false
-is_history_register-register pre k h = rw (begins_with-append pre (decimal k), drop-front pre (decimal k)) (is_history_numeral-digits (decimal k) (decimal_digits k h))
+pub is_history_register-register : (pre : List ℕ) (register : ℕ) → register < 2 ^ 64 → is_history_register pre (pre ++ decimal register) ≡ false
+is_history_register-register pre register h = rw (begins_with-append pre (decimal register), drop-front pre (decimal register)) (is_history_numeral-digits (decimal register) (decimal_digits register h))
 
 -- ---- words that are not equal
 
-pub equal_words-other : (v word : List ℕ) → (word ≡ v → ⊥) → equal_words v word ≡ false
-equal_words-other v word h = equal_words-false v word (λ e. h (sym e))
+pub equal_words-other : (front_word word : List ℕ) → (word ≡ front_word → ⊥) → equal_words front_word word ≡ false
+equal_words-other front_word word h = equal_words-false front_word word (λ e. h (sym e))
 
-pub begins_with-each : (test : ℕ → Bool) (v word : List ℕ) → begins_with v word ≡ true → EachLetter test word → EachLetter test v
+pub begins_with-each : (test : ℕ → Bool) (front_word word : List ℕ) → begins_with front_word word ≡ true → EachLetter test word
+    → EachLetter test front_word
 begins_with-each test [] word h k = tt
-begins_with-each test (a ∷ v) [] h k = absurd cc
-begins_with-each test (a ∷ v) (b ∷ word) h k = by_head (a == b) refl h (λ e. begins_with-each test v word e k.1) where
-  by_head : (letter : Bool) → (a == b) ≡ letter → (if letter then begins_with v word else false) ≡ true → (begins_with v word ≡ true → EachLetter test v) → EachLetter test (a ∷ v)
+begins_with-each test (a ∷ front_word) [] h k = absurd cc
+begins_with-each test (a ∷ front_word) (b ∷ word) h k = by_head (a == b) refl h (λ e. begins_with-each test front_word word e k.1) where
+  by_head : (letter : Bool) → (a == b) ≡ letter → (if letter then begins_with front_word word else false) ≡ true
+      → (begins_with front_word word ≡ true → EachLetter test front_word) → EachLetter test (a ∷ front_word)
   by_head true e g f = (subst (λ (d : ℕ). test d ≡ true) (sym (eqb-true a b e)) k.0, f g)
   by_head false e g f = absurd cc
 
-pub is_false : (b : Bool) → (b ≡ true → ⊥) → b ≡ false
+pub is_false : (flag : Bool) → (flag ≡ true → ⊥) → flag ≡ false
 is_false true h = absurd (h refl)
 is_false false h = refl
 
@@ -238,23 +245,28 @@ no_digit-first : (word : List ℕ) → 0 < length word → EachLetter is_digit w
 no_digit-first [] h k q = omega arith
 no_digit-first (letter ∷ word) h k q = false≢true (rw k.0 at q.0)
 
--- a word without a is_digit is no register's name
-pub no_digit-register : (word v : List ℕ) (k : ℕ) → k < 2 ^ 64 → EachLetter is_no_digit word → word ≡ v ++ decimal k → ⊥
-no_digit-register word v k h q e = no_digit-first (decimal k) (decimal_is_IsNumeral k h).0.0 (decimal_digits k h) (EachLetter-right is_no_digit v (decimal k) (subst (λ (u : List ℕ). EachLetter is_no_digit u) e q))
+-- a word without a digit is no register's name
+pub no_digit-register : (word front_word : List ℕ) (register : ℕ) → register < 2 ^ 64 → EachLetter is_no_digit word
+    → word ≡ front_word ++ decimal register → ⊥
+no_digit-register word front_word register h q e = no_digit-first (decimal register) (decimal_is_IsNumeral register h).0.0 (decimal_digits register h) (EachLetter-right is_no_digit front_word (decimal register) (subst (λ (u : List ℕ). EachLetter is_no_digit u) e q))
 
-pub no_digit-history : (word v : List ℕ) (k : ℕ) → k < 2 ^ 64 → EachLetter is_no_digit word → word ≡ v ++ 109 ∷ decimal k → ⊥
-no_digit-history word v k h q e = no_digit-register word (v ++ 109 ∷ []) k h q (e ∙ sym (append_assoc v (109 ∷ []) (decimal k)))
+pub no_digit-history : (word front_word : List ℕ) (register : ℕ) → register < 2 ^ 64 → EachLetter is_no_digit word
+    → word ≡ front_word ++ 109 ∷ decimal register → ⊥
+no_digit-history word front_word register h q e = no_digit-register word (front_word ++ 109 ∷ []) register h q (e ∙ sym (append_assoc front_word (109 ∷ []) (decimal register)))
 
-pub other-register : (word pre : List ℕ) (k : ℕ) → k < 2 ^ 64 → is_register pre word ≡ false → word ≡ pre ++ decimal k → ⊥
-other-register word pre k h r e = false≢true (sym r ∙ ap (is_register pre) e ∙ is_register-register pre k h)
+pub other-register : (word pre : List ℕ) (register : ℕ) → register < 2 ^ 64 → is_register pre word ≡ false → word ≡ pre ++ decimal register → ⊥
+other-register word pre register h r e = false≢true (sym r ∙ ap (is_register pre) e ∙ is_register-register pre register h)
 
-pub other-history : (word pre : List ℕ) (k : ℕ) → k < 2 ^ 64 → is_history_register pre word ≡ false → word ≡ pre ++ 109 ∷ decimal k → ⊥
-other-history word pre k h r e = false≢true (sym r ∙ ap (is_history_register pre) e ∙ is_history_register-history pre k h)
+pub other-history : (word pre : List ℕ) (register : ℕ) → register < 2 ^ 64 → is_history_register pre word ≡ false
+    → word ≡ pre ++ 109 ∷ decimal register → ⊥
+other-history word pre register h r e = false≢true (sym r ∙ ap (is_history_register pre) e ∙ is_history_register-history pre register h)
 
--- ---- up to a begins_identifier that does not pass
+-- ---- up to a letter that does not pass
 
-pub front-stop : (test : ℕ → Bool) (word : List ℕ) (letter : ℕ) (tail : List ℕ) → EachLetter test word → test letter ≡ false → front test (word ++ letter ∷ tail) ≡ word
+pub front-stop : (test : ℕ → Bool) (word : List ℕ) (letter : ℕ) (tail : List ℕ) → EachLetter test word → test letter ≡ false
+    → front test (word ++ letter ∷ tail) ≡ word
 front-stop test word letter tail h k = rw (front-word test word (letter ∷ tail) h, k) (append-nil word)
 
-pub behind-stop : (test : ℕ → Bool) (word : List ℕ) (letter : ℕ) (tail : List ℕ) → EachLetter test word → test letter ≡ false → behind test (word ++ letter ∷ tail) ≡ letter ∷ tail
+pub behind-stop : (test : ℕ → Bool) (word : List ℕ) (letter : ℕ) (tail : List ℕ) → EachLetter test word → test letter ≡ false
+    → behind test (word ++ letter ∷ tail) ≡ letter ∷ tail
 behind-stop test word letter tail h k = rw (behind-word test word (letter ∷ tail) h, k) refl

@@ -4,7 +4,7 @@ use Rattle.lx_ccode.specs.declared.piece.Stmt.{Stmt}
 use Rattle.lx_ccode.specs.declared.piece.CondCase.{CondCase}
 use Rattle.lx_ccode.specs.declared.piece.Piece.{Piece}
 use Rattle.lx_ccode.specs.Words.{equal_words}
-use Rattle.lx_ccode.specs.Statements.{block_count}
+use Rattle.lx_ccode.specs.Statements.{statement_count}
 use Rattle.lx_ccode.specs.Machine.{Value, Machine, Answer, units_of_answers, Outcome, stuck, looped, unanswered, Next, goes_on, ends, code_at, step}
 use Rattle.lx_ccode.specs.Schedules.{Schedule}
 
@@ -21,7 +21,7 @@ ended outcome machine = record { outcome = outcome; cursor = machine.cursor; con
 
 -- the steps after which a match has ended in a loop: twice the statements, for each unit from the start to the limit and for two more
 abbrev pub loop_count : Piece → (start limit : ℕ) → ℕ
-loop_count piece start limit = 2 * ((limit - start) + 2) * block_count piece.blocks
+loop_count piece start limit = 2 * ((limit - start) + 2) * statement_count piece.blocks
 
 -- the machine at the start of a match
 abbrev pub fresh_machine : (start limit : ℕ) → (cond : List ℕ) → Machine

@@ -1,5 +1,5 @@
 -- The statements of a piece, and the sorts of statements.
-use Rattle.std.specs.Prelude.{ℕ, ◌+◌, Bool, true, false, List, [], ◌∷◌, ◌++◌, length, map, ◌||◌, ◌==◌}
+use Rattle.std.specs.Prelude.{ℕ, ◌+◌, Bool, true, false, List, [], ◌∷◌, ◌++◌, length, map, Option, Some, None, is_some, ◌||◌, ◌==◌}
 use Rattle.lx_ccode.specs.declared.piece.Stmt.{Stmt}
 use Rattle.lx_ccode.specs.declared.piece.Stmt.TheVariants.{Set, Unset, Copy, State, Need, Try, Tag, End, Back, Goto, Leave, Code, Jump}
 use Rattle.lx_ccode.specs.declared.piece.CodeBlock.{CodeBlock}
@@ -14,13 +14,13 @@ all_statements [] = []
 all_statements (block ∷ blocks) = block.stmts ++ all_statements blocks
 
 -- how many statements the blocks have
-abbrev pub statement_count : List (List Stmt) → ℕ
-statement_count [] = 0
-statement_count (statements ∷ blocks) = length statements + statement_count blocks
+abbrev pub code_length : List (List Stmt) → ℕ
+code_length [] = 0
+code_length (statements ∷ blocks) = length statements + code_length blocks
 
 -- how many statements the blocks of a piece have
-abbrev pub block_count : List CodeBlock → ℕ
-block_count blocks = statement_count (code_of blocks)
+abbrev pub statement_count : List CodeBlock → ℕ
+statement_count blocks = code_length (code_of blocks)
 
 -- Goto, Leave, Code or Jump
 abbrev pub is_ending : Stmt → Bool
@@ -30,9 +30,13 @@ is_ending (Code rule line action) = true
 is_ending (Jump cond rule) = true
 is_ending _ = false
 
+-- the state that the statement stores
+abbrev pub state_of : Stmt → Option ℕ
+state_of (State state) = Some state
+state_of _ = None
+
 abbrev pub is_state : Stmt → Bool
-is_state (State state) = true
-is_state _ = false
+is_state statement = is_some (state_of statement)
 
 abbrev pub is_need : Stmt → Bool
 is_need (Need units) = true

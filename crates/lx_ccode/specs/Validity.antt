@@ -11,7 +11,7 @@ use Rattle.lx_ccode.specs.declared.piece.CodeBlock.{CodeBlock}
 use Rattle.lx_ccode.specs.declared.piece.Piece.{Piece}
 use Rattle.lx_ccode.specs.Words.{equal_words}
 use Rattle.lx_ccode.specs.States.{states_from, block_of, state_block}
-use Rattle.lx_ccode.specs.Statements.{all_statements, is_ending, is_state, is_need, is_try, is_refill, has_register_one}
+use Rattle.lx_ccode.specs.Statements.{all_statements, statement_count, is_ending, is_state, is_need, is_try, is_refill, has_register_one}
 
 -- a number of a text, which has at most 4,294,967,295
 abbrev pub IsShort : ℕ → Type 0
@@ -155,7 +155,7 @@ NamesOneOf conds (Cond cond) = list_any (equal_words cond) conds ≡ true
 NamesOneOf conds (Jump cond rule) = list_any (equal_words cond) conds ≡ true
 NamesOneOf conds _ = Unit {0}
 
--- a rule has at most 64 groups of its own and itself
+-- a rule has at most 64 groups beside itself, and two ends for each
 abbrev pub HasFewGroups : Stmt → Type 0
 HasFewGroups (Count groups) = groups ≤ 65
 HasFewGroups (End place register) = place ≤ 129
@@ -178,7 +178,7 @@ pub record IsValid (piece : Piece) : Type 0 where
   -- there is a block
   pub blocks : 0 < length piece.blocks
   -- there are at most 2^62 statements
-  pub statements : length (all_statements piece.blocks) ≤ 4_611_686_018_427_387_904
+  pub statements : statement_count piece.blocks ≤ 4_611_686_018_427_387_904
   -- every jump goes to a block of the piece
   pub jumps : AllByRecursion (JumpsBelow (length piece.blocks)) (all_statements piece.blocks)
   -- the last statement of a block, and no other, is Goto, Leave, Code or Jump

@@ -1,14 +1,16 @@
 //! What holds of all pieces and of all runs: each law is the contract of a function with an empty body.
-ghost use Rattle.std.specs.Prelude.{◌≡◌, ◌↔◌, ◌≤◌, ℕ, List, [], ◌++◌, length, Some, false};
+ghost use Rattle.std.specs.Prelude.{◌≡◌, ◌↔◌, ◌≤◌, ℕ, List, [], ◌++◌, length, Some, None, false, true};
+ghost use Rattle.std.specs.List.{list_any};
 ghost use Rattle.lx_ccode.specs.declared.piece.Stmt.{Stmt};
 ghost use Rattle.lx_ccode.specs.declared.piece.Piece.{Piece};
 ghost use Rattle.lx_ccode.specs.Effects.{ChangesOnly, answers_after, machine_after};
 ghost use Rattle.lx_ccode.specs.Front.{BeginsWithPiece};
-ghost use Rattle.lx_ccode.specs.Machine.{Answer, Machine, code_at, step};
+ghost use Rattle.lx_ccode.specs.Machine.{Answer, Machine, code_at, step, stored_block};
 ghost use Rattle.lx_ccode.specs.Reading.{piece_at};
 ghost use Rattle.lx_ccode.specs.Runs.{Ended, IsRun, entry_block, fresh_machine, run_of};
 ghost use Rattle.lx_ccode.specs.Schedules.{Schedule};
-ghost use Rattle.lx_ccode.specs.Statements.{is_refill};
+ghost use Rattle.lx_ccode.specs.States.{stores};
+ghost use Rattle.lx_ccode.specs.Statements.{all_statements, is_refill};
 ghost use Rattle.lx_ccode.specs.Stuck.{CannotDo, HasWayBack, IsStuck};
 ghost use Rattle.lx_ccode.specs.Text.{piece_text};
 ghost use Rattle.lx_ccode.specs.Validity.{IsValid, JumpsBelow};
@@ -49,4 +51,9 @@ pub fn schedules_determine_runs()
 /// its blocks, on a stream that holds the units up to the limit, and with a stored state at each refill.
 pub fn steps_are_stuck_where_they_cannot_go()
     ensures { (piece : Piece) (stream : List ℕ) (statement : Stmt) (rest : List Stmt) (machine : Machine) (answers : List Answer) → machine.limit ≤ length stream → JumpsBelow (length piece.blocks) statement → HasWayBack piece statement machine → (IsStuck (step piece stream statement rest machine answers) ↔ CannotDo piece statement machine) }
+{}
+
+/// A valid piece that stores a state has a block where it comes back after it was left.
+pub fn stored_states_have_a_way_back()
+    ensures { (piece : Piece) (state : ℕ) → IsValid piece → list_any (stores state) (all_statements piece.blocks) ≡ true → code_at piece.blocks (stored_block piece.blocks (Some state)) ≡ None → ⊥ }
 {}

@@ -44,6 +44,8 @@ impl Scope<'_> {
         let cursor = spellings::cursor(self.names);
         let marker = spellings::marker(self.names);
         let last_accept = spellings::last_accept(self.names);
+        let append_offset = spellings::append_offset(self.names);
+        let append_negative = spellings::append_negative(self.names);
         match statement {
             Stmt::Peek => self.append_peek(text),
             Stmt::Skip => append_parts(text, &[b"\t++", cursor, b";\n"]),
@@ -53,16 +55,8 @@ impl Scope<'_> {
             Stmt::Set(register) => self.append_to_register(text, *register, cursor),
             Stmt::Unset(register) => self.append_to_register(text, *register, b"NULL"),
             Stmt::Copy(register, source) => self.append_copy(text, *register, *source),
-            Stmt::MSet(history) => self.append_event(
-                text,
-                spellings::append_offset(self.names),
-                *history,
-            ),
-            Stmt::MUnset(history) => self.append_event(
-                text,
-                spellings::append_negative(self.names),
-                *history,
-            ),
+            Stmt::MSet(history) => self.append_event(text, append_offset, *history),
+            Stmt::MUnset(history) => self.append_event(text, append_negative, *history),
             Stmt::MCopy(history, source) => self.append_history_copy(text, *history, *source),
             Stmt::IfUnit(greatest, block) => self.append_if_unit(text, *greatest, *block),
             Stmt::IfAccept(accept, block) => self.append_if_accept(text, *accept, *block),
@@ -71,33 +65,20 @@ impl Scope<'_> {
             Stmt::Need(units) => self.append_need(text, *units),
             Stmt::Try(block) => self.append_try(text, *block),
             Stmt::Cond(cond) => self.append_cond(text, cond.as_slice()),
-            Stmt::Tag(tag, true, history) => self.append_from_history(
-                text,
-                tag.as_slice(),
-                *history,
-            ),
-            Stmt::Tag(tag, false, register) => self.append_from_register(
-                text,
-                tag.as_slice(),
-                *register,
-            ),
+            Stmt::Tag(tag, true, from) => self.append_from_history(text, tag.as_slice(), *from),
+            Stmt::Tag(tag, false, from) => self.append_from_register(text, tag.as_slice(), *from),
             Stmt::Count(groups) => self.append_number(text, b"yynmatch", *groups),
             Stmt::End(place, register) => self.append_group_end(text, *place, *register),
             Stmt::Back(register) => self.append_from_register(text, cursor, *register),
             Stmt::Goto(block) => self.append_jump(text, *block),
             Stmt::Leave => self.append_leave(text),
-            Stmt::Code(rule, line, action) => self.append_code(
-                text,
-                *rule,
-                line,
-                action.as_slice(),
-            ),
+            Stmt::Code(rule, line, code) => self.append_code(text, *rule, line, code.as_slice()),
             Stmt::Jump(cond, rule) => self.append_cond_jump(text, cond.as_slice(), *rule),
         }
     }
 
     fn append_peek(&self, text: &mut Vec<u8>) -> Result<(), Memory>
-        ensures { OnOk result (text.new.items ≡ text.old.items ++ statement_then self.now.number self.now.names.now self.now.ctx (Stmt.Peek) []) }
+        ensures { OnOk result (text.new.items ≡ text.old.items ++ statement_then self.now.number self.now.names.now self.now.ctx Stmt.Peek []) }
     {
         let current_unit = spellings::current_unit(self.names);
         append_parts(
@@ -323,7 +304,7 @@ impl Scope<'_> {
     }
 
     fn append_leave(&self, text: &mut Vec<u8>) -> Result<(), Memory>
-        ensures { OnOk result (text.new.items ≡ text.old.items ++ statement_then self.now.number self.now.names.now self.now.ctx (Stmt.Leave) []) }
+        ensures { OnOk result (text.new.items ≡ text.old.items ++ statement_then self.now.number self.now.names.now self.now.ctx Stmt.Leave []) }
     {
         let number = decimal(self.alloc, u64::from(self.number))?;
         append_parts(text, &[b"\tgoto yy", number.as_bytes(), b"_none;\n"])

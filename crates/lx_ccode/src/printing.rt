@@ -2,7 +2,7 @@
 ghost use Rattle.std.specs.Prelude.{◌≡◌, ◌<◌, ◌^◌, ◌++◌, [], ◌∷◌, length, OnOk, IfOk, Some, codes};
 ghost use Rattle.std.specs.Fmt.{decimal};
 ghost use Rattle.lx_base.specs.Text.{joined};
-ghost use Rattle.lx_ccode.specs.Statements.{block_count};
+ghost use Rattle.lx_ccode.specs.Statements.{statement_count};
 ghost use Rattle.lx_ccode.specs.Text.{name_then, names_then, eof_then, piece_text};
 ghost use Rattle.lx_ccode.specs.Validity.{IsValid};
 
@@ -42,14 +42,14 @@ pub fn print(alloc: Global, piece: &Piece) -> Result<ByteText, Memory>
 /// The number of statements of a valid piece. It takes no memory.
 pub fn statements(piece: &Piece) -> u64
     requires { IsValid piece.now }
-    ensures { result ≡ block_count piece.now.blocks }
+    ensures { result ≡ statement_count piece.now.blocks }
 {
     count_statements(piece.blocks.as_slice())
 }
 
 fn count_statements(blocks: &[CodeBlock]) -> u64
-    requires { block_count blocks.now < 2 ^ 64 }
-    ensures { result ≡ block_count blocks.now }
+    requires { statement_count blocks.now < 2 ^ 64 }
+    ensures { result ≡ statement_count blocks.now }
 {
     let mut count = 0;
     for block in blocks {
