@@ -16,6 +16,7 @@ use Rattle.lx_ccode.specs.Runs.{run_of}
 use Rattle.lx_ccode.specs.States.{states_in, states_from}
 use Rattle.lx_ccode.specs.Statements.{all_statements, is_need, is_state, is_refill}
 use Rattle.lx_ccode.specs.Validity.{IsLine, IsLabel, HasSpelling, EachHasSpelling, EachBlockHasSpelling, JumpsBelow, NamesOneOf, HasFewGroups, ends_once, refill_first, refills_after_states, tries_after_state, last_statements, AreOnce, labels, IsValid}
+use Rattle.lx_ccode.proofs.RoundTrip.{statement_count-all}
 use Rattle.lx_ccode.proofs.UsualNames.{AreAllowed-usual, DoNotClash-usual}
 use Rattle.lx_top.specs.Emission.{is_emitted, emitted, IsGoodStatement, IsGoodBlock, IsEmission}
 use Rattle.lx_top.specs.Pieces.{quoted_piece, rule_actions}
@@ -206,7 +207,7 @@ IsValid-good actions blocks few short good some small = record {
   unit = inl refl;
   eof = tt;
   blocks = some;
-  statements = omega (arith, length-all_statements actions (length blocks) blocks good, small);
+  statements = omega (arith, statement_count-all blocks, length-all_statements actions (length blocks) blocks good, small);
   jumps = each_good actions (length blocks) (JumpsBelow (length blocks)) (JumpsBelow-good actions (length blocks)) blocks good;
   ends = AllByRecursion-map (IsGoodBlock actions (length blocks)) (λ block. ends_once block.stmts ≡ true) (λ block is. is.ends) blocks good;
   one_refill = inl (no_need actions (length blocks) blocks good);

@@ -10,7 +10,7 @@ use Rattle.lx_ccode.specs.Machine.{Machine, Answer, Outcome, by_rule, Next, goes
 use Rattle.lx_ccode.specs.Runs.{Ended, ended, loop_count, fresh_machine, entry_block, run_of, IsRun, last_step, next_step}
 use Rattle.lx_ccode.specs.Schedules.{Schedule}
 use Rattle.lx_ccode.proofs.RunSteps.{IsRun-run_of, IsRun-unique}
-use Rattle.lx_ccode.specs.Statements.{block_count}
+use Rattle.lx_ccode.specs.Statements.{statement_count}
 use Rattle.lx_top.specs.Scan.{Item, Found, accepted, derived, goes_on as some_goes_on, newest, scan, scan_from}
 use Rattle.lx_top.specs.Serving.{Test, tests_code, tested, code_in, IsActionBlock, IsFallback, backup, Falls, ServesNext, ReadsOn, Stops, ServesBy, Serves, rule_or, ServesStart}
 
@@ -23,7 +23,7 @@ left_unit (suc at) unit more [] left = absurd (let h = left in cc)
 left_unit (suc at) unit more (other ∷ stream) left = let rest = left_unit at unit more stream left in (omega (arith, rest.0), rest.1, rest.2)
 
 -- a block has at most as many statements as all blocks
-code_length : (blocks : List CodeBlock) (number : ℕ) (code : List Stmt) → code_in blocks number ≡ Some code → length code ≤ block_count blocks
+code_length : (blocks : List CodeBlock) (number : ℕ) (code : List Stmt) → code_in blocks number ≡ Some code → length code ≤ statement_count blocks
 code_length [] number code at = absurd (let h = at in cc)
 code_length (block ∷ blocks) zero code at = let e : block.stmts ≡ code = cc in omega (arith, ap length e)
 code_length (block ∷ blocks) (suc number) code at = let rest = code_length blocks number code at in omega (arith, rest)
@@ -130,7 +130,7 @@ module _ (piece : Piece) (stream : List ℕ) (start : ℕ) where
 
   -- a block has at most as many statements as all blocks
   abbrev pub count : ℕ
-  count = block_count piece.blocks
+  count = statement_count piece.blocks
 
   -- the steps from a block on, where so many units are left behind the present one
   abbrev pub cost : (left : ℕ) → ℕ

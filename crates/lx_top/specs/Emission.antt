@@ -12,7 +12,7 @@ use Rattle.lx_top.specs.declared.emit.WordBegin.{WordBegin}
 use Rattle.lx_top.specs.Scan as scan
 use Rattle.lx_top.specs.Scanner.{action_count}
 use Rattle.lx_top.specs.Scan.{accepted, derived}
-use Rattle.lx_top.specs.Serving.{Test, backup, code_in, tested, Falls, IsActionBlock, IsFallback, Serves, ServesNext, rule_or}
+use Rattle.lx_top.specs.Serving.{Test, backup, code_in, tested, Falls, IsActionBlock, IsFallback, Serves, ServesNext, ServesStart, rule_or}
 
 -- an item of the code as one of the definitions
 abbrev pub item_of : Item → scan.Item
@@ -168,3 +168,12 @@ pub record TestsStart (before emitter : Emitter) (depth : ℕ) (items : List sca
   pub other : Serves depth emitter.blocks.items [] default true miss
   pub within : miss < length emitter.blocks.items
   pub tests : AreTests emitter.actions.now emitter.blocks.items (LeadsIn depth emitter.blocks.items items default) items miss (Peek ∷ []) code bound unit
+
+-- Blocks that begin a scan of the items and of `*`, whose action is the last one: the first block serves the start, and there
+-- are few of them.
+pub record IsStarted (actions : List (List ℕ)) (items : List scan.Item) (blocks : List CodeBlock) : Type 0 where
+  pub table : List (Option ℕ)
+  pub emission : IsEmission actions blocks table
+  pub start : ServesStart 4000 blocks items (length actions)
+  pub some : 0 < length blocks
+  pub few : length blocks ≤ 3 + 3 * letters items

@@ -1,5 +1,5 @@
 -- The piece that the blocks of quoted strings make.
-use Rattle.std.specs.Prelude.{ℕ, true, false, List, [], ◌∷◌, None}
+use Rattle.std.specs.Prelude.{ℕ, zero, suc, true, false, List, [], ◌∷◌, Option, None}
 use Rattle.lx_ccode.specs.declared.piece.CodeBlock.{CodeBlock}
 use Rattle.lx_ccode.specs.declared.piece.Piece.{Piece}
 use Rattle.lx_ccode.specs.Examples.{usual_names}
@@ -24,3 +24,8 @@ quoted_piece blocks = record {
 abbrev pub rule_actions : List QuotedRule → (default_action : List ℕ) → List (List ℕ)
 rule_actions [] default_action = default_action ∷ []
 rule_actions (rule ∷ rules) default_action = rule.action ∷ rule_actions rules default_action
+
+-- a table in which none of so many actions has a block
+abbrev pub waiting : ℕ → List (Option ℕ)
+waiting zero = []
+waiting (suc count) = None ∷ waiting count

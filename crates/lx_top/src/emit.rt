@@ -4,10 +4,11 @@
 //! then it tests the next unit, and goes on to the block of the longer word, or to the rule that was accepted last.
 ghost use Rattle.std.specs.Prelude.{◌≡◌, ℕ, suc, ◌+◌, ◌*◌, ◌<◌, ◌≤◌, List, [], ◌∷◌, ◌++◌, map, vec_len, IfOk, OnOk, Some, None, false, true, length, slice_get, slice_set, is_some};
 ghost use Rattle.lx_ccode.specs.declared.piece.CodeBlock.{CodeBlock};
-ghost use Rattle.lx_ccode.specs.declared.piece.Stmt.TheVariants.{Peek, Skip, Restore, Goto, Code};
+ghost use Rattle.lx_ccode.specs.declared.piece.Stmt.TheVariants.{Peek, Skip, Restore, Goto, Code, Leave};
 ghost use Rattle.lx_top.specs.Emission.{items_of, test_statements, unit_tests, AcceptsNext};
+ghost use Rattle.lx_top.specs.Pieces.{waiting};
 ghost use Rattle.lx_top.specs.Scan.{accepted, derived, goes_on};
-ghost use Rattle.lx_top.specs.Serving.{IsActionBlock, IsFallback, Serves, backup, code_in, rule_or};
+ghost use Rattle.lx_top.specs.Serving.{IsActionBlock, IsFallback, Serves, ServesStart, backup, code_in, rule_or};
 
 use lx_base::{ByteText, Memory, Sequence};
 use lx_ccode::{CodeBlock, Stmt};
@@ -193,6 +194,17 @@ fn set_entry(table: &mut Vec<Option<u64>>, place: usize, number: u64)
     table[place] = Some(number);
 }
 
+/// Gives the first block its code.
+fn set_first(blocks: &mut Vec<CodeBlock>, statements: Vec<Stmt>)
+    requires { 0 < length blocks.old.items }
+    ensures { blocks.new.items ≡ slice_set blocks.old.items 0 (record { cond = None; stmts = statements.items }) }
+{
+    blocks[0] = CodeBlock {
+        cond: None,
+        stmts: Sequence::from_vec(statements),
+    };
+}
+
 /// A copy of one of the texts.
 fn copied(alloc: Global, texts: &[ByteText], place: usize) -> Result<ByteText, Memory>
     requires { place < length texts.now }
@@ -363,5 +375,69 @@ impl<'s> Emitter<'s> {
         let code = skip_code(alloc, action)?;
         let number = self.emit(code)?;
         Ok(number)
+    }
+
+    /// An emitter with one block that waits for its code, and a table in which no action has a block.
+    pub fn new(
+        actions: &'s [ByteText],
+        blocks: Vec<CodeBlock>,
+        action_blocks: Vec<Option<u64>>,
+    ) -> Self
+        requires waits { blocks.items ≡ record { cond = None; stmts = Leave ∷ [] } ∷ [] }
+        requires table { action_blocks.items ≡ waiting (length actions.now) }
+        ensures actions { result.actions.now ≡ actions.now }
+        ensures blocks { result.blocks.items ≡ blocks.items }
+        ensures emitting { IsEmitting result }
+    {
+        Emitter {
+            actions,
+            blocks,
+            action_blocks,
+        }
+    }
+
+    /// Emits the blocks of all words, and gives the first block the tests of the first unit.
+    ///
+    /// The number of the rule `*` is `default`. The strings have at most `depth` letters.
+    pub fn emit_start(
+        &mut self,
+        alloc: Global,
+        depth: usize,
+        items: &[Item<'_>],
+        default: u32,
+    ) -> Result<(), Memory>
+        requires emitting { IsEmitting self.old }
+        requires waits { code_in self.old.blocks.items 0 ≡ Some (Leave ∷ []) }
+        requires positive { 0 < default }
+        requires known { default ≤ length self.old.actions.now }
+        requires depth { 0 < depth }
+        requires items { AreItems (suc depth) (suc (length self.old.actions.now)) (items_of items.now) }
+        ensures emitting { OnOk result (IsEmitting self.new) }
+        ensures actions { OnOk result (self.new.actions.now ≡ self.old.actions.now) }
+        ensures serves { OnOk result (ServesStart depth self.new.blocks.items (items_of items.now) default) }
+        ensures few { OnOk result (length self.new.blocks.items ≤ length self.old.blocks.items + 2 + 3 * letters (items_of items.now)) }
+    {
+        let miss = self.emit_stop(alloc, depth, &[], default, true)?;
+        let mut code = vec![in alloc; Stmt::Peek]?;
+        let mut bound = 0;
+        for unit in 0..256 {
+            let next = derived(alloc, items, unit)?;
+            if !next.is_empty() {
+                let last = last_rule(&next, default);
+                let number = self.emit_word(alloc, depth, &next, last.rule, true, miss)?;
+                push_tests(&mut code, bound, unit, miss, number)?;
+                bound = unit + 1;
+            }
+        }
+        code.push(Stmt::Goto(miss))?;
+        set_first(&mut self.blocks, code);
+        Ok(())
+    }
+
+    /// The blocks that were emitted.
+    pub fn into_blocks(self) -> Vec<CodeBlock>
+        ensures { result.items ≡ self.entry.blocks.items }
+    {
+        self.blocks
     }
 }

@@ -9,6 +9,7 @@ pub mod puts;
 mod quoted;
 mod report;
 pub mod run;
+mod scanner;
 mod sources;
 
 pub use endings::{Ending, Halt};
