@@ -56,7 +56,7 @@ IsGoodBlock-more actions blocks more block le good = record {
   statements = AllByRecursion-map (IsGoodStatement actions blocks) (IsGoodStatement actions more) (λ statement. IsGoodStatement-more actions blocks more statement le) block.stmts good.statements;
 }
 
-action_count-append : (number : ℕ) (statements others : List Stmt) → action_count number (statements ++ others) ≡ action_count number statements + action_count number others
+pub action_count-append : (number : ℕ) (statements others : List Stmt) → action_count number (statements ++ others) ≡ action_count number statements + action_count number others
 action_count-append number [] others = omega arith
 action_count-append number (Code other line action ∷ statements) others = let rest = action_count-append number statements others in omega (arith, rest)
 action_count-append number (_ ∷ statements) others = action_count-append number statements others

@@ -10,6 +10,8 @@ pub mod ScanLaw
 pub mod ScanSteps
 pub mod ScanTrees
 pub mod Simulation
+pub mod SizeLemmas
+pub mod StartLemmas
 pub mod StepLemmas
 pub mod TestLemmas
 pub mod WordLemmas
