@@ -1,5 +1,5 @@
 //! The compilation of one source.
-ghost use Rattle.std.specs.Prelude.{◌≡◌, [], ◌∷◌, false, List, map, string_bytes, IfOk, IfErr, Some, MatchResult};
+ghost use Rattle.std.specs.Prelude.{◌≡◌, [], ◌∷◌, false, List, map, string_bytes, IfOk, IfErr, Some, None, MatchResult};
 ghost use Rattle.lx_files.specs.Counts.{Rose};
 ghost use Rattle.lx_files.specs.Held.{bytes_of};
 ghost use Rattle.lx_files.specs.declared.files.HeldFile.{HeldFile};
@@ -87,8 +87,7 @@ fn compile_source<O: Sink>(alloc: Global, source: &[u8], out: &mut O) -> Result<
         (Halts (source_fault source.now) (IsOutput source.now) ⊥ before after) }
 {
     if is_plain(source) {
-        put_all(out, source)?;
-        return Ok(());
+        return put_output(source, out);
     }
     compile_quoted(alloc, source, out)
 }
@@ -108,10 +107,21 @@ fn compile_quoted<O: Sink>(alloc: Global, source: &[u8], out: &mut O) -> Result<
         })),
         Some(parts) => {
             let output = quoted_output(alloc, &parts)?;
-            put_all(out, &output)?;
-            Ok(())
+            put_output(&output, out)
         }
     }
+}
+
+/// Gives an output of a source that has no fault.
+fn put_output<O: Sink>(output: &[u8], out: &mut O) -> Result<(), Halt>
+    ensures ended { let before = sink_view (O.given out.old) (O.faults out.old) in
+        let after = sink_view (O.given out.new) (O.faults out.new) in
+        MatchResult result
+        (λ _. Compiles None (λ text. text ≡ output.now) before after)
+        (Halts None (λ text. text ≡ output.now) ⊥ before after) }
+{
+    put_all(out, output)?;
+    Ok(())
 }
 
 /// The output of a source with one block of quoted strings.
