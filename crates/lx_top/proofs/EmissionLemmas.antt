@@ -52,7 +52,9 @@ AllByRecursion-append P (x ∷ xs) ys all others = (all.0, AllByRecursion-append
 
 pub IsGoodBlock-more : (actions : List (List ℕ)) (blocks more : ℕ) (block : CodeBlock) → blocks ≤ more → IsGoodBlock actions blocks block → IsGoodBlock actions more block
 IsGoodBlock-more actions blocks more block le good = record {
-  cond = good.cond; ends = good.ends; short = good.short;
+  cond = good.cond;
+  ends = good.ends;
+  short = good.short;
   statements = AllByRecursion-map (IsGoodStatement actions blocks) (IsGoodStatement actions more) (λ statement. IsGoodStatement-more actions blocks more statement le) block.stmts good.statements;
 }
 
@@ -80,8 +82,8 @@ pub good-append : (actions : List (List ℕ)) (blocks : List CodeBlock) (block :
 good-append actions blocks block all good =
     let longer : length blocks ≤ length (blocks ++ block ∷ []) = omega (arith, length-append blocks (block ∷ [])) in
     AllByRecursion-append (IsGoodBlock actions (length (blocks ++ block ∷ []))) blocks (block ∷ [])
-        (AllByRecursion-map (IsGoodBlock actions (length blocks)) (IsGoodBlock actions (length (blocks ++ block ∷ []))) (λ given. IsGoodBlock-more actions (length blocks) (length (blocks ++ block ∷ [])) given longer) blocks all)
-        (IsGoodBlock-more actions (length blocks) (length (blocks ++ block ∷ [])) block longer good, tt)
+    (AllByRecursion-map (IsGoodBlock actions (length blocks)) (IsGoodBlock actions (length (blocks ++ block ∷ []))) (λ given. IsGoodBlock-more actions (length blocks) (length (blocks ++ block ∷ [])) given longer) blocks all)
+    (IsGoodBlock-more actions (length blocks) (length (blocks ++ block ∷ [])) block longer good, tt)
 
 -- a block without an action more
 pub IsEmission-plain : (actions : List (List ℕ)) (blocks : List CodeBlock) (table : List (Option ℕ)) (block : CodeBlock) → IsEmission actions blocks table → IsGoodBlock actions (length blocks) block →

@@ -1,6 +1,7 @@
 pub mod CompileLemmas
 pub mod EmissionLemmas
 pub mod EndingLemmas
+pub mod FaultLemmas
 pub mod LetterLemmas
 pub mod PieceLemmas
 pub mod PutLemmas

@@ -173,9 +173,10 @@ module _ (actions : List (List ℕ)) (count : ℕ) where
   EachBlockHasSpelling-good : (names : Spellings) (blocks : List CodeBlock) → length actions ≤ 4001 → AllByRecursion (λ action. length action ≤ 4000) actions → count ≤ 1_000_000 →
       AllByRecursion (IsGoodBlock actions count) blocks → EachBlockHasSpelling names blocks
   EachBlockHasSpelling-good names [] few short small good = tt
-  EachBlockHasSpelling-good names (block ∷ blocks) few short small good =
-      ((some_statement block.stmts good.0.ends, subst IsLabel (sym good.0.cond) tt, EachHasSpelling-good names block.stmts few short small good.0.statements),
-      EachBlockHasSpelling-good names blocks few short small good.1)
+  EachBlockHasSpelling-good names (block ∷ blocks) few short small good = (
+    (some_statement block.stmts good.0.ends, subst IsLabel (sym good.0.cond) tt, EachHasSpelling-good names block.stmts few short small good.0.statements),
+    EachBlockHasSpelling-good names blocks few short small good.1,
+  )
 
   -- what holds of each good statement holds of all statements
   each_good : (P : Stmt → Type 0) → ((statement : Stmt) → IsGoodStatement actions count statement → P statement) → (blocks : List CodeBlock) →
@@ -238,9 +239,11 @@ IsRight-serves depth rules blocks asks serves stream start cond schedule word wi
     by None e = absurd (unbegun (scan_undecided rules stream start word e is))
     by (Some found) e =
         let last : suc (length rules) ≡ length rules + 1 = omega arith in
-        let scans : scan (items_of 1 rules) (suc (length rules)) start (drop start stream) ≡ Some found = ap (λ default. scan (items_of 1 rules) default start (drop start stream)) last ∙ e in
-        (matched found.rule found.cursor [], scan_found rules stream start found e,
-        run_found (quoted_piece blocks) stream start depth (items_of 1 rules) (suc (length rules)) found cond schedule serves refl (legal.whole asks) within scans)
+        let scans : scan (items_of 1 rules) (suc (length rules)) start (drop start stream) ≡ Some found = ap (λ default. scan (items_of 1 rules) default start (drop start stream)) last ∙ e in (
+          matched found.rule found.cursor [],
+          scan_found rules stream start found e,
+          run_found (quoted_piece blocks) stream start depth (items_of 1 rules) (suc (length rules)) found cond schedule serves refl (legal.whole asks) within scans,
+        )
 
 -- the piece of the emitted blocks is that of a scanner
 pub IsScannerOf-emission : (depth : ℕ) (rules : List QuotedRule) (default_action : List ℕ) (blocks : List CodeBlock) (table : List (Option ℕ)) →

@@ -79,7 +79,7 @@ module _ (piece : Piece) (stream : List ℕ) (start : ℕ) where
       Goes-goto steps at whole (omega (arith, few)) (Goes-weaken (suc steps) (steps + 1) (omega arith) goes)
   Goes-tests (test ∷ tests) miss unit code machine answers end steps is whole at few goes =
       by (nat_le unit test.greatest) refl at (λ at'. Goes-tests tests miss unit code machine answers end (suc steps) is whole at' (omega (arith, few))
-          (Goes-weaken (suc steps + length (tests_code tests miss)) (steps + length (tests_code (test ∷ tests) miss)) (omega arith) goes))
+      (Goes-weaken (suc steps + length (tests_code tests miss)) (steps + length (tests_code (test ∷ tests) miss)) (omega arith) goes))
     where
       rest : List Stmt
       rest = tests_code tests miss
@@ -89,13 +89,13 @@ module _ (piece : Piece) (stream : List ℕ) (start : ℕ) where
           Goes steps (IfUnit test.greatest test.block ∷ rest) machine answers end
       by true h at again =
           let e : step piece stream (IfUnit test.greatest test.block) rest machine answers ≡ goes_on code machine answers =
-              ap (λ read. if_unit read test.greatest (code_in piece.blocks test.block) rest machine answers) is
-              ∙ ap (λ holds. choose holds (code_in piece.blocks test.block) rest machine answers) h ∙ ap (λ target. jump target machine answers) at in
+          ap (λ read. if_unit read test.greatest (code_in piece.blocks test.block) rest machine answers) is
+          ∙ ap (λ holds. choose holds (code_in piece.blocks test.block) rest machine answers) h ∙ ap (λ target. jump target machine answers) at in
           Goes-step steps e whole (omega (arith, few)) (Goes-weaken (suc steps) (steps + length (tests_code (test ∷ tests) miss)) (omega arith) goes)
       by false h at again =
           let e : step piece stream (IfUnit test.greatest test.block) rest machine answers ≡ goes_on rest machine answers =
-              ap (λ read. if_unit read test.greatest (code_in piece.blocks test.block) rest machine answers) is
-              ∙ ap (λ holds. choose holds (code_in piece.blocks test.block) rest machine answers) h in
+          ap (λ read. if_unit read test.greatest (code_in piece.blocks test.block) rest machine answers) is
+          ∙ ap (λ holds. choose holds (code_in piece.blocks test.block) rest machine answers) h in
           Goes-step steps e whole (omega (arith, few)) (again at)
 
   -- how the run ends where this is found
@@ -108,7 +108,7 @@ module _ (piece : Piece) (stream : List ℕ) (start : ℕ) where
   Goes-action rule block machine answers steps is none =
       let P : Ended → Type 0 = λ end. Goes steps (Code rule is.0 is.1 ∷ []) machine answers end in
       let e : ended (by_rule rule) machine ≡ found_end (record { rule = rule; cursor = machine.cursor }) machine.cond =
-          ap (λ values. record { outcome = by_rule rule; cursor = machine.cursor; cond = machine.cond; values = values }) none in
+      ap (λ values. record { outcome = by_rule rule; cursor = machine.cursor; cond = machine.cond; values = values }) none in
       (Code rule is.0 is.1 ∷ [], is.2, subst P e (Goes-last steps refl))
 
   -- putting the cursor back ends the run with the rule that was accepted at the marker
@@ -126,7 +126,7 @@ module _ (piece : Piece) (stream : List ℕ) (start : ℕ) where
       unit_at piece.eof stream machine.cursor machine.limit ≡ Some unit
   unit_inside unit machine whole inside at =
       ap (λ before. if before then slice_get stream machine.cursor else (if machine.cursor == machine.limit then piece.eof else None))
-          (ap (λ limit. nat_lt machine.cursor limit) whole ∙ lt-ltb machine.cursor (length stream) inside) ∙ at
+      (ap (λ limit. nat_lt machine.cursor limit) whole ∙ lt-ltb machine.cursor (length stream) inside) ∙ at
 
   -- a block has at most as many statements as all blocks
   abbrev pub count : ℕ
@@ -159,9 +159,9 @@ module _ (piece : Piece) (stream : List ℕ) (start : ℕ) where
       let moved : Machine = record machine { cursor = suc machine.cursor } in
       let kept : Machine = record moved { marker = suc machine.cursor } in
       let skips : step piece stream Skip (Backup ∷ Peek ∷ tests_code tests miss) machine answers ≡ goes_on (Backup ∷ Peek ∷ tests_code tests miss) moved answers =
-          ap (λ before. skip before (Backup ∷ Peek ∷ tests_code tests miss) machine answers) (ap (λ limit. nat_lt machine.cursor limit) whole ∙ lt-ltb machine.cursor (length stream) (omega (arith, inside))) in
+      ap (λ before. skip before (Backup ∷ Peek ∷ tests_code tests miss) machine answers) (ap (λ limit. nat_lt machine.cursor limit) whole ∙ lt-ltb machine.cursor (length stream) (omega (arith, inside))) in
       let peeks : step piece stream Peek (tests_code tests miss) kept answers ≡ goes_on (tests_code tests miss) (reads_next true unit machine) answers =
-          ap (λ read. peek read (tests_code tests miss) kept answers) (unit_inside unit kept whole inside at) in
+      ap (λ read. peek read (tests_code tests miss) kept answers) (unit_inside unit kept whole inside at) in
       Goes-step steps skips whole (omega (arith, few))
       (Goes-step (suc steps) refl whole (omega (arith, few))
       (Goes-step (suc (suc steps)) peeks whole (omega (arith, few))
@@ -169,9 +169,9 @@ module _ (piece : Piece) (stream : List ℕ) (start : ℕ) where
   Goes-read false tests miss unit code machine answers end steps whole inside at target few goes =
       let moved : Machine = record machine { cursor = suc machine.cursor } in
       let skips : step piece stream Skip (Peek ∷ tests_code tests miss) machine answers ≡ goes_on (Peek ∷ tests_code tests miss) moved answers =
-          ap (λ before. skip before (Peek ∷ tests_code tests miss) machine answers) (ap (λ limit. nat_lt machine.cursor limit) whole ∙ lt-ltb machine.cursor (length stream) (omega (arith, inside))) in
+      ap (λ before. skip before (Peek ∷ tests_code tests miss) machine answers) (ap (λ limit. nat_lt machine.cursor limit) whole ∙ lt-ltb machine.cursor (length stream) (omega (arith, inside))) in
       let peeks : step piece stream Peek (tests_code tests miss) moved answers ≡ goes_on (tests_code tests miss) (reads_next false unit machine) answers =
-          ap (λ read. peek read (tests_code tests miss) moved answers) (unit_inside unit moved whole inside at) in
+      ap (λ read. peek read (tests_code tests miss) moved answers) (unit_inside unit moved whole inside at) in
       Goes-step steps skips whole (omega (arith, few))
       (Goes-step (suc steps) peeks whole (omega (arith, few))
       (Goes-tests tests miss unit code (reads_next false unit machine) answers end (suc (suc steps)) refl whole target (omega (arith, few)) (Goes-weaken _ (steps + length (Skip ∷ Peek ∷ tests_code tests miss)) (omega arith) goes)))
@@ -199,10 +199,13 @@ module _ (piece : Piece) (stream : List ℕ) (start : ℕ) where
       let moved : Machine = record machine { cursor = suc machine.cursor } in
       let action = Goes-action rule stops.action moved answers (suc (suc steps)) stops.action_block enters.none in
       let skips : step piece stream Skip (Goto stops.action ∷ []) machine answers ≡ goes_on (Goto stops.action ∷ []) moved answers =
-          ap (λ before. skip before (Goto stops.action ∷ []) machine answers) (ap (λ limit. nat_lt machine.cursor limit) enters.whole ∙ lt-ltb machine.cursor (length stream) enters.inside) in
-      EndsFrom-same number machine answers steps (cost left) _ _ (same_end last rule (suc machine.cursor) machine.cond enters.rule_is (enters.here stops.here))
-      (Skip ∷ Goto stops.action ∷ [], stops.code, λ few.
-          Goes-step steps skips enters.whole (omega (arith, few)) (Goes-goto (suc steps) action.1 enters.whole (omega (arith, few)) action.2))
+      ap (λ before. skip before (Goto stops.action ∷ []) machine answers) (ap (λ limit. nat_lt machine.cursor limit) enters.whole ∙ lt-ltb machine.cursor (length stream) enters.inside) in
+      EndsFrom-same number machine answers steps (cost left) _ _ (same_end last rule (suc machine.cursor) machine.cond enters.rule_is (enters.here stops.here)) (
+        Skip ∷ Goto stops.action ∷ [],
+        stops.code,
+        λ few.
+            Goes-step steps skips enters.whole (omega (arith, few)) (Goes-goto (suc steps) action.1 enters.whole (omega (arith, few)) action.2),
+      )
 
   -- where the next unit is not taken, what was accepted last is found
   falls_found : (rule : ℕ) (accepts keeps : Bool) (miss unit : ℕ) (machine : Machine) (answers : List Answer) (steps : ℕ) (last : Found) →
@@ -259,10 +262,10 @@ module _ (piece : Piece) (stream : List ℕ) (start : ℕ) where
       (reached.0, at, λ few. subst (λ end. Goes steps reached.0 (reads_next keeps unit machine) answers end) same (reached.2 (omega (arith, few))))
   next_found depth found again (item ∷ items) (Some other) is rule accepts keeps miss number unit more machine answers steps last next falls drops enters inside left scans =
       again (item ∷ items) other true number more (reads_next keeps unit machine) answers steps (record { rule = other; cursor = suc (suc machine.cursor) }) next
-          (Enters-next rule other accepts keeps unit machine last enters inside) left scans
+      (Enters-next rule other accepts keeps unit machine last enters inside) left scans
   next_found depth found again (item ∷ items) None is rule accepts keeps miss number unit more machine answers steps last next falls drops enters inside left scans =
       again (item ∷ items) rule false number more (reads_next keeps unit machine) answers steps last next.1
-          (Enters-on rule accepts keeps unit machine last enters inside next.0 drops) left scans
+      (Enters-on rule accepts keeps unit machine last enters inside next.0 drops) left scans
 
   -- a block that reads on
   reads_found : (depth : ℕ) (found : Found) → ServesFound depth found → (items : List Item) (rule : ℕ) (accepts : Bool) (number : ℕ) (left : List ℕ) (machine : Machine) (answers : List Answer) (steps : ℕ) (last : Found) →
@@ -276,13 +279,16 @@ module _ (piece : Piece) (stream : List ℕ) (start : ℕ) where
       let taken = left_unit (suc machine.cursor) unit more stream is in
       let given : Option ℕ = accepted (derived unit items) in
       let scans' : scan_from (derived unit items) (suc (suc machine.cursor)) (newest last given (suc (suc machine.cursor))) more ≡ Some found =
-          sym (ap (λ on. if on then scan_from (derived unit items) (suc (suc machine.cursor)) (newest last given (suc (suc machine.cursor))) more else Some last) on) ∙ scans in
+      sym (ap (λ on. if on then scan_from (derived unit items) (suc (suc machine.cursor)) (newest last given (suc (suc machine.cursor))) more else Some last) on) ∙ scans in
       let code : List Stmt = Skip ∷ backup reads.keeps (Peek ∷ tests_code reads.tests reads.miss) in
       let fits : length code ≤ count = code_length piece.blocks number code reads.code in
       let next = next_found depth found again (derived unit items) given refl rule accepts reads.keeps reads.miss (tested reads.tests reads.miss unit) unit more machine answers (steps + length code) last
-          (reads.next unit) reads.falls reads.keeps_here enters taken.0 taken.2 scans' in
-      (code, reads.code, λ few. Goes-read reads.keeps reads.tests reads.miss unit next.0 machine answers (found_end found machine.cond) steps enters.whole taken.0 taken.1 next.1
-          (omega (arith, few, fits)) (next.2 (omega (arith, few, fits))))
+      (reads.next unit) reads.falls reads.keeps_here enters taken.0 taken.2 scans' in (
+        code,
+        reads.code,
+        λ few. Goes-read reads.keeps reads.tests reads.miss unit next.0 machine answers (found_end found machine.cond) steps enters.whole taken.0 taken.1 next.1
+            (omega (arith, few, fits)) (next.2 (omega (arith, few, fits))),
+      )
 
   -- the block serves a scan: the run ends with what the scan finds
   pub serves_found : (depth : ℕ) (found : Found) → ServesFound depth found
@@ -329,8 +335,13 @@ module _ (piece : Piece) (stream : List ℕ) (start : ℕ) where
       let last : Found = newest (record { rule = default; cursor = suc start }) given (suc start) in
       let number : ℕ = tested serves.tests serves.miss unit in
       let enters : Enters (rule_or default given) true last read = record {
-          whole = refl; inside = taken.0; rule_is = start_rule default (suc start) given; here = λ _. start_cursor default (suc start) given;
-          marked = λ e. absurd (true≢false e); none = refl } in
+        whole = refl;
+        inside = taken.0;
+        rule_is = start_rule default (suc start) given;
+        here = λ _. start_cursor default (suc start) given;
+        marked = λ e. absurd (true≢false e);
+        none = refl;
+      } in
       let code : List Stmt = Peek ∷ tests_code serves.tests serves.miss in
       let reached = serves_found depth found (derived unit items) (rule_or default given) true number more read answers (length code) last (serves.next unit) enters taken.2 scans in
       let fits : length code ≤ count = code_length piece.blocks 0 code serves.code in
@@ -338,9 +349,9 @@ module _ (piece : Piece) (stream : List ℕ) (start : ℕ) where
       let lengths : length (unit ∷ more) ≡ length stream - start = ap length is ∙ length-drop start stream in
       let few : length code + cost (length more) < bound = budget (length code) count (length more) (length stream - start) fits (omega (arith, some)) lengths in
       let peeks : step piece stream Peek (tests_code serves.tests serves.miss) machine answers ≡ goes_on (tests_code serves.tests serves.miss) read answers =
-          ap (λ given. peek given (tests_code serves.tests serves.miss) machine answers) (unit_inside unit machine refl taken.0 taken.1) in
+      ap (λ given. peek given (tests_code serves.tests serves.miss) machine answers) (unit_inside unit machine refl taken.0 taken.1) in
       Goes-step 0 peeks refl (omega (arith, few)) (Goes-tests serves.tests serves.miss unit reached.0 read answers (found_end found cond) 1 refl refl reached.1 (omega (arith, few))
-          (Goes-weaken (1 + length (tests_code serves.tests serves.miss)) (length code) (omega arith) (reached.2 few))) 0 (omega arith)
+      (Goes-weaken (1 + length (tests_code serves.tests serves.miss)) (length code) (omega arith) (reached.2 few))) 0 (omega arith)
 
   -- the run of a match, where the scan finds a rule
   pub run_found : (depth : ℕ) (items : List Item) (default : ℕ) (found : Found) (cond : List ℕ) (schedule : Schedule) → ServesStart depth piece.blocks items default →

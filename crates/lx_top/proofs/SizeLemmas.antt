@@ -27,8 +27,12 @@ length-source_text source = omega (arith, outer, inner)
     outer = omega (arith, length-append source.before (block_text source ++ (source.after ++ [])), length-append (block_text source) (source.after ++ []))
 
     inner : length (rule_lines source.rules) + length source.default_action ≤ length (block_text source)
-    inner = omega (arith, length-append (codes "/*!re2c\nre2c:yyfill:enable = 0;\n") (joined (rule_lines source.rules ∷ codes "* " ∷ source.default_action ∷ codes "\n*/" ∷ []) []),
-        length-append (rule_lines source.rules) (joined (codes "* " ∷ source.default_action ∷ codes "\n*/" ∷ []) []), length-append source.default_action (joined (codes "\n*/" ∷ []) []))
+    inner = omega (
+      arith,
+      length-append (codes "/*!re2c\nre2c:yyfill:enable = 0;\n") (joined (rule_lines source.rules ∷ codes "* " ∷ source.default_action ∷ codes "\n*/" ∷ []) []),
+      length-append (rule_lines source.rules) (joined (codes "* " ∷ source.default_action ∷ codes "\n*/" ∷ []) []),
+      length-append source.default_action (joined (codes "\n*/" ∷ []) []),
+    )
 
 -- there are no more rules and letters than letters of their lines
 few_rules : (number : ℕ) (rules : List QuotedRule) → length rules + letters (scan.items_of number rules) ≤ length (rule_lines rules)
@@ -61,9 +65,10 @@ AreBytes-string (letter ∷ text) each = (string_byte letter each.0, AreBytes-st
 AreItems-rules : (number bound : ℕ) (rules : List QuotedRule) → AreQuotedRules rules → length (rule_lines rules) ≤ 4000 → 0 < number → number + length rules ≤ bound → AreItems 4001 (suc bound) (scan.items_of number rules)
 AreItems-rules number bound [] are short positive known = tt
 AreItems-rules number bound (rule ∷ rules) are short positive known =
-    let line = length-append (rule_line rule) (rule_lines rules) in
-    ((omega (arith, short, line, length-rule_line rule), AreBytes-string rule.text are.0.text, positive, omega (arith, known)),
-        AreItems-rules (suc number) bound rules are.1 (omega (arith, short, line)) (omega arith) (omega (arith, known)))
+    let line = length-append (rule_line rule) (rule_lines rules) in (
+      (omega (arith, short, line, length-rule_line rule), AreBytes-string rule.text are.0.text, positive, omega (arith, known)),
+      AreItems-rules (suc number) bound rules are.1 (omega (arith, short, line)) (omega arith) (omega (arith, known)),
+    )
 
 -- what a source has in it
 pub quoted_few : (source : QuotedSource) → IsQuoted source → length source.rules ≤ 4000
@@ -74,7 +79,7 @@ pub quoted_items : (source : QuotedSource) (actions : List (List ℕ)) (items : 
 quoted_items source actions items is actions_are items_are =
     let many : length actions ≡ suc (length source.rules) = ap length actions_are ∙ length-rule_actions source.rules source.default_action in
     subst (λ items. AreItems 4001 (suc (length actions)) items) (sym items_are)
-        (AreItems-rules 1 (length actions) source.rules is.rules (omega (arith, is.short, length-source_text source)) (omega arith) (omega (arith, many)))
+    (AreItems-rules 1 (length actions) source.rules is.rules (omega (arith, is.short, length-source_text source)) (omega arith) (omega (arith, many)))
 
 -- the blocks make the piece of the source
 pub started_scanner : (source : QuotedSource) (actions : List (List ℕ)) (items : List scan.Item) (blocks : List CodeBlock) → IsQuoted source → actions ≡ rule_actions source.rules source.default_action →
@@ -85,9 +90,9 @@ started_scanner source actions items blocks is actions_are items_are so =
     let letters_are : letters items ≡ letters (scan.items_of 1 source.rules) = ap letters items_are in
     let many : length actions ≡ suc (length source.rules) = ap length actions_are ∙ length-rule_actions source.rules source.default_action in
     let start : ServesStart 4000 blocks (scan.items_of 1 source.rules) (suc (length source.rules)) =
-        subst (λ items. ServesStart 4000 blocks items (suc (length source.rules))) items_are (subst (λ default. ServesStart 4000 blocks items default) many so.start) in
+    subst (λ items. ServesStart 4000 blocks items (suc (length source.rules))) items_are (subst (λ default. ServesStart 4000 blocks items default) many so.start) in
     IsScannerOf-emission 4000 source.rules source.default_action blocks so.table (omega (arith, is.short, size, few)) (short_actions source.rules source.default_action (omega (arith, is.short, size)))
-        (subst (λ actions. IsEmission actions blocks so.table) actions_are so.emission) so.some (omega (arith, so.few, letters_are, is.short, size, few)) start
+    (subst (λ actions. IsEmission actions blocks so.table) actions_are so.emission) so.some (omega (arith, so.few, letters_are, is.short, size, few)) start
 
 -- the piece as the code puts it together
 pub piece_is : (rules : List QuotedRule) (default_action : List ℕ) (names : List (List ℕ)) (conds : List CondCase) (given blocks : List CodeBlock) → names ≡ usual_names → conds ≡ [] → given ≡ blocks →
@@ -96,4 +101,4 @@ pub piece_is : (rules : List QuotedRule) (default_action : List ℕ) (names : Li
 piece_is rules default_action names conds given blocks names_are none same scanner =
     let piece : List (List ℕ) → List CondCase → List CodeBlock → Piece = λ names conds blocks. record { number = 1; names = names; unit = 1; eof = None; declares = true; ctx = false; states = None; conds = conds; blocks = blocks; line = None } in
     subst (λ names. IsScannerOf rules default_action (piece names conds given)) (sym names_are)
-        (subst (λ conds. IsScannerOf rules default_action (piece usual_names conds given)) (sym none) (subst (λ blocks. IsScannerOf rules default_action (piece usual_names [] blocks)) (sym same) scanner))
+    (subst (λ conds. IsScannerOf rules default_action (piece usual_names conds given)) (sym none) (subst (λ blocks. IsScannerOf rules default_action (piece usual_names [] blocks)) (sym same) scanner))

@@ -58,7 +58,7 @@ pub TestsStart-skip : (before emitter : Emitter) (depth : ℕ) (items : List Ite
 TestsStart-skip before emitter depth items default miss code bound unit none so =
     let next : suc unit ≡ unit + 1 = omega arith in
     subst (λ unit. TestsStart before emitter depth items default miss code bound unit) next
-        (record { emits = so.emits; other = so.other; within = so.within; tests = AreTests-skip emitter.actions.now items miss (Peek ∷ []) emitter.blocks.items (LeadsIn depth emitter.blocks.items items default) code bound unit none so.tests })
+    (record { emits = so.emits; other = so.other; within = so.within; tests = AreTests-skip emitter.actions.now items miss (Peek ∷ []) emitter.blocks.items (LeadsIn depth emitter.blocks.items items default) code bound unit none so.tests })
 
 pub TestsStart-child : (before emitter after : Emitter) (depth : ℕ) (items : List Item) (default miss : ℕ) (code more : List Stmt) (bound unit number : ℕ) (words : List Item) (last : ℕ) →
     words ≡ derived unit items → unit < 256 → last ≡ rule_or default (accepted words) → Emits emitter after → number < length after.blocks.items → Serves depth after.blocks.items words last true number →
@@ -67,20 +67,24 @@ TestsStart-child before emitter after depth items default miss code more bound u
     let other = Serves-keeps depth emitter.blocks.items after.blocks.items emits.keeps [] default true miss so.other in
     let inside : miss < length after.blocks.items = omega (arith, so.within, emits.grows) in
     let kept = AreTests-keeps emitter.actions.now items miss (Peek ∷ []) emitter.blocks.items after.blocks.items (LeadsIn depth emitter.blocks.items items default) (LeadsIn depth after.blocks.items items default) code bound unit
-        (λ given number. Serves-keeps depth emitter.blocks.items after.blocks.items emits.keeps (derived given items) (rule_or default (accepted (derived given items))) true number) emits.grows so.tests in
+    (λ given number. Serves-keeps depth emitter.blocks.items after.blocks.items emits.keeps (derived given items) (rule_or default (accepted (derived given items))) true number) emits.grows so.tests in
     let leads : LeadsIn depth after.blocks.items items default unit number = subst (λ words. Serves depth after.blocks.items words (rule_or default (accepted words)) true number) is
-        (subst (λ last. Serves depth after.blocks.items words last true number) last_is serves) in
+    (subst (λ last. Serves depth after.blocks.items words last true number) last_is serves) in
     let added = AreTests-add emitter.actions.now items miss (Peek ∷ []) after.blocks.items (LeadsIn depth after.blocks.items items default) code more bound unit number
-        (misses_in depth after.blocks.items items default miss other) small inside within leads e kept in
+    (misses_in depth after.blocks.items items default miss other) small inside within leads e kept in
     let next : suc unit ≡ unit + 1 = omega arith in
-    subst (λ unit. TestsStart before after depth items default miss more unit unit) next (record { emits = Emits-trans before emitter after so.emits emits; other = other; within = inside;
-        tests = subst (λ actions. AreTests actions after.blocks.items (LeadsIn depth after.blocks.items items default) items miss (Peek ∷ []) more (suc unit) (suc unit)) (sym emits.actions) added })
+    subst (λ unit. TestsStart before after depth items default miss more unit unit) next (record {
+      emits = Emits-trans before emitter after so.emits emits;
+      other = other;
+      within = inside;
+      tests = subst (λ actions. AreTests actions after.blocks.items (LeadsIn depth after.blocks.items items default) items miss (Peek ∷ []) more (suc unit) (suc unit)) (sym emits.actions) added;
+    })
 
 pub TestsStart-is : (before emitter other : Emitter) (depth : ℕ) (items : List Item) (default miss : ℕ) (code more : List Stmt) (bound less unit : ℕ) → other ≡ emitter → more ≡ code → less ≡ bound →
     TestsStart before emitter depth items default miss code bound unit → TestsStart before other depth items default miss more less unit
 TestsStart-is before emitter other depth items default miss code more bound less unit e f g so =
     subst (λ emitter. TestsStart before emitter depth items default miss more less unit) (sym e)
-        (subst (λ code. TestsStart before emitter depth items default miss code less unit) (sym f) (subst (λ bound. TestsStart before emitter depth items default miss code bound unit) (sym g) so))
+    (subst (λ code. TestsStart before emitter depth items default miss code less unit) (sym f) (subst (λ bound. TestsStart before emitter depth items default miss code bound unit) (sym g) so))
 
 -- what the call for a word of one unit asks
 pub asks_first : (before emitter : Emitter) (depth : ℕ) (items : List Item) (default miss : ℕ) (code : List Stmt) (bound unit : ℕ) (words : List Item) (last : ℕ) → words ≡ derived unit items →
@@ -123,7 +127,7 @@ pub TestsStart-whole : (before emitter : Emitter) (after : List CodeBlock) (dept
     IsEmission emitter.actions.now after emitter.action_blocks.items × ServesStart depth after items default × (length after ≡ length emitter.blocks.items)
 TestsStart-whole before emitter after depth rules items default miss code more bound are e set_is waits so =
     subst (λ after. IsEmission emitter.actions.now after emitter.action_blocks.items × ServesStart depth after items default × (length after ≡ length emitter.blocks.items)) (sym set_is)
-        (IsEmission-set emitter.actions.now emitter.blocks.items emitter.action_blocks.items block free so.emits.emitting good plain, serves, length-set emitter.blocks.items block)
+    (IsEmission-set emitter.actions.now emitter.blocks.items emitter.action_blocks.items block free so.emits.emitting good plain, serves, length-set emitter.blocks.items block)
   where
     block : CodeBlock
     block = record { cond = None; stmts = more }
@@ -139,7 +143,9 @@ TestsStart-whole before emitter after depth rules items default miss code more b
 
     good : IsGoodBlock emitter.actions.now (length emitter.blocks.items) block
     good = subst (λ more. IsGoodBlock emitter.actions.now (length emitter.blocks.items) (record { cond = None; stmts = more })) (sym more_is) (record {
-      cond = refl; ends = ends_once-tests so.tests.tests miss; short = omega (arith, so.tests.few, so.tests.below, length-tests_code so.tests.tests miss);
+      cond = refl;
+      ends = ends_once-tests so.tests.tests miss;
+      short = omega (arith, so.tests.few, so.tests.below, length-tests_code so.tests.tests miss);
       statements = (tt, good-tests_code emitter.actions.now (length emitter.blocks.items) so.tests.tests miss so.tests.good so.within);
     })
 

@@ -48,8 +48,8 @@ word_tests_kept : (emitter after : Emitter) (depth : ℕ) (items : List Item) (r
     AreTests emitter.actions.now after.blocks.items (LeadsOn depth after.blocks.items items rule accepts begin.keeps begin.miss) items begin.miss (front_of begin) code bound unit
 word_tests_kept emitter after depth items rule accepts begin code bound unit emits tests =
     AreTests-keeps emitter.actions.now items begin.miss (front_of begin) emitter.blocks.items after.blocks.items (LeadsOn depth emitter.blocks.items items rule accepts begin.keeps begin.miss) (LeadsOn depth after.blocks.items items rule accepts begin.keeps begin.miss)
-        code bound unit (λ given number. ServesNext-keeps (Serves depth emitter.blocks.items) (Serves depth after.blocks.items) (Serves-keeps depth emitter.blocks.items after.blocks.items emits.keeps) (derived given items) (accepted (derived given items)) rule accepts begin.keeps begin.miss number)
-        emits.grows tests
+    code bound unit (λ given number. ServesNext-keeps (Serves depth emitter.blocks.items) (Serves depth after.blocks.items) (Serves-keeps depth emitter.blocks.items after.blocks.items emits.keeps) (derived given items) (accepted (derived given items)) rule accepts begin.keeps begin.miss number)
+    emits.grows tests
 
 pub TestsWord-skip : (before emitter : Emitter) (depth : ℕ) (items : List Item) (rule : ℕ) (accepts : Bool) (begin : WordBegin) (code : List Stmt) (bound unit : ℕ) → derived unit items ≡ [] →
     TestsWord before emitter depth items rule accepts begin code bound unit → TestsWord before emitter depth items rule accepts begin code bound (unit + 1)
@@ -92,9 +92,9 @@ TestsWord-add before emitter after depth items rule accepts begin code more boun
     let begins = Begins-keeps emitter.blocks.items after.blocks.items items rule accepts begin emits.keeps emits.grows so.begins in
     let kept = word_tests_kept emitter after depth items rule accepts begin code bound unit emits so.tests in
     let next : ServesNext (Serves depth after.blocks.items) (derived unit items) (accepted (derived unit items)) rule accepts begin.keeps begin.miss number =
-        serves_next depth after.blocks.items (derived unit items) rule accepts begin.keeps begin.miss number some (λ none. marks_kept after.blocks.items items rule accepts begin unit begins small some none) serves in
+    serves_next depth after.blocks.items (derived unit items) rule accepts begin.keeps begin.miss number some (λ none. marks_kept after.blocks.items items rule accepts begin unit begins small some none) serves in
     let added = AreTests-add emitter.actions.now items begin.miss (front_of begin) after.blocks.items (LeadsOn depth after.blocks.items items rule accepts begin.keeps begin.miss) code more bound unit number
-        (misses_on depth after.blocks.items items rule accepts begin.keeps begin.miss) small begins.within within next e kept in
+    (misses_on depth after.blocks.items items rule accepts begin.keeps begin.miss) small begins.within within next e kept in
     let P : ℕ → Type 0 = λ unit. TestsWord before after depth items rule accepts begin more unit unit in
     let Q : List (List ℕ) → Type 0 = λ actions. AreTests actions after.blocks.items (LeadsOn depth after.blocks.items items rule accepts begin.keeps begin.miss) items begin.miss (front_of begin) more (suc unit) (suc unit) in
     let is : suc unit ≡ unit + 1 = omega arith in
@@ -140,15 +140,24 @@ asks_child before emitter depth items rule accepts begin code bound unit words l
     let rules : ℕ = length emitter.actions.now in
     let same : length before.actions.now ≡ rules = ap length (sym so.emits.actions) in
     let whole : AreItems (suc (depth - 1)) (suc rules) items =
-        subst (λ rules. AreItems (suc (depth - 1)) (suc rules) items) same (subst (λ depth. AreItems depth (suc (length before.actions.now)) items) (omega (arith, deep)) are) in
+    subst (λ rules. AreItems (suc (depth - 1)) (suc rules) items) same (subst (λ depth. AreItems depth (suc (length before.actions.now)) items) (omega (arith, deep)) are) in
     let fewer : AreItems (depth - 1) (suc rules) words = subst (λ words. AreItems (depth - 1) (suc rules) words) (sym is) (AreItems-derived (depth - 1) (suc rules) unit items whole) in
     let found = child_rule (depth - 1) rules rule words fewer positive (omega (arith, known, same)) in
     let fallback : is_some (accepted words) ≡ false → IsFallback emitter.blocks.items (rule_or rule (accepted words)) begin.fallback × (begin.fallback < length emitter.blocks.items) =
-        λ none. subst (λ words. IsFallback emitter.blocks.items (rule_or rule (accepted words)) begin.fallback × (begin.fallback < length emitter.blocks.items)) (sym is)
-            (child_fallback emitter.blocks.items items rule accepts begin unit so.begins small (λ e. some (is ∙ e)) (ap (λ words. is_some (accepted words)) (sym is) ∙ none)) in
-    (so.emits.emitting, (subst (λ last. 0 < last) (sym last_is) found.0, (subst (λ last. last ≤ rules) (sym last_is) found.1,
-        (λ none. subst (λ last. IsFallback emitter.blocks.items last begin.fallback × (begin.fallback < length emitter.blocks.items)) (sym last_is) (fallback (sym here_is ∙ none)),
-        (child_depth (depth - 1) (suc rules) words fewer some, (fewer, λ stops. here_is ∙ child_stops words some stops))))))
+    λ none. subst (λ words. IsFallback emitter.blocks.items (rule_or rule (accepted words)) begin.fallback × (begin.fallback < length emitter.blocks.items)) (sym is)
+    (child_fallback emitter.blocks.items items rule accepts begin unit so.begins small (λ e. some (is ∙ e)) (ap (λ words. is_some (accepted words)) (sym is) ∙ none)) in (
+      so.emits.emitting,
+      (
+        subst (λ last. 0 < last) (sym last_is) found.0,
+        (
+          subst (λ last. last ≤ rules) (sym last_is) found.1,
+          (
+            λ none. subst (λ last. IsFallback emitter.blocks.items last begin.fallback × (begin.fallback < length emitter.blocks.items)) (sym last_is) (fallback (sym here_is ∙ none)),
+            (child_depth (depth - 1) (suc rules) words fewer some, (fewer, λ stops. here_is ∙ child_stops words some stops)),
+          ),
+        ),
+      ),
+    )
 
 -- the tests with the longer word's block
 pub TestsWord-child : (before emitter after : Emitter) (depth : ℕ) (items : List Item) (rule : ℕ) (accepts : Bool) (begin : WordBegin) (code more : List Stmt) (bound unit number : ℕ) (words : List Item) (last : ℕ) (here : Bool) →
@@ -157,15 +166,15 @@ pub TestsWord-child : (before emitter after : Emitter) (depth : ℕ) (items : Li
     TestsWord before emitter depth items rule accepts begin code bound unit → TestsWord before after depth items rule accepts begin more (unit + 1) (unit + 1)
 TestsWord-child before emitter after depth items rule accepts begin code more bound unit number words last here is some small last_is here_is emits within serves e so =
     let first : Serves depth after.blocks.items words (rule_or rule (accepted words)) (is_some (accepted words)) number =
-        subst (λ here. Serves depth after.blocks.items words (rule_or rule (accepted words)) here number) here_is (subst (λ last. Serves depth after.blocks.items words last here number) last_is serves) in
+    subst (λ here. Serves depth after.blocks.items words (rule_or rule (accepted words)) here number) here_is (subst (λ last. Serves depth after.blocks.items words last here number) last_is serves) in
     TestsWord-add before emitter after depth items rule accepts begin code more bound unit number small (λ none. some (is ∙ none)) emits within
-        (subst (λ words. Serves depth after.blocks.items words (rule_or rule (accepted words)) (is_some (accepted words)) number) is first) e so
+    (subst (λ words. Serves depth after.blocks.items words (rule_or rule (accepted words)) (is_some (accepted words)) number) is first) e so
 
 pub TestsWord-is : (before emitter other : Emitter) (depth : ℕ) (items : List Item) (rule : ℕ) (accepts : Bool) (begin : WordBegin) (code more : List Stmt) (bound less unit : ℕ) → other ≡ emitter → more ≡ code → less ≡ bound →
     TestsWord before emitter depth items rule accepts begin code bound unit → TestsWord before other depth items rule accepts begin more less unit
 TestsWord-is before emitter other depth items rule accepts begin code more bound less unit e f g so =
     subst (λ emitter. TestsWord before emitter depth items rule accepts begin more less unit) (sym e)
-        (subst (λ code. TestsWord before emitter depth items rule accepts begin code less unit) (sym f) (subst (λ bound. TestsWord before emitter depth items rule accepts begin code bound unit) (sym g) so))
+    (subst (λ code. TestsWord before emitter depth items rule accepts begin code less unit) (sym f) (subst (λ bound. TestsWord before emitter depth items rule accepts begin code bound unit) (sym g) so))
 
 -- ---- the whole block of a word
 
@@ -210,7 +219,7 @@ pub TestsWord-plain : (before emitter : Emitter) (depth : ℕ) (items : List Ite
     TestsWord before emitter depth items rule accepts begin code bound unit → IsPlainBlock emitter more
 TestsWord-plain before emitter depth items rule accepts begin code more bound unit most e so =
     subst (λ code. IsPlainBlock emitter code) (sym (code_of_tests begin code more so.tests.tests so.tests.code_is e))
-        (plain_word emitter begin.keeps so.tests.tests begin.miss so.tests.good (omega (arith, so.tests.few, so.tests.below, most)) so.begins.within)
+    (plain_word emitter begin.keeps so.tests.tests begin.miss so.tests.good (omega (arith, so.tests.few, so.tests.below, most)) so.begins.within)
 
 pub TestsWord-serves : (before emitter after : Emitter) (depth rules : ℕ) (items : List Item) (rule : ℕ) (accepts : Bool) (begin : WordBegin) (code more : List Stmt) (bound number : ℕ) → AreItems (suc depth) rules items →
     goes_on items ≡ true → more ≡ code ++ Goto begin.miss ∷ [] → Emits emitter after → code_in after.blocks.items number ≡ Some more → TestsWord before emitter depth items rule accepts begin code bound 256 →

@@ -81,17 +81,20 @@ Serves-keeps (suc depth) before after keeps items rule accepts number serves = b
         ((items : List Item) (rule : ℕ) (accepts : Bool) (number : ℕ) → Serves depth before items rule accepts number → Serves depth after items rule accepts number) →
         ServesBy on (Serves depth after) after items rule accepts number
     by true reads again = record {
-        keeps = reads.keeps; tests = reads.tests; miss = reads.miss;
-        code = keeps number (Skip ∷ backup reads.keeps (Peek ∷ tests_code reads.tests reads.miss)) reads.code (λ e. cc);
-        falls = Falls-keeps before after rule accepts reads.miss keeps reads.falls;
-        keeps_here = reads.keeps_here;
-        next = λ unit. ServesNext-keeps (Serves depth before) (Serves depth after) again (derived unit items) (accepted (derived unit items)) rule accepts reads.keeps reads.miss (tested reads.tests reads.miss unit) (reads.next unit);
-      }
+      keeps = reads.keeps;
+      tests = reads.tests;
+      miss = reads.miss;
+      code = keeps number (Skip ∷ backup reads.keeps (Peek ∷ tests_code reads.tests reads.miss)) reads.code (λ e. cc);
+      falls = Falls-keeps before after rule accepts reads.miss keeps reads.falls;
+      keeps_here = reads.keeps_here;
+      next = λ unit. ServesNext-keeps (Serves depth before) (Serves depth after) again (derived unit items) (accepted (derived unit items)) rule accepts reads.keeps reads.miss (tested reads.tests reads.miss unit) (reads.next unit);
+    }
     by false stops again = record {
-        here = stops.here; action = stops.action;
-        action_block = IsActionBlock-keeps before after rule stops.action keeps stops.action_block;
-        code = keeps number (Skip ∷ Goto stops.action ∷ []) stops.code (λ e. cc);
-      }
+      here = stops.here;
+      action = stops.action;
+      action_block = IsActionBlock-keeps before after rule stops.action keeps stops.action_block;
+      code = keeps number (Skip ∷ Goto stops.action ∷ []) stops.code (λ e. cc);
+    }
 
 pub Begins-keeps : (before after : List CodeBlock) (items : List Item) (rule : ℕ) (accepts : Bool) (begin : WordBegin) → Keeps before after → length before ≤ length after →
     Begins before items rule accepts begin → Begins after items rule accepts begin

@@ -17,27 +17,27 @@ abbrev pub derived : ℕ → List Item → List Item
 derived unit [] = []
 derived unit (item ∷ items) = onto unit item.rule item.rest (derived unit items)
   where
-  onto : ℕ → ℕ → List ℕ → List Item → List Item
-  onto unit rule [] others = others
-  onto unit rule (letter ∷ rest) others = if letter == unit then record { rule = rule; rest = rest } ∷ others else others
+    onto : ℕ → ℕ → List ℕ → List Item → List Item
+    onto unit rule [] others = others
+    onto unit rule (letter ∷ rest) others = if letter == unit then record { rule = rule; rest = rest } ∷ others else others
 
 -- the first rule whose string ends here
 abbrev pub accepted : List Item → Option ℕ
 accepted [] = None
 accepted (item ∷ items) = if is_empty item.rest then Some item.rule else accepted items
   where
-  is_empty : List ℕ → Bool
-  is_empty [] = true
-  is_empty (letter ∷ rest) = false
+    is_empty : List ℕ → Bool
+    is_empty [] = true
+    is_empty (letter ∷ rest) = false
 
 -- whether some string goes on
 abbrev pub goes_on : List Item → Bool
 goes_on [] = false
 goes_on (item ∷ items) = is_some item.rest (goes_on items)
   where
-  is_some : List ℕ → Bool → Bool
-  is_some [] others = others
-  is_some (letter ∷ rest) others = true
+    is_some : List ℕ → Bool → Bool
+    is_some [] others = others
+    is_some (letter ∷ rest) others = true
 
 -- a rule that was accepted, and the offset behind its word
 pub record Found : Type 0 where

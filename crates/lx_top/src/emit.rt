@@ -134,7 +134,13 @@ fn needs_marker(alloc: Global, items: &[Item<'_>]) -> Result<bool, Memory>
 }
 
 /// The tests of the units from a bound up to one that is taken, which do not go on, and of that one.
-fn push_tests(code: &mut Vec<Stmt>, bound: u32, unit: u32, miss: u64, number: u64) -> Result<(), Memory>
+fn push_tests(
+    code: &mut Vec<Stmt>,
+    bound: u32,
+    unit: u32,
+    miss: u64,
+    number: u64,
+) -> Result<(), Memory>
     ensures { OnOk result (code.new.items ≡ code.old.items ++ test_statements (unit_tests bound unit miss number)) }
 {
     if bound < unit {
@@ -341,7 +347,14 @@ impl<'s> Emitter<'s> {
             let next = derived(alloc, items, unit)?;
             if !next.is_empty() {
                 let last = last_rule(&next, rule);
-                let number = self.emit_word(alloc, depth - 1, &next, last.rule, last.accepts, begin.fallback)?;
+                let number = self.emit_word(
+                    alloc,
+                    depth - 1,
+                    &next,
+                    last.rule,
+                    last.accepts,
+                    begin.fallback,
+                )?;
                 push_tests(&mut code, bound, unit, begin.miss, number)?;
                 bound = unit + 1;
             }

@@ -66,10 +66,12 @@ fn first_block(alloc: Global) -> Result<Vec<CodeBlock>, Memory>
     ensures { IfOk result (λ blocks. blocks.items ≡ record { cond = None; stmts = Leave ∷ [] } ∷ []) }
 {
     let waiting = vec![in alloc; Stmt::Leave]?;
-    let blocks = vec![in alloc; CodeBlock {
-        cond: None,
-        stmts: Sequence::from_vec(waiting),
-    }]?;
+    let blocks = vec![in alloc;
+        CodeBlock {
+            cond: None,
+            stmts: Sequence::from_vec(waiting),
+        },
+    ]?;
     Ok(blocks)
 }
 
