@@ -5,6 +5,8 @@ use Rattle.lx_base.specs.declared.faults.Fault.{Fault}
 use Rattle.lx_base.specs.declared.faults.Fault.TheVariants.{Unsupported, NoFile}
 use Rattle.lx_files.specs.declared.files.HeldFile.{HeldFile}
 use Rattle.lx_files.specs.Held.{bytes_of}
+use Rattle.lx_top.specs.Quoted.{QuotedSource}
+use Rattle.lx_top.specs.Reading.{quoted_of}
 use Rattle.lx_top.specs.Source.{is_plain}
 use Rattle.lx_top.specs.Words.{source_name}
 
@@ -12,9 +14,14 @@ use Rattle.lx_top.specs.Words.{source_name}
 abbrev pub source_start : Pos
 source_start = record { file = 0; line = 1; col = 1 }
 
+-- a source that is read as one of quoted strings has no fault, and any other one is not supported yet
+abbrev pub read_fault : Option QuotedSource → Option Fault
+read_fault None = Some (Unsupported (Some source_start))
+read_fault (Some quoted) = None
+
 -- the fault of a source: it is of a kind that is not supported yet
 abbrev pub source_fault : (source : List ℕ) → Option Fault
-source_fault source = if is_plain source then None else Some (Unsupported (Some source_start))
+source_fault source = if is_plain source then None else read_fault (quoted_of source)
 
 -- the fault of a file with this name and these bytes, if it is there: there is no such file, or the source has one
 abbrev pub file_fault : (name : List ℕ) → Option (List ℕ) → Option Fault

@@ -1,8 +1,15 @@
+pub mod Emission
 pub mod Endings
 pub mod FirstFault
 pub mod Outside
 pub mod Output
-pub mod Source
-pub mod Words
+pub mod Pieces
 pub mod Puts
+pub mod Quoted
+pub mod Reading
+pub mod Scan
+pub mod Scanner
+pub mod Serving
+pub mod Source
 pub mod Steps
+pub mod Words

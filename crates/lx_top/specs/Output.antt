@@ -1,18 +1,28 @@
 -- What the output of a source is.
-use Rattle.std.specs.Prelude.{◌≡◌, ℕ, List, [], ◌∷◌, Option, Some, None}
+use Rattle.std.specs.Prelude.{◌≡◌, ◌⊎◌, ℕ, false, List, [], ◌∷◌, Option, Some, None}
 use Rattle.lx_base.specs.Text.{joined}
 use Rattle.lx_files.specs.declared.files.HeldFile.{HeldFile}
 use Rattle.lx_files.specs.Held.{bytes_of}
+use Rattle.lx_ccode.specs.declared.piece.Piece.{Piece}
+use Rattle.lx_ccode.specs.Text.{piece_text}
+use Rattle.lx_top.specs.Quoted.{QuotedSource, IsQuoted, source_text}
+use Rattle.lx_top.specs.Scanner.{IsScannerOf}
+use Rattle.lx_top.specs.Source.{has_opener}
 use Rattle.lx_top.specs.Words.{source_name}
 
--- the texts of a source outside its blocks, in order: a source in which no block opens is one such text
-abbrev pub outside_texts : List ℕ → List (List ℕ)
-outside_texts source = source ∷ []
+-- The output has the text before the block, the text of a piece that is a scanner of the block's rules, and the text behind
+-- the block.
+pub record IsOutputOfQuoted (quoted : QuotedSource) (output : List ℕ) : Type 0 where
+  pub piece : Piece
+  pub scanner : IsScannerOf quoted.rules quoted.default_action piece
+  pub joins : output ≡ joined (quoted.before ∷ piece_text piece ∷ quoted.after ∷ []) []
 
--- an output has the outside texts of the source, unchanged and in order, with a piece in the place of each block
--- between two of them; sources with blocks are not compiled yet, so there are no pieces
+-- An output of a source in which no block opens is the source, unchanged. One of a source with one block of quoted strings
+-- has the texts outside the block, unchanged, with a piece in the block's place. Other sources have none yet.
 abbrev pub IsOutput : (source output : List ℕ) → Type 0
-IsOutput source output = output ≡ joined (outside_texts source) []
+IsOutput source output =
+    ((has_opener source ≡ false) × (output ≡ source))
+    ⊎ ((quoted : QuotedSource) × IsQuoted quoted × (source ≡ source_text quoted) × IsOutputOfQuoted quoted output)
 
 -- the output is one of the source that the words name among the files
 abbrev pub IsOutputOfFile : Option (List ℕ) → List ℕ → Type 0

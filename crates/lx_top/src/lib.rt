@@ -2,10 +2,14 @@
 #![tactic(auto)]
 
 mod compile;
+mod emit;
 pub mod endings;
+pub mod laws;
 pub mod puts;
+mod quoted;
 mod report;
 pub mod run;
+mod scanner;
 mod sources;
 
 pub use endings::{Ending, Halt};

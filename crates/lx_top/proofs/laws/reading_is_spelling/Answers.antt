@@ -1,0 +1,17 @@
+use Rattle.std.proofs.Common.{◌≡◌, List, Some, None, true, false, refl, sym, ap, ◌∙◌}
+use Rattle.std.specs.Prelude.{if◌then◌else◌}
+use Rattle.lx_top.specs.FirstFault.{read_fault}
+use Rattle.lx_top.specs.Quoted.{source_text}
+use Rattle.lx_top.specs.Reading.{quoted_of}
+use Rattle.lx_top.proofs.FaultLemmas.{source_fault-quoted}
+use Rattle.lx_top.proofs.ReadingLemmas.{quoted_of-source_text, quoted_of-some}
+use Rattle.lx_top.proofs.laws.reading_is_spelling.Goals as goal
+
+pub returns-clause-spelled : goal.returns-clause-spelled
+returns-clause-spelled c = quoted_of-source_text
+
+pub returns-clause-read : goal.returns-clause-read
+returns-clause-read c = quoted_of-some
+
+pub returns-clause-no_fault : goal.returns-clause-no_fault
+returns-clause-no_fault c = source_fault-quoted
