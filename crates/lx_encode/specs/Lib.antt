@@ -1,2 +1,4 @@
 pub mod Policy
+pub mod Runs
+pub mod Table
 pub mod Units

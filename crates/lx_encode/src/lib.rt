@@ -3,6 +3,8 @@
 #![tactic(auto)]
 
 mod policies;
+mod runs;
+mod table;
 mod units;
 
 pub use policies::{PointStop, all_points, apply};
