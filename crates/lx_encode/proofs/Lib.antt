@@ -1,5 +1,10 @@
+pub mod BlockLists
+pub mod Blocks
 pub mod Choices
+pub mod Emptiness
+pub mod FoldingSteps
 pub mod Least
+pub mod Parts
 pub mod PointRuns
 pub mod Rows
 pub mod RunLists

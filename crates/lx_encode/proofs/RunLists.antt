@@ -90,6 +90,13 @@ module _ (xs : List Run) (i : ℕ) (lt : i < length xs) where
       let here : InRun (run_at xs i) n = (from, to) in
       (LeadsTo-parts n (run_at xs i).to).1 (inr (inl (here, λ k. (run_at xs i).to)))
 
+  -- its last number is one of those up to it
+  pub leads_here : (run_at xs i).lo ≤ (run_at xs i).hi → LeadsTo (take (i + 1) xs) (run_at xs i).hi (run_at xs i).to
+  leads_here filled =
+      let here : InRun (run_at xs i) (run_at xs i).hi = (filled, omega arith) in
+      subst (λ l. LeadsTo l (run_at xs i).hi (run_at xs i).to) (sym taken_at)
+      ((LeadsTo-append (take i xs) (run_at xs i ∷ []) (run_at xs i).hi (run_at xs i).to).1 (inr (inl (here, λ k. (run_at xs i).to))))
+
   -- no number of what is left lies before the run
   pub from_here : (n t : ℕ) → AreSorted xs → LeadsTo (drop i xs) n t → (run_at xs i).lo ≤ n
   from_here n t h at =

@@ -1,3 +1,5 @@
+pub mod Folding
+pub mod Layers
 pub mod Policy
 pub mod Runs
 pub mod Table
