@@ -4,8 +4,10 @@ pub mod Choices
 pub mod Emptiness
 pub mod FoldingSteps
 pub mod Least
+pub mod Meaning
 pub mod Parts
 pub mod PointRuns
+pub mod Residuals
 pub mod Rows
 pub mod RunLists
 pub mod Shifts
