@@ -5,10 +5,13 @@ pub mod Emptiness
 pub mod FoldingSteps
 pub mod Least
 pub mod Meaning
+pub mod OneUnit
 pub mod Parts
 pub mod PointRuns
 pub mod Residuals
 pub mod Rows
 pub mod RunLists
 pub mod Shifts
+pub mod Spellings
+pub mod Starts
 pub mod Targets

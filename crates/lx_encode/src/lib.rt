@@ -2,6 +2,7 @@
 //! automaton walks through the spellings of a class unit by unit.
 #![tactic(auto)]
 
+mod graph;
 mod layers;
 mod policies;
 mod runs;

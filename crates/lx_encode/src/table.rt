@@ -129,6 +129,7 @@ impl Table {
         requires row { IsRow runs.items }
         requires earlier { LeadBelow runs.items (length self.old) }
         requires room { length self.old < 2 ^ 31 }
+        ensures table { OnOk result (IsTable self.new) }
         ensures grows { OnOk result (GrowsBy self.old self.new 1) }
         ensures row { IfOk result (λ residual. row_of self.new residual ≡ runs.items) }
         ensures within { IfOk result (λ residual. residual < length self.new) }

@@ -1,0 +1,53 @@
+//! The graph on which an automaton walks through the spellings of a class, unit by unit.
+ghost use Rattle.std.specs.Prelude.{◌≡◌, ℕ, ◌+◌, ◌<◌, ◌≤◌, ◌^◌, ◌↔◌, ◌⊎◌, List, [], ◌∷◌, length, option_map, IsTrue, IsNone, IfOk, OnOk};
+ghost use Rattle.lx_class.specs.Ranges.{InRanges, IsCanonical};
+ghost use Rattle.lx_class.specs.declared.ranges.Range.{Range};
+ghost use Rattle.lx_encode.specs.Policy.{FitsEncoding};
+ghost use Rattle.lx_encode.specs.Runs.{AreSorted, IsRow, LeadsShifted, LeadsTo};
+ghost use Rattle.lx_encode.specs.Table.{Finishes, GrowsBy, IsTable, row_of, step_of};
+ghost use Rattle.lx_encode.specs.Graph.{AreStarts, IsGraphOf, parts};
+ghost use Rattle.lx_encode.specs.Starts.{StartsWith};
+
+use crate::layers::{Layer, blocks_of};
+use crate::runs::{Run, append_shifted, point_runs};
+use crate::table::Table;
+use crate::units::greatest;
+use lx_base::{Enc, Memory};
+use lx_class::{ClassSet, MAX_POINT};
+use std::alloc::Global;
+use std::marker::Model;
+
+/// What may come next in a spelling: a place in a graph, by its number.
+#[derive(Clone, Copy, Debug, PartialEq, Eq)]
+pub struct Residual(pub u32);
+
+/// The numbers from `from` to `to`.
+fn kept(alloc: Global, runs: &[Run], from: u32, to: u32) -> Result<Vec<Run>, Memory>
+    requires sorted { AreSorted runs.now }
+    requires bounded { to ≤ MAX_POINT }
+    ensures row { IfOk result (λ row. IsRow row.items) }
+    ensures leads { IfOk result (λ row. (number target : ℕ) →
+        LeadsTo row.items number target ↔ LeadsShifted runs.now from to from number target) }
+{
+    let mut row = Vec::new(alloc);
+    append_shifted(&mut row, runs, from, to, from)?;
+    Ok(row)
+}
+
+/// The residual of the points up to `last`, each of which is spelled by its own number; 0 where there are
+/// none.
+fn one_unit_start(alloc: Global, table: &mut Table, points: &[Run], last: u32) -> Result<u32, Memory>
+    requires sorted { AreSorted points.now }
+    requires ended { (number target : ℕ) → LeadsTo points.now number target → target < length table.old }
+    requires bounded { last ≤ MAX_POINT }
+    requires room { length table.old < 2 ^ 31 }
+    ensures table { OnOk result (IsTable table.new) }
+    ensures grows { OnOk result (GrowsBy table.old table.new 1) }
+    ensures within { IfOk result (λ start. start < length table.new) }
+    ensures leads { IfOk result (λ start. (number target : ℕ) → LeadsTo (row_of table.new start) number target ↔
+        (LeadsTo [] number target ⊎ LeadsShifted points.now 0 last 0 number target)) }
+{
+    let mut row = Vec::new(alloc);
+    append_shifted(&mut row, points, 0, last, 0)?;
+    table.residual_of(alloc, row)
+}
