@@ -5,7 +5,6 @@ pub mod Emptiness
 pub mod FoldingSteps
 pub mod Least
 pub mod Meaning
-pub mod OneUnit
 pub mod Parts
 pub mod PointRuns
 pub mod Residuals
@@ -13,5 +12,7 @@ pub mod Rows
 pub mod RunLists
 pub mod Shifts
 pub mod Spellings
+pub mod StartRows
 pub mod Starts
 pub mod Targets
+pub mod Utf8Starts

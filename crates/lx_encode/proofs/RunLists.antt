@@ -118,3 +118,6 @@ pub LeadsTo-split : (xs : List Run) (i n t : ℕ) → LeadsTo xs n t ↔ (LeadsT
 LeadsTo-split xs i n t =
     subst (λ l. LeadsTo l n t ↔ (LeadsTo (take i xs) n t ⊎ LeadsTo (drop i xs) n t)) (take-append-drop i xs)
     (LeadsTo-append (take i xs) (drop i xs) n t)
+
+pub same_sorted : (row runs : List Run) → runs ≡ row → IsRow row → AreSorted runs
+same_sorted row runs same h = subst (λ l. AreSorted l) (sym same) (IsRow-sorted row h)

@@ -1,5 +1,5 @@
 -- The graph of a class: its residuals, and the unit lists that finish them.
-use Rattle.std.specs.Prelude.{◌≡◌, ℕ, ◌<◌, ◌≤◌, ◌⊎◌, ◌↔◌, List, [], ◌∷◌, length}
+use Rattle.std.specs.Prelude.{◌≡◌, ℕ, ◌<◌, ◌≤◌, ◌⊎◌, ◌↔◌, List, [], ◌∷◌, length, Option, All, ◌==◌, if◌then◌else◌}
 use Rattle.lx_base.specs.Spelling.{spell, greatest_point}
 use Rattle.lx_base.specs.declared.settings.Enc.{Enc}
 use Rattle.lx_base.specs.declared.settings.Enc.TheVariants.{Byte, Ucs2, Utf8, Utf16, Utf32}
@@ -13,6 +13,18 @@ use Rattle.lx_encode.specs.Table.{Rows, Finishes, IsTable, row_of, step_of}
 pub record Graph : Type 0 where
   pub starts : List Residual
   pub rows : Rows
+
+-- a residual by its number
+abbrev pub numbered : ℕ → Residual
+numbered number = record { 0 = number }
+
+-- the start with this number, where 0 stands for none
+abbrev pub started : ℕ → List Residual
+started number = if number == 0 then [] else numbered number ∷ []
+
+-- two units between which no cut stands have the same answer
+abbrev pub Separates : List ℕ → (ℕ → Option ℕ) → Type 0
+Separates cuts answer_of = (first second : ℕ) → first ≤ second → All (λ cut. (cut ≤ first) ⊎ (second < cut)) cuts → answer_of first ≡ answer_of second
 
 -- the units spell a point of the set that lies in the part
 abbrev pub Spells : Enc → List Range → Range → List ℕ → Type 0

@@ -1,12 +1,12 @@
 //! The graph on which an automaton walks through the spellings of a class, unit by unit.
-ghost use Rattle.std.specs.Prelude.{◌≡◌, ℕ, ◌+◌, ◌<◌, ◌≤◌, ◌^◌, ◌↔◌, ◌⊎◌, List, [], ◌∷◌, length, option_map, IsTrue, IsNone, IfOk, OnOk};
+ghost use Rattle.std.specs.Prelude.{◌≡◌, ℕ, ◌+◌, ◌<◌, ◌≤◌, ◌^◌, ◌↔◌, ◌⊎◌, List, [], ◌∷◌, ◌++◌, length, option_map, IsTrue, IsNone, IfOk, OnOk};
 ghost use Rattle.lx_class.specs.Ranges.{InRanges, IsCanonical};
 ghost use Rattle.lx_class.specs.declared.ranges.Range.{Range};
 ghost use Rattle.lx_encode.specs.Policy.{FitsEncoding};
 ghost use Rattle.lx_encode.specs.Runs.{AreSorted, IsRow, LeadsShifted, LeadsTo};
 ghost use Rattle.lx_encode.specs.Table.{Finishes, GrowsBy, IsTable, row_of, step_of};
-ghost use Rattle.lx_encode.specs.Graph.{AreStarts, IsGraphOf, parts};
-ghost use Rattle.lx_encode.specs.Starts.{StartsWith};
+ghost use Rattle.lx_encode.specs.Graph.{AreStarts, IsGraphOf, Separates, parts, started};
+ghost use Rattle.lx_encode.specs.Starts.{AreEnded, StartsWith};
 
 use crate::layers::{Layer, blocks_of};
 use crate::runs::{Run, append_shifted, point_runs};
@@ -50,4 +50,66 @@ fn one_unit_start(alloc: Global, table: &mut Table, points: &[Run], last: u32) -
     let mut row = Vec::new(alloc);
     append_shifted(&mut row, points, 0, last, 0)?;
     table.residual_of(alloc, row)
+}
+
+/// The residual of the points of two units in UTF-16; 0 where there are none.
+fn two_unit_start(alloc: Global, table: &mut Table, points: &[Run]) -> Result<u32, Memory>
+    requires sorted { AreSorted points.now }
+    requires ended { (number target : ℕ) → LeadsTo points.now number target → target < length table.old }
+    requires room { length table.old < 2 ^ 20 }
+    ensures table { OnOk result (IsTable table.new) }
+    ensures grows { OnOk result (GrowsBy table.old table.new (2 ^ 26)) }
+    ensures within { IfOk result (λ start. start < length table.new) }
+    ensures starts { IfOk result (λ start. (set : List Range) → AreEnded set points.now →
+        StartsWith table.new Enc.Utf16 set (record { lo = 0x10000; hi = 0x10FFFF }) start) }
+{
+    let low = Layer {
+        radix: 1024,
+        offset: 0xDC00,
+    };
+    let supplementary = kept(alloc, points, 0x1_0000, MAX_POINT)?;
+    let blocks = blocks_of(alloc, table, low, &supplementary)?;
+    let mut row = Vec::new(alloc);
+    append_shifted(&mut row, &blocks, 64, 1087, 0xD800)?;
+    let start = table.residual_of(alloc, row)?;
+    Ok(start)
+}
+
+/// The residual of all points in UTF-8; 0 where there are none.
+fn utf8_start(alloc: Global, table: &mut Table, points: &[Run]) -> Result<u32, Memory>
+    requires sorted { AreSorted points.now }
+    requires ended { (number target : ℕ) → LeadsTo points.now number target → target < length table.old }
+    requires room { length table.old < 2 ^ 20 }
+    ensures table { OnOk result (IsTable table.new) }
+    ensures within { IfOk result (λ start. start < length table.new) }
+    ensures starts { IfOk result (λ start. (set : List Range) → IsCanonical set → AreEnded set points.now →
+        StartsWith table.new Enc.Utf8 set (record { lo = 0; hi = 0x10FFFF }) start) }
+{
+    let later = Layer {
+        radix: 64,
+        offset: 0x80,
+    };
+    let longer = kept(alloc, points, 0x80, MAX_POINT)?;
+    let one = blocks_of(alloc, table, later, &longer)?;
+    let longer_2 = kept(alloc, &one, 0x20, MAX_POINT)?;
+    let two = blocks_of(alloc, table, later, &longer_2)?;
+    let longer_3 = kept(alloc, &two, 0x10, MAX_POINT)?;
+    let three = blocks_of(alloc, table, later, &longer_3)?;
+    let mut row = Vec::new(alloc);
+    append_shifted(&mut row, points, 0, 0x7F, 0)?;
+    append_shifted(&mut row, &one, 0, 0x1F, 0xC0)?;
+    append_shifted(&mut row, &two, 0, 0x0F, 0xE0)?;
+    append_shifted(&mut row, &three, 0, 0x07, 0xF0)?;
+    let start = table.residual_of(alloc, row)?;
+    Ok(start)
+}
+
+/// Puts a start at the end, unless it is 0.
+fn push_start(starts: &mut Vec<Residual>, start: u32) -> Result<(), Memory>
+    ensures { OnOk result (starts.new.items ≡ starts.old.items ++ started start) }
+{
+    if start != 0 {
+        starts.push(Residual(start))?;
+    }
+    Ok(())
 }
