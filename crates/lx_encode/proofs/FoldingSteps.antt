@@ -30,8 +30,8 @@ module _ (layer : Layer) (runs : List Run) (old new : Folding) (rows rows' : Row
     last = subst (λ l. IsBlock layer runs new.block l) (sym none') (empty_block layer runs new.block (not_later new.block later));
     all = λ n t at. ⊎_elim
         (λ here. absurd (
-            let at' : LeadsTo old.row.items (layer.offset + n % layer.radix) t = (folding.last (layer.offset + n % layer.radix) t).1 (n, at, here, refl) in
-            subst (λ l. LeadsTo l (layer.offset + n % layer.radix) t) none at'))
+        let at' : LeadsTo old.row.items (layer.offset + n % layer.radix) t = (folding.last (layer.offset + n % layer.radix) t).1 (n, at, here, refl) in
+        subst (λ l. LeadsTo l (layer.offset + n % layer.radix) t) none at'))
         (λ before. inr (omega (arith, before.0), (before.1.0, subst (λ l. LeadsTo l (n / layer.radix) before.1.0) (sym closed) before.1.1))) (folding.all n t at);
   }
 
@@ -44,11 +44,11 @@ module _ (layer : Layer) (runs : List Run) (old new : Folding) (rows rows' : Row
     block = λ b r at. ⊎_elim
         (λ before. subst (λ l. IsBlock layer runs b l) (sym (grows.same r (within b r before))) (folding.block b r before))
         (λ now. ⊎_elim
-            (λ here.
-            let is : old.block ≡ b = omega (arith, here.0.0, here.0.1) in
-            subst (λ x. IsBlock layer runs x (row_of rows' r)) is (subst (λ x. IsBlock layer runs old.block (row_of rows' x)) here.1
-            (subst (λ l. IsBlock layer runs old.block l) (sym row) folding.last)))
-            (λ none. absurd none) now) ((closed b r).0 at);
+        (λ here.
+        let is : old.block ≡ b = omega (arith, here.0.0, here.0.1) in
+        subst (λ x. IsBlock layer runs x (row_of rows' r)) is (subst (λ x. IsBlock layer runs old.block (row_of rows' x)) here.1
+        (subst (λ l. IsBlock layer runs old.block l) (sym row) folding.last)))
+        (λ none. absurd none) now) ((closed b r).0 at);
     some = λ b r at. ⊎_elim
         (λ before. subst (λ l. l ≡ [] → ⊥) (sym (grows.same r (within b r before))) (folding.some b r before))
         (λ now. ⊎_elim (λ here. subst (λ x. row_of rows' x ≡ [] → ⊥) here.1 (subst (λ l. l ≡ [] → ⊥) (sym row) some)) (λ none. absurd none) now) ((closed b r).0 at);
@@ -140,7 +140,7 @@ module _ (layer : Layer) (some : 2 ≤ layer.radix) (part : Run) (ordered : part
     pub put_within_folding : old.block ≡ part.lo / radix → part.lo / radix ≡ part.hi / radix → rows' ≡ rows → new.closed ≡ old.closed → new.block ≡ old.block →
         (passed : (b r : ℕ) → LeadsTo old.closed.items b r → b < old.block) →
         ((u t : ℕ) → LeadsTo new.row.items u t ↔ (LeadsTo old.row.items u t
-            ⊎ LeadsTo (record { lo = layer.offset + part.lo % radix; hi = layer.offset + part.hi % radix; to = part.to } ∷ []) u t)) →
+        ⊎ LeadsTo (record { lo = layer.offset + part.lo % radix; hi = layer.offset + part.hi % radix; to = part.to } ∷ []) u t)) →
         IsFolding layer (runs ++ part ∷ []) new rows'
     put_within_folding here one same closed block passed row = record {
       block = λ b r at.
@@ -158,18 +158,18 @@ module _ (layer : Layer) (some : 2 ≤ layer.radix) (part : Run) (ordered : part
       all = λ n t at. ⊎_elim
           (λ before. ⊎_elim (λ is. inl (is ∙ sym block)) (λ earlier. inr (omega (arith, earlier.0, block), (earlier.1.0, subst (λ v. LeadsTo v.items (n / radix) earlier.1.0) (sym closed) earlier.1.1))) (folding.all n t before))
           (λ now. ⊎_elim
-              (λ at_part.
-              let low : part.lo / radix ≤ n / radix = block-mono radix some part.lo n at_part.0.0 in
-              let high : n / radix ≤ part.hi / radix = block-mono radix some n part.hi at_part.0.1 in
-              inl (omega (arith, block, here, one, low, high)))
-              (λ none. absurd none) now) ((LeadsTo-append runs (part ∷ []) n t).0 at);
+          (λ at_part.
+          let low : part.lo / radix ≤ n / radix = block-mono radix some part.lo n at_part.0.0 in
+          let high : n / radix ≤ part.hi / radix = block-mono radix some n part.hi at_part.0.1 in
+          inl (omega (arith, block, here, one, low, high)))
+          (λ none. absurd none) now) ((LeadsTo-append runs (part ∷ []) n t).0 at);
     }
 
     pub put_blocks_folding : (residual : ℕ) → old.block ≡ part.lo / radix → part.lo % radix ≡ 0 → part.hi % radix + 1 ≡ radix → new.row ≡ old.row → new.block ≡ part.hi / radix + 1 →
         ((n t : ℕ) → LeadsTo runs n t → n < part.lo) →
         (passed : (b r : ℕ) → LeadsTo old.closed.items b r → b < old.block) → LeadBelow old.closed.items (length rows) →
         ((b r : ℕ) → LeadsTo new.closed.items b r ↔ (LeadsTo old.closed.items b r
-            ⊎ LeadsTo (record { lo = part.lo / radix; hi = part.hi / radix; to = residual } ∷ []) b r)) →
+        ⊎ LeadsTo (record { lo = part.lo / radix; hi = part.hi / radix; to = residual } ∷ []) b r)) →
         GrowsBy rows rows' 1 → row_of rows' residual ≡ record { lo = layer.offset; hi = layer.offset + (radix - 1); to = part.to } ∷ [] →
         IsFolding layer (runs ++ part ∷ []) new rows'
     put_blocks_folding residual here first last row block behind passed within closed grows row_is = record {
@@ -180,11 +180,11 @@ module _ (layer : Layer) (some : 2 ≤ layer.radix) (part : Run) (ordered : part
           (IsBlock-kept layer runs part b (row_of rows r) (λ n at_part is. let le : part.lo / radix ≤ n / radix = block-mono radix some part.lo n at_part.0 in omega arith)
           (folding.block b r before)))
           (λ now. ⊎_elim
-              (λ at_block. subst (λ x. IsBlock layer (runs ++ part ∷ []) b (row_of rows' x)) at_block.1
-              (subst (λ l. IsBlock layer (runs ++ part ∷ []) b l) (sym row_is)
-              (IsBlock-append layer runs (part ∷ []) b [] whole whole (empty_block layer runs b (λ n t at' is. earlier n t at' b at_block.0.0 is))
-              (whole_row first last b at_block.0.0 at_block.0.1) (λ u t. (λ x. inr x, λ x. ⊎_elim (λ no. absurd no) (λ y. y) x)))))
-              (λ none. absurd none) now) ((closed b r).0 at);
+          (λ at_block. subst (λ x. IsBlock layer (runs ++ part ∷ []) b (row_of rows' x)) at_block.1
+          (subst (λ l. IsBlock layer (runs ++ part ∷ []) b l) (sym row_is)
+          (IsBlock-append layer runs (part ∷ []) b [] whole whole (empty_block layer runs b (λ n t at' is. earlier n t at' b at_block.0.0 is))
+          (whole_row first last b at_block.0.0 at_block.0.1) (λ u t. (λ x. inr x, λ x. ⊎_elim (λ no. absurd no) (λ y. y) x)))))
+          (λ none. absurd none) now) ((closed b r).0 at);
       some = λ b r at. ⊎_elim
           (λ before. subst (λ l. l ≡ [] → ⊥) (sym (grows.same r (within b r before))) (folding.some b r before))
           (λ now. ⊎_elim (λ at_block. subst (λ x. row_of rows' x ≡ [] → ⊥) at_block.1 (subst (λ l. l ≡ [] → ⊥) (sym row_is) (λ e. filled e))) (λ none. absurd none) now) ((closed b r).0 at);
@@ -198,15 +198,16 @@ module _ (layer : Layer) (some : 2 ≤ layer.radix) (part : Run) (ordered : part
           ));
       all = λ n t at. ⊎_elim
           (λ before. ⊎_elim (λ is. absurd (earlier n t before old.block (omega (arith, here)) is))
-              (λ passed_by. inr (
-                let le : part.lo / radix ≤ part.hi / radix = block-mono radix some part.lo part.hi ordered in omega (arith, passed_by.0, block, here, le),
-                (passed_by.1.0, (closed (n / radix) passed_by.1.0).1 (inl passed_by.1.1)))) (folding.all n t before))
+          (λ passed_by. inr (
+            let le : part.lo / radix ≤ part.hi / radix = block-mono radix some part.lo part.hi ordered in omega (arith, passed_by.0, block, here, le),
+            (passed_by.1.0, (closed (n / radix) passed_by.1.0).1 (inl passed_by.1.1)),
+          )) (folding.all n t before))
           (λ now. ⊎_elim
-              (λ at_part.
-              let low : part.lo / radix ≤ n / radix = block-mono radix some part.lo n at_part.0.0 in
-              let high : n / radix ≤ part.hi / radix = block-mono radix some n part.hi at_part.0.1 in
-              inr (omega (arith, block, high), (residual, (closed (n / radix) residual).1 (inr (inl ((low, high), refl))))))
-              (λ none. absurd none) now) ((LeadsTo-append runs (part ∷ []) n t).0 at);
+          (λ at_part.
+          let low : part.lo / radix ≤ n / radix = block-mono radix some part.lo n at_part.0.0 in
+          let high : n / radix ≤ part.hi / radix = block-mono radix some n part.hi at_part.0.1 in
+          inr (omega (arith, block, high), (residual, (closed (n / radix) residual).1 (inr (inl ((low, high), refl))))))
+          (λ none. absurd none) now) ((LeadsTo-append runs (part ∷ []) n t).0 at);
     }
       where
         whole : List Run

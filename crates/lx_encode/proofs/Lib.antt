@@ -1,6 +1,7 @@
 pub mod BlockLists
 pub mod Blocks
 pub mod Choices
+pub mod Cuts
 pub mod Emptiness
 pub mod FoldingSteps
 pub mod Least

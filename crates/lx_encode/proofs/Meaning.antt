@@ -60,9 +60,12 @@ module _ (rows : Rows) (table : IsTable rows) where
           let first = (known (f p) (g p)).1 (p, is, refl, refl) in
           let block = are.all (f p) first.0 first.1 in
           let at : LeadsTo blocks b block.0 = subst (λ x. LeadsTo blocks x block.0) same block.1 in
-          let in_block = (are.block b block.0 at (layer.offset + f p % layer.radix) first.0).1 (f p, first.1, same, refl) in
-          (block.0, at, subst (λ l. Finishes rows block.0 l) (sym units)
-              ((Finishes-cons rows table block.0 (below b block.0 at) (layer.offset + f p % layer.radix) (g p)).1 (first.0, in_block, first.2))),
+          let in_block = (are.block b block.0 at (layer.offset + f p % layer.radix) first.0).1 (f p, first.1, same, refl) in (
+            block.0,
+            at,
+            subst (λ l. Finishes rows block.0 l) (sym units)
+                ((Finishes-cons rows table block.0 (below b block.0 at) (layer.offset + f p % layer.radix) (g p)).1 (first.0, in_block, first.2)),
+          ),
     )
       where
         there : (b : ℕ) (us : List ℕ) (r : ℕ) → LeadsTo blocks b r → Finishes rows r us →
@@ -72,9 +75,12 @@ module _ (rows : Rows) (table : IsTable rows) where
             let goes_on = (Finishes-cons rows table r (below b r at) u us).0 rest in
             let in_block = (are.block b r at u goes_on.0).0 goes_on.1 in
             let found = (known in_block.0 us).0 (goes_on.0, in_block.1, goes_on.2) in
-            let same : f found.0 ≡ in_block.0 = found.2 in
-            (found.0, found.1, ap (λ n. n / layer.radix) same ∙ in_block.2,
-              ap (λ x. x ∷ us) in_block.3 ∙ ap (λ n. (layer.offset + n % layer.radix) ∷ us) (sym same) ∙ ap (λ l. (layer.offset + f found.0 % layer.radix) ∷ l) found.3)
+            let same : f found.0 ≡ in_block.0 = found.2 in (
+              found.0,
+              found.1,
+              ap (λ n. n / layer.radix) same ∙ in_block.2,
+              ap (λ x. x ∷ us) in_block.3 ∙ ap (λ n. (layer.offset + n % layer.radix) ∷ us) (sym same) ∙ ap (λ l. (layer.offset + f found.0 % layer.radix) ∷ l) found.3,
+            )
 
     -- numbers counted on from a unit
     pub shifted_described : (from to unit n : ℕ) (us : List ℕ) →

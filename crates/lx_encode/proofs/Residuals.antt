@@ -1,10 +1,11 @@
 -- Residuals that are finished by the same lists are equal, and each is finished by some list.
-use Rattle.std.proofs.Common.{◌≡◌, ℕ, zero, suc, ◌+◌, ◌<◌, ◌≤◌, ◌⊎◌, ◌↔◌, List, [], ◌∷◌, length, refl, sym, ◌∙◌, ap, ap₂, subst, inl, inr, ⊎_elim, arith}
+use Rattle.std.proofs.Common.{◌≡◌, ℕ, zero, suc, ◌+◌, ◌<◌, ◌≤◌, ◌⊎◌, ◌↔◌, List, [], ◌∷◌, length, Some, refl, sym, ◌∙◌, ap, ap₂, subst, inl, inr, ⊎_elim, arith}
 use Rattle.std.proofs.lemmas.Bool.{cases_lt}
 use Rattle.lx_encode.specs.declared.runs.Run.{Run}
-use Rattle.lx_encode.specs.Runs.{InRun, LeadsTo, AreSortedFrom, AreSorted, AreBehind, IsRow, LeadBelow}
+use Rattle.lx_encode.specs.Runs.{InRun, LeadsTo, AreSortedFrom, AreSorted, AreBehind, IsRow, LeadBelow, target_of}
 use Rattle.lx_encode.specs.Table.{Rows, IsTable, Finishes, row_of}
 use Rattle.lx_encode.proofs.RunLists.{IsRow-sorted, leads_from, leads_once}
+use Rattle.lx_encode.proofs.Targets.{target_leads}
 use Rattle.lx_encode.proofs.Meaning.{Finishes-cons, Continues}
 
 -- what one list leads to, the other does too
@@ -29,8 +30,8 @@ ends_within : (low low' : ℕ) (x y : Run) (xs ys : List Run) → AreSortedFrom 
     Within (x ∷ xs) (y ∷ ys) → x.lo ≡ y.lo → x.to ≡ y.to → x.hi ≤ y.hi
 ends_within low low' x y xs ys hx hy behind within lo to =
     ⊎_elim (λ lt. absurd (go ys hy.3 behind
-        (⊎_elim (λ here. absurd (let past : y.hi + 1 ≤ y.hi = here.0.1 in omega arith)) (λ later. later)
-        (within (y.hi + 1) x.to (let at : InRun x (y.hi + 1) = (omega arith, omega arith) in inl (at, refl)))))) (λ le. le) (cases_lt y.hi x.hi)
+    (⊎_elim (λ here. absurd (let past : y.hi + 1 ≤ y.hi = here.0.1 in omega arith)) (λ later. later)
+    (within (y.hi + 1) x.to (let at : InRun x (y.hi + 1) = (omega arith, omega arith) in inl (at, refl)))))) (λ le. le) (cases_lt y.hi x.hi)
   where
     go : (zs : List Run) → AreSortedFrom (y.hi + 1) zs → AreBehind y zs → LeadsTo zs (y.hi + 1) x.to → ⊥
     go [] h behind' at = at
@@ -96,7 +97,7 @@ module _ (rows : Rows) (table : IsTable rows) where
 
   -- two residuals are equal where those that they lead to are
   module _ (r s : ℕ) (wr : r < length rows) (ws : s < length rows) (alike : Alike r s)
-    (before : (t q : ℕ) → t < r → t < length rows → q < length rows → Alike t q → t ≡ q) where
+      (before : (t q : ℕ) → t < r → t < length rows → q < length rows → Alike t q → t ≡ q) where
     sorted_r : AreSorted (row_of rows r)
     sorted_r = IsRow-sorted (row_of rows r) (table.row r wr)
 
@@ -142,3 +143,13 @@ module _ (rows : Rows) (table : IsTable rows) where
   -- residuals that the same lists finish are equal
   pub same_residual : (r s : ℕ) → r < length rows → s < length rows → Alike r s → r ≡ s
   same_residual r s wr ws alike = same_below (r + 1) r s (omega arith) wr ws alike
+
+  -- a step leads to a residual of the table
+  pub step_within : (r : ℕ) → r < length rows → (u t : ℕ) → target_of (row_of rows r) u ≡ Some t → t < length rows
+  step_within r lt u t is = let earlier : t < r = table.earlier r lt u t (target_leads (row_of rows r) u t is) in omega arith
+
+  -- where there is a step, some list finishes after it
+  pub step_lives : (r : ℕ) → r < length rows → (u t : ℕ) → target_of (row_of rows r) u ≡ Some t → (units : List ℕ) × Finishes rows r (u ∷ units)
+  step_lives r lt u t is =
+      let some = live t (step_within r lt u t is) in
+      (some.0, (Finishes-cons rows table r lt u some.0).1 (t, target_leads (row_of rows r) u t is, some.1))

@@ -52,8 +52,8 @@ joined_here : (last run : Run) (n t : ℕ) → last.to ≡ run.to → last.hi + 
 joined_here last run n t same touch some ordered = (
   λ at. ⊎_elim
       (λ here. ⊎_elim
-          (λ lt. let at' : InRun run n = (omega arith, here.0.1) in inr (inl (at', here.1)))
-          (λ le. let at' : InRun last n = (here.0.0, le) in inl (inl (at', same ∙ here.1))) (cases_lt last.hi n))
+      (λ lt. let at' : InRun run n = (omega arith, here.0.1) in inr (inl (at', here.1)))
+      (λ le. let at' : InRun last n = (here.0.0, le) in inl (inl (at', same ∙ here.1))) (cases_lt last.hi n))
       (λ none. absurd none) at,
   λ at. ⊎_elim
       (λ old. ⊎_elim (λ here. let at' : InRun (joined_run last run) n = (here.0.0, omega arith) in inl (at', sym same ∙ here.1)) (λ none. absurd none) old)

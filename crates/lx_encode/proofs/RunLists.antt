@@ -30,7 +30,7 @@ leads_once low (x ∷ xs) n s t h at at' =
     ⊎_elim
     (λ here. ⊎_elim (λ here'. sym here.1 ∙ here'.1) (λ later'. let le : x.hi + 1 ≤ n = leads_from (x.hi + 1) xs n t h.3 later' in absurd (omega arith)) at')
     (λ later. ⊎_elim (λ here'. let le : x.hi + 1 ≤ n = leads_from (x.hi + 1) xs n s h.3 later in absurd (omega arith))
-        (λ later'. leads_once (x.hi + 1) xs n s t h.3 later later') at') at
+    (λ later'. leads_once (x.hi + 1) xs n s t h.3 later later') at') at
 
 pub AreSortedFrom-earlier : (m n : ℕ) (xs : List Run) → n ≤ m → AreSortedFrom m xs → AreSortedFrom n xs
 AreSortedFrom-earlier m n [] le h = tt

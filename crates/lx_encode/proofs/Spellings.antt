@@ -29,9 +29,9 @@ pub utf8_first : (p : ℕ) → (u : ℕ) × (us : List ℕ) × (utf8 p ≡ u ∷
 utf8_first p =
     ⊎_elim (λ lt. (p, [], utf8-1 p lt))
     (λ le. ⊎_elim (λ lt. (0xC0 + p / 64, continuation p ∷ [], utf8-2 p le lt))
-        (λ le'. ⊎_elim (λ lt. (0xE0 + p / 4096, continuation (p / 64) ∷ continuation p ∷ [], utf8-3 p le' lt))
-            (λ le''. (0xF0 + p / 262144, continuation (p / 4096) ∷ continuation (p / 64) ∷ continuation p ∷ [], utf8-4 p le''))
-            (cases_lt p 0x10000)) (cases_lt p 0x800)) (cases_lt p 0x80)
+    (λ le'. ⊎_elim (λ lt. (0xE0 + p / 4096, continuation (p / 64) ∷ continuation p ∷ [], utf8-3 p le' lt))
+    (λ le''. (0xF0 + p / 262144, continuation (p / 4096) ∷ continuation (p / 64) ∷ continuation p ∷ [], utf8-4 p le''))
+    (cases_lt p 0x10000)) (cases_lt p 0x800)) (cases_lt p 0x80)
 
 pub utf16_first : (p : ℕ) → (u : ℕ) × (us : List ℕ) × (utf16 p ≡ u ∷ us)
 utf16_first p =

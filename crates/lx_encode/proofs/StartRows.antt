@@ -43,7 +43,7 @@ shown rows front row runs Is f g table known from to unit u us leads =
     )
 
 module _ (rows : Rows) (table : IsTable rows) (set : List Range) (points : List Run)
-  (leads : (n t : ℕ) → LeadsTo points n t ↔ (InRanges set n × (0 ≡ t))) where
+    (leads : (n t : ℕ) → LeadsTo points n t ↔ (InRanges set n × (0 ≡ t))) where
   described : Describes rows points (InRanges set) (λ p. p) (λ p. [])
   described = points_described rows table points (InRanges set) leads
 

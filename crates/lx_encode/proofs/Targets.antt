@@ -7,11 +7,11 @@ use Rattle.lx_encode.specs.declared.runs.Run.{Run}
 use Rattle.lx_encode.specs.Runs.{InRun, LeadsTo, AreSortedFrom, target_of}
 use Rattle.lx_encode.proofs.RunLists.{leads_from}
 
-target_of-here : (x : Run) (xs : List Run) (n : ℕ) → x.lo ≤ n → n ≤ x.hi → target_of (x ∷ xs) n ≡ Some x.to
+pub target_of-here : (x : Run) (xs : List Run) (n : ℕ) → x.lo ≤ n → n ≤ x.hi → target_of (x ∷ xs) n ≡ Some x.to
 target_of-here x xs n low high = grind (arith, nat_tests)
 
-target_of-later : (x : Run) (xs : List Run) (n : ℕ) → (InRun x n → ⊥) → target_of (x ∷ xs) n ≡ target_of xs n
-target_of-later x xs n out = 
+pub target_of-later : (x : Run) (xs : List Run) (n : ℕ) → (InRun x n → ⊥) → target_of (x ∷ xs) n ≡ target_of xs n
+target_of-later x xs n out =
     ⊎_elim (λ lt. before lt)
     (λ low. ⊎_elim (λ gt. after gt) (λ high. absurd (out (low, high))) (cases_lt x.hi n)) (cases_lt n x.lo)
   where

@@ -66,21 +66,21 @@ spelled-4 p le =
 Forms : List Range → ℕ → List ℕ → Type 0
 Forms set u us =
     (((⊥ ⊎ Shown (InRanges set) (λ p. p) (λ p. []) 0 0x7F 0 u us) ⊎ Shown (Longer set) (λ p. p / 64) rest1 0 0x1F 0xC0 u us)
-        ⊎ Shown (Longer2 set) (λ p. p / 64 / 64) rest2 0 0x0F 0xE0 u us) ⊎ Shown (Longer3 set) (λ p. p / 64 / 64 / 64) rest3 0 0x07 0xF0 u us
+    ⊎ Shown (Longer2 set) (λ p. p / 64 / 64) rest2 0 0x0F 0xE0 u us) ⊎ Shown (Longer3 set) (λ p. p / 64 / 64 / 64) rest3 0 0x07 0xF0 u us
 
 form_spells : (set : List Range) (u : ℕ) (us : List ℕ) → ((p : ℕ) → InRanges set p → p ≤ 0x10FFFF) → Forms set u us → Spells Utf8 set (record { lo = 0; hi = 0x10FFFF }) (u ∷ us)
 unfolding Forms
 form_spells set u us bounded form =
     ⊎_elim
     (λ three. ⊎_elim
-        (λ two. ⊎_elim
-            (λ one. ⊎_elim (λ none. absurd none)
-                (λ s. let same : u ≡ s.0 = omega (arith, s.4) in
-                (s.0, s.1, omega arith, bounded s.0 s.1, ap₂ ◌∷◌ same s.5 ∙ sym (utf8-1 s.0 (omega (arith, s.3))))) one)
-            (λ s. let same : u ≡ 0xC0 + s.0 / 64 = omega (arith, s.4) in
-            (s.0, s.1.0, omega arith, s.1.2, ap₂ ◌∷◌ same s.5 ∙ sym (spelled-2 s.0 s.1.1 (omega (arith, s.3))))) two)
-        (λ s. let same : u ≡ 0xE0 + s.0 / 64 / 64 = omega (arith, s.4) in
-        (s.0, s.1.0.0, omega arith, s.1.0.2, ap₂ ◌∷◌ same s.5 ∙ sym (spelled-3 s.0 (omega (arith, s.1.1)) (omega (arith, s.3))))) three)
+    (λ two. ⊎_elim
+    (λ one. ⊎_elim (λ none. absurd none)
+    (λ s. let same : u ≡ s.0 = omega (arith, s.4) in
+    (s.0, s.1, omega arith, bounded s.0 s.1, ap₂ ◌∷◌ same s.5 ∙ sym (utf8-1 s.0 (omega (arith, s.3))))) one)
+    (λ s. let same : u ≡ 0xC0 + s.0 / 64 = omega (arith, s.4) in
+    (s.0, s.1.0, omega arith, s.1.2, ap₂ ◌∷◌ same s.5 ∙ sym (spelled-2 s.0 s.1.1 (omega (arith, s.3))))) two)
+    (λ s. let same : u ≡ 0xE0 + s.0 / 64 / 64 = omega (arith, s.4) in
+    (s.0, s.1.0.0, omega arith, s.1.0.2, ap₂ ◌∷◌ same s.5 ∙ sym (spelled-3 s.0 (omega (arith, s.1.1)) (omega (arith, s.3))))) three)
     (λ s. let same : u ≡ 0xF0 + s.0 / 64 / 64 / 64 = omega (arith, s.4) in
     (s.0, s.1.0.0.0, omega arith, s.1.0.0.2, ap₂ ◌∷◌ same s.5 ∙ sym (spelled-4 s.0 (omega (arith, s.1.1))))) form
 
@@ -90,14 +90,14 @@ spells_form set u us (p, at, low, high, e) =
     ⊎_elim
     (λ lt. let h = heads u us p [] (e ∙ utf8-1 p lt) in inl (inl (inl (inr (p, at, omega arith, omega arith, omega (arith, h.0), h.1)))))
     (λ le. ⊎_elim
-        (λ lt. let h = heads u us (0xC0 + p / 64) (rest1 p) (e ∙ spelled-2 p le lt) in
-        inl (inl (inr (p, (at, le, high), omega arith, omega arith, omega (arith, h.0), h.1))))
-        (λ le'. ⊎_elim
-            (λ lt. let h = heads u us (0xE0 + p / 64 / 64) (rest2 p) (e ∙ spelled-3 p le' lt) in
-            inl (inr (p, ((at, le, high), omega arith, omega arith), omega arith, omega arith, omega (arith, h.0), h.1)))
-            (λ le''. let h = heads u us (0xF0 + p / 64 / 64 / 64) (rest3 p) (e ∙ spelled-4 p le'') in
-            inr (p, (((at, le, high), omega arith, omega arith), omega arith, omega arith), omega arith, omega arith, omega (arith, h.0), h.1))
-            (cases_lt p 0x10000)) (cases_lt p 0x800)) (cases_lt p 0x80)
+    (λ lt. let h = heads u us (0xC0 + p / 64) (rest1 p) (e ∙ spelled-2 p le lt) in
+    inl (inl (inr (p, (at, le, high), omega arith, omega arith, omega (arith, h.0), h.1))))
+    (λ le'. ⊎_elim
+    (λ lt. let h = heads u us (0xE0 + p / 64 / 64) (rest2 p) (e ∙ spelled-3 p le' lt) in
+    inl (inr (p, ((at, le, high), omega arith, omega arith), omega arith, omega arith, omega (arith, h.0), h.1)))
+    (λ le''. let h = heads u us (0xF0 + p / 64 / 64 / 64) (rest3 p) (e ∙ spelled-4 p le'') in
+    inr (p, (((at, le, high), omega arith, omega arith), omega arith, omega arith), omega arith, omega arith, omega (arith, h.0), h.1))
+    (cases_lt p 0x10000)) (cases_lt p 0x800)) (cases_lt p 0x80)
 
 -- what the code made, all at the last table
 pub record IsUtf8Row (rows : Rows) (points longer one longer2 two longer3 three row1 row2 row3 row4 : List Run) : Type 0 where
@@ -116,7 +116,7 @@ pub record IsUtf8Row (rows : Rows) (points longer one longer2 two longer3 three 
   pub row4_is : (n t : ℕ) → LeadsTo row4 n t ↔ (LeadsTo row3 n t ⊎ LeadsShifted three 0 0x07 0xF0 n t)
 
 module _ (rows : Rows) (table : IsTable rows) (set : List Range) (points longer one longer2 two longer3 three row1 row2 row3 row4 : List Run)
-  (ended : AreEnded set points) (made : IsUtf8Row rows points longer one longer2 two longer3 three row1 row2 row3 row4) where
+    (ended : AreEnded set points) (made : IsUtf8Row rows points longer one longer2 two longer3 three row1 row2 row3 row4) where
   points_known : Describes rows points (InRanges set) (λ p. p) (λ p. [])
   points_known = points_described rows table points (InRanges set) ended
 

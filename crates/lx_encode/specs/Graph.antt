@@ -1,5 +1,5 @@
 -- The graph of a class: its residuals, and the unit lists that finish them.
-use Rattle.std.specs.Prelude.{◌≡◌, ℕ, ◌<◌, ◌≤◌, ◌⊎◌, ◌↔◌, List, [], ◌∷◌, length, Option, All, ◌==◌, if◌then◌else◌}
+use Rattle.std.specs.Prelude.{◌≡◌, ℕ, ◌<◌, ◌≤◌, ◌⊎◌, ◌↔◌, List, [], ◌∷◌, length, Option, ◌==◌, if◌then◌else◌}
 use Rattle.lx_base.specs.Spelling.{spell, greatest_point}
 use Rattle.lx_base.specs.declared.settings.Enc.{Enc}
 use Rattle.lx_base.specs.declared.settings.Enc.TheVariants.{Byte, Ucs2, Utf8, Utf16, Utf32}
@@ -22,9 +22,14 @@ numbered number = record { 0 = number }
 abbrev pub started : ℕ → List Residual
 started number = if number == 0 then [] else numbered number ∷ []
 
+-- no cut is greater than the first number and at most the second
+abbrev pub NoneBetween : ℕ → ℕ → List ℕ → Type 0
+NoneBetween first second [] = Unit {0}
+NoneBetween first second (cut ∷ cuts) = ((cut ≤ first) ⊎ (second < cut)) × NoneBetween first second cuts
+
 -- two units between which no cut stands have the same answer
 abbrev pub Separates : List ℕ → (ℕ → Option ℕ) → Type 0
-Separates cuts answer_of = (first second : ℕ) → first ≤ second → All (λ cut. (cut ≤ first) ⊎ (second < cut)) cuts → answer_of first ≡ answer_of second
+Separates cuts answer_of = (first second : ℕ) → first ≤ second → NoneBetween first second cuts → answer_of first ≡ answer_of second
 
 -- the units spell a point of the set that lies in the part
 abbrev pub Spells : Enc → List Range → Range → List ℕ → Type 0
@@ -50,7 +55,7 @@ AreStarts rows enc set [] starts = starts ≡ []
 AreStarts rows enc set (part ∷ others) starts =
     (NoneWithin set part.lo part.hi × AreStarts rows enc set others starts)
     ⊎ ((start : Residual) × (rest : List Residual) × (starts ≡ start ∷ rest) × IsStart rows enc set part start
-        × AreStarts rows enc set others rest)
+    × AreStarts rows enc set others rest)
 
 -- the graph of a set
 pub record IsGraphOf (enc : Enc) (set : List Range) (graph : Graph) : Type 0 where

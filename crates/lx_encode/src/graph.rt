@@ -1,11 +1,14 @@
 //! The graph on which an automaton walks through the spellings of a class, unit by unit.
-ghost use Rattle.std.specs.Prelude.{◌≡◌, ℕ, ◌+◌, ◌<◌, ◌≤◌, ◌^◌, ◌↔◌, ◌⊎◌, List, [], ◌∷◌, ◌++◌, length, option_map, IsTrue, IsNone, IfOk, OnOk};
+ghost use Rattle.std.specs.Prelude.{◌≡◌, ℕ, ◌+◌, ◌<◌, ◌≤◌, ◌^◌, ◌↔◌, ◌⊎◌, List, [], ◌∷◌, ◌++◌, length, IsTrue, IsNone, IfOk, IfSome, OnOk, All};
+ghost use Rattle.std.specs.Option.{option_map};
+ghost use Rattle.std.specs.List.Sorted.{IsStrictlyIncreasing};
+ghost use Rattle.lx_base.specs.Spelling.{greatest_point, spell};
 ghost use Rattle.lx_class.specs.Ranges.{InRanges, IsCanonical};
 ghost use Rattle.lx_class.specs.declared.ranges.Range.{Range};
 ghost use Rattle.lx_encode.specs.Policy.{FitsEncoding};
 ghost use Rattle.lx_encode.specs.Runs.{AreSorted, IsRow, LeadsShifted, LeadsTo};
 ghost use Rattle.lx_encode.specs.Table.{Finishes, GrowsBy, IsTable, row_of, step_of};
-ghost use Rattle.lx_encode.specs.Graph.{AreStarts, IsGraphOf, Separates, parts, started};
+ghost use Rattle.lx_encode.specs.Graph.{AreStarts, IsGraphOf, Separates, numbered, parts, started};
 ghost use Rattle.lx_encode.specs.Starts.{AreEnded, StartsWith};
 
 use crate::layers::{Layer, blocks_of};
@@ -36,7 +39,12 @@ fn kept(alloc: Global, runs: &[Run], from: u32, to: u32) -> Result<Vec<Run>, Mem
 
 /// The residual of the points up to `last`, each of which is spelled by its own number; 0 where there are
 /// none.
-fn one_unit_start(alloc: Global, table: &mut Table, points: &[Run], last: u32) -> Result<u32, Memory>
+fn one_unit_start(
+    alloc: Global,
+    table: &mut Table,
+    points: &[Run],
+    last: u32,
+) -> Result<u32, Memory>
     requires sorted { AreSorted points.now }
     requires ended { (number target : ℕ) → LeadsTo points.now number target → target < length table.old }
     requires bounded { last ≤ MAX_POINT }
@@ -112,4 +120,152 @@ fn push_start(starts: &mut Vec<Residual>, start: u32) -> Result<(), Memory>
         starts.push(Residual(start))?;
     }
     Ok(())
+}
+
+/// The start of the points of an encoding with one unit for each.
+fn one_unit_starts(
+    alloc: Global,
+    enc: Enc,
+    table: &mut Table,
+    points: &[Run],
+) -> Result<Vec<Residual>, Memory>
+    requires sorted { AreSorted points.now }
+    requires ended { (number target : ℕ) → LeadsTo points.now number target → target < length table.old }
+    requires room { length table.old < 2 ^ 20 }
+    requires part { parts enc ≡ record { lo = 0; hi = greatest_point enc } ∷ [] }
+    requires spelled { (point : ℕ) → point ≤ greatest_point enc → spell enc point ≡ point ∷ [] }
+    ensures table { OnOk result (IsTable table.new) }
+    ensures starts { IfOk result (λ starts. (set : List Range) → IsCanonical set → AreEnded set points.now →
+        AreStarts table.new enc set (parts enc) starts.items) }
+{
+    let start = one_unit_start(alloc, table, points, greatest(enc))?;
+    let mut starts = Vec::new(alloc);
+    push_start(&mut starts, start)?;
+    Ok(starts)
+}
+
+/// The start in UTF-8.
+fn utf8_starts(alloc: Global, table: &mut Table, points: &[Run]) -> Result<Vec<Residual>, Memory>
+    requires sorted { AreSorted points.now }
+    requires ended { (number target : ℕ) → LeadsTo points.now number target → target < length table.old }
+    requires room { length table.old < 2 ^ 20 }
+    ensures table { OnOk result (IsTable table.new) }
+    ensures starts { IfOk result (λ starts. (set : List Range) → IsCanonical set → AreEnded set points.now →
+        AreStarts table.new Enc.Utf8 set (parts Enc.Utf8) starts.items) }
+{
+    let start = utf8_start(alloc, table, points)?;
+    let mut starts = Vec::new(alloc);
+    push_start(&mut starts, start)?;
+    Ok(starts)
+}
+
+/// The starts in UTF-16: that of the points of two units, and that of the others.
+fn utf16_starts(alloc: Global, table: &mut Table, points: &[Run]) -> Result<Vec<Residual>, Memory>
+    requires sorted { AreSorted points.now }
+    requires ended { (number target : ℕ) → LeadsTo points.now number target → target < length table.old }
+    requires room { length table.old < 2 ^ 20 }
+    ensures table { OnOk result (IsTable table.new) }
+    ensures starts { IfOk result (λ starts. (set : List Range) → IsCanonical set → AreEnded set points.now →
+        AreStarts table.new Enc.Utf16 set (parts Enc.Utf16) starts.items) }
+{
+    let two = two_unit_start(alloc, table, points)?;
+    let one = one_unit_start(alloc, table, points, 0xFFFF)?;
+    let mut starts = Vec::new(alloc);
+    push_start(&mut starts, two)?;
+    push_start(&mut starts, one)?;
+    Ok(starts)
+}
+
+/// The starts of the points, in the order of preference.
+fn starts_of(
+    alloc: Global,
+    enc: Enc,
+    table: &mut Table,
+    points: &[Run],
+) -> Result<Vec<Residual>, Memory>
+    requires sorted { AreSorted points.now }
+    requires ended { (number target : ℕ) → LeadsTo points.now number target → target < length table.old }
+    requires room { length table.old < 2 ^ 20 }
+    ensures table { OnOk result (IsTable table.new) }
+    ensures starts { IfOk result (λ starts. (set : List Range) → IsCanonical set → AreEnded set points.now →
+        AreStarts table.new enc set (parts enc) starts.items) }
+{
+    match enc {
+        Enc::Utf8 => utf8_starts(alloc, table, points),
+        Enc::Utf16 => utf16_starts(alloc, table, points),
+        Enc::Byte | Enc::Ucs2 | Enc::Utf32 => one_unit_starts(alloc, enc, table, points),
+    }
+}
+
+/// The graph of a class: what may come next after each front of a spelling.
+///
+/// Contracts see it as its starts and the rows of its residuals, which are numbered from 0; a residual
+/// is one of the graph where its number is below the number of rows. `IsGraphOf` says what the starts are,
+/// and that residuals are equal exactly where the same lists of units finish them.
+#[derive(Debug, Drop)]
+pub struct UnitGraph {
+    table: Table,
+    starts: Vec<Residual>,
+}
+
+impl Model for UnitGraph {
+    ghost use Rattle.lx_encode.specs.Graph.{Graph};
+
+    ghost Value = { Graph };
+
+    ghost view = { λ graph. record { starts = graph.starts.items; rows = graph.table } };
+}
+
+impl UnitGraph {
+    /// The graph of a set, each point of which the encoding has.
+    pub fn of(alloc: Global, enc: Enc, set: &ClassSet) -> Result<UnitGraph, Memory>
+        requires { FitsEncoding enc set.now }
+        ensures graph { IfOk result (IsGraphOf enc set.now) }
+        ensures within { IfOk result (λ graph. All (λ start. start.0 < length graph.rows) graph.starts) }
+    {
+        let points = point_runs(alloc, set.ranges())?;
+        let mut table = Table::new(alloc)?;
+        let starts = starts_of(alloc, enc, &mut table, &points)?;
+        Ok(UnitGraph { table, starts })
+    }
+
+    /// The starts, in the order of preference: in UTF-16 that of the spellings of two units first, where
+    /// there are both; else one, or none for the empty class. It takes no memory.
+    pub fn starts(&self) -> &[Residual]
+        ensures { result.now ≡ self.now.starts }
+    {
+        &self.starts
+    }
+
+    /// The residual after one more unit, or nothing exactly where no list finishes after that unit. It
+    /// takes no memory.
+    pub fn step(&self, residual: Residual, unit: u32) -> Option<Residual>
+        requires { residual.0 < length self.now.rows }
+        ensures next { result ≡ option_map numbered (step_of self.now.rows residual.0 unit) }
+        ensures within { IfSome result (λ next. next.0 < length self.now.rows) }
+        ensures none { IsNone result ↔ ((units : List ℕ) → ¬ Finishes self.now.rows residual.0 (unit ∷ units)) }
+    {
+        match self.table.row(residual.0).target(unit) {
+            Some(next) => Some(Residual(next)),
+            None => None,
+        }
+    }
+
+    /// Whether nothing is left of the spelling. It takes no memory.
+    pub fn done(&self, residual: Residual) -> bool
+        requires { residual.0 < length self.now.rows }
+        ensures { IsTrue result ↔ Finishes self.now.rows residual.0 [] }
+    {
+        self.table.row(residual.0).is_empty()
+    }
+
+    /// The units at which `step` may change its answer: any two units without one that is greater than
+    /// the lesser and at most the greater have the same. It takes no memory.
+    pub fn cuts(&self, residual: Residual) -> &[u32]
+        requires { residual.0 < length self.now.rows }
+        ensures sorted { IsStrictlyIncreasing result.now }
+        ensures separating { Separates result.now (step_of self.now.rows residual.0) }
+    {
+        self.table.row(residual.0).cuts()
+    }
 }

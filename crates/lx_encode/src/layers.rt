@@ -166,7 +166,13 @@ impl Folding {
     }
 
     /// Puts whole blocks behind those that are there.
-    fn put_blocks(&mut self, alloc: Global, table: &mut Table, layer: Layer, part: Run) -> Result<(), Memory>
+    fn put_blocks(
+        &mut self,
+        alloc: Global,
+        table: &mut Table,
+        layer: Layer,
+        part: Run,
+    ) -> Result<(), Memory>
         requires radix { 2 ≤ layer.radix }
         requires offset { layer.offset + layer.radix ≤ MAX_POINT }
         requires ready { IsReady self.old table.old }
@@ -230,7 +236,13 @@ impl Folding {
     }
 
     /// Puts a part behind those that are there.
-    fn put(&mut self, alloc: Global, table: &mut Table, layer: Layer, part: Run) -> Result<(), Memory>
+    fn put(
+        &mut self,
+        alloc: Global,
+        table: &mut Table,
+        layer: Layer,
+        part: Run,
+    ) -> Result<(), Memory>
         requires radix { 2 ≤ layer.radix }
         requires offset { layer.offset + layer.radix ≤ MAX_POINT }
         requires ready { IsReady self.old table.old }

@@ -9,5 +9,6 @@ mod runs;
 mod table;
 mod units;
 
+pub use graph::{Residual, UnitGraph};
 pub use policies::{PointStop, all_points, apply};
 pub use units::{Units, greatest_unit, unit_bytes, units_of};

@@ -105,7 +105,8 @@ impl Table {
     /// The row of a residual.
     pub(crate) fn row(&self, residual: u32) -> &Row
         requires { residual < length self.now }
-        ensures { result.now ≡ row_of self.now residual }
+        ensures row { result.now ≡ row_of self.now residual }
+        ensures table { IsTable self.now }
     {
         &self.rows[residual as usize]
     }

@@ -20,7 +20,7 @@ returns-clause-starts c = λ set ended.
     let blocks = c.in_ok-blocks.blocks.items in
     let row = c.append_shifted.new.row.items in
     let are = AreBlocks-grows low supplementary blocks c.blocks_of.new.table c.residual_of.new.self 1 c.in_ok-blocks.ensures.within c.in_ok-start.ensures.grows
-        (subst (λ l. AreBlocks low l blocks c.blocks_of.new.table) c.deref.ensures.value c.in_ok-blocks.ensures.blocks) in
+    (subst (λ l. AreBlocks low l blocks c.blocks_of.new.table) c.deref.ensures.value c.in_ok-blocks.ensures.blocks) in
     starts_with_two c.residual_of.new.self c.in_ok-start.ensures.table set c.args.points.now ended c.in_ok-start.start supplementary blocks row
     c.in_ok-start.ensures.within c.in_ok-start.ensures.row c.in_ok-supplementary.ensures.leads
     (LeadBelow-grows blocks c.blocks_of.new.table c.residual_of.new.self 1 c.in_ok-start.ensures.grows c.in_ok-blocks.ensures.within) are

@@ -21,18 +21,18 @@ loop-run-preserved c =
     let known = c.loop-run.invariant in
     elim c.if-lo-hi.branch [
       | then-lo-hi+in_ok-append_run w ↦ record {
-          row = subst (λ v. IsRow v.items) (sym w.row-is) w.in_ok-append_run.ensures.row;
-          leads = λ n t. subst (λ v. LeadsTo v.items n t ↔ (LeadsTo c.args.row.now.items n t ⊎ LeadsShifted (take (i + 1) xs) c.args.from c.args.to c.args.unit n t)) (sym w.row-is)
-              (grows_right (w.in_ok-append_run.ensures.leads n t) (known.leads n t)
-              (for_right (LeadsShifted-take_more c.args.from c.args.to c.args.unit n t xs i c.loop-run-test.true)
-              (shifted_here c.args.from c.args.to c.args.unit n t (run_at xs i) c.max-lo.result c.min-hi.result c.max-lo.ensures c.min-hi.ensures w.if-lo-hi.true)));
-        }
+        row = subst (λ v. IsRow v.items) (sym w.row-is) w.in_ok-append_run.ensures.row;
+        leads = λ n t. subst (λ v. LeadsTo v.items n t ↔ (LeadsTo c.args.row.now.items n t ⊎ LeadsShifted (take (i + 1) xs) c.args.from c.args.to c.args.unit n t)) (sym w.row-is)
+            (grows_right (w.in_ok-append_run.ensures.leads n t) (known.leads n t)
+            (for_right (LeadsShifted-take_more c.args.from c.args.to c.args.unit n t xs i c.loop-run-test.true)
+            (shifted_here c.args.from c.args.to c.args.unit n t (run_at xs i) c.max-lo.result c.min-hi.result c.max-lo.ensures c.min-hi.ensures w.if-lo-hi.true)));
+      }
       | else-lo-hi w ↦ record {
-          row = subst (λ v. IsRow v.items) (sym w.row-is) known.row;
-          leads = λ n t. subst (λ v. LeadsTo v.items n t ↔ (LeadsTo c.args.row.now.items n t ⊎ LeadsShifted (take (i + 1) xs) c.args.from c.args.to c.args.unit n t)) (sym w.row-is)
-              (adds_none (known.leads n t) (LeadsShifted-take_more c.args.from c.args.to c.args.unit n t xs i c.loop-run-test.true)
-              (shifted_none c.args.from c.args.to c.args.unit n t (run_at xs i) c.max-lo.result c.min-hi.result c.max-lo.ensures c.min-hi.ensures w.if-lo-hi.false));
-        }
+        row = subst (λ v. IsRow v.items) (sym w.row-is) known.row;
+        leads = λ n t. subst (λ v. LeadsTo v.items n t ↔ (LeadsTo c.args.row.now.items n t ⊎ LeadsShifted (take (i + 1) xs) c.args.from c.args.to c.args.unit n t)) (sym w.row-is)
+            (adds_none (known.leads n t) (LeadsShifted-take_more c.args.from c.args.to c.args.unit n t xs i c.loop-run-test.true)
+            (shifted_none c.args.from c.args.to c.args.unit n t (run_at xs i) c.max-lo.result c.min-hi.result c.max-lo.ensures c.min-hi.ensures w.if-lo-hi.false));
+      }
     ]
 
 pub returns-clause-leads : goal.returns-clause-leads

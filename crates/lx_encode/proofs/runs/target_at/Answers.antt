@@ -38,5 +38,5 @@ returns c =
     let met : c.loop-low.low ≡ c.loop-low.high = omega arith in
     let xs = c.args.runs.now in
     sym (target_none xs c.args.number (λ target at.
-        ⊎_elim (known.not_before target) (λ after. known.not_after target (subst (λ i. LeadsTo (drop i xs) c.args.number target) met after))
-        ((LeadsTo-split xs c.loop-low.low c.args.number target).0 at)))
+    ⊎_elim (known.not_before target) (λ after. known.not_after target (subst (λ i. LeadsTo (drop i xs) c.args.number target) met after))
+    ((LeadsTo-split xs c.loop-low.low c.args.number target).0 at)))
