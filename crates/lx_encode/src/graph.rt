@@ -269,3 +269,6 @@ impl UnitGraph {
         self.table.row(residual.0).cuts()
     }
 }
+
+#[cfg(test)]
+mod tests;

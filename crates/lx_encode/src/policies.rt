@@ -124,3 +124,6 @@ pub fn apply(
         Err(Memory) => Err(PointStop::Memory),
     }
 }
+
+#[cfg(test)]
+mod tests;
