@@ -2,7 +2,7 @@
 //! class whose points have been spelled in part.
 ghost use Rattle.std.specs.Prelude.{◌≡◌, ℕ, ◌+◌, ◌<◌, ◌≤◌, ◌⊎◌, ◌↔◌, [], ◌∷◌, IfOk, OnOk};
 ghost use Rattle.lx_class.specs.Ranges.{InRanges, IsCanonical};
-ghost use Rattle.lx_encode.specs.Runs.{AreSorted, IsRow, LeadsShifted, LeadsTo, cuts_of, target_of};
+ghost use Rattle.lx_encode.specs.Runs.{AreSorted, IsRow, LeadsShifted, LeadsTo, cuts_of, digest_of, target_of};
 
 use lx_base::Memory;
 use lx_class::Range;
@@ -126,4 +126,16 @@ pub(crate) fn cuts(alloc: Global, runs: &[Run]) -> Result<Vec<u32>, Memory>
         cuts.push(next)?;
     }
     Ok(cuts)
+}
+
+/// A number that equal rows share and that few others have, by which rows are looked up.
+pub(crate) fn digest(runs: &[Run]) -> u64
+    ensures { result ≡ digest_of runs.now }
+{
+    let mut digest: u64 = 0;
+    for run in runs {
+        let (lo, hi, to) = (u64::from(run.lo), u64::from(run.hi), u64::from(run.to));
+        digest = (digest * 4093 + lo * 331 + hi * 37 + to) % 1_073_741_789;
+    }
+    digest
 }

@@ -1,9 +1,9 @@
 //! The rows of a graph, each once.
 ghost use Rattle.std.specs.Prelude.{◌≡◌, ℕ, ◌<◌, ◌≤◌, ◌^◌, ◌↔◌, List, [], ◌∷◌, length, IsTrue, IfOk, IfSome, IfNone, OnOk};
-ghost use Rattle.lx_encode.specs.Runs.{AreSorted, IsRow, LeadBelow, cuts_of, target_of};
+ghost use Rattle.lx_encode.specs.Runs.{AreSorted, IsRow, LeadBelow, cuts_of, digest_of, target_of};
 ghost use Rattle.lx_encode.specs.Table.{GrowsBy, IsTable, row_of};
 
-use crate::runs::{Run, cuts, target_at};
+use crate::runs::{Run, cuts, digest, target_at};
 use lx_base::Memory;
 use std::alloc::Global;
 use std::marker::Model;
@@ -13,18 +13,19 @@ use std::marker::Model;
 pub(crate) struct Row {
     runs: Vec<Run>,
     cuts: Vec<u32>,
+    digest: u64,
 }
 
 impl Model for Row {
     ghost use Rattle.std.specs.Prelude.{List, ◌≡◌};
-    ghost use Rattle.lx_encode.specs.Runs.{IsRow, cuts_of};
+    ghost use Rattle.lx_encode.specs.Runs.{IsRow, cuts_of, digest_of};
     ghost use Rattle.lx_encode.specs.declared.runs.Run.{Run};
 
     ghost Value = { List Run };
 
     ghost view = { λ row. row.runs.items };
 
-    ghost invariant = { λ row. (row.cuts.items ≡ cuts_of row.runs.items) × IsRow row.runs.items };
+    ghost invariant = { λ row. (row.cuts.items ≡ cuts_of row.runs.items) × IsRow row.runs.items × (row.digest ≡ digest_of row.runs.items) };
 }
 
 impl Row {
@@ -34,13 +35,18 @@ impl Row {
         ensures { IfOk result (λ row. row ≡ runs.items) }
     {
         let cuts = cuts(alloc, &runs)?;
-        Ok(Row { runs, cuts })
+        let digest = digest(&runs);
+        Ok(Row { runs, cuts, digest })
     }
 
-    /// Whether the runs are those of this row.
-    fn has_runs(&self, runs: &[Run]) -> bool
+    /// Whether the runs, which have this digest, are those of this row.
+    fn has_runs(&self, runs: &[Run], digest: u64) -> bool
+        requires { digest ≡ digest_of runs.now }
         ensures { IsTrue result ↔ (self.now ≡ runs.now) }
     {
+        if self.digest != digest {
+            return false;
+        }
         self.runs.as_slice() == runs
     }
 
@@ -117,8 +123,9 @@ impl Table {
         ensures found { IfSome result (λ place. (place < length self.now) × (row_of self.now place ≡ runs.now)) }
         ensures none { IfNone result ((place : ℕ) → place < length self.now → row_of self.now place ≡ runs.now → ⊥) }
     {
+        let digest = digest(runs);
         for (place, row) in self.rows.iter().enumerate() {
-            if row.has_runs(runs) {
+            if row.has_runs(runs, digest) {
                 return Some(place as u32);
             }
         }

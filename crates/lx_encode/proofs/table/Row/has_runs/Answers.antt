@@ -4,6 +4,7 @@ use Rattle.std.specs.Bool.{Decides}
 use Rattle.std.proofs.lemmas.Slice.Eq.{slice_eq-Decides}
 use Rattle.std.proofs.lemmas.Bool.Decides.{nat_tests}
 use Rattle.lx_encode.specs.declared.runs.Run.{Run}
+use Rattle.lx_encode.specs.Runs.{digest_of}
 use Rattle.lx_encode.specs.contracts.runs.RunPartialEq.TheImpl.{eq-value}
 use Rattle.lx_encode.proofs.table.Row.has_runs.Goals as goal
 
@@ -26,6 +27,12 @@ passes a b same =
 
 decides : (a b : Run) → Decides (eq-value.it a b) (a ≡ b)
 decides a b = (λ is. let t = tested a b is in same_run a b t.0 t.1 t.2, passes a b)
+
+pub returns-then-self-digest : goal.returns-then-self-digest
+returns-then-self-digest c = (
+  λ is. cc,
+  λ same. absurd (c.if-self-digest.true (c.self.invariant.2 ∙ ap digest_of (c.self.view_is ∙ same) ∙ sym c.requires)),
+)
 
 pub returns : goal.returns
 returns c =
