@@ -1,11 +1,11 @@
 -- Lists of parts, and the blocks that are made of them.
-use Rattle.std.proofs.Common.{◌≡◌, ℕ, ◌+◌, ◌*◌, ◌/◌, ◌%◌, ◌<◌, ◌≤◌, ◌⊎◌, ◌↔◌, List, [], ◌∷◌, ◌++◌, length, take, drop, sym, ◌∙◌, ap, subst, inl, inr, ⊎_elim, arith}
+use Rattle.std.proofs.Common.{◌≡◌, ℕ, ◌+◌, ◌*◌, ◌/◌, ◌%◌, ◌<◌, ◌≤◌, ◌↔◌, List, [], ◌∷◌, ◌++◌, length, take, drop, sym, ◌∙◌, subst, ⊎_elim, arith}
 use Rattle.std.proofs.lemmas.List.{take-append-drop}
 use Rattle.lx_encode.specs.declared.runs.Run.{Run}
 use Rattle.lx_encode.specs.declared.layers.Layer.{Layer}
 use Rattle.lx_encode.specs.declared.layers.Folding.{Folding}
-use Rattle.lx_encode.specs.Runs.{InRun, LeadsTo, AreSortedFrom, AreSorted, LeadBelow}
-use Rattle.lx_encode.specs.Table.{Rows, GrowsBy, row_of}
+use Rattle.lx_encode.specs.Runs.{LeadsTo, AreSortedFrom, AreSorted, LeadBelow}
+use Rattle.lx_encode.specs.Table.{Rows, GrowsBy}
 use Rattle.lx_encode.specs.Layers.{IsBlock, AreBlocks, IsPart, AreParts}
 use Rattle.lx_encode.specs.Folding.{IsFolding}
 use Rattle.lx_encode.proofs.RunLists.{run_at, rest_at, sorted_at, found_at, before_at}

@@ -1,8 +1,7 @@
 -- Numbers by their block and their place in it.
-use Rattle.std.proofs.Common.{◌≡◌, ℕ, ◌+◌, ◌-◌, ◌*◌, ◌/◌, ◌%◌, ◌<◌, ◌≤◌, ◌⊎◌, ◌↔◌, sym, ◌∙◌, subst, ⊎_elim, arith}
+use Rattle.std.proofs.Common.{◌≡◌, ℕ, ◌+◌, ◌*◌, ◌/◌, ◌%◌, ◌<◌, ◌≤◌, subst, arith}
 use Rattle.std.proofs.Math.Nat.{div-add-mod, mod-lt, mul_comm}
 use Rattle.std.proofs.lemmas.Nat.{div-mul-add, le-div, div_below}
-use Rattle.std.proofs.lemmas.Bool.{cases_lt}
 
 module _ (radix : ℕ) (some : 2 ≤ radix) where
   positive : 0 < radix

@@ -1,6 +1,5 @@
 -- What becomes of blocks when the last one is closed, and when one more part comes to them.
-use Rattle.std.proofs.Common.{◌≡◌, ℕ, ◌+◌, ◌-◌, ◌*◌, ◌/◌, ◌%◌, ◌<◌, ◌≤◌, ◌⊎◌, ◌↔◌, List, [], ◌∷◌, ◌++◌, length, refl, sym, ◌∙◌, ap, subst, inl, inr, ⊎_elim, arith}
-use Rattle.std.proofs.lemmas.Bool.{cases_lt}
+use Rattle.std.proofs.Common.{◌≡◌, ℕ, ◌+◌, ◌-◌, ◌*◌, ◌/◌, ◌%◌, ◌<◌, ◌≤◌, ◌⊎◌, ◌↔◌, List, [], ◌∷◌, ◌++◌, length, refl, sym, ◌∙◌, subst, inl, inr, ⊎_elim, arith}
 use Rattle.std.proofs.Math.Nat.{mul-le-mul_left}
 use Rattle.lx_encode.specs.declared.runs.Run.{Run}
 use Rattle.lx_encode.specs.declared.layers.Layer.{Layer}
@@ -10,7 +9,7 @@ use Rattle.lx_encode.specs.Table.{Rows, row_of, GrowsBy}
 use Rattle.lx_encode.specs.Layers.{IsBlock}
 use Rattle.lx_encode.specs.Folding.{IsFolding}
 use Rattle.lx_encode.proofs.RunLists.{LeadsTo-append}
-use Rattle.lx_encode.proofs.Blocks.{number_is, place_below, block_of, place_of, block_from, block_to, block-mono}
+use Rattle.lx_encode.proofs.Blocks.{number_is, place_below, block_of, place_of, block_to, block-mono}
 
 -- a block without numbers has the empty row alone
 empty_block : (layer : Layer) (runs : List Run) (block : ℕ) → ((n t : ℕ) → LeadsTo runs n t → n / layer.radix ≡ block → ⊥) → IsBlock layer runs block []

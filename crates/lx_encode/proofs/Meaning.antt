@@ -1,12 +1,11 @@
 -- What finishes the residuals of a table, point by point.
-use Rattle.std.proofs.Common.{◌≡◌, ℕ, ◌+◌, ◌*◌, ◌/◌, ◌%◌, ◌<◌, ◌≤◌, ◌⊎◌, ◌↔◌, List, [], ◌∷◌, ◌++◌, length, Option, Some, None, refl, sym, ◌∙◌, ap, subst, inl, inr, ⊎_elim, arith}
-use Rattle.std.proofs.lemmas.Bool.{cases_lt}
+use Rattle.std.proofs.Common.{◌≡◌, ℕ, ◌+◌, ◌/◌, ◌%◌, ◌<◌, ◌≤◌, ◌↔◌, List, [], ◌∷◌, length, Option, Some, None, refl, sym, ◌∙◌, ap, subst, arith}
 use Rattle.std.specs.Prelude.{IsSomeAnd}
 use Rattle.lx_encode.specs.declared.runs.Run.{Run}
 use Rattle.lx_encode.specs.declared.layers.Layer.{Layer}
-use Rattle.lx_encode.specs.Runs.{InRun, LeadsTo, LeadsShifted, AreSorted, LeadBelow, IsRow, target_of}
-use Rattle.lx_encode.specs.Table.{Rows, IsTable, GrowsBy, Finishes, row_of, step_of}
-use Rattle.lx_encode.specs.Layers.{IsBlock, AreBlocks}
+use Rattle.lx_encode.specs.Runs.{LeadsTo, LeadsShifted, LeadBelow, target_of}
+use Rattle.lx_encode.specs.Table.{Rows, IsTable, Finishes, row_of}
+use Rattle.lx_encode.specs.Layers.{AreBlocks}
 use Rattle.lx_encode.proofs.RunLists.{IsRow-sorted}
 use Rattle.lx_encode.proofs.Targets.{target_found, target_leads}
 

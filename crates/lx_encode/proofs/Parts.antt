@@ -1,11 +1,9 @@
 -- Runs that are cut at the borders of blocks.
-use Rattle.std.proofs.Common.{◌≡◌, ℕ, zero, suc, ◌+◌, ◌-◌, ◌*◌, ◌/◌, ◌%◌, ◌<◌, ◌≤◌, ◌⊎◌, ◌↔◌, List, [], ◌∷◌, ◌++◌, length, sym, ◌∙◌, subst, inl, inr, ⊎_elim, arith}
-use Rattle.std.proofs.Math.Nat.{mul-le-mul_right}
-use Rattle.std.proofs.lemmas.Bool.{cases_lt}
+use Rattle.std.proofs.Common.{◌≡◌, ℕ, ◌+◌, ◌*◌, ◌/◌, ◌%◌, ◌<◌, ◌≤◌, List, [], ◌∷◌, ◌++◌, sym, subst, inl, inr, arith}
 use Rattle.lx_encode.specs.declared.runs.Run.{Run}
-use Rattle.lx_encode.specs.Runs.{InRun, LeadsTo, AreSortedFrom, AreSorted}
+use Rattle.lx_encode.specs.Runs.{InRun, LeadsTo, AreSortedFrom}
 use Rattle.lx_encode.specs.Layers.{IsPart, AreParts}
-use Rattle.lx_encode.proofs.Blocks.{number_is, place_below, place_of, block_of, block_from, block-mono}
+use Rattle.lx_encode.proofs.Blocks.{place_of, block_of, block_from, block-mono}
 
 pub AreSorted-push : (low : ℕ) (xs : List Run) (run : Run) → ((n t : ℕ) → LeadsTo xs n t → n < run.lo) → low ≤ run.lo → run.lo ≤ run.hi → run.hi ≤ 0x10FFFF →
     AreSortedFrom low xs → AreSortedFrom low (xs ++ run ∷ [])

@@ -1,5 +1,5 @@
 -- The points of a set as runs that lead to residual 0.
-use Rattle.std.proofs.Common.{◌≡◌, ℕ, ◌+◌, ◌≤◌, ◌⊎◌, ◌↔◌, List, [], ◌∷◌, ◌++◌, refl, ap, inl, inr, ⊎_elim, arith}
+use Rattle.std.proofs.Common.{◌≡◌, ℕ, ◌+◌, ◌≤◌, ◌↔◌, List, [], ◌∷◌, ◌++◌, refl, ap, inl, inr, ⊎_elim, arith}
 use Rattle.lx_class.specs.declared.ranges.Range.{Range}
 use Rattle.lx_class.specs.Ranges.{InRanges, IsCanonicalFrom}
 use Rattle.lx_encode.specs.declared.runs.Run.{Run}

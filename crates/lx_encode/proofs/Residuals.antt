@@ -1,12 +1,12 @@
 -- Residuals that are finished by the same lists are equal, and each is finished by some list.
-use Rattle.std.proofs.Common.{◌≡◌, ℕ, zero, suc, ◌+◌, ◌<◌, ◌≤◌, ◌⊎◌, ◌↔◌, List, [], ◌∷◌, length, Some, refl, sym, ◌∙◌, ap, ap₂, subst, inl, inr, ⊎_elim, arith}
+use Rattle.std.proofs.Common.{◌≡◌, ℕ, zero, suc, ◌+◌, ◌<◌, ◌≤◌, ◌↔◌, List, [], ◌∷◌, length, Some, refl, sym, ◌∙◌, ap, ap₂, subst, inl, inr, ⊎_elim, arith}
 use Rattle.std.proofs.lemmas.Bool.{cases_lt}
 use Rattle.lx_encode.specs.declared.runs.Run.{Run}
-use Rattle.lx_encode.specs.Runs.{InRun, LeadsTo, AreSortedFrom, AreSorted, AreBehind, IsRow, LeadBelow, target_of}
+use Rattle.lx_encode.specs.Runs.{InRun, LeadsTo, AreSortedFrom, AreSorted, AreBehind, IsRow, target_of}
 use Rattle.lx_encode.specs.Table.{Rows, IsTable, Finishes, row_of}
 use Rattle.lx_encode.proofs.RunLists.{IsRow-sorted, leads_from, leads_once}
 use Rattle.lx_encode.proofs.Targets.{target_leads}
-use Rattle.lx_encode.proofs.Meaning.{Finishes-cons, Continues}
+use Rattle.lx_encode.proofs.Meaning.{Finishes-cons}
 
 -- what one list leads to, the other does too
 abbrev Within : List Run → List Run → Type 0

@@ -1,8 +1,8 @@
 -- What becomes of a row whose last run grows, or that gets one more run.
-use Rattle.std.proofs.Common.{◌≡◌, ℕ, ◌+◌, ◌-◌, ◌<◌, ◌≤◌, ◌⊎◌, ◌↔◌, List, [], ◌∷◌, ◌++◌, sym, ◌∙◌, subst, inl, inr, ⊎_elim, arith}
+use Rattle.std.proofs.Common.{◌≡◌, ℕ, ◌+◌, ◌<◌, ◌≤◌, ◌⊎◌, ◌↔◌, List, [], ◌∷◌, ◌++◌, sym, ◌∙◌, inl, inr, ⊎_elim, arith}
 use Rattle.std.proofs.lemmas.Bool.{cases_lt}
 use Rattle.lx_encode.specs.declared.runs.Run.{Run}
-use Rattle.lx_encode.specs.Runs.{InRun, LeadsTo, AreSortedFrom, AreSorted, AreBehind, IsRow}
+use Rattle.lx_encode.specs.Runs.{InRun, LeadsTo, AreBehind, IsRow}
 use Rattle.lx_encode.proofs.RunLists.{LeadsTo-append}
 
 -- the first run with the last number of the second

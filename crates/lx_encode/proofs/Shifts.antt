@@ -1,6 +1,5 @@
 -- Runs that are cut to some numbers and counted on from a unit.
-use Rattle.std.proofs.Common.{◌≡◌, ℕ, ◌+◌, ◌-◌, ◌<◌, ◌≤◌, ◌⊎◌, ◌↔◌, List, [], ◌∷◌, ◌++◌, length, take, min, max, sym, ◌∙◌, subst, inl, inr, ⊎_elim, arith}
-use Rattle.std.proofs.lemmas.Bool.{cases_lt}
+use Rattle.std.proofs.Common.{◌≡◌, ℕ, ◌+◌, ◌-◌, ◌<◌, ◌≤◌, ◌⊎◌, ◌↔◌, List, [], ◌∷◌, ◌++◌, length, take, min, max, sym, subst, inl, inr, ⊎_elim, arith}
 use Rattle.lx_encode.specs.declared.runs.Run.{Run}
 use Rattle.lx_encode.specs.Runs.{InRun, LeadsTo, LeadsShifted, AreSorted}
 use Rattle.lx_encode.proofs.RunLists.{LeadsTo-append, run_at, taken_at, before_at}

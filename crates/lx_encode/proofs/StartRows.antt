@@ -1,21 +1,17 @@
 -- The rows of starts, from where their units lead.
-use Rattle.std.proofs.Common.{◌≡◌, ◌≢◌, ℕ, ◌+◌, ◌-◌, ◌/◌, ◌%◌, ◌<◌, ◌≤◌, ◌⊎◌, ◌↔◌, List, [], ◌∷◌, length, refl, sym, ◌∙◌, ap, ap₂, subst, inl, inr, ⊎_elim, arith}
-use Rattle.std.proofs.lemmas.Bool.{cases_lt}
-use Rattle.lx_base.specs.Spelling.{spell, utf8, utf16, continuation}
+use Rattle.std.proofs.Common.{◌≡◌, ℕ, ◌+◌, ◌-◌, ◌/◌, ◌%◌, ◌<◌, ◌≤◌, ◌⊎◌, ◌↔◌, List, [], ◌∷◌, length, sym, ◌∙◌, ap, ap₂, subst, inl, inr, ⊎_elim, arith}
+use Rattle.lx_base.specs.Spelling.{spell}
 use Rattle.lx_base.specs.declared.settings.Enc.{Enc}
-use Rattle.lx_base.specs.declared.settings.Enc.TheVariants.{Utf8, Utf16}
+use Rattle.lx_base.specs.declared.settings.Enc.TheVariants.{Utf16}
 use Rattle.lx_class.specs.declared.ranges.Range.{Range}
-use Rattle.lx_class.specs.Ranges.{InRanges, IsCanonical}
+use Rattle.lx_class.specs.Ranges.{InRanges}
 use Rattle.lx_encode.specs.declared.runs.Run.{Run}
-use Rattle.lx_encode.specs.declared.layers.Layer.{Layer}
 use Rattle.lx_encode.specs.Runs.{LeadsTo, LeadsShifted, LeadBelow}
 use Rattle.lx_encode.specs.Layers.{AreBlocks}
-use Rattle.lx_encode.specs.Table.{Rows, IsTable, Finishes, row_of}
-use Rattle.lx_encode.specs.Graph.{Spells}
+use Rattle.lx_encode.specs.Table.{Rows, IsTable, row_of}
 use Rattle.lx_encode.specs.Starts.{StartsWith}
-use Rattle.lx_encode.proofs.Least.{in_unicode}
 use Rattle.lx_encode.proofs.Meaning.{Continues, Describes, Finishes-cons, points_described, blocks_described, shifted_described, clipped_described}
-use Rattle.lx_encode.proofs.Spellings.{utf8-1, utf8-2, utf8-3, utf8-4, utf16-1, utf16-2}
+use Rattle.lx_encode.proofs.Spellings.{utf16-2}
 
 -- what goes on from a row is what goes on from where its units lead
 segment : (rows : Rows) (front row runs : List Run) (from to unit u : ℕ) (us : List ℕ) →

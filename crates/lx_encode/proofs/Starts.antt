@@ -1,19 +1,17 @@
 -- A residual whose lists are the spellings of a part is the start of that part.
-use Rattle.std.proofs.Common.{◌≡◌, ◌≢◌, ℕ, zero, suc, ◌+◌, ◌<◌, ◌≤◌, ◌⊎◌, ◌↔◌, List, [], ◌∷◌, ◌++◌, length, refl, sym, ◌∙◌, ap, subst, inl, inr, ⊎_elim, arith}
+use Rattle.std.proofs.Common.{◌≡◌, ℕ, zero, suc, ◌<◌, ◌↔◌, List, [], ◌∷◌, ◌++◌, length, refl, sym, ◌∙◌, ap, subst, inl, inr, ⊎_elim, arith}
 use Rattle.std.specs.Prelude.{◌==◌}
-use Rattle.std.proofs.Common.{Bool, true, false, cond}
+use Rattle.std.proofs.Common.{false, cond}
 use Rattle.std.proofs.lemmas.Bool.Decides.{nat_tests}
-use Rattle.lx_base.specs.Spelling.{spell}
 use Rattle.lx_base.specs.declared.settings.Enc.{Enc}
 use Rattle.lx_class.specs.declared.ranges.Range.{Range}
-use Rattle.lx_class.specs.Ranges.{InRanges}
 use Rattle.lx_encode.specs.declared.graph.Residual.{Residual}
 use Rattle.lx_encode.specs.declared.runs.Run.{Run}
 use Rattle.lx_encode.specs.declared.layers.Layer.{Layer}
 use Rattle.lx_encode.specs.Policy.{NoneWithin}
 use Rattle.lx_encode.specs.Runs.{LeadBelow, LeadsTo}
 use Rattle.lx_encode.specs.Layers.{AreBlocks, IsBlock}
-use Rattle.lx_encode.specs.Table.{Rows, IsTable, GrowsBy, Finishes, row_of}
+use Rattle.lx_encode.specs.Table.{Rows, IsTable, GrowsBy, Finishes}
 use Rattle.lx_encode.specs.Graph.{Spells, IsStart, AreStarts, started, numbered}
 use Rattle.lx_encode.specs.Starts.{StartsWith}
 use Rattle.lx_encode.proofs.Meaning.{Finishes-0, Finishes-cons}

@@ -1,8 +1,7 @@
 -- Where a number leads, as an answer and as a relation.
-use Rattle.std.proofs.Common.{◌≡◌, ℕ, ◌+◌, ◌<◌, ◌≤◌, ◌⊎◌, List, [], ◌∷◌, Option, Some, None, true, false, refl, sym, ◌∙◌, ap, inl, inr, ⊎_elim, arith}
-use Rattle.std.proofs.lemmas.Bool.{cases_lt, le-leb, leb-true}
+use Rattle.std.proofs.Common.{◌≡◌, ℕ, ◌+◌, ◌<◌, ◌≤◌, ◌⊎◌, List, [], ◌∷◌, Some, None, refl, sym, ◌∙◌, ap, inl, inr, ⊎_elim, arith}
+use Rattle.std.proofs.lemmas.Bool.{cases_lt}
 use Rattle.std.proofs.lemmas.Bool.Decides.{nat_tests}
-use Rattle.std.specs.Prelude.{nat_le}
 use Rattle.lx_encode.specs.declared.runs.Run.{Run}
 use Rattle.lx_encode.specs.Runs.{InRun, LeadsTo, AreSortedFrom, target_of}
 use Rattle.lx_encode.proofs.RunLists.{leads_from}

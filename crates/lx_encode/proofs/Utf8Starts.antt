@@ -1,5 +1,5 @@
 -- The row of the start in UTF-8: four runs of first units, for spellings of one unit to four.
-use Rattle.std.proofs.Common.{◌≡◌, ℕ, ◌+◌, ◌-◌, ◌/◌, ◌%◌, ◌<◌, ◌≤◌, ◌⊎◌, ◌↔◌, List, [], ◌∷◌, length, refl, sym, ◌∙◌, ap, ap₂, subst, inl, inr, ⊎_elim, arith}
+use Rattle.std.proofs.Common.{◌≡◌, ℕ, ◌+◌, ◌/◌, ◌%◌, ◌<◌, ◌≤◌, ◌⊎◌, ◌↔◌, List, [], ◌∷◌, length, sym, ◌∙◌, ap, ap₂, subst, inl, inr, ⊎_elim, arith}
 use Rattle.std.proofs.lemmas.Bool.{cases_lt}
 use Rattle.lx_base.specs.Spelling.{utf8, continuation}
 use Rattle.lx_base.specs.declared.settings.Enc.TheVariants.{Utf8}
@@ -9,7 +9,7 @@ use Rattle.lx_encode.specs.declared.runs.Run.{Run}
 use Rattle.lx_encode.specs.declared.layers.Layer.{Layer}
 use Rattle.lx_encode.specs.Runs.{LeadsTo, LeadsShifted, LeadBelow}
 use Rattle.lx_encode.specs.Layers.{AreBlocks}
-use Rattle.lx_encode.specs.Table.{Rows, IsTable, Finishes, row_of}
+use Rattle.lx_encode.specs.Table.{Rows, IsTable, row_of}
 use Rattle.lx_encode.specs.Graph.{Spells}
 use Rattle.lx_encode.specs.Starts.{AreEnded, StartsWith}
 use Rattle.lx_encode.proofs.Meaning.{Continues, Describes, Finishes-cons, points_described, blocks_described, clipped_described}

@@ -1,13 +1,13 @@
 -- The graph of a class: its residuals, and the unit lists that finish them.
 use Rattle.std.specs.Prelude.{◌≡◌, ℕ, ◌<◌, ◌≤◌, ◌⊎◌, ◌↔◌, List, [], ◌∷◌, length, Option, ◌==◌, if◌then◌else◌}
-use Rattle.lx_base.specs.Spelling.{spell, greatest_point}
+use Rattle.lx_base.specs.Spelling.{spell}
 use Rattle.lx_base.specs.declared.settings.Enc.{Enc}
 use Rattle.lx_base.specs.declared.settings.Enc.TheVariants.{Byte, Ucs2, Utf8, Utf16, Utf32}
 use Rattle.lx_class.specs.Ranges.{InRanges}
 use Rattle.lx_class.specs.declared.ranges.Range.{Range}
 use Rattle.lx_encode.specs.declared.graph.Residual.{Residual}
 use Rattle.lx_encode.specs.Policy.{NoneWithin}
-use Rattle.lx_encode.specs.Table.{Rows, Finishes, IsTable, row_of, step_of}
+use Rattle.lx_encode.specs.Table.{Rows, Finishes}
 
 -- what contracts see of a graph
 pub record Graph : Type 0 where

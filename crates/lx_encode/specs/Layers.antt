@@ -1,8 +1,8 @@
 -- Blocks of numbers, which one more unit tells apart.
-use Rattle.std.specs.Prelude.{◌≡◌, ℕ, ◌+◌, ◌/◌, ◌%◌, ◌<◌, ◌≤◌, ◌⊎◌, ◌↔◌, List, [], ◌∷◌}
+use Rattle.std.specs.Prelude.{◌≡◌, ℕ, ◌+◌, ◌/◌, ◌%◌, ◌⊎◌, ◌↔◌, List, [], ◌∷◌}
 use Rattle.lx_encode.specs.declared.runs.Run.{Run}
 use Rattle.lx_encode.specs.declared.layers.Layer.{Layer}
-use Rattle.lx_encode.specs.Runs.{LeadsTo, IsRow}
+use Rattle.lx_encode.specs.Runs.{LeadsTo}
 use Rattle.lx_encode.specs.Table.{Rows, row_of}
 
 -- the row of a block leads from the unit of each number in the block to where the number leads

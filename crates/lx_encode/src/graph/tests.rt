@@ -162,7 +162,11 @@ fn uneven_comb(alloc: Global, first: u32, count: u32) -> Result<ClassSet, Memory
 {
     if count == 1 {
         let lo = first * 10;
-        return ClassSet::range(alloc, lo, lo + first * 40503 % 65536 * (first % 1021) / 4096 % 8);
+        return ClassSet::range(
+            alloc,
+            lo,
+            lo + first * 40503 % 65536 * (first % 1021) / 4096 % 8,
+        );
     }
     let half = count / 2;
     let left = uneven_comb(alloc, first, half)?;

@@ -1,4 +1,4 @@
-use Rattle.std.proofs.Common.{◌≡◌, ◌⊎◌, ◌↔◌, ℕ, [], length, sym, subst}
+use Rattle.std.proofs.Common.{◌⊎◌, ◌↔◌, ℕ, [], subst}
 use Rattle.lx_encode.specs.Runs.{LeadsTo, LeadsShifted}
 use Rattle.lx_encode.specs.Layers.{AreBlocks}
 use Rattle.lx_encode.specs.declared.layers.Layer.{Layer}

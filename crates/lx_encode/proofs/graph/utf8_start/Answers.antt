@@ -1,5 +1,4 @@
-use Rattle.std.proofs.Common.{◌≡◌, ◌⊎◌, ◌↔◌, ℕ, ◌+◌, List, [], length, sym, subst, arith}
-use Rattle.lx_encode.specs.declared.runs.Run.{Run}
+use Rattle.std.proofs.Common.{◌⊎◌, ◌↔◌, ℕ, subst, arith}
 use Rattle.lx_encode.specs.Runs.{LeadsTo, LeadsShifted}
 use Rattle.lx_encode.specs.Layers.{AreBlocks}
 use Rattle.lx_encode.specs.Table.{GrowsBy}

@@ -1,4 +1,4 @@
-use Rattle.std.proofs.Common.{◌≡◌, ◌↔◌, ℕ, ◌+◌, ◌*◌, ◌<◌, ◌≤◌, ◌∷◌, [], ◌++◌, length, take, sym, ◌∙◌, subst, inl, inr, arith, refl, take_all}
+use Rattle.std.proofs.Common.{◌≡◌, ◌↔◌, ℕ, ◌+◌, ◌*◌, ◌<◌, ◌≤◌, length, take, sym, ◌∙◌, subst, arith, take_all}
 use Rattle.lx_encode.specs.Runs.{LeadsTo, AreSorted}
 use Rattle.lx_encode.specs.Layers.{AreParts}
 use Rattle.lx_encode.specs.Folding.{IsFolding}

@@ -1,5 +1,5 @@
-use Rattle.std.proofs.Common.{◌+◌, ◌⊎◌, ◌↔◌, ◌∷◌, [], take, sym, subst, inl, inr, ⊎_elim, arith, take_all}
-use Rattle.lx_encode.specs.Runs.{AreSorted, LeadsTo}
+use Rattle.std.proofs.Common.{◌↔◌, ◌∷◌, [], take, sym, subst, inl, inr, ⊎_elim}
+use Rattle.lx_encode.specs.Runs.{LeadsTo}
 use Rattle.lx_encode.proofs.RunLists.{LeadsTo-append, run_at, sorted_at, before_at, taken_at}
 use Rattle.lx_encode.proofs.layers.parts_of.Goals as goal
 

@@ -1,4 +1,4 @@
-use Rattle.std.proofs.Common.{ℕ, ◌<◌, ◌↔◌, take, drop}
+use Rattle.std.proofs.Common.{ℕ, ◌↔◌, take}
 use Rattle.lx_encode.specs.Runs.{AreSorted, LeadsTo}
 use Rattle.lx_encode.specs.Layers.{AreParts}
 use Rattle.lx_encode.proofs.layers.parts_of.Given as goal

@@ -1,6 +1,5 @@
-use Rattle.std.proofs.Common.{◌≡◌, ℕ, ◌+◌, ◌<◌, ◌⊎◌, ◌↔◌, List, [], ◌∷◌, ◌++◌, sym, ◌∙◌, ap, subst, arith}
+use Rattle.std.proofs.Common.{◌≡◌, ◌<◌, ◌⊎◌, ◌↔◌, [], ◌∷◌, ◌++◌, sym, ◌∙◌, ap, subst, arith}
 use Rattle.std.proofs.lemmas.List.{nil_from_length}
-use Rattle.lx_encode.specs.declared.runs.Run.{Run}
 use Rattle.lx_encode.specs.Runs.{LeadsTo, IsRow}
 use Rattle.lx_encode.proofs.RunLists.{LeadsTo-append}
 use Rattle.lx_encode.proofs.Rows.{IsRow-joined, IsRow-last, IsRow-push, LeadsTo-joined, leads_last, joined_run, StayApart}

@@ -1,9 +1,9 @@
-use Rattle.std.proofs.Common.{◌≡◌, ℕ, ◌+◌, ◌-◌, ◌<◌, ◌≤◌, ◌⊎◌, ◌↔◌, ◌∷◌, [], length, take, sym, subst, inl, inr, ⊎_elim, arith, take_all}
+use Rattle.std.proofs.Common.{ℕ, ◌+◌, ◌<◌, ◌⊎◌, ◌↔◌, take, sym, subst, ⊎_elim, arith, take_all}
 use Rattle.lx_class.proofs.Unions.{grows_right}
 use Rattle.lx_encode.proofs.Choices.{for_right, adds_none}
 use Rattle.lx_encode.specs.Runs.{IsRow, LeadsShifted, LeadsTo}
 use Rattle.lx_encode.proofs.RunLists.{run_at}
-use Rattle.lx_encode.proofs.Shifts.{shifted_none, shifted_here, shifted_before, shifted_run, LeadsShifted-take_more}
+use Rattle.lx_encode.proofs.Shifts.{shifted_none, shifted_here, shifted_before, LeadsShifted-take_more}
 use Rattle.lx_encode.proofs.runs.append_shifted.Goals as goal
 use Rattle.lx_encode.proofs.runs.append_shifted.Goals.{then-lo-hi+in_ok-append_run, else-lo-hi}
 

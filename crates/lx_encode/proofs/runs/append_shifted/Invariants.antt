@@ -1,4 +1,4 @@
-use Rattle.std.proofs.Common.{◌≡◌, ℕ, ◌+◌, ◌<◌, ◌≤◌, ◌⊎◌, ◌↔◌, take, drop}
+use Rattle.std.proofs.Common.{ℕ, ◌⊎◌, ◌↔◌, take}
 use Rattle.lx_encode.specs.Runs.{IsRow, LeadsShifted, LeadsTo}
 use Rattle.lx_encode.proofs.runs.append_shifted.Given as goal
 

@@ -1,4 +1,4 @@
-use Rattle.std.proofs.Common.{◌≡◌, take, map}
+use Rattle.std.proofs.Common.{◌≡◌, take}
 use Rattle.lx_encode.proofs.PointRuns.{ended_runs}
 use Rattle.lx_encode.proofs.runs.point_runs.Given as goal
 

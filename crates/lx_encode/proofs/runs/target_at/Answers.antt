@@ -1,4 +1,4 @@
-use Rattle.std.proofs.Common.{ℕ, ◌+◌, ◌-◌, ◌/◌, ◌<◌, ◌≡◌, length, take, drop, sym, subst, ⊎_elim, arith}
+use Rattle.std.proofs.Common.{◌+◌, ◌-◌, ◌/◌, ◌<◌, ◌≡◌, length, drop, sym, subst, ⊎_elim, arith}
 use Rattle.lx_encode.specs.Runs.{LeadsTo}
 use Rattle.lx_encode.proofs.RunLists.{from_here, not_through, found_at, LeadsTo-split}
 use Rattle.lx_encode.proofs.Targets.{target_found, target_none}

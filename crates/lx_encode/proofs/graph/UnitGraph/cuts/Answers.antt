@@ -1,6 +1,6 @@
 use Rattle.std.proofs.Common.{ℕ, ◌+◌, ◌<◌, length, sym, ◌∙◌, ap, subst}
 use Rattle.std.specs.Prelude.{slice_index}
-use Rattle.lx_encode.specs.Runs.{cuts_of, target_of}
+use Rattle.lx_encode.specs.Runs.{target_of}
 use Rattle.lx_encode.specs.Table.{row_of}
 use Rattle.lx_encode.specs.Graph.{Separates}
 use Rattle.lx_encode.proofs.RunLists.{IsRow-sorted}

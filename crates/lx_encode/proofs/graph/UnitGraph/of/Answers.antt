@@ -1,4 +1,4 @@
-use Rattle.std.proofs.Common.{sym, ◌∙◌, subst}
+use Rattle.std.proofs.Common.{sym, subst}
 use Rattle.lx_encode.specs.Starts.{AreEnded}
 use Rattle.lx_encode.proofs.Residuals.{live, same_residual}
 use Rattle.lx_encode.proofs.graph.UnitGraph.of.Goals as goal
