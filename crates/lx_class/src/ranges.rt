@@ -6,7 +6,7 @@ ghost use Rattle.lx_class.specs.Bounds.{BeginBy, EndBefore};
 use lx_base::Memory;
 use std::alloc::Global;
 
-/// The greatest code point (The Unicode Standard, section 3.4, D9).
+/// The greatest code point (The Unicode Standard, section 3.4).
 pub const MAX_POINT: u32 = 0x10_FFFF;
 
 /// The code points from `lo` to `hi`, both among them. In a set `lo` is at most `hi`.

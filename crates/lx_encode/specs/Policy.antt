@@ -9,7 +9,7 @@ use Rattle.lx_class.specs.declared.ranges.Range.{Range}
 use Rattle.lx_encode.specs.declared.policies.PointStop.{PointStop}
 use Rattle.lx_encode.specs.declared.policies.PointStop.TheVariants.{Memory, TooLarge, Surrogate}
 
--- a point kept back for UTF-16 (The Unicode Standard, section 3.8, D71 to D75)
+-- a point kept back for UTF-16 (The Unicode Standard, section 3.8)
 abbrev pub IsSurrogate : ℕ → Type 0
 IsSurrogate point = (0xD800 ≤ point) × (point ≤ 0xDFFF)
 

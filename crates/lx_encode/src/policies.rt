@@ -9,7 +9,7 @@ use lx_class::{ClassSet, Range};
 use std::alloc::Global;
 use thiserror::Error;
 
-/// The first and the last surrogate (The Unicode Standard, section 3.8, D71 to D75).
+/// The first and the last surrogate (The Unicode Standard, section 3.8).
 const FIRST_SURROGATE: u32 = 0xD800;
 
 const LAST_SURROGATE: u32 = 0xDFFF;
