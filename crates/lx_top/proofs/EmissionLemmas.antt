@@ -1,5 +1,5 @@
 -- What holds of the blocks that were emitted stays so while further ones are.
-use Rattle.std.proofs.Common.{Bool, true, false, eqb-true, eq-eqb, ◌≡◌, ℕ, zero, suc, ◌+◌, ◌<◌, ◌≤◌, List, [], ◌∷◌, ◌++◌, length, Option, Some, None, refl, sym, ap, subst, ◌∙◌, arith, length-append, append_assoc}
+use Rattle.std.proofs.Common.{Bool, true, false, eqb-true, eq-eqb, ◌≡◌, ℕ, zero, suc, ◌+◌, ◌<◌, ◌≤◌, List, [], ◌∷◌, ◌++◌, length, Option, Some, None, refl, sym, ap, subst, ◌∙◌, arith, length-append, length-set, append_assoc}
 use Rattle.std.proofs.lemmas.Bool.{ne_eqb, false≢true}
 use Rattle.std.proofs.lemmas.List.{append-nil}
 use Rattle.std.specs.Prelude.{slice_get, slice_set, ◌==◌, if◌then◌else◌}
@@ -108,11 +108,6 @@ get-set_other (x ∷ xs) zero (suc other) new ne = refl
 get-set_other (x ∷ xs) (suc place) zero new ne = refl
 get-set_other (x ∷ xs) (suc place) (suc other) new ne = get-set_other xs place other new (λ e. ne (ap suc e))
 
-length-slice_set : {A : Type 0} (xs : List A) (place : ℕ) (new : A) → length (slice_set xs place new) ≡ length xs
-length-slice_set [] place new = refl
-length-slice_set (x ∷ xs) zero new = refl
-length-slice_set (x ∷ xs) (suc place) new = ap suc (length-slice_set xs place new)
-
 abbrev flag : Bool → ℕ
 flag test = if test then 1 else 0
 
@@ -145,7 +140,7 @@ pub IsEmission-action : (actions : List (List ℕ)) (blocks : List CodeBlock) (t
     IsEmission actions (blocks ++ record { cond = None; stmts = Code (suc place) None action ∷ [] } ∷ []) (slice_set table place (Some (length blocks)))
 IsEmission-action actions blocks table place action is free at = record {
   good = good-append actions blocks block is.good (IsGoodBlock-action actions (length blocks) place action at);
-  rules = length-slice_set table place (Some (length blocks)) ∙ is.rules;
+  rules = length-set table place (Some (length blocks)) ∙ is.rules;
   placed = λ other number given. by other number (place == other) refl given;
   once = λ number. omega (arith, counts-append number blocks block, emitted-set table place (length blocks) number action free, is.once number);
 }

@@ -1,5 +1,5 @@
 -- The emission of the start: the first block, which waits for its code until the blocks of all words are there.
-use Rattle.std.proofs.Common.{◌≡◌, ℕ, zero, suc, ◌+◌, ◌-◌, ◌*◌, ◌<◌, ◌≤◌, Bool, true, false, List, [], ◌∷◌, ◌++◌, length, Option, Some, None, refl, sym, ap, subst, ◌∙◌, arith}
+use Rattle.std.proofs.Common.{◌≡◌, ℕ, zero, suc, ◌+◌, ◌-◌, ◌*◌, ◌<◌, ◌≤◌, Bool, true, false, List, [], ◌∷◌, ◌++◌, length, length-set, Option, Some, None, refl, sym, ap, subst, ◌∙◌, arith}
 use Rattle.std.specs.Prelude.{is_some, slice_get, slice_set}
 use Rattle.std.specs.List.{AllByRecursion}
 use Rattle.lx_ccode.specs.declared.piece.Stmt.{Stmt}
@@ -114,10 +114,6 @@ IsEmission-set actions (first ∷ blocks) table block waits is good plain = reco
   once = λ number. omega (arith, is.once number, plain number, action_count-append number first.stmts (all_statements blocks), action_count-append number block.stmts (all_statements blocks));
 }
 
-length-set : (blocks : List CodeBlock) (block : CodeBlock) → length (slice_set blocks 0 block) ≡ length blocks
-length-set [] block = refl
-length-set (first ∷ blocks) block = refl
-
 code_in-set : (blocks : List CodeBlock) (block : CodeBlock) → code_in blocks 0 ≡ Some (Leave ∷ []) → code_in (slice_set blocks 0 block) 0 ≡ Some block.stmts
 code_in-set [] block waits = absurd (let h = waits in cc)
 code_in-set (first ∷ blocks) block waits = refl
@@ -127,7 +123,7 @@ pub TestsStart-whole : (before emitter : Emitter) (after : List CodeBlock) (dept
     IsEmission emitter.actions.now after emitter.action_blocks.items × ServesStart depth after items default × (length after ≡ length emitter.blocks.items)
 TestsStart-whole before emitter after depth rules items default miss code more bound are e set_is waits so =
     subst (λ after. IsEmission emitter.actions.now after emitter.action_blocks.items × ServesStart depth after items default × (length after ≡ length emitter.blocks.items)) (sym set_is)
-    (IsEmission-set emitter.actions.now emitter.blocks.items emitter.action_blocks.items block free so.emits.emitting good plain, serves, length-set emitter.blocks.items block)
+    (IsEmission-set emitter.actions.now emitter.blocks.items emitter.action_blocks.items block free so.emits.emitting good plain, serves, length-set emitter.blocks.items 0 block)
   where
     block : CodeBlock
     block = record { cond = None; stmts = more }

@@ -125,7 +125,14 @@ fn faults_of_files_and_sinks_have_their_status(rt: HostRuntime) -> Result<(), Fa
 const SCANNER_BEGIN: &str =
     "/*!begin:re2c 1*/\n/*!names:re2c 1 - 7:YYCTYPE 8:YYCURSOR 7:YYLIMIT 8:YYMARKER 11:YYCTXMARKER 6:YYFILL 10:YYGETSTATE 10:YYSETSTATE 14:YYGETCONDITION 14:YYSETCONDITION 7:YYMTAGP 7:YYMTAGN 4:yych 8:yyaccept 3:yyt 4:yyc_ 3:yyc*/\n{\n\tYYCTYPE yych;\n\tunsigned int yyaccept = 0;\nyy1_0:\n";
 
-const SCANNER_END: &str = "yy1_none:;\n}\n/*!end:re2c*/";
+const SCANNER_END: &str = "yy1_none:;\n}\n/*!end:re2c*/\n";
+
+const IF_AND_IFX: &str = "/*!re2c\nre2c:yyfill:enable = 0;\n\"if\" { }\n\"ifx\" { }\n* { }\n*/\n";
+
+/// The rule `*` alone, between other texts.
+const IN_THE_MIDDLE: &str = "int x; /*!re2c\nre2c:yyfill:enable = 0;\n* { }\n*/ int y;";
+
+const EQUAL_STRINGS: &str = "/*!re2c\nre2c:yyfill:enable = 0;\n\"a\" {1}\n\"a\" {2}\n* {3}\n*/\n";
 
 /// How many times the word stands in the text.
 fn count(text: &[u8], word: &[u8]) -> usize {
@@ -142,58 +149,23 @@ fn count(text: &[u8], word: &[u8]) -> usize {
 
 #[test]
 fn a_block_of_quoted_strings_gives_its_scanner(rt: HostRuntime) -> Result<(), Fail> {
-    for (before, rules, after, actions) in [
-        (
-            "",
-            "\"if\" { }\n\"ifx\" { }\n",
-            "\n",
-            ["1 3*/{ }", "2 3*/{ }", "3 3*/{ }"],
-        ),
-        (
-            "int x;\n",
-            "\"a\" {1}\n\"ab\" {2}\n",
-            " int y;",
-            ["1 3*/{1}", "2 3*/{2}", "3 3*/{ }"],
-        ),
-        ("", "", "", ["1 3*/{ }", "1 3*/{ }", "1 3*/{ }"]),
+    for (source, text, times) in [
+        (IF_AND_IFX, SCANNER_BEGIN, 1),
+        (IF_AND_IFX, SCANNER_END, 1),
+        (IF_AND_IFX, "/*!code:re2c 1 3*/{ }", 1),
+        (IF_AND_IFX, "/*!code:re2c 2 3*/{ }", 1),
+        (IF_AND_IFX, "/*!code:re2c 3 3*/{ }", 1),
+        (IN_THE_MIDDLE, "int x; /*!begin:re2c 1*/", 1),
+        (IN_THE_MIDDLE, "/*!end:re2c*/ int y;", 1),
+        (IN_THE_MIDDLE, "/*!code:re2c 1 3*/{ }", 1),
+        (EQUAL_STRINGS, "{1}", 1),
+        (EQUAL_STRINGS, "{2}", 0),
+        (EQUAL_STRINGS, "{3}", 1),
     ] {
-        let mut source = String::new(rt.alloc());
-        for part in [
-            before,
-            "/*!re2c\nre2c:yyfill:enable = 0;\n",
-            rules,
-            "* { }\n*/",
-            after,
-        ] {
-            source.push_str(part)?;
-        }
         let left = run(rt.alloc(), "-i q.re", "q.re", source.as_bytes(), NONE)?;
-        assert_eq!(rt; left.status, 0, "{rules}");
+        assert_eq!(rt; left.status, 0, "{source}");
         assert_eq!(rt; left.err.bytes(), b"".as_slice());
-        for part in [before, SCANNER_BEGIN, SCANNER_END, after] {
-            assert!(rt;
-                part.is_empty() || count(left.out.bytes(), part.as_bytes()) > 0,
-                "{part}"
-            );
-        }
-        for action in actions {
-            assert_eq!(rt; count(left.out.bytes(), action.as_bytes()), 1, "{action}");
-        }
-    }
-    Ok(())
-}
-
-#[test]
-fn the_first_of_equal_strings_is_entered(rt: HostRuntime) -> Result<(), Fail> {
-    let source = b"/*!re2c\nre2c:yyfill:enable = 0;\n\"a\" {1}\n\"a\" {2}\n* {3}\n*/\n";
-    let left = run(rt.alloc(), "-i q.re", "q.re", source, NONE)?;
-    assert_eq!(rt; left.status, 0);
-    for (action, times) in [("{1}", 1), ("{2}", 0), ("{3}", 1)] {
-        assert_eq!(rt;
-            count(left.out.bytes(), action.as_bytes()),
-            times,
-            "{action}"
-        );
+        assert_eq!(rt; count(left.out.bytes(), text.as_bytes()), times, "{text}");
     }
     Ok(())
 }
