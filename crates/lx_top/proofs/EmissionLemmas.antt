@@ -5,7 +5,7 @@ use Rattle.std.proofs.lemmas.List.{append-nil}
 use Rattle.std.specs.Prelude.{slice_get, slice_set, ◌==◌, if◌then◌else◌}
 use Rattle.std.specs.List.{AllByRecursion}
 use Rattle.lx_ccode.specs.declared.piece.Stmt.{Stmt}
-use Rattle.lx_ccode.specs.declared.piece.Stmt.TheVariants.{Peek, Skip, Backup, Restore, IfUnit, Goto, Leave, Code}
+use Rattle.lx_ccode.specs.declared.piece.Stmt.TheVariants.{IfUnit, Goto, Leave, Code}
 use Rattle.lx_ccode.specs.declared.piece.CodeBlock.{CodeBlock}
 use Rattle.lx_ccode.specs.Statements.{all_statements}
 use Rattle.lx_top.specs.Emission.{is_emitted, IsGoodStatement, IsGoodBlock, IsEmission, Keeps, emitted}

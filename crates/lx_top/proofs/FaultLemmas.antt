@@ -1,7 +1,6 @@
 -- The faults of sources.
-use Rattle.std.proofs.Common.{◌≡◌, ℕ, Bool, true, false, List, Option, Some, None, refl, ap}
+use Rattle.std.proofs.Common.{◌≡◌, Bool, true, false, Option, Some, None, refl, ap}
 use Rattle.std.specs.Prelude.{if◌then◌else◌}
-use Rattle.lx_base.specs.declared.faults.Fault.{Fault}
 use Rattle.lx_top.specs.FirstFault.{read_fault, source_fault}
 use Rattle.lx_top.specs.Quoted.{IsQuoted, QuotedSource, source_text}
 use Rattle.lx_top.specs.Reading.{quoted_of}

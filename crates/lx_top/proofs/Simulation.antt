@@ -1,12 +1,12 @@
 -- Blocks that serve the scan of quoted strings run as it finds.
 use Rattle.std.proofs.Common.{true≢false, lt-ltb, length-drop, ◌≡◌, ℕ, zero, suc, ◌+◌, ◌-◌, ◌*◌, ◌<◌, ◌≤◌, Bool, true, false, List, [], ◌∷◌, length, drop, Option, Some, None, refl, sym, ap, subst, ◌∙◌, arith}
 use Rattle.std.specs.Prelude.{nat_le, nat_lt, ◌==◌, slice_get, if◌then◌else◌}
-use Rattle.std.proofs.lemmas.Bool.{lt-leb, leb-false, leb-true}
+use Rattle.std.proofs.lemmas.Bool.{lt-leb}
 use Rattle.lx_ccode.specs.declared.piece.Stmt.{Stmt}
 use Rattle.lx_ccode.specs.declared.piece.Stmt.TheVariants.{Peek, Skip, Backup, Restore, IfUnit, Goto, Code}
 use Rattle.lx_ccode.specs.declared.piece.CodeBlock.{CodeBlock}
 use Rattle.lx_ccode.specs.declared.piece.Piece.{Piece}
-use Rattle.lx_ccode.specs.Machine.{Machine, Answer, Outcome, by_rule, Next, goes_on, ends, code_at, step, if_unit, choose, jump, peek, unit_at, skip}
+use Rattle.lx_ccode.specs.Machine.{Machine, Answer, Outcome, by_rule, goes_on, ends, code_at, step, if_unit, choose, jump, peek, unit_at, skip}
 use Rattle.lx_ccode.specs.Runs.{Ended, ended, loop_count, fresh_machine, entry_block, run_of, IsRun, last_step, next_step}
 use Rattle.lx_ccode.specs.Schedules.{Schedule}
 use Rattle.lx_ccode.proofs.RunSteps.{IsRun-run_of, IsRun-unique}

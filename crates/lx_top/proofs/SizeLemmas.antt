@@ -1,5 +1,5 @@
 -- How large the parts of a source of quoted strings are.
-use Rattle.std.proofs.Common.{◌≡◌, ℕ, zero, suc, ◌+◌, ◌*◌, ◌<◌, ◌≤◌, Bool, true, false, List, [], ◌∷◌, ◌++◌, length, map, Option, Some, None, refl, sym, ap, subst, ◌∙◌, arith, length-append}
+use Rattle.std.proofs.Common.{◌≡◌, ℕ, suc, ◌+◌, ◌<◌, ◌≤◌, Bool, true, false, List, [], ◌∷◌, ◌++◌, length, None, refl, sym, ap, subst, ◌∙◌, arith, length-append}
 use Rattle.std.specs.Prelude.{codes, nat_le, ◌==◌, ◌||◌, if◌then◌else◌}
 use Rattle.std.specs.List.{AllByRecursion}
 use Rattle.std.proofs.lemmas.Bool.{false≢true, leb-true}
@@ -11,7 +11,7 @@ use Rattle.lx_ccode.specs.declared.piece.Piece.{Piece}
 use Rattle.lx_ccode.specs.Examples.{usual_names}
 use Rattle.lx_top.specs.Emission.{AreBytes, AreItems, IsEmission, IsStarted, letters}
 use Rattle.lx_top.specs.Pieces.{rule_actions, quoted_piece}
-use Rattle.lx_top.specs.Quoted.{QuotedRule, QuotedSource, IsQuoted, IsQuotedRule, AreQuotedRules, rule_line, rule_lines, block_text, source_text, is_in_string}
+use Rattle.lx_top.specs.Quoted.{QuotedRule, QuotedSource, IsQuoted, AreQuotedRules, rule_line, rule_lines, block_text, source_text, is_in_string}
 use Rattle.lx_top.specs.Scan as scan
 use Rattle.lx_top.specs.Scanner.{IsScannerOf}
 use Rattle.lx_top.specs.Serving.{ServesStart}

@@ -1,7 +1,6 @@
 -- The emission of the start: the first block, which waits for its code until the blocks of all words are there.
-use Rattle.std.proofs.Common.{◌≡◌, ℕ, zero, suc, ◌+◌, ◌-◌, ◌*◌, ◌<◌, ◌≤◌, Bool, true, false, List, [], ◌∷◌, ◌++◌, length, length-set, Option, Some, None, refl, sym, ap, subst, ◌∙◌, arith}
-use Rattle.std.specs.Prelude.{is_some, slice_get, slice_set}
-use Rattle.std.specs.List.{AllByRecursion}
+use Rattle.std.proofs.Common.{◌≡◌, ℕ, zero, suc, ◌+◌, ◌<◌, ◌≤◌, true, List, [], ◌∷◌, ◌++◌, length, length-set, Option, Some, None, refl, sym, ap, subst, ◌∙◌, arith}
+use Rattle.std.specs.Prelude.{slice_get, slice_set}
 use Rattle.lx_ccode.specs.declared.piece.Stmt.{Stmt}
 use Rattle.lx_ccode.specs.declared.piece.Stmt.TheVariants.{Peek, Goto, Leave}
 use Rattle.lx_ccode.specs.declared.piece.CodeBlock.{CodeBlock}
@@ -10,8 +9,8 @@ use Rattle.lx_top.specs.declared.emit.Emitter.{Emitter}
 use Rattle.lx_top.specs.Pieces.{waiting}
 use Rattle.lx_top.specs.Scan.{Item, accepted, derived}
 use Rattle.lx_top.specs.Scanner.{action_count}
-use Rattle.lx_top.specs.Serving.{Test, code_in, tested, tests_code, rule_or, Serves, ServesStart}
-use Rattle.lx_top.specs.Emission.{AreItems, Emits, IsEmitting, IsEmission, Keeps, IsGoodBlock, IsGoodStatement, AreTests, LeadsIn, TestsStart, test_statements, unit_tests}
+use Rattle.lx_top.specs.Serving.{code_in, tested, tests_code, rule_or, Serves, ServesStart}
+use Rattle.lx_top.specs.Emission.{AreItems, Emits, IsEmission, Keeps, IsGoodBlock, AreTests, LeadsIn, TestsStart, test_statements, unit_tests}
 use Rattle.lx_top.proofs.EmissionLemmas.{IsActionBlock-keeps, action_count-append}
 use Rattle.lx_top.proofs.WordLemmas.{AreItems-derived, Serves-keeps}
 use Rattle.lx_top.proofs.TestLemmas.{MissesTo, AreTests-start, AreTests-skip, AreTests-keeps, AreTests-add, AreTests-all, tests_code-statements}

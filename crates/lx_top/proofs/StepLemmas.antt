@@ -1,10 +1,10 @@
 -- The emission of a word's block, step by step.
-use Rattle.std.proofs.Common.{◌≡◌, ℕ, zero, suc, ◌+◌, ◌-◌, ◌*◌, ◌<◌, ◌≤◌, Bool, true, false, List, [], ◌∷◌, ◌++◌, length, Option, Some, None, refl, sym, ap, subst, ◌∙◌, arith, append_assoc, length-append, true≢false}
+use Rattle.std.proofs.Common.{◌≡◌, ℕ, suc, ◌+◌, ◌-◌, ◌<◌, ◌≤◌, Bool, true, false, List, [], ◌∷◌, ◌++◌, length, Option, Some, None, refl, sym, ap, subst, ◌∙◌, arith, true≢false}
 use Rattle.std.specs.Prelude.{is_some, ◌==◌}
 use Rattle.std.proofs.lemmas.Bool.{ne_eqb}
 use Rattle.std.specs.List.{AllByRecursion}
 use Rattle.lx_ccode.specs.declared.piece.Stmt.{Stmt}
-use Rattle.lx_ccode.specs.declared.piece.Stmt.TheVariants.{Peek, Skip, Backup, IfUnit, Goto}
+use Rattle.lx_ccode.specs.declared.piece.Stmt.TheVariants.{Peek, Skip, Backup, Goto}
 use Rattle.lx_ccode.specs.declared.piece.CodeBlock.{CodeBlock}
 use Rattle.lx_ccode.specs.Validity.{ends_once}
 use Rattle.lx_top.specs.declared.emit.Item as code
@@ -12,9 +12,9 @@ use Rattle.lx_top.specs.declared.emit.Emitter.{Emitter}
 use Rattle.lx_top.specs.declared.emit.WordBegin.{WordBegin}
 use Rattle.lx_top.specs.Scan.{Item, accepted, derived, goes_on}
 use Rattle.lx_top.specs.Scanner.{action_count}
-use Rattle.lx_top.specs.Serving.{Test, backup, code_in, tested, tests_code, rule_or, IsFallback, ServesNext, ServesBy, Serves, ReadsOn}
-use Rattle.lx_top.specs.Emission.{items_of, AreItems, AcceptsNext, Begins, Emits, IsEmitting, Keeps, IsGoodStatement, IsGoodBlock, IsPlainBlock, AreTests, LeadsOn, LeadsIn, TestsWord, TestsStart, test_statements, unit_tests}
-use Rattle.lx_top.proofs.EmissionLemmas.{AllByRecursion-append, Keeps-trans}
+use Rattle.lx_top.specs.Serving.{Test, backup, code_in, tests_code, rule_or, IsFallback, ServesNext, ServesBy, Serves, ReadsOn}
+use Rattle.lx_top.specs.Emission.{items_of, AreItems, AcceptsNext, Begins, Emits, IsEmitting, IsGoodStatement, IsPlainBlock, AreTests, LeadsOn, TestsWord, test_statements, unit_tests}
+use Rattle.lx_top.proofs.EmissionLemmas.{Keeps-trans}
 use Rattle.lx_top.proofs.WordLemmas.{AreItems-derived, accepted-known, accepted-none, ServesNext-keeps, Serves-keeps, Begins-keeps}
 use Rattle.lx_top.proofs.TestLemmas.{MissesTo, AreTests-start, AreTests-skip, AreTests-keeps, AreTests-add, AreTests-all, tests_code-statements}
 

@@ -1,17 +1,17 @@
 -- The tests of the units behind a word.
-use Rattle.std.proofs.Common.{◌≡◌, ℕ, zero, suc, ◌+◌, ◌-◌, ◌*◌, ◌<◌, ◌≤◌, Bool, true, false, List, [], ◌∷◌, ◌++◌, length, Option, Some, None, refl, sym, ap, subst, ◌∙◌, arith, append_assoc, length-append, lt-ltb, le-leb, eq-or-lt_of_le, inl, inr}
+use Rattle.std.proofs.Common.{◌≡◌, ℕ, suc, ◌-◌, ◌*◌, ◌<◌, ◌≤◌, Bool, true, false, List, [], ◌∷◌, ◌++◌, length, refl, sym, ap, subst, ◌∙◌, arith, append_assoc, length-append, le-leb, eq-or-lt_of_le, inl, inr}
 use Rattle.std.specs.Prelude.{nat_lt, nat_le, if◌then◌else◌, ◌⊎◌}
 use Rattle.std.specs.List.{AllByRecursion}
 use Rattle.std.proofs.lemmas.List.{append-nil}
 use Rattle.std.proofs.lemmas.Bool.{lt-leb, ltb-false, ltb-true, leb-true, leb-false}
 use Rattle.lx_ccode.specs.declared.piece.Stmt.{Stmt}
-use Rattle.lx_ccode.specs.declared.piece.Stmt.TheVariants.{Peek, Skip, Backup, IfUnit, Goto}
+use Rattle.lx_ccode.specs.declared.piece.Stmt.TheVariants.{IfUnit, Goto}
 use Rattle.lx_ccode.specs.declared.piece.CodeBlock.{CodeBlock}
-use Rattle.lx_top.specs.Scan.{Item, accepted, derived}
-use Rattle.lx_top.specs.Serving.{Test, tested, tests_code, backup, ServesNext, Serves}
-use Rattle.lx_top.specs.Emission.{AreItems, Keeps, IsGoodStatement, AreTests, test_statements, unit_tests}
+use Rattle.lx_top.specs.Scan.{Item, derived}
+use Rattle.lx_top.specs.Serving.{Test, tested, tests_code}
+use Rattle.lx_top.specs.Emission.{AreItems, IsGoodStatement, AreTests, test_statements, unit_tests}
 use Rattle.lx_top.proofs.EmissionLemmas.{AllByRecursion-map, AllByRecursion-append, IsGoodStatement-more}
-use Rattle.lx_top.proofs.WordLemmas.{derived-high, ServesNext-keeps, Serves-keeps}
+use Rattle.lx_top.proofs.WordLemmas.{derived-high}
 
 lt_or_le : (a b : ℕ) → (a < b) ⊎ (b ≤ a)
 lt_or_le a b = by (nat_lt a b) refl

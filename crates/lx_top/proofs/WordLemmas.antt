@@ -1,16 +1,14 @@
 -- The blocks of words, and the tests of the units behind them.
-use Rattle.std.proofs.Common.{◌≡◌, ℕ, zero, suc, ◌+◌, ◌-◌, ◌*◌, ◌<◌, ◌≤◌, Bool, true, false, List, [], ◌∷◌, ◌++◌, length, Option, Some, None, refl, sym, ap, subst, ◌∙◌, arith, append_assoc, length-append, lt-ltb, eqb-true}
-use Rattle.std.specs.Prelude.{nat_lt, nat_le, ◌==◌, if◌then◌else◌, ◌⊎◌}
-use Rattle.std.specs.List.{AllByRecursion}
-use Rattle.std.proofs.lemmas.Bool.{false≢true, ne_eqb, lt-leb, le-leb}
-use Rattle.lx_ccode.specs.declared.piece.Stmt.{Stmt}
-use Rattle.lx_ccode.specs.declared.piece.Stmt.TheVariants.{Peek, Skip, Backup, Restore, IfUnit, Goto, Leave, Code}
+use Rattle.std.proofs.Common.{◌≡◌, ℕ, zero, suc, ◌<◌, ◌≤◌, Bool, true, false, List, [], ◌∷◌, length, Option, Some, None, refl, ap, ◌∙◌, arith}
+use Rattle.std.specs.Prelude.{◌==◌, if◌then◌else◌}
+use Rattle.std.proofs.lemmas.Bool.{ne_eqb}
+use Rattle.lx_ccode.specs.declared.piece.Stmt.TheVariants.{Peek, Skip, Restore, Goto}
 use Rattle.lx_ccode.specs.declared.piece.CodeBlock.{CodeBlock}
 use Rattle.lx_top.specs.declared.emit.WordBegin.{WordBegin}
 use Rattle.lx_top.specs.Scan.{Item, accepted, derived, goes_on}
-use Rattle.lx_top.specs.Serving.{Test, tested, tests_code, code_in, backup, IsActionBlock, IsFallback, Falls, ServesNext, ReadsOn, Stops, ServesBy, Serves}
-use Rattle.lx_top.specs.Emission.{AreBytes, AreItems, Keeps, IsGoodStatement, AreTests, Begins, test_statements, unit_tests}
-use Rattle.lx_top.proofs.EmissionLemmas.{IsActionBlock-keeps, AllByRecursion-map, AllByRecursion-append, IsGoodStatement-more}
+use Rattle.lx_top.specs.Serving.{tested, tests_code, backup, IsFallback, Falls, ServesNext, ServesBy, Serves}
+use Rattle.lx_top.specs.Emission.{AreBytes, AreItems, Keeps, Begins}
+use Rattle.lx_top.proofs.EmissionLemmas.{IsActionBlock-keeps}
 
 -- ---- items
 

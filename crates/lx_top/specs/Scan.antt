@@ -1,5 +1,5 @@
 -- The match of quoted strings and `*`, string by string.
-use Rattle.std.specs.Prelude.{ℕ, zero, suc, Bool, true, false, List, [], ◌∷◌, Option, Some, None, ◌==◌, if◌then◌else◌}
+use Rattle.std.specs.Prelude.{ℕ, suc, Bool, true, false, List, [], ◌∷◌, Option, Some, None, ◌==◌, if◌then◌else◌}
 use Rattle.lx_top.specs.Quoted.{QuotedRule}
 
 -- a rule whose string goes on with the rest

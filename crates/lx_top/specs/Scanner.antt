@@ -1,8 +1,7 @@
 -- What the piece of a block of quoted strings is.
-use Rattle.std.specs.Prelude.{◌≡◌, ℕ, zero, suc, ◌+◌, ◌≤◌, Bool, true, false, List, [], ◌∷◌, ◌++◌, length, map, Option, Some, None, ◌==◌, if◌then◌else◌}
+use Rattle.std.specs.Prelude.{◌≡◌, ℕ, zero, suc, ◌+◌, ◌≤◌, true, false, List, [], ◌∷◌, length, None, ◌==◌, if◌then◌else◌}
 use Rattle.std.specs.List.{AllByRecursion, list_any}
 use Rattle.lx_base.specs.declared.settings.Enc.TheVariants.{Byte}
-use Rattle.lx_base.specs.Text.{joined}
 use Rattle.lx_regex.specs.Term.{Term, class, any_unit, cat, Terms, nil, cons}
 use Rattle.lx_regex.specs.declared.rules.Kind.TheVariants as kind
 use Rattle.lx_regex.specs.Pattern.{Pattern, terms_of}
@@ -17,9 +16,8 @@ use Rattle.lx_ccode.specs.Machine.{by_rule, no_rule}
 use Rattle.lx_ccode.specs.Runs.{Ended, run_of}
 use Rattle.lx_ccode.specs.Schedules.{Schedule, IsLegal}
 use Rattle.lx_ccode.specs.Statements.{all_statements, is_refill, is_state}
-use Rattle.lx_ccode.specs.Text.{piece_text}
 use Rattle.lx_ccode.specs.Validity.{IsValid}
-use Rattle.lx_top.specs.Quoted.{QuotedRule, QuotedSource}
+use Rattle.lx_top.specs.Quoted.{QuotedRule}
 
 -- the class of one code point
 abbrev pub letter_term : ℕ → Term

@@ -1,4 +1,4 @@
-use Rattle.std.proofs.Common.{◌≡◌, Some, sym, ap, ◌∙◌}
+use Rattle.std.proofs.Common.{Some, sym, ap, ◌∙◌}
 use Rattle.lx_files.specs.Held.{bytes_of}
 use Rattle.lx_top.proofs.CompileLemmas.{ended_file}
 use Rattle.lx_top.proofs.compile.compile_file.Goals as goal

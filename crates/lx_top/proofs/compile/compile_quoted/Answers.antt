@@ -1,9 +1,7 @@
-use Rattle.std.proofs.Common.{◌≡◌, List, Some, None, MatchOption, Option, refl, sym, ap, subst, inr, ◌∙◌}
+use Rattle.std.proofs.Common.{◌≡◌, None, sym, ap, subst, inr, ◌∙◌}
 use Rattle.std.specs.Prelude.{if◌then◌else◌}
-use Rattle.std.specs.Option.{option_map}
 use Rattle.lx_top.specs.FirstFault.{read_fault, source_fault}
 use Rattle.lx_top.specs.Output.{IsOutput, IsOutputOfQuoted}
-use Rattle.lx_top.specs.Quoted.{IsQuoted, QuotedSource, source_text}
 use Rattle.lx_top.specs.Reading.{quoted_of, quoted_source}
 use Rattle.lx_top.proofs.CompileLemmas.{ended_right, read_quoted_is}
 use Rattle.lx_top.proofs.compile.compile_quoted.Goals as goal

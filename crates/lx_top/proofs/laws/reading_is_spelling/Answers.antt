@@ -1,8 +1,3 @@
-use Rattle.std.proofs.Common.{◌≡◌, List, Some, None, true, false, refl, sym, ap, ◌∙◌}
-use Rattle.std.specs.Prelude.{if◌then◌else◌}
-use Rattle.lx_top.specs.FirstFault.{read_fault}
-use Rattle.lx_top.specs.Quoted.{source_text}
-use Rattle.lx_top.specs.Reading.{quoted_of}
 use Rattle.lx_top.proofs.FaultLemmas.{source_fault-quoted}
 use Rattle.lx_top.proofs.ReadingLemmas.{quoted_of-source_text, quoted_of-some}
 use Rattle.lx_top.proofs.laws.reading_is_spelling.Goals as goal

@@ -1,4 +1,4 @@
-use Rattle.std.proofs.Common.{arith, ◌≡◌, ℕ, suc, ◌+◌, List, [], ◌∷◌, ◌++◌, None, refl, sym, ap, ◌∙◌}
+use Rattle.std.proofs.Common.{arith, ◌≡◌, suc, ◌+◌, [], ◌∷◌, ◌++◌, None, ap, ◌∙◌}
 use Rattle.lx_top.specs.Pieces.{waiting}
 use Rattle.lx_top.proofs.StartLemmas.{waiting-suc}
 use Rattle.lx_top.proofs.scanner.no_blocks.Goals as goal

@@ -1,10 +1,9 @@
-use Rattle.std.proofs.Common.{arith, ◌≡◌, ℕ, suc, ◌≤◌, List, map, length, None, refl, sym, ap, subst, ◌∙◌}
+use Rattle.std.proofs.Common.{arith, map, length, ap, ◌∙◌}
 use Rattle.std.proofs.lemmas.List.{length-map}
 use Rattle.lx_top.specs.Emission.{items_of}
 use Rattle.lx_top.specs.Pieces.{rule_actions}
 use Rattle.lx_top.specs.Reading.{quoted_rule, quoted_source}
 use Rattle.lx_top.specs.Scan as scan
-use Rattle.lx_top.specs.Scanner.{IsScannerOf}
 use Rattle.lx_top.proofs.SizeLemmas.{length-rule_actions, quoted_few, quoted_items, started_scanner, piece_is}
 use Rattle.lx_top.proofs.scanner.quoted_scanner.Goals as goal
 

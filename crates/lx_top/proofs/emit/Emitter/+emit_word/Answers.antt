@@ -1,11 +1,10 @@
-use Rattle.std.proofs.Common.{rules, arith, ◌≡◌, ℕ, suc, ◌<◌, ◌≤◌, List, [], ◌∷◌, ◌++◌, map, vec_len, IfOk, OnOk, Some, None, false, true, length, refl, sym, ap, subst, ◌∙◌, ◌+◌, ◌-◌, ◌*◌, true≢false, eq-eqb}
+use Rattle.std.proofs.Common.{rules, arith, ◌≡◌, suc, ◌≤◌, vec_len, length, sym, ap, subst, ◌∙◌, ◌+◌, ◌-◌, ◌*◌}
 use Rattle.std.specs.Prelude.{is_some, ◌==◌}
-use Rattle.lx_ccode.specs.declared.piece.Stmt.TheVariants.{Peek, Skip, Restore, Goto, Code}
 use Rattle.lx_top.specs.declared.emit.Emitter.{Emitter}
 use Rattle.lx_top.proofs.LetterLemmas.{few_child, few_skip, letters_below-most}
-use Rattle.lx_top.specs.Emission.{items_of, letters, letters_below, test_statements, unit_tests, AcceptsNext, AreItems, Begins, Emits, IsEmitting, IsPlainBlock, TestsWord}
-use Rattle.lx_top.specs.Scan.{accepted, derived, goes_on}
-use Rattle.lx_top.specs.Serving.{IsActionBlock, IsFallback, Serves, backup, code_in, rule_or}
+use Rattle.lx_top.specs.Emission.{items_of, letters_below, AreItems, TestsWord}
+use Rattle.lx_top.specs.Scan.{accepted}
+use Rattle.lx_top.specs.Serving.{Serves, rule_or}
 use Rattle.lx_top.proofs.StepLemmas.{TestsWord-start, TestsWord-skip, TestsWord-child, TestsWord-is, TestsWord-plain, TestsWord-serves, asks_child, some_items, no_items}
 use Rattle.lx_top.proofs.emit.Emitter.+emit_word.Goals as goal
 use Rattle.lx_top.proofs.emit.Emitter.+emit_word.Goals.{then-not-is_empty+in_ok-number+in_ok-push_tests, else-not-is_empty}

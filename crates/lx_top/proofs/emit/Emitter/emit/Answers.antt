@@ -1,4 +1,4 @@
-use Rattle.std.proofs.Common.{arith, List, [], ◌∷◌, None, refl, sym, ap, subst, ◌∙◌}
+use Rattle.std.proofs.Common.{arith, None, refl, ap, ◌∙◌}
 use Rattle.lx_ccode.specs.declared.piece.CodeBlock.{CodeBlock}
 use Rattle.lx_top.specs.Serving.{code_in}
 use Rattle.lx_top.proofs.EmissionLemmas.{emits_plain, waits_append}

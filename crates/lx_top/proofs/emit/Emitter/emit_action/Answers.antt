@@ -1,9 +1,9 @@
-use Rattle.std.proofs.Common.{arith, ◌≡◌, ℕ, suc, List, [], ◌∷◌, ◌++◌, length, None, Some, refl, sym, ap, subst, ◌∙◌}
+use Rattle.std.proofs.Common.{arith, ◌≡◌, suc, List, [], ◌∷◌, ◌++◌, length, None, Some, refl, sym, ap, subst, ◌∙◌}
 use Rattle.std.specs.Prelude.{slice_set}
 use Rattle.lx_ccode.specs.declared.piece.Stmt.TheVariants.{Code}
 use Rattle.lx_ccode.specs.declared.piece.CodeBlock.{CodeBlock}
-use Rattle.lx_top.specs.Emission.{IsEmission, Keeps}
-use Rattle.lx_top.specs.Serving.{code_in, IsActionBlock}
+use Rattle.lx_top.specs.Emission.{IsEmission}
+use Rattle.lx_top.specs.Serving.{IsActionBlock}
 use Rattle.lx_top.proofs.EmissionLemmas.{emits_action, waits_append}
 use Rattle.lx_top.proofs.emit.Emitter.emit_action.Goals as goal
 

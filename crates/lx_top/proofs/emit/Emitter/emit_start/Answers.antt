@@ -1,11 +1,11 @@
-use Rattle.std.proofs.Common.{rules, arith, ◌≡◌, ℕ, suc, ◌<◌, ◌≤◌, List, [], ◌∷◌, ◌++◌, vec_len, Some, None, false, true, length, refl, sym, ap, subst, ◌∙◌, ◌+◌, ◌*◌}
+use Rattle.std.proofs.Common.{rules, arith, ◌≡◌, suc, ◌≤◌, vec_len, length, sym, ap, subst, ◌∙◌, ◌+◌, ◌*◌}
 use Rattle.std.specs.Prelude.{◌==◌}
 use Rattle.lx_top.specs.declared.emit.Emitter.{Emitter}
-use Rattle.lx_top.specs.Emission.{items_of, letters, letters_below, TestsStart}
-use Rattle.lx_top.specs.Scan.{accepted, derived}
+use Rattle.lx_top.specs.Emission.{items_of, letters_below, TestsStart}
+use Rattle.lx_top.specs.Scan.{accepted}
 use Rattle.lx_top.specs.Serving.{rule_or}
 use Rattle.lx_top.proofs.LetterLemmas.{few_child, few_skip, letters_below-most}
-use Rattle.lx_top.proofs.StartLemmas.{TestsStart-start, TestsStart-skip, TestsStart-child, TestsStart-is, TestsStart-whole, asks_first}
+use Rattle.lx_top.proofs.StartLemmas.{TestsStart-skip, TestsStart-child, TestsStart-is, TestsStart-whole, asks_first}
 use Rattle.lx_top.proofs.StepLemmas.{some_items, no_items}
 use Rattle.lx_top.proofs.emit.Emitter.emit_start.Goals as goal
 use Rattle.lx_top.proofs.emit.Emitter.emit_start.Goals.{then-not-is_empty+in_ok-number+in_ok-push_tests, else-not-is_empty}
