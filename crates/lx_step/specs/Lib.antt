@@ -1,0 +1,9 @@
+pub mod Assigned
+pub mod Given
+pub mod Held
+pub mod Nodes
+pub mod Sizes
+pub mod Steps
+pub mod Streams
+pub mod WholeRuns
+pub mod Widths
