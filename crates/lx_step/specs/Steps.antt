@@ -12,6 +12,7 @@ use Rattle.lx_step.specs.declared.scanner.Going.{Going}
 use Rattle.lx_step.specs.declared.scanner.Going.TheVariants as going
 use Rattle.lx_step.specs.declared.scanner.Scanner.{Scanner}
 use Rattle.lx_step.specs.declared.sizes.Sizes.{Sizes}
+use Rattle.lx_step.specs.Assigned.{target}
 use Rattle.lx_step.specs.Given.{Given, after_value}
 use Rattle.lx_step.specs.WholeRuns.{whole_step}
 
@@ -54,6 +55,18 @@ next_of blocks rest going.Next machine = goes_on rest machine []
 next_of blocks rest (going.To block) machine = jump (code_at blocks (Some block)) machine []
 next_of blocks rest (going.Ends outcome) machine = ends (outcome_of outcome) machine
 
+-- an outcome that a match may tell
+abbrev pub IsTold : Outcome → Type 0
+IsTold outcome.Spent = ⊥
+IsTold outcome.Memory = ⊥
+IsTold _ = Unit {0}
+
+-- the step goes to this block, to the next statement where there is none, or it ends the match
+abbrev pub Leads : Going → Option ℕ → Type 0
+Leads going.Next block = block ≡ None
+Leads (going.To other) block = block ≡ Some other
+Leads (going.Ends outcome) block = IsTold outcome
+
 -- the values with that which the statement gives
 abbrev pub values_after : Stmt → Machine → List Value → List Value
 values_after (Tag tag false register) machine values = values ++ tag_offset tag (machine.registers register) ∷ []
@@ -85,6 +98,7 @@ pub record SetsRegister (old new : Scanner) (register : ℕ) (value : Option ℕ
 pub record IsStep (stream : List ℕ) (eof : Option ℕ) (statement : Stmt) (old new : Scanner) (going : Going) : Type 0 where
   pub step : (piece : Piece) (rest : List Stmt) (values : List Value) → piece.eof ≡ eof →
       whole_step piece stream statement rest (machine_of old values) ≡ next_of piece.blocks rest going (machine_of new (values_after statement (machine_of old values) values))
+  pub leads : Leads going (target statement (machine_of old []))
   pub tables : KeepsTables old new
   pub limit : new.limit ≡ old.limit
 

@@ -5,6 +5,7 @@ mod answers;
 mod giving;
 mod histories;
 mod lexer;
+mod matches;
 mod scanner;
 mod sizes;
 mod slots;

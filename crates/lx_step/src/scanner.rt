@@ -160,7 +160,8 @@ impl<'p> Scanner<'p> {
         requires source { source < length self.old.registers.items }
         ensures { (stream : List ℕ) (eof : Option ℕ) → IsStep stream eof (stmt.Copy register source) self.old self.new result }
     {
-        self.set_register(register, self.registers[source as usize]);
+        let value = self.registers[source as usize];
+        self.set_register(register, value);
         Going::Next
     }
 

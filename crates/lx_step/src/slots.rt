@@ -66,24 +66,14 @@ impl Slots {
     pub(crate) fn offset(&self, name: &[u8]) -> Option<Option<u64>>
         ensures { result ≡ offset_in self.now.offsets name.now }
     {
-        for slot in &self.offsets {
-            if same_words(slot.name.as_slice(), name) {
-                return Some(slot.value);
-            }
-        }
-        None
+        offset_of(&self.offsets, name)
     }
 
     /// The last history of a tag, if it gets one.
     pub(crate) fn history(&self, name: &[u8]) -> Option<&[Option<u64>]>
         ensures { option_map (λ entries. entries.now) result ≡ history_in self.now.histories name.now }
     {
-        for slot in &self.histories {
-            if same_words(slot.name.as_slice(), name) {
-                return Some(slot.value.as_slice());
-            }
-        }
-        None
+        history_of(&self.histories, name)
     }
 
     /// The groups of the rule that was matched last.
@@ -98,24 +88,14 @@ impl Slots {
     pub(crate) fn give_offset(&mut self, name: &[u8], value: Option<u64>)
         ensures { self.new ≡ record self.old { offsets = with_offset name.now value self.old.offsets } }
     {
-        for slot in &mut self.offsets {
-            if same_words(slot.name.as_slice(), name) {
-                slot.value = value;
-                return;
-            }
-        }
+        put_offset(&mut self.offsets, name, value);
     }
 
     /// Gives a tag a history.
     pub(crate) fn give_history(&mut self, name: &[u8], value: Sequence<Option<u64>>)
         ensures { self.new ≡ record self.old { histories = with_history name.now value self.old.histories } }
     {
-        for slot in &mut self.histories {
-            if same_words(slot.name.as_slice(), name) {
-                slot.value = value;
-                return;
-            }
-        }
+        put_history(&mut self.histories, name, value);
     }
 
     /// Sets the count of groups.
@@ -210,4 +190,48 @@ fn append_history_slot(alloc: Global, slots: &mut Vec<HistorySlot>, name: &[u8])
     let value = Sequence::new(alloc);
     slots.push(HistorySlot { name, value })?;
     Ok(())
+}
+
+fn put_offset(slots: &mut [OffsetSlot], name: &[u8], value: Option<u64>)
+    ensures { slots.new ≡ with_offset name.now value slots.old }
+{
+    for slot in slots.iter_mut() {
+        if same_words(slot.name.as_slice(), name) {
+            slot.value = value;
+            return;
+        }
+    }
+}
+
+fn put_history(slots: &mut [HistorySlot], name: &[u8], value: Sequence<Option<u64>>)
+    ensures { slots.new ≡ with_history name.now value slots.old }
+{
+    for slot in slots.iter_mut() {
+        if same_words(slot.name.as_slice(), name) {
+            slot.value = value;
+            return;
+        }
+    }
+}
+
+fn offset_of(slots: &[OffsetSlot], name: &[u8]) -> Option<Option<u64>>
+    ensures { result ≡ offset_in slots.now name.now }
+{
+    for slot in slots {
+        if same_words(slot.name.as_slice(), name) {
+            return Some(slot.value);
+        }
+    }
+    None
+}
+
+fn history_of<'s>(slots: &'s [HistorySlot], name: &[u8]) -> Option<&'s [Option<u64>]>
+    ensures { option_map (λ entries. entries.now) result ≡ history_in slots.now name.now }
+{
+    for slot in slots {
+        if same_words(slot.name.as_slice(), name) {
+            return Some(slot.value.as_slice());
+        }
+    }
+    None
 }
