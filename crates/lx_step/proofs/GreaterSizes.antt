@@ -1,0 +1,42 @@
+-- The sizes of lists of statements.
+use Rattle.std.proofs.Common.{◌≡◌, ◌∙◌, sym, ap, refl, ℕ, ◌≤◌, max, List, [], ◌∷◌, ◌++◌, arith}
+use Rattle.std.specs.List.{AllByRecursion}
+use Rattle.lx_ccode.specs.declared.piece.Stmt.{Stmt}
+use Rattle.lx_ccode.specs.declared.piece.CodeBlock.{CodeBlock}
+use Rattle.lx_ccode.specs.Statements.{all_statements}
+use Rattle.lx_step.specs.declared.sizes.Sizes.{Sizes}
+use Rattle.lx_step.specs.Sizes.{no_sizes, sizes_of, greater_sizes, sizes_of_all, AreWithin}
+
+abbrev of_three : ℕ → ℕ → ℕ → Sizes
+of_three registers histories groups = record { registers = registers; histories = histories; groups = groups }
+
+pub Sizes-ext : (sizes others : Sizes) → sizes.registers ≡ others.registers → sizes.histories ≡ others.histories → sizes.groups ≡ others.groups → sizes ≡ others
+Sizes-ext sizes others r h g =
+    ap (λ n. of_three n sizes.histories sizes.groups) r ∙ ap (λ n. of_three others.registers n sizes.groups) h ∙ ap (λ n. of_three others.registers others.histories n) g
+
+pub greater-none : (sizes : Sizes) → greater_sizes no_sizes sizes ≡ sizes
+greater-none sizes = Sizes-ext _ _ (omega arith) (omega arith) (omega arith)
+
+pub none-greater : (sizes : Sizes) → greater_sizes sizes no_sizes ≡ sizes
+none-greater sizes = Sizes-ext _ _ (omega arith) (omega arith) (omega arith)
+
+pub greater-assoc : (first second third : Sizes) → greater_sizes (greater_sizes first second) third ≡ greater_sizes first (greater_sizes second third)
+greater-assoc first second third = Sizes-ext _ _ (omega arith) (omega arith) (omega arith)
+
+pub sizes_of_all-append : (statements others : List Stmt) → sizes_of_all (statements ++ others) ≡ greater_sizes (sizes_of_all statements) (sizes_of_all others)
+sizes_of_all-append [] others = sym (greater-none (sizes_of_all others))
+sizes_of_all-append (statement ∷ statements) others =
+    ap (λ rest. greater_sizes (sizes_of statement) rest) (sizes_of_all-append statements others) ∙ sym (greater-assoc (sizes_of statement) (sizes_of_all statements) (sizes_of_all others))
+
+within-greater : (statements : List Stmt) (sizes others : Sizes) → AllByRecursion (λ statement. AreWithin (sizes_of statement) others) statements
+    → AllByRecursion (λ statement. AreWithin (sizes_of statement) (greater_sizes sizes others)) statements
+within-greater [] sizes others h = tt
+within-greater (statement ∷ statements) sizes others h =
+    let first : AreWithin (sizes_of statement) others = h.0 in
+    (record { registers = omega (arith, first.registers); histories = omega (arith, first.histories); groups = omega (arith, first.groups) }, within-greater statements sizes others h.1)
+
+-- each statement is within the sizes of all
+pub AreWithin-all : (statements : List Stmt) → AllByRecursion (λ statement. AreWithin (sizes_of statement) (sizes_of_all statements)) statements
+AreWithin-all [] = tt
+AreWithin-all (statement ∷ statements) =
+    (record { registers = omega arith; histories = omega arith; groups = omega arith }, within-greater statements (sizes_of statement) (sizes_of_all statements) (AreWithin-all statements))

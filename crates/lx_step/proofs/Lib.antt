@@ -1,0 +1,9 @@
+pub mod Lists
+pub mod Nodes
+pub mod Places
+pub mod GreaterSizes
+pub mod SlotLists
+pub mod Streams
+pub mod Tables
+pub mod Underway
+pub mod WholeRuns

@@ -1,0 +1,21 @@
+-- Facts about lists.
+use Rattle.std.proofs.Common.{◌≡◌, ◌∙◌, sym, ap, refl, ℕ, zero, suc, ◌+◌, ◌<◌, List, [], ◌∷◌, ◌++◌, length, take, drop, get_or, set, arith, Option, Some, None, slice_get}
+use Rattle.std.proofs.Math.Seq.{drop-cons}
+
+-- an element put in the place of another
+pub set-parts : {A : Type 0} (items : List A) (place : ℕ) (item : A) → place < length items → set items place item ≡ take place items ++ item ∷ drop (suc place) items
+set-parts [] place item h = absurd (omega (arith, h))
+set-parts (first ∷ items) zero item h = refl
+set-parts (first ∷ items) (suc place) item h = ap (λ rest. first ∷ rest) (set-parts items place item (omega (arith, h)))
+
+-- what stands behind a place, by the element there
+pub drop-slice_get : {A : Type 0} (items : List A) (place : ℕ) (item : A) → slice_get items place ≡ Some item → drop place items ≡ item ∷ drop (suc place) items
+drop-slice_get [] place item e = absurd cc
+drop-slice_get (first ∷ items) zero item e = let same : first ≡ item = cc in ap (λ one. one ∷ items) same
+drop-slice_get (first ∷ items) (suc place) item e = drop-slice_get items place item e
+
+pub drop-slice_get_none : {A : Type 0} (items : List A) (place : ℕ) → slice_get items place ≡ None → drop place items ≡ []
+drop-slice_get_none [] zero e = refl
+drop-slice_get_none [] (suc place) e = refl
+drop-slice_get_none (first ∷ items) zero e = absurd cc
+drop-slice_get_none (first ∷ items) (suc place) e = drop-slice_get_none items place e

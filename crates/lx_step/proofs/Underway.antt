@@ -1,0 +1,1 @@
+-- A match that is under way.

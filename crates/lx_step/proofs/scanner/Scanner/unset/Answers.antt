@@ -1,0 +1,7 @@
+use Rattle.std.proofs.Common.{refl, Some, None}
+use Rattle.lx_ccode.specs.declared.piece.Stmt.TheVariants.{Set, Unset, Copy}
+use Rattle.lx_step.proofs.Tables.{IsStep-register}
+use Rattle.lx_step.proofs.scanner.Scanner.unset.Goals as goal
+
+pub returns : goal.returns
+returns c = λ stream eof. IsStep-register stream eof (Unset c.args.register) _ _ c.args.register None c.set_register.ensures (λ piece rest values. refl) (λ values. refl) refl

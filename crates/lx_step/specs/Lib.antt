@@ -1,0 +1,11 @@
+pub mod Assigned
+pub mod Given
+pub mod Held
+pub mod Matches
+pub mod Nodes
+pub mod Places
+pub mod Sizes
+pub mod Steps
+pub mod Streams
+pub mod WholeRuns
+pub mod Widths

@@ -1,0 +1,16 @@
+//! The stepper: it runs an emitted piece over a stream, match by match.
+#![tactic(auto)]
+
+mod answers;
+mod giving;
+mod histories;
+mod lexer;
+mod matches;
+mod scanner;
+mod sizes;
+mod slots;
+mod step;
+mod units;
+
+pub use answers::{Group, Outcome, StmtAt};
+pub use lexer::Lexer;
