@@ -2,6 +2,7 @@
 use Rattle.std.specs.Prelude.{◌≡◌, ℕ, ◌<◌, ◌≤◌, List, ◌++◌, length, take, Option}
 use Rattle.std.specs.Option.{option_map}
 use Rattle.lx_files.specs.Counts.{Rose}
+use Rattle.lx_files.specs.Held.{IsFront}
 use Rattle.lx_files.specs.declared.sinks.PutAnswer.{PutAnswer}
 use Rattle.lx_files.specs.declared.sinks.PutAnswer.TheVariants.{Failed, Memory}
 
@@ -19,3 +20,7 @@ pub record Takes (given given' : Option (List ℕ)) (bytes : List ℕ) (count : 
 abbrev pub RefusesPut : (before after : ℕ) → PutAnswer → Type 0
 RefusesPut before after Failed = Rose before after
 RefusesPut before after Memory = Unit {0}
+
+-- a front of the text was given, and nothing else
+abbrev pub GivesFront : Option (List ℕ) → Option (List ℕ) → List ℕ → Type 0
+GivesFront given given' text = (front : List ℕ) × IsFront front text × (given' ≡ given_then given front)

@@ -8,12 +8,14 @@ pub mod counts;
 pub mod files;
 pub mod memory_files;
 pub mod memory_sinks;
+pub mod puts;
 pub mod real;
 pub mod sinks;
 
 pub use files::{Files, HeldFile, ReadAnswer, WriteAnswer};
 pub use memory_files::{MemFiles, QuietFiles};
 pub use memory_sinks::{MemSink, QuietSink};
+pub use puts::put_all;
 pub use real::{RealFiles, RealSink};
 pub use sinks::{PutAnswer, Sink};
 

@@ -2,6 +2,7 @@
 ghost use Rattle.std.specs.Prelude.{◌≡◌, ℕ, ◌≤◌, List, Option, IfOk, IfErr, OnOk, OnErr};
 ghost use Rattle.lx_files.specs.Taking.{Takes, RefusesPut};
 
+use lx_base::Memory;
 use thiserror::Error;
 
 /// Why a sink took nothing: the put failed, or memory ran out.
@@ -11,6 +12,17 @@ pub enum PutAnswer {
     Failed,
     #[error("out of memory")]
     Memory,
+}
+
+impl From<Memory> for PutAnswer {
+    ghost use Rattle.std.specs.Prelude.{◌≡◌};
+    ghost use Rattle.lx_files.specs.declared.sinks.PutAnswer.TheVariants as answer;
+
+    ghost from_gives = { λ _ given. given ≡ answer.Memory };
+
+    fn from(_error: Memory) -> PutAnswer {
+        PutAnswer::Memory
+    }
 }
 
 /// What takes bytes: the standard output, the standard error, or a list.

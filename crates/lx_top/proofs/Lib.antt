@@ -2,9 +2,9 @@ pub mod CompileLemmas
 pub mod EmissionLemmas
 pub mod EndingLemmas
 pub mod FaultLemmas
+pub mod JobLemmas
 pub mod LetterLemmas
 pub mod PieceLemmas
-pub mod PutLemmas
 pub mod ReadingLemmas
 pub mod ReportLemmas
 pub mod ScanLaw

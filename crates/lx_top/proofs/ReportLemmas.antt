@@ -2,9 +2,9 @@
 use Rattle.std.proofs.Common.{◌≡◌, ℕ, ◌≤◌, List, [], Option, refl, sym, subst, arith}
 use Rattle.lx_files.specs.Counts.{Rose}
 use Rattle.lx_files.specs.Held.{IsFront}
-use Rattle.lx_files.specs.Taking.{given_then}
-use Rattle.lx_top.proofs.PutLemmas.{given_then-nil}
-use Rattle.lx_top.specs.Outside.{SinkView, GivesFront}
+use Rattle.lx_files.specs.Taking.{GivesFront, given_then}
+use Rattle.lx_files.proofs.PutLemmas.{given_then-nil}
+use Rattle.lx_top.specs.Outside.{SinkView}
 use Rattle.lx_top.specs.Endings.{TellsMessage, failure_text}
 use Rattle.lx_top.specs.declared.endings.Ending.{Ending}
 use Rattle.lx_top.specs.declared.endings.Ending.TheVariants.{PutFailed, OutOfMemory}

@@ -1,22 +1,22 @@
 -- The first fault of a command line over the files that are held.
-use Rattle.std.specs.Prelude.{ℕ, List, [], ◌∷◌, Option, Some, None, if◌then◌else◌}
+use Rattle.std.specs.Prelude.{◌≡◌, ℕ, List, Option, Some, None, if◌then◌else◌}
 use Rattle.lx_base.specs.declared.places.Pos.{Pos}
+use Rattle.lx_base.specs.declared.settings.Job.{Job}
+use Rattle.lx_base.specs.declared.settings.Job.TheVariants.{Compile, Run, Source}
 use Rattle.lx_base.specs.declared.faults.Fault.{Fault}
 use Rattle.lx_base.specs.declared.faults.Fault.TheVariants.{Unsupported, NoFile}
 use Rattle.lx_files.specs.declared.files.HeldFile.{HeldFile}
 use Rattle.lx_files.specs.Held.{bytes_of}
+use Rattle.lx_words.specs.Options.{words_fault}
+use Rattle.lx_top.specs.Jobs.{job_of}
+use Rattle.lx_top.specs.Places.{start_of}
 use Rattle.lx_top.specs.Quoted.{QuotedSource}
 use Rattle.lx_top.specs.Reading.{quoted_of}
 use Rattle.lx_top.specs.Source.{is_plain}
-use Rattle.lx_top.specs.Words.{source_name}
-
--- line 1, column 1 of the file that is compiled
-abbrev pub source_start : Pos
-source_start = record { file = 0; line = 1; col = 1 }
 
 -- a source that is read as one of quoted strings has no fault, and any other one is not supported yet
 abbrev pub read_fault : Option QuotedSource → Option Fault
-read_fault None = Some (Unsupported (Some source_start))
+read_fault None = Some (Unsupported (Some (start_of 0)))
 read_fault (Some quoted) = None
 
 -- the fault of a source: it is of a kind that is not supported yet
@@ -25,21 +25,20 @@ source_fault source = if is_plain source then None else read_fault (quoted_of so
 
 -- the fault of a file with this name and these bytes, if it is there: there is no such file, or the source has one
 abbrev pub file_fault : (name : List ℕ) → Option (List ℕ) → Option Fault
-file_fault name None = Some (NoFile source_start name)
+file_fault name None = Some (NoFile (start_of 0) name)
 file_fault name (Some source) = source_fault source
 
-abbrev pub named_fault : List HeldFile → Option (List ℕ) → Option Fault
-named_fault files None = Some (Unsupported None)
-named_fault files (Some name) = file_fault name (bytes_of files name)
+-- the first fault of a job over the files, or none
+abbrev pub IsJobFault : Job → List HeldFile → Option Fault → Type 0
+IsJobFault (Compile file to) files fault = fault ≡ file_fault file (bytes_of files file)
+IsJobFault (Run input emitted block window piece) files fault = fault ≡ Some (Unsupported None)
+IsJobFault (Source rules to) files fault = fault ≡ Some (Unsupported None)
 
--- the first fault, if there is one: of the words, then of the file
-abbrev pub first_fault : List (List ℕ) → List HeldFile → Option Fault
-first_fault words files = named_fault files (source_name words)
+-- the first fault, or none, where the words have this one, or none
+abbrev pub IsFaultBehind : (of_words : Option Fault) → Job → List HeldFile → Option Fault → Type 0
+IsFaultBehind None job files fault = IsJobFault job files fault
+IsFaultBehind (Some first) job files fault = fault ≡ Some first
 
--- the names of the files that are met, which the message of a fault cites
-abbrev pub met_names : Option (List ℕ) → List (List ℕ)
-met_names None = []
-met_names (Some name) = name ∷ []
-
-abbrev pub file_names : List (List ℕ) → List (List ℕ)
-file_names words = met_names (source_name words)
+-- the first fault, or none: of the words, then of what they ask for
+abbrev pub IsFirstFault : (words : List (List ℕ)) → List HeldFile → Option Fault → Type 0
+IsFirstFault words files fault = IsFaultBehind (words_fault words) (job_of words) files fault

@@ -1,9 +1,12 @@
+pub mod Delivery
 pub mod Emission
 pub mod Endings
 pub mod FirstFault
+pub mod Jobs
 pub mod Outside
 pub mod Output
 pub mod Pieces
+pub mod Places
 pub mod Puts
 pub mod Quoted
 pub mod Reading
@@ -12,4 +15,3 @@ pub mod Scanner
 pub mod Serving
 pub mod Source
 pub mod Steps
-pub mod Words

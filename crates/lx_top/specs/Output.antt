@@ -1,6 +1,8 @@
 -- What the output of a source is.
 use Rattle.std.specs.Prelude.{◌≡◌, ◌⊎◌, ℕ, false, List, [], ◌∷◌, Option, Some, None}
 use Rattle.lx_base.specs.Text.{joined}
+use Rattle.lx_base.specs.declared.settings.Job.{Job}
+use Rattle.lx_base.specs.declared.settings.Job.TheVariants.{Compile, Run, Source}
 use Rattle.lx_files.specs.declared.files.HeldFile.{HeldFile}
 use Rattle.lx_files.specs.Held.{bytes_of}
 use Rattle.lx_ccode.specs.declared.piece.Piece.{Piece}
@@ -8,7 +10,6 @@ use Rattle.lx_ccode.specs.Text.{piece_text}
 use Rattle.lx_top.specs.Quoted.{QuotedSource, IsQuoted, source_text}
 use Rattle.lx_top.specs.Scanner.{IsScannerOf}
 use Rattle.lx_top.specs.Source.{has_opener}
-use Rattle.lx_top.specs.Words.{source_name}
 
 -- The output has the text before the block, the text of a piece that is a scanner of the block's rules, and the text behind
 -- the block.
@@ -24,14 +25,13 @@ IsOutput source output =
     ((has_opener source ≡ false) × (output ≡ source))
     ⊎ ((quoted : QuotedSource) × IsQuoted quoted × (source ≡ source_text quoted) × IsOutputOfQuoted quoted output)
 
--- the output is one of the source that the words name among the files
+-- the output is one of the source that is in the file, if it is there
 abbrev pub IsOutputOfFile : Option (List ℕ) → List ℕ → Type 0
 IsOutputOfFile None output = ⊥
 IsOutputOfFile (Some source) output = IsOutput source output
 
-abbrev pub IsOutputOfName : List HeldFile → Option (List ℕ) → List ℕ → Type 0
-IsOutputOfName files None output = ⊥
-IsOutputOfName files (Some name) output = IsOutputOfFile (bytes_of files name) output
-
-abbrev pub IsOutputOf : List (List ℕ) → List HeldFile → List ℕ → Type 0
-IsOutputOf words files output = IsOutputOfName files (source_name words) output
+-- the text that a job gives, over the files
+abbrev pub IsTextOf : Job → List HeldFile → (text : List ℕ) → Type 0
+IsTextOf (Compile file to) files text = IsOutputOfFile (bytes_of files file) text
+IsTextOf (Run input emitted block window piece) files text = ⊥
+IsTextOf (Source rules to) files text = ⊥

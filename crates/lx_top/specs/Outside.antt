@@ -1,8 +1,6 @@
 -- The outside of the program: files and sinks, before and after a run.
 use Rattle.std.specs.Prelude.{◌≡◌, ℕ, List, Option, IfSome}
 use Rattle.lx_files.specs.Counts.{IsCalm}
-use Rattle.lx_files.specs.Held.{IsFront}
-use Rattle.lx_files.specs.Taking.{given_then}
 use Rattle.lx_files.specs.declared.files.HeldFile.{HeldFile}
 
 -- what the files hold, where that is told, and their counts of faults of reads and of writes
@@ -41,7 +39,3 @@ pub record NoCountRose (before after : Outside) : Type 0 where
   pub writes : IsCalm before.files.write_faults after.files.write_faults
   pub out : IsCalm before.out.faults after.out.faults
   pub err : IsCalm before.err.faults after.err.faults
-
--- a front of the text was given, and nothing else
-abbrev pub GivesFront : Option (List ℕ) → Option (List ℕ) → List ℕ → Type 0
-GivesFront given given' text = (front : List ℕ) × IsFront front text × (given' ≡ given_then given front)

@@ -2,7 +2,7 @@
 ghost use Rattle.std.specs.Prelude.{◌≡◌};
 ghost use Rattle.lx_top.specs.Endings.{status_of};
 
-use lx_base::{Fault, Memory};
+use lx_base::{Fault, Memory, Stop};
 use lx_files::PutAnswer;
 
 /// How a run ends, each with its exit status.
@@ -35,14 +35,14 @@ impl Ending {
     }
 }
 
-/// Why a compilation broke off.
+/// Why a run broke off.
 #[derive(Debug, Drop)]
 pub enum Halt {
-    /// The words or the source have a fault.
+    /// The words or a file have a fault.
     Fault(Fault),
     /// A read failed.
     ReadFailed,
-    /// A put to the standard output failed.
+    /// A put to the standard output or a write failed.
     PutFailed,
     /// Memory ran out.
     OutOfMemory,
@@ -56,6 +56,20 @@ impl From<Memory> for Halt {
 
     fn from(_error: Memory) -> Halt {
         Halt::OutOfMemory
+    }
+}
+
+impl From<Stop> for Halt {
+    ghost use Rattle.std.specs.Prelude.{◌≡◌};
+    ghost use Rattle.lx_top.specs.Puts.{halt_of_stop};
+
+    ghost from_gives = { λ stop given. given ≡ halt_of_stop stop };
+
+    fn from(stop: Stop) -> Halt {
+        match stop {
+            Stop::Memory => Halt::OutOfMemory,
+            Stop::Fault(fault) => Halt::Fault(fault),
+        }
     }
 }
 

@@ -2,10 +2,12 @@
 #![tactic(auto)]
 
 mod compile;
+mod delivery;
 mod emit;
 pub mod endings;
+mod files;
+mod jobs;
 pub mod laws;
-pub mod puts;
 mod quoted;
 mod report;
 pub mod run;
@@ -13,7 +15,7 @@ mod scanner;
 mod sources;
 
 pub use endings::{Ending, Halt};
-pub use puts::put_all;
+pub use lx_files::put_all;
 pub use run::re2c;
 
 #[cfg(test)]

@@ -2,13 +2,13 @@
 ghost use Rattle.std.specs.Prelude.{◌≡◌, ◌≤◌};
 ghost use Rattle.lx_base.specs.Message.{IsPlaced, message_text};
 ghost use Rattle.lx_top.specs.Endings.{TellsMessage, failure_text};
-ghost use Rattle.lx_top.specs.Outside.{GivesFront, sink_view};
+ghost use Rattle.lx_files.specs.Taking.{GivesFront};
+ghost use Rattle.lx_top.specs.Outside.{sink_view};
 ghost use Rattle.lx_top.specs.Steps.{Reports, IsPlacedHalt};
 
 use crate::endings::{Ending, Halt};
-use crate::puts::put_all;
 use lx_base::{Fault, FileNames, message};
-use lx_files::{PutAnswer, Sink};
+use lx_files::{PutAnswer, Sink, put_all};
 use std::alloc::Global;
 
 /// Tells at the standard error why a run broke off, and answers how it ended.

@@ -3,7 +3,7 @@ ghost use Rattle.std.specs.Prelude.{◌≡◌, map, string_bytes};
 ghost use Rattle.lx_top.specs.Endings.{Ends, EndsSo};
 ghost use Rattle.lx_top.specs.Outside.{files_view, outside, sink_view};
 
-use crate::compile::compile;
+use crate::jobs::perform;
 use crate::endings::Ending;
 use crate::report::report;
 use lx_base::FileNames;
@@ -29,10 +29,6 @@ pub fn re2c<F: Files, O: Sink, E: Sink>(
         let err_before = sink_view (E.given err.old) (E.faults err.old) in
         let err_after = sink_view (E.given err.new) (E.faults err.new) in
         Ends (map string_bytes words.now) (outside files_before out_before err_before) (outside files_after out_after err_after) result }
-
-    // No file is written.
-    ensures held_stays { F.held files.new ≡ F.held files.old }
-    ensures write_faults_stay { F.write_faults files.new ≡ F.write_faults files.old }
 {
     run(alloc, words, files, out, err).status()
 }
@@ -51,11 +47,9 @@ fn run<F: Files, O: Sink, E: Sink>(
         let err_before = sink_view (E.given err.old) (E.faults err.old) in
         let err_after = sink_view (E.given err.new) (E.faults err.new) in
         EndsSo (map string_bytes words.now) (outside files_before out_before err_before) (outside files_after out_after err_after) result }
-    ensures held_stays { F.held files.new ≡ F.held files.old }
-    ensures write_faults_stay { F.write_faults files.new ≡ F.write_faults files.old }
 {
     let mut names = FileNames::new(alloc);
-    match compile(alloc, words, files, out, &mut names) {
+    match perform(alloc, words, files, out, &mut names) {
         Ok(()) => Ending::Done,
         Err(halt) => report(alloc, &names, halt, err),
     }

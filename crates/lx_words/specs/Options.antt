@@ -53,7 +53,7 @@ abbrev pub job_of : Line → Job
 job_of line = job_by (number_of line (codes "x-source") 1 200) (value line (codes "x-run")) line
 
 -- the options of a line that is not wrong
-abbrev pub options_of : Line → Options
+unfoldable pub options_of : Line → Options
 options_of line = record {
   job = job_of line;
   lines = not (has_flag line (codes "no-debug-info"));
@@ -73,7 +73,7 @@ abbrev pub refusal_of : (words : List (List ℕ)) → Option Fault
 refusal_of words = if is_refused words then Some Usage else None
 
 -- the fault of the words, if they have one: they are no line of the command or a wrong one, or ask for what is not supported yet
-abbrev pub words_fault : (words : List (List ℕ)) → Option Fault
+unfoldable pub words_fault : (words : List (List ℕ)) → Option Fault
 words_fault words =
     if is_refused words || is_wrong (line_of words) then Some Usage
     else (if waits (line_of words) then Some (Unsupported None) else None)

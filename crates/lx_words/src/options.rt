@@ -112,6 +112,7 @@ fn job_of(alloc: Global, line: &ArgMatches<'_>) -> Result<Job, Memory>
 }
 
 /// The options that a line gives.
+#[tactic(auto, unfolding(crate::specs::Options::options_of))]
 pub fn options_of(alloc: Global, line: &ArgMatches<'_>) -> Result<Options, Memory>
     ensures { IfOk result (λ options. options ≡ spec.options_of (rows_of (found_of line.now))) }
 {

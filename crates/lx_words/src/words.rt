@@ -41,6 +41,7 @@ fn refused(kind: ErrorKind) -> Stop
 /// two encodings are asked for, a number or a policy is none or out of its limits, options of a run, of a compilation and of
 /// a generated source are mixed, or a name would end a line or open a block where it is printed. `Unsupported` comes exactly
 /// where the words are neither and ask for what is not supported yet.
+#[tactic(auto, unfolding(crate::specs::Options::words_fault))]
 pub fn read_words(alloc: Global, words: &[String]) -> Result<Options, Stop>
     ensures { let texts = map string_bytes words.now in
         MatchResult result (λ options. (words_fault texts ≡ None) × (options ≡ options_of (line_of texts))) (StopsBy (words_fault texts)) }

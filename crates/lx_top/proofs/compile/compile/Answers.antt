@@ -1,19 +1,16 @@
-use Rattle.std.proofs.Common.{refl, ap, map, string_bytes}
-use Rattle.lx_top.specs.FirstFault.{named_fault}
-use Rattle.lx_top.proofs.CompileLemmas.{sees_any, ended_named, Halts-out_of_memory}
+use Rattle.std.proofs.Common.{◌≡◌, ◌∙◌, None, sym, ap, subst}
+use Rattle.lx_files.specs.Held.{bytes_of}
+use Rattle.lx_top.specs.FirstFault.{file_fault}
+use Rattle.lx_top.specs.Output.{IsOutputOfFile}
+use Rattle.lx_top.proofs.JobLemmas.{JobEnds-delivered, files_view-same}
 use Rattle.lx_top.proofs.compile.compile.Goals as goal
 
-pub returns-in_err-add-in-Some-clause-ended : goal.returns-in_err-add-in-Some-clause-ended
-returns-in_err-add-in-Some-clause-ended g c =
-    let any = sees_any (g.F.Files.held c.args.files.now) in
-    (any.0, any.1, Halts-out_of_memory c.from_residual.result _ _ _ _ _ c.from_residual.ensures.1)
-
-pub returns-in-None-clause-ended : goal.returns-in-None-clause-ended
-returns-in-None-clause-ended g c =
-    let any = sees_any (g.F.Files.held c.args.files.now) in
-    (any.0, any.1, (ap (named_fault any.0) c.in-None.ensures, refl))
-
-pub returns-in_ok-add-in-Some-clause-ended : goal.returns-in_ok-add-in-Some-clause-ended
-returns-in_ok-add-in-Some-clause-ended g c =
-    let all = c.compile_file.ensures.ended in
-    (all.0, all.1, ended_named c.compile_file.result (map string_bytes c.args.words.now) all.0 c.in-Some.name.now _ _ _ c.in-Some.ensures all.2)
+pub returns-clause-ends : goal.returns-clause-ends
+returns-clause-ends g c =
+    let name = c.args.name.now in
+    let read = c.in_ok-source.ensures.read in
+    let made = c.in_ok-output.ensures.made in
+    let none : None ≡ file_fault name (bytes_of read.0 name) = sym (ap (file_fault name) read.2 ∙ made.0) in
+    let right = subst (λ given. IsOutputOfFile given c.in_ok-output.output.items) (sym read.2) made.1 in
+    let same = files_view-same c.in_ok-source.ensures.held_stays c.in_ok-source.ensures.calm c.in_ok-source.ensures.write_faults_stay in
+    (read.0, read.1, JobEnds-delivered _ _ _ c.in_ok-output.output.items _ _ _ _ _ c.deliver.result same none right (rw c.deref.ensures.value at c.deliver.ensures.ends))

@@ -1,7 +1,8 @@
+use Rattle.std.proofs.Common.{map, string_bytes}
 use Rattle.lx_top.proofs.EndingLemmas.{EndsSo-broken}
 use Rattle.lx_top.proofs.run.run.Goals as goal
 
-pub returns-clause-ends : goal.returns-clause-ends
-returns-clause-ends g c =
-    let ended = c.in-Err.ensures.ended in
-    EndsSo-broken _ c.compile.new.names ended.0 _ _ c.in-Err.halt c.report.result ended.1 ended.2 c.in-Err.ensures.cites c.report.ensures
+pub returns : goal.returns
+returns g c =
+    let ended = c.in-Err.ensures.ends in
+    record { ends = EndsSo-broken (map string_bytes c.args.words.now) ended.0 _ _ c.perform.new.names c.in-Err.halt c.report.result ended.1 ended.2 c.in-Err.ensures.cites c.report.ensures }

@@ -1,6 +1,6 @@
 use Rattle.std.proofs.Common.{length}
-use Rattle.lx_top.proofs.PutLemmas.{HasPut}
-use Rattle.lx_top.proofs.puts.put_all.Given as goal
+use Rattle.lx_files.proofs.PutLemmas.{HasPut}
+use Rattle.lx_files.proofs.puts.put_all.Given as goal
 
 abbrev pub invariant-loop-rest : goal.invariant-loop-rest
 invariant-loop-rest g l =

@@ -1,5 +1,5 @@
-use Rattle.lx_top.proofs.PutLemmas.{HasPut-step}
-use Rattle.lx_top.proofs.puts.put_all.Goals as goal
+use Rattle.lx_files.proofs.PutLemmas.{HasPut-step}
+use Rattle.lx_files.proofs.puts.put_all.Goals as goal
 
 pub loop-rest-preserved : goal.loop-rest-preserved
 loop-rest-preserved g c =

@@ -1,9 +1,8 @@
 //! Puts of whole texts.
 ghost use Rattle.std.specs.Prelude.{◌≡◌, ◌≤◌, OnOk, OnErr, IfErr};
-ghost use Rattle.lx_files.specs.Taking.{RefusesPut, given_then};
-ghost use Rattle.lx_top.specs.Outside.{GivesFront};
+ghost use Rattle.lx_files.specs.Taking.{GivesFront, RefusesPut, given_then};
 
-use lx_files::{PutAnswer, Sink};
+use crate::sinks::{PutAnswer, Sink};
 
 /// Gives all bytes to the sink, by as many puts as it takes.
 ///

@@ -1,0 +1,15 @@
+//! Runs of emitted scanners over an input, and the lines that they print.
+#![tactic(auto)]
+
+mod assignments;
+mod asks;
+mod lines;
+mod matches;
+mod runs;
+mod streams;
+mod values;
+
+pub use runs::run_whole;
+
+#[cfg(test)]
+mod tests;

@@ -1,0 +1,21 @@
+use Rattle.std.proofs.Common.{refl, sym, subst, Some, None}
+use Rattle.lx_base.specs.declared.faults.Fault.TheVariants.{Unsupported}
+use Rattle.lx_top.specs.FirstFault.{IsJobFault}
+use Rattle.lx_top.proofs.CompileLemmas.{sees_any}
+use Rattle.lx_top.proofs.JobLemmas.{JobEnds-reason}
+use Rattle.lx_top.proofs.jobs.perform_job.Goals as goal
+
+pub returns-in_err-add-in-Compile-clause-ends : goal.returns-in_err-add-in-Compile-clause-ends
+returns-in_err-add-in-Compile-clause-ends g c =
+    let any = sees_any (g.F.Files.held c.args.files.now) in
+    (any.0, any.1, JobEnds-reason _ _ _ _ _ _ _ c.from_residual.result _ c.from_residual.ensures.1 tt (refl, refl))
+
+pub returns-in-Source-clause-ends : goal.returns-in-Source-clause-ends
+returns-in-Source-clause-ends g c =
+    let any = sees_any (g.F.Files.held c.args.files.now) in
+    (any.0, any.1, (subst (λ job. IsJobFault job any.0 (Some (Unsupported None))) (sym c.in-Source.is) refl, (refl, refl)))
+
+pub returns-in-Run-clause-ends : goal.returns-in-Run-clause-ends
+returns-in-Run-clause-ends g c =
+    let any = sees_any (g.F.Files.held c.args.files.now) in
+    (any.0, any.1, (subst (λ job. IsJobFault job any.0 (Some (Unsupported None))) (sym c.in-Run.is) refl, (refl, refl)))

@@ -1,0 +1,74 @@
+//! What the words ask for, and its doing.
+ghost use Rattle.std.specs.Prelude.{◌≡◌, [], List, map, option_map, string_bytes, IfErr};
+ghost use Rattle.lx_files.specs.declared.files.HeldFile.{HeldFile};
+ghost use Rattle.lx_top.specs.FirstFault.{IsFirstFault, IsJobFault};
+ghost use Rattle.lx_top.specs.Jobs.{file_names, job_of, names_of, target_of};
+ghost use Rattle.lx_top.specs.Outside.{Sees, files_view, sink_view};
+ghost use Rattle.lx_top.specs.Output.{IsTextOf};
+ghost use Rattle.lx_top.specs.Steps.{Cites, JobEnds};
+
+use crate::compile::compile;
+use crate::endings::Halt;
+use lx_base::{Fault, FileName, FileNames, Job};
+use lx_files::{Files, Sink};
+use lx_words::read_words;
+use std::alloc::Global;
+
+/// Does what the words ask for. The names of the files that are met stand in `names` afterwards.
+pub fn perform<F: Files, O: Sink>(
+    alloc: Global,
+    words: &[String],
+    files: &mut F,
+    out: &mut O,
+    names: &mut FileNames,
+) -> Result<(), Halt>
+    requires { names.old ≡ [] }
+    ensures ends { let texts = map string_bytes words.now in
+        let files_before = files_view (F.held files.old) (F.faults files.old) (F.write_faults files.old) in
+        let files_after = files_view (F.held files.new) (F.faults files.new) (F.write_faults files.new) in
+        let before = sink_view (O.given out.old) (O.faults out.old) in
+        let after = sink_view (O.given out.new) (O.faults out.new) in
+        (seen : List HeldFile) × Sees (F.held files.old) seen
+        × JobEnds (IsFirstFault texts seen) (target_of (job_of texts)) (IsTextOf (job_of texts) seen) files_before files_after before after result }
+    ensures cites { IfErr result (Cites (file_names (map string_bytes words.now)) names.new) }
+{
+    let options = read_words(alloc, words)?;
+    perform_job(alloc, &options.job, files, out, names)
+}
+
+/// Does a job.
+fn perform_job<F: Files, O: Sink>(
+    alloc: Global,
+    job: &Job,
+    files: &mut F,
+    out: &mut O,
+    names: &mut FileNames,
+) -> Result<(), Halt>
+    requires { names.old ≡ [] }
+    ensures ends { let files_before = files_view (F.held files.old) (F.faults files.old) (F.write_faults files.old) in
+        let files_after = files_view (F.held files.new) (F.faults files.new) (F.write_faults files.new) in
+        let before = sink_view (O.given out.old) (O.faults out.old) in
+        let after = sink_view (O.given out.new) (O.faults out.new) in
+        (seen : List HeldFile) × Sees (F.held files.old) seen
+        × JobEnds (IsJobFault job.now seen) (target_of job.now) (IsTextOf job.now seen) files_before files_after before after result }
+    ensures cites { IfErr result (Cites (names_of job.now) names.new) }
+{
+    match job {
+        Job::Compile { file, to } => {
+            names.add(file.as_str())?;
+            compile(alloc, file.as_str(), name_in(to), files, out)
+        }
+        Job::Run { .. } => Err(Halt::Fault(Fault::Unsupported { at: None })),
+        Job::Source { .. } => Err(Halt::Fault(Fault::Unsupported { at: None })),
+    }
+}
+
+/// The name, if there is one.
+fn name_in(name: &Option<FileName>) -> Option<&str>
+    ensures { option_map (λ text. text.now) result ≡ name.now }
+{
+    match name {
+        None => None,
+        Some(name) => Some(name.as_str()),
+    }
+}
