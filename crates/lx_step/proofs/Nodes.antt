@@ -1,7 +1,7 @@
 -- The contents of nodes.
-use Rattle.std.proofs.Common.{◌≡◌, ◌∙◌, sym, subst, ap, refl, ℕ, zero, suc, ◌+◌, ◌<◌, ◌≤◌, List, [], ◌∷◌, ◌++◌, length, map, set, get_or, replicate, append_assoc, length-append, arith, Option, Some, None}
-use Rattle.std.proofs.lemmas.List.{get_or_append_left, map-set}
-use Rattle.std.proofs.Math.ListN.{get_or-append_seam}
+use Rattle.std.proofs.Common.{◌≡◌, ◌∙◌, sym, subst, reverse, ap, refl, ℕ, zero, suc, ◌+◌, ◌<◌, ◌≤◌, List, [], ◌∷◌, ◌++◌, length, map, set, get_or, replicate, append_assoc, length-append, arith, Option, Some, None}
+use Rattle.std.proofs.lemmas.List.{get_or_append_left, map-set, length-map, reverse-append}
+use Rattle.std.proofs.Math.Seq.{get_or-append_seam}
 use Rattle.std.specs.List.{AllByRecursion}
 use Rattle.lx_step.specs.declared.histories.Node.{Node}
 use Rattle.lx_step.specs.Nodes.{content_at, contents_behind, contents, IsBelow, AreInOrder, AreBelow}
@@ -138,3 +138,39 @@ IsBelow-before nodes place node order h e = below-more (0 + place) place node.be
 pub map-empty : (count : ℕ) → map (content_at (contents [])) (replicate count None) ≡ replicate count []
 map-empty zero = refl
 map-empty (suc count) = ap (λ rest. [] ∷ rest) (map-empty count)
+
+-- there are as many histories as last nodes
+pub length-view : (done : List Content) (lasts : List (Option ℕ)) (value : List Content) → map (content_at done) lasts ≡ value → length lasts ≡ length value
+length-view done lasts value e = sym (length-map lasts (content_at done)) ∙ ap length e
+
+-- ---- the entries, from the last one on
+
+-- how many nodes may still come
+abbrev pub depth : Option ℕ → ℕ
+depth None = 0
+depth (Some place) = suc place
+
+pub depth-below : (place : ℕ) (before : Option ℕ) → IsBelow place before → depth before < suc place
+depth-below place None h = omega arith
+depth-below place (Some other) h = omega (arith, h)
+
+pub depth-before : (nodes : List Node) (place : ℕ) (last : Option ℕ) (node : Node) → AreInOrder 0 nodes → last ≡ Some place → IsBelow (length nodes) last → node ≡ get_or nodes place node
+    → depth node.before < depth last
+depth-before nodes place last node order is below e =
+    let h : place < length nodes = subst (IsBelow (length nodes)) is below in
+    rw is (depth-below place node.before (IsBelow-before nodes place node order h e))
+
+pub below-before : (nodes : List Node) (place : ℕ) (last : Option ℕ) (node : Node) → AreInOrder 0 nodes → last ≡ Some place → IsBelow (length nodes) last → node ≡ get_or nodes place node
+    → IsBelow (length nodes) node.before
+below-before nodes place last node order is below e =
+    let h : place < length nodes = subst (IsBelow (length nodes)) is below in
+    below-more place (length nodes) node.before (omega (arith, h)) (IsBelow-before nodes place node order h e)
+
+pub split-before : (nodes : List Node) (place : ℕ) (last : Option ℕ) (node : Node) (entries total : Content) → AreInOrder 0 nodes → last ≡ Some place → IsBelow (length nodes) last → node ≡ get_or nodes place node
+    → content_at (contents nodes) last ++ reverse entries ≡ total → content_at (contents nodes) node.before ++ reverse (entries ++ node.entry ∷ []) ≡ total
+split-before nodes place last node entries total order is below e split =
+    let h : place < length nodes = subst (IsBelow (length nodes)) is below in
+    ap (λ others. content_at (contents nodes) node.before ++ others) (reverse-append entries (node.entry ∷ []))
+    ∙ sym (append_assoc (content_at (contents nodes) node.before) (node.entry ∷ []) (reverse entries))
+    ∙ ap (λ content. content ++ reverse entries) (sym (content_at-node nodes place node order h e) ∙ ap (content_at (contents nodes)) (sym is))
+    ∙ split

@@ -33,7 +33,7 @@ empty_table {A} count none = fun_ext (λ at. one count at) where
 pub IsStep-register : (stream : List ℕ) (eof : Option ℕ) (statement : Stmt) (old new : Scanner) (register : ℕ) (value : Option ℕ) → SetsRegister old new register value
     → ((piece : Piece) (rest : List Stmt) (values : List Value) → whole_step piece stream statement rest (machine_of old values)
        ≡ goes_on rest (record (machine_of old values) { registers = updated register value (register_in old.registers.items) }) [])
-    → ((values : List Value) → values_after statement (machine_of old values) values ≡ values) → target statement (machine_of old []) ≡ None
+    → ((values : List Value) → values_after statement (machine_of old values) values ≡ values) → ((values : List Value) → target statement (machine_of old values) ≡ None)
     → IsStep stream eof statement old new Next
 IsStep-register stream eof statement old new register value sets step values_kept none = record {
   step = λ piece rest values e. step piece rest values

@@ -151,7 +151,7 @@ fn append_offset_slots(alloc: Global, slots: &mut Vec<OffsetSlot>, statements: &
 fn append_offset_slot(alloc: Global, slots: &mut Vec<OffsetSlot>, name: &[u8]) -> Result<(), Memory>
     ensures { OnOk result (slots.new.items ≡ onto_offsets name.now slots.old.items) }
 {
-    if slots.iter().any(|slot| same_words(slot.name.as_slice(), name)) {
+    if offset_of(slots, name).is_some() {
         return Ok(());
     }
     let name = ByteText::from_vec(Vec::from_slice(alloc, name)?);
@@ -183,7 +183,7 @@ fn append_history_slots(alloc: Global, slots: &mut Vec<HistorySlot>, statements:
 fn append_history_slot(alloc: Global, slots: &mut Vec<HistorySlot>, name: &[u8]) -> Result<(), Memory>
     ensures { OnOk result (slots.new.items ≡ onto_histories name.now slots.old.items) }
 {
-    if slots.iter().any(|slot| same_words(slot.name.as_slice(), name)) {
+    if history_of(slots, name).is_some() {
         return Ok(());
     }
     let name = ByteText::from_vec(Vec::from_slice(alloc, name)?);
