@@ -45,13 +45,13 @@ get_or-map-content_at done (first ∷ lasts) (suc place) last h = get_or-map-con
 pub view-append : (lasts : List (Option ℕ)) (nodes : List Node) (place : ℕ) (node : Node) (count : ℕ) → AreBelow lasts nodes → place < length lasts
     → node.before ≡ get_or lasts place node.before → count ≡ length nodes
     → map (content_at (contents (nodes ++ node ∷ []))) (set lasts place (Some count))
-      ≡ set (map (content_at (contents nodes)) lasts) place (get_or (map (content_at (contents nodes)) lasts) place [] ++ node.entry ∷ [])
+    ≡ set (map (content_at (contents nodes)) lasts) place (get_or (map (content_at (contents nodes)) lasts) place [] ++ node.entry ∷ [])
 view-append lasts nodes place node count below h before e =
     let done : List Content = contents nodes in
     let many : length done ≡ length nodes = length-contents_behind [] nodes ∙ omega arith in
     let at_end : get_or (done ++ grown done node ∷ []) count [] ≡ grown done node = ap (λ n. get_or (done ++ grown done node ∷ []) n []) (e ∙ sym many) ∙ get_or-append_seam done (grown done node) [] [] in
     let kept : map (content_at (done ++ grown done node ∷ [])) lasts ≡ map (content_at done) lasts =
-        map-content_at-more done (grown done node) lasts (let P : ℕ → Type 0 = λ n. AllByRecursion (IsBelow n) lasts in subst P (sym many) below.each) in
+    map-content_at-more done (grown done node) lasts (let P : ℕ → Type 0 = λ n. AllByRecursion (IsBelow n) lasts in subst P (sym many) below.each) in
     let own : content_at done node.before ≡ get_or (map (content_at done) lasts) place [] = ap (content_at done) before ∙ sym (get_or-map-content_at done lasts place node.before h) in
     ap (λ all. map (content_at all) (set lasts place (Some count))) (contents_behind-append [] nodes node)
     ∙ map-set (content_at (done ++ grown done node ∷ [])) lasts place (Some count)
@@ -110,7 +110,7 @@ content_of_node done (first ∷ nodes) zero node order h e =
     let longer : length more ≡ length done + 1 = length-append done (grown done first ∷ []) in
     let at : get_or (contents_behind more nodes) (length done + 0) [] ≡ get_or (contents_behind more nodes) (length done) [] = ap (λ n. get_or (contents_behind more nodes) n []) (omega arith) in
     let own : content_at (contents_behind more nodes) first.before ≡ content_at done first.before =
-        content_at-front more nodes first.before (below-more (length done) (length more) first.before (omega (arith, longer)) order.0) ∙ content_at-more done (grown done first) first.before order.0 in
+    content_at-front more nodes first.before (below-more (length done) (length more) first.before (omega (arith, longer)) order.0) ∙ content_at-more done (grown done first) first.before order.0 in
     at ∙ contents_behind-front more nodes (length done) (omega (arith, longer)) ∙ get_or-append_seam done (grown done first) [] []
     ∙ ap (λ content. content ++ first.entry ∷ []) (sym own) ∙ ap (λ one. grown (contents_behind more nodes) one) (sym e)
 content_of_node done (first ∷ nodes) (suc place) node order h e =

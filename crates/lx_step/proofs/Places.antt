@@ -6,10 +6,16 @@ use Rattle.std.proofs.lemmas.Map.Made.{length-le_from_is_member}
 use Rattle.lx_ccode.specs.declared.piece.Stmt.{Stmt}
 use Rattle.lx_ccode.specs.declared.piece.CodeBlock.{CodeBlock}
 use Rattle.lx_ccode.specs.Machine.{code_at}
-use Rattle.lx_ccode.specs.Statements.{code_of}
+use Rattle.lx_ccode.specs.Statements.{code_of, all_statements, statement_count}
 use Rattle.lx_step.specs.declared.answers.StmtAt.{StmtAt}
 use Rattle.lx_step.specs.declared.matches.Position.{Position}
 use Rattle.lx_step.specs.Assigned.{is_assignment, same_place}
+use Rattle.lx_step.specs.declared.scanner.Scanner.{Scanner}
+use Rattle.lx_step.specs.declared.sizes.Sizes.{Sizes}
+use Rattle.lx_step.specs.Given.{Given}
+use Rattle.lx_step.specs.Sizes.{sizes_of, sizes_of_all, AreWithin}
+use Rattle.lx_step.specs.Steps.{HasRoom, KeepsTables}
+use Rattle.lx_step.proofs.GreaterSizes.{AreWithin-all}
 use Rattle.lx_step.specs.Places.{place_of, StandsAt, places_in, places_from, AreRoomy, StaysIn}
 
 eqb-self : (n : ℕ) → (n == n) ≡ true
@@ -52,9 +58,9 @@ either false b e = inr e
 any-append : (test : StmtAt → Bool) (places : List StmtAt) (place : StmtAt) → list_any test (places ++ place ∷ []) ≡ true → (list_any test places ≡ true) ⊎ (test place ≡ true)
 any-append test [] place e = elim (either (test place) false e) [ inl h ↦ inr h | inr h ↦ absurd (let k : false ≡ true = h in cc) ]
 any-append test (first ∷ places) place e = elim (either (test first) (list_any test (places ++ place ∷ [])) e) [
-    inl h ↦ inl (rw h refl)
+  | inl h ↦ inl (rw h refl)
   | inr h ↦ elim (any-append test places place h) [ inl k ↦ inl (or-right (test first) (list_any test places) k) | inr k ↦ inr k ]
-  ] where
+] where
   or-right : (a b : Bool) → b ≡ true → (a || b) ≡ true
   or-right true b k = refl
   or-right false b k = k
@@ -132,9 +138,9 @@ pub StaysIn-more : (blocks : List CodeBlock) (at : Position) (statement : Stmt) 
 StaysIn-more blocks at statement places stands t new within = record {
   distinct = distinct-append places (place_of at) within.distinct new;
   among = λ place e. elim (any-append (same_place place) places (place_of at) e) [
-      inl h ↦ within.among place h
+    | inl h ↦ within.among place h
     | inr h ↦ subst (λ (one : StmtAt). list_any (same_place one) (places_from 0 blocks) ≡ true) (sym (same_place-true place (place_of at) h)) (is_place blocks at statement stands t)
-    ];
+  ];
 }
 
 pub room_left : (blocks : List CodeBlock) (at : Position) (statement : Stmt) (places : List StmtAt) (room : ℕ) → StandsAt blocks at statement → is_assignment statement ≡ true
@@ -142,7 +148,7 @@ pub room_left : (blocks : List CodeBlock) (at : Position) (statement : Stmt) (pl
 room_left blocks at statement places room stands t new within roomy =
     let more : StaysIn blocks (places ++ place_of at ∷ []) = StaysIn-more blocks at statement places stands t new within in
     let few : length (places ++ place_of at ∷ []) ≤ length (places_from 0 blocks) =
-        length-le_from_is_member same_place-laws (places ++ place_of at ∷ []) (places_from 0 blocks) more.distinct more.among in
+    length-le_from_is_member same_place-laws (places ++ place_of at ∷ []) (places_from 0 blocks) more.distinct more.among in
     omega (arith, few, roomy, length-append places (place_of at ∷ []))
 
 pub any-turned : (place : StmtAt) (places : List StmtAt) → list_any (same_place place) places ≡ list_any (λ other. same_place other place) places
@@ -151,3 +157,70 @@ any-turned place (first ∷ places) =
     let one : same_place place first ≡ same_place first place = same_place-symm place first in
     let others : list_any (same_place place) places ≡ list_any (λ other. same_place other place) places = any-turned place places in
     rw (one, others) refl
+
+pub StaysIn-none : (blocks : List CodeBlock) (places : List StmtAt) → places ≡ [] → StaysIn blocks places
+unfolding IsDistinct
+StaysIn-none blocks places e = subst (StaysIn blocks) (sym e) (record { distinct = tt; among = λ place h. absurd (let k : false ≡ true = h in cc) })
+
+-- ---- there are at most as many as statements
+
+length-onto : (test : Bool) (here : StmtAt) (places : List StmtAt) → length (if test then here ∷ places else places) ≤ suc (length places)
+length-onto true here places = omega arith
+length-onto false here places = omega arith
+
+length-places_in : (block stmt : ℕ) (statements : List Stmt) (others : List StmtAt) → length (places_in block stmt statements others) ≤ length statements + length others
+length-places_in block stmt [] others = omega arith
+length-places_in block stmt (statement ∷ statements) others =
+    omega (arith, length-onto (is_assignment statement) (record { block = block; stmt = stmt }) (places_in block (suc stmt) statements others), length-places_in block (suc stmt) statements others)
+
+pub length-places_from : (block : ℕ) (blocks : List CodeBlock) → length (places_from block blocks) ≤ statement_count blocks
+length-places_from block [] = omega arith
+length-places_from block (first ∷ blocks) = omega (arith, length-places_in block 0 first.stmts (places_from (suc block) blocks), length-places_from (suc block) blocks)
+
+-- ---- what holds of all statements holds of one
+
+all-left : (P : Stmt → Type 0) (statements others : List Stmt) → AllByRecursion P (statements ++ others) → AllByRecursion P statements
+all-left P [] others h = tt
+all-left P (statement ∷ statements) others h = (h.0, all-left P statements others h.1)
+
+all-right : (P : Stmt → Type 0) (statements others : List Stmt) → AllByRecursion P (statements ++ others) → AllByRecursion P others
+all-right P [] others h = h
+all-right P (statement ∷ statements) others h = all-right P statements others h.1
+
+all-at : (P : Stmt → Type 0) (statements : List Stmt) (place : ℕ) (statement : Stmt) → AllByRecursion P statements → slice_get statements place ≡ Some statement → P statement
+all-at P [] place statement h e = absurd cc
+all-at P (first ∷ statements) zero statement h e = let same : first ≡ statement = cc in subst P same h.0
+all-at P (first ∷ statements) (suc place) statement h e = all-at P statements place statement h.1 e
+
+pub all-stands : (P : Stmt → Type 0) (blocks : List CodeBlock) (block stmt : ℕ) (code : List Stmt) (statement : Stmt) → AllByRecursion P (all_statements blocks)
+    → slice_get (code_of blocks) block ≡ Some code → slice_get code stmt ≡ Some statement → P statement
+all-stands P [] block stmt code statement h b s = absurd cc
+all-stands P (first ∷ blocks) zero stmt code statement h b s =
+    let same : first.stmts ≡ code = cc in all-at P first.stmts stmt statement (all-left P first.stmts (all_statements blocks) h) (ap (λ statements. slice_get statements stmt) same ∙ s)
+all-stands P (first ∷ blocks) (suc block) stmt code statement h b s = all-stands P blocks block stmt code statement (all-right P first.stmts (all_statements blocks) h) b s
+
+any-all : (test : Stmt → Bool) (statements : List Stmt) → AllByRecursion (λ statement. test statement ≡ true → list_any test statements ≡ true) statements
+any-all test [] = tt
+any-all test (first ∷ statements) = (λ e. rw e refl, more statements (any-all test statements)) where
+  more : (others : List Stmt) → AllByRecursion (λ statement. test statement ≡ true → list_any test statements ≡ true) others → AllByRecursion (λ statement. test statement ≡ true → (test first || list_any test statements) ≡ true) others
+  more [] h = tt
+  more (statement ∷ others) h = (λ e. or-true (test first) (list_any test statements) (h.0 e), more others h.1)
+
+-- a statement passes the test, so some statement of the piece does
+pub any-stands : (test : Stmt → Bool) (blocks : List CodeBlock) (block stmt : ℕ) (code : List Stmt) (statement : Stmt)
+    → slice_get (code_of blocks) block ≡ Some code → slice_get code stmt ≡ Some statement → test statement ≡ true → list_any test (all_statements blocks) ≡ true
+any-stands test blocks block stmt code statement b s e =
+    all-stands (λ one. test one ≡ true → list_any test (all_statements blocks) ≡ true) blocks block stmt code statement (any-all test (all_statements blocks)) b s e
+
+-- ---- room
+
+pub HasRoom-statement : (blocks : List CodeBlock) (at : Position) (statement : Stmt) (scanner : Scanner) (given : Given) → HasRoom (sizes_of_all (all_statements blocks)) scanner given
+    → StandsAt blocks at statement → HasRoom (sizes_of statement) scanner given
+HasRoom-statement blocks at statement scanner given room stands =
+    let within : AreWithin (sizes_of statement) (sizes_of_all (all_statements blocks)) =
+    all-stands (λ one. AreWithin (sizes_of one) (sizes_of_all (all_statements blocks))) blocks at.block at.stmt at.code.now statement (AreWithin-all (all_statements blocks)) stands.block stands.stmt in
+    record { registers = omega (arith, within.registers, room.registers); histories = omega (arith, within.histories, room.histories); groups = omega (arith, within.groups, room.groups) }
+
+pub HasRoom-kept : (sizes : Sizes) (old new : Scanner) (given more : Given) → HasRoom sizes old given → KeepsTables old new → length more.entries ≡ length given.entries → HasRoom sizes new more
+HasRoom-kept sizes old new given more room kept entries =
+    record { registers = omega (arith, room.registers, kept.registers); histories = omega (arith, room.histories, kept.histories); groups = omega (arith, room.groups, entries) }

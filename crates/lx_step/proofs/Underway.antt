@@ -1,11 +1,12 @@
 -- A match that is under way, and how it goes on and ends.
-use Rattle.std.proofs.Common.{◌≡◌, ◌∙◌, sym, ap, subst, refl, ℕ, zero, suc, ◌+◌, ◌-◌, ◌<◌, ◌≤◌, true, false, List, [], ◌∷◌, ◌++◌, length, drop, Option, Some, None, Ok, Err, slice_get, arith}
+use Rattle.std.proofs.Common.{◌≡◌, ◌∙◌, sym, ap, subst, refl, ℕ, zero, suc, ◌+◌, ◌*◌, ◌-◌, ◌<◌, ◌≤◌, true, false, List, [], ◌∷◌, ◌++◌, length, drop, Option, Some, None, Ok, Err, Result, OnErr, slice_get, arith}
 use Rattle.lx_ccode.specs.declared.piece.Stmt.{Stmt}
 use Rattle.lx_ccode.specs.declared.piece.Stmt.TheVariants.{Tag, Count, End, Cond}
 use Rattle.lx_ccode.specs.declared.piece.Piece.{Piece}
 use Rattle.lx_ccode.specs.Machine.{Value, Machine, goes_on, ends, code_at}
 use Rattle.lx_ccode.specs.Machine as machine
 use Rattle.lx_ccode.specs.Runs.{Ended, ended, entry_block, fresh_machine, loop_count}
+use Rattle.lx_ccode.specs.Statements.{statement_count}
 use Rattle.lx_step.specs.declared.answers.Outcome.{Outcome}
 use Rattle.lx_step.specs.declared.answers.Outcome.TheVariants as outcome
 use Rattle.lx_step.specs.declared.answers.StmtAt.{StmtAt}
@@ -114,7 +115,7 @@ goes_further piece stream eof fuel at next old new before given more assigned ot
       places = ap (λ at. assigned_from piece stream fuel at (code_of next) (machine_of new after) others) place
           ∙ ap (assigned_from piece stream fuel (place_after (place_of at) (target statement (machine_of old values))) (code_of next) (machine_of new after)) noted
           ∙ sym (ap (λ code. assigned_from piece stream (suc fuel) (place_of at) code (machine_of old values) assigned) split
-            ∙ ap (grown_on piece stream (assigned_from piece stream fuel) (place_after (place_of at) (target statement (machine_of old values))) (with_statement (place_of at) statement assigned)) moved)
+          ∙ ap (grown_on piece stream (assigned_from piece stream fuel) (place_after (place_of at) (target statement (machine_of old values))) (with_statement (place_of at) statement assigned)) moved)
           ∙ u.places;
       kept = kept ∙ ap (given_after statement (machine_of old [])) u.kept ∙ kept-step statement old values before;
     }
@@ -135,7 +136,7 @@ ends_by_step piece stream eof fuel at first old new before given more assigned o
     (sym (ap (λ code. whole_from piece stream (suc fuel) code (machine_of old values)) split ∙ ap (whole_on piece stream (whole_from piece stream fuel)) moved) ∙ u.run)
     (kept ∙ ap (given_after statement (machine_of old [])) u.kept ∙ kept-step statement old values before)
     (noted ∙ sym (ap (λ code. assigned_from piece stream (suc fuel) (place_of at) code (machine_of old values) assigned) split
-      ∙ ap (grown_on piece stream (assigned_from piece stream fuel) (place_after (place_of at) (target statement (machine_of old values))) (with_statement (place_of at) statement assigned)) moved)
+    ∙ ap (grown_on piece stream (assigned_from piece stream fuel) (place_after (place_of at) (target statement (machine_of old values))) (with_statement (place_of at) statement assigned)) moved)
     ∙ u.places)
 
 pub ends_without_code : (piece : Piece) (stream : List ℕ) (fuel : ℕ) (at : Position) (first scanner : Scanner) (before given : Given) (assigned : List StmtAt)
@@ -152,3 +153,36 @@ pub ends_in_loop : (piece : Piece) (stream : List ℕ) (at : Position) (first sc
     → HasEnded piece stream first before outcome.Loop scanner given assigned
 ends_in_loop piece stream at first scanner before given assigned u =
     ends_as piece stream first before outcome.Loop scanner given assigned u.values tt u.run u.kept u.places
+
+-- ---- with the steps that may still come
+
+-- there is one step more to come
+pub one_more : (piece : Piece) (stream : List ℕ) (most steps : ℕ) (at : Position) (scanner : Scanner) (before given : Given) (assigned : List StmtAt) (end : Ended) (all : List StmtAt)
+    → steps < most → IsUnderway piece stream (most - steps) at scanner before given assigned end all → IsUnderway piece stream (suc (most - (steps + 1))) at scanner before given assigned end all
+one_more piece stream most steps at scanner before given assigned end all h u =
+    let count : most - steps ≡ suc (most - (steps + 1)) = omega (arith, h) in
+    subst (λ fuel. IsUnderway piece stream fuel at scanner before given assigned end all) count u
+
+-- there is none
+pub none_more : (piece : Piece) (stream : List ℕ) (most steps : ℕ) (at : Position) (scanner : Scanner) (before given : Given) (assigned : List StmtAt) (end : Ended) (all : List StmtAt)
+    → most ≤ steps → IsUnderway piece stream (most - steps) at scanner before given assigned end all → IsUnderway piece stream 0 at scanner before given assigned end all
+none_more piece stream most steps at scanner before given assigned end all h u =
+    let count : most - steps ≡ 0 = omega (arith, h) in
+    subst (λ fuel. IsUnderway piece stream fuel at scanner before given assigned end all) count u
+
+pub begins_with : (piece : Piece) (stream : List ℕ) (scanner : Scanner) (given : Given) (at : Position) (most statements : ℕ) (assigned : List StmtAt)
+    → machine_of scanner [] ≡ fresh_machine scanner.cursor (length stream) scanner.cond.now → StartsIn piece scanner.cond.now (Some at)
+    → most ≡ 2 * ((scanner.limit - scanner.cursor) + 2) * statements → statements ≡ statement_count piece.blocks → assigned ≡ []
+    → IsUnderway piece stream (most - 0) at scanner given given assigned (whole_run piece stream scanner.cursor scanner.cond.now) (assigned_of piece stream scanner.cursor scanner.cond.now)
+begins_with piece stream scanner given at most statements assigned fresh starts m n e =
+    let limit : scanner.limit ≡ length stream = ap (λ (machine : Machine). machine.limit) fresh in
+    let first : most - 0 ≡ most = omega arith in
+    let count : most - 0 ≡ loop_count piece scanner.cursor (length stream) =
+    first ∙ m ∙ ap (λ l. 2 * ((l - scanner.cursor) + 2) * statements) limit ∙ ap (λ k. 2 * ((length stream - scanner.cursor) + 2) * k) n in
+    subst (λ places. IsUnderway piece stream (most - 0) at scanner given given places (whole_run piece stream scanner.cursor scanner.cond.now) (assigned_of piece stream scanner.cursor scanner.cond.now)) (sym e)
+    (subst (λ fuel. IsUnderway piece stream fuel at scanner given given [] (whole_run piece stream scanner.cursor scanner.cond.now) (assigned_of piece stream scanner.cursor scanner.cond.now)) (sym count)
+    (begins piece stream scanner given at fresh starts))
+
+pub OnErr-always : {A E : Type 0} (result : Result A E) (P : Type 0) → P → OnErr result P
+OnErr-always (Ok value) P h = tt
+OnErr-always (Err error) P h = h

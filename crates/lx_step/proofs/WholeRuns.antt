@@ -32,7 +32,6 @@ data Agrees (limit : ℕ) (answers : List Answer) : Next → Next → Type 0 whe
   one_used : {code : List Stmt} {machine : Machine} → machine.limit ≡ limit → Agrees limit answers (goes_on code machine answers) (goes_on code machine [])
   ended_both : {outcome : machine.Outcome} {machine : Machine} → Agrees limit answers (ends outcome machine) (ends outcome machine)
 
-
 -- what comes after a step under "no more" and more answers, and after it under "no more" alone
 abbrev SameNext : ℕ → List Answer → (List Answer → Next) → Type 0
 SameNext limit answers next = Agrees limit answers (next (refilled no_more ∷ answers)) (without_answers (next (refilled no_more ∷ [])))

@@ -57,7 +57,10 @@ impl Slots {
         Ok(Slots {
             offsets: slots_of_offsets(alloc, blocks)?,
             histories: slots_of_histories(alloc, blocks)?,
-            entries: vec![in alloc; Group { from: None, to: None }; groups as usize]?,
+            entries: vec![in alloc; Group {
+                from: None,
+                to: None
+            }; groups as usize]?,
             groups: 0,
         })
     }
@@ -137,7 +140,11 @@ fn slots_of_offsets(alloc: Global, blocks: &[CodeBlock]) -> Result<Vec<OffsetSlo
     Ok(slots)
 }
 
-fn append_offset_slots(alloc: Global, slots: &mut Vec<OffsetSlot>, statements: &[Stmt]) -> Result<(), Memory>
+fn append_offset_slots(
+    alloc: Global,
+    slots: &mut Vec<OffsetSlot>,
+    statements: &[Stmt],
+) -> Result<(), Memory>
     ensures { OnOk result (slots.new.items ≡ offset_slots statements.now slots.old.items) }
 {
     for statement in statements {
@@ -169,7 +176,11 @@ fn slots_of_histories(alloc: Global, blocks: &[CodeBlock]) -> Result<Vec<History
     Ok(slots)
 }
 
-fn append_history_slots(alloc: Global, slots: &mut Vec<HistorySlot>, statements: &[Stmt]) -> Result<(), Memory>
+fn append_history_slots(
+    alloc: Global,
+    slots: &mut Vec<HistorySlot>,
+    statements: &[Stmt],
+) -> Result<(), Memory>
     ensures { OnOk result (slots.new.items ≡ history_slots statements.now slots.old.items) }
 {
     for statement in statements {
@@ -180,7 +191,11 @@ fn append_history_slots(alloc: Global, slots: &mut Vec<HistorySlot>, statements:
     Ok(())
 }
 
-fn append_history_slot(alloc: Global, slots: &mut Vec<HistorySlot>, name: &[u8]) -> Result<(), Memory>
+fn append_history_slot(
+    alloc: Global,
+    slots: &mut Vec<HistorySlot>,
+    name: &[u8],
+) -> Result<(), Memory>
     ensures { OnOk result (slots.new.items ≡ onto_histories name.now slots.old.items) }
 {
     if history_of(slots, name).is_some() {

@@ -11,7 +11,6 @@ overflow_add-place c = let inside : 4 * c.args.offset + 3 < length c.args.bytes.
 pub two_bytes-requires : goal.two_bytes-requires
 two_bytes-requires c = omega (arith, within_four c.args.bytes.now c.args.offset c.requires)
 
-
 pub two_bytes-requires-2 : goal.two_bytes-requires-2
 two_bytes-requires-2 c = omega (arith, within_four c.args.bytes.now c.args.offset c.requires)
 

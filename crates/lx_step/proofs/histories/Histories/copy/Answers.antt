@@ -11,4 +11,4 @@ returns c =
     let count : length lasts ≡ length c.args.self.now = length-view done _ _ c.self.view_is in
     rw (← c.self.view_is) (map-set (content_at done) lasts c.args.history c.index.result.now
     ∙ ap (λ content. set (map (content_at done) lasts) c.args.history content)
-      (ap (content_at done) c.index.ensures ∙ sym (get_or-map-content_at done lasts c.args.source c.index.result.now (omega (arith, count, c.requires.source)))))
+    (ap (content_at done) c.index.ensures ∙ sym (get_or-map-content_at done lasts c.args.source c.index.result.now (omega (arith, count, c.requires.source)))))
