@@ -1,5 +1,6 @@
 -- The sizes of lists of statements.
-use Rattle.std.proofs.Common.{◌≡◌, ◌∙◌, sym, ap, refl, ℕ, ◌≤◌, max, List, [], ◌∷◌, ◌++◌, arith}
+use Rattle.std.proofs.Common.{◌≡◌, ◌∙◌, sym, ap, refl, ℕ, suc, ◌+◌, ◌<◌, ◌≤◌, length, drop, get_or, max, List, [], ◌∷◌, ◌++◌, arith}
+use Rattle.std.proofs.Math.Seq.{drop-cons}
 use Rattle.std.specs.List.{AllByRecursion}
 use Rattle.lx_ccode.specs.declared.piece.Stmt.{Stmt}
 use Rattle.lx_ccode.specs.declared.piece.CodeBlock.{CodeBlock}
@@ -40,3 +41,16 @@ pub AreWithin-all : (statements : List Stmt) → AllByRecursion (λ statement. A
 AreWithin-all [] = tt
 AreWithin-all (statement ∷ statements) =
     (record { registers = omega arith; histories = omega arith; groups = omega arith }, within-greater statements (sizes_of statement) (sizes_of_all statements) (AreWithin-all statements))
+
+-- one block more
+pub sizes-more : (blocks : List CodeBlock) (place : ℕ) (block : CodeBlock) (sizes own more total : Sizes) → place < length blocks → block ≡ get_or blocks place block
+    → own ≡ sizes_of_all block.stmts → more ≡ greater_sizes sizes own → greater_sizes sizes (sizes_of_all (all_statements (drop place blocks))) ≡ total
+    → greater_sizes more (sizes_of_all (all_statements (drop (place + 1) blocks))) ≡ total
+sizes-more blocks place block sizes own more total h is o m e =
+    let rest : List CodeBlock = drop (place + 1) blocks in
+    let next : suc place ≡ place + 1 = omega arith in
+    let split : drop place blocks ≡ block ∷ rest = drop-cons blocks place block h ∙ ap (λ n. get_or blocks place block ∷ drop n blocks) next ∙ ap (λ one. one ∷ rest) (sym is) in
+    ap (λ one. greater_sizes one (sizes_of_all (all_statements rest))) (m ∙ ap (greater_sizes sizes) o)
+    ∙ greater-assoc sizes (sizes_of_all block.stmts) (sizes_of_all (all_statements rest))
+    ∙ ap (greater_sizes sizes) (sym (sizes_of_all-append block.stmts (all_statements rest)) ∙ ap (λ all. sizes_of_all (all_statements all)) (sym split))
+    ∙ e

@@ -3,6 +3,7 @@ pub mod Nodes
 pub mod Places
 pub mod GreaterSizes
 pub mod SlotLists
+pub mod Soundness
 pub mod Streams
 pub mod Tables
 pub mod Underway

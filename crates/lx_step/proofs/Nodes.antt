@@ -1,7 +1,7 @@
 -- The contents of nodes.
-use Rattle.std.proofs.Common.{◌≡◌, ◌∙◌, sym, subst, ap, refl, ℕ, zero, suc, ◌+◌, ◌<◌, ◌≤◌, List, [], ◌∷◌, ◌++◌, length, map, set, get_or, replicate, append_assoc, length-append, arith, Option, Some, None}
-use Rattle.std.proofs.lemmas.List.{get_or_append_left, map-set}
-use Rattle.std.proofs.Math.ListN.{get_or-append_seam}
+use Rattle.std.proofs.Common.{◌≡◌, ◌∙◌, sym, subst, reverse, ap, refl, ℕ, zero, suc, ◌+◌, ◌<◌, ◌≤◌, List, [], ◌∷◌, ◌++◌, length, map, set, get_or, replicate, append_assoc, length-append, arith, Option, Some, None}
+use Rattle.std.proofs.lemmas.List.{get_or_append_left, map-set, length-map, reverse-append}
+use Rattle.std.proofs.Math.Seq.{get_or-append_seam}
 use Rattle.std.specs.List.{AllByRecursion}
 use Rattle.lx_step.specs.declared.histories.Node.{Node}
 use Rattle.lx_step.specs.Nodes.{content_at, contents_behind, contents, IsBelow, AreInOrder, AreBelow}
@@ -45,13 +45,13 @@ get_or-map-content_at done (first ∷ lasts) (suc place) last h = get_or-map-con
 pub view-append : (lasts : List (Option ℕ)) (nodes : List Node) (place : ℕ) (node : Node) (count : ℕ) → AreBelow lasts nodes → place < length lasts
     → node.before ≡ get_or lasts place node.before → count ≡ length nodes
     → map (content_at (contents (nodes ++ node ∷ []))) (set lasts place (Some count))
-      ≡ set (map (content_at (contents nodes)) lasts) place (get_or (map (content_at (contents nodes)) lasts) place [] ++ node.entry ∷ [])
+    ≡ set (map (content_at (contents nodes)) lasts) place (get_or (map (content_at (contents nodes)) lasts) place [] ++ node.entry ∷ [])
 view-append lasts nodes place node count below h before e =
     let done : List Content = contents nodes in
     let many : length done ≡ length nodes = length-contents_behind [] nodes ∙ omega arith in
     let at_end : get_or (done ++ grown done node ∷ []) count [] ≡ grown done node = ap (λ n. get_or (done ++ grown done node ∷ []) n []) (e ∙ sym many) ∙ get_or-append_seam done (grown done node) [] [] in
     let kept : map (content_at (done ++ grown done node ∷ [])) lasts ≡ map (content_at done) lasts =
-        map-content_at-more done (grown done node) lasts (let P : ℕ → Type 0 = λ n. AllByRecursion (IsBelow n) lasts in subst P (sym many) below.each) in
+    map-content_at-more done (grown done node) lasts (let P : ℕ → Type 0 = λ n. AllByRecursion (IsBelow n) lasts in subst P (sym many) below.each) in
     let own : content_at done node.before ≡ get_or (map (content_at done) lasts) place [] = ap (content_at done) before ∙ sym (get_or-map-content_at done lasts place node.before h) in
     ap (λ all. map (content_at all) (set lasts place (Some count))) (contents_behind-append [] nodes node)
     ∙ map-set (content_at (done ++ grown done node ∷ [])) lasts place (Some count)
@@ -110,7 +110,7 @@ content_of_node done (first ∷ nodes) zero node order h e =
     let longer : length more ≡ length done + 1 = length-append done (grown done first ∷ []) in
     let at : get_or (contents_behind more nodes) (length done + 0) [] ≡ get_or (contents_behind more nodes) (length done) [] = ap (λ n. get_or (contents_behind more nodes) n []) (omega arith) in
     let own : content_at (contents_behind more nodes) first.before ≡ content_at done first.before =
-        content_at-front more nodes first.before (below-more (length done) (length more) first.before (omega (arith, longer)) order.0) ∙ content_at-more done (grown done first) first.before order.0 in
+    content_at-front more nodes first.before (below-more (length done) (length more) first.before (omega (arith, longer)) order.0) ∙ content_at-more done (grown done first) first.before order.0 in
     at ∙ contents_behind-front more nodes (length done) (omega (arith, longer)) ∙ get_or-append_seam done (grown done first) [] []
     ∙ ap (λ content. content ++ first.entry ∷ []) (sym own) ∙ ap (λ one. grown (contents_behind more nodes) one) (sym e)
 content_of_node done (first ∷ nodes) (suc place) node order h e =
@@ -138,3 +138,39 @@ IsBelow-before nodes place node order h e = below-more (0 + place) place node.be
 pub map-empty : (count : ℕ) → map (content_at (contents [])) (replicate count None) ≡ replicate count []
 map-empty zero = refl
 map-empty (suc count) = ap (λ rest. [] ∷ rest) (map-empty count)
+
+-- there are as many histories as last nodes
+pub length-view : (done : List Content) (lasts : List (Option ℕ)) (value : List Content) → map (content_at done) lasts ≡ value → length lasts ≡ length value
+length-view done lasts value e = sym (length-map lasts (content_at done)) ∙ ap length e
+
+-- ---- the entries, from the last one on
+
+-- how many nodes may still come
+abbrev pub depth : Option ℕ → ℕ
+depth None = 0
+depth (Some place) = suc place
+
+pub depth-below : (place : ℕ) (before : Option ℕ) → IsBelow place before → depth before < suc place
+depth-below place None h = omega arith
+depth-below place (Some other) h = omega (arith, h)
+
+pub depth-before : (nodes : List Node) (place : ℕ) (last : Option ℕ) (node : Node) → AreInOrder 0 nodes → last ≡ Some place → IsBelow (length nodes) last → node ≡ get_or nodes place node
+    → depth node.before < depth last
+depth-before nodes place last node order is below e =
+    let h : place < length nodes = subst (IsBelow (length nodes)) is below in
+    rw is (depth-below place node.before (IsBelow-before nodes place node order h e))
+
+pub below-before : (nodes : List Node) (place : ℕ) (last : Option ℕ) (node : Node) → AreInOrder 0 nodes → last ≡ Some place → IsBelow (length nodes) last → node ≡ get_or nodes place node
+    → IsBelow (length nodes) node.before
+below-before nodes place last node order is below e =
+    let h : place < length nodes = subst (IsBelow (length nodes)) is below in
+    below-more place (length nodes) node.before (omega (arith, h)) (IsBelow-before nodes place node order h e)
+
+pub split-before : (nodes : List Node) (place : ℕ) (last : Option ℕ) (node : Node) (entries total : Content) → AreInOrder 0 nodes → last ≡ Some place → IsBelow (length nodes) last → node ≡ get_or nodes place node
+    → content_at (contents nodes) last ++ reverse entries ≡ total → content_at (contents nodes) node.before ++ reverse (entries ++ node.entry ∷ []) ≡ total
+split-before nodes place last node entries total order is below e split =
+    let h : place < length nodes = subst (IsBelow (length nodes)) is below in
+    ap (λ others. content_at (contents nodes) node.before ++ others) (reverse-append entries (node.entry ∷ []))
+    ∙ sym (append_assoc (content_at (contents nodes) node.before) (node.entry ∷ []) (reverse entries))
+    ∙ ap (λ content. content ++ reverse entries) (sym (content_at-node nodes place node order h e) ∙ ap (content_at (contents nodes)) (sym is))
+    ∙ split

@@ -32,7 +32,6 @@ data Agrees (limit : ℕ) (answers : List Answer) : Next → Next → Type 0 whe
   one_used : {code : List Stmt} {machine : Machine} → machine.limit ≡ limit → Agrees limit answers (goes_on code machine answers) (goes_on code machine [])
   ended_both : {outcome : machine.Outcome} {machine : Machine} → Agrees limit answers (ends outcome machine) (ends outcome machine)
 
-
 -- what comes after a step under "no more" and more answers, and after it under "no more" alone
 abbrev SameNext : ℕ → List Answer → (List Answer → Next) → Type 0
 SameNext limit answers next = Agrees limit answers (next (refilled no_more ∷ answers)) (without_answers (next (refilled no_more ∷ [])))
@@ -110,10 +109,11 @@ unless_looped-whole : (piece : Piece) (stream : List ℕ) (start fuel steps : �
     → AreNoMores fuel answers → suc steps + fuel ≡ loop_count piece start machine.limit → RunsOn piece stream start fuel steps
     → (test : Bool) → nat_le (loop_count piece start machine.limit) (suc steps) ≡ test
     → gone_on piece stream start (suc steps) (run piece stream start fuel (suc steps)) (goes_on code machine answers) ≡ whole_from piece stream fuel code machine
-unless_looped-whole piece stream start zero steps code machine answers more e on true test = rw test refl
-unless_looped-whole piece stream start (suc fuel) steps code machine answers more e on true test =
+unless_looped-whole piece stream start zero steps code machine answers nones e on true test = rw test refl
+unless_looped-whole piece stream start zero steps code machine answers nones e on false test = rw test (on code machine answers nones e)
+unless_looped-whole piece stream start (suc fuel) steps code machine answers nones e on true test =
     let looped : loop_count piece start machine.limit ≤ suc steps = leb-true (loop_count piece start machine.limit) (suc steps) test in absurd (omega (arith, looped, e))
-unless_looped-whole piece stream start fuel steps code machine answers more e on false test = rw test (on code machine answers more e)
+unless_looped-whole piece stream start (suc fuel) steps code machine answers nones e on false test = rw test (on code machine answers nones e)
 
 going_on : (piece : Piece) (stream : List ℕ) (start fuel steps : ℕ) (machine : Machine) (answers : List Answer)
     → AreNoMores fuel answers → steps + suc fuel ≡ loop_count piece start machine.limit → RunsOn piece stream start fuel steps
@@ -137,7 +137,7 @@ run-whole piece stream start (suc fuel) steps (statement ∷ rest) machine [] h 
 run-whole piece stream start (suc fuel) steps (statement ∷ rest) machine (left refills ∷ answers) h e = absurd h
 run-whole piece stream start (suc fuel) steps (statement ∷ rest) machine (refilled (more dropped added) ∷ answers) h e = absurd h
 run-whole piece stream start (suc fuel) steps (statement ∷ rest) machine (refilled no_more ∷ answers) h e =
-    going_on piece stream start fuel steps machine answers h e (λ code other others more same. run-whole piece stream start fuel (suc steps) code other others more same)
+    going_on piece stream start fuel steps machine answers h e (λ code other others nones same. run-whole piece stream start fuel (suc steps) code other others nones same)
     (step piece stream statement rest machine (refilled no_more ∷ answers)) (whole_step piece stream statement rest machine) (same_step piece stream statement rest machine answers)
 
 none_added : (count limit : ℕ) → limit + units_of_answers (no_mores count) ≡ limit

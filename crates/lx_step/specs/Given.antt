@@ -1,6 +1,5 @@
 -- What a lexer keeps of the values that were given: for each tag the last one, the count of groups, and the ends of groups.
-use Rattle.std.specs.Prelude.{ℕ, ◌+◌, ◌/◌, ◌%◌, Bool, true, false, List, [], ◌∷◌, ◌++◌, map, replicate, Option, Some, None, ◌==◌, if◌then◌else◌, slice_index_or, slice_set}
-use Rattle.std.specs.List.{list_any}
+use Rattle.std.specs.Prelude.{ℕ, ◌+◌, ◌/◌, ◌%◌, Bool, true, false, List, [], ◌∷◌, ◌++◌, map, replicate, Option, Some, None, is_some, ◌==◌, if◌then◌else◌, slice_index_or, slice_set}
 use Rattle.lx_ccode.specs.declared.piece.Stmt.{Stmt}
 use Rattle.lx_ccode.specs.declared.piece.Stmt.TheVariants.{Tag}
 use Rattle.lx_ccode.specs.Machine.{Value, tag_offset, tag_history, group_count, group_end, condition}
@@ -70,11 +69,11 @@ history_in (slot ∷ slots) tag = if equal_words slot.name tag then Some slot.va
 -- the slots with one more at the end, unless the tag has one
 abbrev pub onto_offsets : (tag : List ℕ) → List OffsetSlot → List OffsetSlot
 onto_offsets tag slots =
-    if list_any (λ slot. equal_words slot.name tag) slots then slots else slots ++ record { name = tag; value = None } ∷ []
+    if is_some (offset_in slots tag) then slots else slots ++ record { name = tag; value = None } ∷ []
 
 abbrev pub onto_histories : (tag : List ℕ) → List HistorySlot → List HistorySlot
 onto_histories tag slots =
-    if list_any (λ slot. equal_words slot.name tag) slots then slots else slots ++ record { name = tag; value = [] } ∷ []
+    if is_some (history_in slots tag) then slots else slots ++ record { name = tag; value = [] } ∷ []
 
 -- the slots with those of the tags that statements give an offset
 abbrev pub offset_slots : List Stmt → List OffsetSlot → List OffsetSlot

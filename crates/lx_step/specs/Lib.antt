@@ -5,6 +5,7 @@ pub mod Matches
 pub mod Nodes
 pub mod Places
 pub mod Sizes
+pub mod Sound
 pub mod Steps
 pub mod Streams
 pub mod WholeRuns

@@ -98,7 +98,7 @@ pub record SetsRegister (old new : Scanner) (register : ℕ) (value : Option ℕ
 pub record IsStep (stream : List ℕ) (eof : Option ℕ) (statement : Stmt) (old new : Scanner) (going : Going) : Type 0 where
   pub step : (piece : Piece) (rest : List Stmt) (values : List Value) → piece.eof ≡ eof →
       whole_step piece stream statement rest (machine_of old values) ≡ next_of piece.blocks rest going (machine_of new (values_after statement (machine_of old values) values))
-  pub leads : Leads going (target statement (machine_of old []))
+  pub leads : (values : List Value) → Leads going (target statement (machine_of old values))
   pub tables : KeepsTables old new
   pub limit : new.limit ≡ old.limit
 

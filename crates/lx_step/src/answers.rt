@@ -1,4 +1,6 @@
 //! What a lexer answers.
+ghost use Rattle.std.specs.Prelude.{◌≡◌};
+ghost use Rattle.lx_step.specs.Held.{is_last};
 
 /// How a match ended.
 #[derive(Clone, Copy, Debug, PartialEq, Eq)]
@@ -20,6 +22,15 @@ pub enum Outcome {
     Spent,
     /// Memory ran out at a statement on histories: the lexer is spent.
     Memory,
+}
+
+impl Outcome {
+    /// Whether no further match may be made after it.
+    pub(crate) fn is_last(self) -> bool
+        ensures { result ≡ is_last self }
+    {
+        matches!(self, Outcome::Stuck | Outcome::Loop | Outcome::Memory)
+    }
 }
 
 /// The place of a statement: its block, and its place in that block, both counted from 0.

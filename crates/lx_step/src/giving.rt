@@ -18,24 +18,30 @@ impl<'p> Scanner<'p> {
     }
 
     /// Gives a tag the content of a register.
-    pub(crate) fn give_offset(&self, slots: &mut Slots, name: &[u8], register: u32) -> Going
+    pub(crate) fn give_offset(&self, slots: &mut Slots, name: &ByteText, register: u32) -> Going
         requires { register < length self.now.registers.items }
         ensures step { (stream : List ℕ) (eof : Option ℕ) → IsStep stream eof (stmt.Tag name.now false register) self.now self.now result }
         ensures given { slots.new ≡ given_after (stmt.Tag name.now false register) (machine_of self.now []) slots.old }
     {
-        slots.give_offset(name, self.registers[register as usize]);
+        slots.give_offset(name.as_slice(), self.registers[register as usize]);
         Going::Next
     }
 
     /// Gives a tag the content of a history.
-    pub(crate) fn give_history(&self, alloc: Global, slots: &mut Slots, name: &[u8], history: u32) -> Result<Going, Memory>
+    pub(crate) fn give_history(
+        &self,
+        alloc: Global,
+        slots: &mut Slots,
+        name: &ByteText,
+        history: u32,
+    ) -> Result<Going, Memory>
         requires { history < length self.now.histories }
         ensures step { IfOk result (λ going. (stream : List ℕ) (eof : Option ℕ) → IsStep stream eof (stmt.Tag name.now true history) self.now self.now going) }
         ensures given { IfOk result (λ going. slots.new ≡ given_after (stmt.Tag name.now true history) (machine_of self.now []) slots.old) }
         ensures kept { OnErr result (slots.new ≡ slots.old) }
     {
         let entries = self.histories.entries(alloc, history as usize)?;
-        slots.give_history(name, entries);
+        slots.give_history(name.as_slice(), entries);
         Ok(Going::Next)
     }
 

@@ -77,7 +77,11 @@ impl Histories {
     }
 
     /// The entries of a history.
-    pub(crate) fn entries(&self, alloc: Global, history: usize) -> Result<Sequence<Option<u64>>, Memory>
+    pub(crate) fn entries(
+        &self,
+        alloc: Global,
+        history: usize,
+    ) -> Result<Sequence<Option<u64>>, Memory>
         requires { history < length self.now }
         ensures { IfOk result (λ entries. entries ≡ slice_index_or self.now history []) }
     {

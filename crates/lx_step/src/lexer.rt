@@ -1,19 +1,21 @@
 //! A lexer: a piece, and what it holds from match to match.
-ghost use Rattle.std.specs.Prelude.{◌≡◌, ◌/◌, ◌%◌, ◌≤◌, ◌↔◌, ℕ, List, Option, length, take, option_map, IfOk, IsSome, true, false};
+ghost use Rattle.std.specs.Prelude.{◌≡◌, ◌%◌, ◌≤◌, length, take, option_map, IfOk, is_some, true, false};
 ghost use Rattle.std.specs.List.{list_any};
 ghost use Rattle.lx_ccode.specs.Statements.{all_statements};
 ghost use Rattle.lx_ccode.specs.Validity.{IsValid};
 ghost use Rattle.lx_step.specs.Given.{gives_history, gives_offset, history_in, offset_in};
 ghost use Rattle.lx_step.specs.Held.{IsMatch, cond_of, first_cond, fresh};
+ghost use Rattle.lx_step.specs.Sound.{told};
 ghost use Rattle.lx_step.specs.Streams.{stream_units};
 
 use crate::answers::{Group, Outcome, StmtAt};
+use crate::matches::Program;
 use crate::scanner::Scanner;
 use crate::sizes::sizes_of_blocks;
 use crate::slots::Slots;
-use crate::units::{Width, WholeStream};
+use crate::units::{WholeStream, Width};
 use lx_base::Memory;
-use lx_ccode::{CondCase, Piece};
+use lx_ccode::{CondCase, Piece, statements};
 use std::alloc::Global;
 use std::marker::Model;
 
@@ -24,8 +26,7 @@ use std::marker::Model;
 /// that each refill is answered by "no more".
 #[derive(Debug, Drop)]
 pub struct Lexer<'p> {
-    alloc: Global,
-    piece: &'p Piece,
+    program: Program<'p>,
     spent: bool,
     start: u64,
     scanner: Scanner<'p>,
@@ -34,12 +35,15 @@ pub struct Lexer<'p> {
 }
 
 impl<'p> Model for Lexer<'p> {
+    ghost use Rattle.std.specs.Prelude.{vec_capacity};
     ghost use Rattle.lx_step.specs.Held.{Held};
 
     ghost Value = { Held };
 
+    ghost use Rattle.lx_step.specs.Sound.{IsSound};
+
     ghost view = { λ lexer. record {
-      piece = lexer.piece.now;
+      piece = lexer.program.piece.now;
       spent = lexer.spent;
       start = lexer.start;
       cursor = lexer.scanner.cursor;
@@ -47,6 +51,8 @@ impl<'p> Model for Lexer<'p> {
       given = lexer.slots;
       assigned = lexer.assigned.items;
     } };
+
+    ghost invariant = { λ lexer. IsSound lexer.program lexer.scanner lexer.slots (vec_capacity lexer.assigned) };
 }
 
 impl<'p> Lexer<'p> {
@@ -58,14 +64,18 @@ impl<'p> Lexer<'p> {
     {
         let blocks = piece.blocks.as_slice();
         let sizes = sizes_of_blocks(blocks);
-        Ok(Lexer {
+        let program = Program {
             alloc,
             piece,
+            statements: statements(piece),
+        };
+        Ok(Lexer {
+            program,
             spent: false,
             start: 0,
             scanner: Scanner::new(alloc, sizes, first_cond(piece.conds.as_slice()))?,
             slots: Slots::new(alloc, blocks, sizes.groups)?,
-            assigned: Vec::new(alloc),
+            assigned: Vec::with_capacity(alloc, program.statements as usize)?,
         })
     }
 
@@ -81,7 +91,26 @@ impl<'p> Lexer<'p> {
         ensures spent { self.old.spent ≡ true → (result ≡ Outcome.Spent) × (self.new ≡ self.old) }
         ensures run { self.old.spent ≡ false → IsMatch self.old (stream_units self.old.piece.unit stream.now) start result self.new }
     {
-        Outcome::Spent
+        if self.spent {
+            return Outcome::Spent;
+        }
+        let units = WholeStream {
+            bytes: stream,
+            width: Width::of(self.program.piece.unit),
+        };
+        self.start = start;
+        self.scanner.begin(start, units.len());
+        self.assigned.clear();
+        let outcome = told(
+            self.program.run(
+                &units,
+                &mut self.scanner,
+                &mut self.slots,
+                &mut self.assigned,
+            ),
+        );
+        self.spent = outcome.is_last();
+        outcome
     }
 
     /// The start of the last match, in units; 0 before the first.
@@ -102,7 +131,7 @@ impl<'p> Lexer<'p> {
     /// first. `None` exactly where no statement of the piece gives the tag an offset.
     pub fn value(&self, name: &[u8]) -> Option<Option<u64>>
         ensures value { result ≡ offset_in self.now.given.offsets name.now }
-        ensures known { IsSome result ↔ (list_any (gives_offset name.now) (all_statements self.now.piece.blocks) ≡ true) }
+        ensures known { is_some result ≡ list_any (gives_offset name.now) (all_statements self.now.piece.blocks) }
     {
         self.slots.offset(name)
     }
@@ -111,7 +140,7 @@ impl<'p> Lexer<'p> {
     /// first. `None` exactly where no statement of the piece gives the tag a history.
     pub fn history(&self, name: &[u8]) -> Option<&[Option<u64>]>
         ensures history { option_map (λ entries. entries.now) result ≡ history_in self.now.given.histories name.now }
-        ensures known { IsSome result ↔ (list_any (gives_history name.now) (all_statements self.now.piece.blocks) ≡ true) }
+        ensures known { is_some result ≡ list_any (gives_history name.now) (all_statements self.now.piece.blocks) }
     {
         self.slots.history(name)
     }
@@ -129,7 +158,7 @@ impl<'p> Lexer<'p> {
     pub fn cond(&self) -> Option<&[u8]>
         ensures { option_map (λ cond. cond.now) result ≡ cond_of self.now }
     {
-        if self.piece.conds.as_slice().is_empty() {
+        if self.program.piece.conds.as_slice().is_empty() {
             return None;
         }
         Some(self.scanner.cond)
@@ -151,5 +180,15 @@ fn first_cond(conds: &[CondCase]) -> &[u8]
     match conds {
         [] => b"",
         [first, ..] => first.cond.as_slice(),
+    }
+}
+
+/// What a run tells.
+fn told(run: Result<Outcome, Memory>) -> Outcome
+    ensures { result ≡ told run }
+{
+    match run {
+        Ok(outcome) => outcome,
+        Err(Memory) => Outcome::Memory,
     }
 }

@@ -1,5 +1,5 @@
 //! A match: steps from the start to an outcome.
-ghost use Rattle.std.specs.Prelude.{◌≡◌, ◌≤◌, ◌<◌, ◌+◌, ◌*◌, ◌^◌, Some, [], length, true, option_map, vec_capacity, IfOk, OnErr};
+ghost use Rattle.std.specs.Prelude.{◌≡◌, ◌≤◌, ◌<◌, ◌+◌, ◌*◌, ◌^◌, Some, [], length, true, option_map, vec_capacity, slice_get, IfOk, OnErr};
 ghost use Rattle.std.specs.List.{list_any};
 ghost use Rattle.lx_ccode.specs.Machine.{code_at};
 ghost use Rattle.lx_ccode.specs.Runs.{cond_block, entry_block, fresh_machine};
@@ -38,7 +38,13 @@ pub(crate) struct Position<'p> {
 
 impl<'p> Program<'p> {
     /// Makes the steps of a match whose machine is fresh, until it ends.
-    pub(crate) fn run<U: Units>(&self, units: &U, scanner: &mut Scanner<'p>, slots: &mut Slots, assigned: &mut Vec<StmtAt>) -> Result<Outcome, Memory>
+    pub(crate) fn run<U: Units>(
+        &self,
+        units: &U,
+        scanner: &mut Scanner<'p>,
+        slots: &mut Slots,
+        assigned: &mut Vec<StmtAt>,
+    ) -> Result<Outcome, Memory>
         requires statements { self.now.statements ≡ statement_count self.now.piece.now.blocks }
         requires few { self.now.statements ≤ 2 ^ 62 }
         requires fresh { machine_of scanner.old [] ≡ fresh_machine scanner.old.cursor (length (U.stream units.now)) scanner.old.cond.now }
@@ -52,19 +58,18 @@ impl<'p> Program<'p> {
         ensures kept { IsAfterValues slots.old slots.new }
         ensures places { AreRoomy self.now.piece.now.blocks (vec_capacity assigned.new) }
     {
-        let blocks = self.piece.blocks.as_slice();
         let Some(mut at) = entry(self.piece, scanner.cond) else {
             return Ok(Outcome::Stuck);
         };
         let most = self.most_steps(scanner.limit - scanner.cursor);
         let mut steps = 0;
         while steps < most {
-            let Some(stmt) = at.code.get(at.stmt) else {
+            let Some(stmt) = statement_at(at.code, at.stmt) else {
                 return Ok(Outcome::Stuck);
             };
-            note(blocks, assigned, at, stmt);
+            note(self.piece, assigned, at, stmt);
             let going = step(self.alloc, stmt, units, self.piece.eof, scanner, slots)?;
-            match next_position(blocks, at, going) {
+            match next_position(self.piece, at, going) {
                 Ok(next) => at = next,
                 Err(outcome) => return Ok(outcome),
             }
@@ -125,14 +130,21 @@ fn code_at(blocks: &[CodeBlock], block: u64) -> Option<&[Stmt]>
     Some(block.stmts.as_slice())
 }
 
+/// A statement of a block, if there is one at the place.
+fn statement_at(code: &[Stmt], place: usize) -> Option<&Stmt>
+    ensures { option_map (λ stmt. stmt.now) result ≡ slice_get code.now place }
+{
+    code.get(place)
+}
+
 /// The place of a statement that assigns something is put to the others, unless it is there.
-fn note(blocks: &[CodeBlock], assigned: &mut Vec<StmtAt>, at: Position<'_>, stmt: &Stmt)
-    requires stands { StandsAt blocks.now at stmt.now }
-    requires places { AreRoomy blocks.now (vec_capacity assigned.old) }
-    requires within { StaysIn blocks.now assigned.old.items }
+fn note(piece: &Piece, assigned: &mut Vec<StmtAt>, at: Position<'_>, stmt: &Stmt)
+    requires stands { StandsAt piece.now.blocks at stmt.now }
+    requires places { AreRoomy piece.now.blocks (vec_capacity assigned.old) }
+    requires within { StaysIn piece.now.blocks assigned.old.items }
     ensures noted { assigned.new.items ≡ with_statement (place_of at.entry) stmt.now assigned.old.items }
-    ensures places { AreRoomy blocks.now (vec_capacity assigned.new) }
-    ensures within { StaysIn blocks.now assigned.new.items }
+    ensures places { AreRoomy piece.now.blocks (vec_capacity assigned.new) }
+    ensures within { StaysIn piece.now.blocks assigned.new.items }
 {
     let place = StmtAt {
         block: at.block,
@@ -152,9 +164,13 @@ pub(crate) fn is_assignment(stmt: &Stmt) -> bool
 }
 
 /// Where a step goes on, or how it ends the match.
-fn next_position<'p>(blocks: &'p [CodeBlock], at: Position<'p>, going: Going) -> Result<Position<'p>, Outcome>
+fn next_position<'p>(
+    piece: &'p Piece,
+    at: Position<'p>,
+    going: Going,
+) -> Result<Position<'p>, Outcome>
     requires { at.stmt < length at.code.now }
-    ensures { GoesTo blocks.now at.entry going result }
+    ensures { GoesTo piece.now.blocks at.entry going result }
 {
     match going {
         Going::Next => Ok(Position {
@@ -162,7 +178,7 @@ fn next_position<'p>(blocks: &'p [CodeBlock], at: Position<'p>, going: Going) ->
             ..at
         }),
         Going::Ends(outcome) => Err(outcome),
-        Going::To(block) => match code_at(blocks, block) {
+        Going::To(block) => match code_at(piece.blocks.as_slice(), block) {
             None => Err(Outcome::Stuck),
             Some(code) => Ok(Position {
                 block,

@@ -57,14 +57,18 @@ fn sizes_of_statement(statement: &Stmt) -> Sizes
     ensures { result ≡ sizes_of statement.now }
 {
     match statement {
-        Stmt::Set(register) | Stmt::Unset(register) | Stmt::Back(register) => with_register(*register),
+        Stmt::Set(register) | Stmt::Unset(register) | Stmt::Back(register) => with_register(
+            *register,
+        ),
         Stmt::Copy(register, source) => with_register(*register.max(source)),
         Stmt::MSet(history) | Stmt::MUnset(history) => with_history(*history),
         Stmt::MCopy(history, source) => with_history(*history.max(source)),
         Stmt::Tag(_, false, register) => with_register(*register),
         Stmt::Tag(_, true, history) => with_history(*history),
         Stmt::Count(groups) => with_groups(u64::from(*groups)),
-        Stmt::End(place, register) => with_register(*register).greater(with_groups(u64::from(*place / 2) + 1)),
+        Stmt::End(place, register) => with_register(*register).greater(with_groups(
+            u64::from(*place / 2) + 1,
+        )),
         _ => NO_SIZES,
     }
 }

@@ -57,7 +57,10 @@ impl Slots {
         Ok(Slots {
             offsets: slots_of_offsets(alloc, blocks)?,
             histories: slots_of_histories(alloc, blocks)?,
-            entries: vec![in alloc; Group { from: None, to: None }; groups as usize]?,
+            entries: vec![in alloc; Group {
+                from: None,
+                to: None
+            }; groups as usize]?,
             groups: 0,
         })
     }
@@ -137,7 +140,11 @@ fn slots_of_offsets(alloc: Global, blocks: &[CodeBlock]) -> Result<Vec<OffsetSlo
     Ok(slots)
 }
 
-fn append_offset_slots(alloc: Global, slots: &mut Vec<OffsetSlot>, statements: &[Stmt]) -> Result<(), Memory>
+fn append_offset_slots(
+    alloc: Global,
+    slots: &mut Vec<OffsetSlot>,
+    statements: &[Stmt],
+) -> Result<(), Memory>
     ensures { OnOk result (slots.new.items ≡ offset_slots statements.now slots.old.items) }
 {
     for statement in statements {
@@ -151,7 +158,7 @@ fn append_offset_slots(alloc: Global, slots: &mut Vec<OffsetSlot>, statements: &
 fn append_offset_slot(alloc: Global, slots: &mut Vec<OffsetSlot>, name: &[u8]) -> Result<(), Memory>
     ensures { OnOk result (slots.new.items ≡ onto_offsets name.now slots.old.items) }
 {
-    if slots.iter().any(|slot| same_words(slot.name.as_slice(), name)) {
+    if offset_of(slots, name).is_some() {
         return Ok(());
     }
     let name = ByteText::from_vec(Vec::from_slice(alloc, name)?);
@@ -169,7 +176,11 @@ fn slots_of_histories(alloc: Global, blocks: &[CodeBlock]) -> Result<Vec<History
     Ok(slots)
 }
 
-fn append_history_slots(alloc: Global, slots: &mut Vec<HistorySlot>, statements: &[Stmt]) -> Result<(), Memory>
+fn append_history_slots(
+    alloc: Global,
+    slots: &mut Vec<HistorySlot>,
+    statements: &[Stmt],
+) -> Result<(), Memory>
     ensures { OnOk result (slots.new.items ≡ history_slots statements.now slots.old.items) }
 {
     for statement in statements {
@@ -180,10 +191,14 @@ fn append_history_slots(alloc: Global, slots: &mut Vec<HistorySlot>, statements:
     Ok(())
 }
 
-fn append_history_slot(alloc: Global, slots: &mut Vec<HistorySlot>, name: &[u8]) -> Result<(), Memory>
+fn append_history_slot(
+    alloc: Global,
+    slots: &mut Vec<HistorySlot>,
+    name: &[u8],
+) -> Result<(), Memory>
     ensures { OnOk result (slots.new.items ≡ onto_histories name.now slots.old.items) }
 {
-    if slots.iter().any(|slot| same_words(slot.name.as_slice(), name)) {
+    if history_of(slots, name).is_some() {
         return Ok(());
     }
     let name = ByteText::from_vec(Vec::from_slice(alloc, name)?);

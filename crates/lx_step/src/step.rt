@@ -13,13 +13,21 @@ use lx_ccode::Stmt;
 use std::alloc::Global;
 
 /// Does a statement.
-pub(crate) fn step<'p, U: Units>(alloc: Global, stmt: &'p Stmt, units: &U, eof: Option<u32>, scanner: &mut Scanner<'p>, slots: &mut Slots) -> Result<Going, Memory>
+pub(crate) fn step<'p, U: Units>(
+    alloc: Global,
+    stmt: &'p Stmt,
+    units: &U,
+    eof: Option<u32>,
+    scanner: &mut Scanner<'p>,
+    slots: &mut Slots,
+) -> Result<Going, Memory>
     requires room { HasRoom (sizes_of stmt.now) scanner.old slots.old }
     requires limit { scanner.old.limit ≤ length (U.stream units.now) }
     ensures step { IfOk result (λ going. IsStep (U.stream units.now) eof stmt.now scanner.old scanner.new going) }
     ensures given { IfOk result (λ going. slots.new ≡ given_after stmt.now (machine_of scanner.old []) slots.old) }
     ensures tables { KeepsTables scanner.old scanner.new }
     ensures entries { length slots.new.entries ≡ length slots.old.entries }
+    ensures kept { OnErr result (slots.new ≡ slots.old) }
     ensures memory { OnErr result (is_on_histories stmt.now ≡ true) }
 {
     match stmt {
@@ -41,8 +49,13 @@ pub(crate) fn step<'p, U: Units>(alloc: Global, stmt: &'p Stmt, units: &U, eof: 
         Stmt::Need(units) => Ok(scanner.need(*units)),
         Stmt::Try(_) => Ok(Going::Next),
         Stmt::Cond(cond) => Ok(scanner.set_cond(cond)),
-        Stmt::Tag(name, false, register) => Ok(scanner.give_offset(slots, name.as_slice(), *register)),
-        Stmt::Tag(name, true, history) => scanner.give_history(alloc, slots, name.as_slice(), *history),
+        Stmt::Tag(name, is_history, place) => {
+            if *is_history {
+                scanner.give_history(alloc, slots, name, *place)
+            } else {
+                Ok(scanner.give_offset(slots, name, *place))
+            }
+        }
         Stmt::Count(groups) => Ok(scanner.count(slots, *groups)),
         Stmt::End(place, register) => Ok(scanner.set_end(slots, *place, *register)),
         Stmt::Back(register) => Ok(scanner.back(*register)),

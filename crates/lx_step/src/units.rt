@@ -46,11 +46,10 @@ impl Units for WholeStream<'_> {
     ghost stream = { λ whole. stream_units (bytes_of whole.width) whole.bytes.now };
 
     fn unit_at(&self, offset: u64) -> u32 {
-        let place = offset as usize;
         match self.width {
-            Width::One => u32::from(self.bytes[place]),
-            Width::Two => two_bytes(self.bytes, 2 * place),
-            Width::Four => two_bytes(self.bytes, 4 * place) + 65536 * two_bytes(self.bytes, 4 * place + 2),
+            Width::One => unit_of_one(self.bytes, offset),
+            Width::Two => unit_of_two(self.bytes, offset),
+            Width::Four => unit_of_four(self.bytes, offset),
         }
     }
 }
@@ -69,10 +68,33 @@ impl WholeStream<'_> {
     }
 }
 
+fn unit_of_one(bytes: &[u8], offset: u64) -> u32
+    requires { offset < length (stream_units 1 bytes.now) }
+    ensures { slice_get (stream_units 1 bytes.now) offset ≡ Some result }
+{
+    u32::from(bytes[offset as usize])
+}
+
+fn unit_of_two(bytes: &[u8], offset: u64) -> u32
+    requires { offset < length (stream_units 2 bytes.now) }
+    ensures { slice_get (stream_units 2 bytes.now) offset ≡ Some result }
+{
+    two_bytes(bytes, 2 * offset as usize)
+}
+
+fn unit_of_four(bytes: &[u8], offset: u64) -> u32
+    requires { offset < length (stream_units 4 bytes.now) }
+    ensures { slice_get (stream_units 4 bytes.now) offset ≡ Some result }
+{
+    let place = 4 * offset as usize;
+    two_bytes(bytes, place) + 65536 * two_bytes(bytes, place + 2)
+}
+
 /// The number of two bytes, the least first.
 fn two_bytes(bytes: &[u8], place: usize) -> u32
     requires { place + 1 < length bytes.now }
-    ensures { (result ≡ slice_index bytes.now place + 256 * slice_index bytes.now (place + 1)) }
+    ensures number { result ≡ slice_index bytes.now place + 256 * slice_index bytes.now (place + 1) }
+    ensures below { result < 65536 }
 {
     u32::from(bytes[place]) + 256 * u32::from(bytes[place + 1])
 }
