@@ -35,13 +35,17 @@ lines_from going stuck held = end_line (codes "stuck ") held.start held.cursor
 lines_from going looped held = end_line (codes "loop ") held.start held.cursor
 lines_from going unanswered held = []
 
--- the lines of a run over a stream, from a match on; before a match that would start behind so many units a run may end. A run has
--- fewer matches than the stream has units and one more, and that is the fuel
+-- the lines from a match on: a run may end before one that would start behind so many units
+abbrev pub lines_at : Going → (stream : List ℕ) → (units : ℕ) → Held → (start : ℕ) → List ℕ
+lines_at going stream units held start =
+    if stops_at_end held.piece && nat_le units start then end_line (codes "end ") start start
+    else lines_from going (match_at held stream start).outcome (held_after held stream start)
+
+-- the lines of a run over a stream, from a match on. A run has fewer matches than the stream has units and one more, and that is
+-- the fuel
 unfoldable pub run_from : (fuel : ℕ) → (stream : List ℕ) → (units : ℕ) → Going
 run_from zero stream units held start = []
-run_from (suc fuel) stream units held start =
-    if stops_at_end held.piece && nat_le units start then end_line (codes "end ") start start
-    else lines_from (run_from fuel stream units) (match_at held stream start).outcome (held_after held stream start)
+run_from (suc fuel) stream units held start = lines_at (run_from fuel stream units) stream units held start
 
 -- the text of a run of a scanner over an input
 abbrev pub run_text : Piece → (input : List ℕ) → List ℕ

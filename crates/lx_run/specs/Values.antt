@@ -1,13 +1,13 @@
 -- How the values that a match gave are printed.
-use Rattle.std.specs.Prelude.{ℕ, Bool, true, false, ◌||◌, List, [], ◌∷◌, ◌++◌, map, take, drop, codes, Option, Some, None, unwrap_or, slice_get, if◌then◌else◌}
+use Rattle.std.specs.Prelude.{ℕ, Bool, true, false, ◌||◌, List, [], ◌∷◌, ◌++◌, map, take, drop, codes, Option, Some, None, unwrap_or, not, slice_get, if◌then◌else◌}
 use Rattle.std.specs.List.{list_any}
 use Rattle.std.specs.Fmt.{decimal}
+use Rattle.std.specs.Str.{bytes_eq}
 use Rattle.lx_base.specs.Text.{joined}
 use Rattle.lx_ccode.specs.declared.piece.Stmt.{Stmt}
 use Rattle.lx_ccode.specs.declared.piece.Stmt.TheVariants.{Tag, Count, Cond}
 use Rattle.lx_ccode.specs.declared.piece.Piece.{Piece}
 use Rattle.lx_ccode.specs.Machine.{code_at}
-use Rattle.lx_ccode.specs.Words.{equal_words}
 use Rattle.lx_step.specs.declared.answers.Group.{Group}
 use Rattle.lx_step.specs.declared.answers.StmtAt.{StmtAt}
 use Rattle.lx_step.specs.Given.{offset_in, history_in}
@@ -39,13 +39,9 @@ tag_text held (Tag name true history) =
 tag_text held _ = []
 
 -- both statements give the same tag a value of the same sort
-abbrev pub same_sort : Bool → Bool → Bool
-same_sort true sort = sort
-same_sort false true = false
-same_sort false false = true
-
 abbrev pub gives_same : Stmt → Stmt → Bool
-gives_same (Tag name sort register) (Tag other other_sort other_register) = if equal_words name other then same_sort sort other_sort else false
+gives_same (Tag name sort register) (Tag other other_sort other_register) =
+    if bytes_eq name other then (if sort then other_sort else not other_sort) else false
 gives_same _ _ = false
 
 -- the tags that statements give values, behind other statements: each tag once

@@ -1,7 +1,7 @@
 //! The statements by which a match gave values, and how these are printed.
-ghost use Rattle.std.specs.Prelude.{◌≡◌, ◌++◌, List, [], map, option_map, IfOk, OnOk};
+ghost use Rattle.std.specs.Prelude.{◌≡◌, ◌++◌, if◌then◌else◌, List, [], map, option_map, IfOk, OnOk};
 ghost use Rattle.std.specs.List.{list_any};
-ghost use Rattle.lx_run.specs.Values.{assignments, gives_same, is_cond, is_count, statement_at, tags_text, values_text};
+ghost use Rattle.lx_run.specs.Values.{assignments, gives_same, is_cond, is_count, statement_at, tag_text, tags_text, values_text};
 
 use crate::values::{append_groups, append_tag};
 use lx_base::{Memory, append_parts};
@@ -11,7 +11,7 @@ use std::alloc::Global;
 
 /// The statement at a place.
 fn statement_at<'p>(piece: &'p Piece, place: StmtAt) -> Option<&'p Stmt>
-    ensures { option_map (λ statement. statement.now) result ≡ statement_at piece.entry.now place }
+    ensures { option_map (λ statement. statement.now) result ≡ statement_at piece.now place }
 {
     let block = piece.blocks.as_slice().get(place.block as usize)?;
     block.stmts.as_slice().get(place.stmt as usize)
@@ -23,7 +23,7 @@ fn assignments<'p>(
     piece: &'p Piece,
     lexer: &Lexer<'_>,
 ) -> Result<Vec<&'p Stmt>, Memory>
-    requires { lexer.now.piece ≡ piece.entry.now }
+    requires { lexer.now.piece ≡ piece.now }
     ensures { IfOk result (λ statements. map (λ statement. statement.now) statements.items ≡ assignments lexer.now) }
 {
     let mut statements = Vec::new(alloc);
@@ -41,7 +41,7 @@ fn gives_same(statement: &Stmt, other: &Stmt) -> bool
 {
     match (statement, other) {
         (Stmt::Tag(name, sort, _), Stmt::Tag(other_name, other_sort, _)) => {
-            name.as_slice() == other_name.as_slice() && *sort == *other_sort
+            name.as_slice() == other_name.as_slice() && (if *sort { *other_sort } else { !*other_sort })
         }
         _ => false,
     }
@@ -59,6 +59,22 @@ fn is_given_before(before: &[&Stmt], statement: &Stmt) -> bool
     false
 }
 
+/// Puts what a statement gave a tag at the end of the text, unless a statement before it gave the tag a value too.
+fn append_new_tag(
+    alloc: Global,
+    text: &mut Vec<u8>,
+    lexer: &Lexer<'_>,
+    before: &[&Stmt],
+    statement: &Stmt,
+) -> Result<(), Memory>
+    ensures { OnOk result (text.new.items ≡ text.old.items ++ (if list_any (gives_same statement.now) (map (λ other. other.now) before.now) then [] else tag_text lexer.now statement.now)) }
+{
+    if is_given_before(before, statement) {
+        return Ok(());
+    }
+    append_tag(alloc, text, lexer, statement)
+}
+
 /// Puts the tags that the statements give values at the end of the text, each once.
 fn append_tags(
     alloc: Global,
@@ -69,10 +85,7 @@ fn append_tags(
     ensures { OnOk result (text.new.items ≡ text.old.items ++ tags_text lexer.now [] (map (λ statement. statement.now) statements.now)) }
 {
     for place in 0..statements.len() {
-        let statement = statements[place];
-        if !is_given_before(&statements[..place], statement) {
-            append_tag(alloc, text, lexer, statement)?;
-        }
+        append_new_tag(alloc, text, lexer, &statements[..place], statements[place])?;
     }
     Ok(())
 }

@@ -3,9 +3,11 @@ ghost use Rattle.std.specs.Prelude.{◌≡◌, ◌++◌, ◌%◌, ◌≤◌, IfO
 ghost use Rattle.lx_step.specs.Streams.{stream_units};
 ghost use Rattle.lx_run.specs.Lines.{end_line, match_line};
 ghost use Rattle.lx_run.specs.Steps.{Leads};
-ghost use Rattle.lx_run.specs.Texts.{behind_match, held_after, lines_from, match_at};
+ghost use Rattle.lx_run.specs.Streams.{stops_at_end};
+ghost use Rattle.lx_run.specs.Texts.{behind_match, held_after, lines_at, lines_from, match_at};
 
 use crate::lines::{append_stop, end_line, match_line};
+use crate::streams::InputEnd;
 use lx_base::Memory;
 use lx_ccode::Piece;
 use lx_step::{Lexer, Outcome};
@@ -50,7 +52,7 @@ fn last_lines(alloc: Global, word: &[u8], lexer: &Lexer<'_>) -> Result<MatchLine
 }
 
 /// Makes a match on a stream from a start on, which counts units, and gives its lines.
-pub fn next_lines(
+fn match_lines(
     alloc: Global,
     piece: &Piece,
     lexer: &mut Lexer<'_>,
@@ -74,4 +76,30 @@ pub fn next_lines(
         Outcome::Loop => last_lines(alloc, b"loop ", lexer),
         Outcome::Spent | Outcome::Memory => Err(Memory),
     }
+}
+
+/// The lines from a start on: those of the match that is made there, or where the run stops behind so many units of input and the
+/// start stands there, the line by which it ends.
+pub fn next_lines(
+    alloc: Global,
+    piece: &Piece,
+    lexer: &mut Lexer<'_>,
+    stream: &[u8],
+    start: u64,
+    input: InputEnd,
+) -> Result<MatchLines, Memory>
+    requires piece { lexer.old.piece ≡ piece.now }
+    requires fit { lexer.old.spent ≡ false }
+    requires stops { input.stops ≡ stops_at_end piece.now }
+    requires whole { length stream.now % piece.now.unit ≡ 0 }
+    requires start { start ≤ length (stream_units piece.now.unit stream.now) }
+    ensures leads { let units = stream_units piece.now.unit stream.now in
+        IfOk result (λ lines. Leads (λ going. lines_at going units input.units lexer.old start) (held_after lexer.old units start) lines.text.items lines.next) }
+    ensures held { IfOk result (λ lines. IsSome lines.next → lexer.new ≡ held_after lexer.old (stream_units piece.now.unit stream.now) start) }
+{
+    if input.stops && input.units <= start {
+        let text = end_line(alloc, b"end ", start, start)?;
+        return Ok(MatchLines { text, next: None });
+    }
+    match_lines(alloc, piece, lexer, stream, start)
 }

@@ -4,9 +4,8 @@ ghost use Rattle.lx_ccode.specs.Validity.{IsValid};
 ghost use Rattle.lx_files.specs.Taking.{GivesFront, RefusesPut, given_then};
 ghost use Rattle.lx_run.specs.Texts.{run_text};
 
-use crate::lines::end_line;
 use crate::matches::next_lines;
-use crate::streams::{ending_of, padded};
+use crate::streams::{InputEnd, ending_of, padded};
 use lx_ccode::Piece;
 use lx_files::{PutAnswer, Sink, put_all};
 use lx_step::Lexer;
@@ -33,15 +32,14 @@ pub fn run_whole<O: Sink>(
 {
     let ending = ending_of(piece);
     let stream = padded(alloc, piece, ending.padding, input)?;
-    let units = input.len() as u64 / u64::from(piece.unit);
+    let end = InputEnd {
+        units: input.len() as u64 / u64::from(piece.unit),
+        stops: ending.stops,
+    };
     let mut lexer = Lexer::load(alloc, piece)?;
     let mut start = 0;
     loop {
-        if ending.stops && units <= start {
-            let line = end_line(alloc, b"end ", start, start)?;
-            return put_all(out, &line);
-        }
-        let lines = next_lines(alloc, piece, &mut lexer, &stream, start)?;
+        let lines = next_lines(alloc, piece, &mut lexer, &stream, start, end)?;
         put_all(out, &lines.text)?;
         match lines.next {
             None => return Ok(()),

@@ -35,6 +35,15 @@ pub fn ending_of(piece: &Piece) -> Ending
     }
 }
 
+/// Where an input ends.
+#[derive(Clone, Copy, Debug)]
+pub struct InputEnd {
+    /// How many units it has.
+    pub units: u64,
+    /// Whether a run ends before a match that would start there.
+    pub stops: bool,
+}
+
 /// Puts bytes 0 at the end of the text.
 fn append_zeros(text: &mut Vec<u8>, count: u64) -> Result<(), Memory>
     ensures { OnOk result (text.new.items ≡ text.old.items ++ replicate count 0) }

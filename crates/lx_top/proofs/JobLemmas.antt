@@ -1,20 +1,27 @@
 -- How a job ends, from how its steps ended.
-use Rattle.std.proofs.Common.{◌≡◌, ℕ, List, [], Option, Some, None, Result, Ok, Err, MatchResult, IsErrAnd, IfErr, refl, sym, ap, subst, ◌∙◌, inl, inr}
+use Rattle.std.proofs.Common.{◌≡◌, ℕ, Bool, true, false, List, [], Option, Some, None, Result, Ok, Err, MatchResult, IsErrAnd, IfErr, refl, sym, ap, subst, ◌∙◌, inl, inr}
+use Rattle.std.specs.Prelude.{◌||◌, if◌then◌else◌}
 use Rattle.lx_base.specs.declared.faults.Fault.{Fault}
-use Rattle.lx_base.specs.declared.faults.Fault.TheVariants.{NoFile}
+use Rattle.lx_base.specs.Message.{HasFile, place_of}
+use Rattle.lx_base.specs.declared.faults.Fault.TheVariants.{NoFile, Unsupported, Usage}
+use Rattle.lx_base.specs.declared.settings.Job.{Job}
 use Rattle.lx_base.specs.declared.faults.Stop.{Stop}
 use Rattle.lx_base.specs.declared.faults.Stop.TheVariants as stop
 use Rattle.lx_files.specs.Counts.{Rose}
 use Rattle.lx_files.specs.Held.{bytes_of}
 use Rattle.lx_files.specs.declared.files.HeldFile.{HeldFile}
+use Rattle.lx_words.specs.Line.{is_refused, line_of}
 use Rattle.lx_words.specs.Options.{StopsBy, words_fault}
+use Rattle.lx_words.specs.Points.{is_wrong}
+use Rattle.lx_words.specs.Waiting.{waits}
 use Rattle.lx_top.specs.Delivery.{Completes, GivesOut, BreaksOff, DeliversNothing}
 use Rattle.lx_top.specs.FirstFault.{IsFaultBehind, IsFirstFault, IsJobFault}
-use Rattle.lx_top.specs.Jobs.{file_names, job_of, names_behind, names_of}
+use Rattle.lx_top.specs.Jobs.{file_names, job_of, names_behind, names_of, target_of}
 use Rattle.lx_top.specs.Outside.{FilesView, SinkView, files_view}
+use Rattle.lx_top.specs.Output.{IsTextOf}
 use Rattle.lx_top.specs.Places.{start_of}
 use Rattle.lx_top.specs.Puts.{halt_of_stop}
-use Rattle.lx_top.specs.Steps.{Cites, Halts, HaltsRead, HaltsText, IsPlacedHalt, JobEnds}
+use Rattle.lx_top.specs.Steps.{Cites, Halts, HaltsRead, HaltsText, JobEnds}
 use Rattle.lx_top.specs.declared.endings.Halt.{Halt}
 use Rattle.lx_top.specs.declared.endings.Halt.TheVariants as halt
 
@@ -94,20 +101,40 @@ pub Reason-words : (words : List (List ℕ)) (files : List HeldFile) (CountRose 
 Reason-words words files CountRose stop.Memory stops = tt
 Reason-words words files CountRose (stop.Fault first) stops = subst (λ of_words. IsFaultBehind of_words (job_of words) files (Some first)) (sym stops) refl
 
+-- a fault of the words stands in no file
+words_fault-placed : (words : List (List ℕ)) (first : Fault) → words_fault words ≡ Some first → place_of first ≡ None
+unfolding words_fault
+words_fault-placed words first = by (is_refused words || is_wrong (line_of words)) (waits (line_of words))
+  where
+    by : (refused later : Bool) → (if refused then Some Usage else (if later then Some (Unsupported None) else None)) ≡ Some first → place_of first ≡ None
+    by true later is = let same : first ≡ Usage = (let h = is in cc) in ap place_of same
+    by false true is = let same : first ≡ Unsupported None = (let h = is in cc) in ap place_of same
+    by false false is = absurd (let h = is in cc)
+
 -- the message of a fault of the words cites no file
 pub Cites-words : {T : Type 0} (words names : List (List ℕ)) (ended : Result T Halt) (stopped : Stop) → IsErrAnd ended (λ given. given ≡ halt_of_stop stopped)
-    → StopsBy (words_fault words) stopped → names ≡ [] → IsErrAnd ended (λ given. IsPlacedHalt names given) → IfErr ended (Cites (file_names words) names)
-Cites-words words names (Ok value) stopped is stops none placed = tt
-Cites-words words names (Err given) stopped is stops none placed = subst (Cites (file_names words) names) (sym is) (by stopped stops (subst (IsPlacedHalt names) is placed))
+    → StopsBy (words_fault words) stopped → names ≡ [] → IfErr ended (Cites (file_names words) names)
+Cites-words words names (Ok value) stopped is stops none = tt
+Cites-words words names (Err given) stopped is stops none = subst (Cites (file_names words) names) (sym is) (by stopped stops)
   where
-    by : (stopped : Stop) → StopsBy (words_fault words) stopped → IsPlacedHalt names (halt_of_stop stopped) → Cites (file_names words) names (halt_of_stop stopped)
-    by stop.Memory stops placed = tt
-    by (stop.Fault first) stops placed = (none ∙ sym (ap (λ of_words. names_behind of_words (job_of words)) stops), placed)
+    by : (stopped : Stop) → StopsBy (words_fault words) stopped → Cites (file_names words) names (halt_of_stop stopped)
+    by stop.Memory stops = tt
+    by (stop.Fault first) stops =
+        (none ∙ sym (ap (λ of_words. names_behind of_words (job_of words)) stops), subst (HasFile names) (sym (words_fault-placed words first stops)) tt)
 
 -- so do the words of a job
 pub Cites-job : {T : Type 0} (words names : List (List ℕ)) (ended : Result T Halt) → words_fault words ≡ None → IfErr ended (Cites (names_of (job_of words)) names)
     → IfErr ended (Cites (file_names words) names)
 Cites-job words names ended none cites = subst (λ cited. IfErr ended (Cites cited names)) (sym (ap (λ of_words. names_behind of_words (job_of words)) none)) cites
+
+-- words that are read end as their job
+pub JobEnds-words : (words : List (List ℕ)) (seen : List HeldFile) (job : Job) (files files' : FilesView) (out out' : SinkView) {T : Type 0} (ended : Result T Halt)
+    → words_fault words ≡ None → job ≡ job_of words → JobEnds (IsJobFault job seen) (target_of job) (IsTextOf job seen) files files' out out' ended
+    → JobEnds (IsFirstFault words seen) (target_of (job_of words)) (IsTextOf (job_of words) seen) files files' out out' ended
+JobEnds-words words seen job files files' out out' ended none same ends =
+    JobEnds-among (IsJobFault (job_of words) seen) (target_of (job_of words)) (IsTextOf (job_of words) seen) files files' out out' (IsFirstFault words seen) (IsTextOf (job_of words) seen)
+    (λ fault is. IsFirstFault-job words seen fault none is) (λ text right. right) ended
+    (subst (λ job. JobEnds (IsJobFault job seen) (target_of job) (IsTextOf job seen) files files' out out' ended) same ends)
 
 -- ---- views of files
 

@@ -19,3 +19,6 @@ pub returns-in-Run-clause-ends : goal.returns-in-Run-clause-ends
 returns-in-Run-clause-ends g c =
     let any = sees_any (g.F.Files.held c.args.files.now) in
     (any.0, any.1, (subst (λ job. IsJobFault job any.0 (Some (Unsupported None))) (sym c.in-Run.is) refl, (refl, refl)))
+
+pub returns-in-Run-clause-cites : goal.returns-in-Run-clause-cites
+returns-in-Run-clause-cites g c = ?
