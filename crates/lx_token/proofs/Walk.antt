@@ -26,7 +26,7 @@ pub record IsDrop (text rest : List ℕ) : Type 0 where
   pub within : length rest ≤ length text
   pub rest_is : rest ≡ drop (length text - length rest) text
 
-IsEnd-drop_is : (text rest : List ℕ) → IsEnd text rest → IsDrop text rest
+pub IsEnd-drop_is : (text rest : List ℕ) → IsEnd text rest → IsDrop text rest
 IsEnd-drop_is [] rest same = subst (λ l. IsDrop [] l) (sym same) (record { within = omega arith; rest_is = refl })
 IsEnd-drop_is (letter ∷ text) rest end =
     ⊎_elim

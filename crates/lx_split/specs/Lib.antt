@@ -1,0 +1,5 @@
+pub mod Bodies
+pub mod Marks
+pub mod Openers
+pub mod Pieces
+pub mod Searches
