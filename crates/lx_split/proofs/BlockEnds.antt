@@ -1,12 +1,12 @@
 -- A block ends with `*/`.
-use Rattle.std.proofs.Common.{◌≡◌, ℕ, zero, suc, ◌+◌, ◌-◌, ◌≤◌, Bool, true, false, cond, ◌⊎◌, inl, inr, ⊎_elim, List, [], ◌∷◌, ◌++◌, length, take, drop, codes, Option, Some, None, IfSome, option_and_then, unwrap_or, refl, sym, ◌∙◌, ap, subst, arith, ◌==◌, Bor}
+use Rattle.std.proofs.Common.{◌≡◌, ℕ, zero, suc, ◌+◌, ◌-◌, ◌≤◌, Bool, true, false, cond, inr, ⊎_elim, List, [], ◌∷◌, ◌++◌, length, take, drop, codes, Option, Some, None, IfSome, option_and_then, unwrap_or, refl, sym, ◌∙◌, ap, subst, arith, ◌==◌, Bor}
 use Rattle.std.specs.Option.{option_copied}
 use Rattle.std.proofs.lemmas.Option.{same_Some}
 use Rattle.lx_base.specs.declared.blocks.BlockKind.{BlockKind}
-use Rattle.lx_base.specs.declared.blocks.BlockKind.TheVariants.{Code, Rules, Use, Max, MaxNmatch, Stags, Mtags, Types, GetState, Ignore, Include, Enter, Leave}
+use Rattle.lx_base.specs.declared.blocks.BlockKind.TheVariants.{Ignore}
 use Rattle.lx_base.specs.Letters.{begins_with}
 use Rattle.lx_token.specs.Blanks.{after_closing}
-use Rattle.lx_token.specs.Braces.{after_bounds, after_code, after_literal, after_piece}
+use Rattle.lx_token.specs.Braces.{after_bounds, after_literal, after_piece}
 use Rattle.lx_token.proofs.Ends.{IsEnd, LeavesEnd, IsEnd-trans, IsEnd-self, IsShorterEnd-end, either, after_bounds-end, after_code-end, after_piece-end, behind_quote-end}
 use Rattle.lx_token.proofs.Ties.{begins-split}
 use Rattle.lx_token.proofs.Walk.{IsEnd-drop_is}

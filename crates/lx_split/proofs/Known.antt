@@ -1,10 +1,10 @@
 -- What the scanner of a body keeps, as it goes on.
-use Rattle.std.proofs.Common.{◌≡◌, ℕ, false, List, [], ◌∷◌, Option, Some, None, IfSome, Bor, unwrap_or, inr, refl, sym, subst}
+use Rattle.std.proofs.Common.{◌≡◌, ℕ, false, List, ◌∷◌, Option, Some, None, IfSome, Bor, unwrap_or, inr, sym, subst}
 use Rattle.std.specs.Option.{option_copied}
 use Rattle.lx_token.specs.Braces.{after_bounds, after_literal, after_unquoted}
 use Rattle.lx_token.proofs.Ends.{IsEnd, LeavesEnd, IsEnd-behind_quote, IsEnd-after_unquoted, IsShorterEnd-end, after_bounds-end}
 use Rattle.lx_split.specs.declared.bodies.Unclosed.{Unclosed}
-use Rattle.lx_split.specs.Bodies.{AreKnown, AreUnclosed}
+use Rattle.lx_split.specs.Bodies.{AreKnown}
 use Rattle.lx_split.proofs.Unclosed.{AreUnclosed-end}
 
 pub AreKnown-end : (unclosed : Unclosed) (text rest : List ℕ) → IsEnd text rest → AreKnown unclosed text → AreKnown unclosed rest

@@ -1,4 +1,5 @@
 pub mod BlockEnds
+pub mod Cutting
 pub mod FirstMark
 pub mod Known
 pub mod Needles

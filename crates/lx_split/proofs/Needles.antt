@@ -1,5 +1,5 @@
 -- Searches for what begins with a needle.
-use Rattle.std.proofs.Common.{eq-eqb, ◌-◌, ◌++◌, codes, ◌||◌, nat_eq, take, ◌&&◌, ◌≡◌, ℕ, zero, suc, ◌+◌, ◌<◌, ◌≤◌, Bool, true, false, List, [], ◌∷◌, length, drop, slice_index, Option, None, Some, IfSome, refl, sym, arith, cond, ◌∙◌, ap, ◌==◌, subst}
+use Rattle.std.proofs.Common.{eq-eqb, ◌-◌, ◌++◌, codes, nat_eq, take, ◌&&◌, ◌≡◌, ℕ, zero, suc, ◌+◌, ◌<◌, ◌≤◌, Bool, true, false, List, [], ◌∷◌, length, drop, slice_index, None, Some, refl, sym, arith, cond, ◌∙◌, ap, ◌==◌}
 use Rattle.std.proofs.lemmas.Bool.{eqb-true}
 use Rattle.std.proofs.Math.Seq.{take-length, drop-length}
 use Rattle.std.proofs.lemmas.List.{length-drop}

@@ -1,7 +1,7 @@
 -- An opener is `/*!` and the word of its kind.
-use Rattle.std.proofs.Common.{length-append, ◌≡◌, ℕ, zero, suc, ◌+◌, ◌-◌, ◌≤◌, Bool, true, false, cond, List, [], ◌∷◌, ◌++◌, length, take, drop, codes, Option, Some, None, refl, sym, ◌∙◌, ap, subst, arith}
+use Rattle.std.proofs.Common.{length-append, ◌≡◌, ℕ, zero, suc, ◌+◌, ◌-◌, ◌≤◌, Bool, true, false, cond, List, [], ◌∷◌, ◌++◌, length, take, drop, codes, Option, Some, None, refl, sym, ◌∙◌, ap, arith}
 use Rattle.std.specs.Str.{bytes_eq}
-use Rattle.std.proofs.lemmas.Option.{same_Some, none-some}
+use Rattle.std.proofs.lemmas.Option.{same_Some}
 use Rattle.std.proofs.lemmas.List.{drop-drop}
 use Rattle.std.proofs.lemmas.Slice.Eq.{bytes_eq-Decides}
 use Rattle.lx_base.specs.declared.blocks.BlockKind.{BlockKind}
@@ -9,7 +9,6 @@ use Rattle.lx_base.specs.declared.settings.Options.{Options}
 use Rattle.lx_base.specs.Letters.{begins_with}
 use Rattle.lx_token.proofs.Ties.{begins-split}
 use Rattle.lx_token.specs.Words.{after_letters}
-use Rattle.lx_split.specs.declared.openers.Opener.{Opener}
 use Rattle.lx_split.specs.declared.openers.Opener.TheVariants.{Absent, Refused, Opens}
 use Rattle.lx_split.specs.Openers.{word_of, word_at, kind_among, kind_of, is_in_word, block_kinds, names_re2c, is_allowed, opener_of_kind, opener_of, opener_at}
 use Rattle.lx_split.specs.Pieces.{opener_size}

@@ -1,5 +1,5 @@
 -- Where the body of a block ends.
-use Rattle.std.specs.Prelude.{◌≡◌, ℕ, zero, suc, ◌≤◌, Bool, false, List, [], ◌∷◌, ◌++◌, length, drop, codes, Option, Some, None, option_and_then, unwrap_or, ◌==◌, if◌then◌else◌}
+use Rattle.std.specs.Prelude.{◌≡◌, ℕ, zero, suc, ◌≤◌, false, List, [], ◌∷◌, ◌++◌, length, drop, codes, Option, Some, None, option_and_then, unwrap_or, ◌==◌, if◌then◌else◌}
 use Rattle.lx_base.specs.declared.blocks.BlockKind.{BlockKind}
 use Rattle.lx_base.specs.declared.blocks.BlockKind.TheVariants.{Ignore}
 use Rattle.lx_split.specs.declared.bodies.Unclosed.{Unclosed}

@@ -1,4 +1,5 @@
 pub mod Bodies
+pub mod Cuts
 pub mod Marks
 pub mod Openers
 pub mod Pieces

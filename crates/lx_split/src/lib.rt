@@ -2,9 +2,11 @@
 #![tactic(auto)]
 
 mod bodies;
+mod laws;
 mod marks;
 mod openers;
 mod pieces;
 mod searches;
 
+pub use laws::pieces_are_the_source;
 pub use pieces::{Pieces, SourcePiece, split};

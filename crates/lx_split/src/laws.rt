@@ -1,0 +1,13 @@
+//! What holds of the pieces of all sources: the law is the contract of a function with an empty body.
+ghost use Rattle.std.specs.Prelude.{◌≡◌, ℕ, List, Ok};
+ghost use Rattle.lx_base.specs.declared.settings.Options.{Options};
+ghost use Rattle.lx_split.specs.declared.pieces.SourcePiece.{SourcePiece};
+ghost use Rattle.lx_split.specs.Cuts.{AreCut};
+ghost use Rattle.lx_split.specs.Pieces.{file_start, pieces_of};
+
+/// The pieces of a source put together give the source, each block has the places of its opener and its end, and no mark
+/// of emitted text stands in them.
+pub fn pieces_are_the_source()
+    ensures { (options : Options) (file : ℕ) (bytes : List ℕ) (pieces : List SourcePiece) →
+        pieces_of options file bytes ≡ Ok pieces → AreCut (file_start file) bytes pieces }
+{}
