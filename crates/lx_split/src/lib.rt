@@ -10,3 +10,6 @@ mod searches;
 
 pub use laws::pieces_are_the_source;
 pub use pieces::{Pieces, SourcePiece, split};
+
+#[cfg(test)]
+mod tests;

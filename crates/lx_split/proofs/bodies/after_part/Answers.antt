@@ -14,8 +14,8 @@ after_braces-requires c =
 pub returns-in-Some-eq91-default-clause-known : goal.returns-in-Some-eq91-default-clause-known
 returns-in-Some-eq91-default-clause-known c =
     let others =
-        AreKnown-quote c.args.unclosed.now c.args.text.now c.after_quote.result.now c.in-Some-eq91-default.field-0-0.now 93
-        c.in-Some-eq91-default.tail.now c.in-Some-eq91-default.ensures.cases.0 c.after_quote.ensures.rest c.requires.known in
+    AreKnown-quote c.args.unclosed.now c.args.text.now c.after_quote.result.now c.in-Some-eq91-default.field-0-0.now 93
+    c.in-Some-eq91-default.tail.now c.in-Some-eq91-default.ensures.cases.0 c.after_quote.ensures.rest c.requires.known in
     record { strings = others.strings; characters = others.characters; classes = c.after_quote.ensures.known }
 
 pub returns-in-Some-clause-known : goal.returns-in-Some-clause-known

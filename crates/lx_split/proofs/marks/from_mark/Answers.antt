@@ -14,7 +14,7 @@ loop-tail-preserved c =
     let shorter = c.from_opening-rest-in-Some.ensures.shorter in
     let less = c.in-Some.ensures.cases.1 in (
       rw c.from_opening-rest-in-Some.ensures.rest
-      (among-next (codes "/*!") begins_mark no_mark c.loop-tail.rest.now c.args.text.now c.loop-tail.invariant.0
-      c.in-Some.field-0-0.now c.in-Some.tail.now c.in-Some.ensures.cases.0 (sym c.if-begins_mark.ensures)),
+          (among-next (codes "/*!") begins_mark no_mark c.loop-tail.rest.now c.args.text.now c.loop-tail.invariant.0
+          c.in-Some.field-0-0.now c.in-Some.tail.now c.in-Some.ensures.cases.0 (sym c.if-begins_mark.ensures)),
       omega arith,
     )
