@@ -1,22 +1,21 @@
 -- The pieces of a source are cut from it.
-use Rattle.std.proofs.Common.{◌≡◌, ◌≢◌, ℕ, zero, suc, ◌+◌, ◌-◌, ◌<◌, ◌≤◌, Bool, true, false, cond, ◌⊎◌, inl, inr, ⊎_elim, List, [], ◌∷◌, ◌++◌, length, take, drop, codes, Option, Some, None, Result, Ok, Err, refl, sym, ◌∙◌, ap, subst, arith, length-append, append_assoc, append-nil}
+use Rattle.std.proofs.Common.{◌≡◌, ℕ, zero, suc, ◌-◌, ◌<◌, ◌≤◌, Bool, true, false, cond, inl, inr, List, [], ◌∷◌, ◌++◌, length, take, drop, codes, Option, Some, None, Ok, refl, sym, ◌∙◌, ap, subst, arith, length-append, append_assoc, append-nil}
 use Rattle.std.proofs.lemmas.List.{length-drop}
 use Rattle.lx_base.specs.declared.blocks.BlockKind.{BlockKind}
 use Rattle.lx_base.specs.declared.places.Pos.{Pos}
 use Rattle.lx_base.specs.declared.settings.Options.{Options}
 use Rattle.lx_token.specs.Places.{place_after}
 use Rattle.lx_token.specs.Tokens.{place_of_rest}
-use Rattle.lx_token.proofs.Ends.{IsEnd, IsEnd-self}
+use Rattle.lx_token.proofs.Ends.{IsEnd}
 use Rattle.lx_token.proofs.Walk.{IsEnd-drop_is, place_after-append}
 use Rattle.lx_split.specs.declared.openers.Opener.{Opener}
 use Rattle.lx_split.specs.declared.openers.Opener.TheVariants.{Absent, Refused, Opens}
 use Rattle.lx_split.specs.declared.pieces.SourcePiece.{SourcePiece}
-use Rattle.lx_split.specs.declared.pieces.SourcePiece.TheVariants.{Outside, Block}
 use Rattle.lx_split.specs.Searches.{from_first}
 use Rattle.lx_split.specs.Marks.{begins_mark, mark_place, place_if_any}
 use Rattle.lx_split.specs.Openers.{from_opener, is_present, opener_at, word_of}
 use Rattle.lx_split.specs.Bodies.{after_block}
-use Rattle.lx_split.specs.Pieces.{Split, at_end, at_opener, before, behind_outside, block, body_before, file_start, opener_size, outside, pieces_from, pieces_of, pieces_without_marks, unless_marked}
+use Rattle.lx_split.specs.Pieces.{Split, at_end, at_opener, before, block, body_before, file_start, opener_size, outside, pieces_from, pieces_of, pieces_without_marks, unless_marked}
 use Rattle.lx_split.specs.Cuts.{AreApart, AreAtPlaces, AreCut, HasNoMark, piece_text, source_text}
 use Rattle.lx_split.proofs.BlockEnds.{IsEnd-split, after_block-closes}
 use Rattle.lx_split.proofs.OpenerTexts.{opener-text}
