@@ -21,7 +21,7 @@ use Rattle.lx_split.proofs.BlockEnds.{IsEnd-split, after_block-closes}
 use Rattle.lx_split.proofs.OpenerTexts.{opener-text}
 
 -- a search ends at an end of the text, where the test holds or nothing is left
-from_first-end : (test : List ℕ → Bool) (text : List ℕ) → IsEnd text (from_first test text)
+pub from_first-end : (test : List ℕ → Bool) (text : List ℕ) → IsEnd text (from_first test text)
 from_first-end test [] = refl
 from_first-end test (letter ∷ text) = at (test (letter ∷ text)) (from_first-end test text)
   where
@@ -50,15 +50,15 @@ take-front : (front back : List ℕ) → take (length front) (front ++ back) ≡
 take-front [] back = refl
 take-front (letter ∷ front) back = ap (λ (l : List ℕ). letter ∷ l) (take-front front back)
 
-outside-text : (text : List ℕ) → source_text (outside text) ≡ text
+pub outside-text : (text : List ℕ) → source_text (outside text) ≡ text
 outside-text [] = refl
 outside-text (letter ∷ text) = append-nil (letter ∷ text)
 
-outside-before : (text : List ℕ) (pieces : List SourcePiece) → source_text (outside text ++ pieces) ≡ text ++ source_text pieces
+pub outside-before : (text : List ℕ) (pieces : List SourcePiece) → source_text (outside text ++ pieces) ≡ text ++ source_text pieces
 outside-before [] pieces = refl
 outside-before (letter ∷ text) pieces = refl
 
-AreAtPlaces-outside : (start : Pos) (text : List ℕ) (pieces : List SourcePiece) → AreAtPlaces (place_after start text) pieces →
+pub AreAtPlaces-outside : (start : Pos) (text : List ℕ) (pieces : List SourcePiece) → AreAtPlaces (place_after start text) pieces →
     AreAtPlaces start (outside text ++ pieces)
 AreAtPlaces-outside start [] pieces places = places
 AreAtPlaces-outside start (letter ∷ text) pieces places = places
@@ -68,7 +68,7 @@ AreApart-outside : (text : List ℕ) (kind : BlockKind) (at : Pos) (rest tail : 
 AreApart-outside [] kind at rest tail pieces apart = apart
 AreApart-outside (letter ∷ text) kind at rest tail pieces apart = ((λ none. cc), refl, apart)
 
-AreAtPlaces-last : (start : Pos) (text : List ℕ) → AreAtPlaces start (outside text)
+pub AreAtPlaces-last : (start : Pos) (text : List ℕ) → AreAtPlaces start (outside text)
 AreAtPlaces-last start [] = tt
 AreAtPlaces-last start (letter ∷ text) = tt
 
@@ -99,10 +99,10 @@ module _ (options : Options) (kind : BlockKind) (rest tail : List ℕ) (opener :
   rest-text : rest ≡ front ++ (body ++ 42 ∷ 47 ∷ tail)
   rest-text = opener-text options rest kind opener ∙ ap (λ (l : List ℕ). front ++ l) behind-text
 
-  block-text : (at : Pos) → rest ≡ piece_text (block kind at rest tail) ++ tail
+  pub block-text : (at : Pos) → rest ≡ piece_text (block kind at rest tail) ++ tail
   block-text at = simp append_assoc rest-text
 
-  block-before : (at : Pos) → before rest tail ≡ piece_text (block kind at rest tail)
+  pub block-before : (at : Pos) → before rest tail ≡ piece_text (block kind at rest tail)
   block-before at =
       let text = piece_text (block kind at rest tail) in
       ap (λ (l : List ℕ). before l tail) (block-text at) ∙ before-append text tail
@@ -148,6 +148,9 @@ all_pieces pieces = Ok pieces
 ok_value : (given pieces : List SourcePiece) → all_pieces given ≡ Ok pieces → pieces ≡ given
 ok_value given pieces is = cc
 
+regrouped : (a b c d : List SourcePiece) → ((a ++ b) ++ c) ++ d ≡ a ++ (b ++ (c ++ d))
+regrouped a b c d = simp append_assoc
+
 -- one step, where what is found behind the block is as said
 module _ (options : Options) (steps : ℕ) (done : List SourcePiece) (at : Pos) (text : List ℕ) (pieces : List SourcePiece)
     (enough : length text ≤ steps)
@@ -185,7 +188,7 @@ module _ (options : Options) (steps : ℕ) (done : List SourcePiece) (at : Pos) 
       let within = (IsEnd-drop_is text rest rest-end).within in
       let found = later ((done ++ outside passed) ++ item ∷ []) (place_of_rest own rest tail) tail (omega arith) is in record {
         more = outside passed ++ item ∷ found.more;
-        pieces_are = simp append_assoc at found.pieces_are;
+        pieces_are = found.pieces_are ∙ regrouped done (outside passed) (item ∷ []) found.more;
         text_is =
             outside-before passed (item ∷ found.more) ∙ ap (λ (l : List ℕ). passed ++ (piece_text item ++ l)) found.text_is
             ∙ ap (λ (l : List ℕ). passed ++ l) (sym (block-text options kind rest tail opener closed own)) ∙ sym text-split;
@@ -208,7 +211,7 @@ cut_from options (suc steps) done at text pieces enough is =
     (opener_at options (from_opener options text)) refl is
 
 -- a text in which no mark is found has none
-from_first-nowhere : (test : List ℕ → Bool) → test [] ≡ false → (text : List ℕ) → from_first test text ≡ [] → (front tail : List ℕ) →
+pub from_first-nowhere : (test : List ℕ → Bool) → test [] ≡ false → (text : List ℕ) → from_first test text ≡ [] → (front tail : List ℕ) →
     text ≡ front ++ tail → test tail ≡ false
 from_first-nowhere test never [] none [] tail is = subst (λ l. test l ≡ false) is never
 from_first-nowhere test never [] none (letter ∷ front) tail is = absurd (cc)
@@ -223,11 +226,11 @@ from_first-nowhere test never (letter ∷ text) none front tail is =
     at false found later (other ∷ front) is none = later none front tail (cc)
 
 -- where there is no place of a mark, there is no mark
-record IsUnmarked (bytes : List ℕ) : Type 0 where
-  no_mark : HasNoMark bytes
-  completes_no_mark : begins_mark (47 ∷ bytes) ≡ false
+pub record IsUnmarked (bytes : List ℕ) : Type 0 where
+  pub no_mark : HasNoMark bytes
+  pub completes_no_mark : begins_mark (47 ∷ bytes) ≡ false
 
-unmarked : (start : Pos) (bytes : List ℕ) → mark_place start bytes ≡ None → IsUnmarked bytes
+pub unmarked : (start : Pos) (bytes : List ℕ) → mark_place start bytes ≡ None → IsUnmarked bytes
 unmarked start bytes none = at (begins_mark (47 ∷ bytes)) (from_first begins_mark bytes) refl refl none
   where
     at : (b : Bool) (found : List ℕ) → begins_mark (47 ∷ bytes) ≡ b → from_first begins_mark bytes ≡ found →

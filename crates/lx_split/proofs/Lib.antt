@@ -1,5 +1,6 @@
 pub mod BlockEnds
 pub mod Cutting
+pub mod Faults
 pub mod FirstMark
 pub mod Known
 pub mod Needles
