@@ -1,5 +1,5 @@
 -- The pieces of a source are cut from it.
-use Rattle.std.proofs.Common.{◌≡◌, ℕ, zero, suc, ◌-◌, ◌<◌, ◌≤◌, Bool, true, false, cond, inl, inr, List, [], ◌∷◌, ◌++◌, length, take, drop, codes, Option, Some, None, Ok, refl, sym, ◌∙◌, ap, subst, arith, length-append, append_assoc, append-nil}
+use Rattle.std.proofs.Common.{◌≡◌, ℕ, zero, suc, ◌-◌, ◌<◌, ◌≤◌, Bool, true, false, cond, List, [], ◌∷◌, ◌++◌, length, take, drop, codes, Option, Some, None, Ok, refl, sym, ◌∙◌, ap, subst, arith, length-append, append_assoc, append-nil}
 use Rattle.std.proofs.lemmas.List.{length-drop}
 use Rattle.lx_base.specs.declared.blocks.BlockKind.{BlockKind}
 use Rattle.lx_base.specs.declared.places.Pos.{Pos}
@@ -18,16 +18,8 @@ use Rattle.lx_split.specs.Bodies.{after_block}
 use Rattle.lx_split.specs.Pieces.{Split, at_end, at_opener, before, block, body_before, file_start, opener_size, outside, pieces_from, pieces_of, pieces_without_marks, unless_marked}
 use Rattle.lx_split.specs.Cuts.{AreApart, AreAtPlaces, AreCut, HasNoMark, piece_text, source_text}
 use Rattle.lx_split.proofs.BlockEnds.{IsEnd-split, after_block-closes}
+use Rattle.lx_split.proofs.Needles.{from_first-end}
 use Rattle.lx_split.proofs.OpenerTexts.{opener-text}
-
--- a search ends at an end of the text, where the test holds or nothing is left
-pub from_first-end : (test : List ℕ → Bool) (text : List ℕ) → IsEnd text (from_first test text)
-from_first-end test [] = refl
-from_first-end test (letter ∷ text) = at (test (letter ∷ text)) (from_first-end test text)
-  where
-    at : (b : Bool) → IsEnd text (from_first test text) → IsEnd (letter ∷ text) (cond b (letter ∷ text) (from_first test text))
-    at true later = inl refl
-    at false later = inr later
 
 from_first-holds : (test : List ℕ → Bool) (text : List ℕ) → test (from_first test text) ≡ false → from_first test text ≡ []
 from_first-holds test [] fails = refl

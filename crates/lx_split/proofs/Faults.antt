@@ -18,9 +18,10 @@ use Rattle.lx_split.specs.Marks.{begins_mark, mark_place, place_if_any}
 use Rattle.lx_split.specs.Openers.{from_opener, is_present, opener_at}
 use Rattle.lx_split.specs.Bodies.{after_block}
 use Rattle.lx_split.specs.Pieces.{Split, at_end, at_opener, before, block, file_start, opener_size, outside, pieces_from, pieces_of, pieces_without_marks, unless_marked}
-use Rattle.lx_split.specs.Cuts.{IsFaultOf, IsFirstFault, IsOpenerFault, completed, faulty, marked, refused, unclosed, piece_text, source_text}
+use Rattle.lx_split.specs.Cuts.{IsFaultOf, IsFaultBehind, IsOpenerFault, completed, faulty, marked, refused, unclosed, piece_text, source_text}
 use Rattle.lx_split.proofs.BlockEnds.{IsEnd-split}
-use Rattle.lx_split.proofs.Cutting.{AreAtPlaces-block, AreAtPlaces-last, AreAtPlaces-outside, block-before, block-shorter, block-text, from_first-end, outside-before, outside-text, unmarked}
+use Rattle.lx_split.proofs.Needles.{from_first-end}
+use Rattle.lx_split.proofs.Cutting.{AreAtPlaces-block, AreAtPlaces-last, AreAtPlaces-outside, block-before, block-shorter, block-text, outside-before, outside-text, unmarked}
 
 -- a fault, and no pieces
 abbrev only_fault : Fault → Split
@@ -34,7 +35,7 @@ regrouped a b c d = simp append_assoc
 
 -- one step, where the fault behind the block is as said
 module _ (options : Options) (steps : ℕ) (done : List SourcePiece) (at : Pos) (text : List ℕ) (fault : Fault) (enough : length text ≤ steps)
-    (later : (done : List SourcePiece) (at : Pos) (text : List ℕ) → length text < steps → pieces_from steps options done at text ≡ Err fault → IsFirstFault options at text fault) where
+    (later : (done : List SourcePiece) (at : Pos) (text : List ℕ) → length text < steps → pieces_from steps options done at text ≡ Err fault → IsFaultBehind options at text fault) where
   abbrev rest : List ℕ
   rest = from_opener options text
 
@@ -45,7 +46,7 @@ module _ (options : Options) (steps : ℕ) (done : List SourcePiece) (at : Pos) 
   rest-end = from_first-end (λ rest. is_present (opener_at options rest)) text
 
   -- the fault of the next opener
-  here : IsOpenerFault options (place_of_rest at text rest) rest fault → IsFirstFault options at text fault
+  here : IsOpenerFault options (place_of_rest at text rest) rest fault → IsFaultBehind options at text fault
   here is_fault = record {
     done = outside passed;
     rest = rest;
@@ -56,7 +57,7 @@ module _ (options : Options) (steps : ℕ) (done : List SourcePiece) (at : Pos) 
 
   -- a fault behind the block of the next opener
   behind : (kind : BlockKind) (tail : List ℕ) → opener_at options rest ≡ Opens kind → after_block kind (drop (opener_size kind) rest) ≡ Some tail →
-      IsFirstFault options (place_of_rest (place_of_rest at text rest) rest tail) tail fault → IsFirstFault options at text fault
+      IsFaultBehind options (place_of_rest (place_of_rest at text rest) rest tail) tail fault → IsFaultBehind options at text fault
   behind kind tail opener closed found =
       let own = place_of_rest at text rest in
       let item = block kind own rest tail in
@@ -76,7 +77,7 @@ module _ (options : Options) (steps : ℕ) (done : List SourcePiece) (at : Pos) 
       }
 
   at_block : (kind : BlockKind) (end : Option (List ℕ)) → opener_at options rest ≡ Opens kind → after_block kind (drop (opener_size kind) rest) ≡ end →
-      at_end (pieces_from steps options) (done ++ outside passed) kind (place_of_rest at text rest) rest end ≡ Err fault → IsFirstFault options at text fault
+      at_end (pieces_from steps options) (done ++ outside passed) kind (place_of_rest at text rest) rest end ≡ Err fault → IsFaultBehind options at text fault
   at_block kind None opener closed is =
       here (unclosed kind opener closed (fault_value (Unclosed (place_of_rest at text rest)) fault is))
   at_block kind (Some tail) opener closed is =
@@ -87,13 +88,13 @@ module _ (options : Options) (steps : ℕ) (done : List SourcePiece) (at : Pos) 
       (later ((done ++ outside passed) ++ block kind own rest tail ∷ []) (place_of_rest own rest tail) tail (omega arith) is)
 
   at_next : (opener : Opener) → opener_at options rest ≡ opener →
-      at_opener (pieces_from steps options) (done ++ outside passed) (place_of_rest at text rest) rest opener ≡ Err fault → IsFirstFault options at text fault
+      at_opener (pieces_from steps options) (done ++ outside passed) (place_of_rest at text rest) rest opener ≡ Err fault → IsFaultBehind options at text fault
   at_next Absent opener is = absurd (cc)
   at_next Refused opener is = here (refused opener (fault_value (Directive (place_of_rest at text rest)) fault is))
   at_next (Opens kind) opener is = at_block kind (after_block kind (drop (opener_size kind) rest)) opener refl is
 
 fault_from : (options : Options) (steps : ℕ) (done : List SourcePiece) (at : Pos) (text : List ℕ) (fault : Fault) → length text < steps →
-    pieces_from steps options done at text ≡ Err fault → IsFirstFault options at text fault
+    pieces_from steps options done at text ≡ Err fault → IsFaultBehind options at text fault
 fault_from options zero done at text fault enough is = absurd (omega arith)
 fault_from options (suc steps) done at text fault enough is =
     at_next options steps done at text fault (omega arith)

@@ -1,5 +1,5 @@
 -- Searches for what begins with a needle.
-use Rattle.std.proofs.Common.{eq-eqb, ◌-◌, ◌++◌, codes, nat_eq, take, ◌&&◌, ◌≡◌, ℕ, zero, suc, ◌+◌, ◌<◌, ◌≤◌, Bool, true, false, List, [], ◌∷◌, length, drop, slice_index, None, Some, refl, sym, arith, cond, ◌∙◌, ap, ◌==◌}
+use Rattle.std.proofs.Common.{inl, inr, eq-eqb, ◌-◌, ◌++◌, codes, nat_eq, take, ◌&&◌, ◌≡◌, ℕ, zero, suc, ◌+◌, ◌<◌, ◌≤◌, Bool, true, false, List, [], ◌∷◌, length, drop, slice_index, None, Some, refl, sym, arith, cond, ◌∙◌, ap, ◌==◌}
 use Rattle.std.proofs.lemmas.Bool.{eqb-true}
 use Rattle.std.proofs.Math.Seq.{take-length, drop-length}
 use Rattle.std.proofs.lemmas.List.{length-drop}
@@ -9,6 +9,7 @@ use Rattle.lx_base.specs.Letters.{begins_with}
 use Rattle.lx_base.specs.declared.settings.Options.{Options}
 use Rattle.lx_split.specs.Marks.{begins_mark}
 use Rattle.lx_split.specs.Openers.{opener_at, is_present}
+use Rattle.lx_token.proofs.Ends.{IsEnd}
 use Rattle.lx_split.specs.Searches.{from_first}
 
 both : (a b : Bool) → cond a b false ≡ true → (a ≡ true) × (b ≡ true)
@@ -149,3 +150,12 @@ module _ (needle : List ℕ) (test : List ℕ → Bool) (only : (text : List ℕ
 
   pub among-here : test rest ≡ true → rest ≡ from_first test whole
   among-here holds = sym (from_first-here test rest holds) ∙ same
+
+-- a search ends at an end of the text
+pub from_first-end : (test : List ℕ → Bool) (text : List ℕ) → IsEnd text (from_first test text)
+from_first-end test [] = refl
+from_first-end test (letter ∷ text) = at (test (letter ∷ text)) (from_first-end test text)
+  where
+    at : (b : Bool) → IsEnd text (from_first test text) → IsEnd (letter ∷ text) (cond b (letter ∷ text) (from_first test text))
+    at true later = inl refl
+    at false later = inr later

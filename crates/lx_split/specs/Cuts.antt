@@ -62,7 +62,7 @@ pub data IsOpenerFault (options : Options) (at : Pos) (text : List ℕ) (fault :
       fault ≡ Unclosed at → IsOpenerFault options at text fault
 
 -- the fault of a source that begins at a place: behind some pieces of it stands an opener with this fault
-pub record IsFirstFault (options : Options) (start : Pos) (bytes : List ℕ) (fault : Fault) : Type 0 where
+pub record IsFaultBehind (options : Options) (start : Pos) (bytes : List ℕ) (fault : Fault) : Type 0 where
   pub done : List SourcePiece
   pub rest : List ℕ
   pub text : bytes ≡ source_text done ++ rest
@@ -83,4 +83,4 @@ pub record IsMarkFault (start : Pos) (bytes : List ℕ) (fault : Fault) : Type 0
 pub data IsFaultOf (options : Options) (start : Pos) (bytes : List ℕ) (fault : Fault) : Type 0 where
   completed : begins_mark (47 ∷ bytes) ≡ true → fault ≡ MarkInSource start → IsFaultOf options start bytes fault
   marked : begins_mark (47 ∷ bytes) ≡ false → IsMarkFault start bytes fault → IsFaultOf options start bytes fault
-  faulty : begins_mark (47 ∷ bytes) ≡ false → HasNoMark bytes → IsFirstFault options start bytes fault → IsFaultOf options start bytes fault
+  faulty : begins_mark (47 ∷ bytes) ≡ false → HasNoMark bytes → IsFaultBehind options start bytes fault → IsFaultOf options start bytes fault

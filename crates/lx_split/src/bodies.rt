@@ -1,5 +1,5 @@
 //! Where the body of a block ends.
-ghost use Rattle.std.specs.Prelude.{◌+◌, ◌≡◌, ◌≢◌, ◌<◌, ◌≤◌, ◌∷◌, false, length, IfSome, unwrap_or};
+ghost use Rattle.std.specs.Prelude.{ℕ, List, ◌^◌, ◌+◌, ◌≡◌, ◌≢◌, ◌<◌, ◌≤◌, ◌∷◌, false, length, IfSome, unwrap_or};
 ghost use Rattle.std.specs.Option.{option_copied};
 ghost use Rattle.lx_token.specs.Braces.{after_braces, after_literal, after_piece};
 ghost use Rattle.lx_split.specs.Bodies.{AreKnown, AreUnclosed, after_block, after_body, after_part};
@@ -14,6 +14,19 @@ pub struct Unclosed {
     strings: usize,
     characters: usize,
     classes: usize,
+}
+
+impl Unclosed {
+    /// Nothing is known.
+    pub(crate) fn new() -> Self
+        ensures { (text : List ℕ) → length text < 2 ^ 63 → AreKnown result text }
+    {
+        Unclosed {
+            strings: usize::MAX,
+            characters: usize::MAX,
+            classes: usize::MAX,
+        }
+    }
 }
 
 /// What follows the string or the class behind its opener, or the text itself where it is not closed in its line.
@@ -99,32 +112,35 @@ fn after_part<'a>(text: &'a [u8], unclosed: &mut Unclosed) -> Option<&'a [u8]>
 }
 
 /// What follows the first `*/` outside of the strings, classes, comments and actions of a body.
-fn after_body(text: &[u8]) -> Option<&[u8]>
+fn after_body<'a>(text: &'a [u8], unclosed: &mut Unclosed) -> Option<&'a [u8]>
+    requires known { AreKnown unclosed.old text.now }
     ensures rest { option_copied result ≡ after_body (length text.now) text.now }
     ensures shorter { IfSome result (λ rest. length rest.now < length text.now) }
+    ensures known { IfSome result (λ rest. AreKnown unclosed.new rest.now) }
 {
-    let mut unclosed = Unclosed {
-        strings: usize::MAX,
-        characters: usize::MAX,
-        classes: usize::MAX,
-    };
     let mut rest = text;
     while !rest.is_empty() {
         if rest.starts_with(b"*/") {
             return Some(&rest[2..]);
         }
-        rest = after_part(rest, &mut unclosed)?;
+        rest = after_part(rest, unclosed)?;
     }
     None
 }
 
 /// What follows a block behind its opener.
-pub(crate) fn after_block(kind: BlockKind, text: &[u8]) -> Option<&[u8]>
+pub(crate) fn after_block<'a>(
+    kind: BlockKind,
+    text: &'a [u8],
+    unclosed: &mut Unclosed,
+) -> Option<&'a [u8]>
+    requires known { AreKnown unclosed.old text.now }
     ensures rest { option_copied result ≡ after_block kind text.now }
     ensures shorter { IfSome result (λ rest. length rest.now + 2 ≤ length text.now) }
+    ensures known { IfSome result (λ rest. AreKnown unclosed.new rest.now) }
 {
     match kind {
         BlockKind::Ignore => after_closing(text),
-        _ => after_body(text),
+        _ => after_body(text, unclosed),
     }
 }

@@ -14,7 +14,7 @@ pub fn pieces_are_the_source()
 {}
 
 /// The fault of a source is that of the first mark of emitted text in it, or else that of an opener that stands behind
-/// pieces without faults.
+/// pieces of it.
 pub fn faults_stand_in_the_source()
     ensures { (options : Options) (file : ℕ) (bytes : List ℕ) (fault : Fault) →
         pieces_of options file bytes ≡ Err fault → IsFaultOf options (file_start file) bytes fault }

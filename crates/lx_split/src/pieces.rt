@@ -3,7 +3,7 @@ ghost use Rattle.std.specs.Prelude.{◌≡◌, ◌++◌, ◌+◌, ◌<◌, ◌�
 ghost use Rattle.lx_token.specs.Tokens.{place_of_rest};
 ghost use Rattle.lx_split.specs.Pieces.{StopsWith, block, file_start, opener_size, outside, pieces_of, pieces_without_marks};
 
-use crate::bodies::after_block;
+use crate::bodies::{Unclosed, after_block};
 use crate::marks::mark_place;
 use crate::openers::{Opener, from_opener, opener_at, word_of};
 use lx_base::{BlockKind, ByteText, Fault, Memory, Options, Pos, Sequence, Stop};
@@ -99,6 +99,7 @@ fn cut(alloc: Global, bytes: &[u8], file: u32, opts: &Options) -> Result<Pieces,
 {
     let mut pieces = Sequence::new(alloc);
     let mut at = file_start(file);
+    let mut unclosed = Unclosed::new();
     let mut rest = bytes;
     loop {
         let text = from_opener(rest, opts);
@@ -110,7 +111,7 @@ fn cut(alloc: Global, bytes: &[u8], file: u32, opts: &Options) -> Result<Pieces,
             Opener::Refused => return Err(Stop::Fault(Fault::Directive { at })),
             Opener::Opens(kind) => kind,
         };
-        let tail = match after_block(kind, behind_opener(kind, text)) {
+        let tail = match after_block(kind, behind_opener(kind, text), &mut unclosed) {
             Some(tail) => tail,
             None => return Err(Stop::Fault(Fault::Unclosed { at })),
         };

@@ -315,6 +315,7 @@ fn large_sources(rt: HostRuntime) -> Result<(), Fail> {
         ("strings", b"/*!re2c \"", b"\\\"", b"*/", 1),
         ("classes", b"/*!re2c ", b"[\\]", b"*/", 1),
         ("actions", b"/*!re2c ", b"{\"}\\", b"*/", 1),
+        ("lines", b"", b"/*!re2c \\\"*/", b"", 1_398_101),
     ] {
         let source = large(alloc, front, line, back)?;
         let (count, micros) = measured(&rt, source.as_slice())?;

@@ -1,6 +1,8 @@
-use Rattle.std.proofs.Common.{arith, codes, length, sym, ◌∙◌, ◌<◌}
+use Rattle.std.proofs.Common.{drop, arith, codes, length, sym, ◌∙◌, ◌<◌}
 use Rattle.std.proofs.lemmas.Bool.{eqb-true, eqb-false}
 use Rattle.lx_split.proofs.Needles.{pointwise-begins, take-rest}
+use Rattle.lx_token.proofs.Ends.{IsEnd-drop}
+use Rattle.lx_split.proofs.Known.{AreKnown-end}
 use Rattle.lx_split.proofs.Passing.{Passes-closed, Passes-end, Passes-part, Passes-stuck}
 use Rattle.lx_split.proofs.bodies.after_body.Goals as goal
 
@@ -33,3 +35,8 @@ pub returns-clause-rest : goal.returns-clause-rest
 returns-clause-rest c =
     let rest = c.loop-rest.rest.now in
     sym (Passes-end c.args.text.now rest (eqb-true (length rest) 0 (sym c.loop-rest-test.ensures)) c.loop-rest.invariant.passes)
+
+pub returns-then-starts_with-clause-known : goal.returns-then-starts_with-clause-known
+returns-then-starts_with-clause-known c =
+    let rest = c.loop-rest.rest.now in
+    rw (take-rest 2 rest) (AreKnown-end c.loop-rest.unclosed rest (drop 2 rest) (IsEnd-drop 2 rest) c.loop-rest.invariant.known)

@@ -1,6 +1,8 @@
-use Rattle.std.proofs.Common.{◌-◌, ap, length, arith, sym}
+use Rattle.std.proofs.Common.{◌-◌, drop, ap, length, arith, sym}
 use Rattle.std.proofs.lemmas.List.{length-drop, length-take}
 use Rattle.lx_split.specs.Pieces.{opener_size}
+use Rattle.lx_token.proofs.Ends.{IsEnd-drop}
+use Rattle.lx_split.proofs.Known.{AreKnown-end, AreKnown-opener}
 use Rattle.lx_split.proofs.OpenerTexts.{opener-fits}
 use Rattle.lx_split.proofs.Walking.{HasCut-start, HasCut-end, HasCut-refused, HasCut-unclosed, HasCut-block}
 use Rattle.lx_split.proofs.pieces.cut.Goals as goal
@@ -10,6 +12,7 @@ loop-pieces-init c =
     rw (c.new-pieces.ensures, c.file_start-at.ensures)
     (record {
       cut = HasCut-start c.args.opts.now c.args.file c.args.bytes.now;
+      known = c.new-unclosed.ensures c.args.bytes.now (omega arith);
       line = omega arith;
       col = omega arith;
     })
@@ -52,6 +55,17 @@ loop-pieces-preserved c =
           rw (c.in_ok-push.ensures.pushed, c.in_ok-block_of.ensures, c.place_after-end.ensures.place, c.in_ok-push_outside.ensures, c.place_after-at.ensures.place)
           (HasCut-block c.args.opts.now c.args.file c.args.bytes.now c.loop-pieces.pieces c.loop-pieces.at rest text
           c.from_opener-text.ensures.rest c.in-Opens.kind (sym c.in-Opens.ensures) tail c.loop-pieces.invariant.cut (sym closed) (omega arith));
+      known = c.in-Some.ensures.known;
       line = omega arith;
       col = omega arith;
+    }
+
+pub after_block-requires : goal.after_block-requires
+after_block-requires c =
+    let rest = c.loop-pieces.rest.now in
+    let text = c.from_opener-text.result.now in record {
+      known =
+          rw c.behind_opener.ensures
+          (AreKnown-end c.loop-pieces.unclosed text (drop (opener_size c.in-Opens.kind) text) (IsEnd-drop (opener_size c.in-Opens.kind) text)
+          (AreKnown-opener c.args.opts.now c.loop-pieces.unclosed rest text c.from_opener-text.ensures.rest c.loop-pieces.invariant.known));
     }
