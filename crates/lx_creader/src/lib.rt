@@ -1,0 +1,8 @@
+//! Reads emitted pieces back from the bytes of an output.
+#![tactic(auto)]
+
+mod blocks;
+mod lines;
+mod marks;
+mod sections;
+mod words;
