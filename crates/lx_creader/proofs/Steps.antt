@@ -12,6 +12,7 @@ use Rattle.lx_ccode.specs.declared.piece.CodeBlock.{CodeBlock}
 use Rattle.lx_ccode.specs.declared.piece.Stmt.{Stmt}
 use Rattle.lx_ccode.specs.Words.{front, behind}
 use Rattle.lx_ccode.specs.Reading.{begins_statement, blocks_at, byte_at, code_block_at, cond_cases_at, goto_block, goto_tail, names_at, number_at, state_cases_at, statement_at, statements_at}
+use Rattle.lx_ccode.specs.Validity.{EachBlockHasSpelling}
 use Rattle.lx_creader.specs.Fitted.{fitted_block, fitted_cond, fitted_state, fitted_statement, long}
 
 -- what was read so far, with one element more before what is still to be read
@@ -158,3 +159,7 @@ blocks_at-step left fuel names bytes rest done next block ctx is_context some is
       ap (λ p. p.2) others ∙ sym (ap (λ p. p.2) whole),
       λ filled. subst (λ (l : List CodeBlock). AreFilled l) (sym (ap (λ p. p.0) others)) (subst (λ (l : List CodeBlock). AreFilled l) (ap (λ p. p.0) whole) filled).1,
     )
+
+pub AreFilled-spelled : (names : Spellings) (blocks : List CodeBlock) → EachBlockHasSpelling names blocks → AreFilled blocks
+AreFilled-spelled names [] spelled = tt
+AreFilled-spelled names (block ∷ blocks) spelled = (spelled.0.0, AreFilled-spelled names blocks spelled.1)

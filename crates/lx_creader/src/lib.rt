@@ -4,5 +4,9 @@
 mod blocks;
 mod lines;
 mod marks;
+mod reading;
+mod rules;
 mod sections;
+mod statements;
+mod states;
 mod words;
