@@ -1,3 +1,4 @@
 pub mod Fronts
 pub mod StateLists
 pub mod Steps
+pub mod ValidParts

@@ -1,6 +1,6 @@
 -- The states of a piece, and lists of cases.
-use Rattle.std.proofs.Common.{◌≡◌, ◌<◌, ◌≤◌, ◌+◌, ◌-◌, ◌∙◌, length, get_or, add-one, append_assoc, ℕ, zero, suc, Bool, true, false, List, [], ◌∷◌, ◌++◌, drop, Option, Some, None, refl, sym, ap, subst, inl, inr, arith}
-use Rattle.std.specs.Prelude.{cond, ◌==◌, ◌⊎◌}
+use Rattle.std.proofs.Common.{◌≡◌, ◌<◌, ◌≤◌, ◌+◌, ◌-◌, ◌∙◌, length, get_or, add-one, append_assoc, ℕ, zero, suc, Bool, true, false, List, [], ◌∷◌, ◌++◌, drop, Option, Some, None, ◌↔◌, map, refl, sym, ap, subst, inl, inr, arith}
+use Rattle.std.specs.Prelude.{cond, ◌==◌, ◌⊎◌, IsTrue}
 use Rattle.std.specs.List.{AllByRecursion}
 use Rattle.std.proofs.lemmas.Bool.Decides.{eqb_tells, nat_tests}
 use Rattle.lx_ccode.specs.declared.piece.Stmt.{Stmt}
@@ -8,12 +8,16 @@ use Rattle.lx_ccode.specs.declared.piece.StateCase.{StateCase}
 use Rattle.lx_ccode.specs.declared.piece.CodeBlock.{CodeBlock}
 use Rattle.lx_ccode.specs.Statements.{is_try, state_of}
 use Rattle.lx_ccode.specs.States.{block_of, onto_cases, states_from, states_in, try_first}
-use Rattle.lx_ccode.specs.Validity.{AreAscending, AreOnce, last_statements}
+use Rattle.lx_ccode.specs.Validity.{AreAscending, AreOnce, label_of, last_statements}
 use Rattle.std.proofs.Math.Seq.{drop-cons}
 use Rattle.std.specs.Ordering.{nat_cmp}
 use Rattle.std.specs.BTreeMap.{is_at}
 use Rattle.std.specs.Option.{is_some}
-use Rattle.std.proofs.lemmas.Bool.{true≢false}
+use Rattle.std.proofs.lemmas.Bool.{true≢false, eqb-true, eq-eqb}
+use Rattle.std.proofs.lemmas.List.{length-map, length-drop}
+use Rattle.std.proofs.Math.ListN.{drop_of_length-le}
+use Rattle.std.specs.Map.{lookup}
+use Rattle.lx_ccode.specs.declared.piece.CondCase.{CondCase}
 
 onto_cases-append : (state : Option ℕ) (block : ℕ) (cases others : List StateCase) → onto_cases state block (cases ++ others) ≡ onto_cases state block cases ++ others
 onto_cases-append None block cases others = refl
@@ -116,3 +120,72 @@ states_from-step blocks place block done next whole cons next_is is =
     let rest = states_from (place + 1) (drop (place + 1) blocks) in
     ap (λ l. l ++ rest) next_is ∙ append_assoc done (states_in place block.stmts []) rest ∙ ap (λ l. done ++ l) (
     sym (states_in-append place block.stmts rest) ∙ ap (λ n. states_in place block.stmts (states_from n (drop (place + 1) blocks))) (add-one place) ∙ sym (ap (states_from place) cons)) ∙ is
+
+pub below_first : (state : ℕ) (next : StateCase) (cases : List StateCase) → AreAscending (next ∷ cases) → state < next.state
+  → AllByRecursion (λ (other : StateCase). state < other.state) (next ∷ cases)
+below_first state next cases up less = (less, all_above state next.state cases less up.0)
+
+takes_by : (case : StateCase) (rest : List StateCase) (before after : ℕ → Option ℕ) (s : ℕ) → Tells case.state s → before case.state ≡ Some case.block
+  → after s ≡ cond (case.state == s) None (before s) → block_of rest s ≡ after s → block_of (case ∷ rest) s ≡ before s
+takes_by case rest before after s (inl same) first update is = ap (λ t. cond t (Some case.block) (block_of rest s)) same.0 ∙ sym (ap before (sym same.1) ∙ first)
+takes_by case rest before after s (inr other) first update is = ap (λ t. cond t (Some case.block) (block_of rest s)) other.0 ∙ is ∙ update ∙ ap (λ t. cond t None (before s)) other.0
+
+leaves_by : (case : StateCase) (rest : List StateCase) (before after : ℕ → Option ℕ) (s : ℕ) → Tells case.state s → IsFresh case.state rest
+  → after s ≡ cond (case.state == s) None (before s) → block_of (case ∷ rest) s ≡ before s → block_of rest s ≡ after s
+leaves_by case rest before after s (inl same) fresh update is =
+    sym (ap (block_of rest) same.1) ∙ IsFresh-none case.state rest fresh ∙ sym (update ∙ ap (λ t. cond t None (before s)) same.0)
+leaves_by case rest before after s (inr other) fresh update is =
+    sym (ap (λ t. cond t (Some case.block) (block_of rest s)) other.0) ∙ is ∙ sym (update ∙ ap (λ t. cond t None (before s)) other.0)
+
+-- a case that is taken out of a map
+pub takes_next : (case : StateCase) (rest : List StateCase) (before after : ℕ → Option ℕ) → AreAscending (case ∷ rest) → before case.state ≡ Some case.block
+  → ((s : ℕ) → after s ≡ cond (is_at (nat_cmp case.state) s) None (before s))
+  → ((s : ℕ) → block_of rest s ≡ after s) ↔ ((s : ℕ) → block_of (case ∷ rest) s ≡ before s)
+takes_next case rest before after up first update =
+    let update_at : (s : ℕ) → after s ≡ cond (case.state == s) None (before s) = λ s. update s ∙ ap (λ t. cond t None (before s)) (at_equal case.state s) in (
+      λ same s. takes_by case rest before after s (eqb_tells case.state s) first (update_at s) (same s),
+      λ same s. leaves_by case rest before after s (eqb_tells case.state s) (AreAscending-fresh case rest up) (update_at s) (same s),
+    )
+
+same_numbers : (n : ℕ) → (n == n) ≡ true
+same_numbers n = eq-eqb n n refl
+
+-- a map with no value at any key has no entry
+pub no_entries : (entries : List (ℕ × ℕ)) → (length entries ≡ 0) ↔ ((s : ℕ) → None ≡ lookup (is_at (nat_cmp s)) entries)
+no_entries [] = (λ _ s. refl, λ _. refl)
+no_entries (entry ∷ entries) = (
+    λ none. absurd (omega arith),
+    λ none.
+        let found : is_at (nat_cmp entry.0) entry.0 ≡ true = at_equal entry.0 entry.0 ∙ same_numbers entry.0 in
+        let clash : None ≡ Some entry.1 = none entry.0 ∙ ap (λ t. cond t (Some entry.1) (lookup (is_at (nat_cmp entry.0)) entries)) found in absurd (cc),
+  )
+
+pub label_of-beyond : (blocks : List CodeBlock) (n : ℕ) → length blocks ≤ n → label_of blocks n ≡ None
+label_of-beyond [] n le = refl
+label_of-beyond (block ∷ blocks) zero le = absurd (omega arith)
+label_of-beyond (block ∷ blocks) (suc n) le = label_of-beyond blocks n (omega arith)
+
+pub label_of-at : (blocks : List CodeBlock) (n : ℕ) (d : CodeBlock) → n < length blocks → label_of blocks n ≡ (get_or blocks n d).cond
+label_of-at [] n d less = absurd (omega arith)
+label_of-at (block ∷ blocks) zero d less = refl
+label_of-at (block ∷ blocks) (suc n) d less = label_of-at blocks n d (omega arith)
+
+-- the cases end where the labels do
+pub labels_end : (conds : List CondCase) (place : ℕ) → place ≤ length conds → IsTrue (place == length conds) ↔ (map (λ case. case.cond) (drop place conds) ≡ [])
+labels_end conds place within = (
+    λ same.
+        let end : length conds ≤ place = let e = eqb-true place (length conds) same in omega arith in
+        ap (map (λ (case : CondCase). case.cond)) (drop_of_length-le conds {i = place} end),
+    λ none.
+        let size : length (drop place conds) ≡ 0 = sym (length-map (drop place conds) (λ (case : CondCase). case.cond)) ∙ ap length none in
+        let dropped = length-drop place conds in
+        eq-eqb place (length conds) (omega (arith, size, dropped)),
+  )
+
+-- a case that does not stand before those that follow
+pub ascending_refused : (cases : List StateCase) (place : ℕ) (case : StateCase) (below : Bool) → drop (place - 1) cases ≡ case ∷ drop place cases
+  → IsTrue below ↔ AllByRecursion (λ (other : StateCase). case.state < other.state) (drop place cases) → below ≡ false → IsTrue false ↔ AreAscending cases
+ascending_refused cases place case below cons decides is = (
+    λ e. absurd (true≢false (sym e)),
+    λ up. sym is ∙ decides.1 (subst (λ (l : List StateCase). AreAscending l) cons (AreAscending-drop (place - 1) cases up)).0,
+  )

@@ -11,8 +11,8 @@ use Rattle.lx_ccode.specs.declared.piece.CondCase.{CondCase}
 use Rattle.lx_ccode.specs.declared.piece.CodeBlock.{CodeBlock}
 use Rattle.lx_ccode.specs.declared.piece.Stmt.{Stmt}
 use Rattle.lx_ccode.specs.Words.{front, behind}
-use Rattle.lx_ccode.specs.Reading.{begins_statement, blocks_at, byte_at, code_block_at, cond_cases_at, goto_block, goto_tail, names_at, number_at, state_cases_at, statement_at, statements_at}
-use Rattle.lx_ccode.specs.Validity.{EachBlockHasSpelling}
+use Rattle.lx_ccode.specs.Reading.{begins_statement, blocks_at, byte_at, code_block_at, cond_cases_at, cond_switch_at, declarations_at, eof_at, goto_block, goto_tail, names_at, number_at, piece_at, reading, state_cases_at, state_switch_at, statement_at, statements_at}
+use Rattle.lx_ccode.specs.Validity.{EachBlockHasSpelling, IsValid}
 use Rattle.lx_creader.specs.Fitted.{fitted_block, fitted_cond, fitted_state, fitted_statement, long}
 
 -- what was read so far, with one element more before what is still to be read
@@ -163,3 +163,16 @@ blocks_at-step left fuel names bytes rest done next block ctx is_context some is
 pub AreFilled-spelled : (names : Spellings) (blocks : List CodeBlock) → EachBlockHasSpelling names blocks → AreFilled blocks
 AreFilled-spelled names [] spelled = tt
 AreFilled-spelled names (block ∷ blocks) spelled = (spelled.0.0, AreFilled-spelled names blocks spelled.1)
+
+-- where the blocks that are read are not all filled, the piece that is read is not valid
+pub unfilled : (bytes : List ℕ) (names : Spellings) (rest : List ℕ)
+  → names ≡ (names_at 17 (eof_at (drop 1 (behind is_digit (drop 17 (behind is_digit (drop 14 bytes)))))).1).0
+  → rest ≡ (cond_switch_at (length bytes) names (state_switch_at (length bytes) (declarations_at (drop 5 (names_at 17 (eof_at (drop 1 (behind is_digit (drop 17 (behind is_digit (drop 14 bytes)))))).1).1)).1).1).1
+  → (AreFilled (blocks_at (length bytes) (length bytes) names rest).0 → ⊥) → IsValid (piece_at bytes).0 → ⊥
+unfolding piece_at reading
+unfilled bytes names rest names_is rest_is none valid =
+    let whole = names_at 17 (eof_at (drop 1 (behind is_digit (drop 17 (behind is_digit (drop 14 bytes)))))).1 in
+    let states = (state_switch_at (length bytes) (declarations_at (drop 5 whole.1)).1).1 in
+    none (subst (λ (n : Spellings). AreFilled (blocks_at (length bytes) (length bytes) n rest).0) (sym names_is)
+      (subst (λ (r : List ℕ). AreFilled (blocks_at (length bytes) (length bytes) whole.0 r).0) (sym (rest_is ∙ ap (λ n. (cond_switch_at (length bytes) n states).1) names_is))
+      (AreFilled-spelled _ _ valid.spelled)))

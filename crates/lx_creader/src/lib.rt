@@ -2,6 +2,7 @@
 #![tactic(auto)]
 
 mod blocks;
+mod conds;
 mod lines;
 mod marks;
 mod reading;
@@ -9,4 +10,5 @@ mod rules;
 mod sections;
 mod statements;
 mod states;
+mod validity;
 mod words;

@@ -11,14 +11,14 @@ use lx_base::Names;
 use lx_ccode::{CondCase, LineMark, Stmt};
 
 /// Whether the number has at most 32 bits, as each has that a piece can hold.
-fn is_short(number: u32) -> bool
+pub(crate) fn is_short(number: u32) -> bool
     ensures { IsTrue result ↔ IsShort number }
 {
     let _number = number;
     true
 }
 
-fn is_long(number: u64) -> bool
+pub(crate) fn is_long(number: u64) -> bool
     ensures { IsTrue result ↔ IsLong number }
 {
     let _number = number;

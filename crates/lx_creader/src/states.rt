@@ -1,6 +1,7 @@
 //! Decides which states and which switch over them a valid piece may have.
-ghost use Rattle.std.specs.Prelude.{◌≡◌, ◌↔◌, ◌++◌, ◌<◌, ◌^◌, ℕ, IsTrue, [], length, IfOk, IfSome, OnOk, MatchOption};
+ghost use Rattle.std.specs.Prelude.{◌≡◌, ◌↔◌, ◌++◌, ◌<◌, ◌^◌, ℕ, Some, IsTrue, [], length, IfOk, IfSome, OnOk, MatchOption};
 ghost use Rattle.std.specs.Ordering.{nat_cmp};
+ghost use Rattle.std.specs.List.{AllByRecursion};
 ghost use Rattle.lx_ccode.specs.States.{block_of, state_block, states_from, states_in, try_first};
 ghost use Rattle.lx_ccode.specs.Validity.{AreAscending, AreOnce, IsStateSwitch};
 ghost use Rattle.std.specs.BTreeMap.{get};
@@ -68,4 +69,83 @@ fn by_state(alloc: Global, cases: &[StateCase]) -> Result<Option<BTreeMap<u64, u
         }
     }
     Ok(Some(map))
+}
+
+/// Whether the state is less than that of each case.
+fn is_below(state: u64, cases: &[StateCase]) -> bool
+    requires { AreAscending cases.now }
+    ensures { IsTrue result ↔ AllByRecursion (λ other. state < other.state) cases.now }
+{
+    match cases.split_first() {
+        None => true,
+        Some((case, _)) => state < case.state,
+    }
+}
+
+/// Whether the cases stand in order, each state once.
+fn are_ascending(cases: &[StateCase]) -> bool
+    ensures { IsTrue result ↔ AreAscending cases.now }
+{
+    let mut place = cases.len();
+    while place > 0 {
+        let below = is_below(cases[place - 1].state, &cases[place..]);
+        if !below {
+            return false;
+        }
+        place -= 1;
+    }
+    true
+}
+
+fn is_block(found: Option<u64>, block: u64) -> bool
+    ensures { IsTrue result ↔ (found ≡ Some block) }
+{
+    found == Some(block)
+}
+
+/// Whether the cases and the map have the same states and blocks.
+fn are_those_of(cases: &[StateCase], map: BTreeMap<u64, u64>) -> bool
+    requires { AreAscending cases.now }
+    ensures { IsTrue result ↔ ((state : ℕ) → block_of cases.now state ≡ get nat_cmp map state) }
+{
+    let mut map = map;
+    for case in cases {
+        let found = map.remove(&case.state);
+        if !is_block(found, case.block) {
+            return false;
+        }
+    }
+    map.is_empty()
+}
+
+/// Whether each state is stored at one place, and the switch over the states, where there is one, has
+/// exactly these states in order.
+pub(crate) fn keep_state_rules(
+    alloc: Global,
+    blocks: &[CodeBlock],
+    states: &Option<Sequence<StateCase>>,
+) -> Result<bool, Memory>
+    ensures { IfOk result (λ keep. IsTrue keep ↔ (AreOnce (states_from 0 blocks.now) × IfSome states.now (IsStateSwitch blocks.now))) }
+{
+    let stored = states_of(alloc, blocks)?;
+    match by_state(alloc, &stored)? {
+        None => Ok(false),
+        Some(map) => Ok(is_switch(states, map)),
+    }
+}
+
+fn is_switch(states: &Option<Sequence<StateCase>>, map: BTreeMap<u64, u64>) -> bool
+    ensures { IsTrue result ↔ IfSome states.now (λ cases. AreAscending cases × ((state : ℕ) → block_of cases state ≡ get nat_cmp map state)) }
+{
+    match states {
+        None => true,
+        Some(cases) => {
+            let cases = cases.as_slice();
+            if are_ascending(cases) {
+                are_those_of(cases, map)
+            } else {
+                false
+            }
+        }
+    }
 }

@@ -1,5 +1,5 @@
 //! The words and numbers at the front of bytes.
-ghost use Rattle.std.specs.Prelude.{◌≡◌, ◌-◌, ◌<◌, ◌≤◌, length, take, drop, min, slice_index};
+ghost use Rattle.std.specs.Prelude.{◌≡◌, ◌-◌, ◌<◌, ◌≤◌, length, take, drop, min, slice_index, ◌↔◌, IsTrue};
 ghost use Rattle.std.specs.Char.{digit_value};
 ghost use Rattle.std.specs.Str.Parse.{digits_value};
 ghost use Rattle.lx_base.specs.Letters.{is_digit, is_in_identifier, is_in_spelling};
@@ -225,6 +225,13 @@ pub(crate) fn taken(bytes: &[u8], count: usize) -> &[u8]
 /// Whether the words are equal.
 pub(crate) fn equal_words(word: &[u8], other: &[u8]) -> bool
     ensures { result ≡ equal_words word.now other.now }
+{
+    word == other
+}
+
+/// Whether the words are equal.
+pub(crate) fn is_word(word: &[u8], other: &[u8]) -> bool
+    ensures { IsTrue result ↔ (word.now ≡ other.now) }
 {
     word == other
 }
