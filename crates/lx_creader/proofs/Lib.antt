@@ -1,3 +1,4 @@
+pub mod FittedPieces
 pub mod Fronts
 pub mod StateLists
 pub mod Steps

@@ -5,6 +5,7 @@ mod blocks;
 mod conds;
 mod lines;
 mod marks;
+pub mod read;
 mod reading;
 mod rules;
 mod sections;
@@ -12,3 +13,5 @@ mod statements;
 mod states;
 mod validity;
 mod words;
+
+pub use read::{PieceStop, read_piece};
