@@ -73,7 +73,7 @@ equal_words-value (letter ∷ word) (next ∷ other) = by_test (nat_eq letter ne
   by_test true a b same = same
   by_test false a b same = refl
 
-front-behind : (test : ℕ → Bool) (text : List ℕ) → front test text ++ behind test text ≡ text
+pub front-behind : (test : ℕ → Bool) (text : List ℕ) → front test text ++ behind test text ≡ text
 front-behind test [] = refl
 front-behind test (letter ∷ text) = by_test (test letter) (front-behind test text)
   where

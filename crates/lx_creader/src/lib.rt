@@ -3,6 +3,7 @@
 
 mod blocks;
 mod conds;
+pub mod find;
 mod lines;
 mod marks;
 pub mod read;
@@ -14,4 +15,8 @@ mod states;
 mod validity;
 mod words;
 
+pub use find::find_block;
 pub use read::{PieceStop, read_piece};
+
+#[cfg(test)]
+mod tests;

@@ -35,7 +35,7 @@ impl From<Memory> for PieceStop {
 }
 
 /// Whether the text stands at the front of the bytes.
-fn begins_with(bytes: &[u8], text: &[u8]) -> bool
+pub(crate) fn begins_with(bytes: &[u8], text: &[u8]) -> bool
     ensures stands { IsTrue result → bytes.now ≡ text.now ++ drop (length text.now) bytes.now }
     ensures differs { (rest : List ℕ) → bytes.now ≡ text.now ++ rest → IsTrue result }
 {
