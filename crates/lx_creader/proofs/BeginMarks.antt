@@ -43,7 +43,7 @@ decimal_spelled number wide = ((decimal_is_IsNumeral number wide).0.0, one_digit
 
 -- a number that is read is spelled so, where it has no needless zero
 pub number_spelled : (text tail rest : List ℕ) (number : ℕ) → HasNoNeedlessZero (front is_digit text) → long (number_at text) ≡ number → number < 2 ^ 32
-  → behind is_digit text ≡ tail ++ rest → text ≡ decimal number ++ (tail ++ rest)
+    → behind is_digit text ≡ tail ++ rest → text ≡ decimal number ++ (tail ++ rest)
 number_spelled text tail rest number spelled is small behind_is =
     let value : digits_value 10 (front is_digit text) ≡ number = omega arith in
     let word = decimal-digits_value (numerals_by_value _ tells_digits) (front is_digit text) (front_digits text) spelled.0 spelled.1 (omega arith) in
@@ -76,7 +76,7 @@ begin = codes "/*!begin:re2c "
 
 -- the mark of a number, with a line behind it
 pub mark_spelled : (bytes rest line more : List ℕ) (number : ℕ) → bytes ≡ begin ++ drop 14 bytes → HasNoNeedlessZero (front is_digit (drop 14 bytes))
-  → long (number_at (drop 14 bytes)) ≡ number → number < 2 ^ 32 → behind is_digit (drop 14 bytes) ≡ codes "*/" ++ (line ++ more) → bytes ≡ begin_mark number ++ (line ++ more)
+    → long (number_at (drop 14 bytes)) ≡ number → number < 2 ^ 32 → behind is_digit (drop 14 bytes) ≡ codes "*/" ++ (line ++ more) → bytes ≡ begin_mark number ++ (line ++ more)
 mark_spelled bytes rest line more number begins spelled value small closes =
     begins ∙ ap (λ t. begin ++ t) (number_spelled (drop 14 bytes) (codes "*/") (line ++ more) number spelled value small closes ∙ sym (append_assoc (decimal number) (codes "*/") (line ++ more)))
 
@@ -85,23 +85,23 @@ mark_read bytes more number small is =
     number_read (drop 14 bytes) (47 ∷ more) number small (ap (drop 14) is ∙ append_assoc (decimal number) (codes "*/") more)
 
 pub numbered_decides : (bytes : List ℕ) (number : ℕ) (begins spelled same closes all : Bool) → number < 2 ^ 32 → TellsFront begins bytes begin
-  → IsTrue spelled ↔ HasNoNeedlessZero (front is_digit (drop 14 bytes)) → IsTrue same ↔ (long (number_at (drop 14 bytes)) ≡ number)
-  → TellsFront closes (behind is_digit (drop 14 bytes)) (codes "*/") → IsTrue all ↔ (IsTrue begins × IsTrue spelled × IsTrue same × IsTrue closes)
-  → IsTrue all ↔ BeginsBlock (Some number) bytes
+    → IsTrue spelled ↔ HasNoNeedlessZero (front is_digit (drop 14 bytes)) → IsTrue same ↔ (long (number_at (drop 14 bytes)) ≡ number)
+    → TellsFront closes (behind is_digit (drop 14 bytes)) (codes "*/") → IsTrue all ↔ (IsTrue begins × IsTrue spelled × IsTrue same × IsTrue closes)
+    → IsTrue all ↔ BeginsBlock (Some number) bytes
 numbered_decides bytes number begins spelled same closes all small begins_is spelled_is same_is closes_is all_is = (
-    λ e.
-        let each = all_is.0 e in
-        let more = drop 2 (behind is_digit (drop 14 bytes)) in
-        (more, mark_spelled bytes more [] more number (begins_is.stands each.0) (spelled_is.0 each.1) (same_is.0 each.2) small (closes_is.stands each.3)),
-    λ block.
-        let reads = mark_read bytes block.0 number small block.1 in
-        all_is.1 (begins_is.differs _ block.1, spelled_is.1 reads.digits, same_is.1 reads.value, closes_is.differs block.0 reads.rest),
-  )
+  λ e.
+      let each = all_is.0 e in
+      let more = drop 2 (behind is_digit (drop 14 bytes)) in
+      (more, mark_spelled bytes more [] more number (begins_is.stands each.0) (spelled_is.0 each.1) (same_is.0 each.2) small (closes_is.stands each.3)),
+  λ block.
+      let reads = mark_read bytes block.0 number small block.1 in
+      all_is.1 (begins_is.differs _ block.1, spelled_is.1 reads.digits, same_is.1 reads.value, closes_is.differs block.0 reads.rest),
+)
 
 pub scanner_decides : (bytes : List ℕ) (value : ℕ) (begins spelled fits closes all : Bool) → TellsFront begins bytes begin
-  → IsTrue spelled ↔ HasNoNeedlessZero (front is_digit (drop 14 bytes)) → value ≡ long (number_at (drop 14 bytes)) → IsTrue fits ↔ (value < 2 ^ 32)
-  → TellsFront closes (behind is_digit (drop 14 bytes)) (codes "*/\n/*!names:re2c ") → IsTrue all ↔ (IsTrue begins × IsTrue spelled × IsTrue fits × IsTrue closes)
-  → IsTrue all ↔ BeginsBlock None bytes
+    → IsTrue spelled ↔ HasNoNeedlessZero (front is_digit (drop 14 bytes)) → value ≡ long (number_at (drop 14 bytes)) → IsTrue fits ↔ (value < 2 ^ 32)
+    → TellsFront closes (behind is_digit (drop 14 bytes)) (codes "*/\n/*!names:re2c ") → IsTrue all ↔ (IsTrue begins × IsTrue spelled × IsTrue fits × IsTrue closes)
+    → IsTrue all ↔ BeginsBlock None bytes
 scanner_decides bytes value begins spelled fits closes all begins_is spelled_is value_is fits_is closes_is all_is =
     let line = codes "\n/*!names:re2c " in (
       λ e.

@@ -86,7 +86,7 @@ at_equal k q = grind (arith, nat_tests)
 
 -- a state that was found already stands twice
 pub once_refused : (cases : List StateCase) (place : ℕ) (case : StateCase) (found : Option ℕ) → drop (place - 1) cases ≡ case ∷ drop place cases
-  → found ≡ block_of (drop place cases) case.state → true ≡ is_some found → AreOnce cases → ⊥
+    → found ≡ block_of (drop place cases) case.state → true ≡ is_some found → AreOnce cases → ⊥
 once_refused cases place case found cons is some once =
     let fresh = (subst (λ (l : List StateCase). AreOnce l) cons (AreOnce-drop (place - 1) cases once)).0 in
     let none = is ∙ IsFresh-none case.state (drop place cases) fresh in
@@ -98,14 +98,14 @@ none_of (Some block) is = absurd (true≢false (sym is))
 
 -- a new state before the others
 pub once_goes_on : (cases : List StateCase) (place : ℕ) (case : StateCase) (found : Option ℕ) (before after : ℕ → Option ℕ) → drop (place - 1) cases ≡ case ∷ drop place cases
-  → found ≡ before case.state → false ≡ is_some found → AreOnce (drop place cases) → ((state : ℕ) → before state ≡ block_of (drop place cases) state)
-  → ((state : ℕ) → after state ≡ cond (is_at (nat_cmp case.state) state) (Some case.block) (before state))
-  → AreOnce (drop (place - 1) cases) × ((state : ℕ) → after state ≡ block_of (drop (place - 1) cases) state)
+    → found ≡ before case.state → false ≡ is_some found → AreOnce (drop place cases) → ((state : ℕ) → before state ≡ block_of (drop place cases) state)
+    → ((state : ℕ) → after state ≡ cond (is_at (nat_cmp case.state) state) (Some case.block) (before state))
+    → AreOnce (drop (place - 1) cases) × ((state : ℕ) → after state ≡ block_of (drop (place - 1) cases) state)
 once_goes_on cases place case found before after cons is none once same update =
     let fresh = IsFresh-from case.state (drop place cases) (sym (same case.state) ∙ sym is ∙ none_of found none) in (
       subst (λ (l : List StateCase). AreOnce l) (sym cons) (fresh, once),
       λ state. update state ∙ ap (λ t. cond t (Some case.block) (before state)) (at_equal case.state state)
-      ∙ ap (λ b. cond (case.state == state) (Some case.block) b) (same state) ∙ sym (ap (λ l. block_of l state) cons),
+          ∙ ap (λ b. cond (case.state == state) (Some case.block) b) (same state) ∙ sym (ap (λ l. block_of l state) cons),
     )
 
 pub last_statements-last : (front : List CodeBlock) (block : CodeBlock) → last_statements (front ++ block ∷ []) ≡ block.stmts
@@ -114,24 +114,24 @@ last_statements-last (first ∷ []) block = refl
 last_statements-last (first ∷ next ∷ front) block = last_statements-last (next ∷ front) block
 
 pub states_from-step : (blocks : List CodeBlock) (place : ℕ) (block : CodeBlock) (done next whole : List StateCase) → drop place blocks ≡ block ∷ drop (place + 1) blocks
-  → next ≡ done ++ states_in place block.stmts [] → done ++ states_from place (drop place blocks) ≡ whole
-  → next ++ states_from (place + 1) (drop (place + 1) blocks) ≡ whole
+    → next ≡ done ++ states_in place block.stmts [] → done ++ states_from place (drop place blocks) ≡ whole
+    → next ++ states_from (place + 1) (drop (place + 1) blocks) ≡ whole
 states_from-step blocks place block done next whole cons next_is is =
     let rest = states_from (place + 1) (drop (place + 1) blocks) in
     ap (λ l. l ++ rest) next_is ∙ append_assoc done (states_in place block.stmts []) rest ∙ ap (λ l. done ++ l) (
     sym (states_in-append place block.stmts rest) ∙ ap (λ n. states_in place block.stmts (states_from n (drop (place + 1) blocks))) (add-one place) ∙ sym (ap (states_from place) cons)) ∙ is
 
 pub below_first : (state : ℕ) (next : StateCase) (cases : List StateCase) → AreAscending (next ∷ cases) → state < next.state
-  → AllByRecursion (λ (other : StateCase). state < other.state) (next ∷ cases)
+    → AllByRecursion (λ (other : StateCase). state < other.state) (next ∷ cases)
 below_first state next cases up less = (less, all_above state next.state cases less up.0)
 
 takes_by : (case : StateCase) (rest : List StateCase) (before after : ℕ → Option ℕ) (s : ℕ) → Tells case.state s → before case.state ≡ Some case.block
-  → after s ≡ cond (case.state == s) None (before s) → block_of rest s ≡ after s → block_of (case ∷ rest) s ≡ before s
+    → after s ≡ cond (case.state == s) None (before s) → block_of rest s ≡ after s → block_of (case ∷ rest) s ≡ before s
 takes_by case rest before after s (inl same) first update is = ap (λ t. cond t (Some case.block) (block_of rest s)) same.0 ∙ sym (ap before (sym same.1) ∙ first)
 takes_by case rest before after s (inr other) first update is = ap (λ t. cond t (Some case.block) (block_of rest s)) other.0 ∙ is ∙ update ∙ ap (λ t. cond t None (before s)) other.0
 
 leaves_by : (case : StateCase) (rest : List StateCase) (before after : ℕ → Option ℕ) (s : ℕ) → Tells case.state s → IsFresh case.state rest
-  → after s ≡ cond (case.state == s) None (before s) → block_of (case ∷ rest) s ≡ before s → block_of rest s ≡ after s
+    → after s ≡ cond (case.state == s) None (before s) → block_of (case ∷ rest) s ≡ before s → block_of rest s ≡ after s
 leaves_by case rest before after s (inl same) fresh update is =
     sym (ap (block_of rest) same.1) ∙ IsFresh-none case.state rest fresh ∙ sym (update ∙ ap (λ t. cond t None (before s)) same.0)
 leaves_by case rest before after s (inr other) fresh update is =
@@ -139,8 +139,8 @@ leaves_by case rest before after s (inr other) fresh update is =
 
 -- a case that is taken out of a map
 pub takes_next : (case : StateCase) (rest : List StateCase) (before after : ℕ → Option ℕ) → AreAscending (case ∷ rest) → before case.state ≡ Some case.block
-  → ((s : ℕ) → after s ≡ cond (is_at (nat_cmp case.state) s) None (before s))
-  → ((s : ℕ) → block_of rest s ≡ after s) ↔ ((s : ℕ) → block_of (case ∷ rest) s ≡ before s)
+    → ((s : ℕ) → after s ≡ cond (is_at (nat_cmp case.state) s) None (before s))
+    → ((s : ℕ) → block_of rest s ≡ after s) ↔ ((s : ℕ) → block_of (case ∷ rest) s ≡ before s)
 takes_next case rest before after up first update =
     let update_at : (s : ℕ) → after s ≡ cond (case.state == s) None (before s) = λ s. update s ∙ ap (λ t. cond t None (before s)) (at_equal case.state s) in (
       λ same s. takes_by case rest before after s (eqb_tells case.state s) first (update_at s) (same s),
@@ -154,11 +154,11 @@ same_numbers n = eq-eqb n n refl
 pub no_entries : (entries : List (ℕ × ℕ)) → (length entries ≡ 0) ↔ ((s : ℕ) → None ≡ lookup (is_at (nat_cmp s)) entries)
 no_entries [] = (λ _ s. refl, λ _. refl)
 no_entries (entry ∷ entries) = (
-    λ none. absurd (omega arith),
-    λ none.
-        let found : is_at (nat_cmp entry.0) entry.0 ≡ true = at_equal entry.0 entry.0 ∙ same_numbers entry.0 in
-        let clash : None ≡ Some entry.1 = none entry.0 ∙ ap (λ t. cond t (Some entry.1) (lookup (is_at (nat_cmp entry.0)) entries)) found in absurd (cc),
-  )
+  λ none. absurd (omega arith),
+  λ none.
+      let found : is_at (nat_cmp entry.0) entry.0 ≡ true = at_equal entry.0 entry.0 ∙ same_numbers entry.0 in
+      let clash : None ≡ Some entry.1 = none entry.0 ∙ ap (λ t. cond t (Some entry.1) (lookup (is_at (nat_cmp entry.0)) entries)) found in absurd (cc),
+)
 
 pub label_of-beyond : (blocks : List CodeBlock) (n : ℕ) → length blocks ≤ n → label_of blocks n ≡ None
 label_of-beyond [] n le = refl
@@ -173,19 +173,19 @@ label_of-at (block ∷ blocks) (suc n) d less = label_of-at blocks n d (omega ar
 -- the cases end where the labels do
 pub labels_end : (conds : List CondCase) (place : ℕ) → place ≤ length conds → IsTrue (place == length conds) ↔ (map (λ case. case.cond) (drop place conds) ≡ [])
 labels_end conds place within = (
-    λ same.
-        let end : length conds ≤ place = let e = eqb-true place (length conds) same in omega arith in
-        ap (map (λ (case : CondCase). case.cond)) (drop_of_length-le conds {i = place} end),
-    λ none.
-        let size : length (drop place conds) ≡ 0 = sym (length-map (drop place conds) (λ (case : CondCase). case.cond)) ∙ ap length none in
-        let dropped = length-drop place conds in
-        eq-eqb place (length conds) (omega (arith, size, dropped)),
-  )
+  λ same.
+      let end : length conds ≤ place = let e = eqb-true place (length conds) same in omega arith in
+      ap (map (λ (case : CondCase). case.cond)) (drop_of_length-le conds {i = place} end),
+  λ none.
+      let size : length (drop place conds) ≡ 0 = sym (length-map (drop place conds) (λ (case : CondCase). case.cond)) ∙ ap length none in
+      let dropped = length-drop place conds in
+      eq-eqb place (length conds) (omega (arith, size, dropped)),
+)
 
 -- a case that does not stand before those that follow
 pub ascending_refused : (cases : List StateCase) (place : ℕ) (case : StateCase) (below : Bool) → drop (place - 1) cases ≡ case ∷ drop place cases
-  → IsTrue below ↔ AllByRecursion (λ (other : StateCase). case.state < other.state) (drop place cases) → below ≡ false → IsTrue false ↔ AreAscending cases
+    → IsTrue below ↔ AllByRecursion (λ (other : StateCase). case.state < other.state) (drop place cases) → below ≡ false → IsTrue false ↔ AreAscending cases
 ascending_refused cases place case below cons decides is = (
-    λ e. absurd (true≢false (sym e)),
-    λ up. sym is ∙ decides.1 (subst (λ (l : List StateCase). AreAscending l) cons (AreAscending-drop (place - 1) cases up)).0,
-  )
+  λ e. absurd (true≢false (sym e)),
+  λ up. sym is ∙ decides.1 (subst (λ (l : List StateCase). AreAscending l) cons (AreAscending-drop (place - 1) cases up)).0,
+)

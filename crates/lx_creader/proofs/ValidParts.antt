@@ -32,7 +32,7 @@ all_back P (x ∷ xs) ys all = all_back P xs ys all.1
 
 -- what holds of the statements of fine blocks
 of_statements : {P : Stmt → Type 0} (names : Spellings) (conds : List (List ℕ)) (count : ℕ) → ((s : Stmt) → IsFineStatement names conds count s → P s)
-  → (blocks : List CodeBlock) → AllByRecursion (IsFineBlock names conds count) blocks → AllByRecursion P (all_statements blocks)
+    → (blocks : List CodeBlock) → AllByRecursion (IsFineBlock names conds count) blocks → AllByRecursion P (all_statements blocks)
 of_statements names conds count f [] fine = tt
 of_statements {P = P} names conds count f (block ∷ blocks) fine =
     all_append P block.stmts (all_statements blocks) (all_map f block.stmts fine.0.statements) (of_statements names conds count f blocks fine.1)
@@ -47,15 +47,15 @@ blocks_spelled names conds count (block ∷ blocks) fine =
     ((fine.0.some, fine.0.label, each_spelled names conds count block.stmts fine.0.statements), blocks_spelled names conds count blocks fine.1)
 
 fine_statements : (names : Spellings) (conds : List (List ℕ)) (count : ℕ) (statements : List Stmt) → AllByRecursion (JumpsBelow count) statements
-  → AllByRecursion (NamesOneOf conds) statements → AllByRecursion HasFewGroups statements → EachHasSpelling names statements → AllByRecursion (IsFineStatement names conds count) statements
+    → AllByRecursion (NamesOneOf conds) statements → AllByRecursion HasFewGroups statements → EachHasSpelling names statements → AllByRecursion (IsFineStatement names conds count) statements
 fine_statements names conds count [] jumps named groups spelled = tt
 fine_statements names conds count (s ∷ statements) jumps named groups spelled =
     (record { jumps = jumps.0; named = named.0; groups = groups.0; spelled = spelled.0 }, fine_statements names conds count statements jumps.1 named.1 groups.1 spelled.1)
 
 fine_blocks : (names : Spellings) (conds : List (List ℕ)) (count : ℕ) (blocks : List CodeBlock) → AllByRecursion (JumpsBelow count) (all_statements blocks)
-  → AllByRecursion (NamesOneOf conds) (all_statements blocks) → AllByRecursion HasFewGroups (all_statements blocks) → EachBlockHasSpelling names blocks
-  → AllByRecursion (λ (block : CodeBlock). ends_once block.stmts ≡ true) blocks → AllByRecursion (λ (block : CodeBlock). refills_after_states block.stmts ≡ true) blocks
-  → AllByRecursion (IsFineBlock names conds count) blocks
+    → AllByRecursion (NamesOneOf conds) (all_statements blocks) → AllByRecursion HasFewGroups (all_statements blocks) → EachBlockHasSpelling names blocks
+    → AllByRecursion (λ (block : CodeBlock). ends_once block.stmts ≡ true) blocks → AllByRecursion (λ (block : CodeBlock). refills_after_states block.stmts ≡ true) blocks
+    → AllByRecursion (IsFineBlock names conds count) blocks
 fine_blocks names conds count [] jumps named groups spelled ends after = tt
 fine_blocks names conds count (block ∷ blocks) jumps named groups spelled ends after =
     let rest = all_statements blocks in (
@@ -65,14 +65,14 @@ fine_blocks names conds count (block ∷ blocks) jumps named groups spelled ends
         ends = ends.0;
         after_states = after.0;
         statements = fine_statements names conds count block.stmts (all_front (JumpsBelow count) block.stmts rest jumps) (all_front (NamesOneOf conds) block.stmts rest named)
-        (all_front HasFewGroups block.stmts rest groups) spelled.0.2;
+            (all_front HasFewGroups block.stmts rest groups) spelled.0.2;
       },
       fine_blocks names conds count blocks (all_back (JumpsBelow count) block.stmts rest jumps) (all_back (NamesOneOf conds) block.stmts rest named)
-      (all_back HasFewGroups block.stmts rest groups) spelled.1 ends.1 after.1,
+          (all_back HasFewGroups block.stmts rest groups) spelled.1 ends.1 after.1,
     )
 
 fine_conds : (blocks : List CodeBlock) (conds : List CondCase) → AllByRecursion (λ (case : CondCase). IsIdentifier case.cond × IsLong case.block) conds
-  → AllByRecursion (λ (case : CondCase). label_of blocks case.block ≡ Some case.cond) conds → AllByRecursion (IsFineCond blocks) conds
+    → AllByRecursion (λ (case : CondCase). label_of blocks case.block ≡ Some case.cond) conds → AllByRecursion (IsFineCond blocks) conds
 fine_conds blocks [] range starts = tt
 fine_conds blocks (case ∷ conds) range starts =
     (record { identifier = range.0.0; long = range.0.1; start = starts.0 }, fine_conds blocks conds range.1 starts.1)
@@ -81,7 +81,7 @@ abbrev pub names_of : List CondCase → List (List ℕ)
 names_of conds = map (λ case. case.cond) conds
 
 pub IsValid-from : (piece : Piece) → AreOnce (states_from 0 piece.blocks) → IfSome piece.states (IsStateSwitch piece.blocks) → KeepsHeadRules piece
-  → KeepCondRules piece.blocks piece.conds → KeepsBlockRules piece.names (names_of piece.conds) piece.blocks → KeepsKindRules piece.ctx piece.blocks → IsValid piece
+    → KeepCondRules piece.blocks piece.conds → KeepsBlockRules piece.names (names_of piece.conds) piece.blocks → KeepsKindRules piece.ctx piece.blocks → IsValid piece
 IsValid-from piece once switch head conds fine kinds =
     let names = piece.names in
     let words = names_of piece.conds in
@@ -138,16 +138,16 @@ blocks_of piece valid = record {
   some = valid.blocks;
   countable = valid.statements;
   fine = fine_blocks piece.names (names_of piece.conds) (length piece.blocks) piece.blocks valid.jumps
-  (subst (λ (l : List (List ℕ)). AllByRecursion (NamesOneOf l) (all_statements piece.blocks)) (sym valid.conds) valid.conds_named) valid.groups valid.spelled valid.ends valid.after_states;
+      (subst (λ (l : List (List ℕ)). AllByRecursion (NamesOneOf l) (all_statements piece.blocks)) (sym valid.conds) valid.conds_named) valid.groups valid.spelled valid.ends valid.after_states;
 }
 
 pub kinds_of : (piece : Piece) → IsValid piece → KeepsKindRules piece.ctx piece.blocks
 kinds_of piece valid = record { one_refill = valid.one_refill; before_refills = valid.before_refills; next_block = valid.next_block; context = valid.ctx }
 
 pub IsValid-decides : (piece : Piece) (blocks : List CodeBlock) (conds : List CondCase) (head named fine kinds all : Bool) → blocks ≡ piece.blocks → conds ≡ piece.conds
-  → AreOnce (states_from 0 blocks) × IfSome piece.states (IsStateSwitch blocks) → IsTrue head ↔ KeepsHeadRules piece → IsTrue named ↔ KeepCondRules blocks conds
-  → IsTrue fine ↔ KeepsBlockRules piece.names (names_of conds) blocks → IsTrue kinds ↔ KeepsKindRules piece.ctx blocks
-  → IsTrue all ↔ (IsTrue head × IsTrue named × IsTrue fine × IsTrue kinds) → IsTrue all ↔ IsValid piece
+    → AreOnce (states_from 0 blocks) × IfSome piece.states (IsStateSwitch blocks) → IsTrue head ↔ KeepsHeadRules piece → IsTrue named ↔ KeepCondRules blocks conds
+    → IsTrue fine ↔ KeepsBlockRules piece.names (names_of conds) blocks → IsTrue kinds ↔ KeepsKindRules piece.ctx blocks
+    → IsTrue all ↔ (IsTrue head × IsTrue named × IsTrue fine × IsTrue kinds) → IsTrue all ↔ IsValid piece
 IsValid-decides piece blocks conds head named fine kinds all blocks_is conds_is states head_is named_is fine_is kinds_is all_is =
     let states = subst (λ (b : List CodeBlock). AreOnce (states_from 0 b) × IfSome piece.states (IsStateSwitch b)) blocks_is states in
     let named_is = subst (λ (c : List CondCase). IsTrue named ↔ KeepCondRules piece.blocks c) conds_is (subst (λ (b : List CodeBlock). IsTrue named ↔ KeepCondRules b conds) blocks_is named_is) in
@@ -159,8 +159,8 @@ IsValid-decides piece blocks conds head named fine kinds all blocks_is conds_is 
     )
 
 pub IsValid-refused : (piece : Piece) (blocks : List CodeBlock) (kept : Bool) → blocks ≡ piece.blocks
-  → IsTrue kept ↔ (AreOnce (states_from 0 blocks) × IfSome piece.states (IsStateSwitch blocks)) → kept ≡ false → IsTrue false ↔ IsValid piece
+    → IsTrue kept ↔ (AreOnce (states_from 0 blocks) × IfSome piece.states (IsStateSwitch blocks)) → kept ≡ false → IsTrue false ↔ IsValid piece
 IsValid-refused piece blocks kept blocks_is decides is = (
-    λ e. absurd (false≢true e),
-    λ valid. sym is ∙ decides.1 (subst (λ (b : List CodeBlock). AreOnce (states_from 0 b) × IfSome piece.states (IsStateSwitch b)) (sym blocks_is) (valid.states_differ, valid.state_switch)),
-  )
+  λ e. absurd (false≢true e),
+  λ valid. sym is ∙ decides.1 (subst (λ (b : List CodeBlock). AreOnce (states_from 0 b) × IfSome piece.states (IsStateSwitch b)) (sym blocks_is) (valid.states_differ, valid.state_switch)),
+)

@@ -7,8 +7,8 @@ ghost use Rattle.lx_ccode.specs.Validity.{IsLabel, ends_once, last_statements, r
 ghost use Rattle.lx_creader.specs.Fine.{IsFineBlock, IsFineStatement};
 
 use crate::statements::{
-    has_few_groups, has_register_one, has_spelling, is_ending, is_need, is_refill, is_state, is_try,
-    jumps_below, names_one_of,
+    has_few_groups, has_register_one, has_spelling, is_ending, is_need, is_refill, is_state,
+    is_try, jumps_below, names_one_of,
 };
 use lx_base::spellings::is_identifier;
 use lx_base::{ByteText, Names};

@@ -6,8 +6,8 @@ ghost use Rattle.lx_ccode.specs.Validity.{HasFewGroups, HasSpelling, IsLine, IsL
 ghost use Rattle.lx_ccode.specs.Words.{equal_words};
 
 use crate::words::equal_words;
-use lx_base::spellings::{is_identifier, is_tag_name};
 use lx_base::Names;
+use lx_base::spellings::{is_identifier, is_tag_name};
 use lx_ccode::{CondCase, LineMark, Stmt};
 
 /// Whether the number has at most 32 bits, as each has that a piece can hold.

@@ -23,11 +23,7 @@ fn try_first(statements: &[Stmt]) -> bool
 
 /// Appends the states of a block's statements, each with the block where it goes on: this one, or the next
 /// one before a Try.
-fn append_states(
-    states: &mut Vec<StateCase>,
-    place: u64,
-    statements: &[Stmt],
-) -> Result<(), Memory>
+fn append_states(states: &mut Vec<StateCase>, place: u64, statements: &[Stmt]) -> Result<(), Memory>
     requires { place < 2 ^ 63 }
     ensures { OnOk result (states.new.items ≡ states.old.items ++ states_in place statements.now []) }
 {

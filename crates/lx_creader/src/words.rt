@@ -19,7 +19,11 @@ pub(crate) fn byte_at(bytes: &[u8], place: usize) -> u8
 pub(crate) fn skip(bytes: &[u8], count: usize) -> &[u8]
     ensures { result.now ≡ drop count bytes.now }
 {
-    if count <= bytes.len() { &bytes[count..] } else { &[] }
+    if count <= bytes.len() {
+        &bytes[count..]
+    } else {
+        &[]
+    }
 }
 
 /// The value of a digit or a letter; 36 for any other byte.

@@ -14,8 +14,7 @@ returns-in-None c =
 
 pub returns-in-Some : goal.returns-in-Some
 returns-in-Some c =
-    let is = label_of-at c.args.blocks.now c.args.case.now.block c.index-blocks-block.result c.if-block-blocks.false ∙ c.in-Some.is in
-    (
+    let is = label_of-at c.args.blocks.now c.args.case.now.block c.index-blocks-block.result c.if-block-blocks.false ∙ c.in-Some.is in (
       λ e. is ∙ ap Some (sym c.as_slice.ensures ∙ c.is_word.ensures.0 e ∙ c.as_slice-in-Some.ensures),
       λ some.
           let same : Some c.in-Some.cond ≡ Some c.args.case.now.cond = sym is ∙ some in

@@ -11,6 +11,6 @@ returns-in-Some c =
     let cons = c.in-Some.ensures.cases.0 in
     let less = Decides-ltb c.args.state c.in-Some.case.now.state in (
       λ e. subst (λ (l : List StateCase). AllByRecursion (λ (other : StateCase). c.args.state < other.state) l) (sym cons)
-      (below_first c.args.state c.in-Some.case.now c.in-Some.field-0-1.now (subst (λ (l : List StateCase). AreAscending l) cons c.requires) (less.0 e)),
+          (below_first c.args.state c.in-Some.case.now c.in-Some.field-0-1.now (subst (λ (l : List StateCase). AreAscending l) cons c.requires) (less.0 e)),
       λ all. less.1 (subst (λ (l : List StateCase). AllByRecursion (λ (other : StateCase). c.args.state < other.state) l) cons all).0,
     )

@@ -17,7 +17,7 @@ loop-letter-preserved c =
     let value_is : c.saturating_add-value.result ≡ min (min (c.loop-letter.value * base) most + digit_value letter) most =
     c.saturating_add-value.ensures ∙ ap (λ n. min n most) (ap (λ n. n + c.from.result) c.saturating_mul.ensures ∙ ap (λ n. min (c.loop-letter.value * base) most + n) (c.from.ensures ∙ c.digit_value.ensures.value)) in (
       value-next base c.loop-letter.value (digit_value letter) most c.saturating_add-value.result (drop (i + 1) word) c.requires.some value_is
-      ∙ sym (ap (λ l. min (digits_value_after base c.loop-letter.value l) most) more) ∙ c.loop-letter.invariant.0,
+          ∙ sym (ap (λ l. min (digits_value_after base c.loop-letter.value l) most) more) ∙ c.loop-letter.invariant.0,
       omega arith,
     )
 
