@@ -1,5 +1,5 @@
 -- The numbers of a valid piece have room in their fields.
-use Rattle.std.proofs.Common.{◌≡◌, ◌<◌, ◌≤◌, ◌∙◌, ℕ, true, false, List, [], ◌∷◌, ◌++◌, drop, length, map, Option, Some, None, refl, sym, ap, subst, arith, min, inl, inr}
+use Rattle.std.proofs.Common.{◌≡◌, ◌<◌, ◌∙◌, ℕ, true, false, List, [], ◌∷◌, ◌++◌, drop, length, map, Option, Some, None, refl, sym, ap, subst, arith, inl, inr}
 use Rattle.std.specs.Prelude.{◌^◌, ◌*◌, ◌⊎◌, IfSome}
 use Rattle.std.specs.List.{AllByRecursion}
 use Rattle.lx_base.specs.Letters.{IsIdentifier}
@@ -12,7 +12,7 @@ use Rattle.lx_ccode.specs.declared.piece.StateCase.{StateCase}
 use Rattle.lx_ccode.specs.declared.piece.Stmt.{Stmt}
 use Rattle.lx_ccode.specs.declared.piece.Stmt.TheVariants.{Peek, Skip, Backup, Restore, Accept, Set, Unset, Copy, MSet, MUnset, MCopy, IfUnit, IfAccept, IfEnd, State, Need, Try, Cond, Tag, Count, End, Back, Goto, Leave, Code, Jump}
 use Rattle.lx_ccode.specs.Text.{piece_text}
-use Rattle.lx_ccode.specs.Validity.{EachBlockHasSpelling, EachHasSpelling, HasSpelling, IsLine, IsLong, IsShort, IsValid}
+use Rattle.lx_ccode.specs.Validity.{EachBlockHasSpelling, EachHasSpelling, HasSpelling, IsLine, IsLong, IsValid}
 use Rattle.lx_ccode.specs.Front.{BeginsWithPiece}
 use Rattle.lx_ccode.specs.Reading.{piece_at}
 use Rattle.lx_creader.specs.Fitted.{fitted, fitted_block, fitted_cond, fitted_eof, fitted_line, fitted_state, fitted_statement, fitted_states, long, short}

@@ -7,7 +7,6 @@ use Rattle.lx_ccode.specs.Words.{equal_words}
 use lib.Pointwise.{pointwise}
 use Rattle.std.proofs.Math.Seq.{drop-append_seam}
 use Rattle.std.proofs.lemmas.List.{reverse-append, reverse-reverse}
-use Rattle.std.proofs.lemmas.Grind.{common_steps}
 use Rattle.std.specs.Char.{digit_value}
 use Rattle.std.specs.Str.Parse.{digits_value_after}
 use Rattle.lx_ccode.specs.Words.{front, behind}

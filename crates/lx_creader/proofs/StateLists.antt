@@ -6,7 +6,7 @@ use Rattle.std.proofs.lemmas.Bool.Decides.{eqb_tells, nat_tests}
 use Rattle.lx_ccode.specs.declared.piece.Stmt.{Stmt}
 use Rattle.lx_ccode.specs.declared.piece.StateCase.{StateCase}
 use Rattle.lx_ccode.specs.declared.piece.CodeBlock.{CodeBlock}
-use Rattle.lx_ccode.specs.Statements.{is_try, state_of}
+use Rattle.lx_ccode.specs.Statements.{state_of}
 use Rattle.lx_ccode.specs.States.{block_of, onto_cases, states_from, states_in, try_first}
 use Rattle.lx_ccode.specs.Validity.{AreAscending, AreOnce, label_of, last_statements}
 use Rattle.std.proofs.Math.Seq.{drop-cons}

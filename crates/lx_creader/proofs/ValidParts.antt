@@ -1,6 +1,6 @@
 -- The rules of a valid piece, from its groups of rules and back; and a valid piece's numbers stay as they are.
-use Rattle.std.proofs.Common.{◌≡◌, ◌↔◌, ◌<◌, ◌≤◌, ◌∙◌, ℕ, Bool, IsTrue, true, false, List, [], ◌∷◌, ◌++◌, length, map, Option, Some, None, refl, sym, ap, subst, arith, min}
-use Rattle.std.specs.Prelude.{◌^◌, IfSome}
+use Rattle.std.proofs.Common.{◌≡◌, ◌↔◌, ◌∙◌, ℕ, Bool, IsTrue, true, false, List, [], ◌∷◌, ◌++◌, length, map, Some, sym, subst}
+use Rattle.std.specs.Prelude.{IfSome}
 use Rattle.std.proofs.lemmas.Bool.{false≢true}
 use Rattle.std.specs.List.{AllByRecursion}
 use Rattle.lx_base.specs.Letters.{IsIdentifier}
@@ -11,8 +11,8 @@ use Rattle.lx_ccode.specs.declared.piece.Piece.{Piece}
 use Rattle.lx_ccode.specs.declared.piece.Stmt.{Stmt}
 use Rattle.lx_ccode.specs.States.{states_from}
 use Rattle.lx_ccode.specs.Statements.{all_statements}
-use Rattle.lx_ccode.specs.Validity.{AreOnce, EachBlockHasSpelling, EachHasSpelling, HasFewGroups, IsInRange, IsLong, IsStateSwitch, IsValid, JumpsBelow, NamesOneOf, ends_once, label_of, labels, refills_after_states}
-use Rattle.lx_creader.specs.Fine.{HasUnit, IsFineBlock, IsFineCond, IsFineStatement, KeepCondRules, KeepsBlockRules, KeepsHeadRules, KeepsKindRules}
+use Rattle.lx_ccode.specs.Validity.{AreOnce, EachBlockHasSpelling, EachHasSpelling, HasFewGroups, IsLong, IsStateSwitch, IsValid, JumpsBelow, NamesOneOf, ends_once, label_of, refills_after_states}
+use Rattle.lx_creader.specs.Fine.{IsFineBlock, IsFineCond, IsFineStatement, KeepCondRules, KeepsBlockRules, KeepsHeadRules, KeepsKindRules}
 
 all_map : {A : Type 0} {P Q : A → Type 0} → ((x : A) → P x → Q x) → (xs : List A) → AllByRecursion P xs → AllByRecursion Q xs
 all_map f [] all = tt

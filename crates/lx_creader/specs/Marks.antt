@@ -1,5 +1,5 @@
 -- Where the begin mark of a piece stands.
-use Rattle.std.specs.Prelude.{◌≡◌, ℕ, ◌<◌, ◌^◌, List, [], ◌∷◌, ◌++◌, drop, length, slice_index, codes, Option, Some, None}
+use Rattle.std.specs.Prelude.{◌≡◌, ℕ, ◌<◌, ◌^◌, List, ◌++◌, drop, length, slice_index, codes, Option, Some, None}
 use Rattle.std.specs.Fmt.{decimal}
 
 -- the begin mark of the piece with this number

@@ -1,4 +1,4 @@
-use Rattle.std.proofs.Common.{◌≡◌, ◌↔◌, drop, map}
+use Rattle.std.proofs.Common.{◌↔◌, drop, map}
 use Rattle.lx_base.specs.Names.{AreDistinct}
 use Rattle.lx_creader.proofs.conds.are_distinct.Given as goal
 

@@ -1,4 +1,4 @@
-use Rattle.std.proofs.Common.{◌≡◌, ◌↔◌, drop}
+use Rattle.std.proofs.Common.{◌↔◌, drop}
 use Rattle.std.specs.List.{AllByRecursion}
 use Rattle.lx_creader.specs.Fine.{IsFineCond}
 use Rattle.lx_creader.proofs.conds.are_fine_conds.Given as goal

@@ -1,4 +1,4 @@
-use Rattle.std.proofs.Common.{◌≡◌, ◌↔◌, drop, map}
+use Rattle.std.proofs.Common.{◌↔◌, drop, map}
 use Rattle.lx_base.specs.Names.{IsNoneOf}
 use Rattle.lx_creader.proofs.conds.is_none_of.Given as goal
 

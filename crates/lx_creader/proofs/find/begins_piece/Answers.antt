@@ -1,6 +1,6 @@
-use Rattle.std.proofs.Common.{◌≡◌, ◌∙◌, ap, sym, subst, List, ℕ, IsTrue, ◌↔◌, ◌++◌, drop, length, arith}
-use Rattle.std.specs.Prelude.{codes, nat_eq, nat_lt}
-use Rattle.std.proofs.lemmas.Bool.Decides.{Decides-eqb, Decides-ltb}
+use Rattle.std.proofs.Common.{◌∙◌, ap, sym, subst, List, ℕ, IsTrue, ◌↔◌, arith}
+use Rattle.std.specs.Prelude.{codes, nat_eq}
+use Rattle.std.proofs.lemmas.Bool.Decides.{Decides-eqb}
 use Rattle.lx_base.specs.Letters.{is_digit}
 use Rattle.lx_ccode.specs.Words.{behind, front}
 use Rattle.lx_ccode.specs.Reading.{number_at}

@@ -1,4 +1,4 @@
-use Rattle.std.proofs.Common.{◌≡◌, ◌∙◌, ◌++◌, sym, ap}
+use Rattle.std.proofs.Common.{◌∙◌, ◌++◌, sym, ap}
 use Rattle.lx_creader.proofs.FittedPieces.{emitted_by}
 use Rattle.lx_creader.proofs.read.is_emitted.Goals as goal
 

@@ -1,4 +1,4 @@
-use Rattle.std.proofs.Common.{◌≡◌, sym, subst, refl, List, ℕ, ◌∙◌}
+use Rattle.std.proofs.Common.{sym, subst, refl, List, ℕ, ◌∙◌}
 use Rattle.std.proofs.lemmas.Bool.{false≢true}
 use Rattle.lx_ccode.specs.Front.{BeginsWithPiece}
 use Rattle.lx_creader.proofs.FittedPieces.{no_other_stands, none_stands}

@@ -1,4 +1,4 @@
-use Rattle.std.proofs.Common.{◌≡◌, ◌↔◌, drop, map, ◌+◌, ◌≤◌}
+use Rattle.std.proofs.Common.{◌≡◌, drop, ◌+◌, ◌≤◌}
 use Rattle.lx_ccode.specs.Statements.{statement_count}
 use Rattle.lx_creader.proofs.rules.are_countable.Given as goal
 

@@ -1,4 +1,4 @@
-use Rattle.std.proofs.Common.{◌≡◌, ◌↔◌, drop, map}
+use Rattle.std.proofs.Common.{◌≡◌, drop}
 use Rattle.lx_ccode.specs.Validity.{ends_once}
 use Rattle.lx_creader.proofs.rules.ends_once.Given as goal
 

@@ -1,4 +1,4 @@
-use Rattle.std.proofs.Common.{◌≡◌, ◌∙◌, sym, ap, false}
+use Rattle.std.proofs.Common.{◌∙◌, sym, ap, false}
 use Rattle.lx_ccode.specs.Validity.{last_statements, tries_after_state}
 use Rattle.lx_creader.proofs.StateLists.{last_statements-last}
 use Rattle.lx_creader.proofs.rules.last_tries_after_state.Goals as goal

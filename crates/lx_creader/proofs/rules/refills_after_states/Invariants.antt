@@ -1,4 +1,4 @@
-use Rattle.std.proofs.Common.{◌≡◌, ◌↔◌, drop, map}
+use Rattle.std.proofs.Common.{◌≡◌, drop}
 use Rattle.lx_ccode.specs.Validity.{refills_after_states}
 use Rattle.lx_creader.proofs.rules.refills_after_states.Given as goal
 

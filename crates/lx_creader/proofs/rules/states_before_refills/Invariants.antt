@@ -1,4 +1,4 @@
-use Rattle.std.proofs.Common.{◌≡◌, ◌↔◌, drop, false}
+use Rattle.std.proofs.Common.{◌≡◌, drop, false}
 use Rattle.lx_ccode.specs.Validity.{states_before_refills}
 use Rattle.lx_creader.proofs.rules.states_before_refills.Given as goal
 

@@ -1,4 +1,4 @@
-use Rattle.std.proofs.Common.{◌≡◌, ◌↔◌, drop, false}
+use Rattle.std.proofs.Common.{◌≡◌, drop, false}
 use Rattle.lx_ccode.specs.Validity.{tries_after_state}
 use Rattle.lx_creader.proofs.rules.tries_after_state.Given as goal
 

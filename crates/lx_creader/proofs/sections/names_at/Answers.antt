@@ -1,4 +1,4 @@
-use Rattle.std.proofs.Common.{◌≡◌, ◌∙◌, ◌≤◌, ◌++◌, ◌∷◌, [], length, sym, ap, arith}
+use Rattle.std.proofs.Common.{◌∙◌, ◌≤◌, ◌++◌, ◌∷◌, [], length, ap, arith}
 use Rattle.lx_creader.proofs.Steps.{names_at-step}
 use Rattle.lx_creader.proofs.sections.names_at.Goals as goal
 

@@ -1,4 +1,4 @@
-use Rattle.std.proofs.Common.{◌≡◌, ◌↔◌, drop, ◌≤◌, length}
+use Rattle.std.proofs.Common.{drop, ◌≤◌, length}
 use Rattle.lx_ccode.specs.Validity.{AreAscending}
 use Rattle.lx_creader.proofs.states.are_ascending.Given as goal
 

@@ -1,4 +1,4 @@
-use Rattle.std.proofs.Common.{◌≡◌, ◌≤◌, ◌-◌, ◌∙◌, ℕ, length, sym, arith, get_or}
+use Rattle.std.proofs.Common.{◌-◌, ◌∙◌, arith, get_or}
 use Rattle.std.specs.Ordering.{nat_cmp}
 use Rattle.std.specs.BTreeMap.{get}
 use Rattle.lx_ccode.specs.declared.piece.StateCase.{StateCase}

@@ -1,4 +1,4 @@
-use Rattle.std.proofs.Common.{◌≡◌, List, ◌<◌, sym, subst}
+use Rattle.std.proofs.Common.{List, ◌<◌, sym, subst}
 use Rattle.std.specs.List.{AllByRecursion}
 use Rattle.std.proofs.lemmas.Bool.Decides.{Decides-ltb}
 use Rattle.lx_ccode.specs.declared.piece.StateCase.{StateCase}

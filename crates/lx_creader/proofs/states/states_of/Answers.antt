@@ -1,6 +1,5 @@
-use Rattle.std.proofs.Common.{◌≡◌, ◌∷◌, ◌+◌, drop, get_or, sym, ap, ◌∙◌, add-one}
+use Rattle.std.proofs.Common.{◌∷◌, ◌+◌, drop, sym, ap, ◌∙◌}
 use Rattle.std.proofs.lemmas.List.{drop_more}
-use Rattle.lx_ccode.specs.States.{states_in}
 use Rattle.lx_creader.proofs.StateLists.{states_from-step}
 use Rattle.lx_creader.proofs.states.states_of.Goals as goal
 

@@ -1,4 +1,4 @@
-use Rattle.std.proofs.Common.{◌≡◌, ◌↔◌, drop}
+use Rattle.std.proofs.Common.{◌↔◌, drop}
 use Rattle.std.specs.List.{AllByRecursion}
 use Rattle.lx_ccode.specs.Validity.{IsLong}
 use Rattle.lx_creader.proofs.validity.are_long.Given as goal

@@ -1,4 +1,3 @@
-use Rattle.std.proofs.Common.{◌≡◌}
 use Rattle.lx_creader.proofs.ValidParts.{IsValid-decides}
 use Rattle.lx_creader.proofs.validity.is_valid.Goals as goal
 

@@ -1,4 +1,4 @@
-use Rattle.std.proofs.Common.{◌≡◌, ◌∙◌, sym, ap, arith, length}
+use Rattle.std.proofs.Common.{◌∙◌, sym, ap, arith, length}
 use Rattle.std.proofs.lemmas.Bool.{eqb-true}
 use Rattle.std.proofs.lemmas.List.{length-map}
 use Rattle.lx_creader.proofs.Steps.{blocks_at-step, blocks_at-filled}

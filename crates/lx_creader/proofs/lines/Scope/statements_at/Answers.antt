@@ -1,4 +1,4 @@
-use Rattle.std.proofs.Common.{◌≡◌, ◌∙◌, sym, ap, arith}
+use Rattle.std.proofs.Common.{◌∙◌, sym}
 use Rattle.lx_creader.proofs.Steps.{statements_at-step}
 use Rattle.lx_creader.proofs.lines.Scope.statements_at.Goals as goal
 

@@ -1,4 +1,4 @@
-use Rattle.std.proofs.Common.{◌≡◌, ◌↔◌, drop, map}
+use Rattle.std.proofs.Common.{◌↔◌, drop, map}
 use Rattle.std.specs.List.{AllByRecursion}
 use Rattle.lx_creader.specs.Fine.{IsFineStatement}
 use Rattle.lx_creader.proofs.rules.Rules.are_fine_statements.Given as goal
