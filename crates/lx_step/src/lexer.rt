@@ -1,7 +1,7 @@
 //! A lexer: a piece, and what it holds from match to match.
-ghost use Rattle.std.specs.Prelude.{◌≡◌, ◌%◌, ◌≤◌, length, take, option_map, IfOk, is_some, true, false};
+ghost use Rattle.std.specs.Prelude.{◌≡◌, ◌%◌, ◌≤◌, ◌^◌, ◌⊎◌, length, take, option_map, IfOk, is_some, true, false};
 ghost use Rattle.std.specs.List.{list_any};
-ghost use Rattle.lx_ccode.specs.Statements.{all_statements};
+ghost use Rattle.lx_ccode.specs.Statements.{all_statements, statement_count};
 ghost use Rattle.lx_ccode.specs.Validity.{IsValid};
 ghost use Rattle.lx_step.specs.Given.{gives_history, gives_offset, history_in, offset_in};
 ghost use Rattle.lx_step.specs.Held.{IsMatch, cond_of, first_cond, fresh};
@@ -62,12 +62,22 @@ impl<'p> Lexer<'p> {
         requires { IsValid piece.now }
         ensures { IfOk result (λ lexer. lexer ≡ fresh piece.now) }
     {
+        Lexer::of(alloc, piece, statements(piece))
+    }
+
+    /// A fresh lexer of a piece with so many statements.
+    pub(crate) fn of(alloc: Global, piece: &'p Piece, statements: u64) -> Result<Lexer<'p>, Memory>
+        requires unit { (piece.now.unit ≡ 1) ⊎ ((piece.now.unit ≡ 2) ⊎ (piece.now.unit ≡ 4)) }
+        requires statements { statements ≡ statement_count piece.now.blocks }
+        requires few { statements ≤ 2 ^ 62 }
+        ensures { IfOk result (λ lexer. lexer ≡ fresh piece.now) }
+    {
         let blocks = piece.blocks.as_slice();
         let sizes = sizes_of_blocks(blocks);
         let program = Program {
             alloc,
             piece,
-            statements: statements(piece),
+            statements,
         };
         Ok(Lexer {
             program,
@@ -88,6 +98,7 @@ impl<'p> Lexer<'p> {
     pub fn advance_whole(&mut self, stream: &[u8], start: u64) -> Outcome
         requires whole { length stream.now % self.old.piece.unit ≡ 0 }
         requires start { start ≤ length (stream_units self.old.piece.unit stream.now) }
+        ensures piece { self.new.piece ≡ self.old.piece }
         ensures spent { self.old.spent ≡ true → (result ≡ Outcome.Spent) × (self.new ≡ self.old) }
         ensures run { self.old.spent ≡ false → IsMatch self.old (stream_units self.old.piece.unit stream.now) start result self.new }
     {

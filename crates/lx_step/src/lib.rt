@@ -10,6 +10,8 @@ mod scanner;
 mod sizes;
 mod slots;
 mod step;
+#[cfg(test)]
+mod tests;
 mod units;
 
 pub use answers::{Group, Outcome, StmtAt};
