@@ -73,5 +73,5 @@ loop-lexer-preserved g c =
     let gave = c.in_ok-put_all.ensures.given ∙ ap (given_then (g.O.Sink.given c.loop-lexer.out)) c.deref-in-loop-lexer.ensures.value in
     let after = subst (λ bytes. c.next_lines.new.lexer ≡ held_after held (stream_units piece.unit bytes) c.loop-lexer.start) c.deref.ensures.value
     (c.in_ok-lines.ensures.held (subst (λ next. IsSome next) (sym c.in-Some.is) refl)) in
-    subst (λ held. HasRun (stream_units piece.unit bytes) units piece (run_text piece c.args.input.now) _ _ _ _ held c.in-Some.next) (sym after)
+    subst (λ held. HasRun (stream_units piece.unit bytes) units piece (run_text piece c.args.input.now) (g.O.Sink.given c.args.out.now) (g.O.Sink.given c.put_all.new.out) (g.O.Sink.faults c.args.out.now) (g.O.Sink.faults c.put_all.new.out) held c.in-Some.next) (sym after)
     (HasRun-next _ _ _ _ _ _ _ _ _ _ _ _ c.loop-lexer.invariant text c.in-Some.next on gave c.in_ok-put_all.ensures.calm)
