@@ -5,12 +5,14 @@ use Rattle.lx_base.specs.declared.faults.Fault.{Fault}
 use Rattle.lx_base.specs.declared.settings.Job.{Job}
 use Rattle.lx_base.specs.declared.settings.Job.TheVariants.{Compile, Run, Source}
 use Rattle.lx_files.specs.declared.files.HeldFile.{HeldFile}
+use Rattle.lx_files.specs.Held.{bytes_of}
 use Rattle.lx_words.specs.Options.{words_fault}
 use Rattle.lx_top.specs.FirstFault.{IsFaultBehind, IsFirstFault, IsJobFault, read_fault, source_fault}
 use Rattle.lx_top.specs.Jobs.{job_of}
 use Rattle.lx_top.specs.Quoted.{IsQuoted, QuotedSource, source_text}
 use Rattle.lx_top.specs.Reading.{quoted_of}
 use Rattle.lx_top.specs.Source.{is_plain}
+use Rattle.lx_top.proofs.EmittedLemmas.{IsRunFault-unique}
 use Rattle.lx_top.proofs.ReadingLemmas.{quoted_of-source_text}
 
 -- a source of quoted strings has none
@@ -24,7 +26,8 @@ source_fault-quoted quoted is = by (is_plain (source_text quoted)) (quoted_of (s
 -- a job has one first fault, or none
 IsJobFault-unique : (job : Job) (files : List HeldFile) (fault other : Option Fault) → IsJobFault job files fault → IsJobFault job files other → fault ≡ other
 IsJobFault-unique (Compile file to) files fault other is is_other = is ∙ sym is_other
-IsJobFault-unique (Run input emitted block window piece) files fault other is is_other = is ∙ sym is_other
+IsJobFault-unique (Run input emitted block window piece) files fault other is is_other =
+    IsRunFault-unique block input (bytes_of files input) emitted (bytes_of files emitted) fault other is is_other
 IsJobFault-unique (Source rules to) files fault other is is_other = is ∙ sym is_other
 
 IsFaultBehind-unique : (of_words : Option Fault) (job : Job) (files : List HeldFile) (fault other : Option Fault) → IsFaultBehind of_words job files fault → IsFaultBehind of_words job files other → fault ≡ other

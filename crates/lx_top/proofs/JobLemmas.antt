@@ -141,3 +141,10 @@ JobEnds-words words seen job files files' out out' ended none same ends =
 pub files_view-same : {held held' : Option (List HeldFile)} {faults faults' writes writes' : ℕ} → held' ≡ held → faults' ≡ faults → writes' ≡ writes
     → files_view held' faults' writes' ≡ files_view held faults writes
 files_view-same held_is faults_is writes_is = rw (held_is, faults_is, writes_is) refl
+
+-- ---- steps that broke off
+
+-- what holds of why a step broke off holds of how its job did
+pub IfErr-residual : {T : Type 0} (ended : Result T Halt) (halted : Halt) (P : Halt → Type 0) → IsErrAnd ended (λ given. given ≡ halted) → P halted → IfErr ended P
+IfErr-residual (Ok value) halted P is holds = absurd is
+IfErr-residual (Err given) halted P is holds = subst P (sym is) holds

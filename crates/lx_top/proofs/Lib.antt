@@ -1,5 +1,6 @@
 pub mod CompileLemmas
 pub mod EmissionLemmas
+pub mod EmittedLemmas
 pub mod EndingLemmas
 pub mod FaultLemmas
 pub mod JobLemmas

@@ -8,6 +8,7 @@ use Rattle.lx_base.specs.declared.faults.Fault.TheVariants.{Unsupported, NoFile}
 use Rattle.lx_files.specs.declared.files.HeldFile.{HeldFile}
 use Rattle.lx_files.specs.Held.{bytes_of}
 use Rattle.lx_words.specs.Options.{words_fault}
+use Rattle.lx_top.specs.Emitted.{IsRunFault}
 use Rattle.lx_top.specs.Jobs.{job_of}
 use Rattle.lx_top.specs.Places.{start_of}
 use Rattle.lx_top.specs.Quoted.{QuotedSource}
@@ -31,7 +32,7 @@ file_fault name (Some source) = source_fault source
 -- the first fault of a job over the files, or none
 abbrev pub IsJobFault : Job → List HeldFile → Option Fault → Type 0
 IsJobFault (Compile file to) files fault = fault ≡ file_fault file (bytes_of files file)
-IsJobFault (Run input emitted block window piece) files fault = fault ≡ Some (Unsupported None)
+IsJobFault (Run input emitted block window piece) files fault = IsRunFault block input (bytes_of files input) emitted (bytes_of files emitted) fault
 IsJobFault (Source rules to) files fault = fault ≡ Some (Unsupported None)
 
 -- the first fault, or none, where the words have this one, or none

@@ -1,5 +1,6 @@
 pub mod Delivery
 pub mod Emission
+pub mod Emitted
 pub mod Endings
 pub mod FirstFault
 pub mod Jobs

@@ -7,6 +7,7 @@ use Rattle.lx_files.specs.declared.files.HeldFile.{HeldFile}
 use Rattle.lx_files.specs.Held.{bytes_of}
 use Rattle.lx_ccode.specs.declared.piece.Piece.{Piece}
 use Rattle.lx_ccode.specs.Text.{piece_text}
+use Rattle.lx_top.specs.Emitted.{IsRunText}
 use Rattle.lx_top.specs.Quoted.{QuotedSource, IsQuoted, source_text}
 use Rattle.lx_top.specs.Scanner.{IsScannerOf}
 use Rattle.lx_top.specs.Source.{has_opener}
@@ -33,5 +34,5 @@ IsOutputOfFile (Some source) output = IsOutput source output
 -- the text that a job gives, over the files
 abbrev pub IsTextOf : Job → List HeldFile → (text : List ℕ) → Type 0
 IsTextOf (Compile file to) files text = IsOutputOfFile (bytes_of files file) text
-IsTextOf (Run input emitted block window piece) files text = ⊥
+IsTextOf (Run input emitted block window piece) files text = IsRunText block (bytes_of files emitted) (bytes_of files input) text
 IsTextOf (Source rules to) files text = ⊥

@@ -2,12 +2,13 @@
 use Rattle.std.specs.Prelude.{◌≡◌, ℕ, List, Option, Some, None, Result, MatchResult}
 use Rattle.lx_base.specs.Message.{IsPlaced, message_text}
 use Rattle.lx_base.specs.declared.faults.Fault.{Fault}
-use Rattle.lx_base.specs.declared.faults.Fault.TheVariants.{NoFile}
+use Rattle.lx_base.specs.declared.faults.Fault.TheVariants.{NoFile, NotEmitted}
 use Rattle.lx_files.specs.Counts.{Rose}
 use Rattle.lx_files.specs.Held.{bytes_of}
 use Rattle.lx_files.specs.declared.files.HeldFile.{HeldFile}
 use Rattle.lx_top.specs.Places.{start_of}
 use Rattle.lx_top.specs.Delivery.{Completes, GivesOut, BreaksOff, DeliversNothing, DeliveryRose}
+use Rattle.lx_top.specs.Emitted.{IsUnread, place_in}
 use Rattle.lx_top.specs.Endings.{TellsMessage, failure_text}
 use Rattle.lx_files.specs.Taking.{GivesFront}
 use Rattle.lx_top.specs.Outside.{FilesView, SinkView}
@@ -43,6 +44,13 @@ HaltsText fault (halt.Fault first) = fault ≡ Some first
 HaltsText fault halt.ReadFailed = ⊥
 HaltsText fault halt.PutFailed = ⊥
 HaltsText fault halt.OutOfMemory = Unit {0}
+
+-- why the scanner of an emitted file was not read
+abbrev pub HaltsScan : (bytes : List ℕ) → (block : Option ℕ) → Halt → Type 0
+HaltsScan bytes block (halt.Fault fault) = (offset : ℕ) × IsUnread bytes block offset × (fault ≡ NotEmitted (place_in bytes offset) offset)
+HaltsScan bytes block halt.ReadFailed = ⊥
+HaltsScan bytes block halt.PutFailed = ⊥
+HaltsScan bytes block halt.OutOfMemory = Unit {0}
 
 -- the files that a fault's message cites are these, and the fault's file is one of them
 abbrev pub Cites : (cited names : List (List ℕ)) → Halt → Type 0

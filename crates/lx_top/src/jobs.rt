@@ -8,6 +8,7 @@ ghost use Rattle.lx_top.specs.Output.{IsTextOf};
 ghost use Rattle.lx_top.specs.Steps.{Cites, JobEnds};
 
 use crate::compile::compile;
+use crate::emitted::run_emitted;
 use crate::endings::Halt;
 use lx_base::{Fault, FileName, FileNames, Job};
 use lx_files::{Files, Sink};
@@ -58,7 +59,16 @@ fn perform_job<F: Files, O: Sink>(
             names.add(file.as_str())?;
             compile(alloc, file.as_str(), name_in(to), files, out)
         }
-        Job::Run { .. } => Err(Halt::Fault(Fault::Unsupported { at: None })),
+        Job::Run {
+            input,
+            emitted,
+            block,
+            ..
+        } => {
+            names.add(emitted.as_str())?;
+            names.add(input.as_str())?;
+            run_emitted(alloc, emitted.as_str(), input.as_str(), *block, files, out)
+        }
         Job::Source { .. } => Err(Halt::Fault(Fault::Unsupported { at: None })),
     }
 }

@@ -4,6 +4,7 @@
 mod compile;
 mod delivery;
 mod emit;
+mod emitted;
 pub mod endings;
 mod files;
 mod jobs;

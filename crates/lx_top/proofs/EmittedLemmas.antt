@@ -1,0 +1,158 @@
+-- Runs of emitted files: their faults, and how they end.
+use Rattle.std.proofs.Common.{◌≡◌, ℕ, ◌<◌, ◌≤◌, Bool, true, false, List, [], ◌∷◌, length, take, drop, Option, Some, None, Result, refl, sym, ap, subst, ◌∙◌, inl, inr, arith}
+use Rattle.std.proofs.lemmas.Bool.{cases_lt}
+use Rattle.std.proofs.Math.Nat.{le_antisymm}
+use Rattle.std.proofs.lemmas.Slice.Eq.{bytes_eq-Decides}
+use Rattle.std.specs.Prelude.{◌+◌, ◌==◌, if◌then◌else◌}
+use Rattle.std.specs.Str.{bytes_eq}
+use Rattle.lx_base.specs.declared.places.Pos.{Pos}
+use Rattle.lx_base.specs.declared.faults.Fault.{Fault}
+use Rattle.lx_base.specs.declared.faults.Fault.TheVariants.{NotEmitted}
+use Rattle.lx_files.specs.declared.files.HeldFile.{HeldFile}
+use Rattle.lx_files.specs.Held.{bytes_of}
+use Rattle.lx_token.specs.Places.{next_place, place_after}
+use Rattle.lx_ccode.specs.declared.piece.Piece.{Piece}
+use Rattle.lx_ccode.specs.Front.{BeginsWithPiece}
+use Rattle.lx_ccode.proofs.RoundTrip.{piece_at-front}
+use Rattle.lx_creader.specs.Marks.{IsFirstBegin}
+use Rattle.lx_run.specs.Texts.{run_text}
+use Rattle.lx_top.specs.Emitted.{IsEmittedFault, IsRunFault, IsRunText, IsUnread, Scans, input_fault, place_in}
+use Rattle.lx_top.specs.Outside.{FilesView, Sees, SinkView}
+use Rattle.lx_top.specs.Places.{start_of}
+use Rattle.lx_top.specs.Steps.{HaltsRead, HaltsScan, IsPlacedHalt, JobEnds}
+use Rattle.lx_top.specs.declared.endings.Halt.{Halt}
+use Rattle.lx_top.specs.declared.endings.Halt.TheVariants as halt
+use Rattle.lx_top.proofs.JobLemmas.{JobEnds-among, Reason, Reason-read}
+
+-- ---- places
+
+next_place-file : (at : Pos) (letter : ℕ) → (next_place at letter).file ≡ at.file
+next_place-file at letter = by (letter == 10)
+  where
+    by : (feed : Bool) → (let next : Pos = if feed then record { file = at.file; line = at.line + 1; col = 1 } else record { file = at.file; line = at.line; col = at.col + 1 } in next.file ≡ at.file)
+    by true = refl
+    by false = refl
+
+pub place_after-file : (at : Pos) (text : List ℕ) → (place_after at text).file ≡ at.file
+place_after-file at [] = refl
+place_after-file at (letter ∷ text) = place_after-file (next_place at letter) text ∙ next_place-file at letter
+
+-- the fault of an emitted file cites the first file
+pub IsPlacedHalt-not_emitted : (name : List ℕ) (names : List (List ℕ)) (bytes : List ℕ) (offset : ℕ) (halted : Halt)
+    → halted ≡ halt.Fault (NotEmitted (place_in bytes offset) offset) → IsPlacedHalt (name ∷ names) halted
+IsPlacedHalt-not_emitted name names bytes offset halted is =
+    let file = place_after-file (start_of 0) (take offset bytes) in
+    subst (IsPlacedHalt (name ∷ names)) (sym is) (omega (arith, file))
+
+-- ---- one fault
+
+IsFirstBegin-unique : (block : Option ℕ) (bytes : List ℕ) (offset other : ℕ) → IsFirstBegin block bytes offset → IsFirstBegin block bytes other → offset ≡ other
+IsFirstBegin-unique block bytes offset other first second = elim (cases_lt offset other) [
+  | inl before ↦ absurd (second.none_before offset before first.begins)
+  | inr behind ↦ elim (cases_lt other offset) [
+    | inl before ↦ absurd (first.none_before other before second.begins)
+    | inr ahead ↦ le_antisymm ahead behind
+  ]
+]
+
+BeginsWithPiece-unique : (bytes : List ℕ) (piece other : Piece) → BeginsWithPiece bytes piece → BeginsWithPiece bytes other → piece ≡ other
+BeginsWithPiece-unique bytes piece other first second = ap (λ (read : Piece × List ℕ). read.0) (sym (piece_at-front bytes piece first) ∙ piece_at-front bytes other second)
+
+IsUnread-unique : (bytes : List ℕ) (block : Option ℕ) (offset other : ℕ) → IsUnread bytes block offset → IsUnread bytes block other → offset ≡ other
+IsUnread-unique bytes block offset other (inl first) (inl second) = first.1 ∙ sym second.1
+IsUnread-unique bytes block offset other (inl first) (inr second) = absurd (first.0 other second.0.begins)
+IsUnread-unique bytes block offset other (inr first) (inl second) = absurd (second.0 offset first.0.begins)
+IsUnread-unique bytes block offset other (inr first) (inr second) = IsFirstBegin-unique block bytes offset other first.0 second.0
+
+-- a scanner is read, or none is
+read-or_not : (bytes : List ℕ) (block : Option ℕ) (offset : ℕ) (piece : Piece) → IsUnread bytes block offset → Scans bytes block piece → ⊥
+read-or_not bytes block offset piece (inl unread) scans = unread.0 scans.offset scans.first.begins
+read-or_not bytes block offset piece (inr unread) scans =
+    unread.1 piece (subst (λ at. BeginsWithPiece (drop at bytes) piece) (IsFirstBegin-unique block bytes scans.offset offset scans.first unread.0) scans.begins)
+
+Scans-unique : (bytes : List ℕ) (block : Option ℕ) (piece other : Piece) → Scans bytes block piece → Scans bytes block other → piece ≡ other
+Scans-unique bytes block piece other first second =
+    BeginsWithPiece-unique (drop second.offset bytes) piece other
+    (subst (λ at. BeginsWithPiece (drop at bytes) piece) (IsFirstBegin-unique block bytes first.offset second.offset first.first second.first) first.begins) second.begins
+
+IsEmittedFault-unique : (block : Option ℕ) (name : List ℕ) (given : Option (List ℕ)) (bytes : List ℕ) (fault other : Option Fault)
+    → IsEmittedFault block name given bytes fault → IsEmittedFault block name given bytes other → fault ≡ other
+IsEmittedFault-unique block name given bytes fault other (inl first) (inl second) =
+    first.2 ∙ ap (λ (offset : ℕ). Some (NotEmitted (place_in bytes offset) offset)) (IsUnread-unique bytes block first.0 second.0 first.1 second.1) ∙ sym second.2
+IsEmittedFault-unique block name given bytes fault other (inl first) (inr second) = absurd (read-or_not bytes block first.0 second.0 first.1 second.1)
+IsEmittedFault-unique block name given bytes fault other (inr first) (inl second) = absurd (read-or_not bytes block second.0 first.0 second.1 first.1)
+IsEmittedFault-unique block name given bytes fault other (inr first) (inr second) =
+    first.2 ∙ ap (λ (piece : Piece). input_fault name piece.unit given) (Scans-unique bytes block first.0 second.0 first.1 second.1) ∙ sym second.2
+
+-- a run has one first fault, or none
+pub IsRunFault-unique : (block : Option ℕ) (name : List ℕ) (given : Option (List ℕ)) (emitted : List ℕ) (scanned : Option (List ℕ)) (fault other : Option Fault)
+    → IsRunFault block name given emitted scanned fault → IsRunFault block name given emitted scanned other → fault ≡ other
+IsRunFault-unique block name given emitted None fault other is is_other = is ∙ sym is_other
+IsRunFault-unique block name given emitted (Some bytes) fault other is is_other = IsEmittedFault-unique block name given bytes fault other is is_other
+
+-- ---- how a run ends
+
+-- no scanner was read
+pub Reason-scan : (block : Option ℕ) (name : List ℕ) (given : Option (List ℕ)) (emitted bytes : List ℕ) (scanned : Option (List ℕ)) (CountRose : Type 0) (halted : Halt)
+    → scanned ≡ Some bytes → HaltsScan bytes block halted → Reason (IsRunFault block name given emitted scanned) CountRose halted
+Reason-scan block name given emitted bytes scanned CountRose halted is halts =
+    subst (λ scanned. Reason (IsRunFault block name given emitted scanned) CountRose halted) (sym is) (by halted halts)
+  where
+    by : (halted : Halt) → HaltsScan bytes block halted → Reason (IsRunFault block name given emitted (Some bytes)) CountRose halted
+    by (halt.Fault first) halts = inl (halts.0, halts.1, ap Some halts.2)
+    by halt.ReadFailed halts = absurd halts
+    by halt.PutFailed halts = absurd halts
+    by halt.OutOfMemory halts = tt
+
+-- no scanner was read at an offset
+pub HaltsScan-not_emitted : (bytes : List ℕ) (block : Option ℕ) (offset : ℕ) (halted : Halt) → halted ≡ halt.Fault (NotEmitted (place_in bytes offset) offset)
+    → IsUnread bytes block offset → HaltsScan bytes block halted
+HaltsScan-not_emitted bytes block offset halted is unread = subst (HaltsScan bytes block) (sym is) (offset, unread, refl)
+
+-- the input is not there
+pub IsRunFault-input : (block : Option ℕ) (name : List ℕ) (given : Option (List ℕ)) (emitted bytes : List ℕ) (scanned : Option (List ℕ)) (piece : Piece) (fault : Option Fault)
+    → scanned ≡ Some bytes → Scans bytes block piece → fault ≡ input_fault name piece.unit given → IsRunFault block name given emitted scanned fault
+IsRunFault-input block name given emitted bytes scanned piece fault is scans fault_is =
+    subst (λ scanned. IsRunFault block name given emitted scanned fault) (sym is) (inr (piece, scans, fault_is))
+
+-- the scanner was run over the input
+pub JobEnds-run : (block : Option ℕ) (name emitted bytes input ran : List ℕ) (scanned given : Option (List ℕ)) (piece : Piece) (files files' : FilesView) (out out' : SinkView)
+    {T : Type 0} (ended : Result T Halt) → files' ≡ files → scanned ≡ Some bytes → given ≡ Some input → Scans bytes block piece → ran ≡ input
+    → ((view : FilesView) → JobEnds (λ fault. fault ≡ input_fault [] piece.unit (Some ran)) None (λ text. text ≡ run_text piece ran) view view out out' ended)
+    → JobEnds (IsRunFault block name given emitted scanned) None (IsRunText block scanned given) files files' out out' ended
+JobEnds-run block name emitted bytes input ran scanned given piece files files' out out' ended same scanned_is given_is scans ran_is ends =
+    let over : JobEnds (λ fault. fault ≡ input_fault [] piece.unit (Some input)) None (λ text. text ≡ run_text piece input) files files out out' ended =
+    subst (λ ran. JobEnds (λ fault. fault ≡ input_fault [] piece.unit (Some ran)) None (λ text. text ≡ run_text piece ran) files files out out' ended) ran_is (ends files) in
+    subst (λ after. JobEnds (IsRunFault block name given emitted scanned) None (IsRunText block scanned given) files after out out' ended) (sym same)
+    (subst (λ scanned. JobEnds (IsRunFault block name given emitted scanned) None (IsRunText block scanned given) files files out out' ended) (sym scanned_is)
+    (subst (λ given. JobEnds (IsRunFault block name given emitted (Some bytes)) None (IsRunText block (Some bytes) given) files files out out' ended) (sym given_is)
+    (JobEnds-among (λ fault. fault ≡ input_fault [] piece.unit (Some input)) None (λ text. text ≡ run_text piece input) files files out out'
+    (IsRunFault block name (Some input) emitted (Some bytes)) (IsRunText block (Some bytes) (Some input))
+    (λ fault is. inr (piece, scans, is)) (λ text is. (piece, scans, is)) ended over)))
+
+-- ---- two files that were read
+
+bytes_eq-self : (name : List ℕ) → bytes_eq name name ≡ true
+bytes_eq-self name = (bytes_eq-Decides name name).1 refl
+
+-- the files can be seen so that both reads are right
+pub sees_both : (held : Option (List HeldFile)) (first second : List HeldFile) (name other bytes : List ℕ) → Sees held first → Sees held second
+    → bytes_of first name ≡ Some bytes → bytes_eq name other ≡ false
+    → (seen : List HeldFile) × Sees held seen × (bytes_of seen name ≡ Some bytes) × (bytes_of seen other ≡ bytes_of second other)
+sees_both None first second name other bytes sees sees_other is apart =
+    (record { name = name; bytes = bytes } ∷ second, tt, rw (bytes_eq-self name) refl, rw apart refl)
+sees_both (Some files) first second name other bytes sees sees_other is apart =
+    (files, refl, subst (λ seen. bytes_of seen name ≡ Some bytes) sees is, ap (λ (seen : List HeldFile). bytes_of seen other) (sym sees_other))
+
+-- equal names have the same bytes
+pub bytes_of-same : (seen : List HeldFile) (name other : List ℕ) (given : Option (List ℕ)) → bytes_eq name other ≡ true → bytes_of seen name ≡ given → bytes_of seen other ≡ given
+bytes_of-same seen name other given same is = ap (bytes_of seen) (sym ((bytes_eq-Decides name other).0 same)) ∙ is
+
+-- the second file was not read
+pub Reason-second : (block : Option ℕ) (name emitted bytes : List ℕ) (seen second : List HeldFile) (piece : Piece) (CountRose : Type 0) (halted : Halt)
+    → bytes_of seen emitted ≡ Some bytes → bytes_of seen name ≡ bytes_of second name → Scans bytes block piece → HaltsRead second CountRose 1 name halted
+    → Reason (IsRunFault block name (bytes_of seen name) emitted (bytes_of seen emitted)) CountRose halted
+Reason-second block name emitted bytes seen second piece CountRose halted is same scans halts =
+    Reason-read (IsRunFault block name (bytes_of seen name) emitted (bytes_of seen emitted)) CountRose second 1 name halted
+    (λ missing. IsRunFault-input block name (bytes_of seen name) emitted bytes (bytes_of seen emitted) piece _ is scans
+    (sym (ap (input_fault name piece.unit) (same ∙ missing)))) halts
