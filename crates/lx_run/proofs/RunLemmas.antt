@@ -1,5 +1,5 @@
 -- Runs match by match.
-use Rattle.std.proofs.Common.{◌≡◌, ℕ, zero, suc, ◌+◌, ◌-◌, ◌<◌, ◌≤◌, Bool, true, false, inl, inr, List, [], ◌∷◌, ◌++◌, length, Option, Some, None, refl, sym, ap, subst, ◌∙◌, arith, append_assoc, append-nil, replicate, ◌*◌, ◌%◌, ◌/◌}
+use Rattle.std.proofs.Common.{◌≡◌, ℕ, zero, suc, ◌+◌, ◌-◌, ◌<◌, ◌≤◌, Bool, true, false, inl, inr, List, [], ◌++◌, length, Option, Some, None, refl, sym, ap, subst, ◌∙◌, arith, append_assoc, append-nil, replicate, ◌*◌, ◌%◌, ◌/◌}
 use Rattle.std.specs.Prelude.{◌==◌, ◌&&◌, codes, nat_le, if◌then◌else◌}
 use Rattle.std.proofs.lemmas.Bool.{cases_lt, eqb-false}
 use Rattle.std.proofs.Math.Nat.{add-mul-mod_self_right, le_antisymm}
@@ -132,9 +132,10 @@ module _ (stream : List ℕ) (units : ℕ) where
     -- the lines that are left: those of a match, and others
     left : (text : List ℕ) (next : Option ℕ) → LeadsOn text next → (others : List ℕ) × (run_from (suc (length stream - start)) stream units held start ≡ text ++ others)
     left text None leads = ([], run_from-at held start (length stream - start) ∙ leads (run_from (length stream - start) stream units) ∙ sym (append-nil text))
-    left text (Some next) leads =
-        (run_from (length stream - start) stream units (held_after held stream start) next,
-        run_from-at held start (length stream - start) ∙ leads.2 (run_from (length stream - start) stream units))
+    left text (Some next) leads = (
+      run_from (length stream - start) stream units (held_after held stream start) next,
+      run_from-at held start (length stream - start) ∙ leads.2 (run_from (length stream - start) stream units),
+    )
 
     -- the last lines were given
     pub HasRun-last : (text : List ℕ) (next : Option ℕ) → next ≡ None → LeadsOn text next → given'' ≡ given_then given' text → given'' ≡ given_then given whole
@@ -147,11 +148,15 @@ module _ (stream : List ℕ) (units : ℕ) where
     -- a front of lines was given, behind which others may follow
     pub HasRun-front : (text : List ℕ) (next : Option ℕ) → LeadsOn text next → GivesFront given' given'' text → GivesFront given given'' whole
     HasRun-front text next leads front =
-        let lines = left text next leads in
-        (run.front ++ front.0, (front.1.0 ++ lines.0,
-        append_assoc run.front front.0 (front.1.0 ++ lines.0)
-        ∙ ap (λ (rest : List ℕ). run.front ++ rest) (sym (append_assoc front.0 front.1.0 lines.0) ∙ ap (λ (rest : List ℕ). rest ++ lines.0) front.1.1 ∙ sym lines.1) ∙ run.rest),
-        front.2 ∙ ap (λ before. given_then before front.0) run.gave ∙ given_then-given_then given run.front front.0)
+        let lines = left text next leads in (
+          run.front ++ front.0,
+          (
+            front.1.0 ++ lines.0,
+            append_assoc run.front front.0 (front.1.0 ++ lines.0)
+                ∙ ap (λ (rest : List ℕ). run.front ++ rest) (sym (append_assoc front.0 front.1.0 lines.0) ∙ ap (λ (rest : List ℕ). rest ++ lines.0) front.1.1 ∙ sym lines.1) ∙ run.rest,
+          ),
+          front.2 ∙ ap (λ before. given_then before front.0) run.gave ∙ given_then-given_then given run.front front.0,
+        )
 
     -- nothing more was given
     pub HasRun-so_far : GivesFront given given' whole

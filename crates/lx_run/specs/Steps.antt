@@ -1,5 +1,5 @@
 -- How a run goes on behind a match.
-use Rattle.std.specs.Prelude.{◌≡◌, ℕ, Bool, false, List, ◌++◌, Option, Some, None, ◌==◌}
+use Rattle.std.specs.Prelude.{◌≡◌, ℕ, false, List, ◌++◌, Option, Some, None, ◌==◌}
 use Rattle.lx_step.specs.Held.{Held}
 use Rattle.lx_run.specs.Texts.{Going}
 

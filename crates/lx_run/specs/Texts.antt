@@ -1,5 +1,5 @@
 -- The text of a run: a line for each match, and how the run ends.
-use Rattle.std.specs.Prelude.{ℕ, zero, suc, Bool, false, ◌&&◌, List, [], ◌∷◌, ◌++◌, length, codes, nat_le, ◌==◌, if◌then◌else◌}
+use Rattle.std.specs.Prelude.{ℕ, zero, suc, false, ◌&&◌, List, [], ◌++◌, length, codes, nat_le, ◌==◌, if◌then◌else◌}
 use Rattle.lx_ccode.specs.declared.piece.Piece.{Piece}
 use Rattle.lx_ccode.specs.Machine.{Outcome, by_rule, by_jump, no_rule, at_end, stuck, looped, unanswered}
 use Rattle.lx_ccode.specs.Runs.{Ended}

@@ -41,7 +41,8 @@ fn gives_same(statement: &Stmt, other: &Stmt) -> bool
 {
     match (statement, other) {
         (Stmt::Tag(name, sort, _), Stmt::Tag(other_name, other_sort, _)) => {
-            name.as_slice() == other_name.as_slice() && (if *sort { *other_sort } else { !*other_sort })
+            name.as_slice() == other_name.as_slice()
+                && (if *sort { *other_sort } else { !*other_sort })
         }
         _ => false,
     }

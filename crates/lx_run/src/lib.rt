@@ -1,8 +1,8 @@
 //! Runs of emitted scanners over an input, and the lines that they print.
 #![tactic(auto)]
 
-mod assignments;
 mod asks;
+mod assignments;
 mod lines;
 mod matches;
 mod runs;

@@ -21,11 +21,7 @@ fn append_offset(alloc: Global, text: &mut Vec<u8>, offset: Option<u64>) -> Resu
 }
 
 /// Puts entries of a history at the end of the text, each behind a comma.
-fn append_entries(
-    alloc: Global,
-    text: &mut Vec<u8>,
-    entries: &[Option<u64>],
-) -> Result<(), Memory>
+fn append_entries(alloc: Global, text: &mut Vec<u8>, entries: &[Option<u64>]) -> Result<(), Memory>
     ensures { OnOk result (text.new.items ≡ text.old.items ++ entries_text entries.now) }
 {
     for entry in entries {
@@ -36,11 +32,7 @@ fn append_entries(
 }
 
 /// Puts a history at the end of the text, with commas between its entries.
-fn append_history(
-    alloc: Global,
-    text: &mut Vec<u8>,
-    entries: &[Option<u64>],
-) -> Result<(), Memory>
+fn append_history(alloc: Global, text: &mut Vec<u8>, entries: &[Option<u64>]) -> Result<(), Memory>
     ensures { OnOk result (text.new.items ≡ text.old.items ++ history_text entries.now) }
 {
     match entries.split_first() {

@@ -5,7 +5,7 @@ use Rattle.lx_base.specs.Message.{message_text}
 use Rattle.lx_files.specs.Counts.{Rose, IsCalm}
 use Rattle.lx_files.specs.declared.files.HeldFile.{HeldFile}
 use Rattle.lx_top.specs.Outside.{Outside, Sees, SinkView, NoCountRose}
-use Rattle.lx_top.specs.Delivery.{DeliveryRose}
+use Rattle.lx_top.specs.Delivery.{Completes, DeliveryRose}
 use Rattle.lx_top.specs.Endings.{EndsAs, EndsSo, IsExpected, TellsMessage, failure_text}
 use Rattle.lx_top.specs.FirstFault.{IsFirstFault}
 use Rattle.lx_top.specs.Jobs.{file_names, job_of, target_of}
@@ -78,3 +78,11 @@ module _ (words : List (List ℕ)) (seen : List HeldFile) (before after : Outsid
   EndsSo-broken names halt ending sees halts cites told =
       let ends : EndsIn ending = Halts-told halt ending halts (Reports-names names halt ending cites told) in
       record { seen = seen; sees = sees; ends = ends; expected = λ calm fault is. EndsAs-expected ending ends calm fault is }
+
+  -- a run whose job was done
+  pub EndsSo-done : Sees before.files.held seen →
+      Completes IsFault (target_of (job_of words)) (IsTextOf (job_of words) seen) before.files after.files before.out after.out →
+      after.err.given ≡ before.err.given → EndsSo words before after Done
+  EndsSo-done sees completes err_stays =
+      let ends : EndsIn Done = record { completes = completes; err_stays = err_stays } in
+      record { seen = seen; sees = sees; ends = ends; expected = λ calm fault is. EndsAs-expected Done ends calm fault is }

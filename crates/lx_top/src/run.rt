@@ -3,8 +3,8 @@ ghost use Rattle.std.specs.Prelude.{◌≡◌, map, string_bytes};
 ghost use Rattle.lx_top.specs.Endings.{Ends, EndsSo};
 ghost use Rattle.lx_top.specs.Outside.{files_view, outside, sink_view};
 
-use crate::jobs::perform;
 use crate::endings::Ending;
+use crate::jobs::perform;
 use crate::report::report;
 use lx_base::FileNames;
 use lx_files::{Files, Sink};

@@ -1,15 +1,16 @@
 //! Runs of the whole program over files and sinks in memory.
 use crate::run::re2c;
-use lx_files::{MemFiles, MemSink};
+use lx_files::{Files, MemFiles, MemSink};
 use std::alloc::Global;
 use std::test::Fail;
 
-/// What a run left: the exit status, and what was given to the standard output and to the standard error.
+/// What a run left: the exit status, what was given to the standard output and to the standard error, and the files.
 #[derive(Drop)]
 struct Left {
     status: u8,
     out: MemSink,
     err: MemSink,
+    files: MemFiles,
 }
 
 /// The calls of the files, of the standard output and of the standard error that fail, by their numbers from 0.
@@ -26,16 +27,12 @@ const NONE: Failing = Failing {
     err: None,
 };
 
-/// A run of a command line over one file.
-fn run(
-    alloc: Global,
-    line: &str,
-    name: &str,
-    source: &[u8],
-    failing: Failing,
-) -> Result<Left, Fail> {
+/// A run of a command line over these files.
+fn run(alloc: Global, line: &str, held: &[(&str, &[u8])], failing: Failing) -> Result<Left, Fail> {
     let mut files = MemFiles::new(alloc);
-    files.add(name, source)?;
+    for (name, bytes) in held {
+        files.add(name, bytes)?;
+    }
     if let Some(call) = failing.files {
         files.fail_call(call)?;
     }
@@ -52,7 +49,12 @@ fn run(
         words.push(String::from_str(alloc, word)?)?;
     }
     let status = re2c(alloc, &words, &mut files, &mut out, &mut err);
-    Ok(Left { status, out, err })
+    Ok(Left {
+        status,
+        out,
+        err,
+        files,
+    })
 }
 
 #[test]
@@ -63,7 +65,7 @@ fn a_source_without_a_block_gives_itself(rt: HostRuntime) -> Result<(), Fail> {
         "no line end",
         "/* ! not an opener */ /!* */",
     ] {
-        let left = run(rt.alloc(), "-i a.c", "a.c", source.as_bytes(), NONE)?;
+        let left = run(rt.alloc(), "-i a.c", &[("a.c", source.as_bytes())], NONE)?;
         assert_eq!(rt; left.status, 0, "{source}");
         assert_eq!(rt; left.out.bytes(), source.as_bytes());
         assert_eq!(rt; left.err.bytes(), b"".as_slice());
@@ -73,19 +75,22 @@ fn a_source_without_a_block_gives_itself(rt: HostRuntime) -> Result<(), Fail> {
 
 #[test]
 fn words_and_files_are_refused_by_name(rt: HostRuntime) -> Result<(), Fail> {
+    let usage = "re2c: error: usage\n";
     let unsupported = "re2c: error: not supported yet\n";
     for (line, message) in [
         ("-i n.re", "n.re:1:1: error: no such file\n"),
         ("-i b.re", "b.re:1:1: error: not supported yet\n"),
-        ("", unsupported),
+        ("-i -o x.c b.re", "b.re:1:1: error: not supported yet\n"),
+        ("", usage),
+        ("-8 -x a.re", usage),
+        ("-i b.re b.re", usage),
         ("b.re", unsupported),
-        ("-i", unsupported),
-        ("-i -i", unsupported),
-        ("-s b.re", unsupported),
-        ("-i b.re b.re", unsupported),
-        ("-i /*!b.re", unsupported),
+        ("-i -T b.re", unsupported),
+        ("--x-source 2 -o g.c", unsupported),
+        ("--x-run b.re q.c", "q.c:1:1: error: no such file\n"),
+        ("--x-run b.re b.re", "b.re:1:1: error: not emitted text\n"),
     ] {
-        let left = run(rt.alloc(), line, "b.re", b"int x; /*!re2c */\n", NONE)?;
+        let left = run(rt.alloc(), line, &[("b.re", b"int x; /*!re2c */\n")], NONE)?;
         assert_eq!(rt; left.status, 1, "{message}");
         assert_eq!(rt; left.out.bytes(), b"".as_slice());
         assert_eq!(rt; left.err.bytes(), message.as_bytes());
@@ -97,7 +102,7 @@ fn words_and_files_are_refused_by_name(rt: HostRuntime) -> Result<(), Fail> {
 fn a_source_may_have_4000_bytes(rt: HostRuntime) -> Result<(), Fail> {
     let source = [b' '; 4001];
     for (length, status) in [(4000, 0), (4001, 1)] {
-        let left = run(rt.alloc(), "-i a.c", "a.c", &source[..length], NONE)?;
+        let left = run(rt.alloc(), "-i a.c", &[("a.c", &source[..length])], NONE)?;
         assert_eq!(rt; left.status, status, "{length} bytes");
     }
     Ok(())
@@ -110,10 +115,14 @@ fn faults_of_files_and_sinks_have_their_status(rt: HostRuntime) -> Result<(), Fa
         ("-i a.c", Some(0), None, None, 2, "", read),
         ("-i a.c", None, Some(0), None, 3, "", write),
         ("-i n.re", None, None, Some(0), 3, "", write),
+        ("-i -o x.c a.c", Some(0), None, None, 2, "", read),
+        ("-i -o x.c a.c", Some(1), None, None, 3, "", write),
+        ("-i -o x.c a.c", None, Some(0), None, 0, "", ""),
+        ("--x-run a.c a.c", Some(0), None, None, 2, "", read),
         ("-i a.c", Some(1), Some(1), Some(0), 0, "int x;\n", ""),
     ] {
         let failing = Failing { files, out, err };
-        let left = run(rt.alloc(), line, "a.c", b"int x;\n", failing)?;
+        let left = run(rt.alloc(), line, &[("a.c", b"int x;\n")], failing)?;
         assert_eq!(rt; left.status, status, "{line}");
         assert_eq!(rt; left.out.bytes(), given.as_bytes());
         assert_eq!(rt; left.err.bytes(), told.as_bytes());
@@ -162,10 +171,126 @@ fn a_block_of_quoted_strings_gives_its_scanner(rt: HostRuntime) -> Result<(), Fa
         (EQUAL_STRINGS, "{2}", 0),
         (EQUAL_STRINGS, "{3}", 1),
     ] {
-        let left = run(rt.alloc(), "-i q.re", "q.re", source.as_bytes(), NONE)?;
+        let left = run(rt.alloc(), "-i q.re", &[("q.re", source.as_bytes())], NONE)?;
         assert_eq!(rt; left.status, 0, "{source}");
         assert_eq!(rt; left.err.bytes(), b"".as_slice());
         assert_eq!(rt; count(left.out.bytes(), text.as_bytes()), times, "{text}");
+    }
+    Ok(())
+}
+
+/// The scanner of a source, compiled to a file, and then its run over an input.
+fn compile_and_run(alloc: Global, source: &str, input: &[u8]) -> Result<Left, Fail> {
+    let held = [("q.re", source.as_bytes())];
+    let mut compiled = run(alloc, "-i -o q.c q.re", &held, NONE)?;
+    let emitted = compiled.files.read(alloc, "q.c")?;
+    let held = [("q.c", emitted.as_slice()), ("in.txt", input)];
+    run(alloc, "--x-run in.txt q.c", &held, NONE)
+}
+
+const TWO_EQUAL: &str = "/*!re2c\nre2c:yyfill:enable = 0;\n\"a\" { }\n\"a\" { }\n* { }\n*/\n";
+
+const ANY: &str = "/*!re2c\nre2c:yyfill:enable = 0;\n* { }\n*/\n";
+
+#[test]
+fn a_scanner_is_compiled_read_back_and_run(rt: HostRuntime) -> Result<(), Fail> {
+    for (source, input, lines) in [
+        (
+            IF_AND_IFX,
+            b"ifx if".as_slice(),
+            "rule 2 0 3\nrule 3 3 4\nrule 1 4 6\nend 6 6\n",
+        ),
+        (
+            TWO_EQUAL,
+            b"aa".as_slice(),
+            "rule 1 0 1\nrule 1 1 2\nend 2 2\n",
+        ),
+        (ANY, b"\0".as_slice(), "rule 1 0 1\nend 1 1\n"),
+        (ANY, b"".as_slice(), "end 0 0\n"),
+    ] {
+        let left = compile_and_run(rt.alloc(), source, input)?;
+        assert_eq!(rt; left.status, 0, "{source}");
+        assert_eq!(rt; left.out.bytes(), lines.as_bytes());
+        assert_eq!(rt; left.err.bytes(), b"".as_slice());
+    }
+    Ok(())
+}
+
+/// An emitted scanner with a context marker, tags and histories.
+const CONTEXT: &str =
+    "/*!begin:re2c 1*/\n/*!names:re2c 1 - 7:YYCTYPE 8:YYCURSOR 7:YYLIMIT 8:YYMARKER 11:YYCTXMARKER 6:YYFILL 10:YYGETSTATE 10:YYSETSTATE 14:YYGETCONDITION 14:YYSETCONDITION 7:YYMTAGP 7:YYMTAGN 4:yych 8:yyaccept 3:yyt 4:yyc_ 3:yyc*/\n{\n\tYYCTYPE yych;\n\tunsigned int yyaccept = 0;\nyy1_0:\n\tyych = *YYCURSOR;\n\tif (yych <= 0x60) goto yy1_5;\n\tif (yych <= 0x61) goto yy1_1;\n\tgoto yy1_5;\nyy1_1:\n\t++YYCURSOR;\n\tYYCTXMARKER = YYCURSOR;\n\tyyt2 = NULL;\n\tYYMTAGP(yytm1);\n\tYYMARKER = YYCURSOR;\n\tyyaccept = 1;\n\tyych = *YYCURSOR;\n\tif (yych <= 0x61) goto yy1_3;\n\tif (yych <= 0x62) goto yy1_2;\n\tgoto yy1_3;\nyy1_2:\n\t++YYCURSOR;\n\tyyt2 = YYCTXMARKER;\n\tYYMTAGN(yytm2);\n\tyytm3 = yytm1;\n\ts = yyt2;\n\th = yytm3;\n\tYYCURSOR = YYCTXMARKER;\n#line 3 \"a\\\"b.re\"\n\t/*!code:re2c 1 13*/{ return 1; }\nyy1_3:\n\tif (yyaccept == 1) goto yy1_4;\n\tgoto yy1_5;\nyy1_4:\n\tYYCURSOR = YYMARKER;\n#line 4 \"a\\\"b.re\"\n\t/*!code:re2c 2 13*/{ return 2; }\nyy1_5:\n\tgoto yy1_none;\nyy1_none:;\n}\n#line 5 \"a\\\"b.re\"\n/*!end:re2c*/";
+
+/// An emitted scanner with two conditions, which stores its state before each refill.
+const STORED: &str =
+    "/*!begin:re2c 2*/\n/*!names:re2c 1 0 7:YYCTYPE 8:YYCURSOR 7:YYLIMIT 8:YYMARKER 11:YYCTXMARKER 6:YYFILL 10:YYGETSTATE 10:YYSETSTATE 14:YYGETCONDITION 14:YYSETCONDITION 7:YYMTAGP 7:YYMTAGN 4:yych 8:yyaccept 3:yyt 4:yyc_ 3:yyc*/\n{\n\tswitch (YYGETSTATE()) {\n\tcase 0: goto yy2_4;\n\tcase 1: goto yy2_10;\n\tdefault: goto yy2_cond;\n\t}\nyy2_cond:\n\tswitch (YYGETCONDITION()) {\n\tcase yycA: goto yy2_0;\n\tcase yycB: goto yy2_6;\n\t}\nyyc_A:\nyy2_0:\n\tyych = *YYCURSOR;\n\tif (yych <= 0x00) goto yy2_2;\n\tif (yych <= 0x60) goto yy2_5;\n\tif (yych <= 0x61) goto yy2_1;\n\tgoto yy2_5;\nyy2_1:\n\t++YYCURSOR;\n\tYYSETCONDITION(yycB);\n\tgoto yyc_B; /* 1 */\nyy2_2:\n\tif (YYCURSOR >= YYLIMIT) goto yy2_3;\n\tgoto yy2_5;\nyy2_3:\n\tYYSETSTATE(0);\n\tif (YYFILL() == 0) goto yy2_0;\n\tgoto yy2_5;\nyy2_4:\n\tif (YYCURSOR >= YYLIMIT) goto yy2_5;\n\tgoto yy2_0;\nyy2_5:\n\tgoto yy2_none;\nyyc_B:\nyy2_6:\n\tyych = *YYCURSOR;\n\tif (yych <= 0x00) goto yy2_8;\n\tif (yych <= 0x61) goto yy2_11;\n\tif (yych <= 0x62) goto yy2_7;\n\tgoto yy2_11;\nyy2_7:\n\t++YYCURSOR;\n\tYYSETCONDITION(yycA);\n\t/*!code:re2c 2 13*/{ return 2; }\nyy2_8:\n\tif (YYCURSOR >= YYLIMIT) goto yy2_9;\n\tgoto yy2_11;\nyy2_9:\n\tYYSETSTATE(1);\n\tif (YYFILL() == 0) goto yy2_6;\n\tgoto yy2_11;\nyy2_10:\n\tif (YYCURSOR >= YYLIMIT) goto yy2_11;\n\tgoto yy2_6;\nyy2_11:\n\tgoto yy2_none;\nyy2_none:;\n}\n/*!end:re2c*/";
+
+/// An emitted scanner of two bytes a unit, which checks for two units and counts groups.
+const CHECKED: &str =
+    "/*!begin:re2c 3*/\n/*!names:re2c 2 - 7:YYCTYPE 8:YYCURSOR 7:YYLIMIT 8:YYMARKER 11:YYCTXMARKER 6:YYFILL 10:YYGETSTATE 10:YYSETSTATE 14:YYGETCONDITION 14:YYSETCONDITION 7:YYMTAGP 7:YYMTAGN 4:yych 8:yyaccept 3:yyt 4:yyc_ 3:yyc*/\n{\n\tswitch (YYGETSTATE()) {\n\tcase 7: goto yy3_0;\n\tdefault: goto yy3_0;\n\t}\nyy3_0:\n\tYYSETSTATE(7);\n\tif ((YYLIMIT - YYCURSOR) < 2) YYFILL(2);\n\tyyt1 = YYCURSOR;\n\tyych = *YYCURSOR;\n\tif (yych <= 0x60) goto yy3_2;\n\tif (yych <= 0x100A) goto yy3_1;\n\tgoto yy3_2;\nyy3_1:\n\t++YYCURSOR;\n\tyyt2 = YYCURSOR;\n\t++YYCURSOR;\n\tyynmatch = 1;\n\tyypmatch[0] = yyt1;\n\tyypmatch[1] = yyt2;\n\t/*!code:re2c 1 13*/{ return 1; }\nyy3_2:\n\tgoto yy3_none;\nyy3_none:;\n}\n/*!end:re2c*/";
+
+#[test]
+fn emitted_scanners_are_run(rt: HostRuntime) -> Result<(), Fail> {
+    for (emitted, input, lines) in [
+        (
+            CONTEXT,
+            b"ab".as_slice(),
+            "rule 1 0 1 s=1 h=[1]\nnone 1 1\n",
+        ),
+        (
+            CONTEXT,
+            b"aa".as_slice(),
+            "rule 2 0 1\nrule 2 1 2\nend 2 2\n",
+        ),
+        (
+            STORED,
+            b"ab".as_slice(),
+            "jump 1 0 1 => B\nrule 2 1 2 => A\nnone 2 2\n",
+        ),
+        (CHECKED, b"a\0b\0".as_slice(), "rule 1 0 2 (0,1)\nend 2 2\n"),
+        (CHECKED, b"0\0".as_slice(), "none 0 0\n"),
+        (CHECKED, b"".as_slice(), "end 0 0\n"),
+    ] {
+        let held = [("q.c", emitted.as_bytes()), ("in.txt", input)];
+        let left = run(rt.alloc(), "--x-run in.txt q.c", &held, NONE)?;
+        assert_eq!(rt; left.status, 0, "{lines}");
+        assert_eq!(rt; left.out.bytes(), lines.as_bytes());
+    }
+    Ok(())
+}
+
+#[test]
+fn runs_are_refused_by_name(rt: HostRuntime) -> Result<(), Fail> {
+    let not_emitted = "q.c:1:1: error: not emitted text\n";
+    for (line, emitted, message) in [
+        ("--x-run in.txt q.c", "int x;", not_emitted),
+        (
+            "--x-run in.txt q.c",
+            "/*!begin:re2c 1*/\n/*!names:re2c ",
+            not_emitted,
+        ),
+        (
+            "--x-run in.txt q.c",
+            "int x;\n /*!begin:re2c 1*/\n/*!names:re2c 1 -",
+            "q.c:2:2: error: not emitted text\n",
+        ),
+        ("--x-run in.txt --x-block 2 q.c", CONTEXT, not_emitted),
+        ("--x-run in.txt --x-block 1 q.c", STORED, not_emitted),
+        (
+            "--x-run no.txt q.c",
+            CONTEXT,
+            "no.txt:1:1: error: no such file\n",
+        ),
+        (
+            "--x-run in.txt --x-block 3 q.c",
+            CHECKED,
+            "in.txt:1:1: error: input is no whole number of units\n",
+        ),
+    ] {
+        let held = [("q.c", emitted.as_bytes()), ("in.txt", b"odd".as_slice())];
+        let left = run(rt.alloc(), line, &held, NONE)?;
+        assert_eq!(rt; left.status, 1, "{message}");
+        assert_eq!(rt; left.out.bytes(), b"".as_slice());
+        assert_eq!(rt; left.err.bytes(), message.as_bytes());
     }
     Ok(())
 }

@@ -1,8 +1,13 @@
-use Rattle.std.proofs.Common.{map, string_bytes}
-use Rattle.lx_top.proofs.EndingLemmas.{EndsSo-broken}
+use Rattle.std.proofs.Common.{map, refl, string_bytes}
+use Rattle.lx_top.proofs.EndingLemmas.{EndsSo-broken, EndsSo-done}
 use Rattle.lx_top.proofs.run.run.Goals as goal
 
 pub returns : goal.returns
 returns g c =
     let ended = c.in-Err.ensures.ends in
     record { ends = EndsSo-broken (map string_bytes c.args.words.now) ended.0 _ _ c.perform.new.names c.in-Err.halt c.report.result ended.1 ended.2 c.in-Err.ensures.cites c.report.ensures }
+
+pub returns-in-Ok : goal.returns-in-Ok
+returns-in-Ok g c =
+    let ended = c.in-Ok.ensures.ends in
+    record { ends = EndsSo-done (map string_bytes c.args.words.now) ended.0 _ _ ended.1 ended.2 refl }
