@@ -10,6 +10,3 @@ mod streams;
 mod values;
 
 pub use runs::run_whole;
-
-#[cfg(test)]
-mod tests;
