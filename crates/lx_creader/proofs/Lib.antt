@@ -2,5 +2,6 @@ pub mod FittedPieces
 pub mod Fronts
 pub mod BeginMarks
 pub mod StateLists
+pub mod Searches
 pub mod Steps
 pub mod ValidParts

@@ -4,6 +4,7 @@ ghost use Rattle.lx_creader.specs.Marks.{BeginsBlock, HasNoNeedlessZero, IsFirst
 
 use crate::read::begins_with;
 use crate::words::{behind_digits, front_digits, long_at, skip};
+use memchr::memmem;
 
 /// Whether the digits are a number without needless zeros.
 fn has_no_needless_zero(digits: &[u8]) -> bool
@@ -63,10 +64,13 @@ fn begins_block(bytes: &[u8], block: Option<u32>) -> bool
 pub fn find_block(bytes: &[u8], block: Option<u32>) -> Option<usize>
     ensures { MatchOption result ((place : ℕ) → BeginsBlock block (drop place bytes.now) → ⊥) (λ offset. IsFirstBegin block bytes.now offset) }
 {
-    for offset in 0..bytes.len() {
+    let mut offset = 0;
+    while let Some(found) = memmem::find(skip(bytes, offset), b"/*!begin:re2c ") {
+        offset += found;
         if begins_block(skip(bytes, offset), block) {
             return Some(offset);
         }
+        offset += 1;
     }
     None
 }

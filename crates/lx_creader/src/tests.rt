@@ -131,6 +131,8 @@ fn other_spellings_are_no_pieces(rt: HostRuntime) -> Result<(), Fail> {
         (CONTEXT, "<= 0x60", "<= 0x060"),
         (CONTEXT, "<= 0x60", "<=0x60"),
         (CONTEXT, "<= 0x60", "<=  0x60"),
+        (CONTEXT, "YYMARKER = YYCURSOR", "YYMARKER =YYCURSOR"),
+        (CONTEXT, "YYMARKER = YYCURSOR", "YYMARKER= YYCURSOR"),
         (CHECKED, "0x100A", "0x100a"),
         (CONTEXT, "re2c 1 13*/", "re2c 1 12*/"),
         (CONTEXT, "re2c 1 13*/", "re2c 1 14*/"),
@@ -169,6 +171,25 @@ fn other_pieces_are_read(rt: HostRuntime) -> Result<(), Fail> {
         let bytes = changed(alloc, text, old, new)?;
         assert!(rt; is_read(alloc, &bytes, 0)?, "{new}");
     }
+    Ok(())
+}
+
+/// The piece with stored states, with this letter for the name of its second condition.
+fn with_condition(alloc: Global, letter: u8) -> Result<Vec<u8>, Fail> {
+    let mut bytes = Vec::from_slice(alloc, STORED)?;
+    for byte in bytes.iter_mut() {
+        if *byte == b'B' {
+            *byte = letter;
+        }
+    }
+    Ok(bytes)
+}
+
+#[test]
+fn equal_conditions_are_no_piece(rt: HostRuntime) -> Result<(), Fail> {
+    let alloc = rt.alloc();
+    assert!(rt; is_read(alloc, &with_condition(alloc, b'C')?, 0)?);
+    assert!(rt; !is_read(alloc, &with_condition(alloc, b'A')?, 0)?);
     Ok(())
 }
 
