@@ -8,6 +8,7 @@ pub mod lists;
 pub mod messages;
 pub mod places;
 pub mod settings;
+pub mod spellings;
 
 pub use blocks::{BlockKind, Names};
 pub use faults::{Fault, Stop};

@@ -53,7 +53,7 @@ module _ (piece : Piece) (stream : List ℕ) (start : ℕ) where
   abbrev Going : Type 0
   Going = List Stmt → Machine → List Answer → Ended
 
-  abbrev unless_looped : Bool → Going → Going
+  abbrev pub unless_looped : Bool → Going → Going
   unless_looped true going code machine answers = ended looped machine
   unless_looped false going code machine answers = going code machine answers
 
@@ -71,7 +71,7 @@ module _ (piece : Piece) (stream : List ℕ) (start : ℕ) where
       gone_on (suc steps) (run fuel (suc steps)) (step piece stream statement rest machine answers)
 
   -- the run from the start on, with fuel for the count of a loop at the last limit that the answers can give
-  abbrev run_in : Option (List Stmt) → Machine → List Answer → Ended
+  abbrev pub run_in : Option (List Stmt) → Machine → List Answer → Ended
   run_in None machine answers = ended stuck machine
   run_in (Some code) machine answers = run (loop_count piece start (machine.limit + units_of_answers answers)) 0 code machine answers
 

@@ -1,11 +1,11 @@
 //! What holds of all pieces and of all runs: each law is the contract of a function with an empty body.
-ghost use Rattle.std.specs.Prelude.{◌≡◌, ◌↔◌, ◌≤◌, ℕ, List, [], ◌++◌, length, Some, None, false, true};
+ghost use Rattle.std.specs.Prelude.{◌≡◌, ◌↔◌, ◌≤◌, ◌+◌, ℕ, List, [], ◌++◌, length, Some, None, false, true};
 ghost use Rattle.std.specs.List.{list_any};
 ghost use Rattle.lx_ccode.specs.declared.piece.Stmt.{Stmt};
 ghost use Rattle.lx_ccode.specs.declared.piece.Piece.{Piece};
 ghost use Rattle.lx_ccode.specs.Effects.{ChangesOnly, answers_after, machine_after};
 ghost use Rattle.lx_ccode.specs.Front.{BeginsWithPiece};
-ghost use Rattle.lx_ccode.specs.Machine.{Answer, Machine, code_at, step, stored_block};
+ghost use Rattle.lx_ccode.specs.Machine.{Answer, Machine, code_at, step, stored_block, units_of_answers};
 ghost use Rattle.lx_ccode.specs.Reading.{piece_at};
 ghost use Rattle.lx_ccode.specs.Runs.{Ended, IsRun, entry_block, fresh_machine, run_of};
 ghost use Rattle.lx_ccode.specs.Schedules.{Schedule};
@@ -45,6 +45,11 @@ pub fn steps_change_only_their_part()
 pub fn schedules_determine_runs()
     ensures is_run { (piece : Piece) (stream : List ℕ) (start : ℕ) (cond : List ℕ) (schedule : Schedule) (code : List Stmt) → IsValid piece → code_at piece.blocks (entry_block piece.conds cond) ≡ Some code → IsRun piece stream start 0 code (fresh_machine start schedule.first cond) schedule.answers (run_of piece stream start cond schedule) }
     ensures no_other { (piece : Piece) (stream : List ℕ) (start steps : ℕ) (code : List Stmt) (machine : Machine) (answers : List Answer) (end other : Ended) → IsRun piece stream start steps code machine answers end → IsRun piece stream start steps code machine answers other → end ≡ other }
+{}
+
+/// A run ends between its start and the last unit that its schedule adds to the buffer.
+pub fn runs_stay_in_the_buffer()
+    ensures { (piece : Piece) (stream : List ℕ) (start : ℕ) (cond : List ℕ) (schedule : Schedule) → start ≤ schedule.first → (start ≤ (run_of piece stream start cond schedule).cursor) × ((run_of piece stream start cond schedule).cursor ≤ schedule.first + units_of_answers schedule.answers) }
 {}
 
 /// A step is stuck exactly where its statement cannot do what it is for: in a piece whose jumps all go to

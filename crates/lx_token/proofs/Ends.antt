@@ -24,15 +24,15 @@ IsShorterEnd (letter ∷ text) rest = IsEnd text rest
 abbrev pub LeavesEnd : List ℕ → Option (List ℕ) → Type 0
 LeavesEnd text rest = IfSome rest (IsShorterEnd text)
 
-either : {A : Type 0} (P : A → Type 0) (b : Bool) (x y : A) → P x → P y → P (cond b x y)
+pub either : {A : Type 0} (P : A → Type 0) (b : Bool) (x y : A) → P x → P y → P (cond b x y)
 either P true x y px py = px
 either P false x y px py = py
 
-IsEnd-self : (text : List ℕ) → IsEnd text text
+pub IsEnd-self : (text : List ℕ) → IsEnd text text
 IsEnd-self [] = refl
 IsEnd-self (letter ∷ text) = inl refl
 
-IsEnd-drop : (n : ℕ) (text : List ℕ) → IsEnd text (drop n text)
+pub IsEnd-drop : (n : ℕ) (text : List ℕ) → IsEnd text (drop n text)
 IsEnd-drop zero text = IsEnd-self text
 IsEnd-drop (suc n) [] = refl
 IsEnd-drop (suc n) (letter ∷ text) = inr (IsEnd-drop n text)
@@ -52,7 +52,7 @@ shorter_then [] b c h g = absurd h
 shorter_then (letter ∷ a) b c h g = IsEnd-trans a b c h g
 
 -- behind one letter, a shorter end
-LeavesEnd-later : (letter : ℕ) (text : List ℕ) (rest : Option (List ℕ)) → LeavesEnd text rest → LeavesEnd (letter ∷ text) rest
+pub LeavesEnd-later : (letter : ℕ) (text : List ℕ) (rest : Option (List ℕ)) → LeavesEnd text rest → LeavesEnd (letter ∷ text) rest
 LeavesEnd-later letter text None h = tt
 LeavesEnd-later letter text (Some rest) h = IsShorterEnd-end text rest h
 
@@ -75,7 +75,7 @@ after_line-end [] = refl
 after_line-end (letter ∷ text) =
     either (IsEnd (letter ∷ text)) (letter == 10) (letter ∷ text) (after_line text) (inl refl) (inr (after_line-end text))
 
-after_closing-end : (text : List ℕ) → LeavesEnd text (after_closing text)
+pub after_closing-end : (text : List ℕ) → LeavesEnd text (after_closing text)
 after_closing-end [] = tt
 after_closing-end (letter ∷ text) =
     either (LeavesEnd (letter ∷ text)) (begins_with (codes "*/") (letter ∷ text)) (Some (drop 2 (letter ∷ text))) (after_closing text)
@@ -183,7 +183,7 @@ after_first_bound-end (letter ∷ text) =
     (either P (letter == 44) (after_letter 125 digits) None
     (LeavesEnd-behind letter text digits (after_letter 125 digits) (after_letters-end is_digit text) (after_letter-end 125 digits)) tt)
 
-after_bounds-end : (text : List ℕ) → LeavesEnd text (after_bounds text)
+pub after_bounds-end : (text : List ℕ) → LeavesEnd text (after_bounds text)
 after_bounds-end [] = tt
 after_bounds-end (letter ∷ text) =
     let more = option_and_then after_first_bound (after_numeral text) in
@@ -208,7 +208,7 @@ end_or_self : (text : List ℕ) (rest : Option (List ℕ)) → LeavesEnd text re
 end_or_self text None h = IsEnd-self text
 end_or_self text (Some rest) h = IsShorterEnd-end text rest h
 
-behind_quote-end : (quote : ℕ) (text : List ℕ) → IsEnd text (unwrap_or (after_literal quote false text) text)
+pub behind_quote-end : (quote : ℕ) (text : List ℕ) → IsEnd text (unwrap_or (after_literal quote false text) text)
 behind_quote-end quote text = end_or_self text (after_literal quote false text) (after_literal-end quote false text)
 
 pub IsEnd-behind_quote : (quote : ℕ) (text rest : List ℕ) → rest ≡ unwrap_or (after_literal quote false text) text → IsEnd text rest
@@ -224,7 +224,7 @@ pub IsEnd-after_unquoted : (text rest : List ℕ) → after_unquoted text ≡ So
 IsEnd-after_unquoted text rest is =
     let P : Option (List ℕ) → Type 0 = λ o. LeavesEnd text o in IsShorterEnd-end text rest (subst P is (after_unquoted-end text))
 
-after_piece-end : (text : List ℕ) → LeavesEnd text (after_piece text)
+pub after_piece-end : (text : List ℕ) → LeavesEnd text (after_piece text)
 after_piece-end [] = tt
 after_piece-end (letter ∷ text) =
     either (LeavesEnd (letter ∷ text)) ((letter == 34) || (letter == 39)) (Some (unwrap_or (after_literal letter false text) text))
@@ -247,7 +247,7 @@ after_braces-end (suc steps) depth (letter ∷ text) =
     (LeavesEnd-chain (letter ∷ text) (after_braces steps depth) (after_piece (letter ∷ text)) (after_piece-end (letter ∷ text))
     (λ rest. after_braces-end steps depth rest)))
 
-after_code-end : (text : List ℕ) → LeavesEnd text (after_code text)
+pub after_code-end : (text : List ℕ) → LeavesEnd text (after_code text)
 after_code-end [] = tt
 after_code-end (letter ∷ text) =
     let P = LeavesEnd (letter ∷ text) in

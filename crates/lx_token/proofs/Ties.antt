@@ -33,11 +33,11 @@ group Bounds = Bounds
 group Code = Bounds
 group Signs = Signs
 
-tested : (b : Bool) (some : Option (List ℕ)) (rest : List ℕ) → cond b some None ≡ Some rest → b ≡ true
+pub tested : (b : Bool) (some : Option (List ℕ)) (rest : List ℕ) → cond b some None ≡ Some rest → b ≡ true
 tested true some rest h = refl
 tested false some rest h = absurd (cc)
 
-both : (a b : Bool) → cond a b false ≡ true → a ≡ true
+pub both : (a b : Bool) → cond a b false ≡ true → a ≡ true
 both true b h = refl
 both false b h = absurd (cc)
 
@@ -132,7 +132,7 @@ told_group Code letter text rest h =
 told_group Signs letter text rest h = signs_told letter text rest h
 
 -- a text that begins with another one
-begins-split : (front text : List ℕ) → begins_with front text ≡ true → text ≡ front ++ drop (length front) text
+pub begins-split : (front text : List ℕ) → begins_with front text ≡ true → text ≡ front ++ drop (length front) text
 begins-split [] text h = refl
 begins-split (letter ∷ front) [] h = absurd (cc)
 begins-split (letter ∷ front) (other ∷ text) h =

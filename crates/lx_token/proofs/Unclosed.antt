@@ -6,13 +6,13 @@ use Rattle.lx_token.specs.Braces.{AreUnclosed, after_literal}
 use Rattle.lx_token.proofs.Ends.{IsEnd}
 
 -- a search fails in the line behind one of its bytes too, where it failed and more is left than behind the line
-further : (is_line : Bool) (size : ℕ) (whole line : List ℕ) (literal : Option (List ℕ)) (goal : Type 0) → size ≤ length whole →
+pub further : (is_line : Bool) (size : ℕ) (whole line : List ℕ) (literal : Option (List ℕ)) (goal : Type 0) → size ≤ length whole →
     (literal ≡ None → length line ≤ size → goal) → cond is_line None literal ≡ None → length (cond is_line whole line) ≤ size →
     (length whole ≤ size → ⊥) → goal
 further true size whole line literal goal long next fails le outside = absurd (outside le)
 further false size whole line literal goal long next fails le outside = next fails le
 
-not_closed : (is_quote : Bool) (text : List ℕ) (literal : Option (List ℕ)) → cond is_quote (Some text) literal ≡ None → literal ≡ None
+pub not_closed : (is_quote : Bool) (text : List ℕ) (literal : Option (List ℕ)) → cond is_quote (Some text) literal ≡ None → literal ≡ None
 not_closed true text literal h = absurd (cc)
 not_closed false text literal h = h
 

@@ -17,7 +17,7 @@ use Rattle.lx_token.proofs.Ends.{IsEnd, IsShorterEnd, LeavesEnd, IsShorterEnd-en
 use Rattle.lx_token.proofs.Ties.{no_ties}
 use Rattle.lx_token.proofs.Longest.{longest_token-is, longest_token-longest, longest_token-none}
 
-place_after-append : (at : Pos) (front back : List ℕ) → place_after at (front ++ back) ≡ place_after (place_after at front) back
+pub place_after-append : (at : Pos) (front back : List ℕ) → place_after at (front ++ back) ≡ place_after (place_after at front) back
 place_after-append at [] back = refl
 place_after-append at (letter ∷ front) back = place_after-append (next_place at letter) front back
 
@@ -26,7 +26,7 @@ pub record IsDrop (text rest : List ℕ) : Type 0 where
   pub within : length rest ≤ length text
   pub rest_is : rest ≡ drop (length text - length rest) text
 
-IsEnd-drop_is : (text rest : List ℕ) → IsEnd text rest → IsDrop text rest
+pub IsEnd-drop_is : (text rest : List ℕ) → IsEnd text rest → IsDrop text rest
 IsEnd-drop_is [] rest same = subst (λ l. IsDrop [] l) (sym same) (record { within = omega arith; rest_is = refl })
 IsEnd-drop_is (letter ∷ text) rest end =
     ⊎_elim

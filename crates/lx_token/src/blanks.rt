@@ -10,7 +10,7 @@ fn is_blank(letter: u8) -> bool
 }
 
 /// What is left of the text behind its first line.
-pub(crate) fn after_line(text: &[u8]) -> &[u8]
+pub fn after_line(text: &[u8]) -> &[u8]
     ensures rest { result.now ≡ after_line text.now }
     ensures shorter { length result.now ≤ length text.now }
 {
@@ -25,7 +25,7 @@ pub(crate) fn after_line(text: &[u8]) -> &[u8]
 }
 
 /// What follows the first `*/`.
-fn after_closing(text: &[u8]) -> Option<&[u8]>
+pub fn after_closing(text: &[u8]) -> Option<&[u8]>
     ensures rest { option_copied result ≡ after_closing text.now }
     ensures shorter { IfSome result (λ rest. length rest.now < length text.now) }
 {

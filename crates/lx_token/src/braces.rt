@@ -19,7 +19,7 @@ fn after_first_bound(text: &[u8]) -> Option<&[u8]>
 }
 
 /// What follows the bounds that begin here.
-pub(crate) fn after_bounds(text: &[u8]) -> Option<&[u8]>
+pub fn after_bounds(text: &[u8]) -> Option<&[u8]>
     ensures rest { option_copied result ≡ after_bounds text.now }
     ensures shorter { IfSome result (λ rest. length rest.now < length text.now) }
 {
@@ -27,7 +27,7 @@ pub(crate) fn after_bounds(text: &[u8]) -> Option<&[u8]>
 }
 
 /// What follows a C string or a character literal behind its opening quote, where it is closed in its line.
-fn after_literal(text: &[u8], quote: u8) -> Option<&[u8]>
+pub fn after_literal(text: &[u8], quote: u8) -> Option<&[u8]>
     ensures rest { option_copied result ≡ after_literal quote false text.now }
     ensures shorter { IfSome result (λ rest. length rest.now < length text.now) }
 {
@@ -70,7 +70,7 @@ fn after_quote<'a>(text: &'a [u8], quote: u8, unclosed: &mut usize) -> &'a [u8]
 }
 
 /// What follows the comment or the byte at the front.
-fn after_unquoted(text: &[u8]) -> Option<&[u8]>
+pub fn after_unquoted(text: &[u8]) -> Option<&[u8]>
     ensures rest { option_copied result ≡ after_unquoted text.now }
     ensures shorter { IfSome result (λ rest. length rest.now < length text.now) }
 {

@@ -26,7 +26,7 @@ fn next_place(at: Pos, letter: u8) -> Pos
 }
 
 /// The place behind a text that begins at a place.
-pub(crate) fn place_after(at: Pos, text: &[u8]) -> Pos
+pub fn place_after(at: Pos, text: &[u8]) -> Pos
     requires line { at.line + length text.now < 2 ^ 32 }
     requires col { at.col + length text.now < 2 ^ 32 }
     ensures place { result ≡ place_after at text.now }

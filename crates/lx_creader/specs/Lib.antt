@@ -1,0 +1,4 @@
+pub mod Fine
+pub mod Fitted
+pub mod Marks
+pub mod Refusals

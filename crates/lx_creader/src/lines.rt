@@ -1,0 +1,292 @@
+//! Reads the lines of statements.
+ghost use Rattle.std.specs.Prelude.{◌≡◌, Option, drop, reverse, min, IfOk};
+ghost use Rattle.lx_base.specs.Letters.{begins_with, is_in_identifier};
+ghost use Rattle.lx_ccode.specs.declared.piece.LineMark.{LineMark};
+ghost use Rattle.lx_ccode.specs.Words.{behind};
+ghost use Rattle.lx_ccode.specs.Reading.{argument, assigned, begins_statement, callee, called, code_at, goto_at, history_of, if_at, is_context_marker, register_assigned, register_of, statement_at};
+ghost use Rattle.lx_creader.specs.Fitted.{fitted_line, fitted_statement};
+
+use crate::marks::{block_at, goto_block, goto_tail, mark_at};
+use crate::words::{
+    behind_digits, behind_hexadecimal, behind_identifier, behind_spelling, byte_at, count_at,
+    equal_words, front_identifier, front_spelling, hexadecimal_at, long_at, long_of, short_at,
+    short_of, skip, taken,
+};
+use lx_base::spellings::{is_digit, is_history_register, is_in_identifier, is_register, spelling};
+use lx_base::{ByteText, Memory, Names};
+use lx_ccode::{LineMark, Stmt};
+use std::alloc::Global;
+
+/// A statement, whether it names the context marker as register 1, and what comes behind its line.
+pub(crate) type Read<'a> = (Stmt, bool, &'a [u8]);
+
+/// What the lines of a piece depend on beside their bytes.
+#[derive(Clone, Copy)]
+pub(crate) struct Scope<'a> {
+    pub alloc: Global,
+    /// The seventeen spellings.
+    pub names: &'a Names,
+}
+
+impl Scope<'_> {
+    pub(crate) fn text(&self, word: &[u8]) -> Result<ByteText, Memory>
+        ensures { IfOk result (λ text. text ≡ word.now) }
+    {
+        Ok(ByteText::from_vec(Vec::from_slice(self.alloc, word)?))
+    }
+
+    fn is_context_marker(&self, word: &[u8]) -> bool
+        ensures { result ≡ is_context_marker self.now.names.now word.now }
+    {
+        equal_words(word, spelling(self.names, 4))
+    }
+
+    /// The register that a word names.
+    #[tactic(auto, unfolding(lx_ccode::specs::Reading::register_of))]
+    fn register_of(&self, word: &[u8]) -> u32
+        ensures { result ≡ min (register_of self.now.names.now word.now) 4294967295 }
+    {
+        if self.is_context_marker(word) {
+            1
+        } else {
+            short_of(skip(word, spelling(self.names, 14).len()))
+        }
+    }
+
+    /// The history that a word names.
+    #[tactic(auto, unfolding(lx_ccode::specs::Reading::history_of))]
+    fn history_of(&self, word: &[u8]) -> u32
+        ensures { result ≡ min (history_of self.now.names.now word.now) 4294967295 }
+    {
+        short_of(skip(skip(word, spelling(self.names, 14).len()), 1))
+    }
+
+    /// The statement `target = source;` where the target is a register, a history or a user's tag.
+    #[tactic(auto, unfolding(lx_ccode::specs::Reading::register_assigned))]
+    fn register_assigned(&self, target: &[u8], source: &[u8]) -> Result<(Stmt, bool), Memory>
+        ensures { IfOk result (λ read. (read.0 ≡ fitted_statement (register_assigned self.now.names.now target.now source.now).0) × (read.1 ≡ (register_assigned self.now.names.now target.now source.now).1)) }
+    {
+        let prefix = spelling(self.names, 14);
+        let is_context = self.is_context_marker(target);
+        let from_context = self.is_context_marker(source);
+        if is_context || is_register(prefix, target) {
+            if equal_words(source, spelling(self.names, 1)) {
+                Ok((Stmt::Set(self.register_of(target)), is_context))
+            } else if equal_words(source, b"NULL") {
+                Ok((Stmt::Unset(self.register_of(target)), is_context))
+            } else {
+                let copy = Stmt::Copy(self.register_of(target), self.register_of(source));
+                Ok((copy, is_context || from_context))
+            }
+        } else if is_history_register(prefix, target) {
+            let copy = Stmt::MCopy(self.history_of(target), self.history_of(source));
+            Ok((copy, false))
+        } else if from_context {
+            let tag = Stmt::Tag(self.text(target)?, false, self.register_of(source));
+            Ok((tag, true))
+        } else if is_history_register(prefix, source) {
+            let tag = Stmt::Tag(self.text(target)?, true, self.history_of(source));
+            Ok((tag, false))
+        } else {
+            let tag = Stmt::Tag(self.text(target)?, false, self.register_of(source));
+            Ok((tag, false))
+        }
+    }
+
+    /// The statement `target = source;`.
+    #[tactic(auto, unfolding(lx_ccode::specs::Reading::assigned))]
+    fn assigned(&self, target: &[u8], source: &[u8]) -> Result<(Stmt, bool), Memory>
+        ensures { IfOk result (λ read. (read.0 ≡ fitted_statement (assigned self.now.names.now target.now source.now).0) × (read.1 ≡ (assigned self.now.names.now target.now source.now).1)) }
+    {
+        let from_context = self.is_context_marker(source);
+        if equal_words(target, spelling(self.names, 12)) {
+            Ok((Stmt::Peek, false))
+        } else if equal_words(target, spelling(self.names, 13)) {
+            Ok((Stmt::Accept(short_of(source)), false))
+        } else if equal_words(target, spelling(self.names, 3)) {
+            Ok((Stmt::Backup, false))
+        } else if equal_words(target, spelling(self.names, 1)) {
+            if equal_words(source, spelling(self.names, 3)) {
+                Ok((Stmt::Restore, false))
+            } else {
+                Ok((Stmt::Back(self.register_of(source)), from_context))
+            }
+        } else if equal_words(target, b"yynmatch") {
+            Ok((Stmt::Count(short_of(source)), false))
+        } else if begins_with(target, b"yypmatch[") {
+            let end = Stmt::End(short_at(skip(target, 9)), self.register_of(source));
+            Ok((end, from_context))
+        } else {
+            self.register_assigned(target, source)
+        }
+    }
+
+    /// The statement `name(value);`.
+    #[tactic(auto, unfolding(lx_ccode::specs::Reading::called))]
+    fn called(&self, name: &[u8], value: &[u8]) -> Result<Stmt, Memory>
+        ensures { IfOk result (λ read. read ≡ fitted_statement (called self.now.names.now name.now value.now)) }
+    {
+        if equal_words(name, spelling(self.names, 10)) {
+            Ok(Stmt::MSet(self.history_of(value)))
+        } else if equal_words(name, spelling(self.names, 11)) {
+            Ok(Stmt::MUnset(self.history_of(value)))
+        } else if equal_words(name, spelling(self.names, 7)) {
+            Ok(Stmt::State(long_of(value)))
+        } else {
+            let prefix = spelling(self.names, 16);
+            Ok(Stmt::Cond(self.text(skip(value, prefix.len()))?))
+        }
+    }
+
+    /// A statement, behind its `if (`.
+    #[tactic(auto, unfolding(lx_ccode::specs::Reading::if_at))]
+    fn if_at<'b>(&self, bytes: &'b [u8]) -> Read<'b>
+        ensures { (result.0 ≡ fitted_statement (if_at self.now.names.now bytes.now).0) × (result.1 ≡ (if_at self.now.names.now bytes.now).1) × (result.2.now ≡ (if_at self.now.names.now bytes.now).2) }
+    {
+        let rest = behind_spelling(bytes);
+        let sign = byte_at(rest, 1);
+        if sign == b'<' {
+            let number = skip(rest, 6);
+            let next = skip(behind_hexadecimal(number), 1);
+            let test = Stmt::IfUnit(hexadecimal_at(number), goto_block(next));
+            (test, false, goto_tail(next))
+        } else if sign == b'>' {
+            let next = behind_spelling(skip(rest, 4));
+            (Stmt::IfEnd(goto_block(next)), false, goto_tail(next))
+        } else if sign == b'-' {
+            let next = skip(behind_spelling(skip(rest, 3)), 3);
+            let tail = behind_spelling(skip(behind_digits(next), 2));
+            (Stmt::Need(short_at(next)), false, skip(tail, 2))
+        } else if equal_words(front_spelling(bytes), spelling(self.names, 13)) {
+            let number = skip(rest, 4);
+            let next = skip(behind_digits(number), 1);
+            let test = Stmt::IfAccept(short_at(number), goto_block(next));
+            (test, false, goto_tail(next))
+        } else {
+            let next = skip(rest, 6);
+            (Stmt::Try(goto_block(next)), false, goto_tail(next))
+        }
+    }
+
+    /// A statement, behind its `goto `.
+    #[tactic(auto, unfolding(lx_ccode::specs::Reading::goto_at))]
+    fn goto_at<'b>(&self, bytes: &'b [u8]) -> Result<Read<'b>, Memory>
+        ensures { IfOk result (λ read. (read.0 ≡ fitted_statement (goto_at self.now.names.now bytes.now).0) × (read.1 ≡ (goto_at self.now.names.now bytes.now).1) × (read.2.now ≡ (goto_at self.now.names.now bytes.now).2)) }
+    {
+        let rest = behind_identifier(bytes);
+        let block = block_at(bytes);
+        if byte_at(rest, 1) == b' ' {
+            let prefix = spelling(self.names, 15);
+            let cond = self.text(skip(front_identifier(bytes), prefix.len()))?;
+            let number = skip(rest, 5);
+            let jump = Stmt::Jump(cond, short_at(number));
+            Ok((jump, false, skip(behind_digits(number), 4)))
+        } else if is_digit(byte_at(block, 0)) {
+            let jump = Stmt::Goto(long_at(block));
+            Ok((jump, false, skip(behind_digits(block), 2)))
+        } else {
+            Ok((Stmt::Leave, false, skip(rest, 2)))
+        }
+    }
+
+    /// A user's action, at the tab before its `/*!code`.
+    #[tactic(auto, unfolding(lx_ccode::specs::Reading::code_at))]
+    fn code_at<'b>(&self, line: Option<LineMark>, bytes: &'b [u8]) -> Result<Read<'b>, Memory>
+        ensures { (mark : Option LineMark) → line ≡ fitted_line mark → IfOk result (λ read. (read.0 ≡ fitted_statement (code_at mark bytes.now).0) × (read.1 ≡ (code_at mark bytes.now).1) × (read.2.now ≡ (code_at mark bytes.now).2)) }
+    {
+        let number = skip(bytes, 14);
+        let count = skip(behind_digits(number), 1);
+        let text = skip(behind_digits(count), 2);
+        let size = count_at(count);
+        let action = self.text(taken(text, size))?;
+        let code = Stmt::Code(short_at(number), line, action);
+        Ok((code, false, skip(skip(text, size), 1)))
+    }
+
+    /// A statement, at its tab or at the `#` of its `#line`.
+    #[tactic(auto, unfolding(lx_ccode::specs::Reading::statement_at))]
+    pub(crate) fn statement_at<'b>(&self, bytes: &'b [u8]) -> Result<Read<'b>, Memory>
+        ensures { IfOk result (λ read. (read.0 ≡ fitted_statement (statement_at self.now.names.now bytes.now).0) × (read.1 ≡ (statement_at self.now.names.now bytes.now).1) × (read.2.now ≡ (statement_at self.now.names.now bytes.now).2)) }
+    {
+        if byte_at(bytes, 0) == b'#' {
+            let (mark, rest) = mark_at(self.alloc, bytes)?;
+            return self.code_at(Some(mark), rest);
+        }
+        let word = front_spelling(skip(bytes, 1));
+        let rest = behind_spelling(skip(bytes, 1));
+        let first = byte_at(rest, 0);
+        let second = byte_at(rest, 1);
+        if first == b'+' {
+            let tail = behind_spelling(skip(rest, 2));
+            Ok((Stmt::Skip, false, skip(tail, 2)))
+        } else if first == b'/' {
+            self.code_at(None, bytes)
+        } else if first == b';' {
+            let call = self.called(callee(word), argument(word))?;
+            Ok((call, false, skip(rest, 2)))
+        } else if second == b'=' {
+            let source = skip(rest, 3);
+            let (statement, is_context) = self.assigned(word, front_spelling(source))?;
+            Ok((statement, is_context, skip(behind_spelling(source), 2)))
+        } else if second == b'(' {
+            Ok(self.if_at(skip(rest, 2)))
+        } else {
+            self.goto_at(skip(rest, 1))
+        }
+    }
+}
+
+/// Whether the word begins with the front.
+fn begins_with(word: &[u8], front: &[u8]) -> bool
+    ensures { result ≡ begins_with front.now word.now }
+{
+    word.starts_with(front)
+}
+
+/// What stands before the last byte.
+fn without_last(word: &[u8]) -> &[u8]
+    ensures { reverse result.now ≡ drop 1 (reverse word.now) }
+{
+    match word.split_last() {
+        Some((_, front)) => front,
+        None => word,
+    }
+}
+
+/// What stands before the letters, digits and `_` at the end.
+fn before_identifier(word: &[u8]) -> &[u8]
+    ensures { reverse result.now ≡ behind is_in_identifier (reverse word.now) }
+{
+    let mut rest = word;
+    while let Some((letter, front)) = rest.split_last() {
+        if !is_in_identifier(*letter) {
+            break;
+        }
+        rest = front;
+    }
+    rest
+}
+
+/// The word before the last parentheses, which close the word.
+#[tactic(auto, unfolding(lx_ccode::specs::Reading::callee))]
+fn callee(word: &[u8]) -> &[u8]
+    ensures { result.now ≡ callee word.now }
+{
+    without_last(before_identifier(without_last(word)))
+}
+
+/// The word in the last parentheses, which close the word.
+#[tactic(auto, unfolding(lx_ccode::specs::Reading::argument))]
+fn argument(word: &[u8]) -> &[u8]
+    ensures { result.now ≡ argument word.now }
+{
+    let inner = without_last(word);
+    skip(inner, before_identifier(inner).len())
+}
+
+/// Whether a statement begins: with a tab or a `#`.
+pub(crate) fn begins_statement(bytes: &[u8]) -> bool
+    ensures { result ≡ begins_statement bytes.now }
+{
+    matches!(byte_at(bytes, 0), b'\t' | b'#')
+}

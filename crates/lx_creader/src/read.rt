@@ -1,0 +1,78 @@
+//! Reads the piece that stands at a place.
+ghost use Rattle.std.specs.Prelude.{◌≡◌, ◌++◌, ℕ, List, IsTrue, length, drop, IfOk, MatchResult};
+ghost use Rattle.lx_ccode.specs.Front.{BeginsWithPiece};
+ghost use Rattle.lx_creader.specs.Refusals.{IsRefusal};
+
+use crate::reading::reading;
+use crate::validity::is_valid;
+use crate::words::skip;
+use lx_base::Memory;
+use lx_ccode::laws::reading_finds_the_piece;
+use lx_ccode::{Piece, print};
+use std::alloc::Global;
+use thiserror::Error;
+
+/// Why no piece was read.
+#[derive(Debug, Drop, Error)]
+pub enum PieceStop {
+    /// Memory ran out.
+    #[error("out of memory")]
+    Memory,
+    /// At this offset, counted in bytes, stands the text of no piece.
+    #[error("not emitted text at offset {0}")]
+    NotEmitted(usize),
+}
+
+impl From<Memory> for PieceStop {
+    ghost use Rattle.std.specs.Prelude.{◌≡◌};
+    ghost use Rattle.lx_creader.specs.declared.read.PieceStop.TheVariants as stop;
+
+    ghost from_gives = { λ _ stopped. stopped ≡ stop.Memory };
+
+    fn from(_error: Memory) -> PieceStop {
+        PieceStop::Memory
+    }
+}
+
+/// Whether the text stands at the front of the bytes.
+pub(crate) fn begins_with(bytes: &[u8], text: &[u8]) -> bool
+    ensures stands { IsTrue result → bytes.now ≡ text.now ++ drop (length text.now) bytes.now }
+    ensures differs { (rest : List ℕ) → bytes.now ≡ text.now ++ rest → IsTrue result }
+{
+    bytes.starts_with(text)
+}
+
+/// The piece whose text stands at the offset, counted in bytes.
+///
+/// `NotEmitted` comes exactly where no piece's text stands there, and tells the offset.
+pub fn read_piece(alloc: Global, bytes: &[u8], at: usize) -> Result<Piece, PieceStop>
+    ensures { MatchResult result (λ piece. BeginsWithPiece (drop at bytes.now) piece) (λ stop. IsRefusal bytes.now at stop) }
+{
+    reading_finds_the_piece();
+    let bytes = skip(bytes, at);
+    match reading(alloc, bytes)? {
+        None => Err(PieceStop::NotEmitted(at)),
+        Some(piece) => {
+            let emitted = is_emitted(alloc, &piece, bytes)?;
+            if emitted {
+                Ok(piece)
+            } else {
+                Err(PieceStop::NotEmitted(at))
+            }
+        }
+    }
+}
+
+/// Whether the piece is valid and its text stands at the front of the bytes.
+fn is_emitted(alloc: Global, piece: &Piece, bytes: &[u8]) -> Result<bool, Memory>
+    ensures emitted { IfOk result (λ emitted. IsTrue emitted → BeginsWithPiece bytes.now piece.now) }
+    ensures refused { IfOk result (λ emitted. BeginsWithPiece bytes.now piece.now → IsTrue emitted) }
+{
+    let valid = is_valid(alloc, piece)?;
+    if valid {
+        let text = print(alloc, piece)?;
+        Ok(begins_with(bytes, text.as_slice()))
+    } else {
+        Ok(false)
+    }
+}

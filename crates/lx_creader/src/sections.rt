@@ -1,0 +1,156 @@
+//! Reads what stands before the blocks of a piece.
+ghost use Rattle.std.specs.Prelude.{◌≡◌, map, IfOk};
+ghost use Rattle.lx_ccode.specs.Reading.{cond_cases_at, cond_switch_at, declarations_at, eof_at, is_tab, names_at, state_cases_at, state_switch_at};
+ghost use Rattle.lx_creader.specs.Fitted.{fitted_cond, fitted_eof, fitted_state, fitted_states};
+
+use crate::lines::Scope;
+use crate::marks::{block_at, goto_block, goto_tail};
+use crate::words::{
+    behind_digits, behind_identifier, behind_spelling, behind_type, byte_at, count_at,
+    front_identifier, long_at, short_at, skip, taken,
+};
+use lx_base::spellings::{is_digit, spelling};
+use lx_base::{ByteText, Memory, Names, Sequence};
+use lx_ccode::{CondCase, StateCase};
+use std::alloc::Global;
+
+/// So many spellings ` L:T`, and what comes behind them.
+#[tactic(auto, unfolding(lx_ccode::specs::Reading::names_at))]
+pub(crate) fn names_at(alloc: Global, count: usize, bytes: &[u8]) -> Result<(Names, &[u8]), Memory>
+    ensures { IfOk result (λ names. (names.0 ≡ (names_at count bytes.now).0) × (names.1.now ≡ (names_at count bytes.now).1)) }
+{
+    let mut names = Names::new(alloc);
+    let mut left = count;
+    let mut bytes = bytes;
+    while left > 0 {
+        left -= 1;
+        let number = skip(bytes, 1);
+        let size = count_at(number);
+        let text = skip(behind_digits(number), 1);
+        let name = Vec::from_slice(alloc, taken(text, size))?;
+        names.push(ByteText::from_vec(name))?;
+        bytes = skip(text, size);
+    }
+    Ok((names, bytes))
+}
+
+/// The unit that the buffer holds at its end, or nothing for `-`, and what comes behind it.
+#[tactic(auto, unfolding(lx_ccode::specs::Reading::eof_at))]
+pub(crate) fn eof_at(bytes: &[u8]) -> (Option<u32>, &[u8])
+    ensures { (result.0 ≡ fitted_eof (eof_at bytes.now).0) × (result.1.now ≡ (eof_at bytes.now).1) }
+{
+    if byte_at(bytes, 0) == b'-' {
+        (None, skip(bytes, 1))
+    } else {
+        (Some(short_at(bytes)), behind_digits(bytes))
+    }
+}
+
+fn is_tab(bytes: &[u8]) -> bool
+    ensures { result ≡ is_tab bytes.now }
+{
+    byte_at(bytes, 0) == b'\t'
+}
+
+/// Whether the declarations stand here, and what comes behind them.
+#[tactic(auto, unfolding(lx_ccode::specs::Reading::declarations_at))]
+pub(crate) fn declarations_at(bytes: &[u8]) -> (bool, &[u8])
+    ensures { (result.0 ≡ (declarations_at bytes.now).0) × (result.1.now ≡ (declarations_at bytes.now).1) }
+{
+    let rest = behind_type(skip(bytes, 1));
+    if is_tab(bytes) && byte_at(rest, 0) == b';' {
+        (true, skip(behind_identifier(skip(rest, 16)), 6))
+    } else {
+        (false, bytes)
+    }
+}
+
+/// The cases of a switch over stored states, at most as many as the fuel, and what comes behind them.
+#[tactic(auto, unfolding(lx_ccode::specs::Reading::state_cases_at))]
+fn state_cases_at(
+    alloc: Global,
+    fuel: usize,
+    bytes: &[u8],
+) -> Result<(Vec<StateCase>, &[u8]), Memory>
+    ensures { IfOk result (λ cases. (cases.0.items ≡ map fitted_state (state_cases_at fuel bytes.now).0) × (cases.1.now ≡ (state_cases_at fuel bytes.now).1)) }
+{
+    let mut cases = Vec::new(alloc);
+    let mut left = fuel;
+    let mut bytes = bytes;
+    while left > 0 && byte_at(bytes, 1) == b'c' {
+        left -= 1;
+        let number = skip(bytes, 6);
+        let next = skip(behind_digits(number), 1);
+        cases.push(StateCase {
+            state: long_at(number),
+            block: goto_block(next),
+        })?;
+        bytes = goto_tail(next);
+    }
+    Ok((cases, bytes))
+}
+
+/// The switch over stored states, where it stands, and what comes behind it.
+#[tactic(auto, unfolding(lx_ccode::specs::Reading::state_switch_at))]
+pub(crate) fn state_switch_at(
+    alloc: Global,
+    fuel: usize,
+    bytes: &[u8],
+) -> Result<(Option<Sequence<StateCase>>, &[u8]), Memory>
+    ensures { IfOk result (λ states. (states.0 ≡ fitted_states (state_switch_at fuel bytes.now).0) × (states.1.now ≡ (state_switch_at fuel bytes.now).1)) }
+{
+    if !is_tab(bytes) {
+        return Ok((None, bytes));
+    }
+    let start = skip(behind_spelling(skip(bytes, 9)), 3);
+    let (cases, rest) = state_cases_at(alloc, fuel, start)?;
+    let rest = skip(behind_identifier(skip(rest, 15)), 5);
+    Ok((Some(Sequence::from_vec(cases)), rest))
+}
+
+impl Scope<'_> {
+    /// The cases of the switch over conditions, at most as many as the fuel, and what comes behind them.
+    #[tactic(auto, unfolding(lx_ccode::specs::Reading::cond_cases_at))]
+    fn cond_cases_at<'b>(
+        &self,
+        fuel: usize,
+        bytes: &'b [u8],
+    ) -> Result<(Vec<CondCase>, &'b [u8]), Memory>
+        ensures { IfOk result (λ cases. (cases.0.items ≡ map fitted_cond (cond_cases_at fuel self.now.names.now bytes.now).0) × (cases.1.now ≡ (cond_cases_at fuel self.now.names.now bytes.now).1)) }
+    {
+        let mut cases = Vec::new(self.alloc);
+        let mut left = fuel;
+        let mut bytes = bytes;
+        while left > 0 && byte_at(bytes, 1) == b'c' {
+            left -= 1;
+            let word = skip(bytes, 6);
+            let next = skip(behind_identifier(word), 1);
+            let prefix = spelling(self.names, 16);
+            let cond = self.text(skip(front_identifier(word), prefix.len()))?;
+            cases.push(CondCase {
+                cond,
+                block: goto_block(next),
+            })?;
+            bytes = goto_tail(next);
+        }
+        Ok((cases, bytes))
+    }
+
+    /// The switch over conditions, where it stands, and what comes behind it.
+    #[tactic(auto, unfolding(lx_ccode::specs::Reading::cond_switch_at))]
+    pub(crate) fn cond_switch_at<'b>(
+        &self,
+        fuel: usize,
+        bytes: &'b [u8],
+    ) -> Result<(Sequence<CondCase>, &'b [u8]), Memory>
+        ensures { IfOk result (λ conds. (conds.0 ≡ map fitted_cond (cond_switch_at fuel self.now.names.now bytes.now).0) × (conds.1.now ≡ (cond_switch_at fuel self.now.names.now bytes.now).1)) }
+    {
+        let block = block_at(bytes);
+        if is_digit(byte_at(block, 0)) {
+            return Ok((Sequence::new(self.alloc), bytes));
+        }
+        let start = skip(behind_spelling(skip(block, 15)), 3);
+        let (cases, rest) = self.cond_cases_at(fuel, start)?;
+        Ok((Sequence::from_vec(cases), skip(rest, 3)))
+    }
+}

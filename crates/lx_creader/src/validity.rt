@@ -1,0 +1,110 @@
+//! Decides which pieces are valid: a test for each rule.
+ghost use Rattle.std.specs.Prelude.{◌≡◌, ◌<◌, ◌^◌, ◌*◌, ◌↔◌, ◌⊎◌, IsTrue, IfOk, IfSome, map};
+ghost use Rattle.std.specs.List.{AllByRecursion};
+ghost use Rattle.lx_ccode.specs.Validity.{IsLong, IsValid};
+ghost use Rattle.lx_creader.specs.Fine.{HasUnit, KeepsBlockRules, KeepsHeadRules, KeepsKindRules};
+
+use crate::conds::keep_cond_rules;
+use crate::rules::{Rules, are_countable, blocks_store_states, kinds_in, last_tries_after_state};
+use crate::statements::{is_line, is_long, is_short};
+use crate::states::keep_state_rules;
+use lx_base::spellings::{are_allowed, do_not_clash};
+use lx_base::{Memory, Names, Sequence};
+use lx_ccode::{CodeBlock, CondCase, Piece, StateCase};
+use std::alloc::Global;
+
+/// Whether a unit has one, two or four bytes, and the unit at the buffer's end is one.
+fn has_unit(unit: u32, eof: Option<u32>) -> bool
+    ensures { IsTrue result ↔ HasUnit unit eof }
+{
+    match (unit, eof) {
+        (1, Some(eof)) => eof < 256,
+        (2, Some(eof)) => eof < 65536,
+        (1 | 2 | 4, _) => true,
+        _ => false,
+    }
+}
+
+/// Whether the numbers of the cases have at most 64 bits, as each has that a piece can hold.
+fn are_long(cases: &[StateCase]) -> bool
+    ensures { IsTrue result ↔ AllByRecursion (λ case. IsLong case.state × IsLong case.block) cases.now }
+{
+    for case in cases {
+        let state = is_long(case.state);
+        let block = is_long(case.block);
+        if !(state && block) {
+            return false;
+        }
+    }
+    true
+}
+
+fn are_long_if_some(states: &Option<Sequence<StateCase>>) -> bool
+    ensures { IsTrue result ↔ IfSome states.now (λ cases. AllByRecursion (λ case. IsLong case.state × IsLong case.block) cases) }
+{
+    match states {
+        None => true,
+        Some(cases) => are_long(cases.as_slice()),
+    }
+}
+
+fn keeps_head_rules(piece: &Piece) -> bool
+    ensures { IsTrue result ↔ KeepsHeadRules piece.now }
+{
+    let number = is_short(piece.number);
+    let line = is_line(&piece.line);
+    let states = are_long_if_some(&piece.states);
+    let unit = has_unit(piece.unit, piece.eof);
+    let names = are_allowed(&piece.names);
+    let names_differ = do_not_clash(&piece.names);
+    number && line && states && unit && names && names_differ
+}
+
+fn keep_block_rules(names: &Names, conds: &[CondCase], blocks: &[CodeBlock]) -> bool
+    ensures { IsTrue result ↔ KeepsBlockRules names.now (map (λ case. case.cond) conds.now) blocks.now }
+{
+    let rules = Rules {
+        names,
+        conds,
+        blocks: blocks.len(),
+    };
+    let some = !blocks.is_empty();
+    let countable = are_countable(blocks);
+    let fine = rules.are_fine_blocks(blocks);
+    some && countable && fine
+}
+
+fn keep_kind_rules(ctx: bool, blocks: &[CodeBlock]) -> bool
+    ensures { IsTrue result ↔ KeepsKindRules ctx blocks.now }
+{
+    let kinds = kinds_in(blocks);
+    let one_refill = !kinds.need || !kinds.try_refill;
+    let store = blocks_store_states(blocks);
+    let before_refills = !kinds.state || store;
+    let next_block = !last_tries_after_state(blocks);
+    let context = !ctx || kinds.register_one;
+    one_refill && before_refills && next_block && context
+}
+
+/// Whether the piece is valid.
+pub(crate) fn is_valid(alloc: Global, piece: &Piece) -> Result<bool, Memory>
+    ensures { IfOk result (λ valid. IsTrue valid ↔ IsValid piece.now) }
+{
+    let blocks = piece.blocks.as_slice();
+    let conds = piece.conds.as_slice();
+    let states = keep_state_rules(alloc, blocks, &piece.states)?;
+    if !states {
+        return Ok(false);
+    }
+    let head = keeps_head_rules(piece);
+    let named = keep_cond_rules(blocks, conds);
+    let fine = keep_block_rules(&piece.names, conds, blocks);
+    let kinds = keep_kind_rules(piece.ctx, blocks);
+    Ok(keep_all(head, named, fine, kinds))
+}
+
+fn keep_all(head: bool, named: bool, fine: bool, kinds: bool) -> bool
+    ensures { IsTrue result ↔ (IsTrue head × IsTrue named × IsTrue fine × IsTrue kinds) }
+{
+    head && named && fine && kinds
+}

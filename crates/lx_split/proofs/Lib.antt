@@ -1,0 +1,10 @@
+pub mod BlockEnds
+pub mod Cutting
+pub mod Faults
+pub mod FirstMark
+pub mod Known
+pub mod Needles
+pub mod OpenerTexts
+pub mod Passing
+pub mod Unclosed
+pub mod Walking

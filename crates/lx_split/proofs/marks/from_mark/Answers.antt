@@ -1,0 +1,20 @@
+use Rattle.std.proofs.Common.{arith, codes, sym}
+use Rattle.lx_split.specs.Marks.{begins_mark}
+use Rattle.lx_split.proofs.Needles.{among-next, from_first-among, no_mark}
+use Rattle.lx_split.proofs.marks.from_mark.Goals as goal
+
+pub loop-tail-init : goal.loop-tail-init
+loop-tail-init c = (
+  rw c.from_opening-rest.ensures.rest (from_first-among (codes "/*!") begins_mark no_mark c.args.text.now),
+  c.from_opening-rest.ensures.shorter,
+)
+
+pub loop-tail-preserved : goal.loop-tail-preserved
+loop-tail-preserved c =
+    let shorter = c.from_opening-rest-in-Some.ensures.shorter in
+    let less = c.in-Some.ensures.cases.1 in (
+      rw c.from_opening-rest-in-Some.ensures.rest
+          (among-next (codes "/*!") begins_mark no_mark c.loop-tail.rest.now c.args.text.now c.loop-tail.invariant.0
+          c.in-Some.field-0-0.now c.in-Some.tail.now c.in-Some.ensures.cases.0 (sym c.if-begins_mark.ensures)),
+      omega arith,
+    )

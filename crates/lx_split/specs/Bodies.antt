@@ -1,0 +1,43 @@
+-- Where the body of a block ends.
+use Rattle.std.specs.Prelude.{◌≡◌, ℕ, zero, suc, ◌≤◌, false, List, [], ◌∷◌, ◌++◌, length, drop, codes, Option, Some, None, option_and_then, unwrap_or, ◌==◌, if◌then◌else◌}
+use Rattle.lx_base.specs.declared.blocks.BlockKind.{BlockKind}
+use Rattle.lx_base.specs.declared.blocks.BlockKind.TheVariants.{Ignore}
+use Rattle.lx_split.specs.declared.bodies.Unclosed.{Unclosed}
+use Rattle.lx_base.specs.Letters.{begins_with}
+use Rattle.lx_token.specs.Blanks.{after_closing}
+use Rattle.lx_token.specs.Braces.{after_bounds, after_code, after_literal, after_piece}
+
+-- what follows the bounds or else the action that begins here
+abbrev pub after_brace : Option (List ℕ) → List ℕ → Option (List ℕ)
+after_brace (Some rest) text = Some rest
+after_brace None text = after_code text
+
+-- what follows the part of a body at its front, which is no `*/`: a class that is closed in its line, bounds or an action,
+-- a string that is closed in its line, a comment, or a byte
+abbrev pub after_part : List ℕ → Option (List ℕ)
+after_part [] = None
+after_part (letter ∷ text) =
+    if letter == 91 then Some (unwrap_or (after_literal 93 false text) text)
+    else (if letter == 123 then after_brace (after_bounds (letter ∷ text)) (letter ∷ text) else after_piece (letter ∷ text))
+
+-- what follows the first `*/` outside of such parts. No part is empty, so as many steps serve as the text has bytes
+abbrev pub after_body : (steps : ℕ) → List ℕ → Option (List ℕ)
+after_body zero text = None
+after_body (suc steps) text =
+    if begins_with (codes "*/") text then Some (drop 2 text) else option_and_then (after_body steps) (after_part text)
+
+-- what follows a block, behind its opener; an ignored one ends at the first `*/`
+abbrev pub after_block : BlockKind → List ℕ → Option (List ℕ)
+after_block Ignore text = after_closing text
+after_block kind text = after_body (length text) text
+
+-- each such opener of the text behind which `size` bytes or more are left has no `close` in its line
+abbrev pub AreUnclosed : (opener close size : ℕ) → List ℕ → Type 0
+AreUnclosed opener close size text =
+    (front tail : List ℕ) → text ≡ front ++ opener ∷ tail → size ≤ length tail → after_literal close false tail ≡ None
+
+-- what the scanner of a body keeps of each kind of openers holds of the text
+pub record AreKnown (unclosed : Unclosed) (text : List ℕ) : Type 0 where
+  pub strings : AreUnclosed 34 34 unclosed.strings text
+  pub characters : AreUnclosed 39 39 unclosed.characters text
+  pub classes : AreUnclosed 91 93 unclosed.classes text

@@ -1,0 +1,5 @@
+pub mod Command
+pub mod Line
+pub mod Points
+pub mod Options
+pub mod Waiting

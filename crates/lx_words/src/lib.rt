@@ -1,0 +1,14 @@
+//! The words of the command line: what they ask for, and which of them are refused.
+#![tactic(auto)]
+
+mod command;
+mod line;
+mod numbers;
+mod options;
+mod points;
+mod words;
+
+pub use words::read_words;
+
+#[cfg(test)]
+mod tests;
