@@ -64,6 +64,18 @@ abbrev pub history_in : List HistorySlot → (tag : List ℕ) → Option (List (
 history_in [] tag = None
 history_in (slot ∷ slots) tag = if equal_words slot.name tag then Some slot.value else history_in slots tag
 
+-- the offsets that a tag is given among values, in order
+abbrev pub offsets_given : (tag : List ℕ) → List Value → List (Option ℕ)
+offsets_given tag [] = []
+offsets_given tag (tag_offset other offset ∷ values) = if equal_words other tag then offset ∷ offsets_given tag values else offsets_given tag values
+offsets_given tag (_ ∷ values) = offsets_given tag values
+
+-- the histories that it is given
+abbrev pub histories_given : (tag : List ℕ) → List Value → List (List (Option ℕ))
+histories_given tag [] = []
+histories_given tag (tag_history other history ∷ values) = if equal_words other tag then history ∷ histories_given tag values else histories_given tag values
+histories_given tag (_ ∷ values) = histories_given tag values
+
 -- ---- before any value was given
 
 -- the slots with one more at the end, unless the tag has one
