@@ -5,4 +5,4 @@ abbrev pub invariant-loop-start : goal.invariant-loop-start
 invariant-loop-start l = l.lexer.piece.unit ≡ 1
 
 abbrev pub decreases-loop-start : goal.decreases-loop-start
-decreases-loop-start l = length l.stream.now - l.matches
+decreases-loop-start l = length l.stream - l.matches
