@@ -17,7 +17,7 @@ sed -i 's/^const COPIES: usize = .*/const COPIES: usize = 14_300_000;/' src/test
 rt test > "$copy/log" 2>&1 || { tail -5 "$copy/log" >&2; exit 1; }
 python3 - out/lx_step_tests <<'PYTHON'
 import re, resource, subprocess, sys
-tests = subprocess.run([sys.argv[1]], capture_output=True, text=True, check=True)
+tests = subprocess.run([sys.argv[1], 'tests::a_long_stream'], capture_output=True, text=True, check=True)
 count, micros = map(int, re.search(r'stepping: (\d+) statements in (\d+) us', tests.stdout).groups())
 stream = 7 * 14_300_000
 above = 1024 * resource.getrusage(resource.RUSAGE_CHILDREN).ru_maxrss - stream
