@@ -40,6 +40,7 @@ offset_in-given [] given tag before e = e
 offset_in-given (tag_offset other value ∷ values) given tag before e = by (equal_words other tag) refl (offset_in-given values (after_value (tag_offset other value) given) tag) where
   after : Option (Option ℕ)
   after = offset_in (after_values values (after_value (tag_offset other value) given)).offsets tag
+
   by : (same : Bool) → equal_words other tag ≡ same → ((last : Option ℕ) → offset_in (with_offset other value given.offsets) tag ≡ Some last → after ≡ last_or (Some last) (offsets_given tag values))
       → after ≡ last_or (Some before) (if same then value ∷ offsets_given tag values else offsets_given tag values)
   by true same next = next value (subst (λ (word : List ℕ). offset_in (with_offset word value given.offsets) tag ≡ Some value) (sym (equal_words-true other tag same)) (with_offset-same given.offsets tag value before e))
@@ -83,6 +84,7 @@ history_in-given [] given tag before e = e
 history_in-given (tag_history other value ∷ values) given tag before e = by (equal_words other tag) refl (history_in-given values (after_value (tag_history other value) given) tag) where
   after : Option (List (Option ℕ))
   after = history_in (after_values values (after_value (tag_history other value) given)).histories tag
+
   by : (same : Bool) → equal_words other tag ≡ same → ((last : List (Option ℕ)) → history_in (with_history other value given.histories) tag ≡ Some last → after ≡ last_or (Some last) (histories_given tag values))
       → after ≡ last_or (Some before) (if same then value ∷ histories_given tag values else histories_given tag values)
   by true same next = next value (subst (λ (word : List ℕ). history_in (with_history word value given.histories) tag ≡ Some value) (sym (equal_words-true other tag same)) (with_history-same given.histories tag value before e))

@@ -1,5 +1,5 @@
 -- What a lexer keeps of the values that were given: for each tag the last one, the count of groups, and the ends of groups.
-use Rattle.std.specs.Prelude.{ℕ, ◌+◌, ◌/◌, ◌%◌, Bool, true, false, List, [], ◌∷◌, ◌++◌, map, replicate, Option, Some, None, is_some, ◌==◌, if◌then◌else◌, slice_index_or, slice_set}
+use Rattle.std.specs.Prelude.{ℕ, ◌/◌, ◌%◌, Bool, true, false, List, [], ◌∷◌, ◌++◌, replicate, Option, Some, None, is_some, ◌==◌, if◌then◌else◌, slice_index_or, slice_set}
 use Rattle.lx_ccode.specs.declared.piece.Stmt.{Stmt}
 use Rattle.lx_ccode.specs.declared.piece.Stmt.TheVariants.{Tag}
 use Rattle.lx_ccode.specs.Machine.{Value, tag_offset, tag_history, group_count, group_end, condition}

@@ -713,7 +713,11 @@ fn a_long_stream(rt: HostRuntime) -> Result<(), Fail> {
     let begin = Instant::now(&rt)?;
     let matches = count_matches(&mut lexer, &stream);
     let elapsed = begin.elapsed(&rt)?;
-    println!(rt; "stepping: {} statements in {} us", 39 * COPIES, elapsed.as_micros())?;
+    println!(rt;
+        "stepping: {} statements in {} us",
+        39 * COPIES,
+        elapsed.as_micros()
+    )?;
     assert_eq!(rt; matches, 4 * COPIES);
     Ok(())
 }

@@ -121,4 +121,5 @@ fn a_valid_piece_is_loaded(rt: HostRuntime) -> Result<(), Fail> {
 }
 
 /// Before any match, after two units that match, after two that do not, and after too few.
-const WANTED: &str = "Spent 0-0; Rule { number: 1 } 0-2 (Some(0),Some(1)) @1.3; NoRule 0-0 (Some(0),Some(1)); End 0-0 (Some(0),Some(1)); ";
+const WANTED: &str =
+    "Spent 0-0; Rule { number: 1 } 0-2 (Some(0),Some(1)) @1.3; NoRule 0-0 (Some(0),Some(1)); End 0-0 (Some(0),Some(1)); ";
