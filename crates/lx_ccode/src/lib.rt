@@ -10,4 +10,4 @@ mod sections;
 mod spellings;
 
 pub use piece::{CodeBlock, CondCase, LineMark, Piece, StateCase, Stmt};
-pub use printing::{print, statements};
+pub use printing::{print, print_with_room, statements};

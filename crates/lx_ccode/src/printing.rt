@@ -17,6 +17,14 @@ pub fn print(alloc: Global, piece: &Piece) -> Result<ByteText, Memory>
     requires { IsValid piece.now }
     ensures { IfOk result (λ text. text ≡ piece_text piece.now) }
 {
+    print_with_room(alloc, piece, 0)
+}
+
+/// The same text, for which so many bytes of memory are taken at once. Where it has no more, it is never moved.
+pub fn print_with_room(alloc: Global, piece: &Piece, room: usize) -> Result<ByteText, Memory>
+    requires { IsValid piece.now }
+    ensures { IfOk result (λ text. text ≡ piece_text piece.now) }
+{
     let scope = Scope {
         alloc,
         number: piece.number,
@@ -24,7 +32,7 @@ pub fn print(alloc: Global, piece: &Piece) -> Result<ByteText, Memory>
         ctx: piece.ctx,
     };
     let conds = piece.conds.as_slice();
-    let mut text = Vec::new(alloc);
+    let mut text = Vec::with_capacity(alloc, room)?;
     append_head(alloc, &mut text, piece.number, piece.unit)?;
     append_eof(alloc, &mut text, piece.eof)?;
     append_names(alloc, &mut text, piece.names.as_slice())?;

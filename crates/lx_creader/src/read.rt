@@ -8,7 +8,7 @@ use crate::validity::is_valid;
 use crate::words::skip;
 use lx_base::Memory;
 use lx_ccode::laws::reading_finds_the_piece;
-use lx_ccode::{Piece, print};
+use lx_ccode::{Piece, print_with_room};
 use std::alloc::Global;
 use thiserror::Error;
 
@@ -70,7 +70,7 @@ fn is_emitted(alloc: Global, piece: &Piece, bytes: &[u8]) -> Result<bool, Memory
 {
     let valid = is_valid(alloc, piece)?;
     if valid {
-        let text = print(alloc, piece)?;
+        let text = print_with_room(alloc, piece, bytes.len())?;
         Ok(begins_with(bytes, text.as_slice()))
     } else {
         Ok(false)

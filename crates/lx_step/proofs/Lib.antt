@@ -1,3 +1,5 @@
+pub mod Following
+pub mod LastGiven
 pub mod Lists
 pub mod Nodes
 pub mod Places

@@ -1,6 +1,5 @@
 -- Facts about lists.
-use Rattle.std.proofs.Common.{◌≡◌, ◌∙◌, sym, ap, refl, ℕ, zero, suc, ◌+◌, ◌<◌, List, [], ◌∷◌, ◌++◌, length, take, drop, get_or, set, arith, Option, Some, None, slice_get}
-use Rattle.std.proofs.Math.Seq.{drop-cons}
+use Rattle.std.proofs.Common.{◌≡◌, ap, refl, ℕ, zero, suc, ◌<◌, List, [], ◌∷◌, ◌++◌, length, take, drop, set, arith, Some, None, slice_get}
 
 -- an element put in the place of another
 pub set-parts : {A : Type 0} (items : List A) (place : ℕ) (item : A) → place < length items → set items place item ≡ take place items ++ item ∷ drop (suc place) items

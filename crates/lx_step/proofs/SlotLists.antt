@@ -1,5 +1,5 @@
 -- Words that are compared, and slots of tags.
-use Rattle.std.proofs.Common.{◌≡◌, ◌≢◌, ◌∙◌, ap, refl, sym, subst, ℕ, suc, ◌<◌, Bool, true, false, List, ◌∷◌, ◌++◌, Option, length, take, drop, get_or, set, [], ◌+◌, arith, Some, None, is_some, ◌||◌, if◌then◌else◌}
+use Rattle.std.proofs.Common.{◌≡◌, ◌≢◌, ◌∙◌, ap, refl, sym, subst, ℕ, suc, ◌<◌, Bool, true, false, List, ◌∷◌, ◌++◌, Option, length, take, drop, get_or, set, [], ◌+◌, arith, None, is_some, ◌||◌, if◌then◌else◌}
 use Rattle.std.specs.List.{list_any}
 use Rattle.lx_ccode.specs.declared.piece.Stmt.{Stmt}
 use Rattle.lx_ccode.specs.declared.piece.Stmt.TheVariants.{Tag}

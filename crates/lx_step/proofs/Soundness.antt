@@ -1,5 +1,5 @@
 -- What holds of lexers, at first and after each match.
-use Rattle.std.proofs.Common.{◌≡◌, ◌∙◌, sym, ap, subst, refl, ℕ, ◌≤◌, ◌^◌, ◌⊎◌, Bool, true, false, List, [], length, replicate, is_some, Result, Ok, Err, IfOk, OnErr, arith}
+use Rattle.std.proofs.Common.{◌≡◌, ◌∙◌, ap, subst, refl, ℕ, ◌≤◌, ◌^◌, ◌⊎◌, Bool, true, List, [], length, is_some, Result, Ok, Err, IfOk, OnErr, arith}
 use Rattle.std.proofs.lemmas.List.{length-replicate}
 use Rattle.std.specs.List.{list_any}
 use Rattle.lx_base.specs.declared.lists.Memory.{Memory}
@@ -16,7 +16,7 @@ use Rattle.lx_step.specs.Assigned.{assigned_of}
 use Rattle.lx_step.specs.Given.{Given, after_values, nothing_given, offset_in, history_in}
 use Rattle.lx_step.specs.Held.{Held, IsMatch, after_match, Tells, is_last, is_on_histories}
 use Rattle.lx_step.specs.Matches.{HasEnded, IsAfterValues}
-use Rattle.lx_step.specs.Places.{AreRoomy, places_from}
+use Rattle.lx_step.specs.Places.{AreRoomy}
 use Rattle.lx_step.specs.Sizes.{sizes_of_all}
 use Rattle.lx_step.specs.Sound.{IsSound, told}
 use Rattle.lx_step.specs.Steps.{HasRoom}

@@ -1,5 +1,5 @@
 -- The units of streams.
-use Rattle.std.proofs.Common.{◌≡◌, ◌∙◌, sym, ap, refl, ℕ, zero, suc, ◌+◌, ◌*◌, ◌/◌, ◌<◌, List, [], ◌∷◌, length, take, drop, get_or, arith, Some, slice_get, drop-drop}
+use Rattle.std.proofs.Common.{◌≡◌, ◌∙◌, ap, refl, ℕ, zero, suc, ◌+◌, ◌*◌, ◌/◌, ◌<◌, List, ◌∷◌, length, take, drop, get_or, arith, Some, slice_get, drop-drop}
 use Rattle.std.proofs.Math.Seq.{drop-cons}
 use Rattle.lx_step.specs.Streams.{number_of, units_from, stream_units}
 

@@ -1,6 +1,6 @@
 -- Registers and histories as functions of their numbers.
 use mathlib.Core.Path.{fun_ext}
-use Rattle.std.proofs.Common.{◌≡◌, ◌∙◌, sym, ap, refl, ℕ, zero, suc, ◌<◌, ◌==◌, Bool, true, false, List, [], ◌∷◌, length, set, get_or, replicate, arith, get_or-set_other, eqb-true, eq-eqb, Option, None, if◌then◌else◌, Result, Ok, Err, IfOk}
+use Rattle.std.proofs.Common.{◌≡◌, ◌∙◌, sym, ap, refl, ℕ, zero, suc, ◌<◌, ◌==◌, Bool, true, false, List, [], length, set, get_or, replicate, get_or-set_other, eqb-true, eq-eqb, Option, None, if◌then◌else◌, Result, Ok, Err, IfOk}
 use Rattle.std.proofs.lemmas.Bool.{false≢true}
 use Rattle.std.proofs.lemmas.Grind.{get_or-set_at}
 use Rattle.lx_ccode.specs.declared.piece.Stmt.{Stmt}
@@ -12,7 +12,7 @@ use Rattle.lx_step.specs.declared.scanner.Going.{Going}
 use Rattle.lx_step.specs.declared.scanner.Going.TheVariants.{Next}
 use Rattle.lx_step.specs.Assigned.{target}
 use Rattle.lx_step.specs.WholeRuns.{whole_step}
-use Rattle.lx_step.specs.Steps.{register_in, history_of, machine_of, IsStep, SetsRegister, values_after}
+use Rattle.lx_step.specs.Steps.{register_in, machine_of, IsStep, SetsRegister, values_after}
 
 -- a table with another entry is the function with another value there
 pub updated-set : {A : Type 0} (items : List A) (place : ℕ) (item none : A) → place < length items

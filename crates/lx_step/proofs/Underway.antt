@@ -1,5 +1,5 @@
 -- A match that is under way, and how it goes on and ends.
-use Rattle.std.proofs.Common.{◌≡◌, ◌∙◌, sym, ap, subst, refl, ℕ, zero, suc, ◌+◌, ◌*◌, ◌-◌, ◌<◌, ◌≤◌, true, false, List, [], ◌∷◌, ◌++◌, length, drop, Option, Some, None, Ok, Err, Result, OnErr, slice_get, arith}
+use Rattle.std.proofs.Common.{◌≡◌, ◌∙◌, sym, ap, subst, refl, ℕ, suc, ◌+◌, ◌*◌, ◌-◌, ◌<◌, ◌≤◌, true, false, List, [], ◌∷◌, ◌++◌, length, drop, Option, Some, None, Ok, Err, Result, OnErr, slice_get, arith}
 use Rattle.lx_ccode.specs.declared.piece.Stmt.{Stmt}
 use Rattle.lx_ccode.specs.declared.piece.Stmt.TheVariants.{Tag, Count, End, Cond}
 use Rattle.lx_ccode.specs.declared.piece.Piece.{Piece}
@@ -18,7 +18,7 @@ use Rattle.lx_step.specs.Given.{Given, after_value, after_values}
 use Rattle.lx_step.specs.Held.{Tells}
 use Rattle.lx_step.specs.Matches.{whole_from, whole_on, code_of, StartsIn, IsUnderway, GoesTo, HasEnded}
 use Rattle.lx_step.specs.Places.{StandsAt, place_of}
-use Rattle.lx_step.specs.Steps.{machine_of, outcome_of, next_of, values_after, given_after, IsTold, Leads, IsStep}
+use Rattle.lx_step.specs.Steps.{machine_of, outcome_of, values_after, given_after, IsTold, IsStep}
 use Rattle.lx_step.specs.WholeRuns.{whole_run, whole_step}
 use Rattle.lx_step.proofs.Lists.{drop-slice_get, drop-slice_get_none}
 use Rattle.lx_step.proofs.WholeRuns.{whole_run-none, whole_run-some}

@@ -1,11 +1,11 @@
 -- Runs in which every refill brings nothing.
-use Rattle.std.proofs.Common.{◌≡◌, ◌∙◌, sym, ap, refl, ℕ, zero, suc, ◌+◌, ◌≤◌, ◌⊎◌, inl, inr, Bool, true, false, nat_le, nat_lt, ◌==◌, if◌then◌else◌, List, [], ◌∷◌, ◌++◌, length, Option, Some, None, arith, leb-true}
+use Rattle.std.proofs.Common.{◌≡◌, ap, refl, ℕ, zero, suc, ◌+◌, ◌≤◌, Bool, true, false, nat_le, nat_lt, ◌==◌, if◌then◌else◌, List, [], ◌∷◌, ◌++◌, length, Option, Some, None, arith, leb-true}
 use Rattle.lx_ccode.specs.declared.piece.Stmt.{Stmt}
 use Rattle.lx_ccode.specs.declared.piece.Stmt.TheVariants.{Peek, Skip, Backup, Restore, Accept, Set, Unset, Copy, MSet, MUnset, MCopy, IfUnit, IfAccept, IfEnd, State, Need, Try, Cond, Tag, Count, End, Back, Goto, Leave, Code, Jump}
 use Rattle.lx_ccode.specs.declared.piece.Piece.{Piece}
 use Rattle.lx_ccode.specs.Machine.{Machine, Answer, refilled, no_more, Next, goes_on, ends, stuck, looped, at_end, left, more, code_at, step, jump, choose, peek, skip, if_unit, write_history, back, need, try, has_units, units_of_answers, unit_at}
 use Rattle.lx_ccode.specs.Machine as machine
-use Rattle.lx_ccode.specs.Runs.{Ended, ended, loop_count, entry_block, fresh_machine, run, run_of, gone_on}
+use Rattle.lx_ccode.specs.Runs.{ended, loop_count, entry_block, fresh_machine, run, run_of, gone_on}
 use Rattle.lx_step.specs.Matches.{whole_from, whole_on}
 use Rattle.lx_step.specs.WholeRuns.{no_mores, whole_run, whole_step, without_answers}
 

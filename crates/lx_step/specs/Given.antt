@@ -1,5 +1,5 @@
 -- What a lexer keeps of the values that were given: for each tag the last one, the count of groups, and the ends of groups.
-use Rattle.std.specs.Prelude.{ℕ, ◌+◌, ◌/◌, ◌%◌, Bool, true, false, List, [], ◌∷◌, ◌++◌, map, replicate, Option, Some, None, is_some, ◌==◌, if◌then◌else◌, slice_index_or, slice_set}
+use Rattle.std.specs.Prelude.{ℕ, ◌/◌, ◌%◌, Bool, true, false, List, [], ◌∷◌, ◌++◌, replicate, Option, Some, None, is_some, ◌==◌, if◌then◌else◌, slice_index_or, slice_set}
 use Rattle.lx_ccode.specs.declared.piece.Stmt.{Stmt}
 use Rattle.lx_ccode.specs.declared.piece.Stmt.TheVariants.{Tag}
 use Rattle.lx_ccode.specs.Machine.{Value, tag_offset, tag_history, group_count, group_end, condition}
@@ -63,6 +63,18 @@ offset_in (slot ∷ slots) tag = if equal_words slot.name tag then Some slot.val
 abbrev pub history_in : List HistorySlot → (tag : List ℕ) → Option (List (Option ℕ))
 history_in [] tag = None
 history_in (slot ∷ slots) tag = if equal_words slot.name tag then Some slot.value else history_in slots tag
+
+-- the offsets that a tag is given among values, in order
+abbrev pub offsets_given : (tag : List ℕ) → List Value → List (Option ℕ)
+offsets_given tag [] = []
+offsets_given tag (tag_offset other offset ∷ values) = if equal_words other tag then offset ∷ offsets_given tag values else offsets_given tag values
+offsets_given tag (_ ∷ values) = offsets_given tag values
+
+-- the histories that it is given
+abbrev pub histories_given : (tag : List ℕ) → List Value → List (List (Option ℕ))
+histories_given tag [] = []
+histories_given tag (tag_history other history ∷ values) = if equal_words other tag then history ∷ histories_given tag values else histories_given tag values
+histories_given tag (_ ∷ values) = histories_given tag values
 
 -- ---- before any value was given
 

@@ -1,5 +1,5 @@
 -- How many registers, histories and groups the statements of a piece name.
-use Rattle.std.specs.Prelude.{ℕ, ◌+◌, ◌/◌, ◌≤◌, max, true, false, List, [], ◌∷◌}
+use Rattle.std.specs.Prelude.{◌+◌, ◌/◌, ◌≤◌, max, true, false, List, [], ◌∷◌}
 use Rattle.lx_ccode.specs.declared.piece.Stmt.{Stmt}
 use Rattle.lx_ccode.specs.declared.piece.Stmt.TheVariants.{Set, Unset, Copy, MSet, MUnset, MCopy, Tag, Count, End, Back}
 use Rattle.lx_step.specs.declared.sizes.Sizes.{Sizes}

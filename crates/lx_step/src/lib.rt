@@ -4,6 +4,7 @@
 mod answers;
 mod giving;
 mod histories;
+pub mod laws;
 mod lexer;
 mod matches;
 mod scanner;

@@ -3,6 +3,8 @@
 ghost use Rattle.std.specs.Prelude.{◌≡◌, ◌≤◌, ◌^◌, ◌⊎◌, IfOk, IfSome};
 ghost use Rattle.lx_ccode.specs.Statements.{statement_count};
 
+mod checked;
+
 use crate::answers::{Group, Outcome, StmtAt};
 use crate::lexer::Lexer;
 use lx_base::{ByteText, Memory, Names, Sequence};
@@ -10,6 +12,7 @@ use lx_ccode::{CodeBlock, CondCase, Piece, Stmt};
 use std::alloc::Global;
 use std::process::Abort;
 use std::test::Fail;
+use std::time::Instant;
 
 /// A piece with or without conditions, a start and a number of matches, and what they tell.
 type Row = (
@@ -651,5 +654,70 @@ fn units_of_two_and_of_four_bytes(rt: HostRuntime) -> Result<(), Fail> {
     ];
     let four = told(alloc, 4, None, false, blocks, b"\x01\x02\x03\x10", 0, 1)?;
     assert_eq!(rt; four.as_str(), "Rule { number: 2 } 0-0; ");
+    Ok(())
+}
+
+/// An `a`, some `b`s, or a blank.
+const THREE_RULES: [&[Line]; 6] = [
+    &[
+        ("Peek", 0, 0),
+        ("IfUnit", 31, 4),
+        ("IfUnit", 32, 1),
+        ("IfUnit", 96, 4),
+        ("IfUnit", 97, 2),
+        ("IfUnit", 98, 3),
+        ("Goto", 4, 0),
+    ],
+    &[("Skip", 0, 0), ("Code", 1, 0)],
+    &[("Skip", 0, 0), ("Code", 2, 0)],
+    &[
+        ("Skip", 0, 0),
+        ("Peek", 0, 0),
+        ("IfUnit", 97, 5),
+        ("IfUnit", 98, 3),
+        ("Goto", 5, 0),
+    ],
+    &[("Leave", 0, 0)],
+    &[("Code", 3, 0)],
+];
+
+/// How often the measured stream repeats seven units; `bench/stepping.sh` takes more.
+const COPIES: usize = 600_000;
+
+/// How many matches a stream of bytes has before its end.
+fn count_matches(lexer: &mut Lexer<'_>, stream: &[u8]) -> usize
+    requires { lexer.old.piece.unit ≡ 1 }
+{
+    let mut matches = 0;
+    let mut start = 0;
+    while start < stream.len() as u64 && matches < stream.len() {
+        let _ = lexer.advance_whole(stream, start);
+        start = lexer.cursor();
+        matches += 1;
+    }
+    matches
+}
+
+/// Measures 39 statements for each seven units of a stream; `bench/stepping.sh` reads the figures.
+#[test]
+fn a_long_stream(rt: HostRuntime) -> Result<(), Fail> {
+    let alloc = rt.alloc();
+    let mut stream = Vec::with_capacity(alloc, 7 * COPIES)?;
+    for _ in 0..COPIES {
+        stream.extend_from_slice(b"a bbbb ")?;
+    }
+    let piece = piece(alloc, 1, Some(0), false, &THREE_RULES)?;
+    let count = few_statements(piece.blocks.as_slice()).ok_or("too long")?;
+    let mut lexer = Lexer::of(alloc, &piece, count)?;
+
+    let begin = Instant::now(&rt)?;
+    let matches = count_matches(&mut lexer, &stream);
+    let elapsed = begin.elapsed(&rt)?;
+    println!(rt;
+        "stepping: {} statements in {} us",
+        39 * COPIES,
+        elapsed.as_micros()
+    )?;
+    assert_eq!(rt; matches, 4 * COPIES);
     Ok(())
 }

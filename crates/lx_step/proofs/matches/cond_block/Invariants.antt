@@ -1,4 +1,4 @@
-use Rattle.std.proofs.Common.{◌≡◌, ◌++◌, [], drop, take}
+use Rattle.std.proofs.Common.{◌≡◌, drop}
 use Rattle.lx_ccode.specs.Runs.{cond_block}
 use Rattle.lx_step.proofs.matches.cond_block.Given as goal
 

@@ -1,4 +1,4 @@
-use Rattle.std.proofs.Common.{◌≡◌, ◌∙◌, sym, ap, arith, rules, false, length}
+use Rattle.std.proofs.Common.{◌≡◌, ◌∙◌, sym, ap, rules, false}
 use Rattle.std.specs.List.{list_any}
 use Rattle.lx_step.specs.Assigned.{same_place}
 use Rattle.lx_step.specs.Places.{place_of}

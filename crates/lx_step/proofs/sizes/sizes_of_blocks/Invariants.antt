@@ -1,4 +1,4 @@
-use Rattle.std.proofs.Common.{◌≡◌, ◌++◌, [], drop, take}
+use Rattle.std.proofs.Common.{◌≡◌, drop}
 use Rattle.lx_step.specs.Sizes.{greater_sizes, sizes_of_all}
 use Rattle.lx_ccode.specs.Statements.{all_statements}
 use Rattle.lx_step.proofs.sizes.sizes_of_blocks.Given as goal

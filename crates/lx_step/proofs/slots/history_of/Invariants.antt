@@ -1,6 +1,5 @@
-use Rattle.std.proofs.Common.{◌≡◌, ◌++◌, [], drop, take}
-use Rattle.lx_step.specs.Given.{offset_in, history_in, with_offset, with_history, offset_slots, history_slots}
-use Rattle.lx_ccode.specs.Statements.{all_statements}
+use Rattle.std.proofs.Common.{◌≡◌, drop}
+use Rattle.lx_step.specs.Given.{history_in}
 use Rattle.lx_step.proofs.slots.history_of.Given as goal
 
 abbrev pub invariant-loop-slot : goal.invariant-loop-slot

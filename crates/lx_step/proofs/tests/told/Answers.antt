@@ -1,4 +1,4 @@
-use Rattle.std.proofs.Common.{◌≡◌, ◌/◌, arith, length, rules}
+use Rattle.std.proofs.Common.{◌≡◌, ◌/◌, length, rules}
 use Rattle.lx_step.specs.Streams.{stream_units}
 use Rattle.lx_step.proofs.Streams.{length-stream_units}
 use Rattle.lx_step.proofs.tests.told.Goals as goal

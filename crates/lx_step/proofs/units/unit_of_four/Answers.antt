@@ -1,4 +1,4 @@
-use Rattle.std.proofs.Common.{◌∙◌, sym, ap, Some, arith, rules, ◌*◌, ◌+◌, ◌<◌, length}
+use Rattle.std.proofs.Common.{◌∙◌, ap, Some, arith, rules, ◌*◌, ◌+◌, ◌<◌, length}
 use Rattle.lx_step.proofs.Streams.{within_four, read_four}
 use Rattle.lx_step.proofs.units.unit_of_four.Goals as goal
 

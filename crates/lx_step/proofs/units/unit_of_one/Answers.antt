@@ -1,4 +1,4 @@
-use Rattle.std.proofs.Common.{◌∙◌, sym, ap, Some, arith}
+use Rattle.std.proofs.Common.{◌∙◌, sym, ap, Some}
 use Rattle.lx_step.proofs.Streams.{within_one, read_one}
 use Rattle.lx_step.proofs.units.unit_of_one.Goals as goal
 

@@ -1,4 +1,4 @@
-use Rattle.std.proofs.Common.{◌∙◌, sym, ap, Some, arith, rules, ◌*◌, ◌+◌, ◌<◌, length}
+use Rattle.std.proofs.Common.{◌∙◌, sym, ap, Some, rules, ◌*◌, ◌+◌, ◌<◌, length}
 use Rattle.lx_step.proofs.Streams.{within_two, read_two}
 use Rattle.lx_step.proofs.units.unit_of_two.Goals as goal
 

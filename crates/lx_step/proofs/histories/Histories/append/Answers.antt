@@ -1,4 +1,4 @@
-use Rattle.std.proofs.Common.{◌∙◌, sym, arith, rules, length, ◌≡◌, ◌<◌}
+use Rattle.std.proofs.Common.{◌∙◌, arith, rules, length, ◌≡◌}
 use Rattle.lx_step.specs.Nodes.{contents}
 use Rattle.lx_step.proofs.Nodes.{view-append, AreBelow-append, length-view}
 use Rattle.lx_step.proofs.histories.Histories.append.Goals as goal

@@ -1,5 +1,5 @@
-use Rattle.std.proofs.Common.{◌∙◌, sym, ap, arith, length, map, replicate, rules, ◌≡◌, ◌<◌, refl, [], Some, None}
-use Rattle.lx_step.specs.Nodes.{contents, content_at}
+use Rattle.std.proofs.Common.{◌∙◌, ap, length, replicate, rules, ◌≡◌, []}
+use Rattle.lx_step.specs.Nodes.{contents}
 use Rattle.lx_step.proofs.Nodes.{map-empty, length-view}
 use Rattle.lx_step.proofs.histories.Histories.clear.Goals as goal
 

@@ -1,4 +1,4 @@
-use Rattle.std.proofs.Common.{◌∙◌, sym, ap, arith, length, set, map, ◌≡◌, ◌<◌}
+use Rattle.std.proofs.Common.{◌∙◌, sym, ap, arith, length, set, map, ◌≡◌}
 use Rattle.std.proofs.lemmas.List.{map-set}
 use Rattle.lx_step.specs.Nodes.{contents, content_at}
 use Rattle.lx_step.proofs.Nodes.{get_or-map-content_at, length-view}

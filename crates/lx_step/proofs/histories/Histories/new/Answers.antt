@@ -1,6 +1,5 @@
-use Rattle.std.proofs.Common.{◌∙◌, sym, ap, arith, length, rules, ◌≡◌, ◌<◌}
-use Rattle.lx_step.specs.Nodes.{contents, content_at}
-use Rattle.lx_step.proofs.Nodes.{map-empty, length-view}
+use Rattle.std.proofs.Common.{rules}
+use Rattle.lx_step.proofs.Nodes.{map-empty}
 use Rattle.lx_step.proofs.histories.Histories.new.Goals as goal
 
 pub returns : goal.returns

@@ -1,4 +1,4 @@
-use Rattle.std.proofs.Common.{◌∙◌, ap, sym}
+use Rattle.std.proofs.Common.{ap}
 use Rattle.lx_ccode.specs.Machine.{Machine}
 use Rattle.lx_step.proofs.Soundness.{IsSound-kept, IsMatch-run, held_of}
 use Rattle.lx_step.proofs.lexer.Lexer.advance_whole.Goals as goal

@@ -1,9 +1,6 @@
-use Rattle.std.proofs.Common.{◌≡◌, ◌∙◌, sym, ap, refl, [], None, Some, length, slice_get}
-use Rattle.lx_ccode.specs.Statements.{all_statements}
+use Rattle.std.proofs.Common.{◌∙◌, sym, ap, refl}
 use Rattle.lx_ccode.specs.Machine.{Machine}
 use Rattle.lx_step.specs.Held.{is_on_histories}
-use Rattle.lx_step.specs.Places.{StandsAt}
-use Rattle.lx_step.specs.Sizes.{sizes_of_all}
 use Rattle.lx_step.specs.WholeRuns.{whole_run}
 use Rattle.lx_step.proofs.Places.{HasRoom-kept, HasRoom-statement, StaysIn-none, any-stands}
 use Rattle.lx_step.proofs.Underway.{begins_with, ends_at_once, ends_by_step, ends_in_loop, ends_without_code, goes_further, none_more, one_more, OnErr-always}

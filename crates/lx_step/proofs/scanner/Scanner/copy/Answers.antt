@@ -2,8 +2,8 @@ use Rattle.std.proofs.lemmas.List.{get_or_default}
 use Rattle.lx_ccode.specs.Machine.{goes_on, updated}
 use Rattle.lx_step.specs.Steps.{machine_of, register_in}
 use Rattle.std.proofs.Common.{◌∙◌, sym, ap, []}
-use Rattle.std.proofs.Common.{refl, Some, None}
-use Rattle.lx_ccode.specs.declared.piece.Stmt.TheVariants.{Set, Unset, Copy}
+use Rattle.std.proofs.Common.{refl, None}
+use Rattle.lx_ccode.specs.declared.piece.Stmt.TheVariants.{Copy}
 use Rattle.lx_step.proofs.Tables.{IsStep-register}
 use Rattle.lx_step.proofs.scanner.Scanner.copy.Goals as goal
 

@@ -1,5 +1,5 @@
-use Rattle.std.proofs.Common.{refl, Some, None}
-use Rattle.lx_ccode.specs.declared.piece.Stmt.TheVariants.{Set, Unset, Copy}
+use Rattle.std.proofs.Common.{refl, Some}
+use Rattle.lx_ccode.specs.declared.piece.Stmt.TheVariants.{Set}
 use Rattle.lx_step.proofs.Tables.{IsStep-register}
 use Rattle.lx_step.proofs.scanner.Scanner.set.Goals as goal
 

@@ -1,5 +1,5 @@
-use Rattle.std.proofs.Common.{refl, Some, None}
-use Rattle.lx_ccode.specs.declared.piece.Stmt.TheVariants.{Set, Unset, Copy}
+use Rattle.std.proofs.Common.{refl, None}
+use Rattle.lx_ccode.specs.declared.piece.Stmt.TheVariants.{Unset}
 use Rattle.lx_step.proofs.Tables.{IsStep-register}
 use Rattle.lx_step.proofs.scanner.Scanner.unset.Goals as goal
 

@@ -1,4 +1,4 @@
-use Rattle.std.proofs.Common.{◌∙◌, sym, arith}
+use Rattle.std.proofs.Common.{arith}
 use Rattle.lx_step.proofs.Streams.{length-stream_units}
 use Rattle.lx_step.proofs.units.WholeStream.len.Goals as goal
 

@@ -1,13 +1,13 @@
 use Rattle.std.proofs.Common.{List, ℕ, ◌++◌, [], ◌∙◌, ap}
 use Rattle.lx_ccode.specs.Text.{blocks_then, cond_switch_then, names_then, state_switch_then}
 use Rattle.lx_ccode.proofs.Tails.{piece_written}
-use Rattle.lx_ccode.proofs.printing.print.Goals as goal
+use Rattle.lx_ccode.proofs.printing.print_with_room.Goals as goal
 
 pub returns : goal.returns
 returns c =
     let number : ℕ = c.args.piece.now.number in
     let names : List (List ℕ) = c.args.piece.now.names in
-    c.from_vec.ensures ∙ piece_written c.args.piece.now _ _ _ _ _ _ _ _ _ _ _ _ c.new-text.ensures.items
+    c.from_vec.ensures ∙ piece_written c.args.piece.now _ _ _ _ _ _ _ _ _ _ _ _ c.in_ok-text.ensures.items
     c.in_ok-append_head.ensures c.in_ok-append_eof.ensures
     (c.in_ok-append_names.ensures ∙ ap (λ (words : List (List ℕ)). c.append_eof.new.text.items ++ names_then words []) c.as_slice.ensures)
     c.in_ok-append_parts.ensures c.in_ok-append_declarations.ensures
