@@ -27,11 +27,20 @@ const NONE: Failing = Failing {
     err: None,
 };
 
-/// A run of a command line over these files.
-fn run(alloc: Global, line: &str, held: &[(&str, &[u8])], failing: Failing) -> Result<Left, Fail> {
+/// A run of a command line over two files, of which the second one is none where it has no name.
+fn run(
+    alloc: Global,
+    line: &str,
+    name: &str,
+    bytes: &[u8],
+    other: &str,
+    other_bytes: &[u8],
+    failing: Failing,
+) -> Result<Left, Fail> {
     let mut files = MemFiles::new(alloc);
-    for (name, bytes) in held {
-        files.add(name, bytes)?;
+    files.add(name, bytes)?;
+    if !other.is_empty() {
+        files.add(other, other_bytes)?;
     }
     if let Some(call) = failing.files {
         files.fail_call(call)?;
@@ -65,7 +74,15 @@ fn a_source_without_a_block_gives_itself(rt: HostRuntime) -> Result<(), Fail> {
         "no line end",
         "/* ! not an opener */ /!* */",
     ] {
-        let left = run(rt.alloc(), "-i a.c", &[("a.c", source.as_bytes())], NONE)?;
+        let left = run(
+            rt.alloc(),
+            "-i a.c",
+            "a.c",
+            source.as_bytes(),
+            "",
+            b"",
+            NONE,
+        )?;
         assert_eq!(rt; left.status, 0, "{source}");
         assert_eq!(rt; left.out.bytes(), source.as_bytes());
         assert_eq!(rt; left.err.bytes(), b"".as_slice());
@@ -90,7 +107,15 @@ fn words_and_files_are_refused_by_name(rt: HostRuntime) -> Result<(), Fail> {
         ("--x-run b.re q.c", "q.c:1:1: error: no such file\n"),
         ("--x-run b.re b.re", "b.re:1:1: error: not emitted text\n"),
     ] {
-        let left = run(rt.alloc(), line, &[("b.re", b"int x; /*!re2c */\n")], NONE)?;
+        let left = run(
+            rt.alloc(),
+            line,
+            "b.re",
+            b"int x; /*!re2c */\n",
+            "",
+            b"",
+            NONE,
+        )?;
         assert_eq!(rt; left.status, 1, "{message}");
         assert_eq!(rt; left.out.bytes(), b"".as_slice());
         assert_eq!(rt; left.err.bytes(), message.as_bytes());
@@ -102,7 +127,15 @@ fn words_and_files_are_refused_by_name(rt: HostRuntime) -> Result<(), Fail> {
 fn a_source_may_have_4000_bytes(rt: HostRuntime) -> Result<(), Fail> {
     let source = [b' '; 4001];
     for (length, status) in [(4000, 0), (4001, 1)] {
-        let left = run(rt.alloc(), "-i a.c", &[("a.c", &source[..length])], NONE)?;
+        let left = run(
+            rt.alloc(),
+            "-i a.c",
+            "a.c",
+            &source[..length],
+            "",
+            b"",
+            NONE,
+        )?;
         assert_eq!(rt; left.status, status, "{length} bytes");
     }
     Ok(())
@@ -122,7 +155,7 @@ fn faults_of_files_and_sinks_have_their_status(rt: HostRuntime) -> Result<(), Fa
         ("-i a.c", Some(1), Some(1), Some(0), 0, "int x;\n", ""),
     ] {
         let failing = Failing { files, out, err };
-        let left = run(rt.alloc(), line, &[("a.c", b"int x;\n")], failing)?;
+        let left = run(rt.alloc(), line, "a.c", b"int x;\n", "", b"", failing)?;
         assert_eq!(rt; left.status, status, "{line}");
         assert_eq!(rt; left.out.bytes(), given.as_bytes());
         assert_eq!(rt; left.err.bytes(), told.as_bytes());
@@ -171,7 +204,15 @@ fn a_block_of_quoted_strings_gives_its_scanner(rt: HostRuntime) -> Result<(), Fa
         (EQUAL_STRINGS, "{2}", 0),
         (EQUAL_STRINGS, "{3}", 1),
     ] {
-        let left = run(rt.alloc(), "-i q.re", &[("q.re", source.as_bytes())], NONE)?;
+        let left = run(
+            rt.alloc(),
+            "-i q.re",
+            "q.re",
+            source.as_bytes(),
+            "",
+            b"",
+            NONE,
+        )?;
         assert_eq!(rt; left.status, 0, "{source}");
         assert_eq!(rt; left.err.bytes(), b"".as_slice());
         assert_eq!(rt; count(left.out.bytes(), text.as_bytes()), times, "{text}");
@@ -181,11 +222,25 @@ fn a_block_of_quoted_strings_gives_its_scanner(rt: HostRuntime) -> Result<(), Fa
 
 /// The scanner of a source, compiled to a file, and then its run over an input.
 fn compile_and_run(alloc: Global, source: &str, input: &[u8]) -> Result<Left, Fail> {
-    let held = [("q.re", source.as_bytes())];
-    let mut compiled = run(alloc, "-i -o q.c q.re", &held, NONE)?;
+    let mut compiled = run(
+        alloc,
+        "-i -o q.c q.re",
+        "q.re",
+        source.as_bytes(),
+        "",
+        b"",
+        NONE,
+    )?;
     let emitted = compiled.files.read(alloc, "q.c")?;
-    let held = [("q.c", emitted.as_slice()), ("in.txt", input)];
-    run(alloc, "--x-run in.txt q.c", &held, NONE)
+    run(
+        alloc,
+        "--x-run in.txt q.c",
+        "q.c",
+        &emitted,
+        "in.txt",
+        input,
+        NONE,
+    )
 }
 
 const TWO_EQUAL: &str = "/*!re2c\nre2c:yyfill:enable = 0;\n\"a\" { }\n\"a\" { }\n* { }\n*/\n";
@@ -250,8 +305,15 @@ fn emitted_scanners_are_run(rt: HostRuntime) -> Result<(), Fail> {
         (CHECKED, b"0\0".as_slice(), "none 0 0\n"),
         (CHECKED, b"".as_slice(), "end 0 0\n"),
     ] {
-        let held = [("q.c", emitted.as_bytes()), ("in.txt", input)];
-        let left = run(rt.alloc(), "--x-run in.txt q.c", &held, NONE)?;
+        let left = run(
+            rt.alloc(),
+            "--x-run in.txt q.c",
+            "q.c",
+            emitted.as_bytes(),
+            "in.txt",
+            input,
+            NONE,
+        )?;
         assert_eq!(rt; left.status, 0, "{lines}");
         assert_eq!(rt; left.out.bytes(), lines.as_bytes());
     }
@@ -286,8 +348,15 @@ fn runs_are_refused_by_name(rt: HostRuntime) -> Result<(), Fail> {
             "in.txt:1:1: error: input is no whole number of units\n",
         ),
     ] {
-        let held = [("q.c", emitted.as_bytes()), ("in.txt", b"odd".as_slice())];
-        let left = run(rt.alloc(), line, &held, NONE)?;
+        let left = run(
+            rt.alloc(),
+            line,
+            "q.c",
+            emitted.as_bytes(),
+            "in.txt",
+            b"odd",
+            NONE,
+        )?;
         assert_eq!(rt; left.status, 1, "{message}");
         assert_eq!(rt; left.out.bytes(), b"".as_slice());
         assert_eq!(rt; left.err.bytes(), message.as_bytes());
