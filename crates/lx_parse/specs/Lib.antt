@@ -1,0 +1,5 @@
+pub mod Automaton
+pub mod Blocks
+pub mod Expressions
+pub mod Items
+pub mod Sorts

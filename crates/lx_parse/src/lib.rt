@@ -1,0 +1,12 @@
+//! The block trees of bodies: which tokens make definitions, configurations, rules and the texts of directives.
+#![tactic(auto)]
+
+mod forms;
+mod items;
+mod parsing;
+mod sorts;
+mod states;
+
+pub use items::{BlockTree, Item};
+pub use parsing::parse;
+pub use sorts::{Sort, sort_of};
