@@ -101,7 +101,7 @@ between form sort at = Refuse
 
 -- behind a name that begins a definition or the head of a rule
 abbrev pub named : (name : ℕ) → Sort → (at : ℕ) → Step
-named name Equals at = Go (state.Operand (goal.Define name (suc at)) 0)
+named name Equals at = Go (state.Defined name)
 named name sort at = operator (goal.Head name name None) 0 sort at
 
 -- behind the value of a configuration
@@ -143,6 +143,7 @@ text_end form value sort = Refuse
 abbrev pub next : State → Sort → (at : ℕ) → Step
 next (state.Between form) sort at = between form sort at
 next (state.Named name) sort at = named name sort at
+next (state.Defined name) sort at = operand (goal.Define name at) 0 sort
 next (state.ConfigName name) sort at = on_equals sort (state.ConfigValue name)
 next (state.ConfigValue name) sort at = when (is_value sort) (state.ConfigEnd name at)
 next (state.ConfigEnd name value) sort at = config_end name value sort

@@ -14,7 +14,7 @@ use Rattle.lx_parse.specs.declared.sorts.Sort.{Sort}
 use Rattle.lx_parse.specs.declared.forms.Form.{Form}
 use Rattle.lx_parse.specs.declared.forms.Form.TheVariants as forms
 use Rattle.lx_parse.specs.Sorts.{sorts_of}
-use Rattle.lx_parse.specs.Items.{ReadsItems, ReadsTexts, ReadsSeparator}
+use Rattle.lx_parse.specs.Items.{ReadsItems, ReadsTexts, ReadsSeparator, ReadsNothing}
 
 -- a block that has a body of tokens
 abbrev pub has_tokens : BlockKind → Bool
@@ -38,7 +38,7 @@ abbrev pub ReadsForm : (size : ℕ) → Form → List Item → List Sort → Typ
 ReadsForm size forms.Items items sorts = ReadsItems size items sorts
 ReadsForm size forms.Format items sorts = ReadsTexts size items sorts
 ReadsForm size forms.Separator items sorts = ReadsSeparator size items sorts
-ReadsForm size forms.Nothing items sorts = (items ≡ []) × (sorts ≡ [])
+ReadsForm size forms.Nothing items sorts = ReadsNothing items sorts
 
 -- a body of these sorts is well-formed, and has these items
 abbrev pub IsBody : Form → List Sort → List Item → Type 0

@@ -64,3 +64,7 @@ pub data ReadsSeparator (size : ℕ) : List Item → List Sort → Type 0 where
 pub data ReadsTexts (size : ℕ) : List Item → List Sort → Type 0 where
   format : (items : List Item) (value : Sort) (rest : List Sort) → is_string value ≡ true → ReadsSeparator size items rest →
       ReadsTexts size (Text (place size (value ∷ Semicolon ∷ rest)) ∷ items) (Format ∷ Equals ∷ value ∷ Semicolon ∷ rest)
+
+-- nothing, up to the end
+pub data ReadsNothing : List Item → List Sort → Type 0 where
+  nothing : ReadsNothing [] []

@@ -3,10 +3,12 @@
 
 mod forms;
 mod items;
+mod laws;
 mod parsing;
 mod sorts;
 mod states;
 
 pub use items::{BlockTree, Item};
+pub use laws::bodies_have_one_tree;
 pub use parsing::parse;
 pub use sorts::{Sort, sort_of};

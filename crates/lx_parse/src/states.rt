@@ -9,7 +9,7 @@ use crate::sorts::Sort;
 /// What an expression belongs to. All numbers are places of tokens.
 #[derive(Clone, Copy, Debug, PartialEq, Eq)]
 pub(crate) enum Goal {
-    /// The definition of a name, whose expression begins at `from`.
+    /// The definition of a name by an expression that begins at `from`.
     Define {
         name: u32,
         from: u32,
@@ -40,6 +40,10 @@ pub(crate) enum State {
     },
     /// Behind a name that begins a definition or the head of a rule.
     Named {
+        name: u32,
+    },
+    /// Behind the `=` of a definition.
+    Defined {
         name: u32,
     },
     /// Behind a configuration word.
@@ -306,14 +310,10 @@ fn between(form: Form, sort: Sort, at: u32) -> Step
 
 /// Behind a name that begins a definition or the head of a rule.
 fn named(name: u32, sort: Sort, at: u32) -> Step
-    requires { at + 1 < 2 ^ 32 }
     ensures { result ≡ named name sort at }
 {
     match sort {
-        Sort::Equals => Step::Go(State::Operand {
-            goal: Goal::Define { name, from: at + 1 },
-            depth: 0,
-        }),
+        Sort::Equals => Step::Go(State::Defined { name }),
         _ => operator(
             Goal::Head {
                 first: name,
@@ -427,6 +427,7 @@ impl State {
         match self {
             State::Between { form } => between(form, sort, at),
             State::Named { name } => named(name, sort, at),
+            State::Defined { name } => operand(Goal::Define { name, from: at }, 0, sort),
             State::ConfigName { name } => {
                 on_equals(sort, State::ConfigValue { name })
             }

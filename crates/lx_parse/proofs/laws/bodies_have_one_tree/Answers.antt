@@ -1,0 +1,5 @@
+use Rattle.lx_parse.proofs.Soundness.{sound}
+use Rattle.lx_parse.proofs.laws.bodies_have_one_tree.Goals as goal
+
+pub returns : goal.returns
+returns c = ?

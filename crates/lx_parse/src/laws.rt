@@ -1,0 +1,12 @@
+//! What holds of all bodies: the law is the contract of a function with an empty body.
+ghost use Rattle.std.specs.Prelude.{◌≡◌, List};
+ghost use Rattle.lx_base.specs.declared.blocks.BlockKind.{BlockKind};
+ghost use Rattle.lx_parse.specs.Blocks.{IsBody, form_of};
+ghost use Rattle.lx_parse.specs.declared.items.Item.{Item};
+ghost use Rattle.lx_parse.specs.declared.sorts.Sort.{Sort};
+
+/// A body has at most one block tree.
+pub fn bodies_have_one_tree()
+    ensures { (kind : BlockKind) (sorts : List Sort) (items other : List Item) →
+        IsBody (form_of kind) sorts items → IsBody (form_of kind) sorts other → items ≡ other }
+{}
