@@ -1,3 +1,4 @@
 pub mod Begun
 pub mod Soundness
 pub mod Completeness
+pub mod Refusals
