@@ -1,4 +1,6 @@
 pub mod Begun
-pub mod Soundness
 pub mod Completeness
+pub mod Depths
+pub mod Reading
 pub mod Refusals
+pub mod Soundness

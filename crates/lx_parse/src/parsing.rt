@@ -10,7 +10,7 @@ use crate::items::BlockTree;
 use crate::sorts::sort_in;
 use crate::states::{State, Step};
 use lx_base::{BlockKind, Fault, Pos, Sequence, Stop};
-use lx_token::{TokenList, place_after};
+use lx_token::{TokenList, place_after, tokens_stand_in_order};
 use std::alloc::Global;
 
 /// Whether a body may end where the parser stands.
@@ -43,6 +43,7 @@ pub fn parse(
         (λ tree. IsBody (form_of kind) (sorts_of kind body.now tokens.now) tree.items)
         (StopsWith kind body.now at tokens.now) }
 {
+    tokens_stand_in_order();
     let mut items = Sequence::new(alloc);
     let mut state = State::Between {
         form: form_of(kind),
