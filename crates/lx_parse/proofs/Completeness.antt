@@ -132,15 +132,17 @@ module _ (size : ℕ) where
       × (from (states.Operator goal depth) text ≡ from (states.Operator goal depth) rest)
 
   from_reads : (part : Part) (text rest : List Sort) → Reads part text rest → (goal : Goal) (depth : ℕ) → length text ≤ size → Passes goal depth text rest
-  from_reads part text rest (sign sort _ is) goal depth within =
-      (from_go (states.Operand goal depth) (states.Operator goal depth) sort rest within (operand_atom goal depth sort is),
-      from_go (states.Operator goal depth) (states.Operator goal depth) sort rest within (operator_atom goal depth (place size (sort ∷ rest)) sort is))
+  from_reads part text rest (sign sort _ is) goal depth within = (
+    from_go (states.Operand goal depth) (states.Operator goal depth) sort rest within (operand_atom goal depth sort is),
+    from_go (states.Operator goal depth) (states.Operator goal depth) sort rest within (operator_atom goal depth (place size (sort ∷ rest)) sort is),
+  )
   from_reads part text rest (group inner _ read) goal depth within =
       let less = reads_shorter _ _ _ read in
       let inside = from_reads _ inner (Close ∷ rest) read goal (suc depth) (omega arith) in
-      let behind = inside.0 ∙ from_go (states.Operator goal (suc depth)) (states.Operator goal depth) Close rest (omega arith) refl in
-      (from_go (states.Operand goal depth) (states.Operand goal (suc depth)) Open inner within refl ∙ behind,
-      from_go (states.Operator goal depth) (states.Operand goal (suc depth)) Open inner within refl ∙ behind)
+      let behind = inside.0 ∙ from_go (states.Operator goal (suc depth)) (states.Operator goal depth) Close rest (omega arith) refl in (
+        from_go (states.Operand goal depth) (states.Operand goal (suc depth)) Open inner within refl ∙ behind,
+        from_go (states.Operator goal depth) (states.Operand goal (suc depth)) Open inner within refl ∙ behind,
+      )
   from_reads part text rest (bare _ _ read) goal depth within = from_reads _ text rest read goal depth within
   from_reads part text rest (repeated _ _ sort read is) goal depth within =
       let less = reads_shorter _ _ _ read in

@@ -120,20 +120,26 @@ refuses_step at place state sort sorts Refuse again e refused =
     (0, omega arith, refuses_here at state sort sorts e)
 refuses_step at place state sort sorts (Go after) again e refused =
     let found = again after refused in
-    let count : at + suc found.0 ≡ place = omega (arith, found.1) in
-    (suc found.0, count, record {
-      begins = (found.2.begins.0, accepted_go state after sort at (take found.0 sorts ++ found.2.begins.0) e found.2.begins.1);
-      stuck = stuck_before at (suc at) state after sort (take found.0 sorts) (drop found.0 sorts)
-          (λ sorts accepted. accepted_behind_go state after sort at sorts e accepted) found.2.stuck;
-    })
+    let count : at + suc found.0 ≡ place = omega (arith, found.1) in (
+      suc found.0,
+      count,
+      record {
+        begins = (found.2.begins.0, accepted_go state after sort at (take found.0 sorts ++ found.2.begins.0) e found.2.begins.1);
+        stuck = stuck_before at (suc at) state after sort (take found.0 sorts) (drop found.0 sorts)
+            (λ sorts accepted. accepted_behind_go state after sort at sorts e accepted) found.2.stuck;
+      },
+    )
 refuses_step at place state sort sorts (Done item form) again e refused =
     let found = again (states.Between form) (refusal_behind item place (run sorts (suc at) (states.Between form)) refused) in
-    let count : at + suc found.0 ≡ place = omega (arith, found.1) in
-    (suc found.0, count, record {
-      begins = (found.2.begins.0, accepted_done state item form sort at (take found.0 sorts ++ found.2.begins.0) e found.2.begins.1);
-      stuck = stuck_before at (suc at) state (states.Between form) sort (take found.0 sorts) (drop found.0 sorts)
-          (λ sorts accepted. accepted_behind_done state item form sort at sorts e accepted) found.2.stuck;
-    })
+    let count : at + suc found.0 ≡ place = omega (arith, found.1) in (
+      suc found.0,
+      count,
+      record {
+        begins = (found.2.begins.0, accepted_done state item form sort at (take found.0 sorts ++ found.2.begins.0) e found.2.begins.1);
+        stuck = stuck_before at (suc at) state (states.Between form) sort (take found.0 sorts) (drop found.0 sorts)
+            (λ sorts accepted. accepted_behind_done state item form sort at sorts e accepted) found.2.stuck;
+      },
+    )
 
 refused_at : (test : Bool) (at place : ℕ) → at_last test at ≡ Err place → at ≡ place
 refused_at true at place e = absurd (cc)
@@ -168,9 +174,11 @@ one_tree form sorts items other body another =
 refused_tail : (form : Form) (front tail : List Sort) → IsStuck 0 (states.Between form) front tail → IsRefused form front tail
 refused_tail form front [] stuck = λ items body. stuck (items, run-body form front items body)
 refused_tail form front (sort ∷ tail) stuck = λ begins.
-    stuck begins.0
-    (begins.1, subst (λ sorts. run sorts 0 (states.Between form) ≡ Ok begins.1) (append_assoc front (sort ∷ []) begins.0)
-    (run-body form ((front ++ sort ∷ []) ++ begins.0) begins.1 begins.2))
+    stuck begins.0 (
+      begins.1,
+      subst (λ sorts. run sorts 0 (states.Between form) ≡ Ok begins.1) (append_assoc front (sort ∷ []) begins.0)
+          (run-body form ((front ++ sort ∷ []) ++ begins.0) begins.1 begins.2),
+    )
 
 -- where the automaton refuses a sort, those before it begin a body, and none goes on with it
 pub refused_run : (form : Form) (sorts : List Sort) (place : ℕ) → run sorts 0 (states.Between form) ≡ Err place
@@ -179,6 +187,7 @@ refused_run form sorts place e =
     let found = refuses sorts 0 place (states.Between form) e in
     let count : found.0 ≡ place = omega (arith, found.1) in
     subst (λ count. BeginsBody form (take count sorts) × IsRefused form (take count sorts) (drop count sorts)) count
-    (let begins = found.2.begins in
-    ((begins.0, begins.1.0, body-run form (take found.0 sorts ++ begins.0) begins.1.0 begins.1.1),
-      refused_tail form (take found.0 sorts) (drop found.0 sorts) found.2.stuck))
+    (let begins = found.2.begins in (
+      (begins.0, begins.1.0, body-run form (take found.0 sorts ++ begins.0) begins.1.0 begins.1.1),
+      refused_tail form (take found.0 sorts) (drop found.0 sorts) found.2.stuck,
+    ))

@@ -12,3 +12,6 @@ pub use items::{BlockTree, Item};
 pub use laws::bodies_have_one_tree;
 pub use parsing::parse;
 pub use sorts::{Sort, sort_of};
+
+#[cfg(test)]
+mod tests;

@@ -49,7 +49,11 @@ pub fn parse(
         form: form_of(kind),
     };
     for (place, token) in tokens.as_slice().iter().enumerate() {
-        let sort = sort_in(kind, token.kind, &body[token.from as usize..token.to as usize]);
+        let sort = sort_in(
+            kind,
+            token.kind,
+            &body[token.from as usize..token.to as usize],
+        );
         match state.next(sort, place as u32) {
             Step::Refuse => return Err(Stop::Fault(Fault::Syntax { at: token.at })),
             Step::Go(next) => state = next,

@@ -65,13 +65,7 @@ impl Sort {
     {
         matches!(
             self,
-            Sort::Str
-                | Sort::IStr
-                | Sort::Class
-                | Sort::Dot
-                | Sort::Name
-                | Sort::STag
-                | Sort::MTag
+            Sort::Str | Sort::IStr | Sort::Class | Sort::Dot | Sort::Name | Sort::STag | Sort::MTag
         )
     }
 

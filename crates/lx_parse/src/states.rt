@@ -35,91 +35,45 @@ pub(crate) struct RuleHead {
 #[derive(Clone, Copy, Debug, PartialEq, Eq)]
 pub(crate) enum State {
     /// Between items.
-    Between {
-        form: Form,
-    },
+    Between { form: Form },
     /// Behind a name that begins a definition or the head of a rule.
-    Named {
-        name: u32,
-    },
+    Named { name: u32 },
     /// Behind the `=` of a definition.
-    Defined {
-        name: u32,
-    },
+    Defined { name: u32 },
     /// Behind a configuration word.
-    ConfigName {
-        name: u32,
-    },
+    ConfigName { name: u32 },
     /// Behind the `=` of a configuration.
-    ConfigValue {
-        name: u32,
-    },
+    ConfigValue { name: u32 },
     /// Behind the value of a configuration.
-    ConfigEnd {
-        name: u32,
-        value: u32,
-    },
+    ConfigEnd { name: u32, value: u32 },
     /// Behind the `<` of a list.
-    List {
-        first: u32,
-    },
+    List { first: u32 },
     /// Behind `<*`.
-    ListStar {
-        first: u32,
-    },
+    ListStar { first: u32 },
     /// Behind a name of a list.
-    ListName {
-        first: u32,
-    },
+    ListName { first: u32 },
     /// Behind a comma of a list.
-    ListComma {
-        first: u32,
-    },
+    ListComma { first: u32 },
     /// Behind a list.
-    Listed {
-        first: u32,
-    },
+    Listed { first: u32 },
     /// In an expression where an atom is wanted, behind so many open parentheses.
-    Operand {
-        goal: Goal,
-        depth: u32,
-    },
+    Operand { goal: Goal, depth: u32 },
     /// In an expression behind an atom and what repeats it.
-    Operator {
-        goal: Goal,
-        depth: u32,
-    },
+    Operator { goal: Goal, depth: u32 },
     /// Behind a head that is `*` or `$`.
-    Action {
-        first: u32,
-        head: u32,
-    },
+    Action { first: u32, head: u32 },
     /// Behind the `=>` of a rule.
-    Target {
-        rule: RuleHead,
-    },
+    Target { rule: RuleHead },
     /// Behind the target of a `=>`.
-    TargetCode {
-        rule: RuleHead,
-        goes: u32,
-    },
+    TargetCode { rule: RuleHead, goes: u32 },
     /// Behind the `:=>` of a rule.
-    JumpTarget {
-        rule: RuleHead,
-    },
+    JumpTarget { rule: RuleHead },
     /// Behind the word `format` or `separator`.
-    TextWord {
-        form: Form,
-    },
+    TextWord { form: Form },
     /// Behind the `=` of a format or a separator.
-    TextValue {
-        form: Form,
-    },
+    TextValue { form: Form },
     /// Behind the string of a format or a separator.
-    TextEnd {
-        form: Form,
-        value: u32,
-    },
+    TextEnd { form: Form, value: u32 },
 }
 
 /// What a token does to the parser.
@@ -428,9 +382,7 @@ impl State {
             State::Between { form } => between(form, sort, at),
             State::Named { name } => named(name, sort, at),
             State::Defined { name } => operand(Goal::Define { name, from: at }, 0, sort),
-            State::ConfigName { name } => {
-                on_equals(sort, State::ConfigValue { name })
-            }
+            State::ConfigName { name } => { on_equals(sort, State::ConfigValue { name }) }
             State::ConfigValue { name } => {
                 when(sort.is_value(), State::ConfigEnd { name, value: at })
             }
@@ -451,9 +403,7 @@ impl State {
                 },
                 sort,
             ),
-            State::Target { rule } => {
-                on_name(sort, State::TargetCode { rule, goes: at })
-            }
+            State::Target { rule } => { on_name(sort, State::TargetCode { rule, goes: at }) }
             State::TargetCode { rule, goes } => target_code(rule, goes, sort, at),
             State::JumpTarget { rule } => jump_target(rule, sort, at),
             State::TextWord { form } => on_equals(sort, State::TextValue { form }),

@@ -25,7 +25,7 @@ returns-in-Refuse c =
     let token = get_or listed place no_token in
     let split = token_at listed c.args.tokens.now place c.as_slice-token-items.ensures c.loop-place-test.true in
     let is = step_is c.loop-place.state (token_sort c.args.kind c.args.body.now token) c.sort_in-sort.result place Refuse c.next.result
-        c.sort_in-sort.ensures c.next.ensures.step c.in-Refuse.is in
+    c.sort_in-sort.ensures c.next.ensures.step c.in-Refuse.is in
     read_refused c.args.kind c.args.body.now c.args.tokens.now place c.loop-place.items c.loop-place.state token c.args.at split is c.loop-place.invariant.read
 
 pub loop-place-preserved : goal.loop-place-preserved
@@ -37,30 +37,30 @@ loop-place-preserved c =
     let spans = spans_next (length c.args.body.now) token (drop place c.args.tokens.now) (drop (place + 1) c.args.tokens.now) split c.loop-place.invariant.spans in
     let deep = next_depth c.loop-place.state (token_sort c.args.kind c.args.body.now token) place in
     elim c.match-next.branch [
-      in-Go w ↦
-        (let is = step_is c.loop-place.state (token_sort c.args.kind c.args.body.now token) c.sort_in-sort.result place (Go w.in-Go.next) c.next.result
-            c.sort_in-sort.ensures c.next.ensures.step w.in-Go.is in
-        let depth = subst (λ step. depth_behind step ≤ suc (depth_of c.loop-place.state)) is deep in
-        let state = ap depth_of w.state-is in record {
-          read =
-              rw (w.items-is, w.state-is)
-              (read_go c.args.kind c.args.body.now c.args.tokens.now place c.loop-place.items c.loop-place.state token w.in-Go.next split is c.loop-place.invariant.read);
-          depth = omega (arith, depth, state);
-          spans = spans;
-          few = c.loop-place.invariant.few;
-        })
-    | in-Done+in_ok-push-in-Done w ↦
-        (let is = step_is c.loop-place.state (token_sort c.args.kind c.args.body.now token) c.sort_in-sort.result place
-            (Done w.in-Done.item w.in-Done.form) c.next.result c.sort_in-sort.ensures c.next.ensures.step w.in-Done.is in
-        let state = ap depth_of w.state-is in record {
-          read =
-              rw (w.items-is, w.state-is, w.in_ok-push-in-Done.ensures.pushed)
-              (read_done c.args.kind c.args.body.now c.args.tokens.now place c.loop-place.items c.loop-place.state token w.in-Done.item w.in-Done.form split is
-              c.loop-place.invariant.read);
-          depth = omega (arith, state);
-          spans = spans;
-          few = c.loop-place.invariant.few;
-        })
+      | in-Go w ↦
+          (let is = step_is c.loop-place.state (token_sort c.args.kind c.args.body.now token) c.sort_in-sort.result place (Go w.in-Go.next) c.next.result
+          c.sort_in-sort.ensures c.next.ensures.step w.in-Go.is in
+          let depth = subst (λ step. depth_behind step ≤ suc (depth_of c.loop-place.state)) is deep in
+          let state = ap depth_of w.state-is in record {
+            read =
+                rw (w.items-is, w.state-is)
+                (read_go c.args.kind c.args.body.now c.args.tokens.now place c.loop-place.items c.loop-place.state token w.in-Go.next split is c.loop-place.invariant.read);
+            depth = omega (arith, depth, state);
+            spans = spans;
+            few = c.loop-place.invariant.few;
+          })
+      | in-Done+in_ok-push-in-Done w ↦
+          (let is = step_is c.loop-place.state (token_sort c.args.kind c.args.body.now token) c.sort_in-sort.result place
+          (Done w.in-Done.item w.in-Done.form) c.next.result c.sort_in-sort.ensures c.next.ensures.step w.in-Done.is in
+          let state = ap depth_of w.state-is in record {
+            read =
+                rw (w.items-is, w.state-is, w.in_ok-push-in-Done.ensures.pushed)
+                (read_done c.args.kind c.args.body.now c.args.tokens.now place c.loop-place.items c.loop-place.state token w.in-Done.item w.in-Done.form split is
+                c.loop-place.invariant.read);
+            depth = omega (arith, state);
+            spans = spans;
+            few = c.loop-place.invariant.few;
+          })
     ]
 
 pub returns-then-may_end : goal.returns-then-may_end
