@@ -382,7 +382,7 @@ impl State {
             State::Between { form } => between(form, sort, at),
             State::Named { name } => named(name, sort, at),
             State::Defined { name } => operand(Goal::Define { name, from: at }, 0, sort),
-            State::ConfigName { name } => { on_equals(sort, State::ConfigValue { name }) }
+            State::ConfigName { name } => on_equals(sort, State::ConfigValue { name }),
             State::ConfigValue { name } => {
                 when(sort.is_value(), State::ConfigEnd { name, value: at })
             }
@@ -403,7 +403,7 @@ impl State {
                 },
                 sort,
             ),
-            State::Target { rule } => { on_name(sort, State::TargetCode { rule, goes: at }) }
+            State::Target { rule } => on_name(sort, State::TargetCode { rule, goes: at }),
             State::TargetCode { rule, goes } => target_code(rule, goes, sort, at),
             State::JumpTarget { rule } => jump_target(rule, sort, at),
             State::TextWord { form } => on_equals(sort, State::TextValue { form }),
