@@ -18,48 +18,19 @@ use Rattle.lx_parse.specs.Expressions.{Part, Reads, sign, group, bare, repeated,
 use Rattle.lx_parse.specs.Items.{place, ReadsNames, first_name, next_name, ReadsList, no_list, all_conditions, conditions, ReadsHead, plain, trailing, any, end, ReadsAction, code, code_and_target, target, ReadsItem, define, configure, rule, ReadsItems, no_item, next_item, ReadsSeparator, no_separator, separator, ReadsTexts, format, nothing}
 use Rattle.lx_parse.specs.Blocks.{ReadsForm}
 use Rattle.lx_parse.specs.Automaton.{Items, rule_head, when, operand, operator, action, next, with_item, follow, run}
+use Rattle.lx_parse.proofs.Behind.{behind_shorter, reads_behind, names_behind, list_behind, item_behind}
 
 reads_shorter : (part : Part) (text rest : List Sort) → Reads part text rest → length rest ≤ length text
-reads_shorter part text rest (sign sort _ is) = omega arith
-reads_shorter part text rest (group inner _ read) = let less = reads_shorter _ _ _ read in omega arith
-reads_shorter part text rest (bare _ _ read) = reads_shorter _ _ _ read
-reads_shorter part text rest (repeated _ _ sort read is) = let less = reads_shorter _ _ _ read in omega arith
-reads_shorter part text rest (first_post _ _ read) = reads_shorter _ _ _ read
-reads_shorter part text rest (next_post _ middle _ read next) =
-    let less = reads_shorter _ _ _ read in let least = reads_shorter _ _ _ next in omega arith
-reads_shorter part text rest (first_cat _ _ read) = reads_shorter _ _ _ read
-reads_shorter part text rest (next_cat _ middle _ read next) =
-    let less = reads_shorter _ _ _ read in let least = reads_shorter _ _ _ next in omega arith
-reads_shorter part text rest (first_diff _ _ read) = reads_shorter _ _ _ read
-reads_shorter part text rest (next_diff _ middle _ read next) =
-    let less = reads_shorter _ _ _ read in let least = reads_shorter _ _ _ next in omega arith
+reads_shorter part text rest read = behind_shorter text rest (reads_behind part text rest read)
 
 names_shorter : (text rest : List Sort) → ReadsNames text rest → length rest ≤ length text
-names_shorter text rest (first_name _) = omega arith
-names_shorter text rest (next_name _ _ read) = let less = names_shorter _ _ read in omega arith
+names_shorter text rest read = behind_shorter text rest (names_behind text rest read)
 
 list_shorter : (text rest : List Sort) → ReadsList text rest → length rest ≤ length text
-list_shorter text rest (no_list _) = omega arith
-list_shorter text rest (all_conditions _) = omega arith
-list_shorter text rest (conditions names _ read) = let less = names_shorter _ _ read in omega arith
-
-head_shorter : (size : ℕ) (slash : Option ℕ) (text rest : List Sort) → ReadsHead size slash text rest → length rest ≤ length text
-head_shorter size slash text rest (plain _ _ read) = reads_shorter _ _ _ read
-head_shorter size slash text rest (trailing _ middle _ read next) =
-    let less = reads_shorter _ _ _ read in let least = reads_shorter _ _ _ next in omega arith
-head_shorter size slash text rest (any _) = omega arith
-head_shorter size slash text rest (end _) = omega arith
-
-action_shorter : (size : ℕ) (goes coded : Option ℕ) (text rest : List Sort) → ReadsAction size goes coded text rest → length rest ≤ length text
-action_shorter size goes coded text rest (code _) = omega arith
-action_shorter size goes coded text rest (code_and_target _) = omega arith
-action_shorter size goes coded text rest (target _) = omega arith
+list_shorter text rest read = behind_shorter text rest (list_behind text rest read)
 
 item_shorter : (size : ℕ) (item : Item) (text rest : List Sort) → ReadsItem size item text rest → length rest ≤ length text
-item_shorter size item text rest (define expression _ read) = let less = reads_shorter _ _ _ read in omega arith
-item_shorter size item text rest (configure value _ is) = omega arith
-item_shorter size item text rest (rule _ _ _ _ head stop _ list read last) =
-    let one = list_shorter _ _ list in let two = head_shorter _ _ _ _ read in let three = action_shorter _ _ _ _ _ last in omega arith
+item_shorter size item text rest read = behind_shorter text rest (item_behind size item text rest read)
 
 operand_atom : (goal : Goal) (depth : ℕ) (sort : Sort) → is_atom sort ≡ true → operand goal depth sort ≡ Go (states.Operator goal depth)
 operand_atom goal depth Open is = absurd (cc)

@@ -245,6 +245,7 @@ fn sorts_tell_signs_apart_and_names_not(rt: HostRuntime) -> Result<(), Fail> {
     assert!(rt; sort_of(TokenKind::Signs, b":=>") == Sort::Jump);
     assert!(rt; sort_of(TokenKind::Name, b"format") == Sort::Name);
     bodies_have_one_tree();
+    expressions_stand_in_ranges();
     Ok(())
 }
 
