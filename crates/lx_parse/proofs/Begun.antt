@@ -1,15 +1,15 @@
 -- What the parser has read where it stands: the front of an item, in the form that its state says.
-use Rattle.std.proofs.Common.{◌≡◌, ℕ, zero, suc, Bool, true, false, List, [], ◌∷◌, Option, Some, None, refl}
+use Rattle.std.proofs.Common.{◌≡◌, ℕ, zero, suc, true, List, ◌∷◌, Option, Some, None}
 use Rattle.lx_parse.specs.declared.forms.Form.{Form}
 use Rattle.lx_parse.specs.declared.forms.Form.TheVariants as forms
 use Rattle.lx_parse.specs.declared.sorts.Sort.{Sort}
-use Rattle.lx_parse.specs.declared.sorts.Sort.TheVariants.{Name, Format, Separator, Config, Number, Str, IStr, Class, STag, MTag, Bounds, Code, Equals, Semicolon, Bar, Backslash, Slash, Open, Close, Star, Plus, Question, Dot, Dollar, Less, Greater, Comma, Arrow, Jump}
+use Rattle.lx_parse.specs.declared.sorts.Sort.TheVariants.{Name, Format, Separator, Config, Equals, Bar, Backslash, Slash, Open, Star, Less, Comma, Arrow, Jump}
 use Rattle.lx_parse.specs.declared.states.Goal.{Goal}
 use Rattle.lx_parse.specs.declared.states.Goal.TheVariants as goals
 use Rattle.lx_parse.specs.declared.states.State.{State}
 use Rattle.lx_parse.specs.declared.states.State.TheVariants as states
-use Rattle.lx_parse.specs.Sorts.{is_atom, is_postfix, is_string, is_value}
-use Rattle.lx_parse.specs.Expressions.{Part, alt, diff, cat, post, atom, Reads, sign, group, bare, repeated, first_post, next_post, first_cat, next_cat, first_diff, next_diff}
+use Rattle.lx_parse.specs.Sorts.{is_string, is_value}
+use Rattle.lx_parse.specs.Expressions.{alt, diff, cat, post, Reads, first_post, next_post, first_cat, next_cat, first_diff, next_diff}
 use Rattle.lx_parse.specs.Items.{place, ReadsNames, ReadsList, ReadsHead}
 use Rattle.lx_parse.specs.Automaton.{rule_head}
 

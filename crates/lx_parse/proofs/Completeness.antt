@@ -1,19 +1,18 @@
 -- The automaton reads each well-formed body, and gives its items.
-use Rattle.std.proofs.Common.{◌≡◌, ℕ, zero, suc, ◌+◌, ◌-◌, ◌≤◌, Bool, true, false, List, [], ◌∷◌, length, Option, Some, None, Ok, Err, refl, sym, ap, subst, ◌∙◌, arith}
+use Rattle.std.proofs.Common.{◌≡◌, ℕ, suc, ◌≤◌, true, List, [], ◌∷◌, length, Option, Some, None, Ok, refl, ap, ◌∙◌, arith}
 use Rattle.lx_parse.specs.declared.items.Item.{Item}
 use Rattle.lx_parse.specs.declared.items.Item.TheVariants as kinds
 use Rattle.lx_parse.specs.declared.forms.Form.{Form}
 use Rattle.lx_parse.specs.declared.forms.Form.TheVariants as forms
 use Rattle.lx_parse.specs.declared.sorts.Sort.{Sort}
-use Rattle.lx_parse.specs.declared.sorts.Sort.TheVariants.{Name, Format, Separator, Config, Number, Str, IStr, Class, STag, MTag, Bounds, Code, Equals, Semicolon, Bar, Backslash, Slash, Open, Close, Star, Plus, Question, Dot, Dollar, Less, Greater, Comma, Arrow, Jump}
+use Rattle.lx_parse.specs.declared.sorts.Sort.TheVariants.{Name, Format, Separator, Config, Str, IStr, Class, STag, MTag, Bounds, Code, Equals, Semicolon, Bar, Backslash, Slash, Open, Close, Star, Plus, Question, Dot, Dollar, Less, Greater, Comma, Arrow, Jump}
 use Rattle.lx_parse.specs.declared.states.Goal.{Goal}
 use Rattle.lx_parse.specs.declared.states.Goal.TheVariants as goals
 use Rattle.lx_parse.specs.declared.states.RuleHead.{RuleHead}
 use Rattle.lx_parse.specs.declared.states.State.{State}
 use Rattle.lx_parse.specs.declared.states.State.TheVariants as states
-use Rattle.lx_parse.specs.declared.states.Step.{Step}
-use Rattle.lx_parse.specs.declared.states.Step.TheVariants.{Refuse, Go, Done}
-use Rattle.lx_parse.specs.Sorts.{is_atom, is_postfix, is_string, is_value}
+use Rattle.lx_parse.specs.declared.states.Step.TheVariants.{Go, Done}
+use Rattle.lx_parse.specs.Sorts.{is_atom, is_postfix, is_string}
 use Rattle.lx_parse.specs.Expressions.{Part, Reads, sign, group, bare, repeated, first_post, next_post, first_cat, next_cat, first_diff, next_diff}
 use Rattle.lx_parse.specs.Items.{place, ReadsNames, first_name, next_name, ReadsList, no_list, all_conditions, conditions, ReadsHead, plain, trailing, any, end, ReadsAction, code, code_and_target, target, ReadsItem, define, configure, rule, ReadsItems, no_item, next_item, ReadsSeparator, no_separator, separator, ReadsTexts, format, nothing}
 use Rattle.lx_parse.specs.Blocks.{ReadsForm}

@@ -1,5 +1,5 @@
 -- A step opens at most one parenthesis.
-use Rattle.std.proofs.Common.{ℕ, zero, suc, ◌≤◌, Bool, true, false, List, Option, Some, None, arith}
+use Rattle.std.proofs.Common.{ℕ, zero, suc, ◌≤◌, Bool, true, false, None, arith}
 use Rattle.lx_parse.specs.declared.forms.Form.{Form}
 use Rattle.lx_parse.specs.declared.forms.Form.TheVariants as forms
 use Rattle.lx_parse.specs.declared.sorts.Sort.{Sort}
@@ -12,7 +12,7 @@ use Rattle.lx_parse.specs.declared.states.State.TheVariants as states
 use Rattle.lx_parse.specs.declared.states.Step.{Step}
 use Rattle.lx_parse.specs.declared.states.Step.TheVariants.{Refuse, Go, Done}
 use Rattle.lx_parse.specs.Sorts.{is_atom, is_string, is_value}
-use Rattle.lx_parse.specs.Automaton.{rule_head, when, on_name, on_greater, operand, operator, at_end, after_expression, action, head_start, between, next, depth_of}
+use Rattle.lx_parse.specs.Automaton.{rule_head, when, operand, operator, at_end, after_expression, action, head_start, between, next, depth_of}
 
 -- how many parentheses are open behind a step
 abbrev pub depth_behind : Step → ℕ

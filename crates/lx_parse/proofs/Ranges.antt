@@ -1,5 +1,5 @@
 -- The expressions of items stand where their numbers say.
-use Rattle.std.proofs.Common.{◌≡◌, ℕ, zero, suc, ◌-◌, ◌≤◌, ◌⊎◌, inl, inr, List, [], ◌∷◌, length, drop, Option, Some, None, refl, sym, ap, subst, ◌∙◌, arith}
+use Rattle.std.proofs.Common.{◌≡◌, ℕ, suc, inl, inr, List, ◌∷◌, length, Option, subst, arith}
 use Rattle.lx_parse.specs.declared.items.Item.{Item}
 use Rattle.lx_parse.specs.declared.items.Item.TheVariants.{Rule}
 use Rattle.lx_parse.specs.declared.forms.Form.{Form}
@@ -8,9 +8,9 @@ use Rattle.lx_parse.specs.declared.sorts.Sort.{Sort}
 use Rattle.lx_parse.specs.declared.sorts.Sort.TheVariants.{Slash, Star, Dollar, Semicolon}
 use Rattle.lx_parse.specs.Expressions.{Part, alt, Reads}
 use Rattle.lx_parse.specs.Items.{place, ReadsHead, plain, trailing, any, end, ReadsItem, define, configure, rule, ReadsItems, no_item, next_item, ReadsSeparator, no_separator, separator, ReadsTexts, format, nothing}
-use Rattle.lx_parse.specs.Blocks.{IsBody, ReadsForm}
-use Rattle.lx_parse.specs.Ranges.{IsPart, Stands, IsBareHead, HasExpressions, EachHasExpressions}
-use Rattle.lx_parse.proofs.Behind.{IsBehind, here, further, behind_trans, behind_next, behind_shorter, drop-place, reads_behind, list_behind, item_behind}
+use Rattle.lx_parse.specs.Blocks.{IsBody}
+use Rattle.lx_parse.specs.Ranges.{IsPart, Stands, HasExpressions, EachHasExpressions}
+use Rattle.lx_parse.proofs.Behind.{IsBehind, here, behind_trans, behind_next, behind_shorter, drop-place, reads_behind, list_behind, item_behind}
 
 module _ (sorts : List Sort) where
   is_part : (part : Part) (text rest : List Sort) → IsBehind sorts text → Reads part text rest

@@ -1,11 +1,11 @@
 -- What the automaton reads is well-formed: each step keeps what was read, and what ends a body is one.
-use Rattle.std.proofs.Common.{◌≡◌, ℕ, zero, suc, ◌+◌, ◌-◌, Bool, true, false, List, [], ◌∷◌, length, Option, Some, None, Ok, Err, refl, sym, ap, subst, arith}
+use Rattle.std.proofs.Common.{◌≡◌, ℕ, zero, suc, ◌+◌, Bool, true, false, List, [], ◌∷◌, length, Option, Some, None, Ok, Err, refl, sym, subst, arith}
 use Rattle.lx_parse.specs.declared.items.Item.{Item}
 use Rattle.lx_parse.specs.declared.items.Item.TheVariants as items
 use Rattle.lx_parse.specs.declared.forms.Form.{Form}
 use Rattle.lx_parse.specs.declared.forms.Form.TheVariants as forms
 use Rattle.lx_parse.specs.declared.sorts.Sort.{Sort}
-use Rattle.lx_parse.specs.declared.sorts.Sort.TheVariants.{Name, Format, Separator, Config, Number, Str, IStr, Class, STag, MTag, Bounds, Code, Equals, Semicolon, Bar, Backslash, Slash, Open, Close, Star, Plus, Question, Dot, Dollar, Less, Greater, Comma, Arrow, Jump}
+use Rattle.lx_parse.specs.declared.sorts.Sort.TheVariants.{Name, Format, Separator, Config, Str, IStr, Class, STag, MTag, Bounds, Code, Equals, Semicolon, Bar, Backslash, Slash, Open, Close, Star, Plus, Question, Dot, Dollar, Less, Greater, Comma, Arrow, Jump}
 use Rattle.lx_parse.specs.declared.states.Goal.{Goal}
 use Rattle.lx_parse.specs.declared.states.Goal.TheVariants as goals
 use Rattle.lx_parse.specs.declared.states.State.{State}
@@ -13,8 +13,8 @@ use Rattle.lx_parse.specs.declared.states.State.TheVariants as states
 use Rattle.lx_parse.specs.declared.states.Step.{Step}
 use Rattle.lx_parse.specs.declared.states.Step.TheVariants.{Refuse, Go, Done}
 use Rattle.lx_parse.specs.Sorts.{is_atom, is_postfix, is_string, is_value}
-use Rattle.lx_parse.specs.Expressions.{Part, alt, diff, cat, post, atom, Reads, sign, group, bare, repeated}
-use Rattle.lx_parse.specs.Items.{place, ReadsNames, first_name, next_name, ReadsList, no_list, all_conditions, conditions, ReadsHead, plain, trailing, any, end, code, code_and_target, target, define, configure, rule, ReadsItems, no_item, next_item, no_separator, separator, format, nothing}
+use Rattle.lx_parse.specs.Expressions.{alt, Reads, sign, group, bare, repeated}
+use Rattle.lx_parse.specs.Items.{place, first_name, next_name, ReadsList, no_list, all_conditions, conditions, ReadsHead, plain, trailing, any, end, code, code_and_target, target, define, configure, rule, no_item, next_item, no_separator, separator, format, nothing}
 use Rattle.lx_parse.specs.Blocks.{ReadsForm}
 use Rattle.lx_parse.specs.Automaton.{Items, rule_head, when, operand, operator, at_end, after_expression, action, head_start, between, named, next, with_item, follow, may_end, at_last, run}
 use Rattle.lx_parse.proofs.Begun.{no_diff, behind_bar, no_cat, behind_backslash, no_post, behind_post, cat_begun, diff_behind, alt_behind, OperandBegun, OperatorBegun, GoalBegun, of_define, of_head, of_trailing, Begun}

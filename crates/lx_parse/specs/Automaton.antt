@@ -1,11 +1,11 @@
 -- The parser as an automaton. It stands beside the grammar: that it reads the same is proved.
-use Rattle.std.specs.Prelude.{ℕ, zero, suc, ◌+◌, Bool, true, false, List, [], ◌∷◌, Option, Some, None, Result, Ok, Err}
+use Rattle.std.specs.Prelude.{ℕ, zero, suc, Bool, true, false, List, [], ◌∷◌, Option, Some, None, Result, Ok, Err}
 use Rattle.lx_parse.specs.declared.items.Item.{Item}
 use Rattle.lx_parse.specs.declared.items.Item.TheVariants.{Define, Configure, Rule, Text}
 use Rattle.lx_parse.specs.declared.forms.Form.{Form}
 use Rattle.lx_parse.specs.declared.forms.Form.TheVariants as forms
 use Rattle.lx_parse.specs.declared.sorts.Sort.{Sort}
-use Rattle.lx_parse.specs.declared.sorts.Sort.TheVariants.{Name, Format, Separator, Config, Number, Str, IStr, Class, STag, MTag, Bounds, Code, Equals, Semicolon, Bar, Backslash, Slash, Open, Close, Star, Plus, Question, Dot, Dollar, Less, Greater, Comma, Arrow, Jump}
+use Rattle.lx_parse.specs.declared.sorts.Sort.TheVariants.{Name, Format, Separator, Config, Str, IStr, Class, STag, MTag, Bounds, Code, Equals, Semicolon, Bar, Backslash, Slash, Open, Close, Star, Plus, Question, Dot, Dollar, Less, Greater, Comma, Arrow, Jump}
 use Rattle.lx_parse.specs.declared.states.Goal.{Goal}
 use Rattle.lx_parse.specs.declared.states.Goal.TheVariants as goal
 use Rattle.lx_parse.specs.declared.states.RuleHead.{RuleHead}
@@ -13,7 +13,7 @@ use Rattle.lx_parse.specs.declared.states.State.{State}
 use Rattle.lx_parse.specs.declared.states.State.TheVariants as state
 use Rattle.lx_parse.specs.declared.states.Step.{Step}
 use Rattle.lx_parse.specs.declared.states.Step.TheVariants.{Refuse, Go, Done}
-use Rattle.lx_parse.specs.Sorts.{is_atom, is_postfix, is_string, is_value}
+use Rattle.lx_parse.specs.Sorts.{is_atom, is_string, is_value}
 
 -- on to the state if the test holds
 abbrev pub when : Bool → State → Step

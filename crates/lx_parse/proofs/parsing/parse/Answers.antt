@@ -1,7 +1,6 @@
-use Rattle.std.proofs.Common.{◌≡◌, ◌≤◌, length, true, Ok, ℕ, ◌+◌, ◌<◌, List, [], ◌∷◌, ◌++◌, arith, refl, sym, ap, subst, ◌∙◌, get_or, drop, suc}
+use Rattle.std.proofs.Common.{◌≤◌, length, ◌+◌, arith, sym, ap, subst, ◌∙◌, get_or, drop, suc}
 use Rattle.std.proofs.Math.ListN.{drop_of_length-le}
-use Rattle.lx_token.specs.declared.list.Token.{Token}
-use Rattle.lx_parse.specs.Automaton.{next, depth_of}
+use Rattle.lx_parse.specs.Automaton.{depth_of}
 use Rattle.lx_parse.specs.declared.states.Step.TheVariants.{Refuse, Go, Done}
 use Rattle.lx_parse.proofs.Depths.{depth_behind, next_depth}
 use Rattle.lx_parse.proofs.Reading.{few_spans, no_token, token_at, spans_next, step_is, token_sort, read_none, read_go, read_done, read_refused, read_end, read_refused_end}
