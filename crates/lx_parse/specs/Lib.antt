@@ -1,0 +1,6 @@
+pub mod Automaton
+pub mod Blocks
+pub mod Expressions
+pub mod Items
+pub mod Ranges
+pub mod Sorts

@@ -1,0 +1,20 @@
+//! What holds of all bodies: each law is the contract of a function with an empty body.
+ghost use Rattle.std.specs.Prelude.{◌≡◌, List};
+ghost use Rattle.lx_base.specs.declared.blocks.BlockKind.{BlockKind};
+ghost use Rattle.lx_parse.specs.Blocks.{IsBody, form_of};
+ghost use Rattle.lx_parse.specs.Ranges.{EachHasExpressions};
+ghost use Rattle.lx_parse.specs.declared.items.Item.{Item};
+ghost use Rattle.lx_parse.specs.declared.sorts.Sort.{Sort};
+
+/// A body has at most one block tree.
+pub fn bodies_have_one_tree()
+    ensures { (kind : BlockKind) (sorts : List Sort) (items other : List Item) →
+        IsBody (form_of kind) sorts items → IsBody (form_of kind) sorts other → items ≡ other }
+{}
+
+/// The expressions of definitions and rules stand in the ranges of tokens that their numbers tell, so each can be read
+/// again by itself.
+pub fn expressions_stand_in_ranges()
+    ensures { (kind : BlockKind) (sorts : List Sort) (items : List Item) →
+        IsBody (form_of kind) sorts items → EachHasExpressions sorts items }
+{}

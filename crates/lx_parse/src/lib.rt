@@ -1,0 +1,17 @@
+//! The block trees of bodies: which tokens make definitions, configurations, rules and the texts of directives.
+#![tactic(auto)]
+
+mod forms;
+mod items;
+mod laws;
+mod parsing;
+mod sorts;
+mod states;
+
+pub use items::{BlockTree, Item};
+pub use laws::{bodies_have_one_tree, expressions_stand_in_ranges};
+pub use parsing::parse;
+pub use sorts::{Sort, sort_of};
+
+#[cfg(test)]
+mod tests;
