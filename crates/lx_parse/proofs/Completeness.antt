@@ -16,7 +16,8 @@ use Rattle.lx_parse.specs.Sorts.{is_atom, is_postfix, is_string}
 use Rattle.lx_parse.specs.Expressions.{Part, Reads, sign, group, bare, repeated, first_post, next_post, first_cat, next_cat, first_diff, next_diff}
 use Rattle.lx_parse.specs.Items.{place, ReadsNames, first_name, next_name, ReadsList, no_list, all_conditions, conditions, ReadsHead, plain, trailing, any, end, ReadsAction, code, code_and_target, target, ReadsItem, define, configure, rule, ReadsItems, no_item, next_item, ReadsSeparator, no_separator, separator, ReadsTexts, format, nothing}
 use Rattle.lx_parse.specs.Blocks.{ReadsForm}
-use Rattle.lx_parse.specs.Automaton.{Items, rule_head, when, operand, operator, action, next, with_item, follow, run}
+use Rattle.lx_parse.specs.Automaton.{rule_head, when, operand, operator, action, next}
+use Rattle.lx_parse.proofs.Runs.{Items, with_item, follow, run}
 use Rattle.lx_parse.proofs.Behind.{behind_shorter, reads_behind, names_behind, list_behind, item_behind}
 
 reads_shorter : (part : Part) (text rest : List Sort) → Reads part text rest → length rest ≤ length text

@@ -5,4 +5,5 @@ pub mod Depths
 pub mod Ranges
 pub mod Reading
 pub mod Refusals
+pub mod Runs
 pub mod Soundness

@@ -17,7 +17,8 @@ use Rattle.lx_parse.specs.declared.states.Step.{Step}
 use Rattle.lx_parse.specs.declared.states.Step.TheVariants.{Refuse, Go, Done}
 use Rattle.lx_parse.specs.Sorts.{sort_in, sorts_of}
 use Rattle.lx_parse.specs.Blocks.{form_of, IsBody, IsSyntaxFault, place_of_next}
-use Rattle.lx_parse.specs.Automaton.{Items, next, with_item, follow, may_end, at_last, run}
+use Rattle.lx_parse.specs.Automaton.{next, may_end}
+use Rattle.lx_parse.proofs.Runs.{Items, with_item, follow, at_last, run}
 use Rattle.lx_parse.proofs.Refusals.{body-run, refused_run}
 
 -- items before those of a rest

@@ -13,7 +13,8 @@ use Rattle.lx_parse.specs.declared.states.Step.{Step}
 use Rattle.lx_parse.specs.declared.states.Step.TheVariants.{Refuse, Go, Done}
 use Rattle.lx_parse.specs.Items.{place}
 use Rattle.lx_parse.specs.Blocks.{IsBody, BeginsBody, IsRefused}
-use Rattle.lx_parse.specs.Automaton.{Items, next, with_item, follow, may_end, at_last, run}
+use Rattle.lx_parse.specs.Automaton.{next, may_end}
+use Rattle.lx_parse.proofs.Runs.{Items, with_item, follow, at_last, run}
 use Rattle.lx_parse.proofs.Begun as front
 use Rattle.lx_parse.proofs.Soundness.{sound}
 use Rattle.lx_parse.proofs.Completeness.{complete}

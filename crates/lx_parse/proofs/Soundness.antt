@@ -16,7 +16,8 @@ use Rattle.lx_parse.specs.Sorts.{is_atom, is_postfix, is_string, is_value}
 use Rattle.lx_parse.specs.Expressions.{alt, Reads, sign, group, bare, repeated}
 use Rattle.lx_parse.specs.Items.{place, first_name, next_name, ReadsList, no_list, all_conditions, conditions, ReadsHead, plain, trailing, any, end, code, code_and_target, target, define, configure, rule, no_item, next_item, no_separator, separator, format, nothing}
 use Rattle.lx_parse.specs.Blocks.{ReadsForm}
-use Rattle.lx_parse.specs.Automaton.{Items, rule_head, when, operand, operator, at_end, after_expression, action, head_start, between, named, next, with_item, follow, may_end, at_last, run}
+use Rattle.lx_parse.specs.Automaton.{rule_head, when, operand, operator, at_end, after_expression, action, head_start, between, named, next, may_end}
+use Rattle.lx_parse.proofs.Runs.{Items, with_item, follow, at_last, run}
 use Rattle.lx_parse.proofs.Begun.{no_diff, behind_bar, no_cat, behind_backslash, no_post, behind_post, cat_begun, diff_behind, alt_behind, OperandBegun, OperatorBegun, GoalBegun, of_define, of_head, of_trailing, Begun}
 use Rattle.lx_parse.proofs.Begun as front
 

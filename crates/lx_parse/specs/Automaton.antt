@@ -1,6 +1,5 @@
 -- The parser as an automaton. It stands beside the grammar: that it reads the same is proved.
-use Rattle.std.specs.Prelude.{ℕ, zero, suc, Bool, true, false, List, [], ◌∷◌, Option, Some, None, Result, Ok, Err}
-use Rattle.lx_parse.specs.declared.items.Item.{Item}
+use Rattle.std.specs.Prelude.{ℕ, zero, suc, Bool, true, false, Option, Some, None}
 use Rattle.lx_parse.specs.declared.items.Item.TheVariants.{Define, Configure, Rule, Text}
 use Rattle.lx_parse.specs.declared.forms.Form.{Form}
 use Rattle.lx_parse.specs.declared.forms.Form.TheVariants as forms
@@ -168,32 +167,8 @@ depth_of (state.Operand goal depth) = depth
 depth_of (state.Operator goal depth) = depth
 depth_of state = 0
 
--- the items of a rest, or the place of the token that is refused
-abbrev pub Items : Type 0
-Items = Result (List Item) ℕ
-
--- an item before the others
-abbrev pub with_item : Item → Items → Items
-with_item item (Ok items) = Ok (item ∷ items)
-with_item item (Err place) = Err place
-
--- on from a step at a place
-abbrev pub follow : (next : (at : ℕ) → State → Items) (at : ℕ) → Step → Items
-follow next at Refuse = Err at
-follow next at (Go state) = next (suc at) state
-follow next at (Done item form) = with_item item (next (suc at) (state.Between form))
-
 -- a body may end here, but not where its format is wanted
 abbrev pub may_end : State → Bool
 may_end (state.Between forms.Format) = false
 may_end (state.Between form) = true
 may_end state = false
-
-abbrev pub at_last : Bool → (at : ℕ) → Items
-at_last true at = Ok []
-at_last false at = Err at
-
--- the items from a place and a state on
-abbrev pub run : List Sort → (at : ℕ) → State → Items
-run [] at state = at_last (may_end state) at
-run (sort ∷ sorts) at state = follow (run sorts) at (next state sort at)
