@@ -1,4 +1,4 @@
--- Where a compilation breaks off, step by step.
+-- Where a job breaks off, step by step.
 use Rattle.std.specs.Prelude.{◌≡◌, ℕ, List, Option, Some, None, Result, MatchResult}
 use Rattle.lx_base.specs.Message.{IsPlaced, message_text}
 use Rattle.lx_base.specs.declared.faults.Fault.{Fault}
@@ -78,7 +78,7 @@ pub record TellsHalt (expected : Ending) (err err' : SinkView) (ending : Ending)
   pub ending_is : ending ≡ expected
   pub told : GivesFront err.given err'.given (failure_text expected)
 
--- how a compilation that broke off is told
+-- how a job that broke off is told
 abbrev pub Reports : List (List ℕ) → SinkView → SinkView → Halt → Ending → Type 0
 Reports names err err' (halt.Fault first) ending = TellsMessage (message_text names first) err err' ending
 Reports names err err' halt.ReadFailed ending = TellsHalt ReadFailed err err' ending

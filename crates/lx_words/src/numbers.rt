@@ -4,11 +4,7 @@ ghost use Rattle.std.specs.Str.Parse.{digits_value};
 ghost use Rattle.lx_base.specs.Letters.{each_letter, is_digit};
 ghost use Rattle.lx_words.specs.Points.{is_number, number_within};
 
-fn is_digit(letter: u8) -> bool
-    ensures { result ≡ is_digit letter }
-{
-    b'0' <= letter && letter <= b'9'
-}
+use lx_base::spellings::is_digit;
 
 /// Whether each byte is a decimal digit.
 fn are_digits(text: &[u8]) -> bool
