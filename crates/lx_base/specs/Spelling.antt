@@ -36,3 +36,11 @@ greatest_point Ucs2 = 0xFFFF
 greatest_point Utf8 = 0x10FFFF
 greatest_point Utf16 = 0x10FFFF
 greatest_point Utf32 = 0x10FFFF
+
+-- the greatest code unit of an encoding
+abbrev pub greatest_unit : Enc → ℕ
+greatest_unit Byte = 0xFF
+greatest_unit Ucs2 = 0xFFFF
+greatest_unit Utf8 = 0xFF
+greatest_unit Utf16 = 0xFFFF
+greatest_unit Utf32 = 0xFFFFFFFF

@@ -1,6 +1,7 @@
 -- Kernels: the places of all cuts at a word, in their order; and the limits on them.
-use Rattle.std.specs.Prelude.{◌≡◌, ◌≢◌, ℕ, ◌<◌, ◌⊎◌, List, [], ◌∷◌, length, Some, slice_get, sum_by}
+use Rattle.std.specs.Prelude.{◌≡◌, ◌≢◌, ℕ, ◌<◌, ◌≤◌, ◌⊎◌, List, [], ◌∷◌, length, Some, slice_get, sum_by}
 use Rattle.lx_base.specs.declared.settings.Enc.{Enc}
+use Rattle.lx_base.specs.Spelling.{greatest_unit}
 use Rattle.lx_regex.specs.Term.{Term}
 use Rattle.lx_regex.specs.Cut.{Cut, IsCut, SamePlace, Precedes}
 
@@ -15,13 +16,18 @@ pub record IsKernel (Earlier : Cut → Cut → Type 0) (enc : Enc) (rules : List
       → Earlier cut other × (SamePlace enc rules cut other → ⊥)
 
 module _ (enc : Enc) (rules : List Term) where
+  -- each unit of the word is one of the encoding
+  abbrev pub IsWord : List ℕ → Type 0
+  IsWord [] = Unit {0}
+  IsWord (unit ∷ word) = (unit ≤ greatest_unit enc) × IsWord word
+
   -- these are the leftmost greedy kernels of the words, and none of them is empty
   abbrev pub AreKernels : (words : List (List ℕ)) → (kernels : List (List Cut)) → Type 0
   AreKernels [] [] = Unit {0}
   AreKernels [] (kernel ∷ kernels) = ⊥
   AreKernels (word ∷ words) [] = ⊥
   AreKernels (word ∷ words) (kernel ∷ kernels) =
-      IsKernel Precedes enc rules word kernel × (kernel ≢ []) × AreKernels words kernels
+      IsWord word × IsKernel Precedes enc rules word kernel × (kernel ≢ []) × AreKernels words kernels
 
   -- two kernels have the same places in the same order
   abbrev pub SamePlaces : List Cut → List Cut → Type 0

@@ -12,6 +12,7 @@ pub mod Pattern
 pub mod Plain
 pub mod Posix
 pub mod Script
+pub mod Strings
 pub mod Term
 pub mod Tree
 pub mod Values

@@ -5,6 +5,8 @@ pub mod examples;
 pub mod expr;
 pub mod laws;
 pub mod rules;
+pub mod strings;
 
 pub use expr::{Expr, nullable, size};
 pub use rules::{Kind, Rule, RuleSet, Tag};
+pub use strings::{StringRule, Strings};
