@@ -267,7 +267,7 @@ module _ (enc : Enc) (terms : List Term) (words : List (List ℕ)) (any : Bool) 
           after_unit = (p.fore, p.unit, refl);
           possible = (p.mid, (s.0, t.0, s.2, p.is, t.2));
         },
-        refl,
+        refl {a = place},
       )
 
   -- and each unit one of any unit

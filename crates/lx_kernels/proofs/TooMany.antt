@@ -10,11 +10,11 @@ use Rattle.lx_regex.specs.Kernel.{AllDiffer, AreKernels, HasTooManyKernels}
 use Rattle.lx_regex.specs.Pattern.{Pattern, terms_of}
 use Rattle.lx_regex.specs.Strings.{AreStrings, spell_all}
 use Rattle.lx_regex.specs.declared.strings.StringRule.{StringRule}
-use Rattle.lx_kernels.specs.Count.{words_of, front_count, HasOther}
+use Rattle.lx_kernels.specs.Count.{words_of, front_count, HasOther, IsCountable, IsKernelCount}
 use Rattle.lx_kernels.proofs.StringCuts.{AreTerms, are_terms}
 use Rattle.lx_kernels.proofs.KernelCount.{most_kernels}
 use Rattle.lx_kernels.proofs.KernelPlaces.{most_places}
-use Rattle.lx_kernels.proofs.KernelWitness.{ArePoints, words_words, begun_kernels, other_kernels}
+use Rattle.lx_kernels.proofs.KernelWitness.{words_words, begun_kernels, other_kernels}
 
 -- a code point has at most four units
 pub length-spell : (enc : Enc) (point : ℕ) → length (spell enc point) ≤ 4
@@ -67,24 +67,30 @@ ToldOther enc strings default other =
 
 module _
     (enc : Enc) (patterns : List Pattern) (strings : List StringRule) (default : Option ℕ)
-    (is : AreStrings patterns strings default) (points : ArePoints enc strings) (few : point_count strings ≤ 4096) where
+    (is : AreStrings patterns strings default) (countable : IsCountable enc strings) where
   are : AreTerms enc (terms_of patterns) (words_of enc strings) (is_some default)
   are = are_terms enc is
 
-  has_too_many : (other : Bool) → ToldOther enc strings default other
-      → 4096 < 1 + front_count (words_of enc strings) + (if other then 1 else 0) → HasTooManyKernels enc (terms_of patterns)
-  has_too_many false told lt =
+  abbrev HasSoMany : ℕ → Type 0
+  HasSoMany count =
+      (ws : List (List ℕ)) × (ks : List (List Cut)) × AreKernels enc (terms_of patterns) ws ks
+      × AllDiffer enc (terms_of patterns) ks × (length ws ≡ count)
+
+  reached : (other : Bool) → ToldOther enc strings default other
+      → HasSoMany (1 + front_count (words_of enc strings) + (if other then 1 else 0))
+  reached false told =
       let w =
       begun_kernels enc
-      (terms_of patterns) (words_of enc strings) (is_some default) are (words_words enc (terms_of patterns) strings points) in
-      (w.0, w.1.0, w.1.1, w.1.2, inl (omega (arith, w.2)))
-  has_too_many true told lt =
+      (terms_of patterns) (words_of enc strings) (is_some default) are
+      (words_words enc (terms_of patterns) strings countable.points) in
+      (w.0, w.1.0, w.1.1, w.1.2, omega (arith, w.2))
+  reached true told =
       let o = told.0 refl in
       let w =
       other_kernels enc
-      (terms_of patterns) (words_of enc strings) (is_some default) are (words_words enc (terms_of patterns) strings points) o.0
-      o.1 in
-      (w.0, w.1.0, w.1.1, w.1.2, inl (omega (arith, w.2)))
+      (terms_of patterns) (words_of enc strings) (is_some default) are
+      (words_words enc (terms_of patterns) strings countable.points) o.0 o.1 in
+      (w.0, w.1.0, w.1.1, w.1.2, omega (arith, w.2))
 
   most : (other : Bool) → ToldOther enc strings default other → (ws : List (List ℕ)) (ks : List (List Cut))
       → AreKernels enc (terms_of patterns) ws ks → AllDiffer enc (terms_of patterns) ks
@@ -98,26 +104,24 @@ module _
       (λ le. omega (arith, le)) (λ k. let z : false ≡ true = told.1 (k.1, k.2) in absurd (cc))
       (most_kernels enc (terms_of patterns) (words_of enc strings) (is_some default) are ws ks kernels differ)
 
-  counted : (other : Bool) → ToldOther enc strings default other → HasTooManyKernels enc (terms_of patterns)
-      → 4096 < 1 + front_count (words_of enc strings) + (if other then 1 else 0)
-  counted other told many =
-      let le = most other told many.0 many.1 many.2 many.3 in
-      let places =
-      most_places enc
-      (terms_of patterns) (words_of enc strings) (is_some default) are many.0 many.1 many.2 many.3 in
-      let units = length-words_of enc strings in
-      ⊎_elim (λ lt. omega (arith, le, lt)) (λ lt. omega (arith, le, lt, places, units, few)) many.4
+  pub counts_kernels : (other : Bool) → ToldOther enc strings default other
+      → IsKernelCount enc (terms_of patterns) (1 + front_count (words_of enc strings) + (if other then 1 else 0))
+  counts_kernels other told = record { reached = reached other told; most = most other told }
 
-  pub too_many : (other : Bool) → ToldOther enc strings default other
-      → (4096 < 1 + front_count (words_of enc strings) + (if other then 1 else 0)) ↔ HasTooManyKernels enc (terms_of patterns)
-  too_many other told = ((λ lt. has_too_many other told lt), (λ many. counted other told many))
-
-  -- so does the test of the count
-  pub count_tells : (other : Bool) → ToldOther enc strings default other → (count : ℕ)
-      → count ≡ 1 + front_count (words_of enc strings) + (if other then 1 else 0)
+  -- so few code points have few places in few kernels, so that the count alone tells
+  pub count_tells : (count : ℕ) → IsKernelCount enc (terms_of patterns) count
       → IsTrue (nat_lt 4096 count) ↔ HasTooManyKernels enc (terms_of patterns)
-  count_tells other told count e =
-      let tells = too_many other told in (
-        λ less. let lt = ltb-true 4096 count less in tells.0 (omega arith),
-        λ many. let lt = tells.1 many in lt-ltb 4096 count (omega arith),
-      )
+  count_tells count counts = ((λ less. there (ltb-true 4096 count less)), (λ many. lt-ltb 4096 count (back many)))
+    where
+      there : 4096 < count → HasTooManyKernels enc (terms_of patterns)
+      there lt = let w = counts.reached in (w.0, w.1, w.2, w.3, inl (omega (arith, w.4)))
+
+      back : HasTooManyKernels enc (terms_of patterns) → 4096 < count
+      back many =
+          let le = counts.most many.0 many.1 many.2 many.3 in
+          let places =
+          most_places enc
+          (terms_of patterns) (words_of enc strings) (is_some default) are many.0 many.1 many.2 many.3 in
+          let units = length-words_of enc strings in
+          let few = countable.short in
+          ⊎_elim (λ lt. omega (arith, le, lt)) (λ lt. omega (arith, le, lt, places, units, few)) many.4
