@@ -1,5 +1,6 @@
 -- Which expressions are strings, and which rule lists are lists of strings.
-use Rattle.std.proofs.Common.{◌≡◌, ℕ, zero, suc, ◌<◌, ◌≤◌, arith, true, false, List, [], ◌∷◌, ◌++◌, map, length, get_or, drop, Vec, Global, refl, sym, ap, ◌∙◌, subst, append_assoc, append-nil, inl, inr, ⊎_elim, ◌⊎◌, Option, Some, None, length-drop}
+use Rattle.std.proofs.Common.{◌≡◌, ℕ, suc, ◌<◌, ◌≤◌, arith, true, false, List, [], ◌∷◌, ◌++◌, map, length, get_or, drop, Vec, Global, refl, sym, ap, ◌∙◌, subst, append_assoc, append-nil, inl, inr, ⊎_elim, ◌⊎◌, Option, Some, None, length-drop}
+use Rattle.std.proofs.Math.ListN.{drop_of_length-le}
 use Rattle.std.proofs.Math.Seq.{drop-cons}
 use Rattle.lx_regex.specs.Term.{Term, cat, Terms, cons}
 use Rattle.lx_regex.specs.Expr.{members_of, term_of}
@@ -11,12 +12,6 @@ use Rattle.lx_regex.specs.declared.rules.Rule.{Rule}
 use Rattle.lx_regex.specs.declared.strings.StringRule.{StringRule}
 use Rattle.lx_regex.specs.declared.expr.Expr.TheVariants.{Empty, Unit, Cat}
 use Rattle.lx_regex.proofs.Folds.{term_of-empty, term_of-unit, term_of-cat}
-
-drop-all : {A : Type 0} (xs : List A) (n : ℕ) → length xs ≤ n → drop n xs ≡ []
-drop-all [] zero le = refl
-drop-all [] (suc n) le = refl
-drop-all (x ∷ xs) zero le = absurd (omega arith)
-drop-all (x ∷ xs) (suc n) le = drop-all xs n (omega arith)
 
 -- the members of a sequence as terms
 abbrev pub terms_at : ℕ → List Expr → Terms
@@ -118,7 +113,7 @@ appends-all e vec members i old new is value le has = (
       (sequence
       (subst
       (λ l. AreJoined (terms_at tags members) l) (append-nil has.0)
-      (has.2.joins tags [] (subst (λ l. AreJoined (terms_at tags l) []) (sym (drop-all members i le)) no_member))))),
+      (has.2.joins tags [] (subst (λ l. AreJoined (terms_at tags l) []) (sym (drop_of_length-le members le)) no_member))))),
   has.1,
 )
 
@@ -207,11 +202,11 @@ begin-default rules i rule done lt at begin last is =
     (Some rule.number)
     (subst
     (λ l. AreStrings (patterns_of l) [] (Some rule.number))
-    (sym (next_rule rules i rule lt at ∙ ap (λ l. rule ∷ l) (drop-all rules (suc i) (omega arith)))) (default_rule is)))
+    (sym (next_rule rules i rule lt at ∙ ap (λ l. rule ∷ l) (drop_of_length-le rules {i = suc i} (omega arith)))) (default_rule is)))
 
 pub begin-all : (rules : List Rule) (i : ℕ) (done : List StringRule) → length rules ≤ i → BeginWith rules i done
     → AreStrings (patterns_of rules) done None
 begin-all rules i done le begin =
     subst
     (λ l. AreStrings (patterns_of rules) l None) (append-nil done)
-    (begin.joins [] None (subst (λ l. AreStrings (patterns_of l) [] None) (sym (drop-all rules i le)) no_rule))
+    (begin.joins [] None (subst (λ l. AreStrings (patterns_of l) [] None) (sym (drop_of_length-le rules le)) no_rule))
