@@ -189,9 +189,10 @@ fn definitions_that_double_each_other_are_too_large(rt: HostRuntime) -> Result<(
     let alloc = rt.alloc();
     let options = options(alloc, Enc::Byte, SurPolicy::Ignore)?;
     let mut body = String::from_str(alloc, "x0 = \"a\";")?;
+    let mut before = 0;
     for number in 1..60 {
-        let before = number - 1;
         body.push_str(format!(in alloc; "x{number} = x{before} x{before};")?.as_str())?;
+        before = number;
     }
     assert_eq!(rt;
         run(alloc, &options, body.as_str(), "x12 { }")?.as_str(),
@@ -221,9 +222,10 @@ fn names_nest(rt: HostRuntime) -> Result<(), Fail> {
     let alloc = rt.alloc();
     let options = options(alloc, Enc::Byte, SurPolicy::Ignore)?;
     let mut body = String::from_str(alloc, "x0 = \"a\";")?;
+    let mut before = 0;
     for number in 1..300 {
-        let before = number - 1;
         body.push_str(format!(in alloc; "x{number} = x{before};")?.as_str())?;
+        before = number;
     }
     assert_eq!(rt;
         run(alloc, &options, body.as_str(), "x255 { }")?.as_str(),
