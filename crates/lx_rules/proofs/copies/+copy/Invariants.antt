@@ -1,0 +1,6 @@
+use Rattle.std.proofs.Common.{◌≡◌, ℕ, map, take}
+use Rattle.lx_regex.specs.Expr.{term_of}
+use Rattle.lx_rules.proofs.copies.+copy.Given as goal
+
+abbrev pub invariant-loop-member : goal.invariant-loop-member
+invariant-loop-member l = (tags : ℕ) → map (term_of tags) l.copies.items ≡ map (term_of tags) (take l.member-index l.member-items)

@@ -1,0 +1,12 @@
+pub mod Blocks
+pub mod Checks
+pub mod Configurations
+pub mod Environments
+pub mod Forms
+pub mod Items
+pub mod Lexemes
+pub mod Meanings
+pub mod Points
+pub mod Reading
+pub mod Seen
+pub mod Soundness

@@ -1,0 +1,25 @@
+//! Copies of expressions.
+ghost use Rattle.std.specs.Prelude.{◌≡◌, ℕ, IfOk};
+ghost use Rattle.lx_regex.specs.Expr.{term_of};
+
+use lx_base::Memory;
+use lx_regex::Expr;
+use std::alloc::Global;
+
+/// An expression with the same term.
+pub(crate) fn copy(alloc: Global, expr: &Expr) -> Result<Expr, Memory>
+    ensures { IfOk result (λ copy. (tags : ℕ) → term_of tags copy ≡ term_of tags expr.now) }
+{
+    match expr {
+        Expr::Empty => Ok(Expr::Empty),
+        Expr::Unit(point) => Ok(Expr::Unit(*point)),
+        Expr::AnyUnit => Ok(Expr::AnyUnit),
+        Expr::Cat(members) => {
+            let mut copies = Vec::new(alloc);
+            for member in members {
+                copies.push(copy(alloc, member)?)?;
+            }
+            Ok(Expr::Cat(copies))
+        }
+    }
+}
