@@ -1,5 +1,8 @@
 pub mod EmissionLemmas
 pub mod LetterLemmas
+pub mod ScanSteps
+pub mod ScanTrees
+pub mod SizeLemmas
 pub mod StartLemmas
 pub mod StepLemmas
 pub mod TestLemmas

@@ -1,5 +1,5 @@
 -- The emission of a word's block, step by step.
-use Rattle.std.proofs.Common.{◌≡◌, ℕ, suc, ◌+◌, ◌-◌, ◌*◌, ◌^◌, ◌<◌, ◌≤◌, Bool, true, false, List, [], ◌∷◌, ◌++◌, length, Option, Some, None, refl, sym, ap, subst, ◌∙◌, arith, true≢false}
+use Rattle.std.proofs.Common.{◌≡◌, ℕ, zero, suc, ◌+◌, ◌-◌, ◌*◌, ◌^◌, ◌<◌, ◌≤◌, Bool, true, false, List, [], ◌∷◌, ◌++◌, length, Option, Some, None, refl, sym, ap, subst, ◌∙◌, arith, true≢false}
 use Rattle.std.specs.Prelude.{◌==◌, IfSome}
 use Rattle.std.specs.List.{AllByRecursion}
 use Rattle.lx_ccode.specs.declared.piece.Stmt.{Stmt}
@@ -121,7 +121,7 @@ module _ (depth : ℕ) (place : Place) (items : List Item) (last : Accepted) (be
     pub known : IsKnown (length emitter.actions.now) newer
     pub fallback : HasFallback emitter.blocks.items None newer begin.fallback
     pub deep : 1 < depth
-    pub items : AreItems depth (length emitter.actions.now) next
+    pub fewer : AreItems depth (length emitter.actions.now) next
     pub few : letters next ≤ 16384
 
   pub asks_next : (before emitter : Emitter) (code : List Stmt) (bound unit : ℕ) (next : List Item) (newer : Accepted) →
@@ -145,7 +145,7 @@ module _ (depth : ℕ) (place : Place) (items : List Item) (last : Accepted) (be
         known = subst (λ (actions : List (List ℕ)). IsKnown (length actions) newer) same known_next;
         fallback = falls_next;
         deep = deep_items depth (length before.actions.now) (derived unit items) fewer unit_is.some;
-        items = subst (λ (actions : List (List ℕ)). AreItems depth (length actions) next) same fewer_next;
+        fewer = subst (λ (actions : List (List ℕ)). AreItems depth (length actions) next) same fewer_next;
         few = omega (arith, few, letters_are, letters-derived unit items);
       }
 
@@ -233,3 +233,19 @@ plain_goto emitter Behind block within = record {
   good = record { cond = refl; ends = refl; short = omega arith; statements = (tt, (within, tt)) };
   plain = λ number. refl;
 }
+
+-- the block of the units that only `*` takes is where a word's block goes on where the next unit is not taken
+pub default_begins : (blocks : List CodeBlock) (place : Place) (items : List Item) (last : Accepted) (begin : WordBegin) (default : ℕ) → default_of place ≡ Some default → ServesDeeper 1 blocks [] (Here default) begin.miss →
+    begin.keeps ≡ false → begin.miss < length blocks → begin.fallback < length blocks → (depth : ℕ) → 0 < depth → Begins depth blocks place items last begin
+default_begins blocks place items last begin default is block drops within reach zero deep = absurd (omega (arith, deep))
+default_begins blocks place items last begin default is block drops within reach (suc depth) deep = record {
+  misses = subst (λ given. ServesNext (ServesDeeper (suc depth) blocks) blocks given [] last begin.keeps begin.miss) (sym is) block;
+  keeps_here = λ here. drops;
+  marks = λ none. absurd (other none);
+  fallback = λ none. absurd (other none);
+  within = within;
+  reach = reach;
+}
+  where
+    other : default_of place ≡ None → ⊥
+    other none = let h : Some default ≡ None = sym is ∙ none in cc

@@ -1,9 +1,9 @@
 -- The least unit with which some item goes on, and the units of one code point.
 use Rattle.std.proofs.Common.{◌≡◌, ℕ, zero, suc, ◌<◌, ◌≤◌, Bool, true, false, List, [], ◌∷◌, Option, Some, None, refl, sym, ap, subst, ◌∙◌, arith, eq-eqb, inl, inr}
-use Rattle.std.specs.Prelude.{nat_lt, nat_le, ◌==◌, ◌⊎◌, if◌then◌else◌}
+use Rattle.std.specs.Prelude.{nat_lt, nat_le, ◌==◌, ◌⊎◌, IfSome, IfNone, if◌then◌else◌}
 use Rattle.std.proofs.lemmas.Bool.{ne_eqb, ltb-true, ltb-false, leb-true, leb-false}
-use Rattle.lx_trie.specs.Scan.{Item, accepted, derived}
-use Rattle.lx_trie.specs.Emission.{AcceptsNext, HaveNone, HaveNoMore, IsNextUnit, least_of, lesser, next_from}
+use Rattle.lx_trie.specs.Scan.{Item, derived}
+use Rattle.lx_trie.specs.Emission.{HaveNone, HaveNoMore, IsNextUnit, least_of, lesser, next_from}
 
 abbrev item : (rule letter : ℕ) → List ℕ → Item
 item rule letter rest = record { rule = rule; rest = letter ∷ rest }
@@ -113,27 +113,20 @@ next_from-is bound other (item ∷ items) = by item.rest (next_from-is bound oth
     by (letter ∷ rest) same again = next_item bound item.rule letter rest items other (next_from bound (lesser bound letter other) items) (again letter)
 
 -- so the search from no unit on finds the next unit
-pub next_unit-some : (bound : ℕ) (items : List Item) (unit : ℕ) → Some unit ≡ next_from bound None items → IsNextUnit bound items unit
-next_unit-some bound items unit found = of (subst (λ answer. IsNextOr bound None items answer) (sym found) (next_from-is bound None items))
+pub next_unit-some : (bound : ℕ) (items : List Item) (least : Option ℕ) → least ≡ next_from bound None items → IfSome least (IsNextUnit bound items)
+next_unit-some bound items least found = of least (subst (λ answer. IsNextOr bound None items answer) (sym found) (next_from-is bound None items))
   where
-    of : IsNextOr bound None items (Some unit) → IsNextUnit bound items unit
-    of is = by is.0
+    of : (least : Option ℕ) → IsNextOr bound None items least → IfSome least (IsNextUnit bound items)
+    of None is = tt
+    of (Some unit) is = by is.0
       where
         by : (None ≡ Some unit) ⊎ ((bound ≤ unit) × (derived unit items ≡ [] → ⊥)) → IsNextUnit bound items unit
         by (inl e) = absurd (let h = e in cc)
         by (inr found) = record { within = found.0; some = found.1; least = is.1 }
 
-pub next_unit-none : (bound : ℕ) (items : List Item) → None ≡ next_from bound None items → HaveNoMore bound items
-next_unit-none bound items none = (subst (λ answer. IsNextOr bound None items answer) (sym none) (next_from-is bound None items)).1
-
--- ---- whether each longer word is accepted
-
--- behind a unit with which no item goes on
-pub accepts_nothing : (unit : ℕ) (items : List Item) → derived unit items ≡ [] → AcceptsNext (derived unit items) (accepted (derived unit items))
-accepts_nothing unit items none = subst (λ next. AcceptsNext next (accepted next)) (sym none) tt
-
--- behind one where a rule is accepted
-pub accepts_rule : (items : List Item) (given : Option ℕ) → (given ≡ None → ⊥) → AcceptsNext items given
-accepts_rule [] given some = tt
-accepts_rule (item ∷ items) None some = some refl
-accepts_rule (item ∷ items) (Some rule) some = tt
+pub next_unit-none : (bound : ℕ) (items : List Item) (least : Option ℕ) → least ≡ next_from bound None items → IfNone least (HaveNoMore bound items)
+next_unit-none bound items least found = of least (subst (λ answer. IsNextOr bound None items answer) (sym found) (next_from-is bound None items))
+  where
+    of : (least : Option ℕ) → IsNextOr bound None items least → IfNone least (HaveNoMore bound items)
+    of None is = is.1
+    of (Some unit) is = tt

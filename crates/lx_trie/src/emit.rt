@@ -264,7 +264,10 @@ impl<'s> Emitter<'s> {
         ensures few { OnOk result (length self.new.blocks.items ≤ length self.old.blocks.items + 2) }
     {
         match default_of(place) {
-            Some(default) => self.default_begin(alloc, default),
+            Some(default) => {
+                let begin = self.default_begin(alloc, default)?;
+                Ok(begin)
+            }
             None => self.begin_word(alloc, items, last, fallback),
         }
     }
@@ -295,7 +298,8 @@ impl<'s> Emitter<'s> {
         ensures few { OnOk result (length self.new.blocks.items ≤ length self.old.blocks.items + 2 + 3 * letters (items_of items.now)) }
     {
         if !reads_on(place, items) {
-            return self.stop_code(alloc, place, last, fallback);
+            let stop = self.stop_code(alloc, place, last, fallback)?;
+            return Ok(stop);
         }
         let begin = self.begin_place(alloc, place, items, last, fallback)?;
         let mut code = read_code(alloc, place, begin.keeps)?;
