@@ -1,5 +1,6 @@
 pub mod EmissionLemmas
 pub mod LetterLemmas
+pub mod ScanLaw
 pub mod ScanSteps
 pub mod ScanTrees
 pub mod SizeLemmas
