@@ -1,8 +1,10 @@
 pub mod EmissionLemmas
 pub mod LetterLemmas
+pub mod PieceLemmas
 pub mod ScanLaw
 pub mod ScanSteps
 pub mod ScanTrees
+pub mod Simulation
 pub mod SizeLemmas
 pub mod StartLemmas
 pub mod StepLemmas
