@@ -1,0 +1,5 @@
+pub mod Emission
+pub mod Pieces
+pub mod Scan
+pub mod Scanner
+pub mod Serving
