@@ -1,0 +1,7 @@
+pub mod ActionTexts
+pub mod BlockStops
+pub mod OneScanner
+pub mod StringRules
+pub mod TextRuns
+pub mod KernelRuns
+pub mod WalkRuns
