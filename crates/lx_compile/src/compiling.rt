@@ -15,17 +15,12 @@ use std::alloc::Global;
 /// How many bytes a source may have.
 pub const SOURCE_LIMIT: usize = 16_777_216;
 
-/// The output of a source: the text outside of its blocks, unchanged, with one emitted piece in the place of each block.
-///
-/// The source is file 0 of the file names. It refuses with the first fault of the source, before anything is emitted: all blocks
-/// are resolved in order, and then the kernels of their scanners are counted in order. `Memory` comes only where memory runs
-/// out.
-pub fn compile(alloc: Global, source: &[u8], options: &Options) -> Result<Vec<u8>, Stop>
+/// The output of a source.
+fn output_of(alloc: Global, source: &[u8], options: &Options) -> Result<Vec<u8>, Stop>
     requires { ArePlain options.now }
-    ensures output { MatchResult result
+    ensures { MatchResult result
         (λ output. IsFirstFault options.now source.now None × IsOutput options.now source.now output.items)
         (StopsWith options.now source.now) }
-    ensures placed { IfErr result StopsInFirst }
 {
     if source.len() > SOURCE_LIMIT {
         let at = Pos {
@@ -40,4 +35,19 @@ pub fn compile(alloc: Global, source: &[u8], options: &Options) -> Result<Vec<u8
     let parts = resolve_blocks(alloc, pieces, options)?;
     count_kernels(alloc, parts.as_slice())?;
     Ok(emit(alloc, parts.as_slice())?)
+}
+
+/// The output of a source: the text outside of its blocks, unchanged, with one emitted piece in the place of each block.
+///
+/// The source is file 0 of the file names. It refuses with the first fault of the source, before anything is emitted: all blocks
+/// are resolved in order, and then the kernels of their scanners are counted in order. `Memory` comes only where memory runs
+/// out.
+pub fn compile(alloc: Global, source: &[u8], options: &Options) -> Result<Vec<u8>, Stop>
+    requires { ArePlain options.now }
+    ensures output { MatchResult result
+        (λ output. IsFirstFault options.now source.now None × IsOutput options.now source.now output.items)
+        (StopsWith options.now source.now) }
+    ensures placed { IfErr result StopsInFirst }
+{
+    output_of(alloc, source, options)
 }

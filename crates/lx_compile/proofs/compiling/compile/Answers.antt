@@ -1,16 +1,8 @@
+use Rattle.std.proofs.lemmas.Result.{MatchResult-weaker}
+use Rattle.lx_compile.proofs.FaultPlaces.{StopsInFirst-of}
 use Rattle.lx_compile.proofs.compiling.compile.Goals as goal
 
-pub returns-in_err-pieces-clause-placed : goal.returns-in_err-pieces-clause-placed
-returns-in_err-pieces-clause-placed c = ?
-
-pub resolve_blocks-requires-clause-near : goal.resolve_blocks-requires-clause-near
-resolve_blocks-requires-clause-near c = ?
-
-pub returns-in_err-parts-clause-placed : goal.returns-in_err-parts-clause-placed
-returns-in_err-parts-clause-placed c = ?
-
-pub returns-in_err-count_kernels-clause-placed : goal.returns-in_err-count_kernels-clause-placed
-returns-in_err-count_kernels-clause-placed c = ?
-
-pub emit-requires-clause-few : goal.emit-requires-clause-few
-emit-requires-clause-few c = ?
+pub returns-clause-placed : goal.returns-clause-placed
+returns-clause-placed c =
+    MatchResult-weaker c.output_of.result c.output_of.ensures (λ output is. tt)
+    (λ stopped stops. StopsInFirst-of c.args.options.now c.args.source.now stopped stops)
