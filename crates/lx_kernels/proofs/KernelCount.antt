@@ -11,10 +11,6 @@ use Rattle.lx_kernels.proofs.WordFronts.{IsFront, Begins, fronts, length-fronts,
 use Rattle.lx_kernels.proofs.StringCuts.{AreTerms}
 use Rattle.lx_kernels.proofs.StringKernels.{IsSettled, IsStray, kernels_same, strays_same, settled_or_stray}
 
-pub length-map : {A B : Type 0} (f : A → B) (xs : List A) → length (map f xs) ≡ length xs
-length-map f [] = refl
-length-map f (x ∷ xs) = ap suc (length-map f xs)
-
 pub among_at : {A : Type 0} (x : A) (xs : List A) → Among x xs → (i : ℕ) × (slice_get xs i ≡ Some x)
 among_at x [] m = absurd m
 among_at x (y ∷ xs) (inl e) = (0, ap Some (sym e))

@@ -1,6 +1,7 @@
 -- How many places different kernels have together.
 use Rattle.std.specs.Prelude.{slice_get, Some, sum_by}
 use Rattle.std.proofs.Common.{◌≡◌, ℕ, zero, suc, ◌+◌, ◌≤◌, Bool, List, [], ◌∷◌, ◌++◌, map, length, refl, sym, ap, ◌∙◌, subst, inl, inr, ⊎_elim, arith, length-append}
+use Rattle.std.proofs.lemmas.List.{length-map}
 use Rattle.std.proofs.lemmas.List.Sums.{sum_by-cons}
 use Rattle.lx_base.specs.declared.settings.Enc.{Enc}
 use Rattle.lx_regex.specs.Term.{Term}
@@ -10,7 +11,7 @@ use Rattle.lx_kernels.proofs.Distinct.{Among, Distinct, among-append, among_fron
 use Rattle.lx_kernels.proofs.WordFronts.{fresh, length-fresh, fresh_among}
 use Rattle.lx_kernels.proofs.StringCuts.{AreTerms, start, cut_reads}
 use Rattle.lx_kernels.proofs.StringKernels.{kernel_ascends}
-use Rattle.lx_kernels.proofs.KernelCount.{length-map, among_at, distinct_map, words_distinct}
+use Rattle.lx_kernels.proofs.KernelCount.{among_at, distinct_map, words_distinct}
 
 -- a word with a rule or with that of a cut
 abbrev at_place : ℕ → List ℕ → List ℕ × ℕ
@@ -34,7 +35,7 @@ length-rows : (place : ℕ) (words : List (List ℕ)) → length (rows place wor
 length-rows place [] = refl
 length-rows place (word ∷ others) =
     let rest = length-rows (suc place) others in
-    let first = length-map (at_place place) (fresh 0 word) in
+    let first = length-map (fresh 0 word) (at_place place) in
     let all = sum_by-cons (length {A = ℕ}) word others in
     omega (arith, length-append (map (at_place place) (fresh 0 word)) (rows (suc place) others), length-fresh 0 word)
 
@@ -61,7 +62,7 @@ module _ (enc : Enc) (terms : List Term) (words : List (List ℕ)) (any : Bool) 
   length-places_of (w ∷ ws) [] kernels = absurd kernels
   length-places_of (w ∷ ws) (k ∷ ks) kernels =
       let rest = length-places_of ws ks kernels.3 in
-      let first = length-map (in_rule w) k in
+      let first = length-map k (in_rule w) in
       let all = sum_by-cons (length {A = Cut}) k ks in
       omega (arith, length-append (map (in_rule w) k) (places_of ws ks))
 
@@ -144,5 +145,5 @@ module _ (enc : Enc) (terms : List Term) (words : List (List ℕ)) (any : Bool) 
       subst (λ q. Among q (targets ws)) (sym r.3) (place_target ws r.0 r.1 r.2 r.4 r.5 r.6)) in
       let counted = length-places_of ws ks kernels in
       let begun = length-rows 0 words in
-      let single = length-map (at_place (length words)) ws in
+      let single = length-map ws (at_place (length words)) in
       omega (arith, length-append (at_place 0 [] ∷ map (at_place (length words)) ws) (rows 0 words))

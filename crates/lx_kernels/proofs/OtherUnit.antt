@@ -2,6 +2,7 @@
 use Rattle.std.specs.Prelude.{slice_get, Option, Some, min}
 use Rattle.std.proofs.Common.{◌≡◌, ℕ, zero, suc, ◌+◌, ◌^◌, ◌<◌, ◌≤◌, ◌⊎◌, List, [], ◌∷◌, map, length, get_or, refl, sym, ap, subst, inl, inr, ⊎_elim, arith}
 use Rattle.std.proofs.lemmas.Bool.{cases_order}
+use Rattle.std.proofs.lemmas.List.{length-map}
 use Rattle.lx_base.specs.declared.settings.Enc.{Enc}
 use Rattle.lx_base.specs.declared.settings.Enc.TheVariants.{Byte, Ucs2, Utf8, Utf16, Utf32}
 use Rattle.lx_base.specs.Spelling.{greatest_unit}
@@ -37,10 +38,6 @@ distinct-below : (n : ℕ) → Distinct (below n)
 distinct-below zero = tt
 distinct-below (suc n) = ((λ m. let r = among-below n n m in absurd (omega arith)), distinct-below n)
 
-length-map : {A B : Type 0} (f : A → B) (xs : List A) → length (map f xs) ≡ length xs
-length-map f [] = refl
-length-map f (x ∷ xs) = ap suc (length-map f xs)
-
 started_few : (words : List (List ℕ)) (n : ℕ) → ((unit : ℕ) → unit < n → IsStarted words unit) → n ≤ length words
 started_few words n all =
     let le =
@@ -50,8 +47,8 @@ started_few words n all =
     (λ z m.
     let r = among-map (λ (k : ℕ). Some k) z (below n) m in
     subst (λ o. Among o (first_units words)) (sym r.2) (started_among words r.0 (all r.0 (among-below n r.0 r.1)))) in
-    let a = length-map (λ (k : ℕ). Some k) (below n) in
-    let b = length-map (λ (word : List ℕ). slice_get word 0) words in omega (arith, length-below n)
+    let a = length-map (below n) (λ (k : ℕ). Some k) in
+    let b = length-map words (λ (word : List ℕ). slice_get word 0) in omega (arith, length-below n)
 
 -- where the units up to the greatest, or more than there are strings, each begin one, none is left
 pub none_other : (enc : Enc) (strings : List StringRule) (last : ℕ) → length strings ≤ 4096
@@ -60,7 +57,7 @@ pub none_other : (enc : Enc) (strings : List StringRule) (last : ℕ) → length
 none_other enc strings last few (inl e) all other = other.2 (all other.0 (let le = other.1 in omega arith))
 none_other enc strings last few (inr e) all other =
     let le = started_few (words_of enc strings) (last + 1) all in
-    omega (arith, length-map (λ (rule : StringRule). spell_all enc rule.text) strings)
+    omega (arith, length-map strings (λ (rule : StringRule). spell_all enc rule.text))
 
 -- the lesser of two numbers is one of them
 pub one_of_two : (last greatest : ℕ) → last ≡ min greatest 4096 → (last ≡ greatest) ⊎ (last ≡ 4096)

@@ -264,10 +264,10 @@ module _ (enc : Enc) (terms : List Term) (words : List (List ℕ)) (any : Bool) 
         record { rule = place; front = p.fore ++ reads p.unit ∷ [] },
         record {
           reads_word = p.first;
-          after_unit = (p.fore, p.unit, refl);
+          after_unit = (p.fore, p.unit, refl {a = p.fore ++ reads p.unit ∷ []});
           possible = (p.mid, (s.0, t.0, s.2, p.is, t.2));
         },
-        refl {a = place},
+        refl,
       )
 
   -- and each unit one of any unit

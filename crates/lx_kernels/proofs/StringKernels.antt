@@ -2,6 +2,7 @@
 use Rattle.std.specs.Prelude.{slice_get, Option, Some, None}
 use Rattle.std.proofs.Common.{◌≡◌, ◌≢◌, ℕ, zero, suc, ◌+◌, ◌<◌, ◌≤◌, ◌⊎◌, Bool, true, false, List, [], ◌∷◌, ◌++◌, length, refl, sym, ap, ap₂, ◌∙◌, subst, inl, inr, ⊎_elim, arith}
 use Rattle.std.proofs.lemmas.Bool.{cases_order}
+use Rattle.std.proofs.lemmas.Option.{slice_get_within}
 use Rattle.lx_base.specs.declared.settings.Enc.{Enc}
 use Rattle.lx_regex.specs.Term.{Term}
 use Rattle.lx_regex.specs.Cut.{Cut, IsCut, SamePlace, Precedes}
@@ -40,11 +41,6 @@ begins_or_not w (word ∷ words) =
         → slice_get (word ∷ words) place ≡ Some other → IsFront w other → ⊥
     neither never none zero other at f = let e : other ≡ word = cc in never (subst (λ v. IsFront w v) e f)
     neither never none (suc place) other at f = none (place, other, at, f)
-
-pub place_within : {A : Type 0} (xs : List A) (i : ℕ) (x : A) → slice_get xs i ≡ Some x → i < length xs
-place_within [] i x at = cc
-place_within (y ∷ xs) zero x at = omega arith
-place_within (y ∷ xs) (suc i) x at = let r = place_within xs i x at in omega arith
 
 -- the unit of a word of one unit
 unit_or_not : (w : List ℕ) → ((number : ℕ) × (w ≡ number ∷ [])) ⊎ ((number : ℕ) → w ≡ number ∷ [] → ⊥)
@@ -114,7 +110,7 @@ module _ (enc : Enc) (terms : List Term) (words : List (List ℕ)) (any : Bool) 
           inr (λ r.
           ⊎_elim
           (λ k. let at' = k.1 in let e : k.0 ≡ word = cc in never (subst (λ v. IsFront w v) e k.2))
-          (λ k. let lt = place_within words place word stands in let e = k.1 in absurd (omega arith)) r))
+          (λ k. let lt = slice_get_within words place word stands in let e = k.1 in absurd (omega arith)) r))
           (front_or_not w word)
 
   cut_or_not : (w : List ℕ) (place : ℕ) → w ≢ [] → HasCutIn w place ⊎ (HasCutIn w place → ⊥)
@@ -123,7 +119,7 @@ module _ (enc : Enc) (terms : List Term) (words : List (List ℕ)) (any : Bool) 
       (λ r. inl (read_cut w place some r)) (λ never. inr (λ has. never (cut_read w place has))) (read_or_not w place some)
 
   read_within : (w : List ℕ) (place : ℕ) → IsRead enc terms words any are w place → place ≤ length words
-  read_within w place (inl r) = let lt = place_within words place r.0 r.1 in omega arith
+  read_within w place (inl r) = let lt = slice_get_within words place r.0 r.1 in omega arith
   read_within w place (inr r) = let e = r.1 in omega arith
 
   -- the cuts of the rules from one place on, in their order

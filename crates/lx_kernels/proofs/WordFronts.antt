@@ -3,6 +3,7 @@ use Rattle.std.specs.Prelude.{slice_get, Some, nat_eq, max}
 use Rattle.std.specs.List.{common_prefix_len}
 use Rattle.std.proofs.Common.{◌≡◌, ◌≢◌, ℕ, zero, suc, ◌+◌, ◌-◌, ◌<◌, ◌≤◌, ◌⊎◌, Bool, true, false, List, [], ◌∷◌, ◌++◌, map, length, cond, refl, sym, ap, ap₂, ◌∙◌, subst, inl, inr, ⊎_elim, arith, length-append, eqb-true}
 use Rattle.std.proofs.lemmas.Bool.{cases_order, eqb-false}
+use Rattle.std.proofs.lemmas.List.{length-map}
 use Rattle.lx_kernels.specs.Count.{shared_length, front_count}
 use Rattle.lx_kernels.proofs.Distinct.{Among, Distinct, among-append, among_front, among_back, among-map, map_among, distinct-append, distinct-map}
 
@@ -25,15 +26,11 @@ abbrev pub fronts : List (List ℕ) → List (List ℕ)
 fronts [] = []
 fronts (word ∷ words) = fresh (shared_length word words) word ++ fronts words
 
-length-map : {A B : Type 0} (f : A → B) (xs : List A) → length (map f xs) ≡ length xs
-length-map f [] = refl
-length-map f (x ∷ xs) = ap suc (length-map f xs)
-
 pub length-fresh : (n : ℕ) (word : List ℕ) → length (fresh n word) ≡ length word - n
 length-fresh n [] = omega arith
 length-fresh zero (unit ∷ word) =
-    omega (arith, length-map (λ w. unit ∷ w) (fresh zero word), length-fresh zero word)
-length-fresh (suc n) (unit ∷ word) = omega (arith, length-map (λ w. unit ∷ w) (fresh n word), length-fresh n word)
+    omega (arith, length-map (fresh zero word) (λ w. unit ∷ w), length-fresh zero word)
+length-fresh (suc n) (unit ∷ word) = omega (arith, length-map (fresh n word) (λ w. unit ∷ w), length-fresh n word)
 
 pub length-fronts : (words : List (List ℕ)) → length (fronts words) ≡ front_count words
 length-fronts [] = refl

@@ -1,7 +1,8 @@
 -- Which expressions are strings, and which rule lists are lists of strings.
-use Rattle.std.proofs.Common.{◌≡◌, ℕ, zero, suc, ◌<◌, ◌≤◌, arith, true, false, List, [], ◌∷◌, ◌++◌, map, length, get_or, drop, Vec, Global, refl, sym, ap, ◌∙◌, subst, append_assoc, append-nil, inl, inr, ⊎_elim, ◌⊎◌, Option, Some, None, length-drop}
+use Rattle.std.proofs.Common.{◌≡◌, ℕ, suc, ◌<◌, ◌≤◌, arith, true, false, List, [], ◌∷◌, ◌++◌, map, length, get_or, drop, Vec, Global, refl, sym, ap, ap₂, ◌∙◌, subst, append_assoc, append-nil, inl, inr, ⊎_elim, ◌⊎◌, Option, Some, None, length-drop}
+use Rattle.std.proofs.Math.ListN.{drop_of_length-le}
 use Rattle.std.proofs.Math.Seq.{drop-cons}
-use Rattle.lx_regex.specs.Term.{Term, cat, Terms, cons}
+use Rattle.lx_regex.specs.Term.{Term, class, cat, Terms, cons}
 use Rattle.lx_regex.specs.Expr.{members_of, term_of}
 use Rattle.lx_regex.specs.Pattern.{Pattern, pattern_of, patterns_of}
 use Rattle.lx_regex.specs.Strings.{IsString, no_character, character, sequence, AreJoined, no_member, member_then, Appends, AreStrings, no_rule, default_rule, string_rule, IsStringRule, IsDefaultRule}
@@ -11,12 +12,6 @@ use Rattle.lx_regex.specs.declared.rules.Rule.{Rule}
 use Rattle.lx_regex.specs.declared.strings.StringRule.{StringRule}
 use Rattle.lx_regex.specs.declared.expr.Expr.TheVariants.{Empty, Unit, Cat}
 use Rattle.lx_regex.proofs.Folds.{term_of-empty, term_of-unit, term_of-cat}
-
-drop-all : {A : Type 0} (xs : List A) (n : ℕ) → length xs ≤ n → drop n xs ≡ []
-drop-all [] zero le = refl
-drop-all [] (suc n) le = refl
-drop-all (x ∷ xs) zero le = absurd (omega arith)
-drop-all (x ∷ xs) (suc n) le = drop-all xs n (omega arith)
 
 -- the members of a sequence as terms
 abbrev pub terms_at : ℕ → List Expr → Terms
@@ -118,7 +113,7 @@ appends-all e vec members i old new is value le has = (
       (sequence
       (subst
       (λ l. AreJoined (terms_at tags members) l) (append-nil has.0)
-      (has.2.joins tags [] (subst (λ l. AreJoined (terms_at tags l) []) (sym (drop-all members i le)) no_member))))),
+      (has.2.joins tags [] (subst (λ l. AreJoined (terms_at tags l) []) (sym (drop_of_length-le members le)) no_member))))),
   has.1,
 )
 
@@ -207,11 +202,62 @@ begin-default rules i rule done lt at begin last is =
     (Some rule.number)
     (subst
     (λ l. AreStrings (patterns_of l) [] (Some rule.number))
-    (sym (next_rule rules i rule lt at ∙ ap (λ l. rule ∷ l) (drop-all rules (suc i) (omega arith)))) (default_rule is)))
+    (sym (next_rule rules i rule lt at ∙ ap (λ l. rule ∷ l) (drop_of_length-le rules {i = suc i} (omega arith)))) (default_rule is)))
 
 pub begin-all : (rules : List Rule) (i : ℕ) (done : List StringRule) → length rules ≤ i → BeginWith rules i done
     → AreStrings (patterns_of rules) done None
 begin-all rules i done le begin =
     subst
     (λ l. AreStrings (patterns_of rules) l None) (append-nil done)
-    (begin.joins [] None (subst (λ l. AreStrings (patterns_of l) [] None) (sym (drop-all rules i le)) no_rule))
+    (begin.joins [] None (subst (λ l. AreStrings (patterns_of l) [] None) (sym (drop_of_length-le rules le)) no_rule))
+
+-- the first code point of a class
+abbrev first_point : Term → ℕ
+first_point (class (range ∷ ranges)) = range.0
+first_point e = 0
+
+-- a term is one string at most
+mutual
+  string_unique : {e e' : Term} {text text' : List ℕ} → IsString e text → IsString e' text' → e ≡ e' → text ≡ text'
+  string_unique no_character no_character same = refl
+  string_unique no_character (character point) same = cc
+  string_unique no_character (sequence joined) same = cc
+  string_unique (character point) no_character same = cc
+  string_unique (character point) (character other) same = ap (λ n. n ∷ []) (ap first_point same)
+  string_unique (character point) (sequence joined) same = cc
+  string_unique (sequence joined) no_character same = cc
+  string_unique (sequence joined) (character point) same = cc
+  string_unique (sequence {members = ms} joined) (sequence {members = ms'} joined') same =
+      let e : ms ≡ ms' = cc in joined_unique joined joined' e
+
+  joined_unique : {ms ms' : Terms} {text text' : List ℕ} → AreJoined ms text → AreJoined ms' text' → ms ≡ ms' → text ≡ text'
+  joined_unique no_member no_member same = refl
+  joined_unique no_member (member_then is joined) same = cc
+  joined_unique (member_then is joined) no_member same = cc
+  joined_unique (member_then {member = m} {members = ms} is joined) (member_then {member = m'} {members = ms'} is' joined') same =
+      let e : m ≡ m' = cc in
+      let f : ms ≡ ms' = cc in ap₂ (λ a b. a ++ b) (string_unique is is' e) (joined_unique joined joined' f)
+
+-- and a rule list one list of strings
+pub strings_unique :
+    {patterns patterns' : List Pattern} {strings strings' : List StringRule} {default default' : Option ℕ}
+    → AreStrings patterns strings default → AreStrings patterns' strings' default' → patterns ≡ patterns'
+    → (strings ≡ strings') × (default ≡ default')
+strings_unique no_rule no_rule same = (refl, refl)
+strings_unique no_rule (default_rule is) same = cc
+strings_unique no_rule (string_rule text is are) same = cc
+strings_unique (default_rule is) no_rule same = cc
+strings_unique (default_rule {pattern = p} is) (default_rule {pattern = p'} is') same =
+    let e : p ≡ p' = cc in (refl, ap (λ (q : Pattern). Some q.number) e)
+strings_unique (default_rule {pattern = p} is) (string_rule {pattern = p'} text is' are) same =
+    let e : p' ≡ p = cc in absurd (no_default p text (subst (λ q. IsStringRule q text) e is') is)
+strings_unique (string_rule text is are) no_rule same = cc
+strings_unique (string_rule {pattern = p} text is are) (default_rule {pattern = p'} is') same =
+    let e : p ≡ p' = cc in absurd (no_default p' text (subst (λ q. IsStringRule q text) e is) is')
+strings_unique (string_rule {pattern = p} {patterns = ps} text is are) (string_rule {pattern = p'} {patterns = ps'} text' is' are') same =
+    let e : p ≡ p' = cc in
+    let f : ps ≡ ps' = cc in
+    let more = strings_unique are are' f in
+    let words = string_unique is.string is'.string (ap (λ (q : Pattern). q.term) e) in
+    let first = ap₂ (λ (q : Pattern) (t : List ℕ). record { number = q.number; text = t }) e words in
+    (ap₂ (λ (a : StringRule) (b : List StringRule). a ∷ b) first more.0, more.1)
