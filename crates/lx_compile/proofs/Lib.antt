@@ -10,3 +10,6 @@ pub mod FaultPlaces
 pub mod ItemPlaces
 pub mod KernelRuns
 pub mod WalkRuns
+pub mod OneCheck
+pub mod OneFault
+pub mod OneItem

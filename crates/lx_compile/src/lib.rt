@@ -6,6 +6,7 @@ mod compiling;
 mod emission;
 mod kernels;
 pub mod laws;
+pub mod one_fault;
 mod parts;
 mod walk;
 
