@@ -60,6 +60,7 @@ one_scanner options at environment lexemes items after resolved is =
     let state = is.0 in
     let unnamed = AreUnnamed-goes options lexemes is.1 state refl tt in
     omega (
-    arith,
-    conditions_of-unnamed state.rules unnamed,
-    length-AreScanners options.conds state.rules (conditions_of state.rules) resolved.scanners is.3.scanners)
+      arith,
+      conditions_of-unnamed state.rules unnamed,
+      length-AreScanners options.conds state.rules (conditions_of state.rules) resolved.scanners is.3.scanners,
+    )

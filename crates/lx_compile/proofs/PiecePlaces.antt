@@ -67,7 +67,7 @@ near_from start (Block kind body at body_at end_line ∷ pieces) places size lin
     let body_line = place_after-line start opener in
     let body_col = place_after-col start opener in
     let inner : length (piece_text block) ≡ length opener + length body + 2 =
-        omega (arith, length-append (word_of kind ++ body) (codes "*/"), length-append (word_of kind) body) in
+    omega (arith, length-append (word_of kind ++ body) (codes "*/"), length-append (word_of kind) body) in
     let place : body_at ≡ place_after start opener = places.1 in
     All-cons IsNearPiece block pieces
     (record {
@@ -106,13 +106,14 @@ in_file_from : (start : Pos) (pieces : List SourcePiece) → AreAtPlaces start p
 in_file_from start [] places in_file = tt
 in_file_from start (Outside text ∷ pieces) places in_file =
     (tt, in_file_from (place_after start text) pieces places (place_after-file start text ∙ in_file))
-in_file_from start (Block kind body at body_at end_line ∷ pieces) places in_file =
-    (record {
-      at_in = ap (λ (p : Pos). p.file) places.0 ∙ in_file;
-      start_in = ap (λ (p : Pos). p.file) places.1 ∙ place_after-file start (codes "/*!" ++ word_of kind) ∙ in_file;
-    },
-    in_file_from (place_after start (piece_text (Block kind body at body_at end_line))) pieces places.3
-    (place_after-file start (piece_text (Block kind body at body_at end_line)) ∙ in_file))
+in_file_from start (Block kind body at body_at end_line ∷ pieces) places in_file = (
+  record {
+    at_in = ap (λ (p : Pos). p.file) places.0 ∙ in_file;
+    start_in = ap (λ (p : Pos). p.file) places.1 ∙ place_after-file start (codes "/*!" ++ word_of kind) ∙ in_file;
+  },
+  in_file_from (place_after start (piece_text (Block kind body at body_at end_line))) pieces places.3
+      (place_after-file start (piece_text (Block kind body at body_at end_line)) ∙ in_file),
+)
 
 pub in_file-cut : (bytes : List ℕ) (pieces : List SourcePiece) → AreCut (file_start 0) bytes pieces → AllByRecursion IsPieceInFile pieces
 in_file-cut bytes pieces cut = in_file_from (file_start 0) pieces cut.at_places refl
