@@ -1,9 +1,8 @@
 -- Where the pieces of a source stand, and how many there are.
-use Rattle.std.proofs.Common.{◌≡◌, ℕ, ◌+◌, ◌≤◌, arith, Bool, true, false, List, [], ◌∷◌, ◌++◌, length, codes, refl, sym, ap, subst, ◌∙◌, length-append}
+use Rattle.std.proofs.Common.{◌≡◌, ℕ, ◌+◌, ◌≤◌, arith, Bool, true, false, List, [], ◌∷◌, ◌++◌, length, codes, refl, ap, ◌∙◌, length-append}
 use Rattle.std.specs.Prelude.{All, ◌==◌, if◌then◌else◌}
 use Rattle.std.specs.List.{AllByRecursion}
 use Rattle.std.proofs.lemmas.List.Elements.{All-nil, All-cons}
-use Rattle.lx_base.specs.declared.blocks.BlockKind.{BlockKind}
 use Rattle.lx_base.specs.declared.places.Pos.{Pos}
 use Rattle.lx_token.specs.Places.{next_place, place_after}
 use Rattle.lx_split.specs.Cuts.{AreApart, AreAtPlaces, AreCut, piece_text, source_text}
@@ -11,7 +10,7 @@ use Rattle.lx_split.specs.Openers.{word_of}
 use Rattle.lx_split.specs.Pieces.{file_start}
 use Rattle.lx_split.specs.declared.pieces.SourcePiece.{SourcePiece}
 use Rattle.lx_split.specs.declared.pieces.SourcePiece.TheVariants.{Outside, Block}
-use Rattle.lx_compile.specs.Ready.{IsNear, IsNearPiece}
+use Rattle.lx_compile.specs.Ready.{IsNearPiece}
 
 next_place-file : (at : Pos) (letter : ℕ) → (next_place at letter).file ≡ at.file
 next_place-file at letter = by (letter == 10)

@@ -1,5 +1,5 @@
 -- The strings of rule lists: which they are, how many there are, and how long they are.
-use Rattle.std.proofs.Common.{◌≡◌, ℕ, ◌+◌, ◌≤◌, arith, List, [], ◌∷◌, ◌++◌, map, length, sum, Option, refl, sym, ap, ◌∙◌, subst, length-append}
+use Rattle.std.proofs.Common.{◌≡◌, ℕ, ◌≤◌, arith, List, [], ◌∷◌, map, length, sum, Option, refl, sym, ap, ◌∙◌, subst, length-append}
 use Rattle.std.specs.Prelude.{sum_by, All}
 use Rattle.std.specs.List.{AllByRecursion}
 use Rattle.std.proofs.lemmas.List.Sums.{sum_by-cons}
@@ -7,7 +7,7 @@ use Rattle.std.proofs.lemmas.List.Elements.{All-from_recursion, All-weaker, recu
 use Rattle.lx_base.specs.Spelling.{greatest_point}
 use Rattle.lx_base.specs.declared.settings.Enc.TheVariants.{Byte}
 use Rattle.lx_kernels.specs.Count.{IsCountable}
-use Rattle.lx_regex.specs.Term.{Term, class, Terms, nil, cons, cat}
+use Rattle.lx_regex.specs.Term.{Term, class, Terms, cat}
 use Rattle.lx_regex.specs.Expr.{members_of, size_of, size_step, term_of, term_step}
 use Rattle.lx_regex.specs.Pattern.{Pattern, pattern_of, patterns_of}
 use Rattle.lx_regex.specs.Strings.{IsString, no_character, character, sequence, AreJoined, no_member, member_then, AreStrings, no_rule, default_rule, string_rule}

@@ -1,4 +1,3 @@
-use Rattle.std.proofs.Common.{refl}
 use Rattle.lx_compile.proofs.StringRules.{IsCountable-of, IsStringList-of}
 use Rattle.lx_compile.proofs.blocks.is_string_list.Goals as goal
 

@@ -1,4 +1,4 @@
-use Rattle.std.proofs.Common.{◌≡◌, ◌+◌, ◌≤◌, length, arith, drop}
+use Rattle.std.proofs.Common.{◌+◌, ◌≤◌, length, arith, drop}
 use Rattle.std.proofs.Math.ListN.{drop_of_length-le}
 use Rattle.lx_compile.proofs.TextRuns.{HasTexts-block, HasTexts-end, HasTexts-outside, parts_from}
 use Rattle.lx_compile.proofs.emission.emit.Goals as goal
