@@ -1,9 +1,10 @@
 -- Definitions as entries of a map.
-use Rattle.std.proofs.Common.{◌≡◌, ℕ, Bool, true, false, List, [], ◌∷◌, ◌++◌, map, Option, None, Some, refl, sym, ap, ◌∙◌, subst}
+use Rattle.std.proofs.Common.{◌≡◌, ℕ, Bool, true, false, List, [], ◌∷◌, map, Option, None, Some, IfSome, All, refl, arith, ap, ◌∙◌}
 use Rattle.std.specs.Borrow.{Bor}
 use Rattle.std.specs.Option.{option_map, option_copied}
 use Rattle.std.specs.Str.{bytes_eq}
 use Rattle.std.specs.Map.{lookup}
+use Rattle.std.proofs.lemmas.List.Elements.{All-cons}
 use Rattle.std.proofs.lemmas.Slice.Eq.{bytes_eq-Decides}
 use Rattle.lx_rules.specs.declared.definitions.Kept.{Kept}
 use Rattle.lx_rules.specs.Environments.{Definition, definition_of}
@@ -40,3 +41,10 @@ module _ {K : Type 0} (items : K → List ℕ) where
 pub option_map-copied : {T U : Type 0} (f : T → U) (found : Option (Bor T)) → option_map (λ x. f x.now) found ≡ option_map f (option_copied found)
 option_map-copied f None = refl
 option_map-copied f (Some x) = refl
+
+pub IfSome-copied : {T : Type 0} (P : T → Type 0) (found : Option (Bor T)) → IfSome (option_copied found) P → IfSome found (λ x. P x.now)
+IfSome-copied P None holds = tt
+IfSome-copied P (Some x) holds = holds
+
+pub All-one : {T : Type 0} (P : T → Type 0) (item : T) → P item → All P (item ∷ [])
+All-one P item holds = All-cons P item [] holds (λ k d lt. absurd (omega (arith, lt)))

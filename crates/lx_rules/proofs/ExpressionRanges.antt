@@ -1,5 +1,5 @@
 -- The expressions of a block, which stand in ranges of its tokens.
-use Rattle.std.proofs.Common.{◌≡◌, false, ℕ, zero, suc, ◌+◌, ◌-◌, ◌≤◌, ◌<◌, List, [], ◌∷◌, ◌++◌, map, drop, length, Option, None, Some, refl, sym, ap, ◌∙◌, subst, arith, length-append, append_assoc, max, take}
+use Rattle.std.proofs.Common.{◌≡◌, false, ℕ, zero, suc, ◌+◌, ◌-◌, List, [], ◌∷◌, ◌++◌, drop, length, None, refl, sym, ap, ◌∙◌, subst, arith, length-append, append_assoc, max, take}
 use Rattle.std.proofs.lemmas.List.{length-map, length-drop, drop-map, take-append-drop}
 use Rattle.lx_base.specs.declared.settings.Options.{Options}
 use Rattle.lx_parse.specs.declared.sorts.Sort.{Sort}
@@ -10,9 +10,9 @@ use Rattle.lx_rules.specs.Environments.{Definition, Meaning}
 use Rattle.lx_rules.specs.Meanings.{IsMeaning, followed}
 use Rattle.lx_rules.specs.Checks.{Checks}
 use Rattle.lx_rules.specs.Forms.{Form, IsForm}
-use Rattle.lx_rules.specs.Items.{IsExpression, ExpressionChecks}
+use Rattle.lx_rules.specs.Items.{IsExpression}
 use Rattle.lx_rules.specs.Reading.{lexemes_from, nothing, tokens_fault, tokens_meaning}
-use Rattle.lx_rules.proofs.FormRuns.{NoTags, IsRun, form_runs}
+use Rattle.lx_rules.proofs.FormRuns.{NoTags, form_runs}
 use Rattle.lx_rules.proofs.FormReading.{HasForm, reads_form}
 
 -- the first of what stands from a place on
@@ -22,6 +22,14 @@ at_place [] zero lexeme rest same = cc
 at_place [] (suc from) lexeme rest same = cc
 at_place (first ∷ all) zero lexeme rest same = (cc, cc)
 at_place (first ∷ all) (suc from) lexeme rest same = at_place all from lexeme rest same
+
+-- the sort of the first of them
+pub at_sort : (all : List Lexeme) (from : ℕ) (sort : Sort) (rest : List Sort) → drop from (sorts_at all) ≡ sort ∷ rest
+    → sort_at (nth_lexeme all from) ≡ sort
+at_sort [] zero sort rest same = cc
+at_sort [] (suc from) sort rest same = cc
+at_sort (first ∷ all) zero sort rest same = cc
+at_sort (first ∷ all) (suc from) sort rest same = at_sort all from sort rest same
 
 -- what stands at the front of a list, place by place
 front_from : (all front rest : List Lexeme) (from : ℕ) → drop from all ≡ front ++ rest → front ≡ lexemes_from all from (length front)

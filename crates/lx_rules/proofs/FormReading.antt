@@ -1,9 +1,11 @@
 -- The terminals of an expression are those of a form.
-use Rattle.std.proofs.Common.{◌≡◌, ℕ, suc, ◌≤◌, ◌-◌, true, List, [], ◌∷◌, ◌++◌, map, drop, length, refl, sym, ap, ◌∙◌, subst, arith}
+use Rattle.std.proofs.Common.{◌≡◌, ℕ, ◌<◌, List, [], ◌∷◌, drop, length, refl, sym, ap, ◌∙◌, subst, arith}
+use Rattle.std.proofs.lemmas.List.{length-drop}
 use Rattle.lx_parse.specs.declared.sorts.Sort.{Sort}
 use Rattle.lx_parse.specs.declared.sorts.Sort.TheVariants.{Bar, Backslash, Open, Close}
 use Rattle.lx_parse.specs.Sorts.{is_atom, is_postfix}
 use Rattle.lx_parse.specs.Expressions.{Part, alt, diff, post, Reads, sign, group, bare, repeated, first_post, next_post, first_cat, next_cat, first_diff, next_diff}
+use Rattle.lx_parse.specs.Ranges.{IsPart}
 use Rattle.lx_rules.specs.Lexemes.{Lexeme, sort_at, sorts_at}
 use Rattle.lx_rules.specs.Forms as forms
 use Rattle.lx_rules.specs.Forms.{Form, IsForm, is_leaf, is_group, is_bare, is_repeated, is_first_post, is_sequence, is_first_cat, is_difference, is_first_diff, is_alternative}
@@ -56,3 +58,24 @@ reads_form part sorts others (next_diff _ middle _ read more) text same =
     let s = split r.0 Bar middle r.2 in
     let m = reads_form _ middle others more s.1 s.4 in
     (m.0, forms.alternative r.1 s.0 m.1, m.2, is_alternative text s.1 m.0 s.0 r.1 m.1 s.3 (subst (λ rest. IsForm alt text rest r.1) s.2 r.3) m.3)
+
+-- an expression has a token at least
+pub reads_some : (part : Part) (text rest : List Sort) → Reads part text rest → length rest < length text
+reads_some part text rest (sign sort _ is) = omega arith
+reads_some part text rest (group inner _ read) = let less = reads_some _ inner (Close ∷ rest) read in omega (arith, less)
+reads_some part text rest (bare _ _ read) = reads_some _ text rest read
+reads_some part text rest (repeated _ _ sort read is) = let less = reads_some _ text (sort ∷ rest) read in omega (arith, less)
+reads_some part text rest (first_post _ _ read) = reads_some _ text rest read
+reads_some part text rest (next_post _ middle _ read more) =
+    let one = reads_some _ text middle read in let two = reads_some _ middle rest more in omega (arith, one, two)
+reads_some part text rest (first_cat _ _ read) = reads_some _ text rest read
+reads_some part text rest (next_cat _ middle _ read more) =
+    let one = reads_some _ text (Backslash ∷ middle) read in let two = reads_some _ middle rest more in omega (arith, one, two)
+reads_some part text rest (first_diff _ _ read) = reads_some _ text rest read
+reads_some part text rest (next_diff _ middle _ read more) =
+    let one = reads_some _ text (Bar ∷ middle) read in let two = reads_some _ middle rest more in omega (arith, one, two)
+
+pub part_some : (sorts : List Sort) (from until : ℕ) → IsPart sorts alt from until → from < until
+part_some sorts from until part =
+    let less = reads_some alt (drop from sorts) (drop until sorts) part.reads in
+    omega (arith, less, length-drop from sorts, length-drop until sorts, part.within)

@@ -1,5 +1,5 @@
 -- The checks and the meaning of a form are those of its tokens, read one by one.
-use Rattle.std.proofs.Common.{◌≡◌, ℕ, zero, suc, ◌+◌, ◌-◌, ◌≤◌, max, inl, inr, Bool, true, false, List, [], ◌∷◌, ◌++◌, map, Option, None, Some, refl, sym, ap, ap₂, ◌∙◌, subst, arith, append_assoc, append-nil}
+use Rattle.std.proofs.Common.{◌≡◌, ℕ, ◌+◌, max, inl, inr, Bool, true, false, List, [], ◌∷◌, ◌++◌, Option, None, Some, refl, sym, ap, ◌∙◌, subst, arith, append_assoc}
 use Rattle.std.specs.Prelude.{if◌then◌else◌}
 use Rattle.std.specs.Option.{option_or}
 use Rattle.std.specs.Str.{bytes_eq}
@@ -9,15 +9,15 @@ use Rattle.lx_base.specs.declared.settings.Options.{Options}
 use Rattle.lx_token.specs.declared.kinds.TokenKind.{TokenKind}
 use Rattle.lx_token.specs.declared.kinds.TokenKind.TheVariants as kind
 use Rattle.lx_parse.specs.declared.sorts.Sort.{Sort}
-use Rattle.lx_parse.specs.declared.sorts.Sort.TheVariants.{Name, Str, Bar, Backslash, Open, Close}
-use Rattle.lx_parse.specs.Sorts.{is_atom, is_postfix, sort_of}
+use Rattle.lx_parse.specs.declared.sorts.Sort.TheVariants.{Name, Str, Bar, Backslash, Open}
+use Rattle.lx_parse.specs.Sorts.{is_postfix, sort_of}
 use Rattle.lx_parse.specs.Expressions.{Part}
 use Rattle.lx_rules.specs.Lexemes.{Lexeme, sort_at}
 use Rattle.lx_rules.specs.Environments.{Definition, Meaning, definition_of}
 use Rattle.lx_rules.specs.Meanings.{followed, IsMeaning, IsLeafMeaning}
 use Rattle.lx_rules.specs.Checks.{Check, Then, Finds, waits, Checks, LeafChecks, AreClasses, IsFilled, HasPoint, bounds_fault, name_fault, tags_of}
 use Rattle.lx_rules.specs.Forms.{Form, leaf, group, repeated, sequence, difference, alternative, IsForm, is_leaf, is_group, is_bare, is_repeated, is_first_post, is_sequence, is_first_cat, is_difference, is_first_diff, is_alternative}
-use Rattle.lx_rules.specs.Reading.{nothing, token_fault, tokens_fault, token_meaning, tokens_meaning, unknown_fault, copied_meaning}
+use Rattle.lx_rules.specs.Reading.{token_fault, tokens_fault, token_meaning, tokens_meaning, unknown_fault, copied_meaning}
 use Rattle.lx_rules.proofs.TokenRuns.{tokens_fault-both, tokens_meaning-append}
 
 -- two checks one behind another find the first of two faults
@@ -280,4 +280,3 @@ module _ (options : Options) (definitions : List Definition) where
             then_both (Checks options definitions is_operand seen left) (Then (Finds (waits sign)) Behind) (faults_of run.0) (waits sign) (run.2.checks is_operand seen)
             (λ none. then_first (Finds (waits sign)) Behind (Unsupported (Some sign.at)) refl)),
       )
-

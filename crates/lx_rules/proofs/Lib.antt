@@ -5,3 +5,10 @@ pub mod TokenRuns
 pub mod FormRuns
 pub mod FormReading
 pub mod ExpressionRanges
+pub mod ItemSteps
+pub mod HeadSteps
+pub mod RuleSteps
+pub mod RuleItems
+pub mod BlockSteps
+pub mod FinishingSteps
+pub mod ItemRuns

@@ -1,5 +1,5 @@
 -- The reading of expressions, part by part.
-use Rattle.std.proofs.Common.{◌≡◌, ℕ, suc, ◌+◌, ◌^◌, ◌≤◌, ◌&&◌, Bool, true, false, List, [], ◌∷◌, ◌++◌, map, min, max, nat_le, refl, sym, ap, ap₂, ◌∙◌, subst, arith}
+use Rattle.std.proofs.Common.{◌≡◌, ℕ, ◌+◌, ◌^◌, ◌≤◌, ◌&&◌, true, [], ◌∷◌, ◌++◌, map, min, max, nat_le, sym, ap, ap₂, ◌∙◌, arith}
 use Rattle.std.proofs.lemmas.List.{map-append}
 use Rattle.lx_regex.specs.Term.{Term}
 use Rattle.lx_regex.specs.Expr.{term_of}
@@ -17,7 +17,7 @@ pub fits-kept : (room size nesting : ℕ) → room ≤ 4096 → fits room (kept 
 fits-kept room size nesting few = ap₂ (λ a b. a && b) (kept_le size room few) (kept_le nesting 256 (omega arith))
 
 -- a part of what is built is built
-fits_within : (room size more nesting other : ℕ) → fits room (size + more) (max nesting other) ≡ true → fits room size nesting ≡ true
+pub fits_within : (room size more nesting other : ℕ) → fits room (size + more) (max nesting other) ≡ true → fits room size nesting ≡ true
 fits_within room size more nesting other e = search arith
 
 pub reads_next : (room : ℕ) (old new : Reading) (meaning part : Meaning) (term : Term) → room ≤ 4096 → IsReading room meaning old

@@ -1,6 +1,6 @@
 -- The checks of an expression, at its tokens from left to right.
 use Rattle.std.specs.Prelude.{◌≡◌, ◌≢◌, ℕ, ◌+◌, ◌-◌, ◌⊎◌, Bool, true, false, List, [], ◌∷◌, ◌++◌, length, map, drop, nat_lt, ◌==◌, ◌&&◌, ◌||◌, Option, Some, None, is_some, if◌then◌else◌}
-use Rattle.std.specs.Option.{option_and_then, option_map, option_or}
+use Rattle.std.specs.Option.{option_and_then, option_map}
 use Rattle.std.specs.Str.{bytes_eq}
 use Rattle.lx_base.specs.Letters.{is_within}
 use Rattle.lx_base.specs.declared.places.Pos.{Pos}
@@ -8,12 +8,10 @@ use Rattle.lx_base.specs.declared.faults.Fault.{Fault}
 use Rattle.lx_base.specs.declared.faults.Fault.TheVariants.{Unsupported, UnknownName, NotClass, Bounds, EmptyClass, TagsOff, DuplicateTag}
 use Rattle.lx_base.specs.declared.settings.Options.{Options}
 use Rattle.lx_base.specs.declared.settings.EmptyPolicy.{EmptyPolicy}
-use Rattle.lx_base.specs.declared.settings.EmptyPolicy.TheVariants.{MatchEmpty, MatchNone, Error}
+use Rattle.lx_base.specs.declared.settings.EmptyPolicy.TheVariants.{Error}
 use Rattle.lx_token.specs.declared.kinds.TokenKind.{TokenKind}
 use Rattle.lx_token.specs.declared.kinds.TokenKind.TheVariants as kind
 use Rattle.lx_token.specs.declared.classes.PointRange.{PointRange}
-use Rattle.lx_token.specs.declared.classes.Class.{Class}
-use Rattle.lx_token.specs.declared.numbers.Repeat.{Repeat}
 use Rattle.lx_token.specs.Classes.{class_of}
 use Rattle.lx_token.specs.Numbers.{repeat_of}
 use Rattle.lx_class.specs.declared.ranges.Range.{Range}

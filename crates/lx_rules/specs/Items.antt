@@ -46,6 +46,18 @@ first_state environment = record { definitions = environment.definitions; fill =
 abbrev pub any_meaning : Meaning
 any_meaning = record { terms = any_unit ∷ []; size = 1; nesting = 0; tags = [] }
 
+-- the heads of rules: `*`, `$`, or an expression
+pub data HeadSort : Type 0 where
+  any : HeadSort
+  end : HeadSort
+  expression : HeadSort
+
+-- the head that begins with this terminal
+abbrev pub head_sort : Sort → HeadSort
+head_sort Star = any
+head_sort Dollar = end
+head_sort other = expression
+
 -- the place of the first rule of a kind that has one of these conditions
 abbrev pub is_default : Kind → Bool
 is_default kind.Plain = false
@@ -102,12 +114,12 @@ module _ (options : Options) (lexemes : List Lexeme) where
   conds_of first head = [] ∷ []
 
   -- the checks of a head
-  abbrev pub HeadChecks : State → Sort → (conds : List (List ℕ)) → (head : ℕ) → (slash : Option ℕ) → (until : ℕ) → Check
-  HeadChecks state Star conds head slash until = Finds (twice (lexeme_at head).at (first_of is_default conds state.rules))
-  HeadChecks state Dollar conds head slash until =
+  abbrev pub HeadChecks : State → HeadSort → (conds : List (List ℕ)) → (head : ℕ) → (slash : Option ℕ) → (until : ℕ) → Check
+  HeadChecks state any conds head slash until = Finds (twice (lexeme_at head).at (first_of is_default conds state.rules))
+  HeadChecks state end conds head slash until =
       Then (Finds (waits (lexeme_at head))) (Finds (twice (lexeme_at head).at (first_of is_end conds state.rules)))
-  HeadChecks state sort conds head None until = ExpressionChecks state.definitions head until
-  HeadChecks state sort conds head (Some slash) until = ContextChecks state.definitions head slash until
+  HeadChecks state expression conds head None until = ExpressionChecks state.definitions head until
+  HeadChecks state expression conds head (Some slash) until = ContextChecks state.definitions head slash until
 
   -- a target stands behind `=>` or `:=>`, and where conditions are in use
   abbrev pub TargetChecks : (goes : Option ℕ) → Check
@@ -123,16 +135,16 @@ module _ (options : Options) (lexemes : List Lexeme) where
   ItemChecks state (Configure name value) = Finds (config_fault (lexeme_at name) (lexeme_at value))
   ItemChecks state (Rule first head slash until goes code) =
       Then (ListChecks (first == head) (lexeme_at first).at)
-      (Then (HeadChecks state (sort_at (lexeme_at head)) (conds_of first head) head slash until) (TargetChecks goes))
+      (Then (HeadChecks state (head_sort (sort_at (lexeme_at head))) (conds_of first head) head slash until) (TargetChecks goes))
   ItemChecks state (Text value) = Finds None
 
   -- what the head of a rule means; `$` and trailing contexts are not supported yet
-  abbrev pub IsHead : List Definition → Sort → (head : ℕ) → (slash : Option ℕ) → (until : ℕ) → Kind → Meaning → Type 0
-  IsHead definitions Star head slash until sort meaning = (sort ≡ kind.Default) × (meaning ≡ any_meaning)
-  IsHead definitions Dollar head slash until sort meaning = ⊥
-  IsHead definitions other head None until sort meaning =
+  abbrev pub IsHead : List Definition → HeadSort → (head : ℕ) → (slash : Option ℕ) → (until : ℕ) → Kind → Meaning → Type 0
+  IsHead definitions any head slash until sort meaning = (sort ≡ kind.Default) × (meaning ≡ any_meaning)
+  IsHead definitions end head slash until sort meaning = ⊥
+  IsHead definitions expression head None until sort meaning =
       (sort ≡ kind.Plain) × ((form : Form) × IsExpression head until form × IsMeaning options definitions form meaning)
-  IsHead definitions other head (Some slash) until sort meaning = ⊥
+  IsHead definitions expression head (Some slash) until sort meaning = ⊥
 
   -- the action of a rule with this number: its target, its text with the braces, and the place of that or of `:=>`
   abbrev pub act_of : (number : ℕ) → (goes code : Option ℕ) → Act
@@ -160,7 +172,7 @@ module _ (options : Options) (lexemes : List Lexeme) where
       × (after ≡ record { definitions = state.definitions; fill = fill; rules = state.rules })
   IsAfter state (Rule first head slash until goes code) after =
       (sort : Kind) × (meaning : Meaning)
-      × IsHead state.definitions (sort_at (lexeme_at head)) head slash until sort meaning
+      × IsHead state.definitions (head_sort (sort_at (lexeme_at head))) head slash until sort meaning
       × (after ≡ record {
         definitions = state.definitions;
         fill = state.fill;

@@ -1,5 +1,5 @@
 -- The tokens of a block with their texts.
-use Rattle.std.specs.Prelude.{ℕ, ◌-◌, List, [], ◌∷◌, map, take, drop, slice_index_or}
+use Rattle.std.specs.Prelude.{ℕ, ◌-◌, List, [], map, take, drop, slice_index_or}
 use Rattle.lx_base.specs.declared.places.Pos.{Pos}
 use Rattle.lx_token.specs.declared.kinds.TokenKind.{TokenKind}
 use Rattle.lx_token.specs.declared.kinds.TokenKind.TheVariants.{Signs}

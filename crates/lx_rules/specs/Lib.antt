@@ -2,8 +2,10 @@ pub mod Blocks
 pub mod Checks
 pub mod Configurations
 pub mod Environments
+pub mod Finishing
 pub mod Forms
 pub mod Items
+pub mod Keeping
 pub mod Lexemes
 pub mod Meanings
 pub mod Points

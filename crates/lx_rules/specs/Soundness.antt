@@ -1,10 +1,10 @@
 -- What holds of what blocks resolve to, whatever they say.
-use Rattle.std.specs.Prelude.{◌≡◌, ℕ, ◌+◌, ◌<◌, ◌≤◌, ◌^◌, List, [], ◌∷◌, length, Option, Some, None}
-use Rattle.std.specs.List.{AllByRecursion}
+use Rattle.std.specs.Prelude.{ℕ, ◌+◌, ◌<◌, ◌≤◌, ◌^◌, List, [], ◌∷◌, length, map, sum, All, Option, Some, None}
 use Rattle.lx_regex.specs.Expr.{size_of}
 use Rattle.lx_regex.specs.declared.expr.Expr.{Expr}
 use Rattle.lx_regex.specs.declared.rules.Rule.{Rule}
-use Rattle.lx_rules.specs.declared.definitions.Kept.{Kept}
+use Rattle.lx_rules.specs.declared.definitions.Definitions.{Definitions}
+use Rattle.lx_rules.specs.declared.expressions.Reading.{Reading}
 use Rattle.lx_rules.specs.declared.environment.Env.{Env}
 use Rattle.lx_rules.specs.declared.resolved.Act.{Act}
 use Rattle.lx_rules.specs.declared.resolved.Scanner.{Scanner}
@@ -16,8 +16,16 @@ FitsSize None size = 1 ≤ size
 FitsSize (Some expr) size = (1 ≤ size) × (size_of expr ≤ size)
 
 -- each definition's size is that of its expression
+abbrev pub AreSound : Definitions → Type 0
+AreSound definitions = All (λ entry. FitsSize entry.1.expr entry.1.size) definitions.by_name.entries
+
 abbrev pub IsSound : Env → Type 0
-IsSound env = AllByRecursion (λ entry. FitsSize entry.1.expr entry.1.size) env.definitions.by_name.entries
+IsSound env = AreSound env.definitions
+
+-- what is read of an expression has at least the size of its members
+pub record IsHonest (reading : Reading) : Type 0 where
+  pub size : sum (map size_of reading.members.items) ≤ reading.size
+  pub kept : reading.size ≤ 2 ^ 40
 
 -- the size of rules
 abbrev pub rules_size : List Rule → ℕ
@@ -29,7 +37,7 @@ rules_size (rule ∷ rules) = size_of rule.expr + rules_size rules
 pub record IsFit (acts : ℕ) (scanner : Scanner) : Type 0 where
   pub size : rules_size scanner.set.rules ≤ 4096
   pub few : length scanner.set.rules ≤ 4096
-  pub numbers : AllByRecursion (λ (rule : Rule). (0 < rule.number) × (rule.number ≤ acts)) scanner.set.rules
+  pub numbers : All (λ (rule : Rule). (0 < rule.number) × (rule.number ≤ acts)) scanner.set.rules
 
 -- an action is no longer than a source
 abbrev pub IsShort : Option (List ℕ) → Type 0
@@ -38,6 +46,6 @@ IsShort (Some code) = length code ≤ 16777216
 
 -- what a block resolves to is within the limits of a scanner, and the rule of number k has the k-th action
 pub record IsFine (resolved : Resolved) : Type 0 where
-  pub scanners : AllByRecursion (IsFit (length resolved.acts)) resolved.scanners
-  pub acts : AllByRecursion (λ (act : Act). IsShort act.code) resolved.acts
+  pub scanners : All (IsFit (length resolved.acts)) resolved.scanners
+  pub acts : All (λ (act : Act). IsShort act.code) resolved.acts
   pub few : length resolved.acts ≤ 16777216

@@ -1,6 +1,6 @@
 //! Copies of expressions.
 ghost use Rattle.std.specs.Prelude.{◌≡◌, ℕ, IfOk};
-ghost use Rattle.lx_regex.specs.Expr.{term_of};
+ghost use Rattle.lx_regex.specs.Expr.{size_of, term_of};
 
 use lx_base::Memory;
 use lx_regex::Expr;
@@ -8,7 +8,8 @@ use std::alloc::Global;
 
 /// An expression with the same term.
 pub(crate) fn copy(alloc: Global, expr: &Expr) -> Result<Expr, Memory>
-    ensures { IfOk result (λ copy. (tags : ℕ) → term_of tags copy ≡ term_of tags expr.now) }
+    ensures term { IfOk result (λ copy. (tags : ℕ) → term_of tags copy ≡ term_of tags expr.now) }
+    ensures size { IfOk result (λ copy. size_of copy ≡ size_of expr.now) }
 {
     match expr {
         Expr::Empty => Ok(Expr::Empty),

@@ -1,8 +1,9 @@
 //! Definitions by name.
-ghost use Rattle.std.specs.Prelude.{◌≡◌, [], ◌∷◌, ◌++◌, None, Some, OnOk};
+ghost use Rattle.std.specs.Prelude.{◌≡◌, [], ◌∷◌, ◌++◌, None, Some, IfSome, OnOk};
 ghost use Rattle.std.specs.Option.{option_map};
 ghost use Rattle.lx_rules.specs.Environments.{definition_of};
 ghost use Rattle.lx_rules.specs.Seen.{definition_view, definitions_view};
+ghost use Rattle.lx_rules.specs.Soundness.{AreSound, FitsSize};
 
 use indexmap::IndexMap;
 use lx_base::{Memory, Pos};
@@ -40,7 +41,8 @@ impl Definitions {
 
     /// The definition of a name.
     pub fn get(&self, name: &[u8]) -> Option<&Kept>
-        ensures { option_map (λ kept. definition_view name.now kept.now) result ≡ definition_of (definitions_view self.now) name.now }
+        ensures found { option_map (λ kept. definition_view name.now kept.now) result ≡ definition_of (definitions_view self.now) name.now }
+        ensures sound { AreSound self.now → IfSome result (λ kept. FitsSize kept.now.expr kept.now.size) }
     {
         self.by_name.get(name)
     }
@@ -48,7 +50,8 @@ impl Definitions {
     /// Puts the definition of a name that has none yet behind the others.
     pub fn add(&mut self, alloc: Global, name: &[u8], kept: Kept) -> Result<(), Memory>
         requires { definition_of (definitions_view self.old) name.now ≡ None }
-        ensures { OnOk result (definitions_view self.new ≡ definitions_view self.old ++ definition_view name.now kept ∷ []) }
+        ensures added { OnOk result (definitions_view self.new ≡ definitions_view self.old ++ definition_view name.now kept ∷ []) }
+        ensures sound { AreSound self.old → FitsSize kept.expr kept.size → OnOk result (AreSound self.new) }
     {
         let name = Vec::from_slice(alloc, name)?;
         self.by_name.insert(name, kept)?;

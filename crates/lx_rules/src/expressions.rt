@@ -1,12 +1,13 @@
 //! Reads the expressions of definitions and rules.
-ghost use Rattle.std.specs.Prelude.{◌≡◌, ℕ, suc, ◌+◌, ◌-◌, ◌≤◌, ◌^◌, [], ◌∷◌, ◌++◌, length, map, max, min, IfOk, OnOk, MatchResult, true, Some, None};
+ghost use Rattle.std.specs.Prelude.{◌≡◌, ℕ, suc, ◌+◌, ◌-◌, ◌<◌, ◌≤◌, ◌^◌, [], ◌∷◌, ◌++◌, length, map, sum, max, min, IfOk, OnOk, MatchResult, Some, None};
 ghost use Rattle.lx_base.specs.declared.faults.Fault.TheVariants.{UnknownName};
-ghost use Rattle.lx_regex.specs.Expr.{term_of};
+ghost use Rattle.lx_regex.specs.Expr.{size_of, term_of};
 ghost use Rattle.lx_rules.specs.Environments.{Meaning, joined_term};
 ghost use Rattle.lx_rules.specs.Meanings.{followed, string_term, term_or_empty};
 ghost use Rattle.lx_rules.specs.Points.{replaced};
 ghost use Rattle.lx_rules.specs.Reading.{IsReading, lexemes_from, nothing, token_fault, token_meaning, tokens_fault, tokens_meaning};
 ghost use Rattle.lx_rules.specs.Seen.{IsStop, definition_view, definitions_view, lexeme_view, lexemes_view, points_of};
+ghost use Rattle.lx_rules.specs.Soundness.{AreSound, FitsSize, IsHonest};
 
 use crate::copies::copy;
 use crate::definitions::{Definitions, Kept};
@@ -35,7 +36,7 @@ pub(crate) struct Reading {
 }
 
 /// The sum of two sizes, as far as it is kept.
-fn sum(size: u64, other: u64) -> u64
+pub(crate) fn sum(size: u64, other: u64) -> u64
     ensures { result ≡ min (2 ^ 40) (size + other) }
 {
     MOST_KEPT.min(size.saturating_add(other))
@@ -43,7 +44,8 @@ fn sum(size: u64, other: u64) -> u64
 
 /// The string of characters.
 fn string(alloc: Global, policy: SurPolicy, characters: &[Character]) -> Result<Expr, Memory>
-    ensures { IfOk result (λ expr. term_of 0 expr ≡ string_term (map (replaced policy) (points_of characters.now))) }
+    ensures term { IfOk result (λ expr. term_of 0 expr ≡ string_term (map (replaced policy) (points_of characters.now))) }
+    ensures size { IfOk result (λ expr. size_of expr ≤ max 1 (length characters.now)) }
 {
     match characters {
         [] => Ok(Expr::Empty),
@@ -60,7 +62,8 @@ fn string(alloc: Global, policy: SurPolicy, characters: &[Character]) -> Result<
 
 /// The expressions one behind another: the one that there is, or the sequence of them.
 fn joined(members: Vec<Expr>) -> Expr
-    ensures { term_of 0 result ≡ joined_term (map (term_of 0) members.items) }
+    ensures term { term_of 0 result ≡ joined_term (map (term_of 0) members.items) }
+    ensures size { size_of result ≤ sum (map size_of members.items) }
 {
     let mut members = members;
     if members.len() != 1 {
@@ -87,7 +90,8 @@ fn unknown(alloc: Global, lexeme: &Lexeme<'_>) -> Stop
 
 /// A copy of the expression of a definition. One that was not built is missed nowhere.
 fn kept_expr(alloc: Global, kept: &Kept) -> Result<Expr, Memory>
-    ensures { IfOk result (λ expr. term_of 0 expr ≡ term_or_empty (definition_view [] kept.now).term) }
+    ensures term { IfOk result (λ expr. term_of 0 expr ≡ term_or_empty (definition_view [] kept.now).term) }
+    ensures size { FitsSize kept.now.expr kept.now.size → IfOk result (λ expr. size_of expr ≤ kept.now.size) }
 {
     match &kept.expr {
         Some(expr) => {
@@ -100,7 +104,8 @@ fn kept_expr(alloc: Global, kept: &Kept) -> Result<Expr, Memory>
 
 /// Nothing yet.
 fn no_reading(alloc: Global) -> Reading
-    ensures { (room : ℕ) → IsReading room nothing result }
+    ensures nothing { (room : ℕ) → IsReading room nothing result }
+    ensures honest { IsHonest result }
 {
     Reading {
         members: Vec::new(alloc),
@@ -110,9 +115,10 @@ fn no_reading(alloc: Global) -> Reading
 }
 
 impl Reading {
-    ghost use Rattle.std.specs.Prelude.{◌≡◌, ◌≤◌, ◌^◌, ◌+◌, ◌++◌, ◌∷◌, [], MatchResult, OnOk, max, min, None};
+    ghost use Rattle.std.specs.Prelude.{◌≡◌, ◌≤◌, ◌^◌, ◌+◌, ◌++◌, ◌∷◌, [], MatchResult, OnOk, IfSome, max, min, None};
     ghost use Rattle.std.specs.Option.{option_map};
-    ghost use Rattle.lx_regex.specs.Expr.{term_of};
+    ghost use Rattle.lx_regex.specs.Expr.{size_of, term_of};
+    ghost use Rattle.lx_rules.specs.Soundness.{FitsSize, IsHonest};
     ghost use Rattle.lx_rules.specs.Environments.{Meaning, built_term, fits};
     ghost use Rattle.lx_rules.specs.Meanings.{copied, followed};
     ghost use Rattle.lx_rules.specs.Reading.{IsReading, token_fault, token_meaning};
@@ -156,10 +162,11 @@ impl Reading {
         lexeme: &Lexeme<'_>,
     ) -> Result<(), Stop>
         requires { room ≤ 4096 }
-        ensures { MatchResult result
+        ensures read { MatchResult result
             (λ _. (token_fault options.now [] kind.Str (lexeme_view lexeme.now) ≡ None)
             × ((meaning : Meaning) → IsReading room meaning self.old → IsReading room (followed meaning (token_meaning options.now [] kind.Str (lexeme_view lexeme.now))) self.new))
             (IsStop (token_fault options.now [] kind.Str (lexeme_view lexeme.now))) }
+        ensures honest { IsHonest self.old → OnOk result (IsHonest self.new × (1 ≤ self.new.size)) }
     {
         let characters = characters_of(alloc, lexeme.text)?;
         let characters = characters.as_slice();
@@ -177,7 +184,8 @@ impl Reading {
     /// Reads a name: a copy of what is kept of its definition.
     fn read_kept(&mut self, alloc: Global, room: u64, kept: &Kept) -> Result<(), Memory>
         requires { room ≤ 4096 }
-        ensures { OnOk result ((meaning : Meaning) → IsReading room meaning self.old → IsReading room (followed meaning (copied (definition_view [] kept.now))) self.new) }
+        ensures read { OnOk result ((meaning : Meaning) → IsReading room meaning self.old → IsReading room (followed meaning (copied (definition_view [] kept.now))) self.new) }
+        ensures honest { FitsSize kept.now.expr kept.now.size → IsHonest self.old → OnOk result (IsHonest self.new × (1 ≤ self.new.size)) }
     {
         self.count(kept.size, sum(kept.nesting, 1));
         if !self.is_built(room) {
@@ -190,7 +198,8 @@ impl Reading {
     /// The expression, where it is built.
     pub fn into_expr(self, room: u64) -> Option<Expr>
         requires { room ≤ 4096 }
-        ensures { (meaning : Meaning) → IsReading room meaning self → option_map (term_of 0) result ≡ built_term room meaning }
+        ensures term { (meaning : Meaning) → IsReading room meaning self → option_map (term_of 0) result ≡ built_term room meaning }
+        ensures size { IsHonest self → IfSome result (λ expr. size_of expr ≤ self.size) }
     {
         if self.is_built(room) {
             Some(joined(self.members))
@@ -213,7 +222,8 @@ pub(crate) fn read_expression(
     until: usize,
 ) -> Result<Reading, Stop>
     requires { room ≤ 4096 }
-    ensures { let texts = lexemes_from (lexemes_view lexemes.entry) from (until - from) in
+    ensures honest { AreSound definitions.now → IfOk result (λ reading. IsHonest reading × (from < until → 1 ≤ reading.size)) }
+    ensures read { let texts = lexemes_from (lexemes_view lexemes.entry) from (until - from) in
         MatchResult result
         (λ reading. (tokens_fault options.now (definitions_view definitions.now) texts ≡ None)
         × IsReading room (tokens_meaning options.now (definitions_view definitions.now) nothing texts) reading)
@@ -240,7 +250,8 @@ fn read_token(
     reading: &mut Reading,
 ) -> Result<(), Stop>
     requires { room ≤ 4096 }
-    ensures { let definitions = definitions_view definitions.now in
+    ensures honest { AreSound definitions.now → IsHonest reading.old → OnOk result (IsHonest reading.new × (1 ≤ reading.new.size)) }
+    ensures read { let definitions = definitions_view definitions.now in
         let lexeme = lexeme_view lexeme.now in
         MatchResult result
         (λ _. (token_fault options.now definitions lexeme.kind lexeme ≡ None)

@@ -6,12 +6,19 @@ mod copies;
 pub mod definitions;
 pub mod environment;
 mod expressions;
+mod finishing;
+mod heads;
+mod items;
 mod lexemes;
 mod points;
-pub mod resolving;
 pub mod resolved;
+pub mod resolving;
+mod rules;
 
 pub use definitions::Definitions;
 pub use environment::Env;
-pub use resolving::resolve;
 pub use resolved::{Act, Config, Resolved, Scanner};
+pub use resolving::resolve;
+
+#[cfg(test)]
+mod tests;

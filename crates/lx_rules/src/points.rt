@@ -8,6 +8,7 @@ use lx_base::{Enc, Fault, Pos, SurPolicy};
 use lx_token::Character;
 
 const FIRST_SURROGATE: u32 = 0xD800;
+
 const LAST_SURROGATE: u32 = 0xDFFF;
 
 /// What stands in the place of a surrogate where these are substituted (Unicode 15, section 23.8).

@@ -1,4 +1,4 @@
-use Rattle.std.proofs.Common.{◌≡◌, List, ◌++◌, length, map}
+use Rattle.std.proofs.Common.{◌≡◌, List, ◌++◌, length}
 use Rattle.lx_token.specs.declared.characters.Character.{Character}
 use Rattle.lx_rules.specs.Points.{least_within, singles}
 use Rattle.lx_rules.specs.Seen.{points_of}
