@@ -1,10 +1,10 @@
 -- What the scanner of a block needs of its strings and its actions.
-use Rattle.std.proofs.Common.{◌≡◌, ℕ, ◌<◌, ◌≤◌, ◌^◌, arith, List, [], ◌∷◌, length, Option, Some, None, refl, sym, ap, subst}
+use Rattle.std.proofs.Common.{◌≡◌, ℕ, ◌<◌, ◌≤◌, ◌^◌, arith, List, [], ◌∷◌, length, Option, Some, None, refl, sym, subst}
 use Rattle.std.specs.Prelude.{IfSome, unwrap_or}
 use Rattle.std.specs.List.{AllByRecursion}
 use Rattle.lx_base.specs.declared.settings.Enc.TheVariants.{Byte}
 use Rattle.lx_kernels.specs.Count.{IsCountable}
-use Rattle.lx_regex.specs.Pattern.{Pattern, pattern_of, patterns_of}
+use Rattle.lx_regex.specs.Pattern.{Pattern, patterns_of}
 use Rattle.lx_regex.specs.Strings.{AreStrings, no_rule, default_rule, string_rule}
 use Rattle.lx_regex.specs.declared.rules.Rule.{Rule}
 use Rattle.lx_regex.specs.declared.strings.StringRule.{StringRule}

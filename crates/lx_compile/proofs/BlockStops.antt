@@ -13,7 +13,7 @@ use Rattle.lx_rules.specs.Environments.{Environment}
 use Rattle.lx_rules.specs.Lexemes.{lexemes_of}
 use Rattle.lx_token.specs.Tokens.{tokens_of, StopsWith as StopsTokens}
 use Rattle.lx_token.specs.declared.list.Token.{Token}
-use Rattle.lx_compile.specs.Blocks.{IsFaultOf, no_token, no_items, refused, IsRead, StopsAt}
+use Rattle.lx_compile.specs.Blocks.{no_token, no_items, refused, IsRead, StopsAt}
 
 module _ (options : Options) (environment : Environment) (kind : BlockKind) (body : List ℕ) (at start : Pos) (code : kind ≡ Code) where
   pub StopsAt-tokens : (stopped : Stop) → StopsTokens (tokens_of body start) stopped → StopsAt options environment kind body at start stopped

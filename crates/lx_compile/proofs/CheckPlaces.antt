@@ -1,12 +1,10 @@
 -- The faults that the checks of a block find stand at its tokens or at its opener, and so in its file.
-use Rattle.std.proofs.Common.{◌≡◌, ℕ, zero, suc, ◌-◌, ◌⊎◌, Bool, true, false, List, [], ◌∷◌, ◌++◌, length, drop, map, Option, Some, None, Result, Ok, Err, refl, sym, ap, subst, inl, inr, ◌∙◌}
-use Rattle.std.specs.Prelude.{◌&&◌, ◌||◌, nat_lt, ◌==◌, if◌then◌else◌, is_some, not}
-use Rattle.std.specs.List.{AllByRecursion, list_any}
+use Rattle.std.proofs.Common.{◌≡◌, ℕ, zero, suc, Bool, true, false, List, [], ◌∷◌, ◌++◌, drop, Option, Some, None, refl, subst, inl, inr}
+use Rattle.std.specs.Prelude.{◌&&◌, if◌then◌else◌}
+use Rattle.std.specs.List.{AllByRecursion}
 use Rattle.std.specs.Option.{option_map, option_or}
-use Rattle.std.specs.Str.{bytes_eq}
-use Rattle.lx_base.specs.Message.{place_of}
 use Rattle.lx_base.specs.declared.faults.Fault.{Fault}
-use Rattle.lx_base.specs.declared.faults.Fault.TheVariants.{Unsupported, Bounds, CodePoint, DuplicateTag, NotClass, TagsOff}
+use Rattle.lx_base.specs.declared.faults.Fault.TheVariants.{Bounds, CodePoint, DuplicateTag, NotClass, TagsOff}
 use Rattle.lx_base.specs.Spelling.{greatest_point}
 use Rattle.lx_base.specs.declared.places.Pos.{Pos}
 use Rattle.lx_base.specs.declared.settings.EmptyPolicy.{EmptyPolicy}

@@ -1,5 +1,5 @@
 -- The faults of a source stand in it.
-use Rattle.std.proofs.Common.{◌≡◌, ℕ, zero, suc, ◌⊎◌, Bool, true, false, List, [], ◌∷◌, length, drop, take, Option, Some, None, Result, Ok, Err, refl, sym, ap, subst, inl, inr, ◌∙◌}
+use Rattle.std.proofs.Common.{◌≡◌, ℕ, zero, suc, Bool, true, false, List, [], ◌∷◌, length, drop, take, Some, Ok, Err, refl, sym, ap, subst, inl, inr, ◌∙◌}
 use Rattle.std.specs.Prelude.{nat_lt}
 use Rattle.std.specs.List.{AllByRecursion}
 use Rattle.lx_base.specs.declared.blocks.BlockKind.{BlockKind}
@@ -9,10 +9,10 @@ use Rattle.lx_base.specs.declared.faults.Stop.{Stop}
 use Rattle.lx_base.specs.declared.faults.Stop.TheVariants as stop
 use Rattle.lx_base.specs.declared.places.Pos.{Pos}
 use Rattle.lx_base.specs.declared.settings.Options.{Options}
-use Rattle.lx_parse.specs.Blocks.{IsSyntaxFault, place_of_next}
+use Rattle.lx_parse.specs.Blocks.{place_of_next}
 use Rattle.lx_rules.specs.Environments.{Environment, first_environment}
 use Rattle.lx_rules.specs.Lexemes.{lexemes_of}
-use Rattle.lx_split.specs.Cuts.{IsFaultBehind as StandsBehind, IsFaultOf as IsFaultOfSource, completed, marked, faulty, IsOpenerFault, refused as opener_refused, unclosed, source_text}
+use Rattle.lx_split.specs.Cuts.{IsFaultOf as IsFaultOfSource, completed, marked, faulty, IsOpenerFault, refused as opener_refused, unclosed, source_text}
 use Rattle.lx_split.specs.Pieces.{Split, file_start, pieces_of}
 use Rattle.lx_split.specs.declared.pieces.SourcePiece.{SourcePiece}
 use Rattle.lx_split.specs.declared.pieces.SourcePiece.TheVariants as piece
@@ -20,11 +20,10 @@ use Rattle.lx_split.proofs.Cutting.{pieces_of-cut}
 use Rattle.lx_split.proofs.Faults.{pieces_of-fault}
 use Rattle.lx_token.specs.Places.{place_after}
 use Rattle.lx_token.specs.Spans.{EachStands}
-use Rattle.lx_token.specs.Tokens.{tokens_of}
 use Rattle.lx_token.specs.declared.list.Token.{Token}
 use Rattle.lx_token.proofs.Walk.{tokens_stand, fault_is_bad_token}
-use Rattle.lx_compile.specs.Blocks.{IsFaultOf, other_kind, no_token, no_items, refused, unsupported, IsRead}
-use Rattle.lx_compile.specs.FirstFault.{IsFaultBehind, IsFaultOfBlocks, IsFaultOfPieces, IsFirstFault, StopsWith}
+use Rattle.lx_compile.specs.Blocks.{IsFaultOf, other_kind, no_token, no_items, refused, unsupported}
+use Rattle.lx_compile.specs.FirstFault.{IsFaultOfPieces, IsFirstFault, StopsWith}
 use Rattle.lx_compile.specs.FirstFault.{IsFaultOfSource as IsFaultWithin}
 use Rattle.lx_compile.specs.Parts.{AreParts, IsFaultAmong, IsKernelFault}
 use Rattle.lx_compile.specs.Places.{StandsInFirst, StopsInFirst}

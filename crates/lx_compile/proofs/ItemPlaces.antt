@@ -1,6 +1,6 @@
 -- The faults of the items of a block, and of the checks behind them, stand in its file.
-use Rattle.std.proofs.Common.{◌≡◌, ℕ, suc, ◌-◌, ◌⊎◌, Bool, true, false, List, [], ◌∷◌, ◌++◌, length, drop, Option, Some, None, Result, Ok, Err, refl, sym, ap, subst, inl, inr}
-use Rattle.std.specs.Prelude.{◌&&◌, ◌||◌, nat_lt, ◌==◌, if◌then◌else◌, is_some, not, IfSome}
+use Rattle.std.proofs.Common.{◌≡◌, ℕ, suc, ◌-◌, Bool, true, false, List, [], ◌∷◌, ◌++◌, Option, Some, None, Result, Ok, Err, refl, sym, subst, inl, inr}
+use Rattle.std.specs.Prelude.{◌||◌, nat_lt, ◌==◌, if◌then◌else◌, is_some, not, IfSome}
 use Rattle.std.specs.List.{AllByRecursion, list_any}
 use Rattle.std.specs.Option.{option_map, option_or}
 use Rattle.std.specs.Str.{bytes_eq}
@@ -9,22 +9,20 @@ use Rattle.lx_base.specs.declared.faults.Fault.{Fault}
 use Rattle.lx_base.specs.declared.faults.Fault.TheVariants.{Unsupported, BadValue, Condition, EofPair, NoRules, Redefined, TooManyParts, UnknownConfig}
 use Rattle.lx_base.specs.declared.places.Pos.{Pos}
 use Rattle.lx_base.specs.declared.settings.Options.{Options}
-use Rattle.lx_parse.specs.Expressions.{alt}
 use Rattle.lx_parse.specs.declared.items.Item.{Item}
 use Rattle.lx_parse.specs.declared.items.Item.TheVariants.{Define, Configure, Rule, Text}
 use Rattle.lx_parse.specs.declared.sorts.Sort.{Sort}
 use Rattle.lx_parse.specs.declared.sorts.Sort.TheVariants as sort
-use Rattle.lx_rules.specs.Blocks.{BlockChecks, ClashCheck, IsBlockFault, NoClash, conditions_of, is_bare, limits_fault, lonely_fault, nesting_of, not_of_kind, rules_of, scanner_fault, scanners_fault, size_of, tags_of as tag_count, target_fault, targets_fault}
-use Rattle.lx_rules.specs.Checks.{Check, Then, Finds, waits, Checks, is_among, tags_of}
+use Rattle.lx_rules.specs.Blocks.{BlockChecks, ClashCheck, IsBlockFault, conditions_of, is_bare, limits_fault, lonely_fault, nesting_of, not_of_kind, rules_of, scanner_fault, scanners_fault, size_of, tags_of as tag_count, target_fault, targets_fault}
+use Rattle.lx_rules.specs.Checks.{Then, Finds, waits, Checks, is_among, tags_of}
 use Rattle.lx_rules.specs.Configurations.{config_fault, define_words, fill_word, other_words, switch_fault, switch_of}
 use Rattle.lx_rules.specs.Environments.{Definition, Environment, definition_of, kept}
-use Rattle.lx_rules.specs.Forms.{Form}
-use Rattle.lx_rules.specs.Items.{ContextChecks, ExpressionChecks, Goes, ends, refused, next, HeadChecks, IsAfter, ItemChecks, ListChecks, RuleOf, State, TargetChecks, conds_of, first_of, first_state, is_default, is_end, twice, unless}
+use Rattle.lx_rules.specs.Items.{ContextChecks, ExpressionChecks, Goes, ends, refused, next, HeadChecks, IsAfter, ItemChecks, ListChecks, RuleOf, State, TargetChecks, conds_of, first_of, is_default, is_end, twice, unless}
 use Rattle.lx_rules.specs.Lexemes.{Lexeme, nth_lexeme, sort_at}
 use Rattle.lx_token.specs.declared.kinds.TokenKind.{TokenKind}
 use Rattle.lx_token.specs.declared.kinds.TokenKind.TheVariants as kind
 use Rattle.lx_compile.specs.Places.{StandsInFirst}
-use Rattle.lx_compile.proofs.CheckPlaces.{AreInFirst, FindsInFirst, FindsInFirst-Then, FindsInFirst-Finds, AreTokensInFirst, nth_lexeme-in_first, drop-in_first, form-in_first, option_or-in_first, if-in_first, option_map-in_first, in_first-found, waits-in_first, then_waits, Checks-in_first}
+use Rattle.lx_compile.proofs.CheckPlaces.{AreInFirst, FindsInFirst, FindsInFirst-Then, FindsInFirst-Finds, AreTokensInFirst, nth_lexeme-in_first, drop-in_first, form-in_first, option_or-in_first, if-in_first, option_map-in_first, in_first-found, then_waits, Checks-in_first}
 
 -- a target stands in file 0, if there is one
 abbrev pub AreTargetsInFirst : List RuleOf → Type 0

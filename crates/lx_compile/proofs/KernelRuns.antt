@@ -1,5 +1,5 @@
 -- The counts of kernels, block by block.
-use Rattle.std.proofs.Common.{◌≡◌, ℕ, List, [], ◌∷◌, Option, Some, None, inl, inr, refl}
+use Rattle.std.proofs.Common.{ℕ, List, ◌∷◌, Option, Some, inl, inr, refl}
 use Rattle.lx_base.specs.declared.faults.Fault.{Fault}
 use Rattle.lx_base.specs.declared.faults.Fault.TheVariants.{TooManyStates}
 use Rattle.lx_base.specs.declared.places.Pos.{Pos}

@@ -1,5 +1,5 @@
 -- A block has at most one scanner, since lists of conditions are not supported yet.
-use Rattle.std.proofs.Common.{◌≡◌, ℕ, ◌≤◌, arith, Bool, List, [], ◌∷◌, ◌++◌, length, Result, Ok, Err, refl, sym, ap, subst}
+use Rattle.std.proofs.Common.{◌≡◌, ℕ, ◌≤◌, arith, Bool, List, [], ◌∷◌, ◌++◌, length, Result, Ok, refl, sym, subst}
 use Rattle.std.specs.List.{AllByRecursion}
 use Rattle.lx_base.specs.declared.faults.Fault.{Fault}
 use Rattle.lx_base.specs.declared.places.Pos.{Pos}
@@ -8,7 +8,7 @@ use Rattle.lx_parse.specs.declared.items.Item.{Item}
 use Rattle.lx_parse.specs.declared.items.Item.TheVariants.{Define, Configure, Rule, Text}
 use Rattle.lx_rules.specs.Blocks.{AreScanners, Resolves, conditions_behind, conditions_of}
 use Rattle.lx_rules.specs.Environments.{Environment}
-use Rattle.lx_rules.specs.Items.{Goes, ends, refused, next, IsAfter, RuleOf, State, first_state}
+use Rattle.lx_rules.specs.Items.{Goes, ends, refused, next, IsAfter, RuleOf, State}
 use Rattle.lx_rules.specs.Lexemes.{Lexeme}
 use Rattle.lx_rules.specs.declared.resolved.Resolved.{Resolved}
 use Rattle.lx_rules.specs.declared.resolved.Scanner.{Scanner}
@@ -60,6 +60,7 @@ one_scanner options at environment lexemes items after resolved is =
     let state = is.0 in
     let unnamed = AreUnnamed-goes options lexemes is.1 state refl tt in
     omega (
-    arith,
-    conditions_of-unnamed state.rules unnamed,
-    length-AreScanners options.conds state.rules (conditions_of state.rules) resolved.scanners is.3.scanners)
+      arith,
+      conditions_of-unnamed state.rules unnamed,
+      length-AreScanners options.conds state.rules (conditions_of state.rules) resolved.scanners is.3.scanners,
+    )

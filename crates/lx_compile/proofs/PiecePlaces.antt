@@ -1,9 +1,8 @@
 -- Where the pieces of a source stand, and how many there are.
-use Rattle.std.proofs.Common.{◌≡◌, ℕ, ◌+◌, ◌≤◌, arith, Bool, true, false, List, [], ◌∷◌, ◌++◌, length, codes, refl, sym, ap, subst, ◌∙◌, length-append}
+use Rattle.std.proofs.Common.{◌≡◌, ℕ, ◌+◌, ◌≤◌, arith, Bool, true, false, List, [], ◌∷◌, ◌++◌, length, codes, refl, ap, ◌∙◌, length-append}
 use Rattle.std.specs.Prelude.{All, ◌==◌, if◌then◌else◌}
 use Rattle.std.specs.List.{AllByRecursion}
 use Rattle.std.proofs.lemmas.List.Elements.{All-nil, All-cons}
-use Rattle.lx_base.specs.declared.blocks.BlockKind.{BlockKind}
 use Rattle.lx_base.specs.declared.places.Pos.{Pos}
 use Rattle.lx_token.specs.Places.{next_place, place_after}
 use Rattle.lx_split.specs.Cuts.{AreApart, AreAtPlaces, AreCut, piece_text, source_text}
@@ -11,7 +10,7 @@ use Rattle.lx_split.specs.Openers.{word_of}
 use Rattle.lx_split.specs.Pieces.{file_start}
 use Rattle.lx_split.specs.declared.pieces.SourcePiece.{SourcePiece}
 use Rattle.lx_split.specs.declared.pieces.SourcePiece.TheVariants.{Outside, Block}
-use Rattle.lx_compile.specs.Ready.{IsNear, IsNearPiece}
+use Rattle.lx_compile.specs.Ready.{IsNearPiece}
 
 next_place-file : (at : Pos) (letter : ℕ) → (next_place at letter).file ≡ at.file
 next_place-file at letter = by (letter == 10)
@@ -67,7 +66,7 @@ near_from start (Block kind body at body_at end_line ∷ pieces) places size lin
     let body_line = place_after-line start opener in
     let body_col = place_after-col start opener in
     let inner : length (piece_text block) ≡ length opener + length body + 2 =
-        omega (arith, length-append (word_of kind ++ body) (codes "*/"), length-append (word_of kind) body) in
+    omega (arith, length-append (word_of kind ++ body) (codes "*/"), length-append (word_of kind) body) in
     let place : body_at ≡ place_after start opener = places.1 in
     All-cons IsNearPiece block pieces
     (record {
@@ -106,13 +105,14 @@ in_file_from : (start : Pos) (pieces : List SourcePiece) → AreAtPlaces start p
 in_file_from start [] places in_file = tt
 in_file_from start (Outside text ∷ pieces) places in_file =
     (tt, in_file_from (place_after start text) pieces places (place_after-file start text ∙ in_file))
-in_file_from start (Block kind body at body_at end_line ∷ pieces) places in_file =
-    (record {
-      at_in = ap (λ (p : Pos). p.file) places.0 ∙ in_file;
-      start_in = ap (λ (p : Pos). p.file) places.1 ∙ place_after-file start (codes "/*!" ++ word_of kind) ∙ in_file;
-    },
-    in_file_from (place_after start (piece_text (Block kind body at body_at end_line))) pieces places.3
-    (place_after-file start (piece_text (Block kind body at body_at end_line)) ∙ in_file))
+in_file_from start (Block kind body at body_at end_line ∷ pieces) places in_file = (
+  record {
+    at_in = ap (λ (p : Pos). p.file) places.0 ∙ in_file;
+    start_in = ap (λ (p : Pos). p.file) places.1 ∙ place_after-file start (codes "/*!" ++ word_of kind) ∙ in_file;
+  },
+  in_file_from (place_after start (piece_text (Block kind body at body_at end_line))) pieces places.3
+      (place_after-file start (piece_text (Block kind body at body_at end_line)) ∙ in_file),
+)
 
 pub in_file-cut : (bytes : List ℕ) (pieces : List SourcePiece) → AreCut (file_start 0) bytes pieces → AllByRecursion IsPieceInFile pieces
 in_file-cut bytes pieces cut = in_file_from (file_start 0) pieces cut.at_places refl

@@ -1,5 +1,5 @@
 -- The strings of rule lists: which they are, how many there are, and how long they are.
-use Rattle.std.proofs.Common.{◌≡◌, ℕ, ◌+◌, ◌≤◌, arith, List, [], ◌∷◌, ◌++◌, map, length, sum, Option, refl, sym, ap, ◌∙◌, subst, length-append}
+use Rattle.std.proofs.Common.{◌≡◌, ℕ, ◌≤◌, arith, List, [], ◌∷◌, map, length, sum, Option, refl, sym, ap, ◌∙◌, subst, length-append}
 use Rattle.std.specs.Prelude.{sum_by, All}
 use Rattle.std.specs.List.{AllByRecursion}
 use Rattle.std.proofs.lemmas.List.Sums.{sum_by-cons}
@@ -7,7 +7,7 @@ use Rattle.std.proofs.lemmas.List.Elements.{All-from_recursion, All-weaker, recu
 use Rattle.lx_base.specs.Spelling.{greatest_point}
 use Rattle.lx_base.specs.declared.settings.Enc.TheVariants.{Byte}
 use Rattle.lx_kernels.specs.Count.{IsCountable}
-use Rattle.lx_regex.specs.Term.{Term, class, Terms, nil, cons, cat}
+use Rattle.lx_regex.specs.Term.{Term, class, Terms, cat}
 use Rattle.lx_regex.specs.Expr.{members_of, size_of, size_step, term_of, term_step}
 use Rattle.lx_regex.specs.Pattern.{Pattern, pattern_of, patterns_of}
 use Rattle.lx_regex.specs.Strings.{IsString, no_character, character, sequence, AreJoined, no_member, member_then, AreStrings, no_rule, default_rule, string_rule}
@@ -17,55 +17,11 @@ use Rattle.lx_regex.specs.declared.expr.Expr.TheFolds.{fold-roll-Expr}
 use Rattle.lx_regex.specs.declared.expr.Expr.TheViews.{out-Expr, roll-Expr, roll-out-Expr}
 use Rattle.lx_regex.specs.declared.rules.Rule.{Rule}
 use Rattle.lx_regex.specs.declared.strings.StringRule.{StringRule}
+use Rattle.lx_regex.proofs.StringLists.{strings_unique}
 use Rattle.lx_rules.specs.Soundness.{IsFit, rules_size}
 use Rattle.lx_rules.specs.declared.resolved.Scanner.{Scanner}
 use Rattle.lx_trie.specs.Scanner.{AreSpelled}
 use Rattle.lx_compile.specs.Blocks.{IsStringList}
-
--- a term is one string at most
-mutual
-  IsString-unique : {term other : Term} {text same : List ℕ} → IsString term text → IsString other same → term ≡ other → text ≡ same
-  IsString-unique no_character no_character is = refl
-  IsString-unique no_character (character point) is = cc
-  IsString-unique no_character (sequence joined) is = cc
-  IsString-unique (character point) no_character is = cc
-  IsString-unique (character point) (character next) is =
-      let ranges : (point, point) ≡ (next, next) = cc in ap (λ (range : ℕ × ℕ). range.0 ∷ []) ranges
-  IsString-unique (character point) (sequence joined) is = cc
-  IsString-unique (sequence joined) no_character is = cc
-  IsString-unique (sequence joined) (character point) is = cc
-  IsString-unique (sequence {members = members} joined) (sequence {members = others} rest) is =
-      let same_members : members ≡ others = cc in AreJoined-unique joined rest same_members
-
-  AreJoined-unique : {members others : Terms} {text same : List ℕ} → AreJoined members text → AreJoined others same → members ≡ others → text ≡ same
-  AreJoined-unique no_member no_member is = refl
-  AreJoined-unique no_member (member_then string joined) is = cc
-  AreJoined-unique (member_then string joined) no_member is = cc
-  AreJoined-unique (member_then {member = m} {members = ms} {front = f} {back = b} string joined) (member_then {member = n} {members = ns} {front = g} {back = d} other rest) is =
-      let one : m ≡ n = cc in
-      let more : ms ≡ ns = cc in
-      let fronts : f ≡ g = IsString-unique string other one in
-      let backs : b ≡ d = AreJoined-unique joined rest more in
-      cc
-
--- rules are one list of strings at most
-pub AreStrings-unique : {patterns others : List Pattern} {strings same : List StringRule} {default last : Option ℕ}
-    → AreStrings patterns strings default → AreStrings others same last → patterns ≡ others → strings ≡ same
-AreStrings-unique no_rule no_rule is = refl
-AreStrings-unique no_rule (default_rule rule) is = refl
-AreStrings-unique no_rule (string_rule text rule rest) is = cc
-AreStrings-unique (default_rule rule) no_rule is = refl
-AreStrings-unique (default_rule rule) (default_rule other) is = refl
-AreStrings-unique (default_rule rule) (string_rule text other rest) is = let one = rule.kind in let two = other.kind in cc
-AreStrings-unique (string_rule text rule rest) no_rule is = cc
-AreStrings-unique (string_rule text rule rest) (default_rule other) is = let one = rule.kind in let two = other.kind in cc
-AreStrings-unique (string_rule {pattern = p} {patterns = ps} {strings = ss} text rule rest) (string_rule {pattern = q} {patterns = qs} {strings = ts} other_text other others) is =
-    let one : p ≡ q = cc in
-    let more : ps ≡ qs = cc in
-    let texts : text ≡ other_text = IsString-unique rule.string other.string (ap (λ (x : Pattern). x.term) one) in
-    let lists : ss ≡ ts = AreStrings-unique rest others more in
-    let numbers : p.number ≡ q.number = ap (λ (x : Pattern). x.number) one in
-    cc
 
 -- there are no more strings than rules
 pub AreStrings-length : {patterns : List Pattern} {strings : List StringRule} {default : Option ℕ} → AreStrings patterns strings default → length strings ≤ length patterns
@@ -131,10 +87,11 @@ AreStrings-sum (string_rule {pattern = p} {patterns = ps} {strings = ss} text st
     let one : p ≡ pattern_of rule = cc in
     let more : ps ≡ patterns_of rules = cc in
     omega (
-    arith,
-    length-string string.string (length rule.tags) rule.expr (ap (λ (x : Pattern). x.term) one),
-    AreStrings-sum rest rules more,
-    sum_by-cons (λ (rule : StringRule). length rule.text) (record { number = p.number; text = text }) ss)
+      arith,
+      length-string string.string (length rule.tags) rule.expr (ap (λ (x : Pattern). x.term) one),
+      AreStrings-sum rest rules more,
+      sum_by-cons (λ (rule : StringRule). length rule.text) (record { number = p.number; text = text }) ss,
+    )
 
 length-patterns_of : (rules : List Rule) → length (patterns_of rules) ≡ length rules
 length-patterns_of [] = refl
@@ -161,7 +118,7 @@ IsCountable-of scanner acts strings default fit are list = record {
   few = omega (arith, AreStrings-length are, length-patterns_of scanner.set.rules, fit.few);
   short = omega (arith, AreStrings-sum are scanner.set.rules refl, fit.size);
   points = points_of-spelled strings
-      (subst (λ l. AllByRecursion (λ (rule : StringRule). AreSpelled Byte rule.text) l) (AreStrings-unique list.are_strings are refl) list.spelled);
+      (subst (λ l. AllByRecursion (λ (rule : StringRule). AreSpelled Byte rule.text) l) (strings_unique list.are_strings are refl).0 list.spelled);
 }
 
 -- strings whose kernels can be counted are a list of strings

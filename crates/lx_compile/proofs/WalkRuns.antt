@@ -1,7 +1,7 @@
 -- The blocks of a source, one behind another.
-use Rattle.std.proofs.Common.{◌≡◌, ℕ, ◌+◌, ◌≤◌, arith, List, [], ◌∷◌, ◌++◌, length, refl, sym, ap, subst, inl, inr, append_assoc, append-nil}
+use Rattle.std.proofs.Common.{ℕ, ◌+◌, ◌≤◌, arith, List, [], ◌∷◌, ◌++◌, length, refl, subst, inl, inr, append_assoc, append-nil}
 use Rattle.std.specs.Prelude.{All}
-use Rattle.std.proofs.lemmas.List.Elements.{All-nil, All-push, All-head, All-tail}
+use Rattle.std.proofs.lemmas.List.Elements.{All-nil, All-push, All-tail}
 use Rattle.std.proofs.lemmas.List.{length_push}
 use Rattle.lx_base.specs.declared.blocks.BlockKind.{BlockKind}
 use Rattle.lx_base.specs.declared.faults.Fault.{Fault}
@@ -14,7 +14,7 @@ use Rattle.lx_rules.specs.Soundness.{IsFine}
 use Rattle.lx_rules.specs.declared.resolved.Resolved.{Resolved}
 use Rattle.lx_split.specs.declared.pieces.SourcePiece.{SourcePiece}
 use Rattle.lx_split.specs.declared.pieces.SourcePiece.TheVariants as piece
-use Rattle.lx_compile.specs.Blocks.{IsBlock, IsFaultOf, StopsAt}
+use Rattle.lx_compile.specs.Blocks.{IsBlock, StopsAt}
 use Rattle.lx_compile.specs.Parts.{AreParts, IsFaultAmong, StopsAmong}
 use Rattle.lx_compile.specs.Ready.{IsNearPiece, IsReady, IsReadyPart}
 use Rattle.lx_compile.specs.declared.parts.Part.{Part}

@@ -10,7 +10,6 @@ use Rattle.lx_ccode.specs.declared.piece.Piece.{Piece}
 use Rattle.lx_regex.specs.Pattern.{Pattern, patterns_of}
 use Rattle.lx_rules.specs.Environments.{first_environment}
 use Rattle.lx_rules.specs.declared.resolved.Act.{Act}
-use Rattle.lx_rules.specs.declared.resolved.Resolved.{Resolved}
 use Rattle.lx_rules.specs.declared.resolved.Scanner.{Scanner}
 use Rattle.lx_split.specs.Pieces.{pieces_of}
 use Rattle.lx_split.specs.declared.pieces.SourcePiece.{SourcePiece}

@@ -1,5 +1,5 @@
 -- The parts of a source: texts outside of blocks, and what the blocks resolve to.
-use Rattle.std.specs.Prelude.{◌≡◌, ℕ, ◌⊎◌, List, [], ◌∷◌, Option, Some, None}
+use Rattle.std.specs.Prelude.{◌≡◌, ◌⊎◌, List, [], ◌∷◌, Option, Some, None}
 use Rattle.lx_base.specs.declared.faults.Fault.{Fault}
 use Rattle.lx_base.specs.declared.faults.Fault.TheVariants.{TooManyStates}
 use Rattle.lx_base.specs.declared.faults.Stop.{Stop}

@@ -9,7 +9,7 @@ ghost use Rattle.lx_compile.specs.Ready.{IsNear};
 use lx_base::{BlockKind, Enc, Fault, Memory, Options, Pos, Stop};
 use lx_kernels::can_count_kernels;
 use lx_parse::parse;
-use lx_regex::strings::strings_of;
+use lx_regex::strings_of;
 use lx_rules::{Env, Resolved, Scanner, resolve};
 use lx_token::tokens;
 use std::alloc::Global;

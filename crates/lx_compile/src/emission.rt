@@ -12,8 +12,7 @@ ghost use Rattle.lx_compile.specs.Ready.{IsReady, IsReadyPart};
 use crate::parts::Part;
 use lx_base::{ByteText, Enc, Memory, append_parts};
 use lx_ccode::print;
-use lx_regex::Strings;
-use lx_regex::strings::strings_of;
+use lx_regex::{Strings, strings_of};
 use lx_rules::{Act, Resolved, Scanner};
 use lx_trie::string_scanner;
 use std::alloc::Global;
@@ -53,7 +52,12 @@ fn actions_of(alloc: Global, acts: &[Act]) -> Result<Vec<ByteText>, Memory>
 }
 
 /// The text of the piece of a block's scanner.
-fn scanner_text(alloc: Global, number: u32, scanner: &Scanner, resolved: &Resolved) -> Result<ByteText, Memory>
+fn scanner_text(
+    alloc: Global,
+    number: u32,
+    scanner: &Scanner,
+    resolved: &Resolved,
+) -> Result<ByteText, Memory>
     requires strings { IsStringList (patterns_of scanner.now.set.rules) }
     requires ready { IsReady resolved.now }
     requires fit { IsFit (length resolved.now.acts) scanner.now }

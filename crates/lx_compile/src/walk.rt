@@ -40,8 +40,15 @@ pub(crate) fn resolve_blocks(
                 body_at,
                 ..
             } => {
-                let (after, resolved) =
-                    resolve_block(alloc, kind, body.as_slice(), at, body_at, env, options)?;
+                let (after, resolved) = resolve_block(
+                    alloc,
+                    kind,
+                    body.as_slice(),
+                    at,
+                    body_at,
+                    env,
+                    options,
+                )?;
                 env = after;
                 parts.push(Part::Block { at, resolved })?;
             }

@@ -19,7 +19,7 @@ returns-in_err-after-clause-block c =
     let p = err_from_is_err_and c.from_residual-in_err-after.result c.from_residual-in_err-after.ensures.1 in
     let code : c.args.kind ≡ Code = search rules in
     let read : IsRead c.args.body.now c.args.start c.in_ok-tokens.tokens c.in_ok-tree.tree.items =
-        record { tokens_are = c.in_ok-tokens.ensures; items_are = c.in_ok-tree.ensures } in
+    record { tokens_are = c.in_ok-tokens.ensures; items_are = c.in_ok-tree.ensures } in
     rw (p.1, p.2)
     (StopsAt-rules c.args.options.now (environment_view c.args.env) c.args.kind c.args.body.now c.args.at c.args.start code
     c.in_ok-tokens.tokens c.in_ok-tree.tree.items c.in_err-after.field-0.0 read c.in_err-after.ensures.resolves)
@@ -29,7 +29,7 @@ returns-then-not-branch-clause-block c =
     let supported = c.in_ok-are_supported.ensures in
     let code : c.args.kind ≡ Code = search rules in
     let read : IsRead c.args.body.now c.args.start c.in_ok-tokens.tokens c.in_ok-tree.tree.items =
-        record { tokens_are = c.in_ok-tokens.ensures; items_are = c.in_ok-tree.ensures } in
+    record { tokens_are = c.in_ok-tokens.ensures; items_are = c.in_ok-tree.ensures } in
     unsupported (environment_view c.in_ok-after.after) c.in_ok-after.resolved code
     (record { tokens = c.in_ok-tokens.tokens; items = c.in_ok-tree.tree.items; read = read; resolves = c.in_ok-after.ensures.resolves })
     (λ are. let is = supported.1 are in search rules) refl

@@ -12,7 +12,8 @@ pub emit-requires-clause-few : goal.emit-requires-clause-few
 emit-requires-clause-few c =
     let source = c.args.source.now in
     omega (
-    arith,
-    ap length c.as_slice-2.ensures,
-    c.in_ok-parts.ensures.few,
-    length-cut source c.in_ok-pieces.pieces (pieces_of-cut c.args.options.now 0 source c.in_ok-pieces.pieces c.in_ok-pieces.ensures))
+      arith,
+      ap length c.as_slice-2.ensures,
+      c.in_ok-parts.ensures.few,
+      length-cut source c.in_ok-pieces.pieces (pieces_of-cut c.args.options.now 0 source c.in_ok-pieces.pieces c.in_ok-pieces.ensures),
+    )

@@ -1,4 +1,3 @@
-use Rattle.std.proofs.Common.{◌∙◌}
 use Rattle.lx_compile.proofs.ActionTexts.{AreNumbered-of, AreShort-of}
 use Rattle.lx_compile.proofs.emission.scanner_text.Goals as goal
 

@@ -1,10 +1,9 @@
-use Rattle.std.proofs.Common.{◌≡◌, List, [], ◌∷◌, length, arith, refl, sym, ap, ◌∙◌}
+use Rattle.std.proofs.Common.{◌≡◌, [], ◌∷◌, length, arith, sym, ap, ◌∙◌}
 use Rattle.std.specs.Vec.Iter.{into_iter_items}
 use Rattle.std.proofs.lemmas.List.{nil_from_length}
 use Rattle.std.proofs.lemmas.Result.{err_from_is_err_and}
 use Rattle.lx_rules.specs.Seen.{environment_view}
-use Rattle.lx_split.specs.declared.pieces.SourcePiece.{SourcePiece}
-use Rattle.lx_compile.proofs.WalkRuns.{IsWalked-start, IsWalked-outside, IsWalked-block, IsWalked-end, StopsAmong-block}
+use Rattle.lx_compile.proofs.WalkRuns.{IsWalked-outside, IsWalked-block, IsWalked-end, StopsAmong-block}
 use Rattle.lx_compile.proofs.walk.resolve_blocks.Goals as goal
 
 pub loop-piece-preserved-in-Continue-1 : goal.loop-piece-preserved-in-Continue-1
