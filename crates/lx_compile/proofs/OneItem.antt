@@ -10,15 +10,13 @@ use Rattle.lx_base.specs.declared.places.Pos.{Pos}
 use Rattle.lx_base.specs.declared.settings.Options.{Options}
 use Rattle.lx_parse.specs.declared.items.Item.{Item}
 use Rattle.lx_parse.specs.declared.items.Item.TheVariants.{Define, Configure, Rule, Text}
-use Rattle.lx_parse.specs.declared.sorts.Sort.{Sort}
-use Rattle.lx_parse.specs.declared.sorts.Sort.TheVariants as sort
 use Rattle.lx_regex.specs.declared.rules.Kind.{Kind}
 use Rattle.lx_regex.specs.Pattern.{patterns_of}
 use Rattle.lx_rules.specs.Blocks.{AreScanners, BlockChecks, ClashCheck, IsBlockFault, IsResolved, NoClash, Resolves, conditions_of, lonely_fault, scanners_fault, targets_fault}
 use Rattle.lx_rules.specs.Checks.{Check, Then, Finds, waits}
 use Rattle.lx_rules.specs.Configurations.{config_fault, switch_of}
 use Rattle.lx_rules.specs.Environments.{Definition, Environment, Meaning, defined, definition_of}
-use Rattle.lx_rules.specs.Items.{ContextChecks, ExpressionChecks, Goes, ends, refused, next, HeadChecks, IsAfter, IsHead, ItemChecks, ListChecks, RuleOf, State, TargetChecks, act_of, conds_of, first_of, first_state, is_default, is_end, twice, unless}
+use Rattle.lx_rules.specs.Items.{ContextChecks, ExpressionChecks, Goes, ends, refused, next, HeadChecks, HeadSort, any, end, expression, IsAfter, IsHead, ItemChecks, ListChecks, RuleOf, State, TargetChecks, act_of, conds_of, first_of, first_state, head_sort, is_default, is_end, twice, unless}
 use Rattle.lx_rules.specs.Lexemes.{Lexeme, nth_lexeme, sort_at}
 use Rattle.lx_rules.specs.declared.resolved.Resolved.{Resolved}
 use Rattle.lx_rules.specs.declared.resolved.Scanner.{Scanner}
@@ -68,15 +66,15 @@ module _ (options : Options) (lexemes : List Lexeme) where
       let lexeme = nth_lexeme lexemes (goes - 1) in
       then_waits-one options [] (Finds (unless options.conds lexeme.at)) lexeme (FindsOne-Finds (unless options.conds lexeme.at))
 
-  head-one : (state : State) (head_sort : Sort) (conds : List (List ℕ)) (head : ℕ) (slash : Option ℕ) (until : ℕ) → AreTagless state.definitions
-      → FindsOne (HeadChecks options lexemes state head_sort conds head slash until)
-  head-one state sort.Star conds head slash until free =
+  head-one : (state : State) (given : HeadSort) (conds : List (List ℕ)) (head : ℕ) (slash : Option ℕ) (until : ℕ) → AreTagless state.definitions
+      → FindsOne (HeadChecks options lexemes state given conds head slash until)
+  head-one state any conds head slash until free =
       FindsOne-Finds (twice (nth_lexeme lexemes head).at (first_of is_default conds state.rules))
-  head-one state sort.Dollar conds head slash until free =
+  head-one state end conds head slash until free =
       let found = twice (nth_lexeme lexemes head).at (first_of is_end conds state.rules) in
       then_waits-one options [] (Finds found) (nth_lexeme lexemes head) (FindsOne-Finds found)
-  head-one state other conds head None until free = expression-one options state.definitions lexemes free head until
-  head-one state other conds head (Some slash) until free = context-one options state.definitions lexemes free head slash until
+  head-one state expression conds head None until free = expression-one options state.definitions lexemes free head until
+  head-one state expression conds head (Some slash) until free = context-one options state.definitions lexemes free head slash until
 
   -- the checks of an item find one fault, or none
   item-one : (state : State) (item : Item) → AreTagless state.definitions → FindsOne (ItemChecks options lexemes state item)
@@ -88,29 +86,29 @@ module _ (options : Options) (lexemes : List Lexeme) where
   item-one state (Configure name value) free = FindsOne-Finds (config_fault (nth_lexeme lexemes name) (nth_lexeme lexemes value))
   item-one state (Rule first head slash until goes code) free =
       let List' = ListChecks options lexemes (first == head) (nth_lexeme lexemes first).at in
-      let Head = HeadChecks options lexemes state (sort_at (nth_lexeme lexemes head)) (conds_of options lexemes first head) head slash until in
+      let Head = HeadChecks options lexemes state (head_sort (sort_at (nth_lexeme lexemes head))) (conds_of options lexemes first head) head slash until in
       let Target = TargetChecks options lexemes goes in
       FindsOne-Then List' (Then Head Target) (list-one (first == head) (nth_lexeme lexemes first).at)
       (FindsOne-Then Head Target
-      (head-one state (sort_at (nth_lexeme lexemes head)) (conds_of options lexemes first head) head slash until free) (target-one goes))
+      (head-one state (head_sort (sort_at (nth_lexeme lexemes head))) (conds_of options lexemes first head) head slash until free) (target-one goes))
   item-one state (Text value) free = FindsOne-Finds None
 
   -- a head without a fault has one kind and one meaning
-  abbrev Heads : State → Sort → (head : ℕ) → (slash : Option ℕ) → (until : ℕ) → Type 0
-  Heads state head_sort head slash until =
-      (conds : List (List ℕ)) (kind other : Kind) (meaning meant : Meaning) → HeadChecks options lexemes state head_sort conds head slash until None
-      → IsHead options lexemes state.definitions head_sort head slash until kind meaning
-      → IsHead options lexemes state.definitions head_sort head slash until other meant → (kind ≡ other) × (meaning ≡ meant)
+  abbrev Heads : State → HeadSort → (head : ℕ) → (slash : Option ℕ) → (until : ℕ) → Type 0
+  Heads state given head slash until =
+      (conds : List (List ℕ)) (kind other : Kind) (meaning meant : Meaning) → HeadChecks options lexemes state given conds head slash until None
+      → IsHead options lexemes state.definitions given head slash until kind meaning
+      → IsHead options lexemes state.definitions given head slash until other meant → (kind ≡ other) × (meaning ≡ meant)
 
-  head_meaning-one : (state : State) (head_sort : Sort) (head : ℕ) (slash : Option ℕ) (until : ℕ) → AreTagless state.definitions
-      → Heads state head_sort head slash until
-  head_meaning-one state sort.Star head slash until free = λ conds kind other meaning meant checks is is_other. (is.0 ∙ sym is_other.0, is.1 ∙ sym is_other.1)
-  head_meaning-one state sort.Dollar head slash until free = λ conds kind other meaning meant checks is is_other. absurd is
-  head_meaning-one state sorted head None until free = λ conds kind other meaning meant checks is is_other. (
+  head_meaning-one : (state : State) (given : HeadSort) (head : ℕ) (slash : Option ℕ) (until : ℕ) → AreTagless state.definitions
+      → Heads state given head slash until
+  head_meaning-one state any head slash until free = λ conds kind other meaning meant checks is is_other. (is.0 ∙ sym is_other.0, is.1 ∙ sym is_other.1)
+  head_meaning-one state end head slash until free = λ conds kind other meaning meant checks is is_other. absurd is
+  head_meaning-one state expression head None until free = λ conds kind other meaning meant checks is is_other. (
     is.0 ∙ sym is_other.0,
     expression_meaning-one options state.definitions lexemes free head until is.1.0 is_other.1.0 meaning meant checks is.1.1 is_other.1.1 is.1.2 is_other.1.2,
   )
-  head_meaning-one state sorted head (Some slash) until free = λ conds kind other meaning meant checks is is_other. absurd is
+  head_meaning-one state expression head (Some slash) until free = λ conds kind other meaning meant checks is is_other. absurd is
 
   -- behind an item without a fault one thing is known
   after-one : (state : State) (item : Item) (after other : State) → AreTagless state.definitions → ItemChecks options lexemes state item None
@@ -130,7 +128,7 @@ module _ (options : Options) (lexemes : List Lexeme) where
       is.2 ∙ ap (λ (fill : Bool). record { definitions = state.definitions; fill = fill; rules = state.rules }) same ∙ sym is_other.2
   after-one state (Rule first head slash until goes code) after other free checks is is_other =
       let found = then-none _ _ (then-none _ _ checks).1 in
-      let same = head_meaning-one state (sort_at (nth_lexeme lexemes head)) head slash until free (conds_of options lexemes first head)
+      let same = head_meaning-one state (head_sort (sort_at (nth_lexeme lexemes head))) head slash until free (conds_of options lexemes first head)
       is.0 is_other.0 is.1 is_other.1 found.0 is.2 is_other.2 in
       is.3
       ∙ ap₂ (λ (kind : Kind) (meaning : Meaning). record {
