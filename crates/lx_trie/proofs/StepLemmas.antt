@@ -47,7 +47,7 @@ module _ (depth : ℕ) (place : Place) (items : List Item) (last : Accepted) (be
   })
 
   -- the tests behind a word, after further emissions
-  word_tests_kept : (emitter after : Emitter) (code : List Stmt) (bound : ℕ) → Emits emitter after →
+  pub word_tests_kept : (emitter after : Emitter) (code : List Stmt) (bound : ℕ) → Emits emitter after →
       AreTests emitter.actions.now emitter.blocks.items (LeadsOn depth emitter.blocks.items place items last begin.keeps) items begin.miss (front_of place begin.keeps) code bound →
       AreTests emitter.actions.now after.blocks.items (LeadsOn depth after.blocks.items place items last begin.keeps) items begin.miss (front_of place begin.keeps) code bound
   word_tests_kept emitter after code bound emits tests =

@@ -209,7 +209,7 @@ fn long_strings_take_little_time(rt: HostRuntime) -> Result<(), Fail> {
     let alloc = rt.alloc();
     let names = usual_names(alloc)?;
     let actions = vec![in alloc; text(alloc, b"{1}")?, text(alloc, b"{2}")?]?;
-    for (count, point, blocks) in [(4095, 97, 4100)] {
+    for (count, point, blocks) in [(4095, 97, 4100), (4096, 0x10FFFF, 16389)] {
         let long = StringRule {
             number: 1,
             text: repeated(alloc, count, point)?,

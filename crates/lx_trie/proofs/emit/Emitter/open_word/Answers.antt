@@ -1,0 +1,4 @@
+use Rattle.lx_trie.proofs.emit.Emitter.open_word.Goals as goal
+
+pub returns-clause-opens : goal.returns-clause-opens
+returns-clause-opens c = ?
