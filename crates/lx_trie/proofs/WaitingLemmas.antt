@@ -80,6 +80,21 @@ reads_begun depth before emitter place items last begin code on emits begins is 
     subst (λ on. IsBegun on depth emitter place items last begin code 0) (sym on)
     (TestsWord-again depth place items last begin before emitter code 0 (TestsWord-start depth place items last begin before emitter code emits begins is few))
 
+-- the code of a word that is read on, before the tests
+pub open_reads : (depth : ℕ) (before emitter : Emitter) (place : Place) (items : List Item) (last : Accepted) (word : Word) → word.place ≡ place → items_behind word ≡ items → word.last ≡ last → word.bound ≡ 0 →
+    reads_on items (default_of place) ≡ true → IsKnown (length before.actions.now) last → IfSome (default_of place) (HasAnAction (length before.actions.now)) → MayOpen depth (length emitter.actions.now) items → Emits before emitter →
+    Begins depth emitter.blocks.items place items last word.begin → word.code.items ≡ front_of place word.begin.keeps → length emitter.blocks.items ≤ length before.blocks.items + 2 → IsOpen depth emitter place items last word
+open_reads depth before emitter place items last word place_is items_are last_is bound_is on known default may emits begins is few = record {
+  place_is = place_is;
+  items_are = items_are;
+  last_is = last_is;
+  known = subst (λ (actions : List (List ℕ)). IsKnown (length actions) last) (sym emits.actions) known;
+  default = subst (λ (actions : List (List ℕ)). IfSome (default_of place) (HasAnAction (length actions))) (sym emits.actions) default;
+  may = may;
+  begun = subst (λ bound. IsBegun (reads_on items (default_of place)) depth emitter place items last word.begin word.code.items bound) (sym bound_is)
+      (reads_begun depth before emitter place items last word.begin word.code.items on emits begins is few);
+}
+
 -- where some item goes on with a unit the word is read on
 reads_next : (items : List Item) (default : Option ℕ) (unit : ℕ) → (derived unit items ≡ [] → ⊥) → reads_on items default ≡ true
 reads_next items default unit some = by (goes_on items) refl
@@ -108,7 +123,7 @@ pub goes_on_open : (depth : ℕ) (emitter after : Emitter) (place : Place) (item
 goes_on_open depth emitter after place items last waiting word longer waits emits few serves goes =
     let so = begun_tests depth emitter place items last waiting waiting.unit waits.next.some waits.opened in
     let kept = IsOpen-after depth emitter after place items last waiting emits waits.opened in
-    let added = TestsWord-add depth place items last waiting.begin emitter emitter after waiting.code.items word.code.items longer waiting.bound waiting.unit goes.number (derived waiting.unit items) (last_behind place items last waiting.unit)
+    let added = TestsWord-add depth place items last waiting.begin emitter emitter emitter after waiting.code.items word.code.items longer waiting.bound waiting.unit goes.number (derived waiting.unit items) (last_behind place items last waiting.unit)
     waits.next waits.small refl refl (Emits-refl emitter so.emits.emitting) emits serves goes.at goes.within goes.code_is (omega arith) few so in
     let again : TestsWord after after depth place items last waiting.begin word.code.items (waiting.unit + 1) = TestsWord-again depth place items last waiting.begin emitter after word.code.items (waiting.unit + 1) added in
     let begun : TestsWord after after depth place items last word.begin word.code.items word.bound =
@@ -205,6 +220,14 @@ steps_of_all-append [] word = omega arith
 steps_of_all-append (waiting ∷ words) word = omega (arith, steps_of_all-append words word)
 
 -- ---- one step
+
+-- the first word may be begun
+pub may_start : (before emitter : Emitter) (items : List Item) → Emits before emitter → AreItems 16386 (length before.actions.now) items → letters items ≤ 16384 → MayOpen 16385 (length emitter.actions.now) items
+may_start before emitter items emits are few = subst (λ (actions : List (List ℕ)). MayOpen 16385 (length actions) items) (sym emits.actions) (record { deep = omega arith; are = are; few = few })
+
+pub no_words : (words : List Word) → length words ≡ 0 → words ≡ []
+no_words [] none = refl
+no_words (word ∷ words) none = absurd (omega (arith, none))
 
 abbrev Current : Emitter → Word → Last
 Current emitter word = λ depth place items last. IsOpen depth emitter place items last word
