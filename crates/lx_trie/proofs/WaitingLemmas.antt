@@ -1,21 +1,19 @@
 -- Words whose code is being made, and words that wait for longer ones.
-use Rattle.std.proofs.Common.{◌≡◌, ℕ, zero, suc, ◌+◌, ◌-◌, ◌*◌, ◌^◌, ◌<◌, ◌≤◌, Bool, true, false, List, [], ◌∷◌, ◌++◌, length, Option, Some, None, refl, sym, ap, subst, ◌∙◌, arith}
+use Rattle.std.proofs.Common.{◌≡◌, ℕ, zero, suc, ◌+◌, ◌*◌, ◌^◌, ◌<◌, ◌≤◌, Bool, true, false, List, [], ◌∷◌, ◌++◌, length, Option, None, refl, sym, ap, subst, ◌∙◌, arith}
 use Rattle.std.specs.Prelude.{IfSome, is_some, ◌||◌}
 use Rattle.lx_ccode.specs.declared.piece.Stmt.{Stmt}
-use Rattle.lx_ccode.specs.declared.piece.Stmt.TheVariants.{Skip, Goto}
-use Rattle.lx_ccode.specs.declared.piece.CodeBlock.{CodeBlock}
+use Rattle.lx_ccode.specs.declared.piece.Stmt.TheVariants.{Goto}
 use Rattle.lx_trie.specs.declared.code.Accepted.{Accepted}
-use Rattle.lx_trie.specs.declared.code.Accepted.TheVariants.{Here}
 use Rattle.lx_trie.specs.declared.code.Place.{Place}
 use Rattle.lx_trie.specs.declared.code.Place.TheVariants.{Start, Behind}
 use Rattle.lx_trie.specs.declared.emit.Emitter.{Emitter}
 use Rattle.lx_trie.specs.declared.emit.Word.{Word}
 use Rattle.lx_trie.specs.declared.emit.WordBegin.{WordBegin}
-use Rattle.lx_trie.specs.Scan.{Item, accepted, derived, goes_on, reads_on, rule_or}
+use Rattle.lx_trie.specs.Scan.{Item, derived, goes_on, reads_on}
 use Rattle.lx_trie.specs.Scanner.{HasAnAction}
-use Rattle.lx_trie.specs.Serving.{accepted_next, code_in, default_of, entered, Falls, Serves, Stops}
-use Rattle.lx_trie.specs.Emission.{AreItems, AreTests, Begins, Emits, HasFallback, HaveNoMore, IsEmitting, IsKnown, IsNextUnit, IsPlainBlock, LeadsOn, ServesDeeper, TestsWord, front_of, items_of, letters, letters_below, test_statements, unit_tests}
-use Rattle.lx_trie.specs.Waiting.{AreWaiting, EndsHere, GoesOn, IsBegun, IsOpen, MakesWords, MayOpen, Waits, blocks_of, items_behind, last_behind, letters_from, longer_items, longer_last, steps_left, steps_of_all}
+use Rattle.lx_trie.specs.Serving.{default_of, entered, Falls, Serves}
+use Rattle.lx_trie.specs.Emission.{AreItems, AreTests, Begins, Emits, HasFallback, HaveNoMore, IsEmitting, IsKnown, IsNextUnit, IsPlainBlock, LeadsOn, TestsWord, front_of, items_of, letters, letters_below}
+use Rattle.lx_trie.specs.Waiting.{AreWaiting, GoesOn, IsBegun, IsOpen, MakesWords, MayOpen, Waits, blocks_of, items_behind, last_behind, letters_from, longer_items, longer_last, steps_left, steps_of_all}
 use Rattle.lx_trie.proofs.EmissionLemmas.{Keeps-refl}
 use Rattle.lx_trie.proofs.LetterLemmas.{letters_below-most, letters_below-taken}
 use Rattle.lx_trie.proofs.WordLemmas.{Begins-keeps, Falls-keeps, derived-ended}
@@ -155,8 +153,7 @@ module _ (depth : ℕ) (emitter : Emitter) (place : Place) (items : List Item) (
         TestsWord-serves emitter emitter depth place items last word.begin word.code.items code word.bound none on is begun,
       )
       by false off begun =
-          let e : code ≡ entered place (Goto word.begin.miss ∷ []) = is ∙ ap (λ front. front ++ Goto word.begin.miss ∷ []) begun.code_is ∙ stop_code place word.begin.miss in
-          (
+          let e : code ≡ entered place (Goto word.begin.miss ∷ []) = is ∙ ap (λ front. front ++ Goto word.begin.miss ∷ []) begun.code_is ∙ stop_code place word.begin.miss in (
             subst (λ code. IsPlainBlock emitter code) (sym e) (plain_goto emitter place word.begin.miss begun.within),
             stop_serves depth emitter.blocks.items place items last code off (record { block = word.begin.miss; falls = begun.falls; code_is = e }),
           )
@@ -258,14 +255,13 @@ module _ (before emitter : Emitter) (place : Place) (items : List Item) (last : 
           let so = h.4 in
           let there = subst (λ items. IsNextUnit word.bound items unit) so.items_are next in
           let asks = longer_asks h.0 emitter h.1 h.2 h.3 word unit there so in
-          let same = same_last word.place h.1 (items_behind word) h.2 word.last h.3 unit so.place_is so.items_are so.last_is in
-          (
+          let same = same_last word.place h.1 (items_behind word) h.2 word.last h.3 unit so.place_is so.items_are so.last_is in (
             subst (λ last. IsKnown (length emitter.actions.now) last) (sym same) asks.known,
             subst (λ last. HasFallback emitter.blocks.items None last word.begin.fallback) (sym same) asks.fallback,
           )
 
   -- the word waits for the longer one
-  makes_push_word : (after : Emitter) (longer : Word) (unit : ℕ) → IsNextUnit word.bound (items_behind word) unit → unit < 2 ^ 32 → Emits emitter after → 
+  makes_push_word : (after : Emitter) (longer : Word) (unit : ℕ) → IsNextUnit word.bound (items_behind word) unit → unit < 2 ^ 32 → Emits emitter after →
       ((depth : ℕ) → MayOpen depth (length after.actions.now) (longer_items word unit) → IsOpen depth after Behind (longer_items word unit) (longer_last word unit) longer) →
       length after.blocks.items ≤ length emitter.blocks.items + 2 → MakesWords before emitter place items last words word → MakesWords before after place items last (words ++ record word { unit = unit } ∷ []) longer
   makes_push_word after longer unit next small emits opens few makes = record {
@@ -287,8 +283,7 @@ module _ (before emitter : Emitter) (place : Place) (items : List Item) (last : 
           let same = same_last word.place place (items_behind word) items word.last last unit so.place_is so.items_are so.last_is in
           let may : MayOpen depth (length emitter.actions.now) (derived unit items) = record { deep = omega (arith, asks.deep); are = asks.fewer; few = asks.few } in
           let may_after : MayOpen depth (length after.actions.now) (derived unit items) = subst (λ (actions : List (List ℕ)). MayOpen depth (length actions) (derived unit items)) (sym emits.actions) may in
-          let open_longer = opens depth (subst (λ items. MayOpen depth (length after.actions.now) (derived unit items)) (sym so.items_are) may_after) in
-          (
+          let open_longer = opens depth (subst (λ items. MayOpen depth (length after.actions.now) (derived unit items)) (sym so.items_are) may_after) in (
             record {
               opened = record { place_is = kept.place_is; items_are = kept.items_are; last_is = kept.last_is; known = kept.known; default = kept.default; may = kept.may; begun = kept.begun };
               next = there;

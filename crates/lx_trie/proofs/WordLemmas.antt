@@ -1,5 +1,5 @@
 -- The blocks of words, and the items that go on with them.
-use Rattle.std.proofs.Common.{◌≡◌, ℕ, zero, suc, ◌<◌, ◌≤◌, Bool, true, false, List, [], ◌∷◌, length, Option, Some, None, refl, sym, ap, subst, ◌∙◌, arith, true≢false}
+use Rattle.std.proofs.Common.{◌≡◌, ℕ, zero, suc, ◌<◌, ◌≤◌, Bool, true, false, List, [], ◌∷◌, length, Option, Some, None, refl, arith, true≢false}
 use Rattle.std.specs.Prelude.{◌==◌, IfSome, if◌then◌else◌}
 use Rattle.lx_ccode.specs.declared.piece.Stmt.{Stmt}
 use Rattle.lx_ccode.specs.declared.piece.Stmt.TheVariants.{Restore, Goto, Leave}
@@ -11,7 +11,7 @@ use Rattle.lx_trie.specs.declared.code.Place.TheVariants.{Behind}
 use Rattle.lx_trie.specs.declared.emit.WordBegin.{WordBegin}
 use Rattle.lx_trie.specs.Scan.{Item, accepted, derived, goes_on, reads_on, rule_or}
 use Rattle.lx_trie.specs.Scanner.{HasAnAction}
-use Rattle.lx_trie.specs.Serving.{tested, default_of, earlier, is_here, accepted_next, BlockServes, Falls, IsFallback, ServesNext, ServesBy, Serves}
+use Rattle.lx_trie.specs.Serving.{tested, default_of, earlier, accepted_next, BlockServes, Falls, IsFallback, ServesNext, ServesBy, Serves}
 use Rattle.lx_trie.specs.Emission.{AreItems, Keeps, Begins, IsKnown, ServesDeeper}
 use Rattle.lx_trie.proofs.EmissionLemmas.{IsActionBlock-keeps}
 

@@ -13,8 +13,8 @@ ghost use Rattle.lx_trie.specs.Scanner.{HasAnAction};
 ghost use Rattle.lx_trie.specs.Serving.{Falls, IsActionBlock, Serves, ServesStart, accepted_first, accepted_next, code_in, default_of, earlier, is_here};
 
 use crate::code::{
-    Accepted, Place, action_code, entered, goto_code, leave_code, push_block, push_tests, read_code,
-    restore_code, set_first,
+    Accepted, Place, action_code, entered, goto_code, leave_code, push_block, push_tests,
+    read_code, restore_code, set_first,
 };
 use crate::trie::{Item, accepted, derived, goes_on, needs_marker, next_unit};
 use lx_base::{ByteText, Memory};
@@ -368,11 +368,7 @@ impl<'s> Emitter<'s> {
     }
 
     /// Emits the block of the longer word, and puts the tests that lead to it behind the code of the word that waits for it.
-    fn go_on<'i>(
-        &mut self,
-        waiting: Word<'i>,
-        longer: Vec<Stmt>,
-    ) -> Result<Word<'i>, Memory>
+    fn go_on<'i>(&mut self, waiting: Word<'i>, longer: Vec<Stmt>) -> Result<Word<'i>, Memory>
         requires emitting { IsEmitting self.old }
         requires plain { IsPlainBlock self.old longer.items }
         ensures emits { OnOk result (Emits self.old self.new) }

@@ -1,4 +1,4 @@
-use Rattle.std.proofs.Common.{arith, ◌≡◌, ◌+◌, length, ap, ◌∙◌}
+use Rattle.std.proofs.Common.{arith, length, ap, ◌∙◌}
 use Rattle.lx_trie.specs.Emission.{items_of}
 use Rattle.lx_trie.proofs.SizeLemmas.{IsStarted-emission}
 use Rattle.lx_trie.proofs.scanner.scanner_blocks.Goals as goal

@@ -1,4 +1,3 @@
-use Rattle.std.proofs.Common.{refl}
 use Rattle.lx_trie.proofs.EmissionLemmas.{IsActionBlock-keeps}
 use Rattle.lx_trie.proofs.emit.Emitter.default_begin.Goals as goal
 

@@ -3,7 +3,7 @@ use Rattle.lx_trie.specs.declared.code.Place.TheVariants.{Behind}
 use Rattle.lx_trie.specs.Emission.{items_of}
 use Rattle.lx_trie.specs.Scan.{accepted, derived, rule_or}
 use Rattle.lx_trie.specs.Serving.{accepted_next, default_of}
-use Rattle.lx_trie.specs.Waiting.{IsOpen, MayOpen, longer_items, longer_last}
+use Rattle.lx_trie.specs.Waiting.{IsOpen, MayOpen, longer_items}
 use Rattle.lx_trie.proofs.emit.Emitter.open_longer.Goals as goal
 
 pub returns-clause-opens : goal.returns-clause-opens

@@ -1,5 +1,5 @@
-use Rattle.std.proofs.Common.{refl, sym, ap, subst, length, ◌∙◌}
-use Rattle.lx_trie.specs.Emission.{items_of, Begins, IsKnown}
+use Rattle.std.proofs.Common.{refl, sym, ap, subst, ◌∙◌}
+use Rattle.lx_trie.specs.Emission.{items_of, Begins}
 use Rattle.lx_trie.specs.Scan.{reads_on}
 use Rattle.lx_trie.specs.Serving.{default_of}
 use Rattle.lx_trie.proofs.WaitingLemmas.{open_reads}

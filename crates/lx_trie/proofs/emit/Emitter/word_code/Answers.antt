@@ -1,7 +1,6 @@
-use Rattle.std.proofs.Common.{arith, rules, ◌≡◌, length, [], sym, ap, subst, vec_len, ◌∙◌}
+use Rattle.std.proofs.Common.{arith, rules, ◌≡◌, length, [], sym, subst, vec_len, ◌∙◌}
 use Rattle.lx_trie.specs.Emission.{items_of, HaveNoMore, IsNextUnit}
-use Rattle.lx_trie.specs.Scan.{derived}
-use Rattle.lx_trie.specs.Waiting.{MakesWords, items_behind}
+use Rattle.lx_trie.specs.Waiting.{MakesWords}
 use Rattle.lx_trie.proofs.WaitingLemmas.{makes_asks, makes_end, makes_few, makes_plain, makes_pop, makes_push, makes_start, may_start, no_words, steps_pop, steps_push}
 use Rattle.lx_trie.proofs.emit.Emitter.word_code.Goals as goal
 
