@@ -11,7 +11,7 @@ use Rattle.lx_trie.specs.declared.emit.Word.{Word}
 use Rattle.lx_trie.specs.declared.emit.WordBegin.{WordBegin}
 use Rattle.lx_trie.specs.Scan.{Item, derived, goes_on, reads_on}
 use Rattle.lx_trie.specs.Scanner.{HasAnAction}
-use Rattle.lx_trie.specs.Serving.{default_of, entered, Falls, Serves}
+use Rattle.lx_trie.specs.Serving.{default_of, entered, Serves}
 use Rattle.lx_trie.specs.Emission.{AreItems, AreTests, Begins, Emits, HasFallback, HaveNoMore, IsEmitting, IsKnown, IsNextUnit, IsPlainBlock, LeadsOn, TestsWord, front_of, items_of, letters, letters_below}
 use Rattle.lx_trie.specs.Waiting.{AreWaiting, GoesOn, IsBegun, IsOpen, MakesWords, MayOpen, Waits, blocks_of, items_behind, last_behind, letters_from, longer_items, longer_last, steps_left, steps_of_all}
 use Rattle.lx_trie.proofs.EmissionLemmas.{Keeps-refl}
@@ -63,15 +63,8 @@ IsOpen-after depth emitter after place items last word emits so = record {
   begun = IsBegun-after depth place items last word.begin (reads_on items (default_of place)) emitter after word.code.items word.bound emits so.begun;
 }
 
--- a word that is not read on is begun
-pub stop_begun : (depth : ℕ) (emitter : Emitter) (place : Place) (items : List Item) (last : Accepted) (begin : WordBegin) (code : List Stmt) (bound : ℕ) → reads_on items (default_of place) ≡ false →
-    Falls emitter.blocks.items last begin.miss → code ≡ entered place [] → begin.miss < length emitter.blocks.items →
-    IsBegun (reads_on items (default_of place)) depth emitter place items last begin code bound
-stop_begun depth emitter place items last begin code bound off falls is within =
-    subst (λ on. IsBegun on depth emitter place items last begin code bound) (sym off) (record { falls = falls; code_is = is; within = within })
-
--- and so is one that is read on
-pub reads_begun : (depth : ℕ) (before emitter : Emitter) (place : Place) (items : List Item) (last : Accepted) (begin : WordBegin) (code : List Stmt) → reads_on items (default_of place) ≡ true →
+-- a word that is read on is begun
+reads_begun : (depth : ℕ) (before emitter : Emitter) (place : Place) (items : List Item) (last : Accepted) (begin : WordBegin) (code : List Stmt) → reads_on items (default_of place) ≡ true →
     Emits before emitter → Begins depth emitter.blocks.items place items last begin → code ≡ front_of place begin.keeps → length emitter.blocks.items ≤ length before.blocks.items + 2 →
     IsBegun (reads_on items (default_of place)) depth emitter place items last begin code 0
 reads_begun depth before emitter place items last begin code on emits begins is few =
