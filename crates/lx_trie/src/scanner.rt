@@ -18,9 +18,8 @@ use std::alloc::Global;
 
 /// The piece of a scanner of strings and of `*`, if there is one, without `#line`, refills and stored states.
 ///
-/// The number is the piece's in its output, counted from 1. The action of rule 1 is the first one of the actions. Where the
-/// strings spell nothing that goes on, and there is no `*`, the scanner is left with the cursor behind the longest word with
-/// which some string goes on.
+/// The number is the piece's in its output, counted from 1. The action of rule 1 is the first one of the actions. Where no rule
+/// matches the scanner is left, with the cursor behind the longest word that begins a match. Only want of memory refuses.
 pub fn string_scanner(
     alloc: Global,
     enc: Enc,
