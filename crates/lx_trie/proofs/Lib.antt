@@ -10,4 +10,5 @@ pub mod StartLemmas
 pub mod StepLemmas
 pub mod TestLemmas
 pub mod UnitLemmas
+pub mod WaitingLemmas
 pub mod WordLemmas

@@ -24,7 +24,7 @@ use Rattle.lx_ccode.specs.States.{states_in, states_from}
 use Rattle.lx_ccode.specs.Statements.{all_statements, is_need, is_state, is_refill}
 use Rattle.lx_ccode.specs.Validity.{IsLine, IsLabel, HasSpelling, EachHasSpelling, EachBlockHasSpelling, JumpsBelow, NamesOneOf, HasFewGroups, ends_once, refill_first, refills_after_states, tries_after_state, last_statements, AreOnce, labels, IsValid}
 use Rattle.lx_ccode.proofs.RoundTrip.{statement_count-all}
-use Rattle.lx_trie.specs.Emission.{is_emitted, emitted, letters, IsGoodStatement, IsGoodBlock, IsEmission, IsStarted}
+use Rattle.lx_trie.specs.Emission.{is_emitted, emitted, letters, IsGoodStatement, IsGoodBlock, IsStarted}
 use Rattle.lx_trie.specs.Pieces.{string_piece}
 use Rattle.lx_trie.specs.Scan.{Item, items_of, scan}
 use Rattle.lx_trie.specs.Scanner.{told_of, AreShort, HasAction, IsRight, IsScannerOf}

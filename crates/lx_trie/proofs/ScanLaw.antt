@@ -17,7 +17,7 @@ use Rattle.lx_regex.proofs.PlainWalk.{units_append}
 use Rattle.lx_regex.proofs.Cuts.{rule_positive}
 use Rattle.lx_regex.proofs.LeastTree.{least_tree}
 use Rattle.lx_regex.proofs.Beginnings.{taken_begins, front_begins}
-use Rattle.lx_trie.specs.Scan.{Item, items_of, derived, accepted, goes_on, rule_or, reads_on, is_taken, Found, newest, answer, scan_from, scan}
+use Rattle.lx_trie.specs.Scan.{Item, items_of, derived, accepted, goes_on, rule_or, is_taken, Found, newest, answer, scan_from, scan}
 use Rattle.lx_trie.proofs.ScanTrees.{TakesByString, number_at, IsAt, IsPlainPattern, pattern_at, end_rule-strings, get-with_terms, takes_by_string, string_rule_takes}
 use Rattle.lx_trie.proofs.ScanSteps.{same_rest, IsBehind, behind_nothing, behind_unit, IsFirstTaker, accepted_takes, default_taker, only_default, left_takes, goes_on_takes, nothing_left}
 
@@ -244,14 +244,17 @@ module _ (enc : Enc) (rules : List StringRule) (default : Option ℕ) (start : �
       taken_itself other place takes = subst (λ l. Takes' place l) (sym (append-nil other)) takes
 
       pick : (last : Option Found) → IsLast word last → Tells text (Some (answer last here))
-      pick (Some found) best = (refl, record {
-        front = best.front;
-        back = best.back ++ stream;
-        splits = is ∙ ap (λ l. l ++ stream) best.splits ∙ append_assoc best.front best.back stream;
-        taker = best.taker;
-        cursor = best.cursor;
-        longest = λ other more place same takes. by other more place same takes (front_or other more same);
-      })
+      pick (Some found) best = (
+        refl,
+        record {
+          front = best.front;
+          back = best.back ++ stream;
+          splits = is ∙ ap (λ l. l ++ stream) best.splits ∙ append_assoc best.front best.back stream;
+          taker = best.taker;
+          cursor = best.cursor;
+          longest = λ other more place same takes. by other more place same takes (front_or other more same);
+        },
+      )
         where
           by : (other more : List ℕ) (place : ℕ) → text ≡ other ++ more → Takes' place other → FrontOr word other → length other ≤ length best.front
           by other more place same takes (inl within) = best.longest other within.0 place within.1 takes

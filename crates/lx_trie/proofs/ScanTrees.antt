@@ -2,7 +2,7 @@
 use Rattle.std.specs.Prelude.{◌≡◌, ℕ, zero, suc, List, [], ◌∷◌, ◌++◌, length, Option, Some, None, slice_get, if◌then◌else◌, refl}
 use Rattle.std.proofs.Common.{sym, ap, ap₂, ◌∙◌, subst, arith}
 use Rattle.lx_base.specs.declared.settings.Enc.{Enc}
-use Rattle.lx_regex.specs.Term.{Term, any_unit}
+use Rattle.lx_regex.specs.Term.{any_unit}
 use Rattle.lx_regex.specs.Tree.{Tree, unit}
 use Rattle.lx_regex.specs.Script.{script, units}
 use Rattle.lx_regex.specs.Least.{HasTree}

@@ -20,6 +20,7 @@ use Rattle.lx_trie.specs.declared.code.Place.TheVariants.{Start, Behind}
 use Rattle.lx_trie.specs.Emission.{ServesDeeper}
 use Rattle.lx_trie.specs.Scan.{Item, Found, accepted, answer, derived, goes_on as some_goes_on, is_taken, newest, reads_on, rule_or, scan_from, scan_items}
 use Rattle.lx_trie.specs.Scanner.{told_of}
+use Rattle.lx_trie.proofs.WordLemmas.{derived-ended}
 use Rattle.lx_trie.specs.Serving.{Test, tests_code, tested, code_in, IsActionBlock, IsFallback, accepted_first, backup, default_of, earlier, entered, is_here, Falls, ServesNext, ReadsOn, Stops, ServesBy, Serves, ServesStart}
 
 -- what is left of a stream, read off
@@ -35,16 +36,6 @@ code_length : (blocks : List CodeBlock) (number : ℕ) (code : List Stmt) → co
 code_length [] number code at = absurd (let h = at in cc)
 code_length (block ∷ blocks) zero code at = let e : block.stmts ≡ code = cc in omega (arith, ap length e)
 code_length (block ∷ blocks) (suc number) code at = let rest = code_length blocks number code at in omega (arith, rest)
-
--- where no string goes on, none goes on with a unit
-derived-ended : (unit : ℕ) (items : List Item) → some_goes_on items ≡ false → derived unit items ≡ []
-derived-ended unit [] ended = refl
-derived-ended unit (item ∷ items) ended = by item.rest ended (derived-ended unit items)
-  where
-    by : (rest : List ℕ) → some_goes_on (record { rule = item.rule; rest = rest } ∷ items) ≡ false → (some_goes_on items ≡ false → derived unit items ≡ []) →
-        derived unit (record { rule = item.rule; rest = rest } ∷ items) ≡ []
-    by [] ended others = others ended
-    by (letter ∷ rest) ended others = absurd (true≢false ended)
 
 -- where a word is not read on, what was accepted last is answered
 stop_answer : (items : List Item) (default : Option ℕ) (here : ℕ) (found : Option Found) (left : List ℕ) (outcome : match.Outcome) → reads_on items default ≡ false →

@@ -1,5 +1,5 @@
 -- The emission of the start: the first block, which waits for its code until the blocks of all words are there.
-use Rattle.std.proofs.Common.{◌≡◌, ℕ, zero, suc, ◌+◌, ◌<◌, ◌≤◌, List, [], ◌∷◌, ◌++◌, length, length-set, Option, Some, None, refl, sym, ap, subst, ◌∙◌, arith}
+use Rattle.std.proofs.Common.{◌≡◌, ℕ, zero, suc, List, [], ◌∷◌, ◌++◌, length, length-set, Option, Some, None, refl, sym, ap, subst, arith}
 use Rattle.std.specs.Prelude.{slice_get, slice_set, IfSome}
 use Rattle.lx_ccode.specs.declared.piece.Stmt.{Stmt}
 use Rattle.lx_ccode.specs.declared.piece.Stmt.TheVariants.{Goto}
@@ -11,7 +11,7 @@ use Rattle.lx_trie.specs.Pieces.{waiting}
 use Rattle.lx_trie.specs.Scan.{Item, accepted}
 use Rattle.lx_trie.specs.Scanner.{action_count, HasAnAction}
 use Rattle.lx_trie.specs.Serving.{accepted_first, code_in, Serves, ServesStart}
-use Rattle.lx_trie.specs.Emission.{AreItems, Emits, IsEmission, IsKnown, IsPlainBlock, Keeps, IsGoodBlock}
+use Rattle.lx_trie.specs.Emission.{AreItems, IsEmission, IsKnown, IsPlainBlock, Keeps, IsGoodBlock}
 use Rattle.lx_trie.proofs.EmissionLemmas.{IsActionBlock-keeps, action_count-append}
 use Rattle.lx_trie.proofs.WordLemmas.{Serves-keeps, accepted-known}
 

@@ -1,21 +1,21 @@
 -- The emission of a word's block, step by step.
-use Rattle.std.proofs.Common.{◌≡◌, ℕ, zero, suc, ◌+◌, ◌-◌, ◌*◌, ◌^◌, ◌<◌, ◌≤◌, Bool, true, false, List, [], ◌∷◌, ◌++◌, length, Option, Some, None, refl, sym, ap, subst, ◌∙◌, arith, true≢false}
-use Rattle.std.specs.Prelude.{◌==◌, IfSome}
+use Rattle.std.proofs.Common.{◌≡◌, ℕ, zero, suc, ◌+◌, ◌*◌, ◌^◌, ◌<◌, ◌≤◌, Bool, true, false, List, [], ◌∷◌, ◌++◌, length, Option, Some, None, refl, sym, ap, subst, ◌∙◌, arith, true≢false}
+use Rattle.std.specs.Prelude.{IfSome}
 use Rattle.std.specs.List.{AllByRecursion}
 use Rattle.lx_ccode.specs.declared.piece.Stmt.{Stmt}
 use Rattle.lx_ccode.specs.declared.piece.Stmt.TheVariants.{Peek, Skip, Backup, Goto}
 use Rattle.lx_ccode.specs.declared.piece.CodeBlock.{CodeBlock}
 use Rattle.lx_ccode.specs.Validity.{ends_once}
 use Rattle.lx_trie.specs.declared.code.Accepted.{Accepted}
-use Rattle.lx_trie.specs.declared.code.Accepted.TheVariants.{Nothing, Earlier, Here}
+use Rattle.lx_trie.specs.declared.code.Accepted.TheVariants.{Here}
 use Rattle.lx_trie.specs.declared.code.Place.{Place}
 use Rattle.lx_trie.specs.declared.code.Place.TheVariants.{Start, Behind}
 use Rattle.lx_trie.specs.declared.emit.Emitter.{Emitter}
 use Rattle.lx_trie.specs.declared.emit.WordBegin.{WordBegin}
 use Rattle.lx_trie.specs.Scan.{Item, accepted, derived, reads_on, rule_or}
 use Rattle.lx_trie.specs.Scanner.{HasAnAction, action_count}
-use Rattle.lx_trie.specs.Serving.{Test, accepted_next, backup, code_in, default_of, earlier, entered, is_here, tests_code, BlockServes, Falls, ReadsOn, Serves, ServesBy, ServesNext, Stops}
-use Rattle.lx_trie.specs.Emission.{AreItems, AcceptsNext, Begins, Emits, HasFallback, HaveNoMore, IsEmitting, IsGoodStatement, IsKnown, IsNextUnit, IsPlainBlock, AreTests, LeadsOn, ServesDeeper, TestsWord, front_of, letters, letters_below, test_statements, unit_tests}
+use Rattle.lx_trie.specs.Serving.{Test, accepted_next, backup, code_in, default_of, entered, is_here, tests_code, ReadsOn, Serves, ServesBy, ServesNext, Stops}
+use Rattle.lx_trie.specs.Emission.{AreItems, AcceptsNext, Begins, Emits, HasFallback, HaveNoMore, IsGoodStatement, IsKnown, IsNextUnit, IsPlainBlock, AreTests, LeadsOn, ServesDeeper, TestsWord, front_of, letters, letters_below, test_statements, unit_tests}
 use Rattle.lx_trie.proofs.EmissionLemmas.{Keeps-trans}
 use Rattle.lx_trie.proofs.LetterLemmas.{letters-derived, letters_below-taken}
 use Rattle.lx_trie.proofs.WordLemmas.{AreItems-derived, Begins-keeps, Serves-keeps, ServesDeeper-keeps, ServesNext-keeps, deep_items, next-known}
@@ -47,7 +47,7 @@ module _ (depth : ℕ) (place : Place) (items : List Item) (last : Accepted) (be
   })
 
   -- the tests behind a word, after further emissions
-  word_tests_kept : (emitter after : Emitter) (code : List Stmt) (bound : ℕ) → Emits emitter after →
+  pub word_tests_kept : (emitter after : Emitter) (code : List Stmt) (bound : ℕ) → Emits emitter after →
       AreTests emitter.actions.now emitter.blocks.items (LeadsOn depth emitter.blocks.items place items last begin.keeps) items begin.miss (front_of place begin.keeps) code bound →
       AreTests emitter.actions.now after.blocks.items (LeadsOn depth after.blocks.items place items last begin.keeps) items begin.miss (front_of place begin.keeps) code bound
   word_tests_kept emitter after code bound emits tests =

@@ -1,5 +1,5 @@
 -- The blocks of words, and the items that go on with them.
-use Rattle.std.proofs.Common.{◌≡◌, ℕ, zero, suc, ◌<◌, ◌≤◌, Bool, true, false, List, [], ◌∷◌, length, Option, Some, None, refl, sym, ap, subst, ◌∙◌, arith}
+use Rattle.std.proofs.Common.{◌≡◌, ℕ, zero, suc, ◌<◌, ◌≤◌, Bool, true, false, List, [], ◌∷◌, length, Option, Some, None, refl, arith, true≢false}
 use Rattle.std.specs.Prelude.{◌==◌, IfSome, if◌then◌else◌}
 use Rattle.lx_ccode.specs.declared.piece.Stmt.{Stmt}
 use Rattle.lx_ccode.specs.declared.piece.Stmt.TheVariants.{Restore, Goto, Leave}
@@ -9,9 +9,9 @@ use Rattle.lx_trie.specs.declared.code.Accepted.TheVariants.{Nothing, Earlier, H
 use Rattle.lx_trie.specs.declared.code.Place.{Place}
 use Rattle.lx_trie.specs.declared.code.Place.TheVariants.{Behind}
 use Rattle.lx_trie.specs.declared.emit.WordBegin.{WordBegin}
-use Rattle.lx_trie.specs.Scan.{Item, accepted, derived, reads_on, rule_or}
+use Rattle.lx_trie.specs.Scan.{Item, accepted, derived, goes_on, reads_on, rule_or}
 use Rattle.lx_trie.specs.Scanner.{HasAnAction}
-use Rattle.lx_trie.specs.Serving.{tested, default_of, earlier, is_here, accepted_next, BlockServes, Falls, IsFallback, ServesNext, ServesBy, Serves}
+use Rattle.lx_trie.specs.Serving.{tested, default_of, earlier, accepted_next, BlockServes, Falls, IsFallback, ServesNext, ServesBy, Serves}
 use Rattle.lx_trie.specs.Emission.{AreItems, Keeps, Begins, IsKnown, ServesDeeper}
 use Rattle.lx_trie.proofs.EmissionLemmas.{IsActionBlock-keeps}
 
@@ -60,6 +60,16 @@ next-known depth actions items last default are known one =
 pub deep_items : (depth actions : ℕ) (items : List Item) → AreItems depth actions items → (items ≡ [] → ⊥) → 1 < depth
 deep_items depth actions [] are some = absurd (some refl)
 deep_items depth actions (item ∷ items) are some = omega (arith, are.0.0)
+
+-- where no string goes on, none goes on with a unit
+pub derived-ended : (unit : ℕ) (items : List Item) → goes_on items ≡ false → derived unit items ≡ []
+derived-ended unit [] ended = refl
+derived-ended unit (item ∷ items) ended = by item.rest ended (derived-ended unit items)
+  where
+    by : (rest : List ℕ) → goes_on (record { rule = item.rule; rest = rest } ∷ items) ≡ false → (goes_on items ≡ false → derived unit items ≡ []) →
+        derived unit (record { rule = item.rule; rest = rest } ∷ items) ≡ []
+    by [] ended others = others ended
+    by (letter ∷ rest) ended others = absurd (true≢false ended)
 
 -- ---- blocks that stay
 

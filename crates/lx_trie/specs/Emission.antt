@@ -1,5 +1,5 @@
 -- What holds while the blocks of a scanner are emitted.
-use Rattle.std.specs.Prelude.{◌≡◌, ℕ, zero, suc, ◌+◌, ◌-◌, ◌*◌, ◌<◌, ◌≤◌, ◌^◌, nat_lt, nat_le, ◌++◌, Bool, true, false, List, [], ◌∷◌, length, map, Option, Some, None, IfSome, slice_get, if◌then◌else◌}
+use Rattle.std.specs.Prelude.{◌≡◌, ℕ, zero, suc, ◌+◌, ◌-◌, ◌*◌, ◌<◌, ◌≤◌, ◌^◌, nat_lt, nat_le, ◌++◌, Bool, true, false, List, [], ◌∷◌, length, map, Option, Some, None, slice_get, if◌then◌else◌}
 use Rattle.std.specs.List.{AllByRecursion}
 use Rattle.lx_ccode.specs.declared.piece.Stmt.{Stmt}
 use Rattle.lx_ccode.specs.declared.piece.Stmt.TheVariants.{Peek, Skip, Backup, Restore, IfUnit, Goto, Leave, Code}
@@ -9,7 +9,7 @@ use Rattle.lx_ccode.specs.Validity.{ends_once}
 use Rattle.lx_trie.specs.declared.code.Accepted.{Accepted}
 use Rattle.lx_trie.specs.declared.code.Accepted.TheVariants.{Nothing, Earlier, Here}
 use Rattle.lx_trie.specs.declared.code.Place.{Place}
-use Rattle.lx_trie.specs.declared.code.Place.TheVariants.{Start, Behind}
+use Rattle.lx_trie.specs.declared.code.Place.TheVariants.{Behind}
 use Rattle.lx_trie.specs.declared.trie.Item.{Item}
 use Rattle.lx_trie.specs.declared.trie.SpelledRule.{SpelledRule}
 use Rattle.lx_trie.specs.declared.emit.Emitter.{Emitter}

@@ -3,3 +3,4 @@ pub mod Pieces
 pub mod Scan
 pub mod Scanner
 pub mod Serving
+pub mod Waiting

@@ -1,5 +1,5 @@
 -- What the piece of a scanner of strings is.
-use Rattle.std.specs.Prelude.{◌≡◌, ℕ, ◌+◌, ◌-◌, ◌<◌, ◌≤◌, ◌^◌, true, false, List, [], ◌∷◌, length, Option, Some, None, IfSome, ◌==◌, if◌then◌else◌, slice_get, sum_by}
+use Rattle.std.specs.Prelude.{◌≡◌, ℕ, ◌+◌, ◌-◌, ◌<◌, ◌≤◌, ◌^◌, true, false, List, [], ◌∷◌, length, Some, None, IfSome, ◌==◌, if◌then◌else◌, slice_get, sum_by}
 use Rattle.std.specs.List.{AllByRecursion, list_any}
 use Rattle.lx_base.specs.Names.{Spellings}
 use Rattle.lx_base.specs.Spelling.{greatest_point}

@@ -29,7 +29,7 @@ pub enum Accepted {
 }
 
 /// Takes the unit that the block stands behind, if there is one.
-fn entered(alloc: Global, place: Place) -> Result<Vec<Stmt>, Memory>
+pub fn entered(alloc: Global, place: Place) -> Result<Vec<Stmt>, Memory>
     ensures { IfOk result (λ code. code.items ≡ entered place []) }
 {
     let mut code = Vec::new(alloc);
@@ -39,12 +39,11 @@ fn entered(alloc: Global, place: Place) -> Result<Vec<Stmt>, Memory>
     Ok(code)
 }
 
-/// Goes on to a block.
-pub fn goto_code(alloc: Global, place: Place, block: u64) -> Result<Vec<Stmt>, Memory>
-    ensures { IfOk result (λ code. code.items ≡ entered place (Goto block ∷ [])) }
+/// Takes the unit and goes on to a block.
+pub fn goto_code(alloc: Global, block: u64) -> Result<Vec<Stmt>, Memory>
+    ensures { IfOk result (λ code. code.items ≡ Skip ∷ Goto block ∷ []) }
 {
-    let mut code = entered(alloc, place)?;
-    code.push(Stmt::Goto(block))?;
+    let code = vec![in alloc; Stmt::Skip, Stmt::Goto(block)]?;
     Ok(code)
 }
 

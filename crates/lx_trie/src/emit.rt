@@ -2,7 +2,7 @@
 //!
 //! A block serves a word that some strings begin with. Behind a unit it is entered with the cursor at the word's last unit, which
 //! it takes; then it tests the next unit, and goes on to the block of the longer word, or to the rule that was accepted last.
-ghost use Rattle.std.specs.Prelude.{◌≡◌, suc, ◌+◌, ◌*◌, ◌<◌, ◌≤◌, [], ◌∷◌, Option, Some, None, false, ℕ, IfOk, IfSome, OnOk, length, slice_get, slice_set};
+ghost use Rattle.std.specs.Prelude.{◌≡◌, suc, ◌+◌, ◌*◌, ◌<◌, ◌≤◌, [], ◌∷◌, ◌++◌, Option, Some, None, false, ℕ, IfOk, IfSome, OnOk, length, slice_get, slice_set};
 ghost use Rattle.lx_ccode.specs.declared.piece.Stmt.TheVariants.{Goto};
 ghost use Rattle.lx_trie.specs.declared.code.Accepted.TheVariants.{Nothing, Here};
 ghost use Rattle.lx_trie.specs.declared.code.Place.TheVariants.{Behind};
@@ -10,11 +10,11 @@ ghost use Rattle.lx_trie.specs.Emission.{AreItems, HasFallback, IsKnown, ServesD
 ghost use Rattle.lx_trie.specs.Pieces.{waiting};
 ghost use Rattle.lx_trie.specs.Scan.{accepted, derived, reads_on, rule_or};
 ghost use Rattle.lx_trie.specs.Scanner.{HasAnAction};
-ghost use Rattle.lx_trie.specs.Serving.{Falls, IsActionBlock, Serves, ServesStart, Stops, accepted_first, accepted_next, code_in, default_of, earlier, is_here};
+ghost use Rattle.lx_trie.specs.Serving.{Falls, IsActionBlock, Serves, ServesStart, accepted_first, accepted_next, code_in, default_of, earlier, is_here};
 
 use crate::code::{
-    Accepted, Place, action_code, goto_code, leave_code, push_block, push_tests, read_code,
-    restore_code, set_first,
+    Accepted, Place, action_code, entered, goto_code, leave_code, push_block, push_tests,
+    read_code, restore_code, set_first,
 };
 use crate::trie::{Item, accepted, derived, goes_on, needs_marker, next_unit};
 use lx_base::{ByteText, Memory};
@@ -38,6 +38,45 @@ pub struct WordBegin {
     keeps: bool,
     /// The block to which longer words fall back that are not accepted themselves.
     fallback: u64,
+}
+
+/// A word whose code is being made.
+#[derive(Drop)]
+struct Word<'s> {
+    /// What goes on behind the word.
+    items: Vec<Item<'s>>,
+    place: Place,
+    last: Accepted,
+    begin: WordBegin,
+    /// The code with the tests of the units below the bound.
+    code: Vec<Stmt>,
+    bound: u64,
+    /// The last unit of the longer word for whose block this one waits, while it does.
+    unit: u32,
+}
+
+/// The word as it waits for the word that is longer by the unit.
+fn waiting_for(word: Word<'_>, unit: u32) -> Word<'_>
+    ensures { result ≡ record word.entry { unit = unit } }
+{
+    Word {
+        items: word.items,
+        place: word.place,
+        last: word.last,
+        begin: word.begin,
+        code: word.code,
+        bound: word.bound,
+        unit,
+    }
+}
+
+/// The whole code of a word, behind which no further unit is taken.
+fn closed(word: Word<'_>) -> Result<Vec<Stmt>, Memory>
+    ensures { IfOk result (λ code. code.items ≡ word.entry.code.items ++ Goto word.entry.begin.miss ∷ []) }
+{
+    let mut code = word.code;
+    code.push(Stmt::Goto(word.begin.miss))?;
+    Ok(code)
 }
 
 /// The rule `*`, where it may take the next unit.
@@ -112,6 +151,7 @@ fn copied(alloc: Global, texts: &[ByteText], place: usize) -> Result<ByteText, M
 
 impl<'s> Emitter<'s> {
     ghost use Rattle.lx_trie.specs.Emission.{Begins, Emits, IsEmitting, IsPlainBlock};
+    ghost use Rattle.lx_trie.specs.Waiting.{GoesOn, IsOpen, MayOpen, longer_items, longer_last};
 
     /// Puts a block without an action behind the others and answers its number.
     fn emit(&mut self, statements: Vec<Stmt>) -> Result<u64, Memory>
@@ -175,27 +215,6 @@ impl<'s> Emitter<'s> {
         }
     }
 
-    /// The code of a word that is not read on.
-    fn stop_code(
-        &mut self,
-        alloc: Global,
-        place: Place,
-        last: Accepted,
-        fallback: u64,
-    ) -> Result<Vec<Stmt>, Memory>
-        requires emitting { IsEmitting self.old }
-        requires known { IsKnown (length self.old.actions.now) last }
-        requires fallback { HasFallback self.old.blocks.items None last fallback }
-        ensures emits { OnOk result (Emits self.old self.new) }
-        ensures plain { IfOk result (λ code. IsPlainBlock self.new code.items) }
-        ensures stops { IfOk result (λ code. Stops self.new.blocks.items place last code.items) }
-        ensures few { OnOk result (length self.new.blocks.items ≤ suc (length self.old.blocks.items)) }
-    {
-        let block = self.found_block(alloc, last, fallback)?;
-        let code = goto_code(alloc, place, block)?;
-        Ok(code)
-    }
-
     /// Emits the block of the units that only `*` takes.
     fn default_begin(&mut self, alloc: Global, default: u32) -> Result<WordBegin, Memory>
         requires emitting { IsEmitting self.old }
@@ -207,7 +226,8 @@ impl<'s> Emitter<'s> {
         ensures reach { IfOk result (λ begin. begin.fallback < length self.new.blocks.items) }
         ensures few { OnOk result (length self.new.blocks.items ≤ length self.old.blocks.items + 2) }
     {
-        let code = self.stop_code(alloc, Place::Behind, Accepted::Here(default), 0)?;
+        let action = self.action_block(alloc, default)?;
+        let code = goto_code(alloc, action)?;
         let miss = self.emit(code)?;
         Ok(WordBegin {
             miss,
@@ -272,16 +292,107 @@ impl<'s> Emitter<'s> {
         }
     }
 
-    /// The code of the block of a word behind which the items go on, for which all blocks that it leads to are emitted.
+    /// Begins the code of a word behind which the items go on.
     ///
-    /// Where nothing is accepted behind this very word, `fallback` is the block by which what was accepted last is found. The
-    /// items go on with fewer units than `depth` less one.
-    fn word_code(
+    /// Where nothing is accepted behind this very word, `fallback` is the block by which what was accepted last is found.
+    fn open_word<'i>(
         &mut self,
         alloc: Global,
-        depth: usize,
         place: Place,
-        items: &[Item<'_>],
+        items: Vec<Item<'i>>,
+        last: Accepted,
+        fallback: u64,
+    ) -> Result<Word<'i>, Memory>
+        requires emitting { IsEmitting self.old }
+        requires known { IsKnown (length self.old.actions.now) last }
+        requires default { IfSome (default_of place) (HasAnAction (length self.old.actions.now)) }
+        requires fallback { HasFallback self.old.blocks.items (default_of place) last fallback }
+        ensures emits { OnOk result (Emits self.old self.new) }
+        ensures bound { IfOk result (λ word. word.bound ≡ 0) }
+        ensures items { IfOk result (λ word. word.items.items ≡ items.entry.items) }
+        ensures opens { IfOk result (λ word. (depth : ℕ) → MayOpen depth (length self.new.actions.now) (items_of items.entry.items)
+            → IsOpen depth self.new place (items_of items.entry.items) last word) }
+        ensures few { OnOk result (length self.new.blocks.items ≤ length self.old.blocks.items + 2) }
+    {
+        if !reads_on(place, &items) {
+            let miss = self.found_block(alloc, last, fallback)?;
+            let code = entered(alloc, place)?;
+            return Ok(Word {
+                items,
+                place,
+                last,
+                begin: WordBegin {
+                    miss,
+                    keeps: false,
+                    fallback: miss,
+                },
+                code,
+                bound: 0,
+                unit: 0,
+            });
+        }
+        let begin = self.begin_place(alloc, place, &items, last, fallback)?;
+        let code = read_code(alloc, place, begin.keeps)?;
+        Ok(Word {
+            items,
+            place,
+            last,
+            begin,
+            code,
+            bound: 0,
+            unit: 0,
+        })
+    }
+
+    /// Begins the code of the word that is one unit longer.
+    fn open_longer<'i>(
+        &mut self,
+        alloc: Global,
+        word: &Word<'i>,
+        unit: u32,
+    ) -> Result<Word<'i>, Memory>
+        requires emitting { IsEmitting self.old }
+        requires known { IsKnown (length self.old.actions.now) (longer_last word.now unit) }
+        requires fallback { HasFallback self.old.blocks.items None (longer_last word.now unit) word.now.begin.fallback }
+        ensures emits { OnOk result (Emits self.old self.new) }
+        ensures bound { IfOk result (λ longer. longer.bound ≡ 0) }
+        ensures items { IfOk result (λ longer. items_of longer.items.items ≡ longer_items word.now unit) }
+        ensures opens { IfOk result (λ longer. (depth : ℕ) → MayOpen depth (length self.new.actions.now) (longer_items word.now unit)
+            → IsOpen depth self.new Behind (longer_items word.now unit) (longer_last word.now unit) longer) }
+        ensures few { OnOk result (length self.new.blocks.items ≤ length self.old.blocks.items + 2) }
+    {
+        let items = derived(alloc, &word.items, unit)?;
+        let last = accepted_next(word.place, &items, word.last);
+        let longer = self.open_word(alloc, Place::Behind, items, last, word.begin.fallback)?;
+        Ok(longer)
+    }
+
+    /// Emits the block of the longer word, and puts the tests that lead to it behind the code of the word that waits for it.
+    fn go_on<'i>(&mut self, waiting: Word<'i>, longer: Vec<Stmt>) -> Result<Word<'i>, Memory>
+        requires emitting { IsEmitting self.old }
+        requires plain { IsPlainBlock self.old longer.items }
+        ensures emits { OnOk result (Emits self.old self.new) }
+        ensures word { IfOk result (GoesOn self.new waiting.entry longer.items) }
+        ensures few { OnOk result (length self.new.blocks.items ≤ suc (length self.old.blocks.items)) }
+    {
+        let number = self.emit(longer)?;
+        let mut word = waiting;
+        let unit = word.unit;
+        let bound = word.bound;
+        let miss = word.begin.miss;
+        push_tests(&mut word.code, bound, unit, miss, number)?;
+        word.bound = u64::from(unit) + 1;
+        Ok(word)
+    }
+
+    /// The code of the block of a word behind which the items go on, for which all blocks that it leads to are emitted.
+    ///
+    /// Words that are not finished wait on the heap, so that long strings take no stack.
+    fn word_code<'i>(
+        &mut self,
+        alloc: Global,
+        place: Place,
+        items: Vec<Item<'i>>,
         last: Accepted,
         fallback: u64,
     ) -> Result<Vec<Stmt>, Memory>
@@ -289,38 +400,28 @@ impl<'s> Emitter<'s> {
         requires known { IsKnown (length self.old.actions.now) last }
         requires default { IfSome (default_of place) (HasAnAction (length self.old.actions.now)) }
         requires fallback { HasFallback self.old.blocks.items (default_of place) last fallback }
-        requires depth { 1 < depth }
-        requires items { AreItems depth (length self.old.actions.now) (items_of items.now) }
-        requires few { letters (items_of items.now) ≤ 16384 }
+        requires items { AreItems 16386 (length self.old.actions.now) (items_of items.items) }
+        requires few { letters (items_of items.items) ≤ 16384 }
         ensures emits { OnOk result (Emits self.old self.new) }
         ensures plain { IfOk result (λ code. IsPlainBlock self.new code.items) }
-        ensures serves { IfOk result (λ code. Serves depth self.new.blocks.items place (items_of items.now) last code.items) }
-        ensures few { OnOk result (length self.new.blocks.items ≤ length self.old.blocks.items + 2 + 3 * letters (items_of items.now)) }
+        ensures serves { IfOk result (λ code. Serves 16386 self.new.blocks.items place (items_of items.entry.items) last code.items) }
+        ensures few { OnOk result (length self.new.blocks.items ≤ length self.old.blocks.items + 2 + 3 * letters (items_of items.entry.items)) }
     {
-        if !reads_on(place, items) {
-            let stop = self.stop_code(alloc, place, last, fallback)?;
-            return Ok(stop);
+        let mut word = self.open_word(alloc, place, items, last, fallback)?;
+        let mut waiting = Vec::new(alloc);
+        loop {
+            if let Some(unit) = next_unit(&word.items, word.bound) {
+                let longer = self.open_longer(alloc, &word, unit)?;
+                waiting.push(waiting_for(word, unit))?;
+                word = longer;
+            } else {
+                let code = closed(word)?;
+                match waiting.pop() {
+                    Some(shorter) => word = self.go_on(shorter, code)?,
+                    None => return Ok(code),
+                }
+            }
         }
-        let begin = self.begin_place(alloc, place, items, last, fallback)?;
-        let mut code = read_code(alloc, place, begin.keeps)?;
-        let mut bound = 0;
-        while let Some(unit) = next_unit(items, bound) {
-            let next = derived(alloc, items, unit)?;
-            let newer = accepted_next(place, &next, last);
-            let longer = self.word_code(
-                alloc,
-                depth - 1,
-                Place::Behind,
-                &next,
-                newer,
-                begin.fallback,
-            )?;
-            let number = self.emit(longer)?;
-            push_tests(&mut code, bound, unit, begin.miss, number)?;
-            bound = u64::from(unit) + 1;
-        }
-        code.push(Stmt::Goto(begin.miss))?;
-        Ok(code)
     }
 
     /// An emitter with one block that waits for its code, and a table in which no action has a block.
@@ -364,29 +465,27 @@ impl<'s> Emitter<'s> {
 
     /// Emits the blocks of all words, and gives the first block the code of the start.
     ///
-    /// The number of the rule `*`, if there is one, is `default`. The items have fewer units than `depth` less one.
-    pub fn emit_start(
+    /// The number of the rule `*`, if there is one, is `default`.
+    pub fn emit_start<'i>(
         &mut self,
         alloc: Global,
-        depth: usize,
-        items: &[Item<'_>],
+        items: Vec<Item<'i>>,
         default: Option<u32>,
     ) -> Result<(), Memory>
         requires emitting { IsEmitting self.old }
         requires waits { code_in self.old.blocks.items 0 ≡ Some (Goto 0 ∷ []) }
         requires default { IfSome default (HasAnAction (length self.old.actions.now)) }
-        requires depth { 1 < depth }
-        requires items { AreItems depth (length self.old.actions.now) (items_of items.now) }
-        requires few { letters (items_of items.now) ≤ 16384 }
+        requires items { AreItems 16386 (length self.old.actions.now) (items_of items.items) }
+        requires few { letters (items_of items.items) ≤ 16384 }
         ensures emitting { OnOk result (IsEmitting self.new) }
         ensures actions { OnOk result (self.new.actions.now ≡ self.old.actions.now) }
-        ensures serves { OnOk result (ServesStart depth self.new.blocks.items (items_of items.now) default) }
-        ensures few { OnOk result (length self.new.blocks.items ≤ length self.old.blocks.items + 3 + 3 * letters (items_of items.now)) }
+        ensures serves { OnOk result (ServesStart 16386 self.new.blocks.items (items_of items.entry.items) default) }
+        ensures few { OnOk result (length self.new.blocks.items ≤ length self.old.blocks.items + 3 + 3 * letters (items_of items.entry.items)) }
     {
-        let last = accepted_first(items);
+        let last = accepted_first(&items);
         let fallback = self.first_fallback(alloc, last, default)?;
         let start = Place::Start(default);
-        let code = self.word_code(alloc, depth, start, items, last, fallback)?;
+        let code = self.word_code(alloc, start, items, last, fallback)?;
         set_first(&mut self.blocks, code);
         Ok(())
     }

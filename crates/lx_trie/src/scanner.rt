@@ -16,14 +16,10 @@ use lx_encode::unit_bytes;
 use lx_regex::Strings;
 use std::alloc::Global;
 
-/// How many units all strings have at most: four for each code point.
-const MOST_UNITS: usize = 16384;
-
 /// The piece of a scanner of strings and of `*`, if there is one, without `#line`, refills and stored states.
 ///
-/// The number is the piece's in its output, counted from 1. The action of rule 1 is the first one of the actions. Where the
-/// strings spell nothing that goes on, and there is no `*`, the scanner is left with the cursor behind the longest word with
-/// which some string goes on.
+/// The number is the piece's in its output, counted from 1. The action of rule 1 is the first one of the actions. Where no rule
+/// matches the scanner is left, with the cursor behind the longest word that begins a match. Only want of memory refuses.
 pub fn string_scanner(
     alloc: Global,
     enc: Enc,
@@ -42,7 +38,7 @@ pub fn string_scanner(
 {
     let spelled = spelled_rules(alloc, enc, strings.rules.as_slice())?;
     let items = whole_items(alloc, &spelled)?;
-    let blocks = scanner_blocks(alloc, actions, &items, strings.default)?;
+    let blocks = scanner_blocks(alloc, actions, items, strings.default)?;
     let names = copied_names(alloc, names.as_slice())?;
     Ok(Piece {
         number,
@@ -62,18 +58,18 @@ pub fn string_scanner(
 fn scanner_blocks(
     alloc: Global,
     actions: &[ByteText],
-    items: &[Item<'_>],
+    items: Vec<Item<'_>>,
     default: Option<u32>,
 ) -> Result<Vec<CodeBlock>, Memory>
     requires default { IfSome default (HasAnAction (length actions.now)) }
-    requires items { AreItems 16386 (length actions.now) (items_of items.now) }
-    requires few { letters (items_of items.now) ≤ 16384 }
-    ensures { IfOk result (λ blocks. IsStarted actions.now (items_of items.now) default blocks.items) }
+    requires items { AreItems 16386 (length actions.now) (items_of items.items) }
+    requires few { letters (items_of items.items) ≤ 16384 }
+    ensures { IfOk result (λ blocks. IsStarted actions.now (items_of items.entry.items) default blocks.items) }
 {
     let blocks = first_block(alloc)?;
     let action_blocks = no_blocks(alloc, actions.len())?;
     let mut emitter = Emitter::new(actions, blocks, action_blocks);
-    emitter.emit_start(alloc, MOST_UNITS + 2, items, default)?;
+    emitter.emit_start(alloc, items, default)?;
     Ok(emitter.into_blocks())
 }
 

@@ -74,10 +74,7 @@ pub fn spelled_rules(
 }
 
 /// The whole strings of the rules.
-pub fn whole_items<'s>(
-    alloc: Global,
-    strings: &'s [SpelledRule],
-) -> Result<Vec<Item<'s>>, Memory>
+pub fn whole_items<'s>(alloc: Global, strings: &'s [SpelledRule]) -> Result<Vec<Item<'s>>, Memory>
     ensures { IfOk result (λ items. items_of items.items ≡ map whole_item strings.now) }
 {
     let mut items = Vec::new(alloc);
@@ -91,11 +88,7 @@ pub fn whole_items<'s>(
 }
 
 /// The items that go on with the unit, and what comes behind it.
-pub fn derived<'s>(
-    alloc: Global,
-    items: &[Item<'s>],
-    unit: u32,
-) -> Result<Vec<Item<'s>>, Memory>
+pub fn derived<'s>(alloc: Global, items: &[Item<'s>], unit: u32) -> Result<Vec<Item<'s>>, Memory>
     ensures { IfOk result (λ next. items_of next.items ≡ derived unit (items_of items.now)) }
 {
     let mut next = Vec::new(alloc);

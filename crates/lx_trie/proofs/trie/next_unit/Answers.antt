@@ -1,4 +1,4 @@
-use Rattle.std.proofs.Common.{None, sym, ap, ◌∙◌}
+use Rattle.std.proofs.Common.{sym, ap, ◌∙◌}
 use Rattle.std.proofs.Math.ListN.{drop_of_length-le}
 use Rattle.lx_trie.specs.Emission.{items_of, next_from}
 use Rattle.lx_trie.proofs.UnitLemmas.{next_unit-some, next_unit-none}
