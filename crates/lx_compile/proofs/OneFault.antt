@@ -14,7 +14,6 @@ use Rattle.lx_base.specs.declared.settings.Enc.TheVariants.{Byte}
 use Rattle.lx_base.specs.declared.settings.Options.{Options}
 use Rattle.lx_parse.specs.Blocks.{BeginsBody, IsBody, IsRefused, IsSyntaxFault, form_of, place_of_next}
 use Rattle.lx_parse.specs.Sorts.{sorts_of}
-use Rattle.lx_parse.specs.declared.forms.Form.{Form}
 use Rattle.lx_parse.specs.declared.items.Item.{Item}
 use Rattle.lx_parse.specs.declared.sorts.Sort.{Sort}
 use Rattle.lx_parse.proofs.Refusals.{one_tree}
@@ -59,19 +58,19 @@ longer (sort ∷ sorts) (suc count) zero before = absurd (omega arith)
 longer (sort ∷ sorts) (suc count) (suc more) before =
     let found = longer sorts count more (omega arith) in (found.0, ap (λ front. sort ∷ front) found.1)
 
-begins-front : (form : Form) (front tail : List Sort) → BeginsBody form (front ++ tail) → BeginsBody form front
-begins-front form front tail begins =
-    (tail ++ begins.0, begins.1, subst (λ sorts. IsBody form sorts begins.1) (append_assoc front tail begins.0) begins.2)
+begins-front : (kind : BlockKind) (front tail : List Sort) → BeginsBody (form_of kind) (front ++ tail) → BeginsBody (form_of kind) front
+begins-front kind front tail begins =
+    (tail ++ begins.0, begins.1, subst (λ sorts. IsBody (form_of kind) sorts begins.1) (append_assoc front tail begins.0) begins.2)
 
 -- behind a token with which no body goes on none does
-refused_before : (form : Form) (sorts : List Sort) (count more : ℕ) → IsRefused form (take count sorts) (drop count sorts)
-    → BeginsBody form (take more sorts) → count < more → count < length sorts → ⊥
-refused_before form sorts count more refuses begins before within =
+refused_before : (kind : BlockKind) (sorts : List Sort) (count more : ℕ) → IsRefused (form_of kind) (take count sorts) (drop count sorts)
+    → BeginsBody (form_of kind) (take more sorts) → count < more → count < length sorts → ⊥
+refused_before kind sorts count more refuses begins before within =
     let found = here sorts count within in
     let front = longer sorts (suc count) more (omega arith) in
-    let stops = subst (IsRefused form (take count sorts)) found.2 refuses in
-    stops (begins-front form (take count sorts ++ found.0 ∷ []) front.0
-    (subst (BeginsBody form) (front.1 ∙ ap (λ l. l ++ front.0) found.3) begins))
+    let stops = subst (IsRefused (form_of kind) (take count sorts)) found.2 refuses in
+    stops (begins-front kind (take count sorts ++ found.0 ∷ []) front.0
+    (subst (BeginsBody (form_of kind)) (front.1 ∙ ap (λ l. l ++ front.0) found.3) begins))
 
 length-sorts_of : (kind : BlockKind) (body : List ℕ) (tokens : List Token) → length (sorts_of kind body tokens) ≡ length tokens
 length-sorts_of kind body [] = refl
@@ -85,7 +84,7 @@ module _ (body : List ℕ) (start : Pos) (tokens : List Token) where
   syntax-before : (fault other : Fault) (is : IsSyntaxFault Code body start tokens fault) (is_other : IsSyntaxFault Code body start tokens other)
       → is.count < is_other.count → fault ≡ other
   syntax-before fault other is is_other before = elim (cases_lt is.count (length sorts)) [
-    | inl within ↦ absurd (refused_before (form_of Code) sorts is.count is_other.count is.refused is_other.begins before within)
+    | inl within ↦ absurd (refused_before Code sorts is.count is_other.count is.refused is_other.begins before within)
     | inr all ↦
         let length_is = length-sorts_of Code body tokens in
         let first : drop is.count tokens ≡ [] = drop_all is.count tokens (omega (arith, length_is, all)) in
@@ -109,7 +108,7 @@ module _ (body : List ℕ) (start : Pos) (tokens : List Token) where
   read_or_not : (items : List Item) (fault : Fault) → IsBody (form_of Code) sorts items → IsSyntaxFault Code body start tokens fault → ⊥
   read_or_not items fault read is = elim (cases_lt is.count (length sorts)) [
     | inl within ↦
-        refused_before (form_of Code) sorts is.count (length sorts) is.refused
+        refused_before Code sorts is.count (length sorts) is.refused
         ([], items, subst (λ l. IsBody (form_of Code) l items) (sym (append-nil (take (length sorts) sorts) ∙ take_all (length sorts) sorts (omega arith))) read) within within
     | inr all ↦
         subst (λ l. IsRefused (form_of Code) l []) (take_all is.count sorts all)
@@ -301,24 +300,21 @@ module _ (options : Options) where
   kernels-one environment (piece.Block kind body at start end_line ∷ pieces) (Block place resolved ∷ parts) (Outside second ∷ others) fault other free are are_other is is_other =
       absurd are_other
   kernels-one environment (piece.Block kind body at start end_line ∷ pieces) (Block place resolved ∷ parts) (Block place_other another ∷ others) fault other free are are_other is is_other =
-      by is is_other
+      by is is_other (λ is is_other.
+      kernels-one are.1.0 pieces parts others fault other (body-tagless environment kind body at start free are.1.0 resolved are.1.1.resolves) are.1.2
+      (subst (λ (given : Environment). AreParts options given pieces others) (sym both.0) are_other.1.2) is is_other)
     where
-      after : Environment
-      after = are.1.0
-
-      both : (after ≡ are_other.1.0) × AreAlike resolved another
-      both = body-one environment kind body at start free after are_other.1.0 resolved another are.1.1.resolves are_other.1.1.resolves
+      both : (are.1.0 ≡ are_other.1.0) × AreAlike resolved another
+      both = body-one environment kind body at start free are.1.0 are_other.1.0 resolved another are.1.1.resolves are_other.1.1.resolves
 
       by : (HasTooLarge resolved.scanners × (fault ≡ Some (TooManyStates place))) ⊎ ((HasTooLarge resolved.scanners → ⊥) × IsKernelFault parts fault)
           → (HasTooLarge another.scanners × (other ≡ Some (TooManyStates place_other))) ⊎ ((HasTooLarge another.scanners → ⊥) × IsKernelFault others other)
-          → fault ≡ other
-      by (inl large) (inl large_other) = large.1 ∙ ap (λ (p : Pos). Some (TooManyStates p)) (are.0 ∙ sym are_other.0) ∙ sym large_other.1
-      by (inl large) (inr none) = absurd (none.0 (too_large-alike resolved.scanners another.scanners both.1.scanners large.0))
-      by (inr none) (inl large) =
+          → (IsKernelFault parts fault → IsKernelFault others other → fault ≡ other) → fault ≡ other
+      by (inl large) (inl large_other) later = large.1 ∙ ap (λ (p : Pos). Some (TooManyStates p)) (are.0 ∙ sym are_other.0) ∙ sym large_other.1
+      by (inl large) (inr none) later = absurd (none.0 (too_large-alike resolved.scanners another.scanners both.1.scanners large.0))
+      by (inr none) (inl large) later =
           absurd (none.0 (too_large-alike another.scanners resolved.scanners (same-turned resolved.scanners another.scanners both.1.scanners) large.0))
-      by (inr none) (inr none_other) =
-          kernels-one after pieces parts others fault other (body-tagless environment kind body at start free after resolved are.1.1.resolves) are.1.2
-          (subst (λ (given : Environment). AreParts options given pieces others) (sym both.0) are_other.1.2) none.1 none_other.1
+      by (inr none) (inr none_other) later = later none.1 none_other.1
 
   behind-one : (pieces : List SourcePiece) (fault other : Option Fault) → IsFaultBehind options pieces fault → IsFaultBehind options pieces other → fault ≡ other
   behind-one pieces fault other is is_other =

@@ -114,7 +114,9 @@ module _ (options : Options) (lexemes : List Lexeme) where
   after-one : (state : State) (item : Item) (after other : State) → AreTagless state.definitions → ItemChecks options lexemes state item None
       → IsAfter options lexemes state item after → IsAfter options lexemes state item other → after ≡ other
   after-one state (Define name from until) after other free checks is is_other =
-      let found = then-none _ _ checks in
+      let lexeme = nth_lexeme lexemes name in
+      let first = option_map (λ (definition : Definition). definition.at) (definition_of state.definitions lexeme.text) in
+      let found = then-none (Finds (twice lexeme.at first)) (ExpressionChecks options lexemes state.definitions from until) checks in
       let same = expression_meaning-one options state.definitions lexemes free from until is.0 is_other.0 is.1 is_other.1 found.1 is.2 is_other.2 is.3 is_other.3 in
       is.4
       ∙ ap (λ (meaning : Meaning). record {
@@ -127,7 +129,10 @@ module _ (options : Options) (lexemes : List Lexeme) where
       let same : is.0 ≡ is_other.0 = let found = sym is.1 ∙ is_other.1 in cc in
       is.2 ∙ ap (λ (fill : Bool). record { definitions = state.definitions; fill = fill; rules = state.rules }) same ∙ sym is_other.2
   after-one state (Rule first head slash until goes code) after other free checks is is_other =
-      let found = then-none _ _ (then-none _ _ checks).1 in
+      let List' = ListChecks options lexemes (first == head) (nth_lexeme lexemes first).at in
+      let Head = HeadChecks options lexemes state (head_sort (sort_at (nth_lexeme lexemes head))) (conds_of options lexemes first head) head slash until in
+      let Target = TargetChecks options lexemes goes in
+      let found = then-none Head Target (then-none List' (Then Head Target) checks).1 in
       let same = head_meaning-one state (head_sort (sort_at (nth_lexeme lexemes head))) head slash until free (conds_of options lexemes first head)
       is.0 is_other.0 is.1 is_other.1 found.0 is.2 is_other.2 in
       is.3
@@ -155,24 +160,26 @@ module _ (options : Options) (lexemes : List Lexeme) where
   after-tagless state (Rule first head slash until goes code) after free is = subst (λ (s : State). AreTagless s.definitions) (sym is.3) free
   after-tagless state (Text value) after free is = subst (λ (s : State). AreTagless s.definitions) (sym is) free
 
-  -- Items come to one end: what holds of ends from the same place.
+  ends-one : {state : State} {other : Result State Fault} → Goes options lexemes state [] other → Ok state ≡ other
+  ends-one ends = refl
+
+  -- items come to one end
   pub Goes-one : {state : State} {items : List Item} {result : Result State Fault} → Goes options lexemes state items result
       → AreTagless state.definitions → (other : Result State Fault) → Goes options lexemes state items other → result ≡ other
-  Goes-one ends free other goes = by goes
-    where
-      by : {state : State} {other : Result State Fault} → Goes options lexemes state [] other → Ok state ≡ other
-      by goes = elim goes [ ends ↦ refl ]
+  Goes-one ends free other goes = ends-one goes
   Goes-one (refused {state = state} {item = item} {items = items} fault checks) free other goes = by other goes
     where
       by : (other : Result State Fault) → Goes options lexemes state (item ∷ items) other → Err fault ≡ other
       by other (refused found checks_other) = let same = (item-one state item free).one (Some fault) (Some found) checks checks_other in cc
       by other (next after checks_other becomes goes) = absurd (let same = (item-one state item free).one (Some fault) None checks checks_other in cc)
-  Goes-one (next {state = state} {item = item} {items = items} {result = result} after checks becomes goes) free other goes_other = by other goes_other
+  Goes-one (next {state = state} {item = item} {items = items} {result = result} after checks becomes goes) free other goes_other =
+      by other goes_other (λ other goes_other. Goes-one goes (after-tagless state item after free becomes) other goes_other)
     where
-      by : (other : Result State Fault) → Goes options lexemes state (item ∷ items) other → result ≡ other
-      by other (refused found checks_other) = absurd (let same = (item-one state item free).one None (Some found) checks checks_other in cc)
-      by other (next after_other checks_other becomes_other goes_other) =
-          Goes-one goes (after-tagless state item after free becomes) other
+      by : (other : Result State Fault) → Goes options lexemes state (item ∷ items) other
+          → ((other : Result State Fault) → Goes options lexemes after items other → result ≡ other) → result ≡ other
+      by other (refused found checks_other) later = absurd (let same = (item-one state item free).one None (Some found) checks checks_other in cc)
+      by other (next after_other checks_other becomes_other goes_other) later =
+          later other
           (subst (λ (s : State). Goes options lexemes s items other) (sym (after-one state item after after_other free checks becomes becomes_other)) goes_other)
 
   -- and they leave no definition with tags

@@ -39,7 +39,6 @@ Reason-read IsFault CountRose seen file name halt.ReadFailed known halts = halts
 Reason-read IsFault CountRose seen file name halt.PutFailed known halts = halts
 Reason-read IsFault CountRose seen file name halt.OutOfMemory known halts = tt
 
-
 module _ (IsFault : Option Fault → Type 0) (target : Option (List ℕ)) (IsRight : List ℕ → Type 0) (files files' : FilesView) (out out' : SinkView) where
   -- a job broke off that had given nothing
   Halts-reason : (halted : Halt) → Reason IsFault (Rose files.faults files'.faults) halted → DeliversNothing files files' out out'

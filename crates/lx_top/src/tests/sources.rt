@@ -15,7 +15,8 @@ const IF_AND_IFX: &str = "/*!re2c\nre2c:yyfill:enable = 0;\n\"if\" { }\n\"ifx\" 
 /// The rule `*` alone, between other texts.
 const IN_THE_MIDDLE: &str = "int x; /*!re2c\nre2c:yyfill:enable = 0;\n* { }\n*/ int y;";
 
-const EQUAL_STRINGS: &str = "/*!re2c\nre2c:yyfill:enable = 0;\n\"a\" { 1; }\n\"a\" { 2; }\n* { 3; }\n*/\n";
+const EQUAL_STRINGS: &str =
+    "/*!re2c\nre2c:yyfill:enable = 0;\n\"a\" { 1; }\n\"a\" { 2; }\n* { 3; }\n*/\n";
 
 /// A block that enables no refill.
 const NO_REFILL: &str = "/*!re2c\nre2c:yyfill:enable = 0;\n";
@@ -68,8 +69,16 @@ fn a_block_gives_its_scanner(rt: HostRuntime) -> Result<(), Fail> {
         (EQUAL_STRINGS, "{ 2; }", 0),
         (EQUAL_STRINGS, "{ 3; }", 1),
         (TWO_BLOCKS, "/*!begin:re2c 2*/", 1),
-        (NO_RULES, "int x; /*!begin:re2c 1*/\n/*!end:re2c*/ int y;", 1),
-        (KEYWORDS, "    const char *YYMARKER;\n    /*!begin:re2c 1*/\n", 1),
+        (
+            NO_RULES,
+            "int x; /*!begin:re2c 1*/\n/*!end:re2c*/ int y;",
+            1,
+        ),
+        (
+            KEYWORDS,
+            "    const char *YYMARKER;\n    /*!begin:re2c 1*/\n",
+            1,
+        ),
         (KEYWORDS, "/*!end:re2c*/\n}\n\nint main(void)", 1),
     ] {
         let left = compile(rt.alloc(), source.as_bytes())?;
@@ -101,10 +110,7 @@ const ANY: &str = "/*!re2c\nre2c:yyfill:enable = 0;\n* { }\n*/\n";
 
 #[test]
 fn a_scanner_is_compiled_read_back_and_run(rt: HostRuntime) -> Result<(), Fail> {
-    let (first, second) = (
-        "--x-run in.txt q.c",
-        "--x-run in.txt --x-block 2 q.c",
-    );
+    let (first, second) = ("--x-run in.txt q.c", "--x-run in.txt --x-block 2 q.c");
     for (source, line, input, lines) in [
         (
             IF_AND_IFX,
@@ -121,7 +127,12 @@ fn a_scanner_is_compiled_read_back_and_run(rt: HostRuntime) -> Result<(), Fail> 
         (ANY, first, b"\0".as_slice(), "rule 1 0 1\nend 1 1\n"),
         (ANY, first, b"".as_slice(), "end 0 0\n"),
         (TWO_BLOCKS, first, b"a".as_slice(), "rule 1 0 1\nend 1 1\n"),
-        (TWO_BLOCKS, second, b"ba".as_slice(), "rule 1 0 2\nend 2 2\n"),
+        (
+            TWO_BLOCKS,
+            second,
+            b"ba".as_slice(),
+            "rule 1 0 2\nend 2 2\n",
+        ),
         (
             KEYWORDS,
             first,
@@ -168,19 +179,13 @@ fn sources_are_refused_at_a_place(rt: HostRuntime) -> Result<(), Fail> {
             "int x; /*!foo:re2c*/\n",
             "1:8: error: unknown directive or option missing",
         ),
-        (
-            "/*!re2c\n\"ab { }\n*/\n",
-            "2:1: error: no token here",
-        ),
+        ("/*!re2c\n\"ab { }\n*/\n", "2:1: error: no token here"),
         ("/*!re2c\n\"a\"\n*/\n", "3:1: error: syntax error"),
         (
             "/*!re2c\n\"\\u0100\" { }\n*/\n",
             "2:1: error: code point too large",
         ),
-        (
-            "/*!re2c\nx { }\n*/\n",
-            "2:1: error: unknown name 'x'",
-        ),
+        ("/*!re2c\nx { }\n*/\n", "2:1: error: unknown name 'x'"),
         (
             "/*!re2c\nx = \"a\";\nx = \"b\";\n*/\n",
             "3:1: error: defined twice",
@@ -234,7 +239,11 @@ fn what_is_not_supported_is_refused_at_its_token(rt: HostRuntime) -> Result<(), 
         "/*!rules:re2c\n\"a\" { }\n*/\n",
         "/*!ignore:re2c */\n",
     ] {
-        let is_refused = is_refused(rt.alloc(), source.as_bytes(), "1:1: error: not supported yet")?;
+        let is_refused = is_refused(
+            rt.alloc(),
+            source.as_bytes(),
+            "1:1: error: not supported yet",
+        )?;
         assert!(rt; is_refused, "{source} is refused");
     }
     Ok(())
@@ -267,22 +276,10 @@ fn the_first_of_two_faults_is_told(rt: HostRuntime) -> Result<(), Fail> {
             "/*!re2c x { }\n/*!foo:re2c*/\n",
             "1:1: error: block not closed",
         ),
-        (
-            "/*!re2c\n= { }\n\"a\n*/\n",
-            "3:1: error: no token here",
-        ),
-        (
-            "/*!re2c\n\"a\n= { }\n*/\n",
-            "2:1: error: no token here",
-        ),
-        (
-            "/*!re2c\nx { }\n= { }\n*/\n",
-            "3:1: error: syntax error",
-        ),
-        (
-            "/*!re2c\n= { }\nx { }\n*/\n",
-            "2:1: error: syntax error",
-        ),
+        ("/*!re2c\n= { }\n\"a\n*/\n", "3:1: error: no token here"),
+        ("/*!re2c\n\"a\n= { }\n*/\n", "2:1: error: no token here"),
+        ("/*!re2c\nx { }\n= { }\n*/\n", "3:1: error: syntax error"),
+        ("/*!re2c\n= { }\nx { }\n*/\n", "2:1: error: syntax error"),
         (
             "/*!re2c\nx { }\n[a] { }\n*/\n",
             "2:1: error: unknown name 'x'",
@@ -328,19 +325,12 @@ fn long_rule(alloc: Global, letters: usize, behind: &str) -> Result<String, Fail
 
 #[test]
 fn a_rule_has_at_most_4095_letters(rt: HostRuntime) -> Result<(), Fail> {
-    let accepted = compile(
-        rt.alloc(),
-        long_rule(rt.alloc(), 4095, "")?.as_bytes(),
-    )?;
+    let accepted = compile(rt.alloc(), long_rule(rt.alloc(), 4095, "")?.as_bytes())?;
     assert_eq!(rt; accepted.status, 0);
     for (letters, behind, message) in [
         (4096, "", "1:1: error: too many states"),
         (4097, "", "1:1: error: scanner too large"),
-        (
-            4096,
-            "/*!re2c x { } */\n",
-            "4:9: error: unknown name 'x'",
-        ),
+        (4096, "/*!re2c x { } */\n", "5:9: error: unknown name 'x'"),
     ] {
         let source = long_rule(rt.alloc(), letters, behind)?;
         let is_refused = is_refused(rt.alloc(), source.as_bytes(), message)?;
