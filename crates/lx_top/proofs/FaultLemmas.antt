@@ -4,18 +4,18 @@ use Rattle.lx_base.specs.declared.faults.Fault.{Fault}
 use Rattle.lx_base.specs.declared.settings.Job.{Job}
 use Rattle.lx_base.specs.declared.settings.Job.TheVariants.{Compile, Run, Source}
 use Rattle.lx_base.specs.declared.settings.Options.{Options}
--- OneFault
+use Rattle.lx_compile.proofs.OneFault.{IsFirstFault-one}
 use Rattle.lx_files.specs.declared.files.HeldFile.{HeldFile}
 use Rattle.lx_files.specs.Held.{bytes_of}
 use Rattle.lx_words.specs.Options.{words_fault}
-use Rattle.lx_top.specs.FirstFault.{IsFaultBehind, IsFaultOf, IsFileFault, IsFirstFault, IsJobFault}
+use Rattle.lx_top.specs.FirstFault.{IsFaultBehind, IsFaultOf, IsFileFault, IsFirstFault}
 use Rattle.lx_top.specs.Jobs.{options_for}
 use Rattle.lx_top.proofs.EmittedLemmas.{IsRunFault-unique}
 
 IsFileFault-unique : (options : Options) (name : List ℕ) (given : Option (List ℕ)) (fault other : Option Fault)
     → IsFileFault options name given fault → IsFileFault options name given other → fault ≡ other
 IsFileFault-unique options name None fault other is is_other = is ∙ sym is_other
-IsFileFault-unique options name (Some bytes) fault other is is_other = ?
+IsFileFault-unique options name (Some bytes) fault other is is_other = IsFirstFault-one options bytes fault other is is_other
 
 -- a job has one first fault, or none
 IsFaultOf-unique : (options : Options) (job : Job) (files : List HeldFile) (fault other : Option Fault) → IsFaultOf options job files fault → IsFaultOf options job files other → fault ≡ other

@@ -1,5 +1,5 @@
 -- How a job ends, from how its steps ended.
-use Rattle.std.proofs.Common.{◌≡◌, ℕ, Bool, true, false, List, [], Option, Some, None, Result, Ok, Err, MatchResult, IsErrAnd, IfErr, refl, sym, ap, subst, ◌∙◌, inl, inr}
+use Rattle.std.proofs.Common.{◌≡◌, ℕ, Bool, true, false, List, [], Option, Some, None, Result, Ok, Err, IsErrAnd, IfErr, refl, sym, ap, subst, ◌∙◌, inl, inr}
 use Rattle.std.specs.Prelude.{◌||◌, if◌then◌else◌}
 use Rattle.lx_base.specs.declared.faults.Fault.{Fault}
 use Rattle.lx_base.specs.Message.{HasFile, place_of}
@@ -14,7 +14,7 @@ use Rattle.lx_words.specs.Line.{is_refused, line_of}
 use Rattle.lx_words.specs.Options.{StopsBy, words_fault}
 use Rattle.lx_words.specs.Points.{is_wrong}
 use Rattle.lx_words.specs.Waiting.{waits}
-use Rattle.lx_top.specs.Delivery.{Completes, GivesOut, BreaksOff, DeliversNothing}
+use Rattle.lx_top.specs.Delivery.{GivesOut, BreaksOff, DeliversNothing}
 use Rattle.lx_top.specs.FirstFault.{IsFaultBehind, IsFirstFault, IsJobFault}
 use Rattle.lx_top.specs.Jobs.{file_names, job_of, names_behind, names_of, options_for, target_of}
 use Rattle.lx_top.specs.Outside.{FilesView, SinkView, files_view}

@@ -1,13 +1,11 @@
 -- Words that are read ask for no compilation but such as there is so far.
-use Rattle.std.proofs.Common.{◌≡◌, ℕ, Bool, true, false, List, Option, Some, None, refl, sym, ap, subst, ◌∙◌, arith, rules}
+use Rattle.std.proofs.Common.{◌≡◌, ℕ, Bool, true, false, List, Option, Some, None, refl, ap, rules}
 use Rattle.std.specs.Prelude.{codes, ◌+◌, ◌||◌, ◌&&◌, nat_lt, not, is_some, if◌then◌else◌}
-use Rattle.lx_base.specs.declared.faults.Fault.{Fault}
 use Rattle.lx_base.specs.declared.faults.Fault.TheVariants.{Unsupported, Usage}
-use Rattle.lx_base.specs.declared.settings.Enc.{Enc}
 use Rattle.lx_base.specs.declared.settings.Enc.TheVariants.{Byte, Ucs2, Utf8, Utf16, Utf32}
 use Rattle.lx_compile.specs.Options.{ArePlain}
 use Rattle.lx_words.specs.Line.{Line, has_flag, has_value, is_refused, line_of, value}
-use Rattle.lx_words.specs.Options.{encoding_of, job_by, number_of, options_of, words_fault}
+use Rattle.lx_words.specs.Options.{job_by, number_of, options_of, words_fault}
 use Rattle.lx_words.specs.Points.{encoding_count, is_wrong, one_if}
 use Rattle.lx_words.specs.Waiting.{compiles, waits}
 use Rattle.lx_top.specs.Jobs.{IsPlainWhere, job_of, options_for}
