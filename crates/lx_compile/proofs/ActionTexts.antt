@@ -2,6 +2,7 @@
 use Rattle.std.proofs.Common.{◌≡◌, ℕ, ◌<◌, ◌≤◌, ◌^◌, arith, List, [], ◌∷◌, length, Option, Some, None, refl, sym, subst}
 use Rattle.std.specs.Prelude.{IfSome, unwrap_or}
 use Rattle.std.specs.List.{AllByRecursion}
+use Rattle.std.proofs.lemmas.List.Elements.{recursion_from_All}
 use Rattle.lx_base.specs.declared.settings.Enc.TheVariants.{Byte}
 use Rattle.lx_kernels.specs.Count.{IsCountable}
 use Rattle.lx_regex.specs.Pattern.{Pattern, patterns_of}
@@ -40,7 +41,8 @@ pub AreNumbered-of : (scanner : Scanner) (acts : List Act) (strings : Strings) �
     → AreStrings (patterns_of scanner.set.rules) strings.rules strings.default → IsCountable Byte strings.rules
     → AreNumbered Byte (length (actions_of acts)) strings
 AreNumbered-of scanner acts strings fit are countable =
-    let numbered = strings_numbered are (length acts) scanner.set.rules refl fit.numbers in
+    let numbered = strings_numbered are (length acts) scanner.set.rules refl
+    (recursion_from_All (λ (rule : Rule). (0 < rule.number) × (rule.number ≤ length acts)) scanner.set.rules fit.numbers) in
     rw (length-actions_of acts)
     (record { points = spelled-points strings.rules countable.points; numbers = numbered.0; default = numbered.1 })
 
@@ -57,4 +59,4 @@ short_actions (act ∷ acts) short = (of_code act.code short.0, short_actions ac
 
 pub AreShort-of : (resolved : Resolved) → IsFine resolved → AreShort (actions_of resolved.acts)
 AreShort-of resolved fine =
-    record { count = omega (arith, length-actions_of resolved.acts, fine.few); each = short_actions resolved.acts fine.acts }
+    record { count = omega (arith, length-actions_of resolved.acts, fine.few); each = short_actions resolved.acts (recursion_from_All (λ (act : Act). IsShort act.code) resolved.acts fine.acts) }

@@ -11,13 +11,11 @@ use Rattle.lx_base.specs.declared.places.Pos.{Pos}
 use Rattle.lx_base.specs.declared.settings.Options.{Options}
 use Rattle.lx_parse.specs.declared.items.Item.{Item}
 use Rattle.lx_parse.specs.declared.items.Item.TheVariants.{Define, Configure, Rule, Text}
-use Rattle.lx_parse.specs.declared.sorts.Sort.{Sort}
-use Rattle.lx_parse.specs.declared.sorts.Sort.TheVariants as sort
 use Rattle.lx_rules.specs.Blocks.{BlockChecks, ClashCheck, IsBlockFault, conditions_of, is_bare, limits_fault, lonely_fault, nesting_of, not_of_kind, rules_of, scanner_fault, scanners_fault, size_of, tags_of as tag_count, target_fault, targets_fault}
 use Rattle.lx_rules.specs.Checks.{Then, Finds, waits, Checks, is_among, tags_of}
 use Rattle.lx_rules.specs.Configurations.{config_fault, define_words, fill_word, other_words, switch_fault, switch_of}
 use Rattle.lx_rules.specs.Environments.{Definition, Environment, definition_of, kept}
-use Rattle.lx_rules.specs.Items.{ContextChecks, ExpressionChecks, Goes, ends, refused, next, HeadChecks, IsAfter, ItemChecks, ListChecks, RuleOf, State, TargetChecks, conds_of, first_of, is_default, is_end, twice, unless}
+use Rattle.lx_rules.specs.Items.{ContextChecks, ExpressionChecks, Goes, ends, refused, next, HeadChecks, HeadSort, any, end, expression, head_sort, IsAfter, ItemChecks, ListChecks, RuleOf, State, TargetChecks, conds_of, first_of, is_default, is_end, twice, unless}
 use Rattle.lx_rules.specs.Lexemes.{Lexeme, nth_lexeme, sort_at}
 use Rattle.lx_token.specs.declared.kinds.TokenKind.{TokenKind}
 use Rattle.lx_token.specs.declared.kinds.TokenKind.TheVariants as kind
@@ -102,17 +100,17 @@ module _ (options : Options) (lexemes : List Lexeme) (are : AreTokensInFirst lex
       then_waits options [] (Finds (unless options.conds lexeme.at)) lexeme (at_in (goes - 1))
       (FindsInFirst-Finds (unless options.conds lexeme.at) (unless-in_first options.conds lexeme.at (at_in (goes - 1))))
 
-  head-in_first : (state : State) (head_sort : Sort) (conds : List (List ℕ)) (head : ℕ) (slash : Option ℕ) (until : ℕ)
-      → FindsInFirst (HeadChecks options lexemes state head_sort conds head slash until)
-  head-in_first state sort.Star conds head slash until =
+  head-in_first : (state : State) (head_is : HeadSort) (conds : List (List ℕ)) (head : ℕ) (slash : Option ℕ) (until : ℕ)
+      → FindsInFirst (HeadChecks options lexemes state head_is conds head slash until)
+  head-in_first state any conds head slash until =
       let found = twice (nth_lexeme lexemes head).at (first_of is_default conds state.rules) in
       FindsInFirst-Finds found (twice-in_first (nth_lexeme lexemes head).at (first_of is_default conds state.rules) (at_in head))
-  head-in_first state sort.Dollar conds head slash until =
+  head-in_first state end conds head slash until =
       let found = twice (nth_lexeme lexemes head).at (first_of is_end conds state.rules) in
       then_waits options [] (Finds found) (nth_lexeme lexemes head) (at_in head)
       (FindsInFirst-Finds found (twice-in_first (nth_lexeme lexemes head).at (first_of is_end conds state.rules) (at_in head)))
-  head-in_first state other conds head None until = expression-in_first state.definitions head until
-  head-in_first state other conds head (Some slash) until = context-in_first state.definitions head slash until
+  head-in_first state expression conds head None until = expression-in_first state.definitions head until
+  head-in_first state expression conds head (Some slash) until = context-in_first state.definitions head slash until
 
   item-in_first : (state : State) (item : Item) → FindsInFirst (ItemChecks options lexemes state item)
   item-in_first state (Define name from until) =
@@ -126,11 +124,11 @@ module _ (options : Options) (lexemes : List Lexeme) (are : AreTokensInFirst lex
       FindsInFirst-Finds found (config-in_first (nth_lexeme lexemes name) (nth_lexeme lexemes value) (at_in name) (at_in value))
   item-in_first state (Rule first head slash until goes code) =
       let List' = ListChecks options lexemes (first == head) (nth_lexeme lexemes first).at in
-      let Head = HeadChecks options lexemes state (sort_at (nth_lexeme lexemes head)) (conds_of options lexemes first head) head slash until in
+      let Head = HeadChecks options lexemes state (head_sort (sort_at (nth_lexeme lexemes head))) (conds_of options lexemes first head) head slash until in
       let Target = TargetChecks options lexemes goes in
       FindsInFirst-Then List' (Then Head Target) (list-in_first (first == head) (nth_lexeme lexemes first).at (at_in first))
       (FindsInFirst-Then Head Target
-      (head-in_first state (sort_at (nth_lexeme lexemes head)) (conds_of options lexemes first head) head slash until) (target-in_first goes))
+      (head-in_first state (head_sort (sort_at (nth_lexeme lexemes head))) (conds_of options lexemes first head) head slash until) (target-in_first goes))
   item-in_first state (Text value) = FindsInFirst-Finds None tt
 
   targets_after : (state : State) (item : Item) (after : State) → IsAfter options lexemes state item after → AreTargetsInFirst state.rules
