@@ -36,19 +36,19 @@ fn a_block_without_rules_is_an_empty_piece(rt: HostRuntime) -> Result<(), Fail> 
 
 /// A definition and a configuration, and in the next block the rules that they serve.
 const TWO_BLOCKS: &str =
-    "a /*!re2c x = \"if\"; re2c:yyfill:enable = 0; */ b /*!re2c x { 1 } \"ifx\" {22} * {} */ c";
+    "a /*!re2c x = \"if\"; re2c:yyfill:enable = 0; */ b /*!re2c x { i } \"ifx\" {jj} * {} */ c";
 
 /// Two blocks with rules.
 const TWO_SCANNERS: &str =
-    "/*!re2c re2c:yyfill:enable = 0; \"a\" {1} \"a\" {2} */\n/*!re2c * {3} */\n";
+    "/*!re2c re2c:yyfill:enable = 0; \"a\" {p} \"a\" {q} */\n/*!re2c * {r} */\n";
 
 #[test]
 fn blocks_of_strings_give_their_scanners(rt: HostRuntime) -> Result<(), Fail> {
     for (source, text, times) in [
         (TWO_BLOCKS, "a /*!begin:re2c 1*/\n/*!end:re2c*/ b ", 1),
         (TWO_BLOCKS, SECOND_BEGIN, 1),
-        (TWO_BLOCKS, "/*!code:re2c 1 5*/{ 1 }", 1),
-        (TWO_BLOCKS, "/*!code:re2c 2 4*/{22}", 1),
+        (TWO_BLOCKS, "/*!code:re2c 1 5*/{ i }", 1),
+        (TWO_BLOCKS, "/*!code:re2c 2 4*/{jj}", 1),
         (TWO_BLOCKS, "/*!code:re2c 3 2*/{}", 1),
         (TWO_BLOCKS, "yy2_none:;\n}\n/*!end:re2c*/ c", 1),
         (TWO_SCANNERS, FIRST_BEGIN, 1),
@@ -58,9 +58,9 @@ fn blocks_of_strings_give_their_scanners(rt: HostRuntime) -> Result<(), Fail> {
             1,
         ),
         (TWO_SCANNERS, SECOND_BEGIN, 1),
-        (TWO_SCANNERS, "{1}", 1),
-        (TWO_SCANNERS, "{2}", 0),
-        (TWO_SCANNERS, "/*!code:re2c 1 3*/{3}", 1),
+        (TWO_SCANNERS, "{p}", 1),
+        (TWO_SCANNERS, "{q}", 0),
+        (TWO_SCANNERS, "/*!code:re2c 1 3*/{r}", 1),
     ] {
         let output = answer(rt.alloc(), source.as_bytes())?;
         assert_eq!(rt; count(&output, text.as_bytes()), times, "{text}");
