@@ -6,6 +6,13 @@ use Rattle.lx_base.specs.Letters.{IsIdentifier, IsSpelling, is_in_identifier, be
 abbrev pub Spellings : Type 0
 Spellings = List (List ℕ)
 
+-- the spellings of a source that configures none
+abbrev pub usual_names : Spellings
+usual_names =
+    codes "YYCTYPE" ∷ codes "YYCURSOR" ∷ codes "YYLIMIT" ∷ codes "YYMARKER" ∷ codes "YYCTXMARKER" ∷ codes "YYFILL" ∷ codes "YYGETSTATE"
+    ∷ codes "YYSETSTATE" ∷ codes "YYGETCONDITION" ∷ codes "YYSETCONDITION" ∷ codes "YYMTAGP" ∷ codes "YYMTAGN" ∷ codes "yych" ∷ codes "yyaccept"
+    ∷ codes "yyt" ∷ codes "yyc_" ∷ codes "yyc" ∷ []
+
 -- a spelling by its place, counted from 0
 abbrev pub spelling_at : ℕ → Spellings → List ℕ
 spelling_at place names = slice_index_or names place []

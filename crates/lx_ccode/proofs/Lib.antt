@@ -1,4 +1,5 @@
 pub mod Assignments
+pub mod Behind
 pub mod Bounds
 pub mod Lengths
 pub mod ReadLines

@@ -12,6 +12,7 @@ use Rattle.lx_ccode.specs.declared.piece.Piece.{Piece}
 use Rattle.lx_ccode.specs.declared.piece.StateCase.{StateCase}
 use Rattle.lx_ccode.specs.declared.piece.Stmt.{Stmt}
 use Rattle.lx_ccode.specs.declared.piece.Stmt.TheVariants.{Code, Tag}
+use Rattle.lx_ccode.specs.Parts.{closing_then, opening_then}
 use Rattle.lx_ccode.specs.Text.{block_then, blocks_then, code_block_then, cond_cases_then, cond_switch_then, declarations_then, eof_then, label_then, line_then, names_then, piece_text, piece_then, start_then, state_cases_then, state_switch_then, statement_then, statements_then}
 
 -- ---- a text and what stands behind it
@@ -47,7 +48,7 @@ label_then-append : (names : Spellings) (label : Option (List ℕ)) (tail rest :
 label_then-append names None tail rest = refl
 label_then-append names (Some word) tail rest = append_assoc (label_prefix names ++ word) (58 ∷ 10 ∷ tail) rest
 
-blocks_then-append : (number : ℕ) (names : Spellings) (ctx : Bool) (place : ℕ) (blocks : List CodeBlock) (tail rest : List ℕ)
+pub blocks_then-append : (number : ℕ) (names : Spellings) (ctx : Bool) (place : ℕ) (blocks : List CodeBlock) (tail rest : List ℕ)
     → blocks_then number names ctx place blocks tail ++ rest ≡ blocks_then number names ctx place blocks (tail ++ rest)
 blocks_then-append number names ctx place [] tail rest = refl
 blocks_then-append number names ctx place (b ∷ blocks) tail rest =
@@ -107,16 +108,29 @@ cond_switch_then-append number names (c ∷ conds) tail rest =
     joined-append parts (cond_cases_then number names (c ∷ conds) (codes "\t}\n" ++ tail)) rest
     ∙ ap (joined parts) (cond_cases_then-append number names (c ∷ conds) (codes "\t}\n" ++ tail) rest)
 
+abbrev pub head_parts : Piece → List (List ℕ)
+head_parts p = codes "/*!begin:re2c " ∷ decimal p.number ∷ codes "*/\n/*!names:re2c " ∷ decimal p.unit ∷ codes " " ∷ []
+
+abbrev pub none_parts : Piece → List (List ℕ)
+none_parts p = codes "yy" ∷ decimal p.number ∷ codes "_none:;\n}\n" ∷ []
+
+pub opening_then-append : (piece : Piece) (tail rest : List ℕ) → opening_then piece tail ++ rest ≡ opening_then piece (tail ++ rest)
+opening_then-append piece tail rest =
+    joined-append (head_parts piece) _ rest
+    ∙ ap (joined (head_parts piece)) (eof_then-append piece.eof _ rest ∙ ap (eof_then piece.eof) (names_then-append piece.names _ rest ∙ ap (λ (l : List ℕ). names_then piece.names (codes "*/\n{\n" ++ l)) (
+    declarations_then-append piece.names piece.declares _ rest
+    ∙ ap (declarations_then piece.names piece.declares) (state_switch_then-append piece.number piece.names piece.conds piece.states _ rest ∙ ap (state_switch_then piece.number piece.names piece.conds piece.states) (
+    cond_switch_then-append piece.number piece.names piece.conds tail rest)))))
+
+pub closing_then-append : (piece : Piece) (tail rest : List ℕ) → closing_then piece tail ++ rest ≡ closing_then piece (tail ++ rest)
+closing_then-append piece tail rest =
+    joined-append (none_parts piece) _ rest ∙ ap (joined (none_parts piece)) (line_then-append piece.line _ rest)
+
 pub piece_text-append : (piece : Piece) (tail : List ℕ) → piece_text piece ++ tail ≡ piece_then piece tail
 piece_text-append piece tail =
-    joined-append (codes "/*!begin:re2c " ∷ decimal piece.number ∷ codes "*/\n/*!names:re2c " ∷ decimal piece.unit ∷ codes " " ∷ []) _ tail
-    ∙ ap (joined (codes "/*!begin:re2c " ∷ decimal piece.number ∷ codes "*/\n/*!names:re2c " ∷ decimal piece.unit ∷ codes " " ∷ [])) (eof_then-append piece.eof _ tail ∙ ap (eof_then piece.eof) (names_then-append piece.names _ tail ∙ ap (λ (l : List ℕ). names_then piece.names (codes "*/\n{\n" ++ l)) (
-    declarations_then-append piece.names piece.declares _ tail
-    ∙ ap (declarations_then piece.names piece.declares) (state_switch_then-append piece.number piece.names piece.conds piece.states _ tail ∙ ap (state_switch_then piece.number piece.names piece.conds piece.states) (
-    cond_switch_then-append piece.number piece.names piece.conds _ tail
-    ∙ ap (cond_switch_then piece.number piece.names piece.conds) (blocks_then-append piece.number piece.names piece.ctx 0 piece.blocks _ tail ∙ ap (blocks_then piece.number piece.names piece.ctx 0 piece.blocks) (
-    joined-append (codes "yy" ∷ decimal piece.number ∷ codes "_none:;\n}\n" ∷ []) _ tail
-    ∙ ap (joined (codes "yy" ∷ decimal piece.number ∷ codes "_none:;\n}\n" ∷ [])) (line_then-append piece.line _ tail))))))))
+    opening_then-append piece _ tail
+    ∙ ap (opening_then piece) (blocks_then-append piece.number piece.names piece.ctx 0 piece.blocks _ tail ∙ ap (blocks_then piece.number piece.names piece.ctx 0 piece.blocks) (
+    closing_then-append piece [] tail))
 
 -- a part alone behind a text, and then a tail
 pub statement_then-nil : (number : ℕ) (names : Spellings) (ctx : Bool) (statement : Stmt) (before tail : List ℕ)
@@ -203,9 +217,9 @@ appended_next_at one all xs index a was now total tails step lt is e h =
     ap (λ (l : List ℕ). l ++ all (index + 1) (drop (index + 1) xs)) e ∙ tails was (all (index + 1) (drop (index + 1) xs))
     ∙ ap (λ (l : List ℕ). was ++ l) (sym (step (drop (index + 1) xs)) ∙ ap (all index) (sym rest)) ∙ h
 
-pub blocks_then-cons : (number : ℕ) (names : Spellings) (ctx : Bool) (index : ℕ) (block : CodeBlock) (l : List CodeBlock)
-    → blocks_then number names ctx index (block ∷ l) [] ≡ code_block_then number names ctx index block (blocks_then number names ctx (index + 1) l [])
-blocks_then-cons number names ctx index block l = ap (λ (place : ℕ). code_block_then number names ctx index block (blocks_then number names ctx place l [])) (sym (add-one index))
+pub blocks_then-cons : (number : ℕ) (names : Spellings) (ctx : Bool) (index : ℕ) (block : CodeBlock) (l : List CodeBlock) (tail : List ℕ)
+    → blocks_then number names ctx index (block ∷ l) tail ≡ code_block_then number names ctx index block (blocks_then number names ctx (index + 1) l tail)
+blocks_then-cons number names ctx index block l tail = ap (λ (place : ℕ). code_block_then number names ctx index block (blocks_then number names ctx place l tail)) (sym (add-one index))
 
 -- one spelling of the names line, one case of a switch
 abbrev pub name_parts : List ℕ → List (List ℕ)
@@ -272,28 +286,30 @@ part_written : {f : List ℕ → List ℕ} (o before tail : List ℕ) → o ≡ 
     → o ++ tail ≡ before ++ f tail
 part_written {f = f} o before tail e law = ap (λ (l : List ℕ). l ++ tail) e ∙ law before tail
 
-abbrev pub head_parts : Piece → List (List ℕ)
-head_parts p = codes "/*!begin:re2c " ∷ decimal p.number ∷ codes "*/\n/*!names:re2c " ∷ decimal p.unit ∷ codes " " ∷ []
-
-abbrev pub none_parts : Piece → List (List ℕ)
-none_parts p = codes "yy" ∷ decimal p.number ∷ codes "_none:;\n}\n" ∷ []
-
--- what is appended part by part is the text of the piece
-pub piece_written : (piece : Piece) (o0 o1 o2 o3 o4 o5 o6 o7 o8 o9 o10 o11 : List ℕ) → o0 ≡ [] → o1 ≡ o0 ++ joined (head_parts piece) []
+-- what is appended part by part is the text before the blocks
+pub opening_written : (piece : Piece) (o0 o1 o2 o3 o4 o5 o6 o7 : List ℕ) → o1 ≡ o0 ++ joined (head_parts piece) []
     → o2 ≡ o1 ++ eof_then piece.eof [] → o3 ≡ o2 ++ names_then piece.names [] → o4 ≡ o3 ++ joined (codes "*/\n{\n" ∷ []) []
     → o5 ≡ o4 ++ declarations_then piece.names piece.declares [] → o6 ≡ o5 ++ state_switch_then piece.number piece.names piece.conds piece.states []
-    → o7 ≡ o6 ++ cond_switch_then piece.number piece.names piece.conds []
-    → o8 ≡ o7 ++ blocks_then piece.number piece.names piece.ctx 0 piece.blocks []
-    → o9 ≡ o8 ++ joined (none_parts piece) [] → o10 ≡ o9 ++ line_then piece.line [] → o11 ≡ o10 ++ joined (codes "/*!end:re2c*/" ∷ []) []
-    → o11 ≡ piece_text piece
-piece_written piece o0 o1 o2 o3 o4 o5 o6 o7 o8 o9 o10 o11 e0 e1 e2 e3 e4 e5 e6 e7 e8 e9 e10 e11 =
-    e11 ∙ part_written {f = line_then piece.line} o10 o9 _ e10 (line_then-nil piece.line)
-    ∙ part_written {f = joined (none_parts piece)} o9 o8 _ e9 (joined-nil (none_parts piece))
-    ∙ part_written {f = blocks_then piece.number piece.names piece.ctx 0 piece.blocks} o8 o7 _ e8 (blocks_then-nil piece.number piece.names piece.ctx 0 piece.blocks)
-    ∙ part_written {f = cond_switch_then piece.number piece.names piece.conds} o7 o6 _ e7 (cond_switch_then-nil piece.number piece.names piece.conds)
-    ∙ part_written {f = state_switch_then piece.number piece.names piece.conds piece.states} o6 o5 _ e6 (state_switch_then-nil piece.number piece.names piece.conds piece.states)
+    → o7 ≡ o6 ++ cond_switch_then piece.number piece.names piece.conds [] → o7 ≡ o0 ++ opening_then piece []
+opening_written piece o0 o1 o2 o3 o4 o5 o6 o7 e1 e2 e3 e4 e5 e6 e7 =
+    e7 ∙ part_written {f = state_switch_then piece.number piece.names piece.conds piece.states} o6 o5 _ e6 (state_switch_then-nil piece.number piece.names piece.conds piece.states)
     ∙ part_written {f = declarations_then piece.names piece.declares} o5 o4 _ e5 (declarations_then-nil piece.names piece.declares)
     ∙ part_written {f = joined (codes "*/\n{\n" ∷ [])} o4 o3 _ e4 (joined-nil (codes "*/\n{\n" ∷ []))
     ∙ part_written {f = names_then piece.names} o3 o2 _ e3 (names_then-nil piece.names)
     ∙ part_written {f = eof_then piece.eof} o2 o1 _ e2 (eof_then-nil piece.eof)
-    ∙ part_written {f = joined (head_parts piece)} o1 o0 _ e1 (joined-nil (head_parts piece)) ∙ ap (λ (l : List ℕ). l ++ piece_text piece) e0
+    ∙ part_written {f = joined (head_parts piece)} o1 o0 _ e1 (joined-nil (head_parts piece))
+
+-- the same, of the text behind the blocks
+pub closing_written : (piece : Piece) (o0 o1 o2 o3 : List ℕ) → o1 ≡ o0 ++ joined (none_parts piece) [] → o2 ≡ o1 ++ line_then piece.line []
+    → o3 ≡ o2 ++ joined (codes "/*!end:re2c*/" ∷ []) [] → o3 ≡ o0 ++ closing_then piece []
+closing_written piece o0 o1 o2 o3 e1 e2 e3 =
+    e3 ∙ part_written {f = line_then piece.line} o2 o1 _ e2 (line_then-nil piece.line)
+    ∙ part_written {f = joined (none_parts piece)} o1 o0 _ e1 (joined-nil (none_parts piece))
+
+-- the three parts of a piece
+pub piece_written : (piece : Piece) (o0 o1 o2 o3 : List ℕ) → o0 ≡ [] → o1 ≡ o0 ++ opening_then piece []
+    → o2 ≡ o1 ++ blocks_then piece.number piece.names piece.ctx 0 piece.blocks [] → o3 ≡ o2 ++ closing_then piece [] → o3 ≡ piece_text piece
+piece_written piece o0 o1 o2 o3 e0 e1 e2 e3 =
+    e3 ∙ part_written {f = blocks_then piece.number piece.names piece.ctx 0 piece.blocks} o2 o1 _ e2 (blocks_then-nil piece.number piece.names piece.ctx 0 piece.blocks)
+    ∙ ap (λ (l : List ℕ). l ++ blocks_then piece.number piece.names piece.ctx 0 piece.blocks (closing_then piece [])) (e1 ∙ ap (λ (l : List ℕ). l ++ opening_then piece []) e0)
+    ∙ opening_then-append piece [] (blocks_then piece.number piece.names piece.ctx 0 piece.blocks (closing_then piece []))

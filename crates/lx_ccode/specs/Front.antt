@@ -9,3 +9,7 @@ pub record BeginsWithPiece (bytes : List ℕ) (piece : Piece) : Type 0 where
   pub valid : IsValid piece
   pub rest : List ℕ
   pub text : bytes ≡ piece_text piece ++ rest
+
+-- the bytes do not begin with the text, whatever stands behind it
+abbrev pub IsNoFront : (text : List ℕ → List ℕ) → (bytes : List ℕ) → Type 0
+IsNoFront text bytes = (tail : List ℕ) → bytes ≡ text tail → ⊥

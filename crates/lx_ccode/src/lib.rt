@@ -2,6 +2,7 @@
 #![tactic(auto)]
 
 pub mod examples;
+pub mod fronts;
 pub mod laws;
 mod lines;
 pub mod piece;
@@ -9,5 +10,6 @@ pub mod printing;
 mod sections;
 mod spellings;
 
+pub use fronts::begins_with_piece;
 pub use piece::{CodeBlock, CondCase, LineMark, Piece, StateCase, Stmt};
-pub use printing::{print, print_with_room, statements};
+pub use printing::{print, statements};

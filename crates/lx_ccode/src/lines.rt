@@ -6,7 +6,7 @@ ghost use Rattle.lx_base.specs.Names.{cursor, limit, refill, current_unit, last_
 ghost use Rattle.lx_ccode.specs.Registers.{register_text, history_text};
 ghost use Rattle.lx_ccode.specs.Text.{statement_then, statements_then, line_then, goto_then, block_then, escaped, hexadecimal};
 
-use crate::piece::{LineMark, Stmt};
+use crate::piece::{LineMark, Piece, Stmt};
 use crate::spellings;
 use crate::spellings::{decimal, hexadecimal, history_text, register_text};
 use lx_base::{Memory, Names, append_parts};
@@ -24,6 +24,22 @@ pub struct Scope<'a> {
     pub names: &'a Names,
     /// Whether register 1 is spelled as the context marker.
     pub ctx: bool,
+}
+
+impl<'a> Scope<'a> {
+    /// What the lines of this piece depend on.
+    pub fn of(alloc: Global, piece: &'a Piece) -> Scope<'a>
+        ensures number { result.number ≡ piece.now.number }
+        ensures names { result.names.now ≡ piece.now.names }
+        ensures ctx { result.ctx ≡ piece.now.ctx }
+    {
+        Scope {
+            alloc,
+            number: piece.number,
+            names: &piece.names,
+            ctx: piece.ctx,
+        }
+    }
 }
 
 impl Scope<'_> {

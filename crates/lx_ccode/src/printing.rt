@@ -2,6 +2,7 @@
 ghost use Rattle.std.specs.Prelude.{◌≡◌, ◌<◌, ◌^◌, ◌++◌, [], ◌∷◌, length, OnOk, IfOk, Some, codes};
 ghost use Rattle.std.specs.Fmt.{decimal};
 ghost use Rattle.lx_base.specs.Text.{joined};
+ghost use Rattle.lx_ccode.specs.Parts.{closing_then, opening_then};
 ghost use Rattle.lx_ccode.specs.Statements.{statement_count};
 ghost use Rattle.lx_ccode.specs.Text.{name_then, names_then, eof_then, piece_text};
 ghost use Rattle.lx_ccode.specs.Validity.{IsValid};
@@ -17,34 +18,39 @@ pub fn print(alloc: Global, piece: &Piece) -> Result<ByteText, Memory>
     requires { IsValid piece.now }
     ensures { IfOk result (λ text. text ≡ piece_text piece.now) }
 {
-    print_with_room(alloc, piece, 0)
+    let scope = Scope::of(alloc, piece);
+    let mut text = Vec::new(alloc);
+    append_opening(alloc, &mut text, piece)?;
+    scope.append_blocks(&mut text, piece.blocks.as_slice())?;
+    append_closing(alloc, &mut text, piece)?;
+    Ok(ByteText::from_vec(text))
 }
 
-/// The same text, for which so many bytes of memory are taken at once. Where it has no more, it is never moved.
-pub fn print_with_room(alloc: Global, piece: &Piece, room: usize) -> Result<ByteText, Memory>
-    requires { IsValid piece.now }
-    ensures { IfOk result (λ text. text ≡ piece_text piece.now) }
+/// Appends what stands before the blocks. Where memory runs out a part of it may stand there.
+pub(crate) fn append_opening(alloc: Global, text: &mut Vec<u8>, piece: &Piece) -> Result<(), Memory>
+    ensures { OnOk result (text.new.items ≡ text.old.items ++ opening_then piece.now []) }
 {
-    let scope = Scope {
-        alloc,
-        number: piece.number,
-        names: &piece.names,
-        ctx: piece.ctx,
-    };
+    let scope = Scope::of(alloc, piece);
     let conds = piece.conds.as_slice();
-    let mut text = Vec::with_capacity(alloc, room)?;
-    append_head(alloc, &mut text, piece.number, piece.unit)?;
-    append_eof(alloc, &mut text, piece.eof)?;
-    append_names(alloc, &mut text, piece.names.as_slice())?;
-    append_parts(&mut text, &[b"*/\n{\n"])?;
-    scope.append_declarations(&mut text, piece.declares)?;
-    scope.append_state_switch(&mut text, conds, &piece.states)?;
-    scope.append_cond_switch(&mut text, conds)?;
-    scope.append_blocks(&mut text, piece.blocks.as_slice())?;
-    scope.append_none(&mut text)?;
-    append_line(alloc, &mut text, &piece.line)?;
-    append_parts(&mut text, &[b"/*!end:re2c*/"])?;
-    Ok(ByteText::from_vec(text))
+    append_head(alloc, text, piece.number, piece.unit)?;
+    append_eof(alloc, text, piece.eof)?;
+    append_names(alloc, text, piece.names.as_slice())?;
+    append_parts(text, &[b"*/\n{\n"])?;
+    scope.append_declarations(text, piece.declares)?;
+    scope.append_state_switch(text, conds, &piece.states)?;
+    scope.append_cond_switch(text, conds)?;
+    Ok(())
+}
+
+/// Appends what stands behind the blocks. Where memory runs out a part of it may stand there.
+pub(crate) fn append_closing(alloc: Global, text: &mut Vec<u8>, piece: &Piece) -> Result<(), Memory>
+    ensures { OnOk result (text.new.items ≡ text.old.items ++ closing_then piece.now []) }
+{
+    let scope = Scope::of(alloc, piece);
+    scope.append_none(text)?;
+    append_line(alloc, text, &piece.line)?;
+    append_parts(text, &[b"/*!end:re2c*/"])?;
+    Ok(())
 }
 
 /// The number of statements of a valid piece. It takes no memory.

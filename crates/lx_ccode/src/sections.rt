@@ -185,7 +185,12 @@ impl Scope<'_> {
         Ok(())
     }
 
-    fn append_cond_label(&self, text: &mut Vec<u8>, cond: &Option<ByteText>) -> Result<(), Memory>
+    /// Appends a condition's label, where a block is its start.
+    pub fn append_cond_label(
+        &self,
+        text: &mut Vec<u8>,
+        cond: &Option<ByteText>,
+    ) -> Result<(), Memory>
         ensures { OnOk result (text.new.items ≡ text.old.items ++ label_then self.now.names.now cond.now []) }
     {
         match cond {
@@ -197,7 +202,8 @@ impl Scope<'_> {
         }
     }
 
-    fn append_label(&self, text: &mut Vec<u8>, place: u64) -> Result<(), Memory>
+    /// Appends the label of a block.
+    pub fn append_label(&self, text: &mut Vec<u8>, place: u64) -> Result<(), Memory>
         ensures { OnOk result (text.new.items ≡ text.old.items ++ block_then self.now.number place (joined (codes ":\n" ∷ []) [])) }
     {
         let number = decimal(self.alloc, u64::from(self.number))?;

@@ -1,5 +1,5 @@
 -- The numbers of a valid piece have room in their fields.
-use Rattle.std.proofs.Common.{◌≡◌, ◌<◌, ◌∙◌, ℕ, true, false, List, [], ◌∷◌, ◌++◌, drop, length, map, Option, Some, None, refl, sym, ap, subst, arith, inl, inr}
+use Rattle.std.proofs.Common.{◌≡◌, ◌<◌, ◌∙◌, ℕ, true, false, List, [], ◌∷◌, map, Option, Some, None, refl, sym, ap, subst, arith, inl, inr}
 use Rattle.std.specs.Prelude.{◌^◌, ◌*◌, ◌⊎◌, IfSome}
 use Rattle.std.specs.List.{AllByRecursion}
 use Rattle.lx_base.specs.Letters.{IsIdentifier}
@@ -11,7 +11,6 @@ use Rattle.lx_ccode.specs.declared.piece.Piece.{Piece}
 use Rattle.lx_ccode.specs.declared.piece.StateCase.{StateCase}
 use Rattle.lx_ccode.specs.declared.piece.Stmt.{Stmt}
 use Rattle.lx_ccode.specs.declared.piece.Stmt.TheVariants.{Peek, Skip, Backup, Restore, Accept, Set, Unset, Copy, MSet, MUnset, MCopy, IfUnit, IfAccept, IfEnd, State, Need, Try, Cond, Tag, Count, End, Back, Goto, Leave, Code, Jump}
-use Rattle.lx_ccode.specs.Text.{piece_text}
 use Rattle.lx_ccode.specs.Validity.{EachBlockHasSpelling, EachHasSpelling, HasSpelling, IsLine, IsLong, IsValid}
 use Rattle.lx_ccode.specs.Front.{BeginsWithPiece}
 use Rattle.lx_ccode.specs.Reading.{piece_at}
@@ -112,6 +111,3 @@ pub no_other_stands : Finds → (bytes : List ℕ) (read : Piece) → read ≡ f
 no_other_stands finds bytes read is refused piece stands =
     let front = finds bytes piece stands in
     refused (subst (λ (p : Piece). BeginsWithPiece bytes p) (sym (is ∙ fitted-valid (piece_at bytes).0 front.valid)) front)
-
-pub emitted_by : (bytes text : List ℕ) (piece : Piece) → IsValid piece → text ≡ piece_text piece → bytes ≡ text ++ drop (length text) bytes → BeginsWithPiece bytes piece
-emitted_by bytes text piece valid is stands = record { valid = valid; rest = drop (length text) bytes; text = stands ∙ ap (λ t. t ++ drop (length text) bytes) is }

@@ -8,7 +8,7 @@ use crate::validity::is_valid;
 use crate::words::skip;
 use lx_base::Memory;
 use lx_ccode::laws::reading_finds_the_piece;
-use lx_ccode::{Piece, print_with_room};
+use lx_ccode::{Piece, begins_with_piece};
 use std::alloc::Global;
 use thiserror::Error;
 
@@ -70,8 +70,7 @@ fn is_emitted(alloc: Global, piece: &Piece, bytes: &[u8]) -> Result<bool, Memory
 {
     let valid = is_valid(alloc, piece)?;
     if valid {
-        let text = print_with_room(alloc, piece, bytes.len())?;
-        Ok(begins_with(bytes, text.as_slice()))
+        begins_with_piece(alloc, bytes, piece)
     } else {
         Ok(false)
     }

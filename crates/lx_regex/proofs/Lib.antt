@@ -24,6 +24,7 @@ pub mod Readings
 pub mod Rows
 pub mod Scripts
 pub mod ShapeOfScript
+pub mod StringLists
 pub mod StringTrees
 pub mod TreeWalk
 pub mod WalkTree

@@ -1,9 +1,11 @@
 -- Rule lists of strings: terms that match one word each, and `*`.
-use Rattle.std.specs.Prelude.{◌≡◌, ℕ, List, [], ◌∷◌, ◌++◌, Option, Some, None}
+use Rattle.std.specs.Prelude.{◌≡◌, ℕ, List, [], ◌∷◌, ◌++◌, Option, Some, None, Bool, true, false}
 use Rattle.lx_base.specs.declared.settings.Enc.{Enc}
 use Rattle.lx_base.specs.Spelling.{spell}
 use Rattle.lx_regex.specs.Term.{Term, empty, class, any_unit, cat, Terms, nil, cons}
+use Rattle.lx_regex.specs.Expr.{term_of}
 use Rattle.lx_regex.specs.Pattern.{Pattern}
+use Rattle.lx_regex.specs.declared.expr.Expr.{Expr}
 use Rattle.lx_regex.specs.declared.rules.Kind.TheVariants.{Plain, Default}
 use Rattle.lx_regex.specs.declared.strings.StringRule.{StringRule}
 
@@ -24,6 +26,11 @@ mutual
     no_member : AreJoined nil []
     member_then : {member : Term} {members : Terms} {front back : List ℕ}
         → IsString member front → AreJoined members back → AreJoined (cons member members) (front ++ back)
+
+-- the string of an expression stands behind the old text, or the expression is no string
+abbrev pub Appends : Expr → (old new : List ℕ) → (is_string : Bool) → Type 0
+Appends expr old new true = (text : List ℕ) × ((tags : ℕ) → IsString (term_of tags expr) text) × (new ≡ old ++ text)
+Appends expr old new false = (tags : ℕ) (text : List ℕ) → IsString (term_of tags expr) text → ⊥
 
 -- a rule without tags, groups and context
 pub record IsBare (pattern : Pattern) : Type 0 where

@@ -9,4 +9,4 @@ pub mod strings;
 
 pub use expr::{Expr, nullable, size};
 pub use rules::{Kind, Rule, RuleSet, Tag};
-pub use strings::{StringRule, Strings};
+pub use strings::{StringRule, Strings, strings_of};

@@ -9,5 +9,5 @@ loop-place-preserved c =
     (λ place blocks. blocks_then c.args.self.now.number c.args.self.now.names.now c.args.self.now.ctx place blocks [])
     c.args.blocks.now c.loop-place.place c.index-blocks-place.result _ _ _
     (code_block_then-nil c.args.self.now.number c.args.self.now.names.now c.args.self.now.ctx c.loop-place.place c.index-blocks-place.result)
-    (blocks_then-cons c.args.self.now.number c.args.self.now.names.now c.args.self.now.ctx c.loop-place.place c.index-blocks-place.result)
+    (λ blocks. blocks_then-cons c.args.self.now.number c.args.self.now.names.now c.args.self.now.ctx c.loop-place.place c.index-blocks-place.result blocks [])
     c.loop-place-test.true c.index-blocks-place.is c.in_ok-append_code_block.ensures c.loop-place.invariant

@@ -1,0 +1,10 @@
+pub mod Distinct
+pub mod WordFronts
+pub mod StringCuts
+pub mod StringKernels
+pub mod KernelCount
+pub mod KernelPlaces
+pub mod KernelWitness
+pub mod TooMany
+pub mod UnitWalks
+pub mod OtherUnit

@@ -1,0 +1,201 @@
+-- The heads of rules.
+use Rattle.std.proofs.Common.{◌≡◌, ℕ, suc, ◌-◌, ◌<◌, inl, inr, ⊎_elim, Bool, true, false, List, [], ◌∷◌, Option, None, Some, refl, sym, ap, ◌∙◌, subst}
+use Rattle.std.specs.Option.{unwrap_or}
+use Rattle.std.specs.List.{AllByRecursion}
+use Rattle.lx_base.specs.declared.faults.Fault.TheVariants.{Unsupported, Redefined}
+use Rattle.lx_base.specs.declared.faults.Stop.{Stop}
+use Rattle.lx_base.specs.declared.faults.Stop.TheVariants as stop
+use Rattle.lx_base.specs.declared.places.Pos.{Pos}
+use Rattle.lx_base.specs.declared.settings.Options.{Options}
+use Rattle.lx_parse.specs.declared.items.Item.TheVariants as item
+use Rattle.lx_parse.specs.declared.sorts.Sort.{Sort}
+use Rattle.lx_parse.specs.declared.sorts.Sort.TheVariants as sort
+use Rattle.lx_parse.specs.Expressions.{alt}
+use Rattle.lx_parse.specs.Ranges.{HasExpressions, IsPart}
+use Rattle.lx_regex.specs.declared.rules.Kind.{Kind}
+use Rattle.lx_regex.specs.declared.rules.Kind.TheVariants as kind
+use Rattle.lx_rules.specs.declared.items.Known.{Known}
+use Rattle.lx_rules.specs.declared.items.DefaultRule.{DefaultRule}
+use Rattle.lx_rules.specs.declared.heads.Head.TheVariants as head
+use Rattle.lx_rules.specs.declared.expressions.Reading.{Reading}
+use Rattle.lx_rules.specs.Lexemes.{Lexeme, nth_lexeme, sort_at, sorts_at}
+use Rattle.lx_rules.specs.Checks.{Check, Checks}
+use Rattle.lx_rules.specs.Items.{RuleOf, State, HeadChecks, IsHead, any_meaning, expression, head_sort, first_of, is_default, twice}
+use Rattle.lx_rules.specs.Blocks.{of_kind}
+use Rattle.lx_rules.specs.Keeping.{Holds, HoldsDefault, IsUsual, IsHeadRead, StopsHead}
+use Rattle.lx_rules.specs.Reading.{IsReading, lexemes_from, nothing, tokens_meaning}
+use Rattle.lx_rules.specs.Seen.{IsStop, definitions_view}
+use Rattle.lx_rules.proofs.FormReading.{part_some}
+use Rattle.lx_rules.proofs.ExpressionRanges.{at_sort}
+use Rattle.lx_rules.proofs.ItemSteps.{expression_checked, fault_in, fault_same, read_part}
+
+-- the place of the first of some rules
+abbrev pub first_at : List RuleOf → Option Pos
+first_at [] = None
+first_at (rule ∷ rules) = Some rule.at
+
+-- of usual rules the first one of a kind is the first one of all of that kind
+pub first_of-usual : (test : Kind → Bool) (rules : List RuleOf) → AllByRecursion IsUsual rules
+    → first_of test ([] ∷ []) rules ≡ first_at (of_kind test rules)
+first_of-usual test [] usual = refl
+first_of-usual test (rule ∷ rules) usual = at (test rule.kind) refl (first_of-usual test rules usual.1)
+  where
+    at : (is : Bool) → test rule.kind ≡ is → first_of test ([] ∷ []) rules ≡ first_at (of_kind test rules)
+        → first_of test ([] ∷ []) (rule ∷ rules) ≡ first_at (of_kind test (rule ∷ rules))
+    at true e later = let conds = usual.0.conds in rw (e, conds) refl
+    at false e later = rw (e) later
+
+-- a part of an expression that begins with neither `*` nor `$`
+head_part : (options : Options) (lexemes : List Lexeme) (from until : ℕ) → (sort_at (nth_lexeme lexemes from) ≡ sort.Star → ⊥)
+    → (sort_at (nth_lexeme lexemes from) ≡ sort.Dollar → ⊥) → HasExpressions (sorts_at lexemes) (item.Rule from from None until None None)
+    → IsPart (sorts_at lexemes) alt from until
+head_part options lexemes from until no_star no_dollar (inl part) = part
+head_part options lexemes from until no_star no_dollar (inr bare) =
+    absurd (⊎_elim
+    (λ star. no_star (at_sort lexemes from sort.Star star.rest star.is))
+    (λ dollar. no_dollar (at_sort lexemes from sort.Dollar dollar.rest dollar.is)) bare.stands)
+
+-- a terminal that is neither `*` nor `$` begins an expression
+other_head : (s : Sort) → (s ≡ sort.Star → ⊥) → (s ≡ sort.Dollar → ⊥) → head_sort s ≡ expression
+other_head sort.Name no_star no_dollar = refl
+other_head sort.Format no_star no_dollar = refl
+other_head sort.Separator no_star no_dollar = refl
+other_head sort.Config no_star no_dollar = refl
+other_head sort.Number no_star no_dollar = refl
+other_head sort.Str no_star no_dollar = refl
+other_head sort.IStr no_star no_dollar = refl
+other_head sort.Class no_star no_dollar = refl
+other_head sort.STag no_star no_dollar = refl
+other_head sort.MTag no_star no_dollar = refl
+other_head sort.Bounds no_star no_dollar = refl
+other_head sort.Code no_star no_dollar = refl
+other_head sort.Equals no_star no_dollar = refl
+other_head sort.Semicolon no_star no_dollar = refl
+other_head sort.Bar no_star no_dollar = refl
+other_head sort.Backslash no_star no_dollar = refl
+other_head sort.Slash no_star no_dollar = refl
+other_head sort.Open no_star no_dollar = refl
+other_head sort.Close no_star no_dollar = refl
+other_head sort.Star no_star no_dollar = absurd (no_star refl)
+other_head sort.Plus no_star no_dollar = refl
+other_head sort.Question no_star no_dollar = refl
+other_head sort.Dot no_star no_dollar = refl
+other_head sort.Dollar no_star no_dollar = absurd (no_dollar refl)
+other_head sort.Less no_star no_dollar = refl
+other_head sort.Greater no_star no_dollar = refl
+other_head sort.Comma no_star no_dollar = refl
+other_head sort.Arrow no_star no_dollar = refl
+other_head sort.Jump no_star no_dollar = refl
+
+module _ (options : Options) (lexemes : List Lexeme) (known : Known) (state : State) (holds : Holds options.conds known state) where
+  -- the place of the rule `*` that is known is the first one of all
+  default_first : (default : DefaultRule) → known.default ≡ Some default → first_of is_default ([] ∷ []) state.rules ≡ Some default.at
+  default_first default is =
+      let one = subst (λ d. HoldsDefault d (of_kind is_default state.rules)) is holds.default in
+      first_of-usual is_default state.rules holds.usual ∙ ap first_at one.1 ∙ ap Some one.2
+
+  pub default_none : known.default ≡ None → first_of is_default ([] ∷ []) state.rules ≡ None
+  default_none is =
+      let none = subst (λ d. HoldsDefault d (of_kind is_default state.rules)) is holds.default in
+      first_of-usual is_default state.rules holds.usual ∙ ap first_at none
+
+  module _ (from : ℕ) (slash : Option ℕ) (until : ℕ) where
+    abbrev start : Lexeme
+    start = nth_lexeme lexemes from
+
+    abbrev Heads : Sort → Check
+    Heads s = HeadChecks options lexemes state (head_sort s) ([] ∷ []) from slash until
+
+    -- a second `*` is refused
+    pub star_twice : (default : DefaultRule) → sort_at start ≡ sort.Star → known.default ≡ Some default → Heads (sort_at start) (Some (Redefined start.at default.at))
+    star_twice default star is =
+        subst (λ s. Heads s (Some (Redefined start.at default.at))) (sym star) (ap (twice start.at) (sym (default_first default is)))
+
+    -- the first one is read
+    pub star_read : (room : ℕ) → sort_at start ≡ sort.Star → known.default ≡ None → IsHeadRead options lexemes state from slash until room head.Default
+    star_read room star is = (
+      subst (λ s. Heads s None) (sym star) (ap (twice start.at) (sym (default_none is))),
+      (kind.Default, any_meaning, subst (λ s. IsHead options lexemes state.definitions (head_sort s) from slash until kind.Default any_meaning) (sym star) (refl, refl), (refl, refl)),
+    )
+
+    -- `$` waits
+    pub dollar_waits : sort_at start ≡ sort.Dollar → Heads (sort_at start) (Some (Unsupported (Some start.at)))
+    dollar_waits dollar = subst (λ s. Heads s (Some (Unsupported (Some start.at)))) (sym dollar) (inr (Unsupported (Some start.at), refl, refl))
+
+    module _ (no_star : sort_at start ≡ sort.Star → ⊥) (no_dollar : sort_at start ≡ sort.Dollar → ⊥) where
+      is_other : head_sort (sort_at start) ≡ expression
+      is_other = other_head (sort_at start) no_star no_dollar
+
+  -- the expression of a rule is read
+  pub plain_read :
+      (from until room : ℕ) (reading : Reading) (no_star : sort_at (nth_lexeme lexemes from) ≡ sort.Star → ⊥) (no_dollar : sort_at (nth_lexeme lexemes from) ≡ sort.Dollar → ⊥)
+      → HasExpressions (sorts_at lexemes) (item.Rule from from None until None None) → fault_in options lexemes known state holds from until ≡ None
+      → IsReading room (tokens_meaning options (definitions_view known.env.definitions) nothing (lexemes_from lexemes from (until - from))) reading
+      → IsHeadRead options lexemes state from None until room (head.Plain reading)
+  plain_read from until room reading no_star no_dollar has free read =
+      let part = head_part options lexemes from until no_star no_dollar has in
+      let other = sym (is_other from None until no_star no_dollar) in
+      let stands = read_part options lexemes known state holds from until part in
+      let meaning = tokens_meaning options state.definitions nothing (lexemes_from lexemes from (until - from)) in (
+        subst (λ s. HeadChecks options lexemes state s ([] ∷ []) from None until None) other (expression_checked options lexemes known state holds from until None part free),
+        (
+          kind.Plain,
+          meaning,
+          subst (λ s. IsHead options lexemes state.definitions s from None until kind.Plain meaning) other
+              (refl, (stands.form, stands.stands, stands.means (fault_same options lexemes known state holds from until None free))),
+          (
+            refl,
+            subst (λ definitions. IsReading room (tokens_meaning options definitions nothing (lexemes_from lexemes from (until - from))) reading) holds.definitions read,
+          ),
+        ),
+      )
+
+  -- or it is refused
+  pub plain_refused :
+      (from until : ℕ) (stopped : Stop) (no_star : sort_at (nth_lexeme lexemes from) ≡ sort.Star → ⊥) (no_dollar : sort_at (nth_lexeme lexemes from) ≡ sort.Dollar → ⊥)
+      → HasExpressions (sorts_at lexemes) (item.Rule from from None until None None) → IsStop (fault_in options lexemes known state holds from until) stopped
+      → StopsHead options lexemes state from None until stopped
+  plain_refused from until stop.Memory no_star no_dollar has stops = tt
+  plain_refused from until (stop.Fault fault) no_star no_dollar has stops =
+      subst (λ s. HeadChecks options lexemes state s ([] ∷ []) from None until (Some fault)) (sym (is_other from None until no_star no_dollar))
+      (expression_checked options lexemes known state holds from until (Some fault) (head_part options lexemes from until no_star no_dollar has) stops)
+
+  -- the checks of an expression before a trailing context
+  pub context_refused :
+      (from slash until : ℕ) (stopped : Stop) (no_star : sort_at (nth_lexeme lexemes from) ≡ sort.Star → ⊥) (no_dollar : sort_at (nth_lexeme lexemes from) ≡ sort.Dollar → ⊥)
+      → HasExpressions (sorts_at lexemes) (item.Rule from from (Some slash) until None None) → IsStop (fault_in options lexemes known state holds from slash) stopped
+      → StopsHead options lexemes state from (Some slash) until stopped
+  context_refused from slash until stop.Memory no_star no_dollar has stops = tt
+  context_refused from slash until (stop.Fault fault) no_star no_dollar has stops =
+      let front = read_part options lexemes known state holds from slash has.0 in
+      let back = read_part options lexemes known state holds (suc slash) until has.1 in
+      let found = subst (Checks options state.definitions false [] front.form) (fault_same options lexemes known state holds from slash (Some fault) stops) front.checks in
+      subst (λ s. HeadChecks options lexemes state s ([] ∷ []) from (Some slash) until (Some fault)) (sym (is_other from (Some slash) until no_star no_dollar))
+      (front.form, back.form, front.stands, back.stands, inr (fault, found, refl))
+
+  -- a trailing context waits
+  pub context_waits :
+      (from slash until : ℕ) (no_star : sort_at (nth_lexeme lexemes from) ≡ sort.Star → ⊥) (no_dollar : sort_at (nth_lexeme lexemes from) ≡ sort.Dollar → ⊥)
+      → HasExpressions (sorts_at lexemes) (item.Rule from from (Some slash) until None None) → fault_in options lexemes known state holds from slash ≡ None
+      → StopsHead options lexemes state from (Some slash) until (stop.Fault (Unsupported (Some (nth_lexeme lexemes slash).at)))
+  context_waits from slash until no_star no_dollar has free =
+      let front = read_part options lexemes known state holds from slash has.0 in
+      let back = read_part options lexemes known state holds (suc slash) until has.1 in
+      let found = subst (Checks options state.definitions false [] front.form) (fault_same options lexemes known state holds from slash None free) front.checks in
+      let fault = Unsupported (Some (nth_lexeme lexemes slash).at) in
+      subst (λ s. HeadChecks options lexemes state s ([] ∷ []) from (Some slash) until (Some fault)) (sym (is_other from (Some slash) until no_star no_dollar))
+      (front.form, back.form, front.stands, back.stands, inl (found, inr (fault, refl, refl)))
+
+  -- whether a trailing context stands there or not
+  pub head_refused :
+      (from : ℕ) (slash : Option ℕ) (until : ℕ) (stopped : Stop) (no_star : sort_at (nth_lexeme lexemes from) ≡ sort.Star → ⊥) (no_dollar : sort_at (nth_lexeme lexemes from) ≡ sort.Dollar → ⊥)
+      → HasExpressions (sorts_at lexemes) (item.Rule from from slash until None None) → IsStop (fault_in options lexemes known state holds from (unwrap_or slash until)) stopped
+      → StopsHead options lexemes state from slash until stopped
+  head_refused from None until stopped no_star no_dollar has stops = plain_refused from until stopped no_star no_dollar has stops
+  head_refused from (Some slash) until stopped no_star no_dollar has stops = context_refused from slash until stopped no_star no_dollar has stops
+
+-- the expression of a rule has a token at least
+pub head_some : (options : Options) (lexemes : List Lexeme) (from until : ℕ) → (sort_at (nth_lexeme lexemes from) ≡ sort.Star → ⊥)
+    → (sort_at (nth_lexeme lexemes from) ≡ sort.Dollar → ⊥) → HasExpressions (sorts_at lexemes) (item.Rule from from None until None None)
+    → from < until
+head_some options lexemes from until no_star no_dollar has = part_some (sorts_at lexemes) from until (head_part options lexemes from until no_star no_dollar has)

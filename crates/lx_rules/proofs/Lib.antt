@@ -1,0 +1,14 @@
+pub mod DefinitionLists
+pub mod Readings
+pub mod MemberCopies
+pub mod TokenRuns
+pub mod FormRuns
+pub mod FormReading
+pub mod ExpressionRanges
+pub mod ItemSteps
+pub mod HeadSteps
+pub mod RuleSteps
+pub mod RuleItems
+pub mod BlockSteps
+pub mod FinishingSteps
+pub mod ItemRuns

@@ -1,0 +1,12 @@
+use Rattle.std.proofs.Common.{◌≡◌, map, sum, take}
+use Rattle.lx_regex.specs.Expr.{size_of, term_of}
+use Rattle.lx_rules.specs.Meanings.{character_term}
+use Rattle.lx_rules.specs.Points.{replaced}
+use Rattle.lx_rules.specs.Seen.{points_of}
+use Rattle.lx_rules.proofs.expressions.string.Given as goal
+
+abbrev pub invariant-loop-character : goal.invariant-loop-character
+invariant-loop-character l = record {
+  terms : map (term_of 0) l.members.items ≡ map character_term (map (replaced l.policy) (points_of (take l.character-index l.characters)));
+  sizes : sum (map size_of l.members.items) ≡ l.character-index;
+}

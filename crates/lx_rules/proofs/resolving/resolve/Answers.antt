@@ -1,0 +1,49 @@
+use Rattle.std.proofs.Common.{◌∙◌, ap, sym, subst, arith, length, Ok}
+use Rattle.lx_base.specs.declared.blocks.BlockKind.TheVariants.{Code}
+use Rattle.lx_parse.specs.Ranges.{EachHasExpressions}
+use Rattle.lx_parse.specs.Sorts.{sorts_of}
+use Rattle.lx_parse.proofs.Reading.{few_spans}
+use Rattle.lx_rules.specs.Blocks.{BlockChecks, Resolves, StopsWith}
+use Rattle.lx_rules.specs.Finishing.{IsFinished}
+use Rattle.lx_rules.specs.Keeping.{StopsAt}
+use Rattle.lx_rules.specs.Lexemes.{lexemes_of, sorts_at}
+use Rattle.lx_rules.specs.Items.{Goes, first_state}
+use Rattle.lx_rules.specs.Seen.{environment_view}
+use Rattle.lx_rules.specs.Soundness.{IsFine, IsSound}
+use Rattle.lx_rules.proofs.ItemRuns.{lexemes_few, sorts_of-lexemes, match_so, if_ok_so, stops_behind}
+use Rattle.lx_rules.proofs.resolving.resolve.Goals as goal
+
+pub take_items-requires-clause-few : goal.take_items-requires-clause-few
+take_items-requires-clause-few c =
+    let start = c.requires.tokens in
+    let tokens = few_spans (length c.args.body.now) c.args.tokens.now (c.tokens_stand_in_order.ensures.tokens c.args.body.now start.0 c.args.tokens.now start.1).in_order in
+    let few = lexemes_few c.args.body.now c.args.tokens.now c.args.tree.now.items tokens c.requires.tree in
+    let same = ap length c.as_slice-2.ensures in
+    omega (arith, few, same, c.requires.size)
+
+pub take_items-requires-clause-expressions : goal.take_items-requires-clause-expressions
+take_items-requires-clause-expressions c =
+    let each = c.expressions_stand_in_ranges.ensures Code (sorts_of Code c.args.body.now c.args.tokens.now) c.args.tree.now.items c.requires.tree in
+    let sorts = sorts_of-lexemes c.args.body.now c.args.tokens.now ∙ ap (λ tokens. sorts_at (lexemes_of c.args.body.now tokens)) (sym c.as_slice.ensures) in
+    subst (λ items. EachHasExpressions (sorts_at (lexemes_of c.args.body.now c.as_slice.result.now)) items) (sym c.as_slice-2.ensures)
+    (subst (λ s. EachHasExpressions s c.args.tree.now.items) sorts each)
+
+pub returns-clause-sound : goal.returns-clause-sound
+returns-clause-sound c =
+    let goes = c.in_ok-known.ensures.goes in
+    if_ok_so (IsFinished c.args.options.now.conds c.args.at goes.0) (λ answer. IsSound answer.0 × IsFine answer.1) (StopsAt (BlockChecks c.args.at goes.0)) c.finish.result
+    (c.finish.ensures c.args.options.now.conds goes.0 goes.2) (λ answer is. (is.2, is.3))
+
+pub returns-clause-resolves : goal.returns-clause-resolves
+returns-clause-resolves c =
+    let options = c.args.options.now in
+    let goes = c.in_ok-known.ensures.goes in
+    let environment = environment_view c.args.env in
+    let lexemes = lexemes_of c.args.body.now c.args.tokens.now in
+    let items = c.args.tree.now.items in
+    let gone : Goes options lexemes (first_state environment) items (Ok goes.0) =
+    subst (λ tokens. Goes options (lexemes_of c.args.body.now tokens) (first_state environment) items (Ok goes.0)) c.as_slice.ensures
+    (subst (λ l. Goes options (lexemes_of c.args.body.now c.as_slice.result.now) (first_state environment) l (Ok goes.0)) c.as_slice-2.ensures goes.1) in
+    match_so (IsFinished options.conds c.args.at goes.0) (λ answer. Resolves options c.args.at environment lexemes items (environment_view answer.0) answer.1)
+    (StopsAt (BlockChecks c.args.at goes.0)) (StopsWith options c.args.at environment lexemes items) c.finish.result (c.finish.ensures options.conds goes.0 goes.2)
+    (λ answer is. (goes.0, gone, is.0, is.1)) (λ stopped stops. stops_behind options c.args.at environment lexemes items goes.0 stopped gone stops)

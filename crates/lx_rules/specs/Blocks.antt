@@ -1,0 +1,183 @@
+-- What a block resolves to, and the checks behind its items.
+use Rattle.std.specs.Prelude.{◌≡◌, ℕ, ◌+◌, ◌⊎◌, Bool, true, false, List, [], ◌∷◌, ◌++◌, map, max, length, nat_lt, ◌||◌, Option, Some, None, Ok, Err, not, codes, if◌then◌else◌}
+use Rattle.std.specs.List.{AllByRecursion, list_any, filter}
+use Rattle.std.specs.Option.{option_or}
+use Rattle.lx_base.specs.declared.places.Pos.{Pos}
+use Rattle.lx_base.specs.declared.faults.Fault.{Fault}
+use Rattle.lx_base.specs.declared.faults.Fault.TheVariants.{NoRules, EofPair, Condition, BadValue, TooManyParts}
+use Rattle.lx_base.specs.declared.faults.Stop.{Stop}
+use Rattle.lx_base.specs.declared.faults.Stop.TheVariants as stop
+use Rattle.lx_base.specs.declared.settings.Options.{Options}
+use Rattle.lx_base.specs.Names.{Spellings, DoNotClash, IsTagName, usual_names}
+use Rattle.lx_parse.specs.declared.items.Item.{Item}
+use Rattle.lx_regex.specs.Pattern.{Pattern, patterns_of}
+use Rattle.lx_regex.specs.declared.rules.Kind.{Kind}
+use Rattle.lx_rules.specs.declared.resolved.Scanner.{Scanner}
+use Rattle.lx_rules.specs.declared.resolved.Resolved.{Resolved}
+use Rattle.lx_rules.specs.Lexemes.{Lexeme}
+use Rattle.lx_rules.specs.Environments.{Environment, joined_term, kept}
+use Rattle.lx_rules.specs.Checks.{Check, Then, Finds, is_among}
+use Rattle.lx_rules.specs.Items.{RuleOf, State, first_state, Goes, is_default, is_end}
+
+-- the condition of `<*>`
+abbrev pub every : List ℕ
+every = codes "*"
+
+-- the conditions by name, in the order in which they first appear
+abbrev pub add_conds : (conds seen : List (List ℕ)) → List (List ℕ)
+add_conds [] seen = seen
+add_conds (cond ∷ conds) seen =
+    if is_among cond (every ∷ seen) then add_conds conds seen else add_conds conds (seen ++ cond ∷ [])
+
+abbrev pub conditions_behind : (seen : List (List ℕ)) → List RuleOf → List (List ℕ)
+conditions_behind seen [] = seen
+conditions_behind seen (rule ∷ rules) = conditions_behind (add_conds rule.conds seen) rules
+
+abbrev pub conditions_of : List RuleOf → List (List ℕ)
+conditions_of rules = conditions_behind [] rules
+
+-- the rules that have a condition
+abbrev pub rules_under : (cond : List ℕ) → List RuleOf → List RuleOf
+rules_under cond rules = filter (λ (rule : RuleOf). is_among cond rule.conds) rules
+
+-- the rules of a kind, and those of no such kind
+abbrev pub of_kind : (Kind → Bool) → List RuleOf → List RuleOf
+of_kind test rules = filter (λ (rule : RuleOf). test rule.kind) rules
+
+abbrev pub not_of_kind : (Kind → Bool) → List RuleOf → List RuleOf
+not_of_kind test rules = filter (λ (rule : RuleOf). not (test rule.kind)) rules
+
+-- own rules, and shared ones where there is no own one
+abbrev pub own_or : List RuleOf → List RuleOf → List RuleOf
+own_or [] shared = shared
+own_or (rule ∷ rules) shared = rule ∷ rules
+
+-- shared rules, but for `$` where there is an own one
+abbrev pub shared_beside : (own shared : List RuleOf) → List RuleOf
+shared_beside own shared = if list_any (λ (rule : RuleOf). is_end rule.kind) own then not_of_kind is_end shared else shared
+
+-- The rules of a scanner in their order: its own, those of `<*>`, and `*` behind all others. A `*` or `$` of `<*>` serves only
+-- where there is no own one.
+abbrev pub scanner_rules : (own shared : List RuleOf) → List RuleOf
+scanner_rules own shared =
+    not_of_kind is_default own ++ not_of_kind is_default (shared_beside own shared)
+    ++ own_or (of_kind is_default own) (of_kind is_default shared)
+
+abbrev pub rules_of : (cond : List ℕ) → List RuleOf → List RuleOf
+rules_of cond rules = scanner_rules (rules_under cond rules) (rules_under every rules)
+
+-- a rule as a pattern
+abbrev pub pattern_of : RuleOf → Pattern
+pattern_of rule = record {
+  number = rule.act.number;
+  kind = rule.kind;
+  term = joined_term rule.meaning.terms;
+  many = [];
+  slash = None;
+  groups = 0;
+}
+
+-- a scanner of this condition, which has a name where conditions are in use
+abbrev pub cond_name : (named : Bool) → (cond : List ℕ) → Option (List ℕ)
+cond_name true cond = Some cond
+cond_name false cond = None
+
+-- the scanner has the rules that it is to have
+pub record IsScanner (named : Bool) (rules : List RuleOf) (cond : List ℕ) (scanner : Scanner) : Type 0 where
+  pub name : scanner.cond ≡ cond_name named cond
+  pub patterns : patterns_of scanner.set.rules ≡ map pattern_of (rules_of cond rules)
+
+abbrev pub AreScanners : (named : Bool) → List RuleOf → (conds : List (List ℕ)) → List Scanner → Type 0
+AreScanners named rules [] [] = Unit {0}
+AreScanners named rules [] (scanner ∷ scanners) = ⊥
+AreScanners named rules (cond ∷ conds) [] = ⊥
+AreScanners named rules (cond ∷ conds) (scanner ∷ scanners) = IsScanner named rules cond scanner × AreScanners named rules conds scanners
+
+-- the size of a scanner, its nesting and the number of its tags, `$` aside
+abbrev pub size_of : List RuleOf → ℕ
+size_of [] = 0
+size_of (rule ∷ rules) = rule.meaning.size + size_of rules
+
+abbrev pub nesting_of : List RuleOf → ℕ
+nesting_of [] = 0
+nesting_of (rule ∷ rules) = max rule.meaning.nesting (nesting_of rules)
+
+abbrev pub tags_of : List RuleOf → ℕ
+tags_of [] = 0
+tags_of (rule ∷ rules) = length rule.meaning.tags + tags_of rules
+
+-- a scanner is within the limits on these
+abbrev pub limits_fault : Pos → (size nesting tags : ℕ) → Option Fault
+limits_fault at size nesting tags =
+    if nat_lt 4096 size || nat_lt 256 nesting || nat_lt 128 tags then Some (TooManyParts at (kept size) (kept nesting) (kept tags)) else None
+
+-- a scanner has another rule than `$`
+abbrev pub is_bare : List RuleOf → Bool
+is_bare rules = not (list_any (λ (rule : RuleOf). not (is_end rule.kind)) rules)
+
+-- the checks of one scanner; `re2c:eof` is not supported yet, so none may have `$`
+abbrev pub scanner_fault : Pos → List RuleOf → Option Fault
+scanner_fault at rules =
+    option_or (if is_bare rules then Some (NoRules at) else None)
+    (option_or (if list_any (λ (rule : RuleOf). is_end rule.kind) rules then Some (EofPair at) else None)
+    (limits_fault at (size_of (not_of_kind is_end rules)) (nesting_of (not_of_kind is_end rules)) (tags_of (not_of_kind is_end rules))))
+
+abbrev pub scanners_fault : Pos → List RuleOf → (conds : List (List ℕ)) → Option Fault
+scanners_fault at rules [] = None
+scanners_fault at rules (cond ∷ conds) = option_or (scanner_fault at (rules_of cond rules)) (scanners_fault at rules conds)
+
+-- no two spellings clash, and each tag has a name that it may have beside them
+abbrev pub NoClash : Spellings → List RuleOf → Type 0
+NoClash names rules = DoNotClash names × AllByRecursion (λ (rule : RuleOf). AllByRecursion (IsTagName names) rule.meaning.tags) rules
+
+abbrev pub ClashCheck : Pos → Spellings → List RuleOf → Check
+ClashCheck at names rules fault = (NoClash names rules × (fault ≡ None)) ⊎ ((NoClash names rules → ⊥) × (fault ≡ Some (BadValue at)))
+
+-- the rules are not of `<*>` alone
+abbrev pub lonely_fault : Pos → List RuleOf → (conds : List (List ℕ)) → Option Fault
+lonely_fault at [] conds = None
+lonely_fault at (rule ∷ rules) [] = Some (Condition at)
+lonely_fault at (rule ∷ rules) (cond ∷ conds) = None
+
+-- each target has rules of its own; otherwise the first one that has none is refused
+abbrev pub target_fault : (goes : Option (List ℕ)) → (target : Option Pos) → (conds : List (List ℕ)) → Option Fault
+target_fault None target conds = None
+target_fault (Some goes) None conds = None
+target_fault (Some goes) (Some place) conds = if is_among goes conds then None else Some (Condition place)
+
+abbrev pub targets_fault : List RuleOf → (conds : List (List ℕ)) → Option Fault
+targets_fault [] conds = None
+targets_fault (rule ∷ rules) conds = option_or (target_fault rule.act.goes rule.target conds) (targets_fault rules conds)
+
+-- The checks behind the items of a block whose opener stands at this place: spellings, conditions, and each scanner.
+abbrev pub BlockChecks : Pos → State → Check
+BlockChecks at state =
+    Then (ClashCheck at usual_names state.rules)
+    (Then (Finds (lonely_fault at state.rules (conditions_of state.rules)))
+    (Then (Finds (targets_fault state.rules (conditions_of state.rules)))
+    (Finds (scanners_fault at state.rules (conditions_of state.rules)))))
+
+-- what a block resolves to where its items leave this known
+pub record IsResolved (named : Bool) (state : State) (environment : Environment) (resolved : Resolved) : Type 0 where
+  pub environment_is : environment ≡ record { definitions = state.definitions; fill = state.fill }
+  pub scanners : AreScanners named state.rules (conditions_of state.rules) resolved.scanners
+  pub acts : resolved.acts ≡ map (λ (rule : RuleOf). rule.act) state.rules
+  pub names : resolved.config.names ≡ usual_names
+  pub eof : resolved.config.eof ≡ None
+  pub fill : resolved.config.fill ≡ state.fill
+
+-- The block of these lexemes and items, in an environment, resolves so; or has this fault, which is the first one.
+abbrev pub Resolves : Options → Pos → Environment → List Lexeme → List Item → Environment → Resolved → Type 0
+Resolves options at environment lexemes items after resolved =
+    (state : State) × Goes options lexemes (first_state environment) items (Ok state)
+    × BlockChecks at state None × IsResolved options.conds state after resolved
+
+abbrev pub IsBlockFault : Options → Pos → Environment → List Lexeme → List Item → Fault → Type 0
+IsBlockFault options at environment lexemes items fault =
+    Goes options lexemes (first_state environment) items (Err fault)
+    ⊎ ((state : State) × Goes options lexemes (first_state environment) items (Ok state) × BlockChecks at state (Some fault))
+
+-- a call that is to resolve a block stops with its fault, or where memory runs out
+abbrev pub StopsWith : Options → Pos → Environment → List Lexeme → List Item → Stop → Type 0
+StopsWith options at environment lexemes items stop.Memory = Unit {0}
+StopsWith options at environment lexemes items (stop.Fault fault) = IsBlockFault options at environment lexemes items fault

@@ -1,0 +1,196 @@
+-- The items of a block, in order, and their checks.
+use Rattle.std.specs.Prelude.{◌≡◌, ℕ, suc, ◌-◌, Bool, true, false, List, [], ◌∷◌, ◌++◌, length, drop, ◌==◌, ◌&&◌, Option, Some, None, Result, Ok, Err, not, if◌then◌else◌}
+use Rattle.std.specs.List.{list_any}
+use Rattle.std.specs.Option.{option_map}
+use Rattle.lx_base.specs.declared.places.Pos.{Pos}
+use Rattle.lx_base.specs.declared.faults.Fault.{Fault}
+use Rattle.lx_base.specs.declared.faults.Fault.TheVariants.{Unsupported, Redefined, Condition}
+use Rattle.lx_base.specs.declared.settings.Options.{Options}
+use Rattle.lx_parse.specs.declared.items.Item.{Item}
+use Rattle.lx_parse.specs.declared.items.Item.TheVariants.{Define, Configure, Rule, Text}
+use Rattle.lx_parse.specs.declared.sorts.Sort.{Sort}
+use Rattle.lx_parse.specs.declared.sorts.Sort.TheVariants.{Star, Dollar}
+use Rattle.lx_parse.specs.Expressions.{alt}
+use Rattle.lx_regex.specs.Term.{any_unit}
+use Rattle.lx_regex.specs.declared.rules.Kind.{Kind}
+use Rattle.lx_regex.specs.declared.rules.Kind.TheVariants as kind
+use Rattle.lx_rules.specs.declared.resolved.Act.{Act}
+use Rattle.lx_rules.specs.Lexemes.{Lexeme, nth_lexeme, sort_at}
+use Rattle.lx_rules.specs.Forms.{Form, IsForm}
+use Rattle.lx_rules.specs.Environments.{Definition, Meaning, Environment, defined, definition_of}
+use Rattle.lx_rules.specs.Meanings.{IsMeaning}
+use Rattle.lx_rules.specs.Configurations.{config_fault, switch_of}
+use Rattle.lx_rules.specs.Checks.{Check, Then, Finds, waits, Checks, is_among, tags_of}
+
+-- A rule: its conditions, its kind, the place of its head, what that means, the place of its target, and its action. Where
+-- conditions are not in use it has one without a name; and that of `<*>` is named so.
+pub record RuleOf : Type 0 where
+  pub conds : List (List ℕ)
+  pub kind : Kind
+  pub at : Pos
+  pub meaning : Meaning
+  pub target : Option Pos
+  pub act : Act
+
+-- what is known behind some items of a block
+pub record State : Type 0 where
+  pub definitions : List Definition
+  pub fill : Bool
+  pub rules : List RuleOf
+
+-- what is known before them
+abbrev pub first_state : Environment → State
+first_state environment = record { definitions = environment.definitions; fill = environment.fill; rules = [] }
+
+-- what `*` means
+abbrev pub any_meaning : Meaning
+any_meaning = record { terms = any_unit ∷ []; size = 1; nesting = 0; tags = [] }
+
+-- the heads of rules: `*`, `$`, or an expression
+pub data HeadSort : Type 0 where
+  any : HeadSort
+  end : HeadSort
+  expression : HeadSort
+
+-- the head that begins with this terminal
+abbrev pub head_sort : Sort → HeadSort
+head_sort Star = any
+head_sort Dollar = end
+head_sort other = expression
+
+-- the place of the first rule of a kind that has one of these conditions
+abbrev pub is_default : Kind → Bool
+is_default kind.Plain = false
+is_default kind.Default = true
+is_default kind.Eof = false
+
+abbrev pub is_end : Kind → Bool
+is_end kind.Plain = false
+is_end kind.Default = false
+is_end kind.Eof = true
+
+abbrev pub first_of : (Kind → Bool) → (conds : List (List ℕ)) → List RuleOf → Option Pos
+first_of test conds [] = None
+first_of test conds (rule ∷ rules) =
+    if test rule.kind && list_any (λ cond. is_among cond conds) rule.conds then Some rule.at else first_of test conds rules
+
+-- a second rule of a kind is refused, and a second definition of a name
+abbrev pub twice : Pos → (first : Option Pos) → Option Fault
+twice at first = option_map (λ place. Redefined at place) first
+
+-- conditions are used where there are none
+abbrev pub unless : Bool → Pos → Option Fault
+unless true at = None
+unless false at = Some (Condition at)
+
+module _ (options : Options) (lexemes : List Lexeme) where
+  -- the lexeme at a place of the list
+  abbrev lexeme_at : ℕ → Lexeme
+  lexeme_at place = nth_lexeme lexemes place
+
+  -- the expression that stands from one place up to another
+  abbrev pub IsExpression : (from until : ℕ) → Form → Type 0
+  IsExpression from until form = IsForm alt (drop from lexemes) (drop until lexemes) form
+
+  -- the checks of that expression
+  abbrev pub ExpressionChecks : List Definition → (from until : ℕ) → Check
+  ExpressionChecks definitions from until fault =
+      (form : Form) × IsExpression from until form × Checks options definitions false [] form fault
+
+  -- the checks of an expression with a trailing context, in which no tag stands twice
+  abbrev pub ContextChecks : List Definition → (from slash until : ℕ) → Check
+  ContextChecks definitions from slash until fault =
+      (form behind : Form) × IsExpression from slash form × IsExpression (suc slash) until behind
+      × Then (Checks options definitions false [] form)
+      (Then (Finds (waits (lexeme_at slash))) (Checks options definitions false (tags_of options definitions form) behind)) fault
+
+  -- a rule has a list of conditions exactly where these are in use
+  abbrev pub ListChecks : (is_absent : Bool) → Pos → Check
+  ListChecks true at = Finds (unless (not options.conds) at)
+  ListChecks false at = Then (Finds (Some (Unsupported (Some at)))) (Finds (unless options.conds at))
+
+  -- the conditions of a rule; lists of them are not supported yet
+  abbrev pub conds_of : (first head : ℕ) → List (List ℕ)
+  conds_of first head = [] ∷ []
+
+  -- the checks of a head
+  abbrev pub HeadChecks : State → HeadSort → (conds : List (List ℕ)) → (head : ℕ) → (slash : Option ℕ) → (until : ℕ) → Check
+  HeadChecks state any conds head slash until = Finds (twice (lexeme_at head).at (first_of is_default conds state.rules))
+  HeadChecks state end conds head slash until =
+      Then (Finds (waits (lexeme_at head))) (Finds (twice (lexeme_at head).at (first_of is_end conds state.rules)))
+  HeadChecks state expression conds head None until = ExpressionChecks state.definitions head until
+  HeadChecks state expression conds head (Some slash) until = ContextChecks state.definitions head slash until
+
+  -- a target stands behind `=>` or `:=>`, and where conditions are in use
+  abbrev pub TargetChecks : (goes : Option ℕ) → Check
+  TargetChecks None = Finds None
+  TargetChecks (Some goes) =
+      Then (Finds (waits (lexeme_at (goes - 1)))) (Finds (unless options.conds (lexeme_at (goes - 1)).at))
+
+  -- the checks of an item
+  abbrev pub ItemChecks : State → Item → Check
+  ItemChecks state (Define name from until) =
+      Then (Finds (twice (lexeme_at name).at (option_map (λ (definition : Definition). definition.at) (definition_of state.definitions (lexeme_at name).text))))
+      (ExpressionChecks state.definitions from until)
+  ItemChecks state (Configure name value) = Finds (config_fault (lexeme_at name) (lexeme_at value))
+  ItemChecks state (Rule first head slash until goes code) =
+      Then (ListChecks (first == head) (lexeme_at first).at)
+      (Then (HeadChecks state (head_sort (sort_at (lexeme_at head))) (conds_of first head) head slash until) (TargetChecks goes))
+  ItemChecks state (Text value) = Finds None
+
+  -- what the head of a rule means; `$` and trailing contexts are not supported yet
+  abbrev pub IsHead : List Definition → HeadSort → (head : ℕ) → (slash : Option ℕ) → (until : ℕ) → Kind → Meaning → Type 0
+  IsHead definitions any head slash until sort meaning = (sort ≡ kind.Default) × (meaning ≡ any_meaning)
+  IsHead definitions end head slash until sort meaning = ⊥
+  IsHead definitions expression head None until sort meaning =
+      (sort ≡ kind.Plain) × ((form : Form) × IsExpression head until form × IsMeaning options definitions form meaning)
+  IsHead definitions expression head (Some slash) until sort meaning = ⊥
+
+  -- the action of a rule with this number: its target, its text with the braces, and the place of that or of `:=>`
+  abbrev pub act_of : (number : ℕ) → (goes code : Option ℕ) → Act
+  act_of number goes (Some code) = record {
+    number = number;
+    goes = option_map (λ place. (lexeme_at place).text) goes;
+    code = Some (lexeme_at code).text;
+    at = (lexeme_at code).at;
+  }
+  act_of number (Some goes) None =
+      record { number = number; goes = Some (lexeme_at goes).text; code = None; at = (lexeme_at (goes - 1)).at }
+  act_of number None None = record { number = number; goes = None; code = None; at = (lexeme_at 0).at }
+
+  -- what is known behind one item more
+  abbrev pub IsAfter : State → Item → State → Type 0
+  IsAfter state (Define name from until) after =
+      (form : Form) × (meaning : Meaning) × IsExpression from until form × IsMeaning options state.definitions form meaning
+      × (after ≡ record {
+        definitions = state.definitions ++ defined (lexeme_at name).text (lexeme_at name).at meaning ∷ [];
+        fill = state.fill;
+        rules = state.rules;
+      })
+  IsAfter state (Configure name value) after =
+      (fill : Bool) × (switch_of (lexeme_at value).kind (lexeme_at value).text ≡ Some fill)
+      × (after ≡ record { definitions = state.definitions; fill = fill; rules = state.rules })
+  IsAfter state (Rule first head slash until goes code) after =
+      (sort : Kind) × (meaning : Meaning)
+      × IsHead state.definitions (head_sort (sort_at (lexeme_at head))) head slash until sort meaning
+      × (after ≡ record {
+        definitions = state.definitions;
+        fill = state.fill;
+        rules = state.rules ++ record {
+          conds = conds_of first head;
+          kind = sort;
+          at = (lexeme_at head).at;
+          meaning = meaning;
+          target = option_map (λ place. (lexeme_at place).at) goes;
+          act = act_of (suc (length state.rules)) goes code;
+        } ∷ [];
+      })
+  IsAfter state (Text value) after = after ≡ state
+
+  -- The items are taken in order: what is known behind all of them, or the first fault.
+  pub data Goes : State → List Item → Result State Fault → Type 0 where
+    ends : {state : State} → Goes state [] (Ok state)
+    refused : {state : State} {item : Item} {items : List Item} (fault : Fault) → ItemChecks state item (Some fault)
+        → Goes state (item ∷ items) (Err fault)
+    next : {state : State} {item : Item} {items : List Item} {result : Result State Fault} (after : State)
+        → ItemChecks state item None → IsAfter state item after → Goes after items result → Goes state (item ∷ items) result

@@ -1,0 +1,14 @@
+pub mod Blocks
+pub mod Checks
+pub mod Configurations
+pub mod Environments
+pub mod Finishing
+pub mod Forms
+pub mod Items
+pub mod Keeping
+pub mod Lexemes
+pub mod Meanings
+pub mod Points
+pub mod Reading
+pub mod Seen
+pub mod Soundness

@@ -1,0 +1,51 @@
+-- What the definitions see of the code's values.
+use Rattle.std.specs.Prelude.{◌≡◌, ℕ, List, [], map, Option, Some}
+use Rattle.std.specs.Option.{option_map}
+use Rattle.lx_base.specs.declared.faults.Fault.{Fault}
+use Rattle.lx_base.specs.declared.faults.Stop.{Stop}
+use Rattle.lx_base.specs.declared.faults.Stop.TheVariants as stop
+use Rattle.lx_token.specs.declared.characters.Character.{Character}
+use Rattle.lx_regex.specs.Expr.{term_of}
+use Rattle.lx_rules.specs.declared.definitions.Kept.{Kept}
+use Rattle.lx_rules.specs.declared.definitions.Definitions.{Definitions}
+use Rattle.lx_rules.specs.declared.lexemes.Lexeme.{Lexeme as Held}
+use Rattle.lx_rules.specs.declared.lexemes.Lexemes.{Lexemes}
+use Rattle.lx_rules.specs.Lexemes.{Lexeme, lexemes_of}
+use Rattle.lx_rules.specs.declared.environment.Env.{Env}
+use Rattle.lx_rules.specs.Environments.{Definition, Environment}
+
+-- a token with its text
+abbrev pub lexeme_view : Held → Lexeme
+lexeme_view held = record { kind = held.kind; text = held.text.now; at = held.at }
+
+-- the tokens of a block
+abbrev pub lexemes_view : Lexemes → List Lexeme
+lexemes_view lexemes = lexemes_of lexemes.body.now lexemes.tokens.now
+
+-- a definition of this name
+abbrev pub definition_view : (name : List ℕ) → Kept → Definition
+definition_view name kept = record {
+  name = name;
+  at = kept.at;
+  size = kept.size;
+  nesting = kept.nesting;
+  tags = [];
+  term = option_map (term_of 0) kept.expr;
+}
+
+-- the definitions so far, in order
+abbrev pub definitions_view : Definitions → List Definition
+definitions_view definitions = map (λ entry. definition_view entry.0.items entry.1) definitions.by_name.entries
+
+-- the code points of characters
+abbrev pub points_of : List Character → List ℕ
+points_of characters = map (λ (character : Character). character.point) characters
+
+-- a call stops with the first fault, where memory does not run out
+abbrev pub IsStop : Option Fault → Stop → Type 0
+IsStop found stop.Memory = Unit {0}
+IsStop found (stop.Fault fault) = found ≡ Some fault
+
+-- what holds behind a block
+abbrev pub environment_view : Env → Environment
+environment_view env = record { definitions = definitions_view env.definitions; fill = env.fill }

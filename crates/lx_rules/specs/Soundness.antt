@@ -1,0 +1,51 @@
+-- What holds of what blocks resolve to, whatever they say.
+use Rattle.std.specs.Prelude.{ℕ, ◌+◌, ◌<◌, ◌≤◌, ◌^◌, List, [], ◌∷◌, length, map, sum, All, Option, Some, None}
+use Rattle.lx_regex.specs.Expr.{size_of}
+use Rattle.lx_regex.specs.declared.expr.Expr.{Expr}
+use Rattle.lx_regex.specs.declared.rules.Rule.{Rule}
+use Rattle.lx_rules.specs.declared.definitions.Definitions.{Definitions}
+use Rattle.lx_rules.specs.declared.expressions.Reading.{Reading}
+use Rattle.lx_rules.specs.declared.environment.Env.{Env}
+use Rattle.lx_rules.specs.declared.resolved.Act.{Act}
+use Rattle.lx_rules.specs.declared.resolved.Scanner.{Scanner}
+use Rattle.lx_rules.specs.declared.resolved.Resolved.{Resolved}
+
+-- an expression that is kept has at most the size that is kept of it, which is at least 1
+abbrev pub FitsSize : Option Expr → (size : ℕ) → Type 0
+FitsSize None size = 1 ≤ size
+FitsSize (Some expr) size = (1 ≤ size) × (size_of expr ≤ size)
+
+-- each definition's size is that of its expression
+abbrev pub AreSound : Definitions → Type 0
+AreSound definitions = All (λ entry. FitsSize entry.1.expr entry.1.size) definitions.by_name.entries
+
+abbrev pub IsSound : Env → Type 0
+IsSound env = AreSound env.definitions
+
+-- what is read of an expression has at least the size of its members
+pub record IsHonest (reading : Reading) : Type 0 where
+  pub size : sum (map size_of reading.members.items) ≤ reading.size
+  pub kept : reading.size ≤ 2 ^ 40
+
+-- the size of rules
+abbrev pub rules_size : List Rule → ℕ
+rules_size [] = 0
+rules_size (rule ∷ rules) = size_of rule.expr + rules_size rules
+
+-- a scanner is within the limit on its size, which each of its rules adds 1 to at least; and its rules have acts, which are
+-- as many as this
+pub record IsFit (acts : ℕ) (scanner : Scanner) : Type 0 where
+  pub size : rules_size scanner.set.rules ≤ 4096
+  pub few : length scanner.set.rules ≤ 4096
+  pub numbers : All (λ (rule : Rule). (0 < rule.number) × (rule.number ≤ acts)) scanner.set.rules
+
+-- an action is no longer than a source
+abbrev pub IsShort : Option (List ℕ) → Type 0
+IsShort None = Unit {0}
+IsShort (Some code) = length code ≤ 16777216
+
+-- what a block resolves to is within the limits of a scanner, and the rule of number k has the k-th action
+pub record IsFine (resolved : Resolved) : Type 0 where
+  pub scanners : All (IsFit (length resolved.acts)) resolved.scanners
+  pub acts : All (λ (act : Act). IsShort act.code) resolved.acts
+  pub few : length resolved.acts ≤ 16777216

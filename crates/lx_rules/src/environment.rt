@@ -1,0 +1,29 @@
+//! What holds from block to block.
+ghost use Rattle.std.specs.Prelude.{◌≡◌};
+ghost use Rattle.lx_rules.specs.Environments.{first_environment};
+ghost use Rattle.lx_rules.specs.Seen.{environment_view};
+ghost use Rattle.lx_rules.specs.Soundness.{IsSound};
+
+use crate::definitions::Definitions;
+use std::alloc::Global;
+
+/// What holds behind a block for the blocks after it: its definitions and its configuration. Contracts see it by
+/// `environment_view`.
+#[derive(Drop)]
+pub struct Env {
+    pub(crate) definitions: Definitions,
+    pub(crate) fill: bool,
+}
+
+impl Env {
+    /// What holds before the first block: no definitions, and the default configuration. It takes no memory.
+    pub fn new(alloc: Global) -> Env
+        ensures first { environment_view result ≡ first_environment }
+        ensures sound { IsSound result }
+    {
+        Env {
+            definitions: Definitions::new(alloc),
+            fill: true,
+        }
+    }
+}

@@ -1,0 +1,140 @@
+//! What a block resolves to, by what is known behind its items.
+ghost use Rattle.std.specs.Prelude.{◌≡◌, IfOk};
+ghost use Rattle.lx_base.specs.Names.{usual_names};
+ghost use Rattle.lx_rules.specs.Finishing.{AddsDefault, AreScannersOf, IsOneScanner};
+
+use crate::environment::Env;
+use crate::items::{DefaultRule, Known, MOST_NESTING, MOST_SIZE, text};
+use crate::resolved::{Config, Resolved, Scanner};
+use crate::rules::bare_rule;
+use lx_base::spellings::do_not_clash;
+use lx_base::{Fault, Memory, Names, Pos, Sequence, Stop};
+use lx_regex::{Expr, Kind, Rule, RuleSet};
+use std::alloc::Global;
+
+/// The spellings of a source that configures none.
+fn usual_names(alloc: Global) -> Result<Names, Memory>
+    ensures { IfOk result (λ names. names ≡ usual_names) }
+{
+    Ok(Names::from_vec(vec![in alloc;
+        text(alloc, b"YYCTYPE")?,
+        text(alloc, b"YYCURSOR")?,
+        text(alloc, b"YYLIMIT")?,
+        text(alloc, b"YYMARKER")?,
+        text(alloc, b"YYCTXMARKER")?,
+        text(alloc, b"YYFILL")?,
+        text(alloc, b"YYGETSTATE")?,
+        text(alloc, b"YYSETSTATE")?,
+        text(alloc, b"YYGETCONDITION")?,
+        text(alloc, b"YYSETCONDITION")?,
+        text(alloc, b"YYMTAGP")?,
+        text(alloc, b"YYMTAGN")?,
+        text(alloc, b"yych")?,
+        text(alloc, b"yyaccept")?,
+        text(alloc, b"yyt")?,
+        text(alloc, b"yyc_")?,
+        text(alloc, b"yyc")?,
+    ]?))
+}
+
+/// The rules, with `*` behind them.
+fn with_default(
+    alloc: Global,
+    rules: Vec<Rule>,
+    default: Option<DefaultRule>,
+) -> Result<Vec<Rule>, Memory>
+    ensures { IfOk result (λ all. AddsDefault default rules.items all.items) }
+{
+    match default {
+        None => Ok(rules),
+        Some(default) => {
+            let mut rules = rules;
+            let rule = bare_rule(alloc, default.number, Kind::Default, Expr::AnyUnit);
+            rules.push(rule)?;
+            Ok(rules)
+        }
+    }
+}
+
+/// The scanner of all rules.
+fn one_scanner(
+    alloc: Global,
+    rules: Vec<Rule>,
+    default: Option<DefaultRule>,
+) -> Result<Sequence<Scanner>, Memory>
+    ensures { IfOk result (IsOneScanner default rules.items) }
+{
+    let rules = with_default(alloc, rules, default)?;
+    let scanner = Scanner {
+        cond: None,
+        set: RuleSet {
+            rules: Sequence::from_vec(rules),
+        },
+    };
+    Ok(Sequence::from_vec(vec![in alloc; scanner]?))
+}
+
+/// The scanners of a block that may have no rules.
+fn scanners(
+    alloc: Global,
+    is_empty: bool,
+    rules: Vec<Rule>,
+    default: Option<DefaultRule>,
+) -> Result<Sequence<Scanner>, Memory>
+    ensures { IfOk result (AreScannersOf is_empty default rules.items) }
+{
+    if is_empty {
+        return Ok(Sequence::new(alloc));
+    }
+    one_scanner(alloc, rules, default)
+}
+
+impl Known {
+    ghost use Rattle.std.specs.Prelude.{◌≡◌, ◌≤◌, ◌||◌, Bool, MatchResult, length, nat_lt};
+    ghost use Rattle.lx_rules.specs.Blocks.{BlockChecks, IsResolved};
+    ghost use Rattle.lx_rules.specs.Items.{State};
+    ghost use Rattle.lx_rules.specs.Keeping.{Holds, StopsAt};
+    ghost use Rattle.lx_rules.specs.Finishing.{IsFinished};
+
+    /// Whether the scanner is past a limit.
+    fn is_too_large(&self) -> bool
+        ensures { result ≡ (nat_lt 4096 self.now.size || nat_lt 256 self.now.nesting) }
+    {
+        self.size > MOST_SIZE || self.nesting > MOST_NESTING
+    }
+
+    /// What the block resolves to whose opener stands at this place, and what holds behind it.
+    pub fn finish(self, alloc: Global, at: Pos) -> Result<(Env, Resolved), Stop>
+        requires { length self.acts.items ≤ 16777216 }
+        ensures { (conds : Bool) (state : State) → Holds conds self state → MatchResult result (IsFinished conds at state) (StopsAt (BlockChecks at state)) }
+    {
+        let names = usual_names(alloc)?;
+        if !do_not_clash(&names) {
+            return Err(Stop::Fault(Fault::BadValue { at }));
+        }
+        if self.is_too_large() {
+            return Err(Stop::Fault(Fault::TooManyParts {
+                at,
+                size: self.size,
+                nesting: self.nesting,
+                tags: 0,
+            }));
+        }
+        let env = self.env;
+        let fill = env.fill;
+        let acts = self.acts;
+        let rules = self.rules;
+        let default = self.default;
+        let scanners = scanners(alloc, acts.as_slice().is_empty(), rules, default)?;
+        let resolved = Resolved {
+            scanners,
+            acts: Sequence::from_vec(acts),
+            config: Config {
+                names,
+                eof: None,
+                fill,
+            },
+        };
+        Ok((env, resolved))
+    }
+}

@@ -1,0 +1,164 @@
+//! Takes the items of a block in order.
+ghost use Rattle.std.specs.Prelude.{◌≡◌, IfOk, Some};
+ghost use Rattle.lx_base.specs.declared.faults.Fault.TheVariants.{Unsupported};
+ghost use Rattle.lx_base.specs.declared.faults.Stop.TheVariants as stop;
+
+use crate::configurations::read_config;
+use crate::definitions::Kept;
+use crate::environment::Env;
+use crate::expressions::read_expression;
+use crate::lexemes::Lexemes;
+use crate::resolved::Act;
+use lx_base::{ByteText, Fault, Memory, Options, Pos, Stop};
+use lx_regex::Rule;
+use std::alloc::Global;
+
+/// The greatest size of a scanner.
+pub(crate) const MOST_SIZE: u64 = 4096;
+
+/// The greatest nesting in a scanner.
+pub(crate) const MOST_NESTING: u64 = 256;
+
+/// What does not change while the items of a block are taken.
+#[derive(Clone, Copy)]
+pub(crate) struct Block<'b> {
+    pub options: &'b Options,
+    pub lexemes: Lexemes<'b>,
+}
+
+/// The rule `*` of a block.
+#[derive(Clone, Copy, Debug)]
+pub(crate) struct DefaultRule {
+    pub number: u32,
+    /// Where its `*` stands.
+    pub at: Pos,
+}
+
+/// What is known behind some items of a block.
+#[derive(Drop)]
+pub(crate) struct Known {
+    pub env: Env,
+    /// The rules but for `*`, as far as the scanner is within the limits.
+    pub rules: Vec<Rule>,
+    pub default: Option<DefaultRule>,
+    pub acts: Vec<Act>,
+    /// The size of all rules; 2^40 stands for itself and for more.
+    pub size: u64,
+    /// The greatest nesting; 2^40 stands for itself and for more.
+    pub nesting: u64,
+}
+
+/// A form that is not supported yet.
+pub(crate) fn waits(at: Pos) -> Stop
+    ensures { result ≡ stop.Fault (Unsupported (Some at)) }
+{
+    Stop::Fault(Fault::Unsupported { at: Some(at) })
+}
+
+/// A text with these bytes.
+pub(crate) fn text(alloc: Global, bytes: &[u8]) -> Result<ByteText, Memory>
+    ensures { IfOk result (λ text. text ≡ bytes.now) }
+{
+    let bytes = Vec::from_slice(alloc, bytes)?;
+    Ok(ByteText::from_vec(bytes))
+}
+
+impl Known {
+    ghost use Rattle.std.specs.Prelude.{◌≡◌, MatchResult, OnOk, Bool};
+    ghost use Rattle.lx_parse.specs.Expressions.{alt};
+    ghost use Rattle.lx_parse.specs.Ranges.{IsPart};
+    ghost use Rattle.lx_parse.specs.declared.items.Item.TheVariants as item;
+    ghost use Rattle.lx_rules.specs.Items.{State, ItemChecks, first_state};
+    ghost use Rattle.lx_rules.specs.Keeping.{Holds, IsTaken, StopsAt, room_behind};
+    ghost use Rattle.lx_rules.specs.Lexemes.{sorts_at};
+    ghost use Rattle.lx_rules.specs.Seen.{environment_view, lexemes_view};
+    ghost use Rattle.lx_rules.specs.Soundness.{IsSound};
+
+    /// What is known before the items.
+    pub fn new(alloc: Global, env: Env) -> Known
+        requires { IsSound env }
+        ensures { (conds : Bool) → Holds conds result (first_state (environment_view env)) }
+    {
+        Known {
+            env,
+            rules: Vec::new(alloc),
+            default: None,
+            acts: Vec::new(alloc),
+            size: 0,
+            nesting: 0,
+        }
+    }
+
+    /// The size that the next rule may have. It has none behind a nesting that is past the limit.
+    pub fn room(&self) -> u64
+        ensures { result ≡ room_behind self.now.size self.now.nesting }
+    {
+        if self.nesting > MOST_NESTING {
+            return 0;
+        }
+        MOST_SIZE.saturating_sub(self.size)
+    }
+
+    /// Takes a definition.
+    pub fn define(
+        &mut self,
+        alloc: Global,
+        block: Block<'_>,
+        name: u32,
+        from: u32,
+        until: u32,
+    ) -> Result<(), Stop>
+        requires { IsPart (sorts_at (lexemes_view block.lexemes)) alt from until }
+        ensures acts { OnOk result (self.new.acts ≡ self.old.acts) }
+        ensures taken { (state : State) → Holds block.entry.options.now.conds self.old state → MatchResult result
+            (λ _. IsTaken block.entry.options.now (lexemes_view block.entry.lexemes) state (item.Define name from until) self.new)
+            (StopsAt (ItemChecks block.entry.options.now (lexemes_view block.entry.lexemes) state (item.Define name from until))) }
+    {
+        let name = block.lexemes.at(name as usize);
+        if let Some(kept) = self.env.definitions.get(name.text) {
+            return Err(Stop::Fault(Fault::Redefined {
+                at: name.at,
+                first: kept.at,
+            }));
+        }
+        let reading = match read_expression(
+            alloc,
+            block.options,
+            block.lexemes,
+            &self.env.definitions,
+            MOST_SIZE,
+            from as usize,
+            until as usize,
+        ) {
+            Ok(reading) => reading,
+            Err(stop) => return Err(stop),
+        };
+        let kept = Kept {
+            at: name.at,
+            size: reading.size,
+            nesting: reading.nesting,
+            expr: reading.into_expr(MOST_SIZE),
+        };
+        self.env.definitions.add(alloc, name.text, kept)?;
+        Ok(())
+    }
+
+    /// Takes a configuration.
+    pub fn configure(
+        &mut self,
+        alloc: Global,
+        block: Block<'_>,
+        name: u32,
+        value: u32,
+    ) -> Result<(), Stop>
+        ensures acts { OnOk result (self.new.acts ≡ self.old.acts) }
+        ensures taken { (state : State) → Holds block.entry.options.now.conds self.old state → MatchResult result
+            (λ _. IsTaken block.entry.options.now (lexemes_view block.entry.lexemes) state (item.Configure name value) self.new)
+            (StopsAt (ItemChecks block.entry.options.now (lexemes_view block.entry.lexemes) state (item.Configure name value))) }
+    {
+        let name = block.lexemes.at(name as usize);
+        let value = block.lexemes.at(value as usize);
+        self.env.fill = read_config(alloc, &name, &value)?;
+        Ok(())
+    }
+}

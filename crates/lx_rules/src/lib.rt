@@ -1,0 +1,24 @@
+//! What a block of definitions and rules resolves to: the rule lists of its scanners, and the actions.
+#![tactic(auto)]
+
+mod configurations;
+mod copies;
+pub mod definitions;
+pub mod environment;
+mod expressions;
+mod finishing;
+mod heads;
+mod items;
+mod lexemes;
+mod points;
+pub mod resolved;
+pub mod resolving;
+mod rules;
+
+pub use definitions::Definitions;
+pub use environment::Env;
+pub use resolved::{Act, Config, Resolved, Scanner};
+pub use resolving::resolve;
+
+#[cfg(test)]
+mod tests;

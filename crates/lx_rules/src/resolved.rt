@@ -1,0 +1,45 @@
+//! What a block resolves to.
+use lx_base::{ByteText, Names, Pos, Sequence};
+use lx_regex::RuleSet;
+
+/// A scanner: the rules that stand under one condition, or all rules of a block where conditions are not in use.
+#[derive(Debug, Drop)]
+pub struct Scanner {
+    /// The name of the condition.
+    pub cond: Option<ByteText>,
+    pub set: RuleSet,
+}
+
+/// What a rule does where it is entered.
+#[derive(Debug, Drop)]
+pub struct Act {
+    /// The number of the rule, which is its place in the block, from 1.
+    pub number: u32,
+    /// The condition that it goes to.
+    pub goes: Option<ByteText>,
+    /// Its action with the braces, as it stands in the source.
+    pub code: Option<ByteText>,
+    /// The place of the action's `{`, or that of `:=>`.
+    pub at: Pos,
+}
+
+/// The configuration that holds for a block.
+#[derive(Debug, Drop)]
+pub struct Config {
+    /// The seventeen spellings.
+    pub names: Names,
+    /// The code unit that stands at the end of the input, if there is one.
+    pub eof: Option<u32>,
+    /// Whether refills are asked for.
+    pub fill: bool,
+}
+
+/// What a block resolves to.
+#[derive(Debug, Drop)]
+pub struct Resolved {
+    /// The scanners in the order in which their conditions first appear; none where the block has no rule.
+    pub scanners: Sequence<Scanner>,
+    /// What the rules of the block do, in their order.
+    pub acts: Sequence<Act>,
+    pub config: Config,
+}

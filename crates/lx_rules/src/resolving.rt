@@ -1,0 +1,117 @@
+//! Resolves a block.
+ghost use Rattle.std.specs.Prelude.{◌≡◌, ◌≤◌, length, Ok, IfOk, MatchResult};
+ghost use Rattle.lx_base.specs.declared.blocks.BlockKind.TheVariants.{Code};
+ghost use Rattle.lx_base.specs.declared.places.Pos.{Pos};
+ghost use Rattle.lx_parse.specs.Blocks.{IsBody, form_of};
+ghost use Rattle.lx_parse.specs.Ranges.{EachHasExpressions};
+ghost use Rattle.lx_parse.specs.Sorts.{sorts_of};
+ghost use Rattle.lx_token.specs.Tokens.{tokens_of};
+ghost use Rattle.lx_rules.specs.Blocks.{Resolves, StopsWith};
+ghost use Rattle.lx_rules.specs.Items.{State, Goes, first_state};
+ghost use Rattle.lx_rules.specs.Keeping.{Holds, StopsGoing};
+ghost use Rattle.lx_rules.specs.Lexemes.{lexemes_of, sorts_at};
+ghost use Rattle.lx_rules.specs.Seen.{environment_view, lexemes_view};
+ghost use Rattle.lx_rules.specs.Soundness.{IsFine, IsSound};
+
+use crate::environment::Env;
+use crate::items::{Block, Known};
+use crate::lexemes::Lexemes;
+use crate::resolved::Resolved;
+use lx_base::{Options, Pos, Stop};
+use lx_parse::{BlockTree, Item, expressions_stand_in_ranges};
+use lx_token::{TokenList, tokens_stand_in_order};
+use std::alloc::Global;
+
+/// What a block with this body, these tokens and these items resolves to, and what holds behind it.
+///
+/// `at` is the place of the block's opener. It refuses with the first fault of the block: those of its items in their
+/// order, and then those that stand at the opener. `Memory` comes only where memory runs out.
+pub fn resolve(
+    alloc: Global,
+    body: &[u8],
+    tokens: &TokenList,
+    tree: &BlockTree,
+    at: Pos,
+    env: Env,
+    options: &Options,
+) -> Result<(Env, Resolved), Stop>
+    requires size { length body.now ≤ 16777216 }
+    requires tokens { (start : Pos) × (tokens_of body.now start ≡ Ok tokens.now) }
+    requires tree { IsBody (form_of Code) (sorts_of Code body.now tokens.now) tree.now.items }
+    requires sound { IsSound env }
+    ensures sound { IfOk result (λ answer. IsSound answer.0 × IsFine answer.1) }
+    ensures resolves { let lexemes = lexemes_of body.now tokens.now in
+        MatchResult result
+        (λ answer. Resolves options.now at (environment_view env) lexemes tree.now.items (environment_view answer.0) answer.1)
+        (StopsWith options.now at (environment_view env) lexemes tree.now.items) }
+{
+    expressions_stand_in_ranges();
+    tokens_stand_in_order();
+    let block = Block {
+        options,
+        lexemes: Lexemes {
+            body,
+            tokens: tokens.as_slice(),
+        },
+    };
+    let known = take_items(alloc, block, env, tree.items.as_slice())?;
+    known.finish(alloc, at)
+}
+
+/// Takes the items of a block.
+fn take_items(alloc: Global, block: Block<'_>, env: Env, items: &[Item]) -> Result<Known, Stop>
+    requires few { length items.now ≤ 16777216 }
+    requires short { length block.lexemes.body.now ≤ 16777216 }
+    requires expressions { EachHasExpressions (sorts_at (lexemes_view block.lexemes)) items.now }
+    requires sound { IsSound env }
+    ensures few { IfOk result (λ known. length known.acts.items ≤ 16777216) }
+    ensures goes { MatchResult result
+        (λ known. (state : State) × Goes block.entry.options.now (lexemes_view block.entry.lexemes) (first_state (environment_view env)) items.now (Ok state)
+        × Holds block.entry.options.now.conds known state)
+        (StopsGoing block.entry.options.now (lexemes_view block.entry.lexemes) (first_state (environment_view env)) items.now) }
+{
+    let mut known = Known::new(alloc, env);
+    for item in items {
+        match known.take(alloc, block, *item) {
+            Ok(()) => {}
+            Err(stop) => return Err(stop),
+        }
+    }
+    Ok(known)
+}
+
+impl Known {
+    ghost use Rattle.std.specs.Prelude.{◌≡◌, ◌≤◌, ◌<◌, suc, length, MatchResult, OnOk};
+    ghost use Rattle.lx_parse.specs.Ranges.{HasExpressions};
+    ghost use Rattle.lx_rules.specs.Items.{State, ItemChecks};
+    ghost use Rattle.lx_rules.specs.Keeping.{Holds, IsTaken, StopsAt};
+    ghost use Rattle.lx_rules.specs.Lexemes.{sorts_at};
+    ghost use Rattle.lx_rules.specs.Seen.{lexemes_view};
+    ghost use Rattle.lx_rules.specs.Soundness.{IsSound};
+
+    /// Takes an item.
+    fn take(&mut self, alloc: Global, block: Block<'_>, item: Item) -> Result<(), Stop>
+        requires few { length self.old.acts.items < 16777216 }
+        requires short { length block.lexemes.body.now ≤ 16777216 }
+        requires expressions { HasExpressions (sorts_at (lexemes_view block.lexemes)) item }
+        requires sound { IsSound self.old.env }
+        ensures few { OnOk result (length self.new.acts.items ≤ suc (length self.old.acts.items)) }
+        ensures taken { (state : State) → Holds block.entry.options.now.conds self.old state → MatchResult result
+            (λ _. IsTaken block.entry.options.now (lexemes_view block.entry.lexemes) state item self.new)
+            (StopsAt (ItemChecks block.entry.options.now (lexemes_view block.entry.lexemes) state item)) }
+    {
+        match item {
+            Item::Define { name, from, until } => self.define(alloc, block, name, from, until),
+            Item::Configure { name, value } => self.configure(alloc, block, name, value),
+            Item::Rule {
+                first,
+                head,
+                slash,
+                until,
+                goes,
+                code,
+            } => self.take_rule(alloc, block, first, head, slash, until, goes, code),
+            Item::Text { .. } => Ok(()),
+        }
+    }
+}
