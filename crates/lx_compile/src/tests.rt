@@ -1,6 +1,8 @@
-//! Sources that are refused before a block resolves, and sources without blocks.
+//! Worked sources: without blocks, refused before a block resolves, and with blocks.
 ghost use Rattle.std.specs.Prelude.{◌≡◌, false, IfOk};
 ghost use Rattle.lx_compile.specs.Options.{ArePlain};
+
+mod blocks;
 
 use super::*;
 use lx_base::{EmptyPolicy, Enc, Fault, FileName, Job, Options, Stop, SurPolicy};
