@@ -1,14 +1,10 @@
--- What is read before a text is made, and what a source says of its parts.
-use Rattle.std.proofs.Common.{◌≡◌, ℕ, List, [], ◌∷◌, Option, Some, None, MatchOption, refl, sym, ap, subst, ◌∙◌}
+-- What is read before a text is made.
+use Rattle.std.proofs.Common.{◌≡◌, ℕ, List, [], ◌∷◌, Option, Some, None, MatchOption, refl}
 use Rattle.std.proofs.lemmas.Slice.Eq.{bytes_eq-Decides}
 use Rattle.lx_files.specs.declared.files.HeldFile.{HeldFile}
 use Rattle.lx_files.specs.Held.{bytes_of}
 use Rattle.lx_files.specs.Reading.{Gives}
-use Rattle.std.specs.Option.{option_map}
 use Rattle.lx_top.specs.Outside.{Sees}
-use Rattle.lx_top.specs.Quoted.{IsQuoted, QuotedSource, source_text}
-use Rattle.lx_top.specs.Reading.{quoted_of, quoted_source}
-use Rattle.lx_top.specs.declared.quoted.SourceParts.{SourceParts}
 use Rattle.lx_top.specs.Steps.{HaltsRead, IsNoFile}
 use Rattle.lx_top.specs.declared.endings.Halt.{Halt}
 use Rattle.lx_top.specs.declared.endings.Halt.TheVariants as halt
@@ -43,12 +39,3 @@ HaltsRead-missing seen CountRose file name (halt.Fault fault) missing is = (is, 
 HaltsRead-missing seen CountRose file name halt.ReadFailed missing is = absurd is
 HaltsRead-missing seen CountRose file name halt.PutFailed missing is = absurd is
 HaltsRead-missing seen CountRose file name halt.OutOfMemory missing is = tt
-
--- what the parts of a source say of it
-pub read_quoted_is : (read : Option SourceParts) (parts : SourceParts) (source : List ℕ) → read ≡ Some parts → option_map quoted_source read ≡ quoted_of source →
-    MatchOption read ((quoted : QuotedSource) → IsQuoted quoted → source ≡ source_text quoted → ⊥) (λ parts. IsQuoted (quoted_source parts) × (source ≡ source_text (quoted_source parts))) →
-    (quoted_of source ≡ Some (quoted_source parts)) × IsQuoted (quoted_source parts) × (source ≡ source_text (quoted_source parts))
-read_quoted_is read parts source is quoted parts_are =
-    let P : Option SourceParts → Type 0 = λ read. MatchOption read ((quoted : QuotedSource) → IsQuoted quoted → source ≡ source_text quoted → ⊥) (λ parts. IsQuoted (quoted_source parts) × (source ≡ source_text (quoted_source parts))) in
-    let given : IsQuoted (quoted_source parts) × (source ≡ source_text (quoted_source parts)) = subst P is parts_are in
-    (sym quoted ∙ ap (λ read. option_map quoted_source read) is, given.0, given.1)

@@ -1,5 +1,5 @@
 -- Runs of emitted files: their faults, and how they end.
-use Rattle.std.proofs.Common.{◌≡◌, ℕ, ◌<◌, ◌≤◌, Bool, true, false, List, [], ◌∷◌, length, take, drop, Option, Some, None, Result, refl, sym, ap, subst, ◌∙◌, inl, inr, arith}
+use Rattle.std.proofs.Common.{◌≡◌, ℕ, Bool, true, false, List, [], ◌∷◌, take, drop, Option, Some, None, Result, refl, sym, ap, subst, ◌∙◌, inl, inr, arith}
 use Rattle.std.proofs.lemmas.Bool.{cases_lt}
 use Rattle.std.proofs.Math.Nat.{le_antisymm}
 use Rattle.std.proofs.lemmas.Slice.Eq.{bytes_eq-Decides}
@@ -8,6 +8,7 @@ use Rattle.std.specs.Str.{bytes_eq}
 use Rattle.lx_base.specs.declared.places.Pos.{Pos}
 use Rattle.lx_base.specs.declared.settings.Job.{Job}
 use Rattle.lx_base.specs.declared.settings.Job.TheVariants.{Run}
+use Rattle.lx_base.specs.declared.settings.Options.{Options}
 use Rattle.lx_base.specs.declared.faults.Fault.{Fault}
 use Rattle.lx_base.specs.declared.faults.Fault.TheVariants.{NotEmitted}
 use Rattle.lx_files.specs.declared.files.HeldFile.{HeldFile}
@@ -19,9 +20,9 @@ use Rattle.lx_ccode.proofs.RoundTrip.{piece_at-front}
 use Rattle.lx_creader.specs.Marks.{IsFirstBegin}
 use Rattle.lx_run.specs.Texts.{run_text}
 use Rattle.lx_top.specs.Emitted.{IsEmittedFault, IsRunFault, IsRunText, IsUnread, Scans, input_fault, place_in}
-use Rattle.lx_top.specs.FirstFault.{IsJobFault}
+use Rattle.lx_top.specs.FirstFault.{IsFaultOf}
 use Rattle.lx_top.specs.Jobs.{target_of}
-use Rattle.lx_top.specs.Output.{IsTextOf}
+use Rattle.lx_top.specs.Output.{IsJobText}
 use Rattle.lx_top.specs.Outside.{FilesView, Sees, SinkView}
 use Rattle.lx_top.specs.Places.{start_of}
 use Rattle.lx_top.specs.Steps.{HaltsRead, HaltsScan, IsPlacedHalt, JobEnds}
@@ -163,11 +164,11 @@ Reason-second block name emitted bytes seen second piece CountRose halted is sam
     (sym (ap (input_fault name piece.unit) (same ∙ missing)))) halts
 
 -- the job was a run
-pub JobEnds-asked : (job : Job) (input emitted : List ℕ) (block : Option ℕ) (window piece : ℕ) (name other : List ℕ) (seen : List HeldFile) (files files' : FilesView) (out out' : SinkView)
+pub JobEnds-asked : (options : Options) (job : Job) (input emitted : List ℕ) (block : Option ℕ) (window piece : ℕ) (name other : List ℕ) (seen : List HeldFile) (files files' : FilesView) (out out' : SinkView)
     {T : Type 0} (ended : Result T Halt) → job ≡ Run input emitted block window piece → name ≡ emitted → other ≡ input
     → JobEnds (IsRunFault block other (bytes_of seen other) name (bytes_of seen name)) None (IsRunText block (bytes_of seen name) (bytes_of seen other)) files files' out out' ended
-    → JobEnds (IsJobFault job seen) (target_of job) (IsTextOf job seen) files files' out out' ended
-JobEnds-asked job input emitted block window piece name other seen files files' out out' ended is name_is other_is ends =
-    subst (λ job. JobEnds (IsJobFault job seen) (target_of job) (IsTextOf job seen) files files' out out' ended) (sym is)
+    → JobEnds (IsFaultOf options job seen) (target_of job) (IsJobText options job seen) files files' out out' ended
+JobEnds-asked options job input emitted block window piece name other seen files files' out out' ended is name_is other_is ends =
+    subst (λ job. JobEnds (IsFaultOf options job seen) (target_of job) (IsJobText options job seen) files files' out out' ended) (sym is)
     (subst (λ emitted. JobEnds (IsRunFault block input (bytes_of seen input) emitted (bytes_of seen emitted)) None (IsRunText block (bytes_of seen emitted) (bytes_of seen input)) files files' out out' ended) name_is
     (subst (λ input. JobEnds (IsRunFault block input (bytes_of seen input) name (bytes_of seen name)) None (IsRunText block (bytes_of seen name) (bytes_of seen input)) files files' out out' ended) other_is ends))

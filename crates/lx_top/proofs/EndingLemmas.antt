@@ -1,14 +1,14 @@
 -- How a run ends, from how its job ended.
-use Rattle.std.proofs.Common.{◌≡◌, ℕ, List, [], Option, Some, None, refl, sym, ap, subst, inl, inr, arith, ◌∙◌}
+use Rattle.std.proofs.Common.{◌≡◌, ℕ, List, Option, Some, None, refl, sym, subst, inl, inr, arith}
 use Rattle.lx_base.specs.declared.faults.Fault.{Fault}
 use Rattle.lx_base.specs.Message.{message_text}
 use Rattle.lx_files.specs.Counts.{Rose, IsCalm}
 use Rattle.lx_files.specs.declared.files.HeldFile.{HeldFile}
-use Rattle.lx_top.specs.Outside.{Outside, Sees, SinkView, NoCountRose}
+use Rattle.lx_top.specs.Outside.{Outside, Sees, NoCountRose}
 use Rattle.lx_top.specs.Delivery.{Completes, DeliveryRose}
-use Rattle.lx_top.specs.Endings.{EndsAs, EndsSo, IsExpected, TellsMessage, failure_text}
+use Rattle.lx_top.specs.Endings.{EndsAs, EndsSo, IsExpected, TellsMessage}
 use Rattle.lx_top.specs.FirstFault.{IsFirstFault}
-use Rattle.lx_top.specs.Jobs.{file_names, job_of, target_of}
+use Rattle.lx_top.specs.Jobs.{file_names, job_of, options_for, target_of}
 use Rattle.lx_top.specs.Output.{IsTextOf}
 use Rattle.lx_top.specs.Steps.{Cites, Halts, Reports}
 use Rattle.lx_top.specs.declared.endings.Ending.{Ending}
@@ -26,7 +26,7 @@ module _ (words : List (List ℕ)) (seen : List HeldFile) (before after : Outsid
   IsFault = IsFirstFault words seen
 
   abbrev EndsIn : Ending → Type 0
-  EndsIn = EndsAs IsFault (file_names words) (target_of (job_of words)) (IsTextOf (job_of words) seen) before after
+  EndsIn = EndsAs IsFault (file_names words) (target_of (job_of words)) (IsTextOf (options_for words) seen) before after
 
   delivery_calm : (target : Option (List ℕ)) → DeliveryRose target before.files after.files before.out after.out → NoCountRose before after → ⊥
   delivery_calm None rose calm = not_calm before.out.faults after.out.faults rose calm.out
@@ -51,7 +51,7 @@ module _ (words : List (List ℕ)) (seen : List HeldFile) (before after : Outsid
 
   -- a job that broke off and was told
   Halts-told : (halt : Halt) (ending : Ending) →
-      Halts IsFault (target_of (job_of words)) (IsTextOf (job_of words) seen) before.files after.files before.out after.out halt →
+      Halts IsFault (target_of (job_of words)) (IsTextOf (options_for words) seen) before.files after.files before.out after.out halt →
       Reports (file_names words) before.err after.err halt ending → EndsIn ending
   Halts-told (halt.Fault first) Done halts told = absurd told
   Halts-told (halt.Fault first) Refused halts told = record { first = first; is_first = halts.0; told = told; nothing = halts.1 }
@@ -73,7 +73,7 @@ module _ (words : List (List ℕ)) (seen : List HeldFile) (before after : Outsid
 
   -- a run whose job broke off
   pub EndsSo-broken : (names : List (List ℕ)) (halt : Halt) (ending : Ending) → Sees before.files.held seen →
-      Halts IsFault (target_of (job_of words)) (IsTextOf (job_of words) seen) before.files after.files before.out after.out halt →
+      Halts IsFault (target_of (job_of words)) (IsTextOf (options_for words) seen) before.files after.files before.out after.out halt →
       Cites (file_names words) names halt → Reports names before.err after.err halt ending → EndsSo words before after ending
   EndsSo-broken names halt ending sees halts cites told =
       let ends : EndsIn ending = Halts-told halt ending halts (Reports-names names halt ending cites told) in
@@ -81,7 +81,7 @@ module _ (words : List (List ℕ)) (seen : List HeldFile) (before after : Outsid
 
   -- a run whose job was done
   pub EndsSo-done : Sees before.files.held seen →
-      Completes IsFault (target_of (job_of words)) (IsTextOf (job_of words) seen) before.files after.files before.out after.out →
+      Completes IsFault (target_of (job_of words)) (IsTextOf (options_for words) seen) before.files after.files before.out after.out →
       after.err.given ≡ before.err.given → EndsSo words before after Done
   EndsSo-done sees completes err_stays =
       let ends : EndsIn Done = record { completes = completes; err_stays = err_stays } in

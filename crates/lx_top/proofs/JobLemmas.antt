@@ -1,10 +1,10 @@
 -- How a job ends, from how its steps ended.
-use Rattle.std.proofs.Common.{◌≡◌, ℕ, Bool, true, false, List, [], Option, Some, None, Result, Ok, Err, MatchResult, IsErrAnd, IfErr, refl, sym, ap, subst, ◌∙◌, inl, inr}
+use Rattle.std.proofs.Common.{◌≡◌, ℕ, Bool, true, false, List, [], Option, Some, None, Result, Ok, Err, IsErrAnd, IfErr, refl, sym, ap, subst, ◌∙◌, inl, inr}
 use Rattle.std.specs.Prelude.{◌||◌, if◌then◌else◌}
 use Rattle.lx_base.specs.declared.faults.Fault.{Fault}
 use Rattle.lx_base.specs.Message.{HasFile, place_of}
 use Rattle.lx_base.specs.declared.faults.Fault.TheVariants.{NoFile, Unsupported, Usage}
-use Rattle.lx_base.specs.declared.settings.Job.{Job}
+use Rattle.lx_base.specs.declared.settings.Options.{Options}
 use Rattle.lx_base.specs.declared.faults.Stop.{Stop}
 use Rattle.lx_base.specs.declared.faults.Stop.TheVariants as stop
 use Rattle.lx_files.specs.Counts.{Rose}
@@ -14,14 +14,14 @@ use Rattle.lx_words.specs.Line.{is_refused, line_of}
 use Rattle.lx_words.specs.Options.{StopsBy, words_fault}
 use Rattle.lx_words.specs.Points.{is_wrong}
 use Rattle.lx_words.specs.Waiting.{waits}
-use Rattle.lx_top.specs.Delivery.{Completes, GivesOut, BreaksOff, DeliversNothing}
+use Rattle.lx_top.specs.Delivery.{GivesOut, BreaksOff, DeliversNothing}
 use Rattle.lx_top.specs.FirstFault.{IsFaultBehind, IsFirstFault, IsJobFault}
-use Rattle.lx_top.specs.Jobs.{file_names, job_of, names_behind, names_of, target_of}
+use Rattle.lx_top.specs.Jobs.{file_names, job_of, names_behind, names_of, options_for, target_of}
 use Rattle.lx_top.specs.Outside.{FilesView, SinkView, files_view}
 use Rattle.lx_top.specs.Output.{IsTextOf}
 use Rattle.lx_top.specs.Places.{start_of}
 use Rattle.lx_top.specs.Puts.{halt_of_stop}
-use Rattle.lx_top.specs.Steps.{Cites, Halts, HaltsRead, HaltsText, JobEnds}
+use Rattle.lx_top.specs.Steps.{Cites, Halts, HaltsRead, JobEnds}
 use Rattle.lx_top.specs.declared.endings.Halt.{Halt}
 use Rattle.lx_top.specs.declared.endings.Halt.TheVariants as halt
 
@@ -38,12 +38,6 @@ Reason-read IsFault CountRose seen file name (halt.Fault first) known halts = su
 Reason-read IsFault CountRose seen file name halt.ReadFailed known halts = halts
 Reason-read IsFault CountRose seen file name halt.PutFailed known halts = halts
 Reason-read IsFault CountRose seen file name halt.OutOfMemory known halts = tt
-
-pub Reason-text : (CountRose : Type 0) (fault : Option Fault) (halted : Halt) → HaltsText fault halted → Reason (λ given. given ≡ fault) CountRose halted
-Reason-text CountRose fault (halt.Fault first) halts = sym halts
-Reason-text CountRose fault halt.ReadFailed halts = absurd halts
-Reason-text CountRose fault halt.PutFailed halts = absurd halts
-Reason-text CountRose fault halt.OutOfMemory halts = tt
 
 module _ (IsFault : Option Fault → Type 0) (target : Option (List ℕ)) (IsRight : List ℕ → Type 0) (files files' : FilesView) (out out' : SinkView) where
   -- a job broke off that had given nothing
@@ -92,14 +86,14 @@ JobEnds-delivered IsFault target IsRight text files middle files' out out' ended
 -- ---- the words
 
 -- words that are read have no fault before that of their job
-pub IsFirstFault-job : (words : List (List ℕ)) (files : List HeldFile) (fault : Option Fault) → words_fault words ≡ None → IsJobFault (job_of words) files fault → IsFirstFault words files fault
-IsFirstFault-job words files fault none is = subst (λ of_words. IsFaultBehind of_words (job_of words) files fault) (sym none) is
+pub IsFirstFault-job : (words : List (List ℕ)) (files : List HeldFile) (fault : Option Fault) → words_fault words ≡ None → IsJobFault (options_for words) files fault → IsFirstFault words files fault
+IsFirstFault-job words files fault none is = subst (λ of_words. IsFaultBehind of_words (options_for words) files fault) (sym none) is
 
 -- words that are not read have a fault, or memory ran out
 pub Reason-words : (words : List (List ℕ)) (files : List HeldFile) (CountRose : Type 0) (stopped : Stop) → StopsBy (words_fault words) stopped
     → Reason (IsFirstFault words files) CountRose (halt_of_stop stopped)
 Reason-words words files CountRose stop.Memory stops = tt
-Reason-words words files CountRose (stop.Fault first) stops = subst (λ of_words. IsFaultBehind of_words (job_of words) files (Some first)) (sym stops) refl
+Reason-words words files CountRose (stop.Fault first) stops = subst (λ of_words. IsFaultBehind of_words (options_for words) files (Some first)) (sym stops) refl
 
 -- a fault of the words stands in no file
 words_fault-placed : (words : List (List ℕ)) (first : Fault) → words_fault words ≡ Some first → place_of first ≡ None
@@ -128,13 +122,13 @@ pub Cites-job : {T : Type 0} (words names : List (List ℕ)) (ended : Result T H
 Cites-job words names ended none cites = subst (λ cited. IfErr ended (Cites cited names)) (sym (ap (λ of_words. names_behind of_words (job_of words)) none)) cites
 
 -- words that are read end as their job
-pub JobEnds-words : (words : List (List ℕ)) (seen : List HeldFile) (job : Job) (files files' : FilesView) (out out' : SinkView) {T : Type 0} (ended : Result T Halt)
-    → words_fault words ≡ None → job ≡ job_of words → JobEnds (IsJobFault job seen) (target_of job) (IsTextOf job seen) files files' out out' ended
-    → JobEnds (IsFirstFault words seen) (target_of (job_of words)) (IsTextOf (job_of words) seen) files files' out out' ended
-JobEnds-words words seen job files files' out out' ended none same ends =
-    JobEnds-among (IsJobFault (job_of words) seen) (target_of (job_of words)) (IsTextOf (job_of words) seen) files files' out out' (IsFirstFault words seen) (IsTextOf (job_of words) seen)
+pub JobEnds-words : (words : List (List ℕ)) (seen : List HeldFile) (options : Options) (files files' : FilesView) (out out' : SinkView) {T : Type 0} (ended : Result T Halt)
+    → words_fault words ≡ None → options ≡ options_for words → JobEnds (IsJobFault options seen) (target_of options.job) (IsTextOf options seen) files files' out out' ended
+    → JobEnds (IsFirstFault words seen) (target_of (job_of words)) (IsTextOf (options_for words) seen) files files' out out' ended
+JobEnds-words words seen options files files' out out' ended none same ends =
+    JobEnds-among (IsJobFault (options_for words) seen) (target_of (job_of words)) (IsTextOf (options_for words) seen) files files' out out' (IsFirstFault words seen) (IsTextOf (options_for words) seen)
     (λ fault is. IsFirstFault-job words seen fault none is) (λ text right. right) ended
-    (subst (λ job. JobEnds (IsJobFault job seen) (target_of job) (IsTextOf job seen) files files' out out' ended) same ends)
+    (subst (λ (options : Options). JobEnds (IsJobFault options seen) (target_of options.job) (IsTextOf options seen) files files' out out' ended) same ends)
 
 -- ---- views of files
 

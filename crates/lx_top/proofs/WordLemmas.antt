@@ -1,106 +1,105 @@
--- The blocks of words, and the tests of the units behind them.
-use Rattle.std.proofs.Common.{◌≡◌, ℕ, zero, suc, ◌<◌, ◌≤◌, Bool, true, false, List, [], ◌∷◌, length, Option, Some, None, refl, ap, ◌∙◌, arith}
-use Rattle.std.specs.Prelude.{◌==◌, if◌then◌else◌}
-use Rattle.std.proofs.lemmas.Bool.{ne_eqb}
-use Rattle.lx_ccode.specs.declared.piece.Stmt.TheVariants.{Peek, Skip, Restore, Goto}
-use Rattle.lx_ccode.specs.declared.piece.CodeBlock.{CodeBlock}
-use Rattle.lx_top.specs.declared.emit.WordBegin.{WordBegin}
-use Rattle.lx_top.specs.Scan.{Item, accepted, derived, goes_on}
-use Rattle.lx_top.specs.Serving.{tested, tests_code, backup, IsFallback, Falls, ServesNext, ServesBy, Serves}
-use Rattle.lx_top.specs.Emission.{AreBytes, AreItems, Keeps, Begins}
-use Rattle.lx_top.proofs.EmissionLemmas.{IsActionBlock-keeps}
+-- Words that are read ask for no compilation but such as there is so far.
+use Rattle.std.proofs.Common.{◌≡◌, ℕ, Bool, true, false, List, Option, Some, None, refl, ap, rules}
+use Rattle.std.specs.Prelude.{codes, ◌+◌, ◌||◌, ◌&&◌, nat_lt, not, is_some, if◌then◌else◌}
+use Rattle.lx_base.specs.declared.faults.Fault.TheVariants.{Unsupported, Usage}
+use Rattle.lx_base.specs.declared.settings.Enc.TheVariants.{Byte, Ucs2, Utf8, Utf16, Utf32}
+use Rattle.lx_compile.specs.Options.{ArePlain}
+use Rattle.lx_words.specs.Line.{Line, has_flag, has_value, is_refused, line_of, value}
+use Rattle.lx_words.specs.Options.{job_by, number_of, options_of, words_fault}
+use Rattle.lx_words.specs.Points.{encoding_count, is_wrong, one_if}
+use Rattle.lx_words.specs.Waiting.{compiles, waits}
+use Rattle.lx_top.specs.Jobs.{IsPlainWhere, job_of, options_for}
 
--- ---- items
-
--- behind a unit the items go on with fewer letters
-pub AreItems-derived : (depth rules unit : ℕ) (items : List Item) → AreItems (suc depth) rules items → AreItems depth rules (derived unit items)
-AreItems-derived depth rules unit [] are = tt
-AreItems-derived depth rules unit (item ∷ items) are = by item.rest are.0 (AreItems-derived depth rules unit items are.1)
+-- words without a fault ask for nothing that waits
+waits-none : (words : List (List ℕ)) → words_fault words ≡ None → waits (line_of words) ≡ false
+unfolding words_fault
+waits-none words = by (is_refused words || is_wrong (line_of words)) (waits (line_of words))
   where
-    by : (rest : List ℕ) → (length rest < suc depth) × AreBytes rest × (0 < item.rule) × (item.rule < rules) → AreItems depth rules (derived unit items) →
-        AreItems depth rules (derived unit (record { rule = item.rule; rest = rest } ∷ items))
-    by [] one others = others
-    by (letter ∷ rest) one others = at (letter == unit)
-      where
-        at : (test : Bool) → AreItems depth rules (if test then record { rule = item.rule; rest = rest } ∷ derived unit items else derived unit items)
-        at true = ((omega (arith, one.0), one.1.1, one.2, one.3), others)
-        at false = others
+    by : (refused later : Bool) → (if refused then Some Usage else (if later then Some (Unsupported None) else None)) ≡ None → later ≡ false
+    by true later is = absurd (let h = is in cc)
+    by false true is = absurd (let h = is in cc)
+    by false false is = refl
 
--- no item goes on with a unit that is no byte
-pub derived-high : (depth rules unit : ℕ) (items : List Item) → AreItems depth rules items → 256 ≤ unit → derived unit items ≡ []
-derived-high depth rules unit [] are high = refl
-derived-high depth rules unit (item ∷ items) are high = by item.rest are.0.1 (derived-high depth rules unit items are.1 high)
-  where
-    by : (rest : List ℕ) → AreBytes rest → derived unit items ≡ [] → derived unit (record { rule = item.rule; rest = rest } ∷ items) ≡ []
-    by [] bytes others = others
-    by (letter ∷ rest) bytes others =
-        ap (λ test. if test then record { rule = item.rule; rest = rest } ∷ derived unit items else derived unit items) (ne_eqb letter unit (λ e. absurd (omega (arith, bytes.0, e)))) ∙ others
+or-none : (one two : Bool) → (one || two) ≡ false → (one ≡ false) × (two ≡ false)
+or-none true two is = absurd (let h = is in cc)
+or-none false two is = (refl, is)
 
--- a rule that is accepted is one of the rules
-pub accepted-known : (depth rules rule : ℕ) (items : List Item) → AreItems depth rules items → accepted items ≡ Some rule → (0 < rule) × (rule < rules)
-accepted-known depth rules rule [] are is = absurd (let h = is in cc)
-accepted-known depth rules rule (item ∷ items) are is = by item.rest are.0 is (accepted-known depth rules rule items are.1)
-  where
-    by : (rest : List ℕ) → (length item.rest < depth) × AreBytes item.rest × (0 < item.rule) × (item.rule < rules) → accepted (record { rule = item.rule; rest = rest } ∷ items) ≡ Some rule →
-        (accepted items ≡ Some rule → (0 < rule) × (rule < rules)) → (0 < rule) × (rule < rules)
-    by [] one is again = let e : item.rule ≡ rule = cc in (omega (arith, e, one.2), omega (arith, e, one.3))
-    by (letter ∷ rest) one is again = again is
+-- no encoding is asked for
+encoding-none : (one two three four : Bool) → nat_lt 0 (one_if one + one_if two + one_if three + one_if four) ≡ false
+    → (if one then Utf8 else if two then Utf16 else if three then Utf32 else if four then Ucs2 else Byte) ≡ Byte
+encoding-none false false false false is = refl
+encoding-none true two three four is = absurd (search rules)
+encoding-none false true three four is = absurd (search rules)
+encoding-none false false true four is = absurd (search rules)
+encoding-none false false false true is = absurd (let h = is in cc)
 
--- where no rule is accepted behind a word, some string goes on
-pub accepted-none : (item : Item) (items : List Item) → accepted (item ∷ items) ≡ None → goes_on (item ∷ items) ≡ true
-accepted-none item items is = by item.rest is
-  where
-    by : (rest : List ℕ) → accepted (record { rule = item.rule; rest = rest } ∷ items) ≡ None → goes_on (record { rule = item.rule; rest = rest } ∷ items) ≡ true
-    by [] is = absurd (let h = is in cc)
-    by (letter ∷ rest) is = refl
+-- what the flags of a line say where it asks for nothing that waits
+record Waits (conditions states tags captures encoded source compiled shown : Bool) : Type 0 where
+  pub conditions_off : conditions ≡ false
+  pub states_off : states ≡ false
+  pub tags_off : tags ≡ false
+  pub captures_off : captures ≡ false
+  pub encoded_off : encoded ≡ false
+  pub source_off : source ≡ false
+  pub compiled_shown : (compiled && not shown) ≡ false
 
--- ---- blocks that stay
-
-IsFallback-keeps : (before after : List CodeBlock) (rule block : ℕ) → Keeps before after → IsFallback before rule block → IsFallback after rule block
-IsFallback-keeps before after rule block keeps is = (is.0, IsActionBlock-keeps before after rule is.0 keeps is.1, keeps block (Restore ∷ Goto is.0 ∷ []) is.2 (λ e. cc))
-
-Falls-keeps : (before after : List CodeBlock) (rule : ℕ) (accepts : Bool) (block : ℕ) → Keeps before after → Falls before rule accepts block → Falls after rule accepts block
-Falls-keeps before after rule true block keeps falls = IsActionBlock-keeps before after rule block keeps falls
-Falls-keeps before after rule false block keeps falls = IsFallback-keeps before after rule block keeps falls
-
-pub ServesNext-keeps : (Deeper Deeper' : List Item → ℕ → Bool → ℕ → Type 0) → ((items : List Item) (rule : ℕ) (accepts : Bool) (number : ℕ) → Deeper items rule accepts number → Deeper' items rule accepts number) →
-    (items : List Item) (given : Option ℕ) (rule : ℕ) (accepts keeps : Bool) (miss number : ℕ) → ServesNext Deeper items given rule accepts keeps miss number → ServesNext Deeper' items given rule accepts keeps miss number
-ServesNext-keeps Deeper Deeper' f [] given rule accepts keeps miss number next = next
-ServesNext-keeps Deeper Deeper' f (item ∷ items) (Some other) rule accepts keeps miss number next = f (item ∷ items) other true number next
-ServesNext-keeps Deeper Deeper' f (item ∷ items) None rule accepts keeps miss number next = (next.0, f (item ∷ items) rule false number next.1)
-
--- a word's block serves it also behind further emissions
-pub Serves-keeps : (depth : ℕ) (before after : List CodeBlock) → Keeps before after → (items : List Item) (rule : ℕ) (accepts : Bool) (number : ℕ) →
-    Serves depth before items rule accepts number → Serves depth after items rule accepts number
-Serves-keeps zero before after keeps items rule accepts number serves = serves
-Serves-keeps (suc depth) before after keeps items rule accepts number serves = by (goes_on items) serves (Serves-keeps depth before after keeps)
-  where
-    by : (on : Bool) → ServesBy on (Serves depth before) before items rule accepts number →
-        ((items : List Item) (rule : ℕ) (accepts : Bool) (number : ℕ) → Serves depth before items rule accepts number → Serves depth after items rule accepts number) →
-        ServesBy on (Serves depth after) after items rule accepts number
-    by true reads again = record {
-      keeps = reads.keeps;
-      tests = reads.tests;
-      miss = reads.miss;
-      code = keeps number (Skip ∷ backup reads.keeps (Peek ∷ tests_code reads.tests reads.miss)) reads.code (λ e. cc);
-      falls = Falls-keeps before after rule accepts reads.miss keeps reads.falls;
-      keeps_here = reads.keeps_here;
-      next = λ unit. ServesNext-keeps (Serves depth before) (Serves depth after) again (derived unit items) (accepted (derived unit items)) rule accepts reads.keeps reads.miss (tested reads.tests reads.miss unit) (reads.next unit);
-    }
-    by false stops again = record {
-      here = stops.here;
-      action = stops.action;
-      action_block = IsActionBlock-keeps before after rule stops.action keeps stops.action_block;
-      code = keeps number (Skip ∷ Goto stops.action ∷ []) stops.code (λ e. cc);
+none_waits : (conditions states reusable tags captures encoded policy empty folder source window piece compiled shown : Bool)
+    → (conditions || (states || (reusable || (tags || (captures || (encoded || (policy || (empty || (folder || (source || (window || (piece || (compiled && not shown))))))))))))) ≡ false
+    → Waits conditions states tags captures encoded source compiled shown
+none_waits conditions states reusable tags captures encoded policy empty folder source window piece compiled shown none =
+    let states_on = or-none conditions _ none in
+    let reusable_on = or-none states _ states_on.1 in
+    let tags_on = or-none reusable _ reusable_on.1 in
+    let captures_on = or-none tags _ tags_on.1 in
+    let encoded_on = or-none captures _ captures_on.1 in
+    let policy_on = or-none encoded _ encoded_on.1 in
+    let empty_on = or-none policy _ policy_on.1 in
+    let folder_on = or-none empty _ empty_on.1 in
+    let source_on = or-none folder _ folder_on.1 in
+    let window_on = or-none source _ source_on.1 in
+    let piece_on = or-none window _ window_on.1 in
+    let last = or-none piece _ piece_on.1 in
+    record {
+      conditions_off = states_on.0;
+      states_off = reusable_on.0;
+      tags_off = captures_on.0;
+      captures_off = encoded_on.0;
+      encoded_off = policy_on.0;
+      source_off = window_on.0;
+      compiled_shown = last.1;
     }
 
-pub Begins-keeps : (before after : List CodeBlock) (items : List Item) (rule : ℕ) (accepts : Bool) (begin : WordBegin) → Keeps before after → length before ≤ length after →
-    Begins before items rule accepts begin → Begins after items rule accepts begin
-Begins-keeps before after items rule accepts begin keeps grows begins = record {
-  falls = Falls-keeps before after rule accepts begin.miss keeps begins.falls;
-  keeps_here = begins.keeps_here;
-  marks = begins.marks;
-  fallback = λ kept. IsFallback-keeps before after rule begin.fallback keeps (begins.fallback kept);
-  within = omega (arith, begins.within, grows);
-  reach = omega (arith, begins.reach, grows);
-}
+-- where a source is compiled, the options are plain
+plain_compiled : (line : Line) → waits line ≡ false → has_value line (codes "x-run") ≡ false → ArePlain (options_of line)
+unfolding options_of
+plain_compiled line none no_run =
+    let given = none_waits (has_flag line (codes "conditions")) (has_flag line (codes "storable-state")) (has_flag line (codes "reusable"))
+    (has_flag line (codes "tags")) (has_flag line (codes "captures")) (nat_lt 0 (encoding_count line)) (has_value line (codes "encoding-policy"))
+    (has_value line (codes "empty-class")) (has_value line (codes "include")) (has_value line (codes "x-source")) (has_value line (codes "x-window"))
+    (has_value line (codes "x-piece")) (compiles line) (has_flag line (codes "no-debug-info")) none in
+    record {
+      lines = shown (has_value line (codes "x-run")) (has_value line (codes "x-source")) (has_flag line (codes "no-debug-info")) no_run given.source_off given.compiled_shown;
+      conds = given.conditions_off;
+      states = given.states_off;
+      tags = given.tags_off;
+      captures = given.captures_off;
+      posix = refl;
+      enc = encoding-none (has_flag line (codes "utf-8")) (has_flag line (codes "utf-16")) (has_flag line (codes "utf-32")) (has_flag line (codes "ucs-2")) given.encoded_off;
+    }
+  where
+    shown : (run source flag : Bool) → run ≡ false → source ≡ false → (not (run || source) && not flag) ≡ false → not flag ≡ false
+    shown true source flag no_run no_source is = absurd (let h = no_run in cc)
+    shown false true flag no_run no_source is = absurd (let h = no_source in cc)
+    shown false false flag no_run no_source is = is
+
+plain_where : (line : Line) → waits line ≡ false → (rules : Option ℕ) (input : Option (List ℕ)) → value line (codes "x-run") ≡ input
+    → IsPlainWhere (job_by rules input line) (options_of line)
+plain_where line none (Some rules) input is = tt
+plain_where line none None (Some input) is = tt
+plain_where line none None None is = plain_compiled line none (ap is_some is)
+
+-- words that are read ask for a compilation with plain options, or for none
+pub IsPlainWhere-words : (words : List (List ℕ)) → words_fault words ≡ None → IsPlainWhere (job_of words) (options_for words)
+unfolding options_of
+IsPlainWhere-words words none =
+    plain_where (line_of words) (waits-none words none) (number_of (line_of words) (codes "x-source") 1 200) (value (line_of words) (codes "x-run")) refl

@@ -1,5 +1,5 @@
 -- How a run of the program ends.
-use Rattle.std.specs.Prelude.{◌≡◌, ◌⊎◌, ℕ, List, [], codes, Option, Some, None, MatchOption, IsSome}
+use Rattle.std.specs.Prelude.{◌≡◌, ◌⊎◌, ℕ, List, [], codes, Option, Some, MatchOption}
 use Rattle.lx_base.specs.Message.{message_text}
 use Rattle.lx_base.specs.declared.faults.Fault.{Fault}
 use Rattle.lx_files.specs.Counts.{Rose}
@@ -8,7 +8,7 @@ use Rattle.lx_files.specs.Taking.{GivesFront, given_then}
 use Rattle.lx_files.specs.declared.files.HeldFile.{HeldFile}
 use Rattle.lx_top.specs.Delivery.{Completes, GivesOut, BreaksOff, DeliversNothing, DeliveryRose}
 use Rattle.lx_top.specs.FirstFault.{IsFirstFault}
-use Rattle.lx_top.specs.Jobs.{file_names, job_of, target_of}
+use Rattle.lx_top.specs.Jobs.{file_names, job_of, options_for, target_of}
 use Rattle.lx_top.specs.Outside.{SinkView, Outside, Sees, NoCountRose}
 use Rattle.lx_top.specs.Output.{IsTextOf}
 use Rattle.lx_top.specs.declared.endings.Ending.{Ending}
@@ -106,7 +106,7 @@ IsExpected fault ending =
 pub record EndsSo (words : List (List ℕ)) (before after : Outside) (ending : Ending) : Type 0 where
   pub seen : List HeldFile
   pub sees : Sees before.files.held seen
-  pub ends : EndsAs (IsFirstFault words seen) (file_names words) (target_of (job_of words)) (IsTextOf (job_of words) seen) before after ending
+  pub ends : EndsAs (IsFirstFault words seen) (file_names words) (target_of (job_of words)) (IsTextOf (options_for words) seen) before after ending
   pub expected : NoCountRose before after → (fault : Option Fault) → IsFirstFault words seen fault → IsExpected fault ending
 
 -- a run has this exit status, which stands for one of the five endings

@@ -38,13 +38,6 @@ abbrev pub JobEnds : (IsFault : Option Fault → Type 0) (target : Option (List 
 JobEnds IsFault target IsRight files files' out out' ended =
     MatchResult ended (λ _. Completes IsFault target IsRight files files' out out') (Halts IsFault target IsRight files files' out out')
 
--- why the text of a source was not made: it has a fault, or memory ran out
-abbrev pub HaltsText : Option Fault → Halt → Type 0
-HaltsText fault (halt.Fault first) = fault ≡ Some first
-HaltsText fault halt.ReadFailed = ⊥
-HaltsText fault halt.PutFailed = ⊥
-HaltsText fault halt.OutOfMemory = Unit {0}
-
 -- why the scanner of an emitted file was not read
 abbrev pub HaltsScan : (bytes : List ℕ) → (block : Option ℕ) → Halt → Type 0
 HaltsScan bytes block (halt.Fault fault) = (offset : ℕ) × IsUnread bytes block offset × (fault ≡ NotEmitted (place_in bytes offset) offset)

@@ -2,7 +2,7 @@
 ghost use Rattle.std.specs.Prelude.{◌≡◌, [], List, map, option_map, string_bytes, IfErr};
 ghost use Rattle.lx_files.specs.declared.files.HeldFile.{HeldFile};
 ghost use Rattle.lx_top.specs.FirstFault.{IsFirstFault, IsJobFault};
-ghost use Rattle.lx_top.specs.Jobs.{file_names, job_of, names_of, target_of};
+ghost use Rattle.lx_top.specs.Jobs.{IsPlainWhere, file_names, job_of, names_of, options_for, target_of};
 ghost use Rattle.lx_top.specs.Outside.{Sees, files_view, sink_view};
 ghost use Rattle.lx_top.specs.Output.{IsTextOf};
 ghost use Rattle.lx_top.specs.Steps.{Cites, JobEnds};
@@ -10,7 +10,7 @@ ghost use Rattle.lx_top.specs.Steps.{Cites, JobEnds};
 use crate::compile::compile;
 use crate::emitted::run_emitted;
 use crate::endings::Halt;
-use lx_base::{Fault, FileName, FileNames, Job};
+use lx_base::{Fault, FileName, FileNames, Job, Options};
 use lx_files::{Files, Sink};
 use lx_words::read_words;
 use std::alloc::Global;
@@ -30,34 +30,35 @@ pub fn perform<F: Files, O: Sink>(
         let before = sink_view (O.given out.old) (O.faults out.old) in
         let after = sink_view (O.given out.new) (O.faults out.new) in
         (seen : List HeldFile) × Sees (F.held files.old) seen
-        × JobEnds (IsFirstFault texts seen) (target_of (job_of texts)) (IsTextOf (job_of texts) seen) files_before files_after before after result }
+        × JobEnds (IsFirstFault texts seen) (target_of (job_of texts)) (IsTextOf (options_for texts) seen) files_before files_after before after result }
     ensures cites { IfErr result (Cites (file_names (map string_bytes words.now)) names.new) }
 {
     let options = read_words(alloc, words)?;
-    perform_job(alloc, &options.job, files, out, names)
+    perform_job(alloc, &options, files, out, names)
 }
 
-/// Does a job.
+/// Does the job that the options name.
 fn perform_job<F: Files, O: Sink>(
     alloc: Global,
-    job: &Job,
+    options: &Options,
     files: &mut F,
     out: &mut O,
     names: &mut FileNames,
 ) -> Result<(), Halt>
-    requires { names.old ≡ [] }
+    requires names { names.old ≡ [] }
+    requires plain { IsPlainWhere options.now.job options.now }
     ensures ends { let files_before = files_view (F.held files.old) (F.faults files.old) (F.write_faults files.old) in
         let files_after = files_view (F.held files.new) (F.faults files.new) (F.write_faults files.new) in
         let before = sink_view (O.given out.old) (O.faults out.old) in
         let after = sink_view (O.given out.new) (O.faults out.new) in
         (seen : List HeldFile) × Sees (F.held files.old) seen
-        × JobEnds (IsJobFault job.now seen) (target_of job.now) (IsTextOf job.now seen) files_before files_after before after result }
-    ensures cites { IfErr result (Cites (names_of job.now) names.new) }
+        × JobEnds (IsJobFault options.now seen) (target_of options.now.job) (IsTextOf options.now seen) files_before files_after before after result }
+    ensures cites { IfErr result (Cites (names_of options.now.job) names.new) }
 {
-    match job {
+    match &options.job {
         Job::Compile { file, to } => {
             names.add(file.as_str())?;
-            compile(alloc, file.as_str(), name_in(to), files, out)
+            compile(alloc, file.as_str(), name_in(to), options, files, out)
         }
         Job::Run {
             input,

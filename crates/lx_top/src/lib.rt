@@ -3,17 +3,12 @@
 
 mod compile;
 mod delivery;
-mod emit;
 mod emitted;
 pub mod endings;
 mod files;
 mod jobs;
-pub mod laws;
-mod quoted;
 mod report;
 pub mod run;
-mod scanner;
-mod sources;
 
 pub use endings::{Ending, Halt};
 pub use lx_files::put_all;

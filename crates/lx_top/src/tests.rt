@@ -4,6 +4,8 @@ use lx_files::{Files, MemFiles, MemSink};
 use std::alloc::Global;
 use std::test::Fail;
 
+mod sources;
+
 /// What a run left: the exit status, what was given to the standard output and to the standard error, and the files.
 #[derive(Drop)]
 struct Left {
@@ -96,8 +98,8 @@ fn words_and_files_are_refused_by_name(rt: HostRuntime) -> Result<(), Fail> {
     let unsupported = "re2c: error: not supported yet\n";
     for (line, message) in [
         ("-i n.re", "n.re:1:1: error: no such file\n"),
-        ("-i b.re", "b.re:1:1: error: not supported yet\n"),
-        ("-i -o x.c b.re", "b.re:1:1: error: not supported yet\n"),
+        ("-i b.re", "b.re:1:8: error: not supported yet\n"),
+        ("-i -o x.c b.re", "b.re:1:8: error: not supported yet\n"),
         ("", usage),
         ("-8 -x a.re", usage),
         ("-i b.re b.re", usage),
@@ -111,7 +113,7 @@ fn words_and_files_are_refused_by_name(rt: HostRuntime) -> Result<(), Fail> {
             rt.alloc(),
             line,
             "b.re",
-            b"int x; /*!re2c */\n",
+            b"int x; /*!rules:re2c */\n",
             "",
             b"",
             NONE,
@@ -119,24 +121,6 @@ fn words_and_files_are_refused_by_name(rt: HostRuntime) -> Result<(), Fail> {
         assert_eq!(rt; left.status, 1, "{message}");
         assert_eq!(rt; left.out.bytes(), b"".as_slice());
         assert_eq!(rt; left.err.bytes(), message.as_bytes());
-    }
-    Ok(())
-}
-
-#[test]
-fn a_source_may_have_4000_bytes(rt: HostRuntime) -> Result<(), Fail> {
-    let source = [b' '; 4001];
-    for (length, status) in [(4000, 0), (4001, 1)] {
-        let left = run(
-            rt.alloc(),
-            "-i a.c",
-            "a.c",
-            &source[..length],
-            "",
-            b"",
-            NONE,
-        )?;
-        assert_eq!(rt; left.status, status, "{length} bytes");
     }
     Ok(())
 }
@@ -159,114 +143,6 @@ fn faults_of_files_and_sinks_have_their_status(rt: HostRuntime) -> Result<(), Fa
         assert_eq!(rt; left.status, status, "{line}");
         assert_eq!(rt; left.out.bytes(), given.as_bytes());
         assert_eq!(rt; left.err.bytes(), told.as_bytes());
-    }
-    Ok(())
-}
-
-/// The lines with which a scanner begins and ends.
-const SCANNER_BEGIN: &str =
-    "/*!begin:re2c 1*/\n/*!names:re2c 1 - 7:YYCTYPE 8:YYCURSOR 7:YYLIMIT 8:YYMARKER 11:YYCTXMARKER 6:YYFILL 10:YYGETSTATE 10:YYSETSTATE 14:YYGETCONDITION 14:YYSETCONDITION 7:YYMTAGP 7:YYMTAGN 4:yych 8:yyaccept 3:yyt 4:yyc_ 3:yyc*/\n{\n\tYYCTYPE yych;\n\tunsigned int yyaccept = 0;\nyy1_0:\n";
-
-const SCANNER_END: &str = "yy1_none:;\n}\n/*!end:re2c*/\n";
-
-const IF_AND_IFX: &str = "/*!re2c\nre2c:yyfill:enable = 0;\n\"if\" { }\n\"ifx\" { }\n* { }\n*/\n";
-
-/// The rule `*` alone, between other texts.
-const IN_THE_MIDDLE: &str = "int x; /*!re2c\nre2c:yyfill:enable = 0;\n* { }\n*/ int y;";
-
-const EQUAL_STRINGS: &str = "/*!re2c\nre2c:yyfill:enable = 0;\n\"a\" {1}\n\"a\" {2}\n* {3}\n*/\n";
-
-/// How many times the word stands in the text.
-fn count(text: &[u8], word: &[u8]) -> usize {
-    let mut count = 0;
-    let mut rest = text;
-    while let Some((_, tail)) = rest.split_first() {
-        if rest.starts_with(word) {
-            count += 1;
-        }
-        rest = tail;
-    }
-    count
-}
-
-#[test]
-fn a_block_of_quoted_strings_gives_its_scanner(rt: HostRuntime) -> Result<(), Fail> {
-    for (source, text, times) in [
-        (IF_AND_IFX, SCANNER_BEGIN, 1),
-        (IF_AND_IFX, SCANNER_END, 1),
-        (IF_AND_IFX, "/*!code:re2c 1 3*/{ }", 1),
-        (IF_AND_IFX, "/*!code:re2c 2 3*/{ }", 1),
-        (IF_AND_IFX, "/*!code:re2c 3 3*/{ }", 1),
-        (IN_THE_MIDDLE, "int x; /*!begin:re2c 1*/", 1),
-        (IN_THE_MIDDLE, "/*!end:re2c*/ int y;", 1),
-        (IN_THE_MIDDLE, "/*!code:re2c 1 3*/{ }", 1),
-        (EQUAL_STRINGS, "{1}", 1),
-        (EQUAL_STRINGS, "{2}", 0),
-        (EQUAL_STRINGS, "{3}", 1),
-    ] {
-        let left = run(
-            rt.alloc(),
-            "-i q.re",
-            "q.re",
-            source.as_bytes(),
-            "",
-            b"",
-            NONE,
-        )?;
-        assert_eq!(rt; left.status, 0, "{source}");
-        assert_eq!(rt; left.err.bytes(), b"".as_slice());
-        assert_eq!(rt; count(left.out.bytes(), text.as_bytes()), times, "{text}");
-    }
-    Ok(())
-}
-
-/// The scanner of a source, compiled to a file, and then its run over an input.
-fn compile_and_run(alloc: Global, source: &str, input: &[u8]) -> Result<Left, Fail> {
-    let mut compiled = run(
-        alloc,
-        "-i -o q.c q.re",
-        "q.re",
-        source.as_bytes(),
-        "",
-        b"",
-        NONE,
-    )?;
-    let emitted = compiled.files.read(alloc, "q.c")?;
-    run(
-        alloc,
-        "--x-run in.txt q.c",
-        "q.c",
-        &emitted,
-        "in.txt",
-        input,
-        NONE,
-    )
-}
-
-const TWO_EQUAL: &str = "/*!re2c\nre2c:yyfill:enable = 0;\n\"a\" { }\n\"a\" { }\n* { }\n*/\n";
-
-const ANY: &str = "/*!re2c\nre2c:yyfill:enable = 0;\n* { }\n*/\n";
-
-#[test]
-fn a_scanner_is_compiled_read_back_and_run(rt: HostRuntime) -> Result<(), Fail> {
-    for (source, input, lines) in [
-        (
-            IF_AND_IFX,
-            b"ifx if".as_slice(),
-            "rule 2 0 3\nrule 3 3 4\nrule 1 4 6\nend 6 6\n",
-        ),
-        (
-            TWO_EQUAL,
-            b"aa".as_slice(),
-            "rule 1 0 1\nrule 1 1 2\nend 2 2\n",
-        ),
-        (ANY, b"\0".as_slice(), "rule 1 0 1\nend 1 1\n"),
-        (ANY, b"".as_slice(), "end 0 0\n"),
-    ] {
-        let left = compile_and_run(rt.alloc(), source, input)?;
-        assert_eq!(rt; left.status, 0, "{source}");
-        assert_eq!(rt; left.out.bytes(), lines.as_bytes());
-        assert_eq!(rt; left.err.bytes(), b"".as_slice());
     }
     Ok(())
 }

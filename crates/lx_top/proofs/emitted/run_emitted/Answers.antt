@@ -1,4 +1,4 @@
-use Rattle.std.proofs.Common.{◌≡◌, Some, [], ◌∷◌, refl, sym, ap, subst, ◌∙◌}
+use Rattle.std.proofs.Common.{Some, [], ◌∷◌, refl, sym, subst, ◌∙◌}
 use Rattle.lx_top.specs.Emitted.{Scans}
 use Rattle.lx_top.specs.Outside.{Sees}
 use Rattle.lx_top.specs.Steps.{HaltsScan}

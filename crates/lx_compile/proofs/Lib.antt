@@ -1,0 +1,15 @@
+pub mod ActionTexts
+pub mod BlockStops
+pub mod OneScanner
+pub mod OutsideTexts
+pub mod PiecePlaces
+pub mod StringRules
+pub mod TextRuns
+pub mod CheckPlaces
+pub mod FaultPlaces
+pub mod ItemPlaces
+pub mod KernelRuns
+pub mod WalkRuns
+pub mod OneCheck
+pub mod OneFault
+pub mod OneItem

@@ -1,0 +1,7 @@
+pub mod Blocks
+pub mod FirstFault
+pub mod Options
+pub mod Output
+pub mod Parts
+pub mod Places
+pub mod Ready

@@ -1,0 +1,56 @@
+-- What the output of a source is.
+use Rattle.std.specs.Prelude.{◌≡◌, ℕ, suc, List, [], ◌∷◌, ◌++◌, codes, map, Ok, unwrap_or}
+use Rattle.std.specs.Fmt.{decimal}
+use Rattle.lx_base.specs.Names.{usual_names}
+use Rattle.lx_base.specs.Text.{joined}
+use Rattle.lx_base.specs.declared.settings.Enc.TheVariants.{Byte}
+use Rattle.lx_base.specs.declared.settings.Options.{Options}
+use Rattle.lx_ccode.specs.Text.{piece_text}
+use Rattle.lx_ccode.specs.declared.piece.Piece.{Piece}
+use Rattle.lx_regex.specs.Pattern.{Pattern, patterns_of}
+use Rattle.lx_rules.specs.Environments.{first_environment}
+use Rattle.lx_rules.specs.declared.resolved.Act.{Act}
+use Rattle.lx_rules.specs.declared.resolved.Scanner.{Scanner}
+use Rattle.lx_split.specs.Pieces.{pieces_of}
+use Rattle.lx_split.specs.declared.pieces.SourcePiece.{SourcePiece}
+use Rattle.lx_trie.specs.Scanner.{IsScannerOf}
+use Rattle.lx_compile.specs.Parts.{AreParts}
+use Rattle.lx_compile.specs.declared.parts.Part.{Part}
+use Rattle.lx_compile.specs.declared.parts.Part.TheVariants.{Outside, Block}
+
+-- the text of the piece with this number of a block without rules
+abbrev pub empty_text : (number : ℕ) → List ℕ
+empty_text number = joined (codes "/*!begin:re2c " ∷ decimal number ∷ codes "*/\n/*!end:re2c*/" ∷ []) []
+
+-- the texts of the actions, in the order of their rules
+abbrev pub actions_of : List Act → List (List ℕ)
+actions_of acts = map (λ (act : Act). unwrap_or act.code []) acts
+
+-- the text is that of a piece with this number, which is a scanner of the rules
+pub record IsScannerText (number : ℕ) (patterns : List Pattern) (actions : List (List ℕ)) (text : List ℕ) : Type 0 where
+  pub piece : Piece
+  pub scanner : IsScannerOf Byte number usual_names patterns actions piece
+  pub text_is : text ≡ piece_text piece
+
+-- the text of the piece in the place of a block; without conditions a block has no scanner or one
+abbrev pub IsTextOf : (number : ℕ) → List Act → List Scanner → (text : List ℕ) → Type 0
+IsTextOf number acts [] text = text ≡ empty_text number
+IsTextOf number acts (scanner ∷ []) text = IsScannerText number (patterns_of scanner.set.rules) (actions_of acts) text
+IsTextOf number acts (scanner ∷ next ∷ scanners) text = ⊥
+
+-- the parts of a source one behind another, where the pieces in the places of the blocks are numbered from here on
+abbrev pub AreTexts : (number : ℕ) → List Part → (output : List ℕ) → Type 0
+AreTexts number [] output = output ≡ []
+AreTexts number (Outside text ∷ parts) output = (rest : List ℕ) × (output ≡ text ++ rest) × AreTexts number parts rest
+AreTexts number (Block at resolved ∷ parts) output =
+    (text rest : List ℕ) × (output ≡ text ++ rest) × IsTextOf number resolved.acts resolved.scanners text
+    × AreTexts (suc number) parts rest
+
+-- The output of a source is its texts outside of blocks, unchanged, with the text of one piece in the place of each block. The
+-- pieces are numbered from 1.
+pub record IsOutput (options : Options) (source output : List ℕ) : Type 0 where
+  pub pieces : List SourcePiece
+  pub parts : List Part
+  pub pieces_are : pieces_of options 0 source ≡ Ok pieces
+  pub parts_are : AreParts options first_environment pieces parts
+  pub texts : AreTexts 1 parts output

@@ -1,0 +1,32 @@
+-- What the steps of a compilation know of the parts of a source.
+use Rattle.std.specs.Prelude.{◌≡◌, ℕ, ◌≤◌, List, length}
+use Rattle.lx_base.specs.Names.{usual_names}
+use Rattle.lx_base.specs.declared.places.Pos.{Pos}
+use Rattle.lx_rules.specs.Soundness.{IsFine}
+use Rattle.lx_rules.specs.declared.resolved.Resolved.{Resolved}
+use Rattle.lx_split.specs.declared.pieces.SourcePiece.{SourcePiece}
+use Rattle.lx_split.specs.declared.pieces.SourcePiece.TheVariants as piece
+use Rattle.lx_compile.specs.Blocks.{AreSupported}
+use Rattle.lx_compile.specs.declared.parts.Part.{Part}
+use Rattle.lx_compile.specs.declared.parts.Part.TheVariants.{Outside, Block}
+
+-- a block is no longer than a source may be, and its body begins in a line and a column that a source may have
+pub record IsNear (body : List ℕ) (start : Pos) : Type 0 where
+  pub size : length body ≤ 16777216
+  pub line : start.line ≤ 16777217
+  pub col : start.col ≤ 16777217
+
+abbrev pub IsNearPiece : SourcePiece → Type 0
+IsNearPiece (piece.Outside text) = Unit {0}
+IsNearPiece (piece.Block kind body at start end_line) = IsNear body start
+
+-- what a block resolves to can be emitted: it is within the limits of scanners, and has at most one scanner, of strings
+pub record IsReady (resolved : Resolved) : Type 0 where
+  pub fine : IsFine resolved
+  pub supported : AreSupported resolved
+  pub names : resolved.config.names ≡ usual_names
+  pub one : length resolved.scanners ≤ 1
+
+abbrev pub IsReadyPart : Part → Type 0
+IsReadyPart (Outside text) = Unit {0}
+IsReadyPart (Block at resolved) = IsReady resolved

@@ -1,0 +1,53 @@
+//! The compilation of one source.
+ghost use Rattle.std.specs.Prelude.{MatchResult, IfErr, None};
+ghost use Rattle.lx_compile.specs.FirstFault.{IsFirstFault, StopsWith};
+ghost use Rattle.lx_compile.specs.Options.{ArePlain};
+ghost use Rattle.lx_compile.specs.Output.{IsOutput};
+ghost use Rattle.lx_compile.specs.Places.{StopsInFirst};
+
+use crate::emission::emit;
+use crate::kernels::count_kernels;
+use crate::walk::resolve_blocks;
+use lx_base::{Fault, Options, Pos, Stop};
+use lx_split::split;
+use std::alloc::Global;
+
+/// How many bytes a source may have.
+pub const SOURCE_LIMIT: usize = 16_777_216;
+
+/// The output of a source.
+fn output_of(alloc: Global, source: &[u8], options: &Options) -> Result<Vec<u8>, Stop>
+    requires { ArePlain options.now }
+    ensures { MatchResult result
+        (λ output. IsFirstFault options.now source.now None × IsOutput options.now source.now output.items)
+        (StopsWith options.now source.now) }
+{
+    if source.len() > SOURCE_LIMIT {
+        let at = Pos {
+            file: 0,
+            line: 1,
+            col: 1,
+        };
+        let total = source.len() as u64;
+        return Err(Stop::Fault(Fault::TooLong { at, total }));
+    }
+    let pieces = split(alloc, source, 0, options)?;
+    let parts = resolve_blocks(alloc, pieces, options)?;
+    count_kernels(alloc, parts.as_slice())?;
+    Ok(emit(alloc, parts.as_slice())?)
+}
+
+/// The output of a source: the text outside of its blocks, unchanged, with one emitted piece in the place of each block.
+///
+/// The source is file 0 of the file names. It refuses with the first fault of the source, before anything is emitted: all blocks
+/// are resolved in order, and then the kernels of their scanners are counted in order. `Memory` comes only where memory runs
+/// out.
+pub fn compile(alloc: Global, source: &[u8], options: &Options) -> Result<Vec<u8>, Stop>
+    requires { ArePlain options.now }
+    ensures output { MatchResult result
+        (λ output. IsFirstFault options.now source.now None × IsOutput options.now source.now output.items)
+        (StopsWith options.now source.now) }
+    ensures placed { IfErr result StopsInFirst }
+{
+    output_of(alloc, source, options)
+}

@@ -1,0 +1,17 @@
+//! The compilation of one source: its texts outside of blocks, with an emitted piece in the place of each block.
+#![tactic(auto)]
+
+mod blocks;
+mod compiling;
+mod emission;
+mod kernels;
+pub mod laws;
+pub mod one_fault;
+mod parts;
+mod walk;
+
+pub use compiling::compile;
+pub use parts::Part;
+
+#[cfg(test)]
+mod tests;

@@ -1,0 +1,14 @@
+pub mod EmissionLemmas
+pub mod LetterLemmas
+pub mod PieceLemmas
+pub mod ScanLaw
+pub mod ScanSteps
+pub mod ScanTrees
+pub mod Simulation
+pub mod SizeLemmas
+pub mod StartLemmas
+pub mod StepLemmas
+pub mod TestLemmas
+pub mod UnitLemmas
+pub mod WaitingLemmas
+pub mod WordLemmas
