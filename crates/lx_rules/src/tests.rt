@@ -238,20 +238,41 @@ fn names_nest(rt: HostRuntime) -> Result<(), Fail> {
     Ok(())
 }
 
+/// A string with two surrogates.
+const SURROGATES: &str = "\"a\\uDFFF\\uD800\" { }";
+
 #[test]
-fn surrogates_follow_their_policy(rt: HostRuntime) -> Result<(), Fail> {
+fn surrogates_are_ignored(rt: HostRuntime) -> Result<(), Fail> {
     let alloc = rt.alloc();
-    let body = "\"a\\uDFFF\\uD800\" { }";
-    let ignore = options(alloc, Enc::Utf8, SurPolicy::Ignore)?;
-    assert_eq!(rt; run(alloc, &ignore, body, "")?.as_str(), "1:3 of 1, true");
-    let substitute = options(alloc, Enc::Utf16, SurPolicy::Substitute)?;
-    assert_eq!(rt;
-        run(alloc, &substitute, body, "")?.as_str(),
-        "1:3 of 1, true"
-    );
-    let fail = options(alloc, Enc::Ucs2, SurPolicy::Fail)?;
-    assert_eq!(rt; run(alloc, &fail, body, "")?.as_str(), "surrogate at 1:1");
-    let byte = options(alloc, Enc::Byte, SurPolicy::Fail)?;
-    assert_eq!(rt; run(alloc, &byte, body, "")?.as_str(), "code point at 1:1");
+    let options = options(alloc, Enc::Utf8, SurPolicy::Ignore)?;
+    let told = run(alloc, &options, SURROGATES, "")?;
+    assert_eq!(rt; told.as_str(), "1:3 of 1, true");
+    Ok(())
+}
+
+#[test]
+fn surrogates_are_substituted(rt: HostRuntime) -> Result<(), Fail> {
+    let alloc = rt.alloc();
+    let options = options(alloc, Enc::Utf16, SurPolicy::Substitute)?;
+    let told = run(alloc, &options, SURROGATES, "")?;
+    assert_eq!(rt; told.as_str(), "1:3 of 1, true");
+    Ok(())
+}
+
+#[test]
+fn surrogates_are_refused(rt: HostRuntime) -> Result<(), Fail> {
+    let alloc = rt.alloc();
+    let options = options(alloc, Enc::Ucs2, SurPolicy::Fail)?;
+    let told = run(alloc, &options, SURROGATES, "")?;
+    assert_eq!(rt; told.as_str(), "surrogate at 1:1");
+    Ok(())
+}
+
+#[test]
+fn surrogates_are_no_bytes(rt: HostRuntime) -> Result<(), Fail> {
+    let alloc = rt.alloc();
+    let options = options(alloc, Enc::Byte, SurPolicy::Fail)?;
+    let told = run(alloc, &options, SURROGATES, "")?;
+    assert_eq!(rt; told.as_str(), "code point at 1:1");
     Ok(())
 }
