@@ -24,3 +24,4 @@ prints() {
 prints quoted "2 3 1"
 prints keywords "1 3 2 4 5 d o"
 prints two_scanners "2 2 1 0 2 5 2 2 0 0"
+prints signs "L s s ?"
