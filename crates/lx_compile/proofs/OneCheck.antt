@@ -1,8 +1,7 @@
 -- The checks of an expression find one fault, or none; and it has one meaning.
-use Rattle.std.proofs.Common.{◌≡◌, ℕ, zero, suc, ◌+◌, ◌⊎◌, max, Bool, true, false, List, [], ◌∷◌, ◌++◌, drop, map, Option, Some, None, refl, sym, ap, ap₂, subst, inl, inr, ◌∙◌, arith, append-nil}
+use Rattle.std.proofs.Common.{◌≡◌, ℕ, ◌+◌, ◌⊎◌, max, Bool, true, false, List, [], ◌∷◌, ◌++◌, drop, Option, Some, None, refl, sym, ap, ap₂, subst, inl, inr, ◌∙◌, arith}
 use Rattle.std.specs.Prelude.{◌&&◌, if◌then◌else◌}
 use Rattle.std.specs.List.{AllByRecursion}
-use Rattle.std.specs.Option.{option_map, option_or}
 use Rattle.std.specs.Str.{bytes_eq}
 use Rattle.std.proofs.lemmas.List.{append_cancel_right}
 use Rattle.lx_base.specs.declared.faults.Fault.{Fault}
@@ -15,11 +14,11 @@ use Rattle.lx_class.specs.declared.ranges.Range.{Range}
 use Rattle.lx_parse.specs.Expressions.{alt}
 use Rattle.lx_rules.specs.Checks.{Check, Then, Finds, waits, Checks, LeafChecks, IsFilled, PointsAre, AreClasses, HasPoint, bounds_fault, class_ranges, is_class, name_fault, tag_fault, tags_of}
 use Rattle.lx_rules.specs.Environments.{Definition, Meaning, definition_of}
-use Rattle.lx_rules.specs.Forms.{Form, leaf, group, repeated, sequence, difference, alternative, IsForm}
+use Rattle.lx_rules.specs.Forms.{Form, leaf, group, repeated, sequence, difference, alternative}
 use Rattle.lx_rules.specs.Items.{ContextChecks, ExpressionChecks, IsExpression}
 use Rattle.lx_rules.specs.Lexemes.{Lexeme, nth_lexeme, points_in}
-use Rattle.lx_rules.specs.Meanings.{IsLeafMeaning, IsMeaning, copied, followed, string_meaning}
-use Rattle.lx_rules.specs.Points.{points_fault, replaced, singles}
+use Rattle.lx_rules.specs.Meanings.{IsLeafMeaning, IsMeaning, copied, followed}
+use Rattle.lx_rules.specs.Points.{points_fault, singles}
 use Rattle.lx_rules.specs.Reading.{nothing, tokens_fault, tokens_meaning}
 use Rattle.lx_rules.proofs.FormRuns.{NoTags, IsRun, form_runs}
 use Rattle.lx_token.specs.declared.kinds.TokenKind.{TokenKind}

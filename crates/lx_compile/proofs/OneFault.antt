@@ -1,5 +1,5 @@
 -- A source has one first fault, or none.
-use Rattle.std.proofs.Common.{◌≡◌, ℕ, zero, suc, ◌<◌, ◌≤◌, ◌⊎◌, Bool, true, false, List, [], ◌∷◌, ◌++◌, length, take, drop, Option, Some, None, Result, Ok, Err, refl, sym, ap, ap₂, subst, inl, inr, ◌∙◌, arith, append_assoc, append-nil}
+use Rattle.std.proofs.Common.{◌≡◌, ℕ, zero, suc, ◌<◌, ◌≤◌, ◌⊎◌, Bool, true, false, List, [], ◌∷◌, ◌++◌, length, take, drop, Option, Some, None, Ok, Err, refl, sym, ap, subst, inl, inr, ◌∙◌, arith, append_assoc, append-nil}
 use Rattle.std.specs.Prelude.{nat_lt}
 use Rattle.std.specs.List.{AllByRecursion}
 use Rattle.std.proofs.lemmas.Bool.{cases_lt}
@@ -18,7 +18,7 @@ use Rattle.lx_parse.specs.declared.items.Item.{Item}
 use Rattle.lx_parse.specs.declared.sorts.Sort.{Sort}
 use Rattle.lx_parse.proofs.Refusals.{one_tree}
 use Rattle.lx_regex.specs.Kernel.{HasTooManyKernels}
-use Rattle.lx_regex.specs.Pattern.{Pattern, patterns_of, terms_of}
+use Rattle.lx_regex.specs.Pattern.{Pattern, terms_of}
 use Rattle.lx_rules.specs.Blocks.{IsBlockFault, Resolves}
 use Rattle.lx_rules.specs.Environments.{Environment, first_environment}
 use Rattle.lx_rules.specs.Lexemes.{lexemes_of}
@@ -32,7 +32,7 @@ use Rattle.lx_token.specs.Tokens.{tokens_of}
 use Rattle.lx_token.specs.declared.list.Token.{Token}
 use Rattle.lx_compile.specs.Blocks.{AreSupported, IsBlock, IsFaultOf, IsRead, IsResolvedBody, IsStringList, IsSupported, no_items, no_token, other_kind, refused, unsupported}
 use Rattle.lx_compile.specs.FirstFault.{IsFaultBehind, IsFaultOfBlocks, IsFaultOfPieces, IsFaultOfSource, IsFirstFault}
-use Rattle.lx_compile.specs.Parts.{AreParts, HasTooLarge, IsFaultAmong, IsKernelFault, IsTooLarge}
+use Rattle.lx_compile.specs.Parts.{AreParts, HasTooLarge, IsFaultAmong, IsKernelFault}
 use Rattle.lx_compile.specs.declared.parts.Part.{Part}
 use Rattle.lx_compile.specs.declared.parts.Part.TheVariants.{Outside, Block}
 use Rattle.lx_compile.proofs.OneCheck.{AreTagless}

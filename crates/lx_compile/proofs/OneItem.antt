@@ -1,7 +1,6 @@
 -- The items of a block have one first fault, or leave one thing known; and so a block has one fault, or none.
-use Rattle.std.proofs.Common.{◌≡◌, ℕ, suc, ◌-◌, ◌⊎◌, Bool, true, false, List, [], ◌∷◌, ◌++◌, length, map, Option, Some, None, Result, Ok, Err, refl, sym, ap, ap₂, subst, inl, inr, ◌∙◌}
+use Rattle.std.proofs.Common.{◌≡◌, ℕ, suc, ◌-◌, Bool, true, false, List, [], ◌∷◌, ◌++◌, length, Option, Some, None, Result, Ok, Err, refl, sym, ap, ap₂, subst, inl, inr, ◌∙◌}
 use Rattle.std.specs.Prelude.{not, ◌==◌}
-use Rattle.std.specs.List.{AllByRecursion}
 use Rattle.std.specs.Option.{option_map}
 use Rattle.lx_base.specs.Names.{Spellings, usual_names}
 use Rattle.lx_base.specs.declared.faults.Fault.{Fault}
@@ -13,10 +12,10 @@ use Rattle.lx_parse.specs.declared.items.Item.TheVariants.{Define, Configure, Ru
 use Rattle.lx_regex.specs.declared.rules.Kind.{Kind}
 use Rattle.lx_regex.specs.Pattern.{patterns_of}
 use Rattle.lx_rules.specs.Blocks.{AreScanners, BlockChecks, ClashCheck, IsBlockFault, IsResolved, NoClash, Resolves, conditions_of, lonely_fault, scanners_fault, targets_fault}
-use Rattle.lx_rules.specs.Checks.{Check, Then, Finds, waits}
-use Rattle.lx_rules.specs.Configurations.{config_fault, switch_of}
+use Rattle.lx_rules.specs.Checks.{Check, Then, Finds}
+use Rattle.lx_rules.specs.Configurations.{config_fault}
 use Rattle.lx_rules.specs.Environments.{Definition, Environment, Meaning, defined, definition_of}
-use Rattle.lx_rules.specs.Items.{ContextChecks, ExpressionChecks, Goes, ends, refused, next, HeadChecks, HeadSort, any, end, expression, IsAfter, IsHead, ItemChecks, ListChecks, RuleOf, State, TargetChecks, act_of, conds_of, first_of, first_state, head_sort, is_default, is_end, twice, unless}
+use Rattle.lx_rules.specs.Items.{ExpressionChecks, Goes, ends, refused, next, HeadChecks, HeadSort, any, end, expression, IsAfter, IsHead, ItemChecks, ListChecks, RuleOf, State, TargetChecks, act_of, conds_of, first_of, first_state, head_sort, is_default, is_end, twice, unless}
 use Rattle.lx_rules.specs.Lexemes.{Lexeme, nth_lexeme, sort_at}
 use Rattle.lx_rules.specs.declared.resolved.Resolved.{Resolved}
 use Rattle.lx_rules.specs.declared.resolved.Scanner.{Scanner}
