@@ -5,13 +5,8 @@
 here=$(cd "$(dirname "$0")" && pwd)
 copy=$(mktemp -d) || exit 1
 trap 'rm -rf "$copy"' EXIT
-mkdir "$copy/crates"
-for name in lx_base lx_ccode lx_step; do
-    mkdir "$copy/crates/$name"
-    (cd "$here/../crates/$name" && tar cf - --exclude=out .) | tar xf - -C "$copy/crates/$name"
-done
-cp "$here/../HANDLES" "$copy/"
-grep -E '^lx_(base|ccode|step):' "$here/../crates.txt" > "$copy/crates.txt"
+. "$here/copy_crates.sh"
+copy_crates "$copy" lx_base lx_ccode lx_step
 cd "$copy/crates/lx_step" || exit 1
 sed -i 's/^const COPIES: usize = .*/const COPIES: usize = 14_300_000;/' src/tests.rt
 rt test > "$copy/log" 2>&1 || { tail -5 "$copy/log" >&2; exit 1; }

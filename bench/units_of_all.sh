@@ -4,13 +4,8 @@
 here=$(cd "$(dirname "$0")" && pwd)
 copy=$(mktemp -d) || exit 1
 trap 'rm -rf "$copy"' EXIT
-mkdir "$copy/crates"
-for name in lx_base lx_class lx_encode; do
-    mkdir "$copy/crates/$name"
-    (cd "$here/../crates/$name" && tar cf - --exclude=out .) | tar xf - -C "$copy/crates/$name"
-done
-cp "$here/../HANDLES" "$copy/"
-grep -E '^lx_(base|class|encode):' "$here/../crates.txt" > "$copy/crates.txt"
+. "$here/copy_crates.sh"
+copy_crates "$copy" lx_base lx_class lx_encode
 cat >> "$copy/crates/lx_encode/src/units/tests.rt" <<'TEST'
 
 #[test]

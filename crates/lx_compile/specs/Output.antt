@@ -1,10 +1,9 @@
 -- What the output of a source is.
-use Rattle.std.specs.Prelude.{◌≡◌, ℕ, suc, List, [], ◌∷◌, ◌++◌, codes, map, Ok, unwrap_or}
-use Rattle.std.specs.Fmt.{decimal}
+use Rattle.std.specs.Prelude.{◌≡◌, ℕ, suc, List, [], ◌∷◌, ◌++◌, map, None, Ok, unwrap_or}
 use Rattle.lx_base.specs.Names.{usual_names}
-use Rattle.lx_base.specs.Text.{joined}
 use Rattle.lx_base.specs.declared.settings.Enc.TheVariants.{Byte}
 use Rattle.lx_base.specs.declared.settings.Options.{Options}
+use Rattle.lx_ccode.specs.Bodies.{body_piece_text, no_body}
 use Rattle.lx_ccode.specs.Text.{piece_text}
 use Rattle.lx_ccode.specs.declared.piece.Piece.{Piece}
 use Rattle.lx_regex.specs.Pattern.{Pattern, patterns_of}
@@ -18,10 +17,6 @@ use Rattle.lx_compile.specs.Parts.{AreParts}
 use Rattle.lx_compile.specs.declared.parts.Part.{Part}
 use Rattle.lx_compile.specs.declared.parts.Part.TheVariants.{Outside, Block}
 
--- the text of the piece with this number of a block without rules
-abbrev pub empty_text : (number : ℕ) → List ℕ
-empty_text number = joined (codes "/*!begin:re2c " ∷ decimal number ∷ codes "*/\n/*!end:re2c*/" ∷ []) []
-
 -- the texts of the actions, in the order of their rules
 abbrev pub actions_of : List Act → List (List ℕ)
 actions_of acts = map (λ (act : Act). unwrap_or act.code []) acts
@@ -32,9 +27,9 @@ pub record IsScannerText (number : ℕ) (patterns : List Pattern) (actions : Lis
   pub scanner : IsScannerOf Byte number usual_names patterns actions piece
   pub text_is : text ≡ piece_text piece
 
--- the text of the piece in the place of a block; without conditions a block has no scanner or one
+-- the text of the piece in the place of a block; without conditions a block has no scanner, and its piece is empty, or one
 abbrev pub IsTextOf : (number : ℕ) → List Act → List Scanner → (text : List ℕ) → Type 0
-IsTextOf number acts [] text = text ≡ empty_text number
+IsTextOf number acts [] text = text ≡ body_piece_text number usual_names no_body None
 IsTextOf number acts (scanner ∷ []) text = IsScannerText number (patterns_of scanner.set.rules) (actions_of acts) text
 IsTextOf number acts (scanner ∷ next ∷ scanners) text = ⊥
 

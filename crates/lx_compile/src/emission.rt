@@ -1,12 +1,14 @@
 //! The texts of the parts of a source.
-ghost use Rattle.std.specs.Prelude.{◌≡◌, ◌≤◌, ◌<◌, ◌^◌, ◌++◌, ℕ, List, [], All, IfOk, OnOk, length, unwrap_or};
+ghost use Rattle.std.specs.Prelude.{◌≡◌, ◌≤◌, ◌<◌, ◌^◌, ◌++◌, ℕ, List, [], All, IfOk, OnOk, length, unwrap_or, None};
+ghost use Rattle.lx_base.specs.Names.{usual_names};
+ghost use Rattle.lx_ccode.specs.Bodies.{body_piece_text, no_body};
 ghost use Rattle.lx_kernels.specs.Count.{IsCountable};
 ghost use Rattle.lx_regex.specs.Pattern.{patterns_of};
 ghost use Rattle.lx_regex.specs.Strings.{AreStrings};
 ghost use Rattle.lx_base.specs.declared.settings.Enc.TheVariants.{Byte};
 ghost use Rattle.lx_rules.specs.Soundness.{IsFit};
 ghost use Rattle.lx_compile.specs.Blocks.{IsStringList};
-ghost use Rattle.lx_compile.specs.Output.{AreTexts, IsTextOf, IsScannerText, actions_of, empty_text};
+ghost use Rattle.lx_compile.specs.Output.{AreTexts, IsTextOf, IsScannerText, actions_of};
 ghost use Rattle.lx_compile.specs.Ready.{IsReady, IsReadyPart};
 
 use crate::parts::Part;
@@ -78,12 +80,17 @@ fn scanner_text(
 
 /// Appends the piece of a block without rules. Where memory runs out a part of it may stand there.
 fn append_empty(alloc: Global, output: &mut Vec<u8>, number: u32) -> Result<(), Memory>
-    ensures { OnOk result (output.new.items ≡ output.old.items ++ empty_text number) }
+    ensures { OnOk result (output.new.items ≡ output.old.items ++ body_piece_text number usual_names no_body None) }
 {
     let digits = format!(in alloc; "{number}")?;
     append_parts(
         output,
-        &[b"/*!begin:re2c ", digits.as_bytes(), b"*/\n/*!end:re2c*/"],
+        &[
+            b"/*!begin:re2c ",
+            digits.as_bytes(),
+            b"*/\n",
+            b"/*!end:re2c*/",
+        ],
     )
 }
 

@@ -6,7 +6,6 @@ mod compiling;
 mod emission;
 mod kernels;
 pub mod laws;
-pub mod one_fault;
 mod parts;
 mod walk;
 
