@@ -10,7 +10,7 @@ use Rattle.lx_base.specs.declared.blocks.BlockKind.TheVariants.{Code}
 use Rattle.lx_base.specs.declared.faults.Fault.{Fault}
 use Rattle.lx_base.specs.declared.faults.Fault.TheVariants.{Syntax, TooManyStates}
 use Rattle.lx_base.specs.declared.places.Pos.{Pos}
-use Rattle.lx_base.specs.declared.settings.Enc.TheVariants.{Byte}
+use Rattle.lx_base.specs.declared.settings.Enc.{Enc}
 use Rattle.lx_base.specs.declared.settings.Options.{Options}
 use Rattle.lx_parse.specs.Blocks.{BeginsBody, IsBody, IsRefused, IsSyntaxFault, form_of, place_of_next}
 use Rattle.lx_parse.specs.Sorts.{sorts_of}
@@ -118,27 +118,27 @@ module _ (body : List ℕ) (start : Pos) (tokens : List Token) where
 -- ---- what blocks resolve to
 
 -- what is alike is supported, or is not
-supported-alike : (config other_config : Config) (scanners others : List Scanner) → config.fill ≡ other_config.fill → HaveSameRules scanners others
-    → AllByRecursion (IsSupported config) scanners → AllByRecursion (IsSupported other_config) others
-supported-alike config other_config [] [] fill same are = tt
-supported-alike config other_config [] (other ∷ others) fill same are = absurd same
-supported-alike config other_config (scanner ∷ scanners) [] fill same are = absurd same
-supported-alike config other_config (scanner ∷ scanners) (other ∷ others) fill same are = (
-  record { no_refill = sym fill ∙ are.0.no_refill; strings = subst IsStringList same.0 are.0.strings },
-  supported-alike config other_config scanners others fill same.1 are.1,
+supported-alike : (enc : Enc) (config other_config : Config) (scanners others : List Scanner) → config.fill ≡ other_config.fill → HaveSameRules scanners others
+    → AllByRecursion (IsSupported enc config) scanners → AllByRecursion (IsSupported enc other_config) others
+supported-alike enc config other_config [] [] fill same are = tt
+supported-alike enc config other_config [] (other ∷ others) fill same are = absurd same
+supported-alike enc config other_config (scanner ∷ scanners) [] fill same are = absurd same
+supported-alike enc config other_config (scanner ∷ scanners) (other ∷ others) fill same are = (
+  record { no_refill = sym fill ∙ are.0.no_refill; strings = subst (IsStringList enc) same.0 are.0.strings },
+  supported-alike enc config other_config scanners others fill same.1 are.1,
 )
 
-AreSupported-alike : (resolved other : Resolved) → AreAlike resolved other → AreSupported resolved → AreSupported other
-AreSupported-alike resolved other alike are =
-    supported-alike resolved.config other.config resolved.scanners other.scanners alike.fill alike.scanners are
+AreSupported-alike : (enc : Enc) (resolved other : Resolved) → AreAlike resolved other → AreSupported enc resolved → AreSupported enc other
+AreSupported-alike enc resolved other alike are =
+    supported-alike enc resolved.config other.config resolved.scanners other.scanners alike.fill alike.scanners are
 
 -- what is alike has too many kernels, or has not
-too_large-alike : (scanners others : List Scanner) → HaveSameRules scanners others → HasTooLarge scanners → HasTooLarge others
-too_large-alike [] others same large = absurd large
-too_large-alike (scanner ∷ scanners) [] same large = absurd same
-too_large-alike (scanner ∷ scanners) (other ∷ others) same (inl large) =
-    inl (subst (λ (patterns : List Pattern). HasTooManyKernels Byte (terms_of patterns)) same.0 large)
-too_large-alike (scanner ∷ scanners) (other ∷ others) same (inr large) = inr (too_large-alike scanners others same.1 large)
+too_large-alike : (enc : Enc) (scanners others : List Scanner) → HaveSameRules scanners others → HasTooLarge enc scanners → HasTooLarge enc others
+too_large-alike enc [] others same large = absurd large
+too_large-alike enc (scanner ∷ scanners) [] same large = absurd same
+too_large-alike enc (scanner ∷ scanners) (other ∷ others) same (inl large) =
+    inl (subst (λ (patterns : List Pattern). HasTooManyKernels enc (terms_of patterns)) same.0 large)
+too_large-alike enc (scanner ∷ scanners) (other ∷ others) same (inr large) = inr (too_large-alike enc scanners others same.1 large)
 
 same-turned : (scanners others : List Scanner) → HaveSameRules scanners others → HaveSameRules others scanners
 same-turned [] [] same = tt
@@ -203,7 +203,7 @@ module _ (options : Options) where
     block_or_not after resolved fault is (refused tokens items code read found) =
         body_or_not after resolved tokens items fault is.resolves read found
     block_or_not after resolved fault is (unsupported other another code resolves not_supported fault_is) =
-        not_supported (AreSupported-alike resolved another (body-one after other resolved another is.resolves resolves).1 is.supported)
+        not_supported (AreSupported-alike options.enc resolved another (body-one after other resolved another is.resolves resolves).1 is.supported)
 
     -- a block has one fault, if it has one
     fault-one : (fault other : Fault) → IsFaultOf options environment kind body at start fault → IsFaultOf options environment kind body at start other → fault ≡ other
@@ -284,7 +284,7 @@ module _ (options : Options) where
   -- the parts of a source have one first scanner with too many kernels, or none
   kernels-one : (environment : Environment) (pieces : List SourcePiece) (parts others : List Part) (fault other : Option Fault) → AreTagless environment.definitions
       → AreParts options environment pieces parts → AreParts options environment pieces others
-      → IsKernelFault parts fault → IsKernelFault others other → fault ≡ other
+      → IsKernelFault options.enc parts fault → IsKernelFault options.enc others other → fault ≡ other
   kernels-one environment [] [] [] fault other free are are_other is is_other = is ∙ sym is_other
   kernels-one environment [] [] (second ∷ others) fault other free are are_other is is_other = absurd are_other
   kernels-one environment [] (part ∷ parts) others fault other free are are_other is is_other = absurd are
@@ -307,13 +307,13 @@ module _ (options : Options) where
       both : (are.1.0 ≡ are_other.1.0) × AreAlike resolved another
       both = body-one environment kind body at start free are.1.0 are_other.1.0 resolved another are.1.1.resolves are_other.1.1.resolves
 
-      by : (HasTooLarge resolved.scanners × (fault ≡ Some (TooManyStates place))) ⊎ ((HasTooLarge resolved.scanners → ⊥) × IsKernelFault parts fault)
-          → (HasTooLarge another.scanners × (other ≡ Some (TooManyStates place_other))) ⊎ ((HasTooLarge another.scanners → ⊥) × IsKernelFault others other)
-          → (IsKernelFault parts fault → IsKernelFault others other → fault ≡ other) → fault ≡ other
+      by : (HasTooLarge options.enc resolved.scanners × (fault ≡ Some (TooManyStates place))) ⊎ ((HasTooLarge options.enc resolved.scanners → ⊥) × IsKernelFault options.enc parts fault)
+          → (HasTooLarge options.enc another.scanners × (other ≡ Some (TooManyStates place_other))) ⊎ ((HasTooLarge options.enc another.scanners → ⊥) × IsKernelFault options.enc others other)
+          → (IsKernelFault options.enc parts fault → IsKernelFault options.enc others other → fault ≡ other) → fault ≡ other
       by (inl large) (inl large_other) later = large.1 ∙ ap (λ (p : Pos). Some (TooManyStates p)) (are.0 ∙ sym are_other.0) ∙ sym large_other.1
-      by (inl large) (inr none) later = absurd (none.0 (too_large-alike resolved.scanners another.scanners both.1.scanners large.0))
+      by (inl large) (inr none) later = absurd (none.0 (too_large-alike options.enc resolved.scanners another.scanners both.1.scanners large.0))
       by (inr none) (inl large) later =
-          absurd (none.0 (too_large-alike another.scanners resolved.scanners (same-turned resolved.scanners another.scanners both.1.scanners) large.0))
+          absurd (none.0 (too_large-alike options.enc another.scanners resolved.scanners (same-turned resolved.scanners another.scanners both.1.scanners) large.0))
       by (inr none) (inr none_other) later = later none.1 none_other.1
 
   behind-one : (pieces : List SourcePiece) (fault other : Option Fault) → IsFaultBehind options pieces fault → IsFaultBehind options pieces other → fault ≡ other
