@@ -8,10 +8,11 @@ use Rattle.lx_regex.specs.Term.{Term, class, any_unit, cat, Terms, cons, parts}
 use Rattle.lx_regex.specs.Tree.{Tree, blank, point, unit, row, Row, row_end, beside}
 use Rattle.lx_regex.specs.Script.{ends, leaf_choice, script, row_script, units}
 use Rattle.lx_regex.specs.Least.{HasTree}
-use Rattle.lx_regex.specs.Expr.{members_of, term_of}
+use Rattle.lx_class.specs.declared.ranges.Range.{Range}
+use Rattle.lx_regex.specs.Expr.{members_of, ranges_of, term_of}
 use Rattle.lx_regex.specs.declared.expr.Expr.{Expr}
-use Rattle.lx_regex.specs.declared.expr.Expr.TheVariants.{Empty, Unit, AnyUnit, Cat}
-use Rattle.lx_regex.proofs.Folds.{term_of-empty, term_of-unit, term_of-any_unit, term_of-cat}
+use Rattle.lx_regex.specs.declared.expr.Expr.TheVariants.{Empty, Class, AnyUnit, Cat}
+use Rattle.lx_regex.proofs.Folds.{term_of-empty, term_of-class, term_of-any_unit, term_of-cat}
 use Rattle.lx_regex.proofs.PlainWalk.{units_append}
 use Rattle.lx_regex.specs.Automaton.{leaf}
 use Rattle.lx_regex.proofs.Readings.{Code, of_point, code_quiet, code_some}
@@ -116,15 +117,15 @@ answer-empty e is =
     (λ y. IsAnswer true y) (sym is)
     (answer_yes Empty (λ enc tags part. subst (λ y. HasTree enc part y []) (sym (term_of-empty tags)) (blank, refl)))
 
-pub answer-unit : (e : Expr) (number : ℕ) → e ≡ Unit number → IsAnswer false e
-answer-unit e number is =
+pub answer-class : (e : Expr) (set : List Range) → e ≡ Class set → IsAnswer false e
+answer-class e set is =
     subst
     (λ y. IsAnswer false y) (sym is)
     (answer_no
-    (Unit number)
+    (Class set)
     (λ enc tags part has.
     class_reads enc part
-    ((number, number) ∷ []) (subst (λ y. HasTree enc part y []) (term_of-unit tags number) has)))
+    (ranges_of set) (subst (λ y. HasTree enc part y []) (term_of-class tags set) has)))
 
 pub answer-any_unit : (e : Expr) → e ≡ AnyUnit → IsAnswer false e
 answer-any_unit e is =

@@ -1,9 +1,14 @@
 -- What an `Expr` stands for, and its size.
-use Rattle.std.specs.Prelude.{ℕ, List, [], ◌∷◌, sum}
+use Rattle.std.specs.Prelude.{ℕ, List, [], ◌∷◌, map, sum}
+use Rattle.lx_class.specs.declared.ranges.Range.{Range}
 use Rattle.lx_regex.specs.Term.{Term, empty, class, any_unit, cat, Terms, nil, cons}
 use Rattle.lx_regex.specs.declared.expr.Expr.{Expr}
 use Rattle.lx_regex.specs.declared.expr.Expr.TheOpen.{Expr-F}
 use Rattle.lx_regex.specs.declared.expr.Expr.TheFolds.{fold-Expr}
+
+-- the ranges of a class
+abbrev pub ranges_of : List Range → List (ℕ × ℕ)
+ranges_of ranges = map (λ (range : Range). (range.lo, range.hi)) ranges
 
 -- the members of a sequence
 abbrev pub members_of : List Term → Terms
@@ -14,7 +19,7 @@ members_of (member ∷ members) = cons member (members_of members)
 -- numbered.
 abbrev pub term_step : (tags : ℕ) → Expr-F Term → Term
 term_step tags Expr-F.Empty = empty
-term_step tags (Expr-F.Unit number) = class ((number, number) ∷ [])
+term_step tags (Expr-F.Class set) = class (ranges_of set)
 term_step tags Expr-F.AnyUnit = any_unit
 term_step tags (Expr-F.Cat members) = cat (members_of members.items)
 
@@ -25,7 +30,7 @@ term_of tags = fold-Expr Term (term_step tags)
 -- the size of one form, with the sizes of the expressions inside
 abbrev pub size_step : Expr-F ℕ → ℕ
 size_step Expr-F.Empty = 1
-size_step (Expr-F.Unit number) = 1
+size_step (Expr-F.Class set) = 1
 size_step Expr-F.AnyUnit = 1
 size_step (Expr-F.Cat members) = sum members.items
 

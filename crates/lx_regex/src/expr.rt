@@ -4,13 +4,15 @@ ghost use Rattle.lx_base.specs.declared.settings.Enc.{Enc};
 ghost use Rattle.lx_regex.specs.Expr.{size_of, term_of};
 ghost use Rattle.lx_regex.specs.Least.{HasTree};
 
+use lx_class::ClassSet;
+
 /// An expression. `term_of` in `specs/Expr.antt` says which term it stands for, and so what it matches.
 #[derive(Debug, Drop)]
 pub enum Expr {
     /// Matches the empty word.
     Empty,
-    /// Matches the spelling of this one code point.
-    Unit(u32),
+    /// Matches the spelling of any one of these code points.
+    Class(ClassSet),
     /// Matches any one code unit.
     AnyUnit,
     /// Matches its members one behind another.
@@ -26,7 +28,7 @@ pub fn size(expr: &Expr) -> u64
     ensures { result ≡ min (size_of expr.now) (2 ^ 40) }
 {
     match expr {
-        Expr::Empty | Expr::Unit(_) | Expr::AnyUnit => 1,
+        Expr::Empty | Expr::Class(_) | Expr::AnyUnit => 1,
         Expr::Cat(members) => {
             let mut total = 0;
             for member in members {
@@ -43,7 +45,7 @@ pub fn nullable(expr: &Expr) -> bool
 {
     match expr {
         Expr::Empty => true,
-        Expr::Unit(_) | Expr::AnyUnit => false,
+        Expr::Class(_) | Expr::AnyUnit => false,
         Expr::Cat(members) => {
             for member in members {
                 if !nullable(member) {
@@ -62,7 +64,8 @@ mod tests {
     #[test]
     fn a_sequence_adds_its_members(rt: HostRuntime) {
         let mut members = Vec::new(rt.alloc());
-        assert!(rt; members.push(Expr::Unit(97)).is_ok());
+        let letters = ClassSet::range(rt.alloc(), 97, 122).expect(&rt, "memory");
+        assert!(rt; members.push(Expr::Class(letters)).is_ok());
         assert!(rt; members.push(Expr::AnyUnit).is_ok());
         assert!(rt; members.push(Expr::Empty).is_ok());
         let sequence = Expr::Cat(members);

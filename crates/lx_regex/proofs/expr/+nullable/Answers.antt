@@ -1,17 +1,17 @@
 use Rattle.std.specs.Prelude.{slice_get, Some}
 use Rattle.std.proofs.Common.{◌≡◌, ◌+◌, suc, sym, ◌∙◌, ap, subst, true, false, drop, arith, ⊎_elim}
 use Rattle.std.proofs.lemmas.Option.{slice_get-get_or}
-use Rattle.lx_regex.proofs.NoUnits.{AreNullable, IsAnswer, answer-empty, answer-unit, answer-any_unit, answer-all, answer-some, nullable_more, nullable_end}
+use Rattle.lx_regex.proofs.NoUnits.{AreNullable, IsAnswer, answer-empty, answer-class, answer-any_unit, answer-all, answer-some, nullable_more, nullable_end}
 use Rattle.lx_regex.proofs.expr.+nullable.Goals as goal
 
 pub returns-in-Empty : goal.returns-in-Empty
 returns-in-Empty t c = answer-empty c.args.expr.now c.in-Empty.is
 
-pub returns-in-Unit : goal.returns-in-Unit
-returns-in-Unit t c = ⊎_elim (λ h. answer-unit c.args.expr.now h.0 h.1) (λ h. answer-any_unit c.args.expr.now h) c.in-Unit.is
+pub returns-in-Class : goal.returns-in-Class
+returns-in-Class t c = ⊎_elim (λ h. answer-class c.args.expr.now h.0 h.1) (λ h. answer-any_unit c.args.expr.now h) c.in-Class.is
 
-pub returns-in-Unit-2 : goal.returns-in-Unit-2
-returns-in-Unit-2 t c = ⊎_elim (λ h. answer-unit c.args.expr.now h.0 h.1) (λ h. answer-any_unit c.args.expr.now h) c.in-Unit.is
+pub returns-in-Class-2 : goal.returns-in-Class-2
+returns-in-Class-2 t c = ⊎_elim (λ h. answer-class c.args.expr.now h.0 h.1) (λ h. answer-any_unit c.args.expr.now h) c.in-Class.is
 
 pub loop-member-preserved : goal.loop-member-preserved
 loop-member-preserved t c more =
