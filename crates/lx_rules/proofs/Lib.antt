@@ -4,6 +4,7 @@ pub mod MemberCopies
 pub mod TokenRuns
 pub mod FormRuns
 pub mod FormReading
+pub mod OneForm
 pub mod ExpressionRanges
 pub mod ItemSteps
 pub mod HeadSteps
