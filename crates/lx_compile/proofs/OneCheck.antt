@@ -1,9 +1,8 @@
 -- The checks of an expression find one fault, or none; and it has one meaning.
-use Rattle.std.proofs.Common.{◌≡◌, ℕ, ◌+◌, ◌⊎◌, max, Bool, true, false, List, [], ◌∷◌, ◌++◌, drop, Option, Some, None, refl, sym, ap, ap₂, subst, inl, inr, ◌∙◌, arith}
+use Rattle.std.proofs.Common.{◌≡◌, ℕ, suc, ◌⊎◌, Bool, true, false, List, [], ◌∷◌, ◌++◌, drop, Option, Some, None, sym, ap, ap₂, subst, inl, inr, ◌∙◌}
 use Rattle.std.specs.Prelude.{◌&&◌, if◌then◌else◌}
 use Rattle.std.specs.List.{AllByRecursion}
 use Rattle.std.specs.Str.{bytes_eq}
-use Rattle.std.proofs.lemmas.List.{append_cancel_right}
 use Rattle.lx_base.specs.declared.faults.Fault.{Fault}
 use Rattle.lx_base.specs.declared.faults.Fault.TheVariants.{NotClass}
 use Rattle.lx_base.specs.declared.places.Pos.{Pos}
@@ -11,7 +10,6 @@ use Rattle.lx_base.specs.declared.settings.EmptyPolicy.{EmptyPolicy}
 use Rattle.lx_base.specs.declared.settings.EmptyPolicy.TheVariants.{MatchEmpty, MatchNone, Error}
 use Rattle.lx_base.specs.declared.settings.Options.{Options}
 use Rattle.lx_class.specs.declared.ranges.Range.{Range}
-use Rattle.lx_parse.specs.Expressions.{alt}
 use Rattle.lx_rules.specs.Checks.{Check, Then, Finds, waits, Checks, LeafChecks, IsFilled, PointsAre, AreClasses, HasPoint, bounds_fault, class_ranges, is_class, name_fault, tag_fault, tags_of}
 use Rattle.lx_rules.specs.Environments.{Definition, Meaning, definition_of}
 use Rattle.lx_rules.specs.Forms.{Form, leaf, group, repeated, sequence, difference, alternative}
@@ -19,8 +17,7 @@ use Rattle.lx_rules.specs.Items.{ContextChecks, ExpressionChecks, IsExpression}
 use Rattle.lx_rules.specs.Lexemes.{Lexeme, nth_lexeme, points_in}
 use Rattle.lx_rules.specs.Meanings.{IsLeafMeaning, IsMeaning, copied, followed}
 use Rattle.lx_rules.specs.Points.{points_fault, singles}
-use Rattle.lx_rules.specs.Reading.{nothing, tokens_fault, tokens_meaning}
-use Rattle.lx_rules.proofs.FormRuns.{NoTags, IsRun, form_runs}
+use Rattle.lx_rules.proofs.OneForm.{one_form}
 use Rattle.lx_token.specs.declared.kinds.TokenKind.{TokenKind}
 use Rattle.lx_token.specs.declared.kinds.TokenKind.TheVariants as kind
 
@@ -188,26 +185,7 @@ module _ (options : Options) (definitions : List Definition) where
   meaning-tagless free (difference left sign right) meaning is = absurd is
   meaning-tagless free (alternative left sign right) meaning is = absurd is
 
-  no_tags : (listed : List Definition) → AreTagless listed → NoTags options definitions listed
-  no_tags [] free = tt
-  no_tags (definition ∷ listed) free = (free.0, no_tags listed free.1)
-
-  module _ (lexemes : List Lexeme) (free : AreTagless definitions) where
-    -- the tokens of an expression from one place up to another, which are its checks and its meaning
-    abbrev RunsIn : (from until : ℕ) → Form → Type 0
-    RunsIn from until form = (front : List Lexeme) × (drop from lexemes ≡ front ++ drop until lexemes) × IsRun options definitions form front
-
-    runs : (from until : ℕ) (form : Form) → IsExpression options lexemes from until form → RunsIn from until form
-    runs from until form is = form_runs options definitions (no_tags definitions free) alt (drop from lexemes) (drop until lexemes) form is
-
-    runs-same : (from until : ℕ) (form other : Form) (run : RunsIn from until form) (run_other : RunsIn from until other) → run.0 ≡ run_other.0
-    runs-same from until form other run run_other =
-        append_cancel_right run.0 run_other.0 (drop until lexemes) (sym run.1 ∙ run_other.1)
-
-    run-fault : (from until : ℕ) (form : Form) (run : RunsIn from until form) (fault : Option Fault) → Checks options definitions false [] form fault
-        → fault ≡ tokens_fault options definitions run.0
-    run-fault from until form run fault checks = (Checks-one false [] form).one fault _ checks (run.2.checks false [])
-
+  module _ (lexemes : List Lexeme) where
     -- the checks of an expression find one fault, or none
     pub expression-one : (from until : ℕ) → FindsOne (ExpressionChecks options lexemes definitions from until)
     expression-one from until = record { one = by }
@@ -215,55 +193,37 @@ module _ (options : Options) (definitions : List Definition) where
         by : (fault other : Option Fault) → ExpressionChecks options lexemes definitions from until fault
             → ExpressionChecks options lexemes definitions from until other → fault ≡ other
         by fault other is is_other =
-            let run = runs from until is.0 is.1 in
-            let run_other = runs from until is_other.0 is_other.1 in
-            run-fault from until is.0 run fault is.2 ∙ ap (tokens_fault options definitions) (runs-same from until is.0 is_other.0 run run_other)
-            ∙ sym (run-fault from until is_other.0 run_other other is_other.2)
+            let same = one_form (drop from lexemes) (drop until lexemes) is.0 is_other.0 is.1 is_other.1 in
+            (Checks-one false [] is_other.0).one fault other (subst (λ (form : Form). Checks options definitions false [] form fault) same is.2) is_other.2
 
-    -- behind an expression a trailing context waits
-    context-waits : (from slash until : ℕ) (fault : Option Fault) → ContextChecks options lexemes definitions from slash until fault
-        → Then (ExpressionChecks options lexemes definitions from slash) (Finds (waits (nth_lexeme lexemes slash))) fault
-    context-waits from slash until fault is = by is.4
-      where
-        by : Then (Checks options definitions false [] is.0)
-            (Then (Finds (waits (nth_lexeme lexemes slash))) (Checks options definitions false (tags_of options definitions is.0) is.1)) fault
-            → Then (ExpressionChecks options lexemes definitions from slash) (Finds (waits (nth_lexeme lexemes slash))) fault
-        by (inl found) = inl ((is.0, is.2, found.0), waiting found.1)
-          where
-            waiting : Then (Finds (waits (nth_lexeme lexemes slash))) (Checks options definitions false (tags_of options definitions is.0) is.1) fault
-                → fault ≡ waits (nth_lexeme lexemes slash)
-            waiting (inl none) = absurd (let h = none.0 in cc)
-            waiting (inr some) = some.2 ∙ some.1
-        by (inr found) = inr (found.0, (is.0, is.2, found.1), found.2)
-
+    -- and so do those of an expression with a trailing context
     pub context-one : (from slash until : ℕ) → FindsOne (ContextChecks options lexemes definitions from slash until)
     context-one from slash until = record { one = by }
       where
+        Behind : (form behind : Form) → Check
+        Behind form behind = Then (Finds (waits (nth_lexeme lexemes slash))) (Checks options definitions false (tags_of options definitions form) behind)
+
+        Both : (form behind : Form) → Check
+        Both form behind = Then (Checks options definitions false [] form) (Behind form behind)
+
+        both-one : (form behind : Form) → FindsOne (Both form behind)
+        both-one form behind =
+            FindsOne-Then (Checks options definitions false [] form) (Behind form behind) (Checks-one false [] form)
+            (then_waits-one (Checks options definitions false (tags_of options definitions form) behind) (nth_lexeme lexemes slash)
+            (Checks-one false (tags_of options definitions form) behind))
+
         by : (fault other : Option Fault) → ContextChecks options lexemes definitions from slash until fault
             → ContextChecks options lexemes definitions from slash until other → fault ≡ other
         by fault other is is_other =
-            let waiting = FindsOne-Then (ExpressionChecks options lexemes definitions from slash) (Finds (waits (nth_lexeme lexemes slash)))
-            (expression-one from slash) (FindsOne-Finds (waits (nth_lexeme lexemes slash))) in
-            waiting.one fault other (context-waits from slash until fault is) (context-waits from slash until other is_other)
+            let same = one_form (drop from lexemes) (drop slash lexemes) is.0 is_other.0 is.2 is_other.2 in
+            let same_behind = one_form (drop (suc slash) lexemes) (drop until lexemes) is.1 is_other.1 is.3 is_other.3 in
+            (both-one is_other.0 is_other.1).one fault other
+            (subst (λ (form : Form). Both form is_other.1 fault) same (subst (λ (behind : Form). Both is.0 behind fault) same_behind is.4)) is_other.4
 
-    followed-nothing : (meaning : Meaning) → followed nothing meaning ≡ meaning
-    followed-nothing meaning =
-        let size : 0 + meaning.size ≡ meaning.size = omega arith in
-        let nesting : max 0 meaning.nesting ≡ meaning.nesting = omega arith in
-        rw (size, nesting) refl
-
-    -- an expression without a fault has one meaning
-    pub expression_meaning-one : (from until : ℕ) (form other : Form) (meaning meant : Meaning) → ExpressionChecks options lexemes definitions from until None
+    -- an expression has one meaning, if it has one
+    pub expression_meaning-one : (from until : ℕ) (form other : Form) (meaning meant : Meaning)
         → IsExpression options lexemes from until form → IsExpression options lexemes from until other
         → IsMeaning options definitions form meaning → IsMeaning options definitions other meant → meaning ≡ meant
-    expression_meaning-one from until form other meaning meant checks is is_other means means_other =
-        let run = runs from until form is in
-        let run_other = runs from until other is_other in
-        let same = runs-same from until form other run run_other in
-        let none = (expression-one from until).one _ None (form, is, run.2.checks false []) checks in
-        let none_other = (expression-one from until).one _ None (other, is_other, run_other.2.checks false []) checks in
-        let one = run.2.means none in
-        let two = run_other.2.means none_other in
-        meaning-one form meaning one.0 means one.1 ∙ sym (followed-nothing one.0) ∙ sym (one.2 nothing)
-        ∙ ap (λ front. tokens_meaning options definitions nothing front) same ∙ two.2 nothing ∙ followed-nothing two.0
-        ∙ sym (meaning-one other meant two.0 means_other two.1)
+    expression_meaning-one from until form other meaning meant is is_other means means_other =
+        let same = one_form (drop from lexemes) (drop until lexemes) form other is is_other in
+        meaning-one other meaning meant (subst (λ (form : Form). IsMeaning options definitions form meaning) same means) means_other
