@@ -1,8 +1,6 @@
 -- The checks of an expression find one fault, or none; and it has one meaning.
-use Rattle.std.proofs.Common.{◌≡◌, ℕ, suc, ◌⊎◌, Bool, true, false, List, [], ◌∷◌, ◌++◌, drop, Option, Some, None, sym, ap, ap₂, subst, inl, inr, ◌∙◌}
+use Rattle.std.proofs.Common.{◌≡◌, ℕ, suc, ◌⊎◌, Bool, true, false, List, [], ◌++◌, drop, Option, Some, None, sym, ap, ap₂, subst, inl, inr, ◌∙◌}
 use Rattle.std.specs.Prelude.{◌&&◌, if◌then◌else◌}
-use Rattle.std.specs.List.{AllByRecursion}
-use Rattle.std.specs.Str.{bytes_eq}
 use Rattle.lx_base.specs.declared.faults.Fault.{Fault}
 use Rattle.lx_base.specs.declared.faults.Fault.TheVariants.{NotClass}
 use Rattle.lx_base.specs.declared.places.Pos.{Pos}
@@ -47,10 +45,6 @@ FindsOne-by Holds Fails one two apart = record { one = by }
     by fault other (inl is) (inr is_other) = absurd (apart is.0 is_other.0)
     by fault other (inr is) (inl is_other) = absurd (apart is_other.0 is.0)
     by fault other (inr is) (inr is_other) = is.1 ∙ sym is_other.1
-
--- no definition has tags
-abbrev pub AreTagless : List Definition → Type 0
-AreTagless definitions = AllByRecursion (λ (definition : Definition). definition.tags ≡ []) definitions
 
 module _ (options : Options) (definitions : List Definition) where
   filled-one : (policy : EmptyPolicy) (is_operand : Bool) (at : Pos) (HasPoint : ℕ → Type 0)
@@ -148,42 +142,6 @@ module _ (options : Options) (definitions : List Definition) where
       is.4 ∙ ap₂ followed (meaning-one front is.0 is_other.0 is.2 is_other.2) (meaning-one back is.1 is_other.1 is.3 is_other.3) ∙ sym is_other.4
   meaning-one (difference left sign right) meaning other is is_other = absurd is
   meaning-one (alternative left sign right) meaning other is is_other = absurd is
-
-  -- where no definition has tags, no meaning has
-  found-tagless : (listed : List Definition) (name : List ℕ) (definition : Definition) → AreTagless listed → definition_of listed name ≡ Some definition
-      → definition.tags ≡ []
-  found-tagless [] name definition free found = absurd (let h = found in cc)
-  found-tagless (first ∷ others) name definition free found =
-      by (bytes_eq name first.name) found (λ later. found-tagless others name definition free.1 later)
-    where
-      by : (same : Bool) → (if same then Some first else definition_of others name) ≡ Some definition
-          → (definition_of others name ≡ Some definition → definition.tags ≡ []) → definition.tags ≡ []
-      by true found later = let same : first ≡ definition = cc in subst (λ (d : Definition). d.tags ≡ []) same free.0
-      by false found later = later found
-
-  leaf_meaning-tagless : AreTagless definitions → (sort : TokenKind) (lexeme : Lexeme) (meaning : Meaning)
-      → IsLeafMeaning options definitions sort lexeme meaning → meaning.tags ≡ []
-  leaf_meaning-tagless free kind.Str lexeme meaning is = ap (λ (m : Meaning). m.tags) is
-  leaf_meaning-tagless free kind.Name lexeme meaning is =
-      ap (λ (m : Meaning). m.tags) is.2 ∙ found-tagless definitions lexeme.text is.0 free is.1
-  leaf_meaning-tagless free kind.STag lexeme meaning is = absurd is
-  leaf_meaning-tagless free kind.MTag lexeme meaning is = absurd is
-  leaf_meaning-tagless free kind.IStr lexeme meaning is = absurd is
-  leaf_meaning-tagless free kind.Class lexeme meaning is = absurd is
-  leaf_meaning-tagless free kind.Config lexeme meaning is = absurd is
-  leaf_meaning-tagless free kind.Number lexeme meaning is = absurd is
-  leaf_meaning-tagless free kind.Bounds lexeme meaning is = absurd is
-  leaf_meaning-tagless free kind.Code lexeme meaning is = absurd is
-  leaf_meaning-tagless free kind.Signs lexeme meaning is = absurd is
-
-  pub meaning-tagless : AreTagless definitions → (form : Form) (meaning : Meaning) → IsMeaning options definitions form meaning → meaning.tags ≡ []
-  meaning-tagless free (leaf lexeme) meaning is = leaf_meaning-tagless free lexeme.kind lexeme meaning is
-  meaning-tagless free (group opening inner) meaning is = absurd is
-  meaning-tagless free (repeated inner sign) meaning is = absurd is
-  meaning-tagless free (sequence front back) meaning is =
-      ap (λ (m : Meaning). m.tags) is.4 ∙ ap₂ (λ a b. a ++ b) (meaning-tagless free front is.0 is.2) (meaning-tagless free back is.1 is.3)
-  meaning-tagless free (difference left sign right) meaning is = absurd is
-  meaning-tagless free (alternative left sign right) meaning is = absurd is
 
   module _ (lexemes : List Lexeme) where
     -- the checks of an expression find one fault, or none

@@ -35,8 +35,7 @@ use Rattle.lx_compile.specs.FirstFault.{IsFaultBehind, IsFaultOfBlocks, IsFaultO
 use Rattle.lx_compile.specs.Parts.{AreParts, HasTooLarge, IsFaultAmong, IsKernelFault}
 use Rattle.lx_compile.specs.declared.parts.Part.{Part}
 use Rattle.lx_compile.specs.declared.parts.Part.TheVariants.{Outside, Block}
-use Rattle.lx_compile.proofs.OneCheck.{AreTagless}
-use Rattle.lx_compile.proofs.OneItem.{AreAlike, HaveSameRules, IsBlockFault-one, Resolves-one, Resolves-tagless, resolves_or_not}
+use Rattle.lx_compile.proofs.OneItem.{AreAlike, HaveSameRules, IsBlockFault-one, Resolves-one, resolves_or_not}
 
 -- ---- syntax
 
@@ -149,7 +148,7 @@ same-turned (scanner ∷ scanners) (other ∷ others) same = (sym same.0, same-t
 -- ---- blocks
 
 module _ (options : Options) where
-  module _ (environment : Environment) (kind : BlockKind) (body : List ℕ) (at start : Pos) (free : AreTagless environment.definitions) where
+  module _ (environment : Environment) (kind : BlockKind) (body : List ℕ) (at start : Pos) where
     -- a body is read in one way
     read-one : (tokens others : List Token) (items another : List Item) → IsRead body start tokens items → IsRead body start others another
         → (tokens ≡ others) × (items ≡ another)
@@ -170,17 +169,14 @@ module _ (options : Options) where
     body-one : (after other : Environment) (resolved another : Resolved) → IsResolvedBody options environment body at start after resolved
         → IsResolvedBody options environment body at start other another → (after ≡ other) × AreAlike resolved another
     body-one after other resolved another is is_other =
-        Resolves-one options (lexemes_of body is.tokens) at environment is.items free after other resolved another is.resolves
+        Resolves-one options (lexemes_of body is.tokens) at environment is.items after other resolved another is.resolves
         (resolves-again is.read is_other.read (λ tokens items. Resolves options at environment (lexemes_of body tokens) items other another) is_other.resolves)
-
-    body-tagless : (after : Environment) (resolved : Resolved) → IsResolvedBody options environment body at start after resolved → AreTagless after.definitions
-    body-tagless after resolved is = Resolves-tagless options (lexemes_of body is.tokens) at environment is.items free after resolved is.resolves
 
     body_or_not : (after : Environment) (resolved : Resolved) (tokens : List Token) (items : List Item) (fault : Fault)
         → IsResolvedBody options environment body at start after resolved → IsRead body start tokens items
         → IsBlockFault options at environment (lexemes_of body tokens) items fault → ⊥
     body_or_not after resolved tokens items fault is read found =
-        resolves_or_not options (lexemes_of body is.tokens) at environment is.items free after resolved fault is.resolves
+        resolves_or_not options (lexemes_of body is.tokens) at environment is.items after resolved fault is.resolves
         (resolves-again is.read read (λ tokens items. IsBlockFault options at environment (lexemes_of body tokens) items fault) found)
 
     -- a body that is read has tokens, and is well-formed
@@ -232,7 +228,7 @@ module _ (options : Options) where
     fault-one fault other (refused tokens items code read found) (no_items others code_other are syntax) =
         absurd (items_or_not tokens others items other read are syntax)
     fault-one fault other (refused tokens items code read found) (refused others another code_other read_other found_other) =
-        IsBlockFault-one options (lexemes_of body tokens) at environment items free fault other found
+        IsBlockFault-one options (lexemes_of body tokens) at environment items fault other found
         (resolves-again read read_other (λ tokens items. IsBlockFault options at environment (lexemes_of body tokens) items other) found_other)
     fault-one fault other (refused tokens items code read found) (unsupported after resolved code_other resolves not_supported is) =
         absurd (body_or_not after resolved tokens items fault resolves read found)
@@ -249,63 +245,63 @@ module _ (options : Options) where
   -- ---- sources
 
   -- a source has one first fault of a block, if it has one
-  among-one : (environment : Environment) (pieces : List SourcePiece) (fault other : Fault) → AreTagless environment.definitions
+  among-one : (environment : Environment) (pieces : List SourcePiece) (fault other : Fault)
       → IsFaultAmong options environment pieces fault → IsFaultAmong options environment pieces other → fault ≡ other
-  among-one environment [] fault other free is is_other = absurd is
-  among-one environment (piece.Outside text ∷ pieces) fault other free is is_other = among-one environment pieces fault other free is is_other
-  among-one environment (piece.Block kind body at start end_line ∷ pieces) fault other free (inl is) (inl is_other) =
-      fault-one environment kind body at start free fault other is is_other
-  among-one environment (piece.Block kind body at start end_line ∷ pieces) fault other free (inl is) (inr is_other) =
-      absurd (block_or_not environment kind body at start free is_other.0 is_other.1 fault is_other.2 is)
-  among-one environment (piece.Block kind body at start end_line ∷ pieces) fault other free (inr is) (inl is_other) =
-      absurd (block_or_not environment kind body at start free is.0 is.1 other is.2 is_other)
-  among-one environment (piece.Block kind body at start end_line ∷ pieces) fault other free (inr is) (inr is_other) =
-      let same = (body-one environment kind body at start free is.0 is_other.0 is.1 is_other.1 is.2.resolves is_other.2.resolves).0 in
-      among-one is.0 pieces fault other (body-tagless environment kind body at start free is.0 is.1 is.2.resolves) is.3
+  among-one environment [] fault other is is_other = absurd is
+  among-one environment (piece.Outside text ∷ pieces) fault other is is_other = among-one environment pieces fault other is is_other
+  among-one environment (piece.Block kind body at start end_line ∷ pieces) fault other (inl is) (inl is_other) =
+      fault-one environment kind body at start fault other is is_other
+  among-one environment (piece.Block kind body at start end_line ∷ pieces) fault other (inl is) (inr is_other) =
+      absurd (block_or_not environment kind body at start is_other.0 is_other.1 fault is_other.2 is)
+  among-one environment (piece.Block kind body at start end_line ∷ pieces) fault other (inr is) (inl is_other) =
+      absurd (block_or_not environment kind body at start is.0 is.1 other is.2 is_other)
+  among-one environment (piece.Block kind body at start end_line ∷ pieces) fault other (inr is) (inr is_other) =
+      let same = (body-one environment kind body at start is.0 is_other.0 is.1 is_other.1 is.2.resolves is_other.2.resolves).0 in
+      among-one is.0 pieces fault other is.3
       (subst (λ (after : Environment). IsFaultAmong options after pieces other) (sym same) is_other.3)
 
   -- a source whose blocks all resolve has none
-  parts_or_not : (environment : Environment) (pieces : List SourcePiece) (parts : List Part) (fault : Fault) → AreTagless environment.definitions
+  parts_or_not : (environment : Environment) (pieces : List SourcePiece) (parts : List Part) (fault : Fault)
       → AreParts options environment pieces parts → IsFaultAmong options environment pieces fault → ⊥
-  parts_or_not environment [] parts fault free are is = is
-  parts_or_not environment (piece.Outside text ∷ pieces) [] fault free are is = are
-  parts_or_not environment (piece.Outside text ∷ pieces) (Outside other ∷ parts) fault free are is = parts_or_not environment pieces parts fault free are.1 is
-  parts_or_not environment (piece.Outside text ∷ pieces) (Block place resolved ∷ parts) fault free are is = are
-  parts_or_not environment (piece.Block kind body at start end_line ∷ pieces) [] fault free are is = are
-  parts_or_not environment (piece.Block kind body at start end_line ∷ pieces) (Outside other ∷ parts) fault free are is = are
-  parts_or_not environment (piece.Block kind body at start end_line ∷ pieces) (Block place resolved ∷ parts) fault free are (inl is) =
-      block_or_not environment kind body at start free are.1.0 resolved fault are.1.1 is
-  parts_or_not environment (piece.Block kind body at start end_line ∷ pieces) (Block place resolved ∷ parts) fault free are (inr is) =
+  parts_or_not environment [] parts fault are is = is
+  parts_or_not environment (piece.Outside text ∷ pieces) [] fault are is = are
+  parts_or_not environment (piece.Outside text ∷ pieces) (Outside other ∷ parts) fault are is = parts_or_not environment pieces parts fault are.1 is
+  parts_or_not environment (piece.Outside text ∷ pieces) (Block place resolved ∷ parts) fault are is = are
+  parts_or_not environment (piece.Block kind body at start end_line ∷ pieces) [] fault are is = are
+  parts_or_not environment (piece.Block kind body at start end_line ∷ pieces) (Outside other ∷ parts) fault are is = are
+  parts_or_not environment (piece.Block kind body at start end_line ∷ pieces) (Block place resolved ∷ parts) fault are (inl is) =
+      block_or_not environment kind body at start are.1.0 resolved fault are.1.1 is
+  parts_or_not environment (piece.Block kind body at start end_line ∷ pieces) (Block place resolved ∷ parts) fault are (inr is) =
       let after = are.1.0 in
-      let same = (body-one environment kind body at start free after is.0 resolved is.1 are.1.1.resolves is.2.resolves).0 in
-      parts_or_not after pieces parts fault (body-tagless environment kind body at start free after resolved are.1.1.resolves) are.1.2
+      let same = (body-one environment kind body at start after is.0 resolved is.1 are.1.1.resolves is.2.resolves).0 in
+      parts_or_not after pieces parts fault are.1.2
       (subst (λ (after : Environment). IsFaultAmong options after pieces fault) (sym same) is.3)
 
   -- the parts of a source have one first scanner with too many kernels, or none
-  kernels-one : (environment : Environment) (pieces : List SourcePiece) (parts others : List Part) (fault other : Option Fault) → AreTagless environment.definitions
+  kernels-one : (environment : Environment) (pieces : List SourcePiece) (parts others : List Part) (fault other : Option Fault)
       → AreParts options environment pieces parts → AreParts options environment pieces others
       → IsKernelFault parts fault → IsKernelFault others other → fault ≡ other
-  kernels-one environment [] [] [] fault other free are are_other is is_other = is ∙ sym is_other
-  kernels-one environment [] [] (second ∷ others) fault other free are are_other is is_other = absurd are_other
-  kernels-one environment [] (part ∷ parts) others fault other free are are_other is is_other = absurd are
-  kernels-one environment (piece.Outside text ∷ pieces) [] others fault other free are are_other is is_other = absurd are
-  kernels-one environment (piece.Outside text ∷ pieces) (Block place resolved ∷ parts) others fault other free are are_other is is_other = absurd are
-  kernels-one environment (piece.Outside text ∷ pieces) (Outside first ∷ parts) [] fault other free are are_other is is_other = absurd are_other
-  kernels-one environment (piece.Outside text ∷ pieces) (Outside first ∷ parts) (Block place resolved ∷ others) fault other free are are_other is is_other = absurd are_other
-  kernels-one environment (piece.Outside text ∷ pieces) (Outside first ∷ parts) (Outside second ∷ others) fault other free are are_other is is_other =
-      kernels-one environment pieces parts others fault other free are.1 are_other.1 is is_other
-  kernels-one environment (piece.Block kind body at start end_line ∷ pieces) [] others fault other free are are_other is is_other = absurd are
-  kernels-one environment (piece.Block kind body at start end_line ∷ pieces) (Outside first ∷ parts) others fault other free are are_other is is_other = absurd are
-  kernels-one environment (piece.Block kind body at start end_line ∷ pieces) (Block place resolved ∷ parts) [] fault other free are are_other is is_other = absurd are_other
-  kernels-one environment (piece.Block kind body at start end_line ∷ pieces) (Block place resolved ∷ parts) (Outside second ∷ others) fault other free are are_other is is_other =
+  kernels-one environment [] [] [] fault other are are_other is is_other = is ∙ sym is_other
+  kernels-one environment [] [] (second ∷ others) fault other are are_other is is_other = absurd are_other
+  kernels-one environment [] (part ∷ parts) others fault other are are_other is is_other = absurd are
+  kernels-one environment (piece.Outside text ∷ pieces) [] others fault other are are_other is is_other = absurd are
+  kernels-one environment (piece.Outside text ∷ pieces) (Block place resolved ∷ parts) others fault other are are_other is is_other = absurd are
+  kernels-one environment (piece.Outside text ∷ pieces) (Outside first ∷ parts) [] fault other are are_other is is_other = absurd are_other
+  kernels-one environment (piece.Outside text ∷ pieces) (Outside first ∷ parts) (Block place resolved ∷ others) fault other are are_other is is_other = absurd are_other
+  kernels-one environment (piece.Outside text ∷ pieces) (Outside first ∷ parts) (Outside second ∷ others) fault other are are_other is is_other =
+      kernels-one environment pieces parts others fault other are.1 are_other.1 is is_other
+  kernels-one environment (piece.Block kind body at start end_line ∷ pieces) [] others fault other are are_other is is_other = absurd are
+  kernels-one environment (piece.Block kind body at start end_line ∷ pieces) (Outside first ∷ parts) others fault other are are_other is is_other = absurd are
+  kernels-one environment (piece.Block kind body at start end_line ∷ pieces) (Block place resolved ∷ parts) [] fault other are are_other is is_other = absurd are_other
+  kernels-one environment (piece.Block kind body at start end_line ∷ pieces) (Block place resolved ∷ parts) (Outside second ∷ others) fault other are are_other is is_other =
       absurd are_other
-  kernels-one environment (piece.Block kind body at start end_line ∷ pieces) (Block place resolved ∷ parts) (Block place_other another ∷ others) fault other free are are_other is is_other =
+  kernels-one environment (piece.Block kind body at start end_line ∷ pieces) (Block place resolved ∷ parts) (Block place_other another ∷ others) fault other are are_other is is_other =
       by is is_other (λ is is_other.
-      kernels-one are.1.0 pieces parts others fault other (body-tagless environment kind body at start free are.1.0 resolved are.1.1.resolves) are.1.2
+      kernels-one are.1.0 pieces parts others fault other are.1.2
       (subst (λ (given : Environment). AreParts options given pieces others) (sym both.0) are_other.1.2) is is_other)
     where
       both : (are.1.0 ≡ are_other.1.0) × AreAlike resolved another
-      both = body-one environment kind body at start free are.1.0 are_other.1.0 resolved another are.1.1.resolves are_other.1.1.resolves
+      both = body-one environment kind body at start are.1.0 are_other.1.0 resolved another are.1.1.resolves are_other.1.1.resolves
 
       by : (HasTooLarge resolved.scanners × (fault ≡ Some (TooManyStates place))) ⊎ ((HasTooLarge resolved.scanners → ⊥) × IsKernelFault parts fault)
           → (HasTooLarge another.scanners × (other ≡ Some (TooManyStates place_other))) ⊎ ((HasTooLarge another.scanners → ⊥) × IsKernelFault others other)
@@ -318,11 +314,11 @@ module _ (options : Options) where
 
   behind-one : (pieces : List SourcePiece) (fault other : Option Fault) → IsFaultBehind options pieces fault → IsFaultBehind options pieces other → fault ≡ other
   behind-one pieces fault other is is_other =
-      kernels-one first_environment pieces is.0 is_other.0 fault other tt is.1 is_other.1 is.2 is_other.2
+      kernels-one first_environment pieces is.0 is_other.0 fault other is.1 is_other.1 is.2 is_other.2
 
   behind_or_among : (pieces : List SourcePiece) (fault : Option Fault) (other : Fault) → IsFaultBehind options pieces fault
       → IsFaultAmong options first_environment pieces other → ⊥
-  behind_or_among pieces fault other is is_other = parts_or_not first_environment pieces is.0 other tt is.1 is_other
+  behind_or_among pieces fault other is is_other = parts_or_not first_environment pieces is.0 other is.1 is_other
 
   blocks-one : (pieces : List SourcePiece) (fault other : Option Fault) → IsFaultOfBlocks options pieces fault → IsFaultOfBlocks options pieces other → fault ≡ other
   blocks-one pieces None None is is_other = refl
@@ -330,7 +326,7 @@ module _ (options : Options) where
   blocks-one pieces None (Some other) is (inr is_other) = behind-one pieces None (Some other) is is_other
   blocks-one pieces (Some fault) None (inl is) is_other = absurd (behind_or_among pieces None fault is_other is)
   blocks-one pieces (Some fault) None (inr is) is_other = behind-one pieces (Some fault) None is is_other
-  blocks-one pieces (Some fault) (Some other) (inl is) (inl is_other) = ap Some (among-one first_environment pieces fault other tt is is_other)
+  blocks-one pieces (Some fault) (Some other) (inl is) (inl is_other) = ap Some (among-one first_environment pieces fault other is is_other)
   blocks-one pieces (Some fault) (Some other) (inl is) (inr is_other) = absurd (behind_or_among pieces (Some other) fault is_other is)
   blocks-one pieces (Some fault) (Some other) (inr is) (inl is_other) = absurd (behind_or_among pieces (Some fault) other is is_other)
   blocks-one pieces (Some fault) (Some other) (inr is) (inr is_other) = behind-one pieces (Some fault) (Some other) is is_other

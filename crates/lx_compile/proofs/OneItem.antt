@@ -19,11 +19,7 @@ use Rattle.lx_rules.specs.Items.{ExpressionChecks, Goes, ends, refused, next, He
 use Rattle.lx_rules.specs.Lexemes.{Lexeme, nth_lexeme, sort_at}
 use Rattle.lx_rules.specs.declared.resolved.Resolved.{Resolved}
 use Rattle.lx_rules.specs.declared.resolved.Scanner.{Scanner}
-use Rattle.lx_compile.proofs.OneCheck.{AreTagless, FindsOne, FindsOne-Finds, FindsOne-Then, FindsOne-by, context-one, expression-one, expression_meaning-one, meaning-tagless, then_waits-one}
-
-tagless-append : (definitions : List Definition) (definition : Definition) → AreTagless definitions → definition.tags ≡ [] → AreTagless (definitions ++ definition ∷ [])
-tagless-append [] definition free is = (is, tt)
-tagless-append (first ∷ definitions) definition free is = (free.0, tagless-append definitions definition free.1 is)
+use Rattle.lx_compile.proofs.OneCheck.{FindsOne, FindsOne-Finds, FindsOne-Then, FindsOne-by, context-one, expression-one, expression_meaning-one, then_waits-one}
 
 -- scanners have the same rules, one by one
 abbrev pub HaveSameRules : List Scanner → List Scanner → Type 0
@@ -136,29 +132,20 @@ module _ (options : Options) (lexemes : List Lexeme) where
       ∙ sym is_other.3
   after-one state (Text value) after other is is_other = is ∙ sym is_other
 
-  after-tagless : (state : State) (item : Item) (after : State) → AreTagless state.definitions → IsAfter options lexemes state item after
-      → AreTagless after.definitions
-  after-tagless state (Define name from until) after free is =
-      subst (λ (s : State). AreTagless s.definitions) (sym is.4)
-      (tagless-append state.definitions _ free (meaning-tagless options state.definitions free is.0 is.1 is.3))
-  after-tagless state (Configure name value) after free is = subst (λ (s : State). AreTagless s.definitions) (sym is.2) free
-  after-tagless state (Rule first head slash until goes code) after free is = subst (λ (s : State). AreTagless s.definitions) (sym is.3) free
-  after-tagless state (Text value) after free is = subst (λ (s : State). AreTagless s.definitions) (sym is) free
-
   ends-one : {state : State} {other : Result State Fault} → Goes options lexemes state [] other → Ok state ≡ other
   ends-one ends = refl
 
   -- items come to one end
   pub Goes-one : {state : State} {items : List Item} {result : Result State Fault} → Goes options lexemes state items result
-      → AreTagless state.definitions → (other : Result State Fault) → Goes options lexemes state items other → result ≡ other
-  Goes-one ends free other goes = ends-one goes
-  Goes-one (refused {state = state} {item = item} {items = items} fault checks) free other goes = by other goes
+      → (other : Result State Fault) → Goes options lexemes state items other → result ≡ other
+  Goes-one ends other goes = ends-one goes
+  Goes-one (refused {state = state} {item = item} {items = items} fault checks) other goes = by other goes
     where
       by : (other : Result State Fault) → Goes options lexemes state (item ∷ items) other → Err fault ≡ other
       by other (refused found checks_other) = let same = (item-one state item).one (Some fault) (Some found) checks checks_other in cc
       by other (next after checks_other becomes goes) = absurd (let same = (item-one state item).one (Some fault) None checks checks_other in cc)
-  Goes-one (next {state = state} {item = item} {items = items} {result = result} after checks becomes goes) free other goes_other =
-      by other goes_other (λ other goes_other. Goes-one goes (after-tagless state item after free becomes) other goes_other)
+  Goes-one (next {state = state} {item = item} {items = items} {result = result} after checks becomes goes) other goes_other =
+      by other goes_other (λ other goes_other. Goes-one goes other goes_other)
     where
       by : (other : Result State Fault) → Goes options lexemes state (item ∷ items) other
           → ((other : Result State Fault) → Goes options lexemes after items other → result ≡ other) → result ≡ other
@@ -166,14 +153,6 @@ module _ (options : Options) (lexemes : List Lexeme) where
       by other (next after_other checks_other becomes_other goes_other) later =
           later other
           (subst (λ (s : State). Goes options lexemes s items other) (sym (after-one state item after after_other becomes becomes_other)) goes_other)
-
-  -- and they leave no definition with tags
-  pub Goes-tagless : {state : State} {items : List Item} {result : Result State Fault} → Goes options lexemes state items result
-      → AreTagless state.definitions → (last : State) → result ≡ Ok last → AreTagless last.definitions
-  Goes-tagless (ends {state = state}) free last is = let same : state ≡ last = cc in subst (λ (s : State). AreTagless s.definitions) same free
-  Goes-tagless (refused fault checks) free last is = absurd (let h = is in cc)
-  Goes-tagless (next {state = state} {item = item} after checks becomes goes) free last is =
-      Goes-tagless goes (after-tagless state item after free becomes) last is
 
   module _ (at : Pos) where
     clash-one : (names : Spellings) (rules : List RuleOf) → FindsOne (ClashCheck at names rules)
@@ -189,11 +168,11 @@ module _ (options : Options) (lexemes : List Lexeme) where
         (FindsOne-Then Lonely (Then Targets Scanners) (FindsOne-Finds (lonely_fault at state.rules conds))
         (FindsOne-Then Targets Scanners (FindsOne-Finds (targets_fault state.rules conds)) (FindsOne-Finds (scanners_fault at state.rules conds))))
 
-    module _ (environment : Environment) (items : List Item) (free : AreTagless environment.definitions) where
+    module _ (environment : Environment) (items : List Item) where
       -- what is known behind all items is one thing
       state-one : (state other : State) → Goes options lexemes (first_state environment) items (Ok state)
           → Goes options lexemes (first_state environment) items (Ok other) → state ≡ other
-      state-one state other goes goes_other = let same = Goes-one goes free (Ok other) goes_other in cc
+      state-one state other goes goes_other = let same = Goes-one goes (Ok other) goes_other in cc
 
       block_checks-one : (state other : State) (fault found : Option Fault) → Goes options lexemes (first_state environment) items (Ok state)
           → Goes options lexemes (first_state environment) items (Ok other) → BlockChecks at state fault → BlockChecks at other found → fault ≡ found
@@ -204,20 +183,20 @@ module _ (options : Options) (lexemes : List Lexeme) where
       -- a block has one fault, if it has one
       pub IsBlockFault-one : (fault other : Fault) → IsBlockFault options at environment lexemes items fault
           → IsBlockFault options at environment lexemes items other → fault ≡ other
-      IsBlockFault-one fault other (inl goes) (inl goes_other) = let same = Goes-one goes free (Err other) goes_other in cc
-      IsBlockFault-one fault other (inl goes) (inr found) = absurd (let same = Goes-one goes free (Ok found.0) found.1 in cc)
-      IsBlockFault-one fault other (inr found) (inl goes) = absurd (let same = Goes-one goes free (Ok found.0) found.1 in cc)
+      IsBlockFault-one fault other (inl goes) (inl goes_other) = let same = Goes-one goes (Err other) goes_other in cc
+      IsBlockFault-one fault other (inl goes) (inr found) = absurd (let same = Goes-one goes (Ok found.0) found.1 in cc)
+      IsBlockFault-one fault other (inr found) (inl goes) = absurd (let same = Goes-one goes (Ok found.0) found.1 in cc)
       IsBlockFault-one fault other (inr found) (inr found_other) =
           let same = block_checks-one found.0 found_other.0 (Some fault) (Some other) found.1 found_other.1 found.2 found_other.2 in cc
 
       -- a block that resolves has none
       pub resolves_or_not : (after : Environment) (resolved : Resolved) (fault : Fault) → Resolves options at environment lexemes items after resolved
           → IsBlockFault options at environment lexemes items fault → ⊥
-      resolves_or_not after resolved fault is (inl goes) = let same = Goes-one is.1 free (Err fault) goes in cc
+      resolves_or_not after resolved fault is (inl goes) = let same = Goes-one is.1 (Err fault) goes in cc
       resolves_or_not after resolved fault is (inr found) =
           let same = block_checks-one is.0 found.0 None (Some fault) is.1 found.1 is.2 found.2 in cc
 
-      -- a block leaves one environment, without tags, and what it resolves to is alike
+      -- a block leaves one environment, and what it resolves to is alike
       pub Resolves-one : (after other : Environment) (resolved another : Resolved) → Resolves options at environment lexemes items after resolved
           → Resolves options at environment lexemes items other another → (after ≡ other) × AreAlike resolved another
       Resolves-one after other resolved another is is_other =
@@ -229,7 +208,3 @@ module _ (options : Options) (lexemes : List Lexeme) where
               scanners = scanners-alike options.conds is.0.rules (conditions_of is.0.rules) resolved.scanners another.scanners is.3.scanners ends_so.scanners;
             },
           )
-
-      pub Resolves-tagless : (after : Environment) (resolved : Resolved) → Resolves options at environment lexemes items after resolved → AreTagless after.definitions
-      Resolves-tagless after resolved is =
-          subst (λ (e : Environment). AreTagless e.definitions) (sym is.3.environment_is) (Goes-tagless is.1 free is.0 refl)
