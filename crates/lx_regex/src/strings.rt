@@ -52,7 +52,12 @@ fn append_characters(text: &mut Vec<u32>, expr: &Expr) -> Result<bool, Memory>
             }
             None => Ok(false),
         },
-        Expr::AnyUnit => Ok(false),
+        Expr::AnyUnit
+        | Expr::Alt(_)
+        | Expr::Rep(..)
+        | Expr::STag(_)
+        | Expr::MTag(_)
+        | Expr::Group(..) => Ok(false),
         Expr::Cat(members) => {
             for member in members {
                 if !append_characters(text, member)? {
