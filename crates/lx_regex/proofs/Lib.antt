@@ -13,6 +13,8 @@ pub mod NoUnits
 pub mod OneMatch
 pub mod OwnParts
 pub mod PartCount
+pub mod PartLists
+pub mod PartSizes
 pub mod PartStates
 pub mod PlainTest
 pub mod PlainWalk

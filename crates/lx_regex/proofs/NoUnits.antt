@@ -282,7 +282,7 @@ answer-over e body low high is over =
     answer_for false e (Rep body low high) _ is (λ tags. term_of-rep tags body low high) (λ enc tags part.
     no (λ h. over (repeat_body enc part _ low high h).0))
 
-next_member : (members : List Expr) (i : ℕ) (member : Expr) → i < length members → member ≡ get_or members i member
+pub next_member : (members : List Expr) (i : ℕ) (member : Expr) → i < length members → member ≡ get_or members i member
     → drop i members ≡ member ∷ drop (suc i) members
 next_member members i member lt is = drop-cons members i member lt ∙ ap (λ y. y ∷ drop (suc i) members) (sym is)
 

@@ -1,5 +1,5 @@
 -- What an `Expr` stands for, and its size.
-use Rattle.std.specs.Prelude.{ℕ, ◌+◌, ◌*◌, max, List, [], ◌∷◌, map, sum, Option, Some, None}
+use Rattle.std.specs.Prelude.{ℕ, ◌+◌, ◌*◌, max, List, [], ◌∷◌, map, sum, Option, Some, None, ◌==◌, if◌then◌else◌}
 use Rattle.lx_class.specs.declared.ranges.Range.{Range}
 use Rattle.lx_regex.specs.Term.{Term, empty, class, any_unit, cat, alt, repeat, tag, group, Terms, nil, cons}
 use Rattle.lx_regex.specs.declared.expr.Expr.{Expr}
@@ -37,7 +37,7 @@ abbrev pub times : (low : ℕ) → (high : Option ℕ) → ℕ
 times low None = max low 1
 times low (Some high) = max (max low high) 1
 
--- the size of one form, with the sizes of the expressions inside
+-- the size of one form, with the sizes of the expressions inside; group 0, which is the whole match, counts for nothing
 abbrev pub size_step : Expr-F ℕ → ℕ
 size_step Expr-F.Empty = 1
 size_step (Expr-F.Class set) = 1
@@ -47,7 +47,7 @@ size_step (Expr-F.Alt members) = sum members.items + 1
 size_step (Expr-F.Rep body low high) = body.value * times low high + 1
 size_step (Expr-F.STag number) = 1
 size_step (Expr-F.MTag number) = 1
-size_step (Expr-F.Group number body) = body.value + 2
+size_step (Expr-F.Group number body) = if number == 0 then body.value else body.value + 2
 
 -- the size of an expression
 abbrev pub size_of : Expr → ℕ

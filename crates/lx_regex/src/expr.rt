@@ -47,8 +47,8 @@ fn sum_of_sizes(members: &[Expr]) -> u64
 
 /// The size of an expression, by which scanners are limited: that of a sequence is the sum over its members, that of an
 /// alternation 1 more; that of a repetition is 1 and its body's, as often as the greatest of 1 and its bounds says; that of a
-/// group is 2 more than its body's, and that of each other form is 1. What is greater than 2^40 counts as 2^40. It takes no
-/// memory.
+/// group is 2 more than its body's, but for group 0, which counts as its body; and that of each other form is 1. What is
+/// greater than 2^40 counts as 2^40. It takes no memory.
 #[cycle(size)]
 pub fn size(expr: &Expr) -> u64
     ensures { result ≡ min (size_of expr.now) (2 ^ 40) }
@@ -61,7 +61,10 @@ pub fn size(expr: &Expr) -> u64
             let times = u64::from((*low).max(high.unwrap_or(1)).max(1));
             SIZE_LIMIT.min(SIZE_LIMIT.min(size(body).saturating_mul(times)) + 1)
         }
-        Expr::Group(_, body) => SIZE_LIMIT.min(size(body) + 2),
+        Expr::Group(number, body) => {
+            let ends = if *number == 0 { 0 } else { 2 };
+            SIZE_LIMIT.min(size(body) + ends)
+        }
     }
 }
 

@@ -4,6 +4,7 @@
 pub mod examples;
 pub mod expr;
 pub mod laws;
+pub mod parts;
 pub mod rules;
 pub mod strings;
 
