@@ -160,7 +160,7 @@ iterations_of enc part body low high done (suc count) has =
     let one = has (copy_part part body low high done) in (
       iteration one.0 more.0,
       ap units (sym (iteration_label (nat_le low done) 0 _)) ∙ units_label (iteration_move (nat_le low done) 0) _
-      ∙ units_append (script enc (copy_part part body low high done) one.0) _ ∙ ap₂ (λ a b. a ++ b) one.1 more.1,
+          ∙ units_append (script enc (copy_part part body low high done) one.0) _ ∙ ap₂ (λ a b. a ++ b) one.1 more.1,
     )
 
 pub body_repeat : (enc : Enc) (part : ℕ) (body : Term) (low : ℕ) (high : Option ℕ) → IsAtMost low high

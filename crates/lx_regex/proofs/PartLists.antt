@@ -1,18 +1,17 @@
 -- Lists of parts that grow, expression by expression.
-use Rattle.std.proofs.Common.{◌≡◌, ℕ, zero, suc, ◌+◌, ◌-◌, ◌*◌, ◌/◌, ◌<◌, ◌≤◌, arith, List, [], ◌∷◌, ◌++◌, map, length, get_or, drop, Vec, Box, Global, Option, refl, sym, ap, ap₂, ◌∙◌, subst, append_assoc, append-nil, length-append, ◌⊎◌, ⊎_elim}
+use Rattle.std.proofs.Common.{◌≡◌, ℕ, suc, ◌+◌, ◌-◌, ◌*◌, ◌/◌, ◌<◌, ◌≤◌, arith, List, [], ◌∷◌, ◌++◌, map, length, get_or, drop, refl, sym, ap, ap₂, ◌∙◌, append_assoc, append-nil, length-append, ◌⊎◌, ⊎_elim}
 use Rattle.std.proofs.lemmas.List.{map-append, length-map}
 use Rattle.std.proofs.Math.ListN.{drop_of_length-le}
 use Rattle.lx_class.specs.declared.ranges.Range.{Range}
-use Rattle.lx_regex.specs.Term.{Term, empty, class, any_unit, cat, alt, repeat, tag, group, Terms, nil, cons, copies, parts, parts_of_all}
-use Rattle.lx_regex.specs.Parts.{Part, Sort, copied_parts, parts_in, parts_among}
+use Rattle.lx_regex.specs.Term.{Term, empty, class, any_unit, cat, alt, repeat, tag, group, copies, parts, parts_of_all}
+use Rattle.lx_regex.specs.Parts.{Part, copied_parts, parts_in, parts_among}
 use Rattle.lx_regex.specs.PartList.{own_sort, set_of, shown, shown_sort}
-use Rattle.lx_regex.specs.PartList as list
-use Rattle.lx_regex.specs.Expr.{members_of, ranges_of, term_of}
+use Rattle.lx_regex.specs.Expr.{ranges_of, term_of}
 use Rattle.lx_regex.specs.declared.expr.Expr.{Expr}
-use Rattle.lx_regex.specs.declared.expr.Expr.TheVariants.{Empty, Class, AnyUnit, Cat, Alt, Rep, STag, MTag, Group}
+use Rattle.lx_regex.specs.declared.expr.Expr.TheVariants.{Empty, Class, AnyUnit, STag, MTag}
 use Rattle.lx_regex.specs.declared.parts.Part as program
 use Rattle.lx_regex.specs.declared.parts.PartSort.{PartSort}
-use Rattle.lx_regex.proofs.Folds.{term_of-empty, term_of-class, term_of-any_unit, term_of-cat, term_of-alt, term_of-rep, term_of-stag, term_of-mtag, term_of-group}
+use Rattle.lx_regex.proofs.Folds.{term_of-empty, term_of-class, term_of-any_unit, term_of-stag, term_of-mtag}
 use Rattle.lx_regex.proofs.NoUnits.{terms_in, next_member}
 use Rattle.lx_regex.proofs.PartCount.{part_count, among_count, copied_count}
 
@@ -108,7 +107,7 @@ MembersLeft rule part members start now child = (tags : ℕ)
     → now ++ map (shown tags) (parts_among rule part child (length now) (terms_in tags (drop child members)))
     ≡ start ++ map (shown tags) (parts_among rule part 0 (length start) (terms_in tags members))
 
-length-shown : (tags : ℕ) (now : List program.Part) (more : List Part) (count : ℕ) → length more ≡ count
+pub length-shown : (tags : ℕ) (now : List program.Part) (more : List Part) (count : ℕ) → length more ≡ count
     → length (now ++ map (shown tags) more) ≡ length now + count
 length-shown tags now more count e = length-append now (map (shown tags) more) ∙ ap (λ n. length now + n) (length-map more (shown tags) ∙ e)
 

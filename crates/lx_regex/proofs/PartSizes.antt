@@ -1,12 +1,12 @@
 -- How many parts an expression has for its size.
-use Rattle.std.proofs.Common.{◌≡◌, ℕ, zero, suc, ◌+◌, ◌*◌, ◌≤◌, max, arith, Bool, true, false, List, [], ◌∷◌, map, length, sum, Option, Some, None, refl, sym, ap, ap₂, ◌∙◌, subst}
+use Rattle.std.proofs.Common.{◌≡◌, ℕ, zero, suc, ◌+◌, ◌*◌, ◌≤◌, arith, Bool, true, false, List, [], ◌∷◌, map, length, sum, Option, Some, None, refl, sym, ap, ap₂, ◌∙◌, subst}
 use Rattle.std.proofs.Math.Nat.{mul-le-mul_left}
 use Rattle.std.proofs.lemmas.List.Sums.{sum_by-cons}
 use Rattle.std.specs.Prelude.{◌==◌, nat_le, if◌then◌else◌}
-use Rattle.lx_regex.specs.Term.{Term, empty, class, any_unit, cat, alt, repeat, tag, group, Terms, nil, cons, copies, parts, parts_of_all}
+use Rattle.lx_regex.specs.Term.{Term, empty, class, any_unit, cat, alt, repeat, tag, group, copies, parts, parts_of_all}
 use Rattle.lx_regex.specs.Script.{put_tag, merge_tags, tags_in, tags_among}
 use Rattle.lx_regex.specs.Limits.{HasLongSequences, HaveLongSequences, member_count}
-use Rattle.lx_regex.specs.Expr.{members_of, ranges_of, term_step, term_of, times, size_step, size_of}
+use Rattle.lx_regex.specs.Expr.{ranges_of, term_step, term_of, times, size_step, size_of}
 use Rattle.lx_regex.specs.declared.expr.Expr.{Expr}
 use Rattle.lx_regex.specs.declared.expr.Expr.TheOpen.{Expr-F}
 use Rattle.lx_regex.specs.declared.expr.Expr.TheViews.{roll-Expr}

@@ -9,5 +9,6 @@ pub mod rules;
 pub mod strings;
 
 pub use expr::{Expr, nullable, size};
+pub use parts::{Part, PartSort, Parts};
 pub use rules::{Kind, Rule, RuleSet, Tag};
 pub use strings::{StringRule, Strings, strings_of};

@@ -1,10 +1,11 @@
 //! The parts of a rule list: each occurrence of a form in it, in preorder.
 ghost use Rattle.std.specs.Prelude.{◌≡◌, ℕ, ◌+◌, ◌*◌, ◌<◌, ◌^◌, ◌++◌, ◌∷◌, [], map, length, IfOk, OnErr, OnOk};
+ghost use Rattle.std.specs.Bool.{OnFalse};
 ghost use Rattle.lx_regex.specs.Expr.{members_of, term_of};
 ghost use Rattle.lx_regex.specs.Limits.{IsWithinLimits};
 ghost use Rattle.lx_regex.specs.PartList.{own_sort, shown, shown_parts, shown_sort};
-ghost use Rattle.lx_regex.specs.Parts.{copied_parts, parts_among, parts_in};
-ghost use Rattle.lx_regex.specs.Pattern.{patterns_of};
+ghost use Rattle.lx_regex.specs.Parts.{copied_parts, parts_among, parts_in, parts_of_rules};
+ghost use Rattle.lx_regex.specs.Pattern.{is_end, pattern_of, patterns_of};
 ghost use Rattle.lx_regex.specs.Term.{copies, parts, parts_of_all};
 
 use crate::expr::Expr;
@@ -129,7 +130,7 @@ fn append_copies(
     requires { (tags : ℕ) → length list.old.items + count * parts (term_of tags body.now) < 2 ^ 32 }
     ensures { OnOk result ((tags : ℕ) → list.new.items ≡ list.old.items
         ++ map (shown tags) (copied_parts (λ number copy. parts_in around.rule around.part number copy (term_of tags body.now))
-            (parts (term_of tags body.now)) count 0 (length list.old.items))) }
+        (parts (term_of tags body.now)) count 0 (length list.old.items))) }
 {
     for child in 0..count {
         append(alloc, list, around, child, body)?;
@@ -167,5 +168,68 @@ fn append(
         }
         Expr::Group(_, body) => append(alloc, list, inside, 0, body),
         Expr::Empty | Expr::Class(_) | Expr::AnyUnit | Expr::STag(_) | Expr::MTag(_) => Ok(()),
+    }
+}
+
+/// Puts the parts of a rule that stands at this place in its list at the end; the rule `$` has none.
+fn append_rule(alloc: Global, list: &mut Vec<Part>, place: u32, rule: &Rule) -> Result<(), Memory>
+    requires { OnFalse (is_end rule.now.kind) ((tags : ℕ) → length list.old.items + parts (term_of tags rule.now.expr) < 2 ^ 32) }
+    ensures { OnOk result (list.new.items ≡ list.old.items
+        ++ map (shown (length rule.now.tags)) (parts_of_rules place (length list.old.items) (pattern_of rule.now ∷ []))) }
+{
+    match rule.kind {
+        Kind::Eof => Ok(()),
+        Kind::Plain | Kind::Default => {
+            let rules = Around {
+                rule: rule.number,
+                part: 0,
+            };
+            append(alloc, list, rules, place, &rule.expr)
+        }
+    }
+}
+
+impl Parts {
+    /// The parts of a rule list within the limits of a scanner.
+    pub fn of(alloc: Global, set: &RuleSet) -> Result<Parts, Memory>
+        requires { IsWithinLimits set.now.rules }
+        ensures { IfOk result (λ parts. parts ≡ shown_parts (patterns_of set.now.rules)) }
+    {
+        let mut parts = Vec::new(alloc);
+        parts.push(Part {
+            rule: 0,
+            up: 0,
+            child: 0,
+            sort: PartSort::Rules,
+        })?;
+        for (place, rule) in set.rules.as_slice().iter().enumerate() {
+            append_rule(alloc, &mut parts, place as u32, rule)?;
+        }
+        Ok(Parts { parts })
+    }
+
+    /// The empty list. It takes no memory.
+    pub fn new(alloc: Global) -> Self
+        ensures { result ≡ [] }
+    {
+        Parts {
+            parts: Vec::new(alloc),
+        }
+    }
+
+    /// The parts, in order. It takes no memory.
+    pub fn as_slice(&self) -> &[Part]
+        ensures { result.now ≡ self.now }
+    {
+        self.parts.as_slice()
+    }
+
+    /// Puts a part at the end. Where memory runs out the list stays as it was, and the part is dropped.
+    pub fn push(&mut self, part: Part) -> Result<(), Memory>
+        ensures pushed { OnOk result (self.new ≡ self.old ++ part ∷ []) }
+        ensures kept { OnErr result (self.new ≡ self.old) }
+    {
+        self.parts.push(part)?;
+        Ok(())
     }
 }
