@@ -1,0 +1,7 @@
+//! The tagged automaton of a rule list, with ordered moves.
+#![tactic(auto)]
+
+pub mod counts;
+pub mod states;
+pub mod tags;
+
