@@ -1,2 +1,3 @@
+pub mod MemberMoves
 pub mod Members
 pub mod TagMerges
