@@ -1,3 +1,4 @@
+pub mod ClassLists
 pub mod MemberMoves
 pub mod Members
 pub mod TagMerges

@@ -1,3 +1,4 @@
+pub mod Classes
 pub mod Ends
 pub mod Moves
 pub mod TagLists
