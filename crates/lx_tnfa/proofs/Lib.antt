@@ -1,4 +1,5 @@
 pub mod ClassLists
+pub mod FirstStates
 pub mod MemberMoves
 pub mod Members
 pub mod TagMerges

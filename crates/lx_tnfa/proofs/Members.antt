@@ -1,5 +1,7 @@
 -- What holds of all members holds of each.
-use Rattle.std.proofs.Common.{◌≡◌, ℕ, zero, suc, ◌+◌, ◌*◌, ◌<◌, ◌≤◌, arith, List, [], ◌∷◌, length, get_or, drop, refl, sym, ap, ◌∙◌, subst}
+use Rattle.std.proofs.Common.{◌≡◌, ℕ, zero, suc, ◌+◌, ◌*◌, ◌<◌, ◌≤◌, arith, Bool, true, false, List, [], ◌∷◌, length, get_or, drop, refl, sym, ap, ◌∙◌, subst}
+use Rattle.std.proofs.lemmas.Bool.{eqb-true}
+use Rattle.std.specs.Prelude.{nat_eq}
 use Rattle.lx_regex.specs.Expr.{term_of}
 use Rattle.lx_regex.specs.Script.{merge_tags, tags_in, tags_among}
 use Rattle.lx_regex.specs.Term.{parts, parts_of_all}
@@ -32,3 +34,10 @@ parts_next tags members i member lt is = ap (λ l. parts_of_all (terms_in tags l
 pub once : (count size : ℕ) → (count ≡ 0 → ⊥) → size ≤ count * size
 once zero size some = absurd (some refl)
 once (suc count) size some = omega arith
+
+pub not_zero : (n : ℕ) → (n ≡ 0 → ⊥) → nat_eq n 0 ≡ false
+not_zero n ne = at (nat_eq n 0) refl
+  where
+    at : (b : Bool) → nat_eq n 0 ≡ b → nat_eq n 0 ≡ false
+    at true e = absurd (ne (eqb-true n 0 e))
+    at false e = e

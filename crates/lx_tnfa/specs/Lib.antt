@@ -1,4 +1,6 @@
+pub mod Beginnings
 pub mod Classes
 pub mod Ends
 pub mod Moves
+pub mod Rows
 pub mod TagLists

@@ -1,11 +1,11 @@
 //! States and their ordered moves.
 ghost use Rattle.std.specs.Prelude.{◌≡◌, ℕ, ◌+◌, ◌*◌, ◌<◌, ◌^◌, [], ◌∷◌, None, map, IfOk, nat_eq, if◌then◌else◌, option_to_list};
-ghost use Rattle.lx_regex.specs.Automaton.{member_moves, move, moves_after};
+ghost use Rattle.lx_regex.specs.Automaton.{member_moves, move};
 ghost use Rattle.lx_regex.specs.Expr.{members_of, term_of};
 ghost use Rattle.lx_regex.specs.Script.{tags_in};
 ghost use Rattle.lx_regex.specs.Term.{Term, copies, parts, parts_of_all};
 ghost use Rattle.lx_tnfa.specs.Ends.{EndsFit, EndsFitAmong};
-ghost use Rattle.lx_tnfa.specs.Moves.{shown_move};
+ghost use Rattle.lx_tnfa.specs.Moves.{shown_move, sized_moves};
 ghost use Rattle.lx_tnfa.specs.TagLists.{remove_tags};
 ghost use Rattle.lx_tnfa.specs.declared.states.Event.TheVariants.{Unset};
 
@@ -78,6 +78,24 @@ pub(crate) struct Repeat {
     pub high: Option<u32>,
 }
 
+/// A repetition that is this part. Where it has no copy of its body, the body's parts count for nothing.
+pub(crate) fn repeat_of(part: u32, body: &Expr, low: u32, high: Option<u32>) -> Repeat
+    requires { (tags : ℕ) → copies low high * parts (term_of tags body.now) < 2 ^ 32 }
+    ensures { (tags : ℕ) → result ≡ record { part = part; size = if nat_eq (copies low high) 0 then 0 else parts (term_of tags body.now); low = low; high = high } }
+{
+    let size = if copies(low, high) == 0 {
+        0
+    } else {
+        count_parts(body)
+    };
+    Repeat {
+        part,
+        size,
+        low,
+        high,
+    }
+}
+
 /// The moves after so many iterations: to a copy of the body, and to the end, where these tags are unset.
 pub(crate) fn iteration_moves(
     alloc: Global,
@@ -86,8 +104,7 @@ pub(crate) fn iteration_moves(
     unset: &[u32],
 ) -> Result<Sequence<Move>, Memory>
     requires { repeat.part + 1 + copies repeat.low repeat.high * repeat.size < 2 ^ 31 }
-    ensures { IfOk result (λ ways. (body : Term) → parts body ≡ repeat.size → (if nat_eq done 0 then tags_in body else []) ≡ unset.now
-        → ways ≡ map shown_move (moves_after repeat.part body repeat.low repeat.high done)) }
+    ensures { IfOk result (λ ways. ways ≡ map shown_move (sized_moves repeat done unset.now)) }
 {
     let mut ways = Sequence::new(alloc);
     if repeat.high.is_none_or(|high| done < high) {
