@@ -18,16 +18,12 @@ use Rattle.lx_regex.proofs.PartLists.{set_of-ranges_of}
 use Rattle.lx_tnfa.proofs.Members.{not_zero}
 use Rattle.lx_tnfa.specs.Beginnings.{first_state}
 use Rattle.lx_tnfa.specs.Classes.{HasClass}
-use Rattle.lx_tnfa.specs.Moves.{shown_move, sized_moves}
+use Rattle.lx_tnfa.specs.Moves.{counted_size, shown_move, sized_moves}
 use Rattle.lx_tnfa.specs.Rows.{IsBuildable, IsHeld}
 use Rattle.lx_tnfa.specs.declared.classes.ClassGraph.{ClassGraph}
 use Rattle.lx_tnfa.specs.declared.states.Move.{Move}
 use Rattle.lx_tnfa.specs.declared.states.Repeat.{Repeat}
 use Rattle.lx_tnfa.specs.declared.states.State.TheVariants as held
-
--- the size that counts of a body
-abbrev pub counted_size : (low : ℕ) → (high : Option ℕ) → Term → ℕ
-counted_size low high body = if nat_eq (copies low high) 0 then 0 else parts body
 
 pub counted_times : (n size : ℕ) → n * (if nat_eq n 0 then 0 else size) ≡ n * size
 counted_times zero size = omega arith

@@ -1,3 +1,5 @@
+pub mod BuiltCopies
+pub mod BuiltStates
 pub mod ClassLists
 pub mod FirstStates
 pub mod MemberMoves

@@ -7,7 +7,8 @@ use Rattle.lx_regex.proofs.Folds.{term_of-rep}
 use Rattle.lx_regex.proofs.PartLists.{parts-form}
 use Rattle.lx_regex.proofs.PartSizes.{measured}
 use Rattle.lx_tnfa.specs.declared.states.Repeat.{Repeat}
-use Rattle.lx_tnfa.proofs.FirstStates.{cat_held, class_fits, class_held, counted_size, counted_times, rep_held}
+use Rattle.lx_tnfa.specs.Moves.{counted_size}
+use Rattle.lx_tnfa.proofs.FirstStates.{cat_held, class_fits, class_held, counted_times, rep_held}
 use Rattle.lx_tnfa.proofs.TagMerges.{merge-nil}
 use Rattle.lx_tnfa.proofs.building.beginning.Goals as goal
 use Rattle.lx_tnfa.proofs.building.beginning.Goals.{then-is_empty, else-is_empty}
