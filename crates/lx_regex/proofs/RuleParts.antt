@@ -71,14 +71,14 @@ module _ {A : Type 0} (f g : Part → A) (rule : ℕ) (same : (part : Part) → 
 abbrev pub rule_count : Pattern → ℕ
 rule_count pattern = if is_end pattern.kind then 0 else parts pattern.term
 
-rule_counted : (child part : ℕ) (pattern : Pattern) → length (parts_of_rules child part (pattern ∷ [])) ≡ rule_count pattern
+pub rule_counted : (child part : ℕ) (pattern : Pattern) → length (parts_of_rules child part (pattern ∷ [])) ≡ rule_count pattern
 rule_counted child part pattern = at (is_end pattern.kind)
   where
     at : (b : Bool) → length (if b then [] else parts_in pattern.number 0 child part pattern.term ++ []) ≡ (if b then 0 else parts pattern.term)
     at true = refl
     at false = ap length (append-nil (parts_in pattern.number 0 child part pattern.term)) ∙ part_count pattern.number 0 child part pattern.term
 
-rules_part : (child part : ℕ) (pattern : Pattern) (patterns : List Pattern)
+pub rules_part : (child part : ℕ) (pattern : Pattern) (patterns : List Pattern)
     → parts_of_rules child part (pattern ∷ patterns)
     ≡ parts_of_rules child part (pattern ∷ []) ++ parts_of_rules (suc child) (part + rule_count pattern) patterns
 rules_part child part pattern patterns = at (is_end pattern.kind)
@@ -92,7 +92,7 @@ rules_part child part pattern patterns = at (is_end pattern.kind)
     at false = ap (λ l. l ++ parts_of_rules (suc child) (part + parts pattern.term) patterns) (sym (append-nil (parts_in pattern.number 0 child part pattern.term)))
 
 -- the rule at a place
-next_rule : (rules : List Rule) (place : ℕ) (rule : Rule) → place < length rules → rule ≡ get_or rules place rule
+pub next_rule : (rules : List Rule) (place : ℕ) (rule : Rule) → place < length rules → rule ≡ get_or rules place rule
     → drop place rules ≡ rule ∷ drop (suc place) rules
 next_rule rules place rule lt is = drop-cons rules place rule lt ∙ ap (λ y. y ∷ drop (suc place) rules) (sym is)
 
@@ -120,14 +120,14 @@ tags_at (first ∷ rules) (suc place) rule lt is differ =
     other true e apart = absurd (apart (sym (eqb-true first.number rule.number e)))
     other false e apart = e
 
-regular_at : (rules : List Rule) (place : ℕ) (rule : Rule) → place < length rules → rule ≡ get_or rules place rule
+pub regular_at : (rules : List Rule) (place : ℕ) (rule : Rule) → place < length rules → rule ≡ get_or rules place rule
     → AreRegular rules → OnFalse (is_end rule.kind) (IsRegular (pattern_of rule))
 regular_at [] place rule lt is regular = absurd (omega arith)
 regular_at (first ∷ rules) zero rule lt is regular =
     subst (λ (y : Rule). OnFalse (is_end y.kind) (IsRegular (pattern_of y))) (sym is) regular.0
 regular_at (first ∷ rules) (suc place) rule lt is regular = regular_at rules place rule (omega arith) is regular.1
 
-few_tags : (rules : List Rule) (place : ℕ) (rule : Rule) → place < length rules → rule ≡ get_or rules place rule
+pub few_tags : (rules : List Rule) (place : ℕ) (rule : Rule) → place < length rules → rule ≡ get_or rules place rule
     → length rule.tags + 2 * (rule.groups - 1) ≤ tags_of rules
 few_tags [] place rule lt is = absurd (omega arith)
 few_tags (first ∷ rules) zero rule lt is =
@@ -144,7 +144,7 @@ length-numbers_from number zero = refl
 length-numbers_from number (suc count) = ap suc (length-numbers_from (suc number) count)
 
 -- a regular rule has at most 130 tags and group ends in its term
-few_ends : (rules : List Rule) (place : ℕ) (rule : Rule) → place < length rules → rule ≡ get_or rules place rule → tags_of rules ≤ 128
+pub few_ends : (rules : List Rule) (place : ℕ) (rule : Rule) → place < length rules → rule ≡ get_or rules place rule → tags_of rules ≤ 128
     → IsRegular (pattern_of rule) → length (tags_in (pattern_of rule).term) ≤ 130
 few_ends rules place rule lt is few regular =
     let count = ap length regular.tags ∙ length-numbers_from 0 (length (sorts_of (pattern_of rule))) in
@@ -155,7 +155,7 @@ few_ends rules place rule lt is few regular =
     omega (arith, count, both, first, ends, within)
 
 -- so it has few parts
-few_parts : (rules : List Rule) (place : ℕ) (rule : Rule) → place < length rules → rule ≡ get_or rules place rule → tags_of rules ≤ 128
+pub few_parts : (rules : List Rule) (place : ℕ) (rule : Rule) → place < length rules → rule ≡ get_or rules place rule → tags_of rules ≤ 128
     → IsRegular (pattern_of rule) → parts (pattern_of rule).term + 1 ≤ 132 * size_of rule.expr
 few_parts rules place rule lt is few regular =
     let bound = (measured rule.expr).bound (length rule.tags) regular.sequences in
@@ -171,10 +171,10 @@ pub record RulesLeft (rules : List Rule) (now : List program.Part) (place : ℕ)
   pub room : length now + 132 * sizes_of (drop place rules) ≤ 1 + 132 * 4096
 
 -- the size of one rule
-abbrev own_size : Rule → ℕ
+abbrev pub own_size : Rule → ℕ
 own_size rule = if is_end rule.kind then 0 else size_of rule.expr
 
-rule_room : (b : Bool) (rules : List Rule) (place : ℕ) (rule : Rule) → is_end rule.kind ≡ b → place < length rules → rule ≡ get_or rules place rule
+pub rule_room : (b : Bool) (rules : List Rule) (place : ℕ) (rule : Rule) → is_end rule.kind ≡ b → place < length rules → rule ≡ get_or rules place rule
     → IsWithinLimits rules → rule_count (pattern_of rule) ≤ 132 * own_size rule
 rule_room true rules place rule e lt is limits =
     subst (λ b. (if b then 0 else parts (pattern_of rule).term) ≤ 132 * (if b then 0 else size_of rule.expr)) (sym e) (omega arith)
@@ -183,7 +183,7 @@ rule_room false rules place rule e lt is limits =
     let few = few_parts rules place rule lt is limits.tags regular in
     subst (λ b. (if b then 0 else parts (pattern_of rule).term) ≤ 132 * (if b then 0 else size_of rule.expr)) (sym e) (omega (arith, few))
 
-sizes_next : (rules : List Rule) (place : ℕ) (rule : Rule) → place < length rules → rule ≡ get_or rules place rule
+pub sizes_next : (rules : List Rule) (place : ℕ) (rule : Rule) → place < length rules → rule ≡ get_or rules place rule
     → sizes_of (drop place rules) ≡ own_size rule + sizes_of (drop (suc place) rules)
 sizes_next rules place rule lt is = ap sizes_of (next_rule rules place rule lt is)
 

@@ -4,4 +4,6 @@ pub mod ClassLists
 pub mod FirstStates
 pub mod MemberMoves
 pub mod Members
+pub mod PlaceSteps
+pub mod RuleTagLists
 pub mod TagMerges

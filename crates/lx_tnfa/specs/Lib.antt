@@ -4,3 +4,4 @@ pub mod Ends
 pub mod Moves
 pub mod Rows
 pub mod TagLists
+pub mod Tnfa

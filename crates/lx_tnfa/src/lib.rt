@@ -1,8 +1,14 @@
 //! The tagged automaton of a rule list, with ordered moves.
 #![tactic(auto)]
 
-pub mod building;
-pub mod classes;
-pub mod counts;
-pub mod states;
-pub mod tags;
+mod building;
+mod classes;
+mod counts;
+mod places;
+mod states;
+mod tags;
+mod tnfa;
+
+pub use places::Place;
+pub use states::{Event, Move};
+pub use tnfa::Tnfa;
