@@ -5,5 +5,6 @@ pub mod FirstStates
 pub mod MemberMoves
 pub mod Members
 pub mod PlaceSteps
+pub mod RuleLists
 pub mod RuleTagLists
 pub mod TagMerges

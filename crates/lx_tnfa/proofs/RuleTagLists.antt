@@ -4,12 +4,9 @@ use Rattle.std.proofs.Math.Seq.{drop-cons}
 use Rattle.std.proofs.Math.ListN.{drop_of_length-le}
 use Rattle.std.proofs.lemmas.Bool.{eqb-true}
 use Rattle.std.specs.Prelude.{nat_eq, if◌then◌else◌}
+use Rattle.lx_tnfa.specs.Making.{seen_tags}
 use Rattle.lx_tnfa.specs.Tnfa.{sorts_for}
 use Rattle.lx_tnfa.specs.declared.tnfa.RuleTags.{RuleTags}
-
--- the rules as contracts see them
-abbrev pub seen_tags : List RuleTags → List (ℕ × List Bool)
-seen_tags rules = map (λ (rule : RuleTags). (rule.number, rule.many.items)) rules
 
 next_rule : (rules : List RuleTags) (i : ℕ) (rule : RuleTags) → i < length rules → rule ≡ get_or rules i rule
     → drop i rules ≡ rule ∷ drop (suc i) rules

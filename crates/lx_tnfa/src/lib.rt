@@ -4,6 +4,7 @@
 mod building;
 mod classes;
 mod counts;
+mod making;
 mod places;
 mod states;
 mod tags;

@@ -7,10 +7,12 @@ ghost use Rattle.lx_regex.specs.Limits.{IsWithinLimits};
 ghost use Rattle.lx_regex.specs.Pattern.{patterns_of, terms_of};
 
 use crate::classes::ClassGraph;
+use crate::making::Making;
 use crate::places::Place;
 use crate::states::State;
 use lx_base::{Enc, Memory};
 use lx_encode::{Residual, greatest_unit};
+use lx_regex::RuleSet;
 use std::alloc::Global;
 use std::marker::Model;
 
@@ -53,7 +55,31 @@ impl Model for Tnfa {
 }
 
 impl Tnfa {
-    ghost use Rattle.lx_tnfa.specs.Tnfa.{FinishesPlace, IsPlace, place_after, rest_after, sorts_for, state_at};
+    ghost use Rattle.lx_tnfa.specs.Tnfa.{AllClassesFit, FinishesPlace, IsPlace, IsTnfaOf, place_after, rest_after, sorts_for, state_at};
+
+    /// The automaton of a rule list within the limits of a scanner, of whose classes the encoding has each point.
+    pub fn of(alloc: Global, set: &RuleSet, enc: Enc) -> Result<Tnfa, Memory>
+        requires limits { IsWithinLimits set.now.rules }
+        requires classes { AllClassesFit enc (terms_of (patterns_of set.now.rules)) }
+        ensures { IfOk result (IsTnfaOf enc (patterns_of set.now.rules)) }
+    {
+        let mut making = Making::start(alloc, enc)?;
+        for rule in set.rules.as_slice() {
+            making.add_rule(alloc, rule)?;
+        }
+        let Making {
+            building,
+            owners,
+            rules,
+        } = making;
+        Ok(Tnfa {
+            enc,
+            states: building.states,
+            classes: building.classes.list,
+            owners,
+            rules,
+        })
+    }
 
     /// The place in the same leaf after one more unit; nothing exactly where no units that begin with this one finish the leaf,
     /// and always at the start. It takes no memory.
