@@ -139,7 +139,7 @@ length-group_ends : (groups : ℕ) → length (group_ends groups) ≡ 2 * groups
 length-group_ends zero = refl
 length-group_ends (suc groups) = let e = length-group_ends groups in omega (arith, e)
 
-length-numbers_from : (number count : ℕ) → length (numbers_from number count) ≡ count
+pub length-numbers_from : (number count : ℕ) → length (numbers_from number count) ≡ count
 length-numbers_from number zero = refl
 length-numbers_from number (suc count) = ap suc (length-numbers_from (suc number) count)
 

@@ -1,6 +1,6 @@
 -- The copies of a body, built one behind another.
-use Rattle.std.proofs.Common.{◌≡◌, ℕ, zero, suc, ◌+◌, ◌-◌, ◌*◌, ◌<◌, ◌≤◌, arith, false, List, [], ◌∷◌, ◌++◌, map, length, refl, sym, ap, ap₂, ◌∙◌, subst, append_assoc, append-nil}
-use Rattle.std.specs.Prelude.{nat_eq, if◌then◌else◌}
+use Rattle.std.proofs.Common.{◌≡◌, ℕ, suc, ◌+◌, ◌*◌, ◌<◌, arith, List, [], ◌++◌, map, refl, sym, ap, ◌∙◌, subst, append_assoc, append-nil}
+use Rattle.std.specs.Prelude.{if◌then◌else◌}
 use Rattle.lx_regex.specs.Automaton as spec
 use Rattle.lx_regex.specs.Automaton.{table, copies_table, moves_after}
 use Rattle.lx_regex.specs.Script.{tags_in}
@@ -11,7 +11,7 @@ use Rattle.lx_tnfa.specs.Rows.{Builds, HasRoom}
 use Rattle.lx_tnfa.specs.declared.building.Building.{Building}
 use Rattle.lx_tnfa.specs.declared.states.Move.{Move}
 use Rattle.lx_tnfa.specs.declared.states.Repeat.{Repeat}
-use Rattle.lx_tnfa.proofs.BuiltStates.{builds_none, builds_then, room_front, room_then}
+use Rattle.lx_tnfa.proofs.BuiltStates.{builds_none, builds_then, room_then}
 use Rattle.lx_tnfa.proofs.FirstStates.{moves_sized}
 use Rattle.lx_tnfa.proofs.Members.{not_zero}
 
@@ -29,7 +29,9 @@ pub record CopiesBuilt (start now : Building) (r : Repeat) (body : Term) (number
 pub copies_begin : (start : Building) (r : Repeat) (body : Term) → HasRoom start (r.part + 1) (copies r.low r.high * r.size)
     → CopiesBuilt start start r body 0 (copies r.low r.high)
 copies_begin start r body room = record {
-  done = []; builds = builds_none start room.sound; left = refl;
+  done = [];
+  builds = builds_none start room.sound;
+  left = refl;
   room = let e : r.part + 1 ≡ r.part + 1 + 0 * r.size = omega arith in subst (λ n. HasRoom start n (copies r.low r.high * r.size)) e room;
 }
 

@@ -1,5 +1,5 @@
 -- States that are built one behind another.
-use Rattle.std.proofs.Common.{◌≡◌, ℕ, zero, suc, ◌+◌, ◌-◌, ◌*◌, ◌^◌, ◌<◌, ◌≤◌, arith, Bool, true, false, List, [], ◌∷◌, ◌++◌, map, length, get_or, drop, Some, None, refl, sym, ap, ap₂, ◌∙◌, subst, append_assoc, append-nil, length-append, length-drop, ◌⊎◌, inl, inr, ⊎_elim}
+use Rattle.std.proofs.Common.{◌≡◌, ℕ, zero, suc, ◌+◌, ◌-◌, ◌*◌, ◌<◌, ◌≤◌, arith, List, [], ◌∷◌, ◌++◌, map, length, get_or, drop, refl, sym, ap, ◌∙◌, subst, append_assoc, append-nil, length-append, length-drop, ◌⊎◌, inl, inr, ⊎_elim}
 use Rattle.std.proofs.Math.ListN.{drop_of_length-le}
 use Rattle.lx_base.specs.declared.settings.Enc.{Enc}
 use Rattle.lx_regex.specs.Automaton as spec
@@ -11,15 +11,12 @@ use Rattle.lx_regex.specs.declared.expr.Expr.TheVariants.{Empty, Class, AnyUnit,
 use Rattle.lx_regex.proofs.Folds.{term_of-empty, term_of-class, term_of-any_unit, term_of-stag, term_of-mtag}
 use Rattle.lx_regex.proofs.NoUnits.{terms_in, next_member as next_expr}
 use Rattle.lx_regex.proofs.PartLists.{IsLeafForm}
-use Rattle.lx_regex.proofs.Rows.{table_length, row_length, alt_length}
 use Rattle.lx_tnfa.specs.Beginnings.{first_state, inner_states}
 use Rattle.lx_tnfa.specs.Classes.{Adds, AreClasses}
-use Rattle.lx_tnfa.specs.Ends.{EndsFitAmong}
 use Rattle.lx_tnfa.specs.Moves.{shown_move}
 use Rattle.lx_tnfa.specs.Rows.{AreBuildable, AreHeld, Builds, ClassesFit, ClassesFitAmong, HasRoom, IsBuildable, IsHeld}
 use Rattle.lx_tnfa.specs.declared.building.Building.{Building}
 use Rattle.lx_tnfa.specs.declared.classes.ClassGraph.{ClassGraph}
-use Rattle.lx_tnfa.specs.declared.classes.Classes.{Classes}
 use Rattle.lx_tnfa.specs.declared.states.Move.{Move}
 use Rattle.lx_tnfa.specs.declared.states.State.{State}
 use Rattle.lx_tnfa.specs.declared.states.State.TheVariants as held
@@ -55,8 +52,14 @@ held_append classes (row ∷ rows) others (state ∷ states) more h k = (h.0, he
 
 pub builds_none : (now : Building) → AreClasses now.classes.enc now.classes.list.items → Builds now now []
 builds_none now sound = record {
-  enc = refl; sound = sound; later = []; classes = sym (append-nil now.classes.list.items); few = omega arith;
-  more = []; states = sym (append-nil now.states.items); held = tt;
+  enc = refl;
+  sound = sound;
+  later = [];
+  classes = sym (append-nil now.classes.list.items);
+  few = omega arith;
+  more = [];
+  states = sym (append-nil now.states.items);
+  held = tt;
 }
 
 pub builds_then : (a b c : Building) (rows others : List spec.State) → Builds a b rows → Builds b c others → Builds a c (rows ++ others)
@@ -91,8 +94,14 @@ pub builds_ends :
     → exits ≡ map shown_move ways → new.states.items ≡ old.states.items ++ state ∷ held.Moves exits ∷ []
     → Builds old new (row ∷ moves ways ∷ [])
 builds_ends old new row ways state exits adds sound is out pushed = record {
-  enc = adds.enc; sound = sound; later = adds.later; classes = adds.list; few = omega (arith, adds.few);
-  more = state ∷ held.Moves exits ∷ []; states = pushed; held = (is, (out, tt));
+  enc = adds.enc;
+  sound = sound;
+  later = adds.later;
+  classes = adds.list;
+  few = omega (arith, adds.few);
+  more = state ∷ held.Moves exits ∷ [];
+  states = pushed;
+  held = (is, (out, tt));
 }
 
 pub table-ends : (e : Term) (part : ℕ) (ways : List spec.Move) → table e part ways ≡ (first_state e part ∷ moves ways ∷ []) ++ inner_states e part

@@ -1,15 +1,14 @@
 -- The states at the beginnings of expressions.
-use Rattle.std.proofs.Common.{◌≡◌, ℕ, zero, suc, ◌+◌, ◌-◌, ◌*◌, ◌<◌, ◌≤◌, min, max, arith, Bool, true, false, List, [], ◌∷◌, map, length, Option, Some, None, Vec, Box, Global, refl, sym, ap, ap₂, ◌∙◌, subst}
+use Rattle.std.proofs.Common.{◌≡◌, ℕ, zero, suc, ◌+◌, ◌-◌, ◌*◌, ◌≤◌, min, max, arith, Bool, true, false, List, [], ◌∷◌, map, length, Option, Some, None, Vec, Box, Global, refl, sym, ap, ◌∙◌, subst}
 use Rattle.std.proofs.Math.Dec.{leb-suc-zero}
-use Rattle.std.specs.Prelude.{nat_eq, nat_le, nat_lt, if◌then◌else◌}
+use Rattle.std.specs.Prelude.{nat_eq, nat_le, if◌then◌else◌}
 use Rattle.lx_base.specs.declared.settings.Enc.{Enc}
 use Rattle.lx_class.specs.declared.ranges.Range.{Range}
 use Rattle.lx_encode.specs.Policy.{FitsEncoding}
 use Rattle.lx_regex.specs.Automaton.{iteration_moves, moves_after, next_member, move}
-use Rattle.lx_regex.specs.Expr.{members_of, ranges_of, term_of}
-use Rattle.lx_regex.specs.PartList.{set_of}
+use Rattle.lx_regex.specs.Expr.{term_of}
 use Rattle.lx_regex.specs.Script.{may_iterate, tags_in, copy_part}
-use Rattle.lx_regex.specs.Term.{Term, Terms, class, cat, repeat, copies, parts}
+use Rattle.lx_regex.specs.Term.{Term, copies, parts}
 use Rattle.lx_regex.specs.declared.expr.Expr.{Expr}
 use Rattle.lx_regex.specs.declared.expr.Expr.TheVariants.{Class, Cat, Rep}
 use Rattle.lx_regex.proofs.Folds.{term_of-class, term_of-cat, term_of-rep}

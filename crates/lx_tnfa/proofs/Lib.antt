@@ -7,4 +7,6 @@ pub mod Members
 pub mod PlaceSteps
 pub mod RuleLists
 pub mod RuleTagLists
+pub mod TagBounds
 pub mod TagMerges
+pub mod WholeTable

@@ -1,10 +1,10 @@
 -- The moves to the members of an alternation, one by one.
-use Rattle.std.proofs.Common.{◌≡◌, ℕ, zero, suc, ◌+◌, ◌*◌, ◌<◌, ◌≤◌, arith, List, [], ◌∷◌, ◌++◌, map, length, get_or, drop, Some, None, refl, sym, ap, ap₂, ◌∙◌, subst, append_assoc, append-nil}
+use Rattle.std.proofs.Common.{◌≡◌, ℕ, suc, ◌+◌, ◌*◌, ◌<◌, ◌≤◌, arith, List, [], ◌∷◌, ◌++◌, map, length, get_or, drop, refl, sym, ap, ◌∙◌, append_assoc, append-nil}
 use Rattle.std.proofs.Math.ListN.{drop_of_length-le}
-use Rattle.lx_regex.specs.Automaton.{member_moves, move}
+use Rattle.lx_regex.specs.Automaton.{member_moves}
 use Rattle.lx_regex.specs.Expr.{term_of}
 use Rattle.lx_regex.specs.Script.{merge_tags, tags_in, tags_among}
-use Rattle.lx_regex.specs.Term.{Term, Terms, cons, parts, parts_of_all}
+use Rattle.lx_regex.specs.Term.{cons, parts, parts_of_all}
 use Rattle.lx_regex.specs.declared.expr.Expr.{Expr}
 use Rattle.lx_regex.proofs.NoUnits.{terms_in, next_member}
 use Rattle.lx_tnfa.specs.Moves.{shown_move}
@@ -26,7 +26,11 @@ pub record MovesLeft (tags first : ℕ) (all : List ℕ) (members : List Expr) (
 pub moves_begin : (tags first : ℕ) (all : List ℕ) (members : List Expr) → all ≡ tags_among (terms_in tags members)
     → MovesLeft tags first all members [] first 0
 moves_begin tags first all members is = record {
-  merged = λ tags. tags; swaps = λ a b. refl; whole = is; left = refl; room = refl;
+  merged = λ tags. tags;
+  swaps = λ a b. refl;
+  whole = is;
+  left = refl;
+  room = refl;
 }
 
 pub moves_more :

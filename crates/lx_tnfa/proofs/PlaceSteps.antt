@@ -1,5 +1,5 @@
 -- The states at places, and the rows of their graphs.
-use Rattle.std.proofs.Common.{◌≡◌, ℕ, zero, suc, ◌+◌, ◌*◌, ◌<◌, ◌≤◌, arith, true, false, List, [], ◌∷◌, map, length, get_or, refl, sym, ap, ◌∙◌, subst}
+use Rattle.std.proofs.Common.{◌≡◌, ℕ, zero, suc, ◌*◌, ◌<◌, arith, true, false, List, [], ◌∷◌, length, get_or, sym, ap, ◌∙◌, subst}
 use Rattle.std.proofs.lemmas.Bool.{false≢true}
 use Rattle.std.proofs.lemmas.List.{get_or_read}
 use Rattle.lx_encode.specs.Table.{Finishes, Rows}
@@ -7,7 +7,7 @@ use Rattle.lx_tnfa.specs.Tnfa.{Tnfa, AreNumbered, IsNumbered, FinishesPlace, Fin
 use Rattle.lx_tnfa.specs.declared.classes.ClassGraph.{ClassGraph}
 use Rattle.lx_tnfa.specs.declared.places.Place.{Place}
 use Rattle.lx_tnfa.specs.declared.states.State.{State}
-use Rattle.lx_tnfa.specs.declared.states.State.TheVariants.{Moves, Class, AnyUnit}
+use Rattle.lx_tnfa.specs.declared.states.State.TheVariants.{Moves, Class}
 
 pub state_is : (tnfa : Tnfa) (place : Place) (states : List State) (state : State) → tnfa.states ≡ states → 2 * place.part < length tnfa.states
     → state ≡ get_or states (2 * place.part) state → state_at tnfa place ≡ state
@@ -40,6 +40,6 @@ pub class_goes_on : (tnfa : Tnfa) (place : Place) (number unit : ℕ) (rows : Ro
 class_goes_on tnfa place number unit rows state same some = (
   (λ e. absurd (false≢true (sym e))),
   (λ none. some (λ units fin. none units
-  (subst (λ s. FinishesRest tnfa.classes s place.rest.0 (unit ∷ units)) (sym state)
-  (subst (λ r. Finishes r place.rest.0 (unit ∷ units)) (sym same) fin)))),
+      (subst (λ s. FinishesRest tnfa.classes s place.rest.0 (unit ∷ units)) (sym state)
+      (subst (λ r. Finishes r place.rest.0 (unit ∷ units)) (sym same) fin)))),
 )

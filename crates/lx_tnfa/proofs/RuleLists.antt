@@ -1,5 +1,5 @@
 -- Rules that are added one by one.
-use Rattle.std.proofs.Common.{◌≡◌, ℕ, zero, suc, ◌+◌, ◌-◌, ◌*◌, ◌<◌, ◌≤◌, arith, Bool, true, false, List, [], ◌∷◌, ◌++◌, map, length, get_or, drop, refl, sym, ap, ap₂, ◌∙◌, subst, append_assoc, append-nil, ◌⊎◌, ⊎_elim}
+use Rattle.std.proofs.Common.{◌≡◌, ℕ, suc, ◌-◌, ◌<◌, ◌≤◌, arith, Bool, true, false, List, [], ◌∷◌, ◌++◌, length, sym, ap, ap₂, ◌∙◌, subst, append_assoc, append-nil, ◌⊎◌, ⊎_elim}
 use Rattle.std.proofs.lemmas.List.{map-append}
 use Rattle.std.specs.Prelude.{replicate, if◌then◌else◌}
 use Rattle.lx_regex.specs.Automaton.{table, final}
@@ -7,7 +7,7 @@ use Rattle.lx_regex.specs.Pattern.{is_end, pattern_of, sorts_of}
 use Rattle.lx_regex.specs.Term.{parts}
 use Rattle.lx_regex.specs.Values.{group_ends}
 use Rattle.lx_regex.specs.declared.rules.Kind.{Kind}
-use Rattle.lx_regex.specs.declared.rules.Kind.TheVariants.{Plain, Default, Eof}
+use Rattle.lx_regex.specs.declared.rules.Kind.TheVariants.{Plain, Default}
 use Rattle.lx_regex.specs.declared.rules.Rule.{Rule}
 use Rattle.lx_tnfa.specs.Classes.{AreClasses}
 use Rattle.lx_tnfa.specs.Making.{AddsRule, seen_tags}

@@ -1,10 +1,10 @@
 -- Ascending lists of tags: the order in which they are put together does not count.
-use Rattle.std.proofs.Common.{◌≡◌, ℕ, zero, suc, ◌+◌, ◌<◌, ◌≤◌, ◌⊎◌, arith, Bool, true, false, List, [], ◌∷◌, ◌++◌, length, get_or, take, drop, refl, sym, ap, ap₂, ◌∙◌, subst, append_assoc, append-nil, eq-eqb, le-leb, inl, inr, ⊎_elim}
+use Rattle.std.proofs.Common.{◌≡◌, ℕ, suc, ◌<◌, ◌≤◌, ◌⊎◌, arith, Bool, true, false, List, [], ◌∷◌, ◌++◌, length, get_or, take, drop, refl, sym, ap, ap₂, ◌∙◌, subst, append_assoc, append-nil, eq-eqb, le-leb, inl, inr, ⊎_elim}
 use Rattle.std.proofs.Math.ListN.{drop_of_length-le}
 use Rattle.std.proofs.Math.Seq.{take-suc, drop-cons}
 use Rattle.std.proofs.lemmas.Bool.{cases_lt, eqb-true, lt-leb}
 use Rattle.std.proofs.lemmas.List.{take_all}
-use Rattle.std.specs.Prelude.{nat_le, nat_eq, if◌then◌else◌}
+use Rattle.std.specs.Prelude.{nat_eq, if◌then◌else◌}
 use Rattle.lx_regex.specs.Term.{Term, empty, class, any_unit, cat, alt, repeat, tag, group, Terms, nil, cons}
 use Rattle.lx_regex.specs.Script.{put_tag, merge_tags, tags_in, tags_among}
 use Rattle.lx_tnfa.specs.TagLists.{remove_tag, remove_tags}

@@ -1,5 +1,5 @@
 -- The states of a term, taken apart: its beginning, and those of what stands in it.
-use Rattle.std.specs.Prelude.{ℕ, ◌+◌, ◌*◌, List, [], ◌∷◌, Some, None}
+use Rattle.std.specs.Prelude.{ℕ, ◌+◌, ◌*◌, List, [], ◌∷◌, None}
 use Rattle.lx_regex.specs.Automaton.{State, move, moves, leaf, unit_leaf, moves_after, next_member, member_moves, members_table, alternatives_table, copies_table, table}
 use Rattle.lx_regex.specs.Term.{Term, empty, class, any_unit, cat, alt, repeat, tag, group, copies}
 

@@ -1,5 +1,5 @@
 -- An automaton that is made rule by rule.
-use Rattle.std.specs.Prelude.{◌≡◌, ℕ, ◌+◌, ◌*◌, ◌^◌, ◌<◌, List, [], ◌∷◌, ◌++◌, map, length, replicate, Bool, if◌then◌else◌}
+use Rattle.std.specs.Prelude.{◌≡◌, ℕ, ◌^◌, ◌<◌, List, [], ◌∷◌, ◌++◌, map, length, replicate, Bool, if◌then◌else◌}
 use Rattle.lx_regex.specs.Automaton.{State, table, final}
 use Rattle.lx_regex.specs.Pattern.{Pattern, is_end, pattern_of, sorts_of}
 use Rattle.lx_regex.specs.Term.{parts}

@@ -33,12 +33,7 @@ pub(crate) struct Site {
 }
 
 /// The state at the beginning of an expression.
-fn beginning(
-    alloc: Global,
-    classes: &mut Classes,
-    site: Site,
-    expr: &Expr,
-) -> Result<State, Memory>
+fn beginning(alloc: Global, classes: &mut Classes, site: Site, expr: &Expr) -> Result<State, Memory>
     requires parts { site.part + parts (term_of site.tags expr.now) < 2 ^ 31 }
     requires room { length classes.old.list.items < 2 ^ 32 }
     requires sound { AreClasses classes.old.enc classes.old.list.items }
@@ -92,7 +87,11 @@ fn build_members(
     let mut site = first;
     for (i, member) in members.iter().enumerate() {
         let next = site.part + count_parts(member);
-        let to = if i + 1 < members.len() { 2 * next } else { last };
+        let to = if i + 1 < members.len() {
+            2 * next
+        } else {
+            last
+        };
         let exits = one_move(alloc, to, None)?;
         build(alloc, building, site, member, exits)?;
         site.part = next;

@@ -149,7 +149,12 @@ pub(crate) fn member_moves(
 }
 
 /// The events by which all tags but those of a member are unset.
-fn unset_others(alloc: Global, all: &[u32], tags: u32, member: &Expr) -> Result<Sequence<Event>, Memory>
+fn unset_others(
+    alloc: Global,
+    all: &[u32],
+    tags: u32,
+    member: &Expr,
+) -> Result<Sequence<Event>, Memory>
     requires { EndsFit (term_of tags member.now) }
     ensures { IfOk result (λ events. events ≡ map Unset (remove_tags (tags_in (term_of tags member.now)) all.now)) }
 {

@@ -44,11 +44,11 @@ impl Model for Tnfa {
     ghost Value = { spec.Tnfa };
 
     ghost view = { λ t. record {
-        enc = t.enc;
-        states = t.states.items;
-        classes = t.classes.items;
-        owners = t.owners.items;
-        rules = map (λ (rule : RuleTags). (rule.number, rule.many.items)) t.rules.items;
+      enc = t.enc;
+      states = t.states.items;
+      classes = t.classes.items;
+      owners = t.owners.items;
+      rules = map (λ (rule : RuleTags). (rule.number, rule.many.items)) t.rules.items;
     } };
 
     ghost invariant = { λ t. AreNumbered (length t.classes.items) t.states.items };

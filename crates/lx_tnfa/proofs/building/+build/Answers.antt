@@ -1,21 +1,21 @@
-use Rattle.std.proofs.Common.{◌≡◌, ◌+◌, ◌-◌, ◌*◌, ◌<◌, ◌≤◌, ◌∙◌, suc, ap, arith, refl, sym, subst, rules, length, drop, map, [], ◌∷◌, ◌++◌, None, ⊎_elim, inl, inr}
+use Rattle.std.proofs.Common.{◌≡◌, ◌+◌, ◌-◌, ◌*◌, ◌∙◌, suc, ap, arith, refl, sym, subst, rules, length, drop, [], ◌∷◌, ◌++◌, None, inl, inr}
 use Rattle.std.proofs.lemmas.Result.{on_ok_weaker}
-use Rattle.std.specs.Prelude.{ℕ, List, if◌then◌else◌}
+use Rattle.std.specs.Prelude.{ℕ, List}
 use Rattle.lx_regex.specs.Automaton as spec
 use Rattle.lx_regex.specs.Automaton.{members_table, alternatives_table, table, move, moves_after, next_member}
 use Rattle.lx_regex.specs.Expr.{term_of}
-use Rattle.lx_regex.specs.Term.{Term, Terms, nil, cons, copies, parts, parts_of_all}
+use Rattle.lx_regex.specs.Term.{Term, Terms, nil, cons, copies, parts}
 use Rattle.lx_regex.specs.declared.expr.Expr.{the_lemmas}
 use Rattle.lx_regex.proofs.Folds.{term_of-cat, term_of-alt, term_of-rep, term_of-group}
 use Rattle.lx_regex.proofs.NoUnits.{terms_in}
 use Rattle.lx_regex.proofs.PartLists.{parts-form}
 use Rattle.lx_regex.proofs.PartSizes.{measured}
 use Rattle.lx_regex.proofs.Rows.{table_length}
-use Rattle.lx_tnfa.specs.Moves.{counted_size, shown_move}
-use Rattle.lx_tnfa.specs.Rows.{AreBuildable, Builds, HasRoom, IsBuildable}
+use Rattle.lx_tnfa.specs.Moves.{counted_size}
+use Rattle.lx_tnfa.specs.Rows.{HasRoom, IsBuildable}
 use Rattle.lx_tnfa.specs.declared.building.Building.{Building}
 use Rattle.lx_tnfa.proofs.BuiltCopies.{CopiesBuilt, copies_begin, copies_end, copies_more, copy_exits, copy_room, size_counts}
-use Rattle.lx_tnfa.proofs.BuiltStates.{MembersBuilt, both_pushed, buildable_at, built, built_leaf, builds_then, leads_on, room_inside, member_room, members_begin, members_end, members_more, room_front, room_then, table-ends}
+use Rattle.lx_tnfa.proofs.BuiltStates.{both_pushed, buildable_at, built, built_leaf, leads_on, room_inside, member_room, members_begin, members_end, members_more, room_front}
 use Rattle.lx_tnfa.proofs.FirstStates.{counted_times, from_form}
 use Rattle.lx_tnfa.proofs.building.+build.Goals as goal
 use Rattle.lx_tnfa.proofs.building.+build.Goals.{build_members-then-i-members, build_members-else-i-members}
@@ -75,7 +75,7 @@ build_alternatives-build-requires t c =
       (
         subst (λ n. HasRoom now c.loop-member.site.part (parts (term_of n item))) (sym tags) (room_front _ _ _ _ room),
         subst (λ n. IsBuildable now.classes.enc (term_of n item)) (sym tags)
-        (subst (λ enc. IsBuildable enc (term_of c.args.first.tags item)) (sym c.loop-member.invariant.built.builds.enc) term),
+            (subst (λ enc. IsBuildable enc (term_of c.args.first.tags item)) (sym c.loop-member.invariant.built.builds.enc) term),
       ),
     )
 
@@ -136,7 +136,7 @@ build_members-build-requires t c =
       (
         subst (λ n. HasRoom now c.loop-i.site.part (parts (term_of n item))) (sym tags) (room_front _ _ _ _ room),
         subst (λ n. IsBuildable now.classes.enc (term_of n item)) (sym tags)
-        (subst (λ enc. IsBuildable enc (term_of c.args.first.tags item)) (sym c.loop-i.invariant.built.builds.enc) term),
+            (subst (λ enc. IsBuildable enc (term_of c.args.first.tags item)) (sym c.loop-i.invariant.built.builds.enc) term),
       ),
     )
 
@@ -176,8 +176,8 @@ build_members-loop-i-preserved t c =
     let to : c.if-i-members.to ≡ next_member (part + parts e) (terms_in c.args.first.tags (drop (suc i) c.args.members.now)) c.args.last =
     leads_on c.args.first.tags c.args.members.now i (part + parts e) c.args.last c.if-i-members.to
     (elim c.if-i-members.branch [
-    | build_members-then-i-members w ↦ inl (omega (arith, w.if-i-members.true), w.to-is ∙ ap (λ n. 2 * (part + n)) count)
-    | build_members-else-i-members w ↦ inr (omega (arith, w.if-i-members.false), w.to-is)
+      | build_members-then-i-members w ↦ inl (omega (arith, w.if-i-members.true), w.to-is ∙ ap (λ n. 2 * (part + n)) count)
+      | build_members-else-i-members w ↦ inr (omega (arith, w.if-i-members.false), w.to-is)
     ]) in
     let own = rw (tags, to) at (c.in_ok-build.ensures (move None [] [] c.if-i-members.to ∷ []) c.in_ok-exits.ensures) in
     let more =
@@ -266,7 +266,7 @@ build-build_copies-requires t c =
     from_form (IsBuildable c.args.building.now.classes.enc) tags c.args.expr.now _ _ c.in-Rep.is (term_of-rep tags c.in-Rep.body low high) c.requires.term in (
       search (rules, the_lemmas),
       rw (c.repeat_of-repeat.ensures tags, c.deref-in-Rep.ensures, c.deref-in-Rep-2.ensures)
-      (room, (refl, subst (λ enc. IsBuildable enc body) (sym c.in_ok-state.ensures.adds.enc) term)),
+          (room, (refl, subst (λ enc. IsBuildable enc body) (sym c.in_ok-state.ensures.adds.enc) term)),
     )
 
 pub build-returns-in-Cat : goal.build-returns-in-Cat

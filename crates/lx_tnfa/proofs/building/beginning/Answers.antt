@@ -1,5 +1,5 @@
-use Rattle.std.proofs.Common.{◌≡◌, ◌+◌, ◌*◌, ◌<◌, ◌≤◌, ◌∙◌, ap, arith, refl, sym, subst, length, vec_len}
-use Rattle.std.specs.Prelude.{ℕ, nat_eq, if◌then◌else◌}
+use Rattle.std.proofs.Common.{◌≡◌, ◌+◌, ◌*◌, ◌∙◌, ap, arith, refl, sym, length, vec_len}
+use Rattle.std.specs.Prelude.{nat_eq, if◌then◌else◌}
 use Rattle.lx_regex.specs.Expr.{term_of}
 use Rattle.lx_regex.specs.Script.{merge_tags, tags_in}
 use Rattle.lx_regex.specs.Term.{copies, parts}
@@ -28,10 +28,10 @@ returns-in_ok-one_move-in-Cat-clause-held c =
     let len : vec_len c.in-Cat.members ≡ length c.in-Cat.members.items = omega arith in c.is_empty.ensures ∙ ap (λ n. nat_eq n 0) len in
     let goes : c.if-is_empty.to ≡ (if c.is_empty.result then 2 * part + 1 else 2 * (part + 1)) =
     elim c.if-is_empty.branch [
-    | then-is_empty w ↦ w.to-is ∙ ap (λ b. if b then 2 * part + 1 else 2 * (part + 1)) (sym w.if-is_empty.true)
-    | else-is_empty w ↦
-        let sum : 2 * part + 1 + 1 ≡ 2 * (part + 1) = omega arith in
-        w.to-is ∙ sum ∙ ap (λ b. if b then 2 * part + 1 else 2 * (part + 1)) (sym w.if-is_empty.false)
+      | then-is_empty w ↦ w.to-is ∙ ap (λ b. if b then 2 * part + 1 else 2 * (part + 1)) (sym w.if-is_empty.true)
+      | else-is_empty w ↦
+          let sum : 2 * part + 1 + 1 ≡ 2 * (part + 1) = omega arith in
+          w.to-is ∙ sum ∙ ap (λ b. if b then 2 * part + 1 else 2 * (part + 1)) (sym w.if-is_empty.false)
     ] in
     cat_held c.args.classes.now.list.items c.args.site.tags part c.args.expr.now c.in-Cat.members c.if-is_empty.to c.is_empty.result
     c.in_ok-one_move-in-Cat.field-0 c.in-Cat.is count goes c.in_ok-one_move-in-Cat.ensures

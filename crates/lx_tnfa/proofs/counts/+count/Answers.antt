@@ -1,14 +1,14 @@
-use Rattle.std.proofs.Common.{◌≡◌, ◌+◌, ◌*◌, ◌<◌, ◌≤◌, ◌∙◌, suc, ap, sym, arith, rules, subst, drop, Vec, Global, ◌⊎◌, ⊎_elim}
+use Rattle.std.proofs.Common.{◌≡◌, ◌+◌, ◌∙◌, suc, ap, sym, arith, rules, drop, Vec, Global, ◌⊎◌, ⊎_elim}
 use Rattle.std.specs.Prelude.{ℕ}
 use Rattle.lx_regex.specs.declared.expr.Expr.{Expr}
 use Rattle.lx_regex.specs.declared.expr.Expr.TheVariants.{Cat, Alt}
 use Rattle.std.proofs.Math.ListN.{drop_of_length-le}
 use Rattle.lx_regex.specs.Expr.{term_of}
-use Rattle.lx_regex.specs.Term.{parts, parts_of_all, copies}
+use Rattle.lx_regex.specs.Term.{parts, parts_of_all}
 use Rattle.lx_regex.specs.declared.expr.Expr.{the_lemmas}
 use Rattle.lx_regex.proofs.Folds.{term_of-cat, term_of-alt, term_of-rep, term_of-group}
 use Rattle.lx_regex.proofs.NoUnits.{terms_in}
-use Rattle.lx_regex.proofs.PartLists.{parts-form, parts_positive}
+use Rattle.lx_regex.proofs.PartLists.{parts-form}
 use Rattle.lx_tnfa.proofs.Members.{parts_next, once}
 use Rattle.lx_tnfa.proofs.counts.+count.Goals as goal
 
@@ -16,7 +16,9 @@ pub count_all-count_parts-count-requires : goal.count_all-count_parts-count-requ
 count_all-count_parts-count-requires t c = (
   search (rules, the_lemmas),
   λ tags. omega (
-    arith, c.requires tags, c.loop-member.invariant tags,
+    arith,
+    c.requires tags,
+    c.loop-member.invariant tags,
     parts_next tags c.args.members.now c.loop-member.member-index c.member-item.result c.loop-member-test.true c.member-item.is,
   ),
 )
@@ -24,7 +26,10 @@ count_all-count_parts-count-requires t c = (
 pub count_all-overflow_add-count : goal.count_all-overflow_add-count
 count_all-overflow_add-count t c =
     omega (
-      arith, c.requires 0, c.loop-member.invariant 0, c.count_parts-count.ensures 0,
+      arith,
+      c.requires 0,
+      c.loop-member.invariant 0,
+      c.count_parts-count.ensures 0,
       parts_next 0 c.args.members.now c.loop-member.member-index c.member-item.result c.loop-member-test.true c.member-item.is,
     )
 
@@ -32,7 +37,9 @@ pub count_all-loop-member-preserved : goal.count_all-loop-member-preserved
 count_all-loop-member-preserved t c tags =
     let next : c.loop-member.member-index + 1 ≡ suc c.loop-member.member-index = omega arith in
     rw next (omega (
-      arith, c.loop-member.invariant tags, c.count_parts-count.ensures tags,
+      arith,
+      c.loop-member.invariant tags,
+      c.count_parts-count.ensures tags,
       parts_next tags c.args.members.now c.loop-member.member-index c.member-item.result c.loop-member-test.true c.member-item.is,
     ))
 
@@ -50,7 +57,9 @@ count_parts-count_parts-requires t c = (
       let e = parts-form c.args.expr.now _ _ c.in-Rep.is (λ tags. term_of-rep tags c.in-Rep.body c.in-Rep.low c.in-Rep.high) tags in
       let e' = rw (← c.deref.ensures, ← c.copies-copies.ensures) at e in
       omega (
-        arith, c.requires tags, e',
+        arith,
+        c.requires tags,
+        e',
         once c.copies-copies.result (parts (term_of tags c.deref.result.now)) c.if-copies-eq0.false,
       ),
 )

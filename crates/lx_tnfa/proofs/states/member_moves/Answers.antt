@@ -1,7 +1,5 @@
 use Rattle.std.proofs.Common.{◌≡◌, ◌+◌, ◌*◌, ◌∷◌, [], ◌++◌, ◌∙◌, suc, ap, arith, subst, sym}
-use Rattle.lx_regex.specs.Expr.{term_of}
 use Rattle.lx_regex.specs.Script.{merge_tags, tags_among}
-use Rattle.lx_regex.specs.Term.{parts}
 use Rattle.lx_regex.proofs.NoUnits.{terms_in}
 use Rattle.lx_regex.proofs.PartSizes.{measured}
 use Rattle.lx_tnfa.proofs.MemberMoves.{MovesLeft, moves_begin, moves_more}
@@ -24,14 +22,20 @@ unset_others-requires c =
 pub count_parts-requires : goal.count_parts-requires
 count_parts-requires c tags =
     omega (
-      arith, (measured c.member-item.result).alike tags c.args.tags, c.loop-member.invariant.room, c.requires.room,
+      arith,
+      (measured c.member-item.result).alike tags c.args.tags,
+      c.loop-member.invariant.room,
+      c.requires.room,
       parts_next c.args.tags c.args.members.now c.loop-member.member-index c.member-item.result c.loop-member-test.true c.member-item.is,
     )
 
 pub overflow_add-part : goal.overflow_add-part
 overflow_add-part c =
     omega (
-      arith, c.count_parts.ensures c.args.tags, c.loop-member.invariant.room, c.requires.room,
+      arith,
+      c.count_parts.ensures c.args.tags,
+      c.loop-member.invariant.room,
+      c.requires.room,
       parts_next c.args.tags c.args.members.now c.loop-member.member-index c.member-item.result c.loop-member-test.true c.member-item.is,
     )
 

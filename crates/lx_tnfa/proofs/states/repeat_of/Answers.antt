@@ -1,8 +1,7 @@
-use Rattle.std.proofs.Common.{◌≡◌, ◌*◌, ◌≤◌, ◌∙◌, ap, arith, sym, refl, false, suc, zero}
-use Rattle.std.specs.Prelude.{ℕ, nat_eq, if◌then◌else◌}
+use Rattle.std.proofs.Common.{◌≡◌, ◌∙◌, ap, arith, sym, false}
+use Rattle.std.specs.Prelude.{nat_eq, if◌then◌else◌}
 use Rattle.lx_regex.specs.Expr.{term_of}
 use Rattle.lx_regex.specs.Term.{copies, parts}
-use Rattle.lx_tnfa.specs.declared.states.Repeat.{Repeat}
 use Rattle.lx_tnfa.proofs.Members.{not_zero, once}
 use Rattle.lx_tnfa.proofs.states.repeat_of.Goals as goal
 

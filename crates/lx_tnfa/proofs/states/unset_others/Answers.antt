@@ -1,4 +1,4 @@
-use Rattle.std.proofs.Common.{◌≡◌, ◌∙◌, ap, map, sym}
+use Rattle.std.proofs.Common.{◌≡◌, ◌∙◌, ap}
 use Rattle.lx_regex.specs.Expr.{term_of}
 use Rattle.lx_regex.specs.Script.{merge_tags, tags_in}
 use Rattle.lx_tnfa.specs.TagLists.{remove_tags}

@@ -1,4 +1,4 @@
-use Rattle.std.proofs.Common.{◌≡◌, drop, map}
+use Rattle.std.proofs.Common.{◌≡◌, drop}
 use Rattle.lx_regex.specs.Script.{merge_tags, tags_among}
 use Rattle.lx_regex.proofs.NoUnits.{terms_in}
 use Rattle.lx_tnfa.proofs.tags.+put_tags.Given as goal

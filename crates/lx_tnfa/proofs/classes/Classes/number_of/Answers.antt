@@ -1,4 +1,4 @@
-use Rattle.std.proofs.Common.{◌≡◌, ◌∙◌, ap, sym, subst, arith, length}
+use Rattle.std.proofs.Common.{◌≡◌, sym, subst, arith, length}
 use Rattle.lx_encode.specs.Graph.{IsGraphOf}
 use Rattle.lx_tnfa.proofs.ClassLists.{classes_push, class_last}
 use Rattle.lx_tnfa.proofs.classes.Classes.number_of.Goals as goal

@@ -1,11 +1,11 @@
-use Rattle.std.proofs.Common.{◌≡◌, ◌∙◌, ◌++◌, ◌∷◌, [], true, false, ap, refl, sym, subst, arith, length}
+use Rattle.std.proofs.Common.{◌≡◌, ◌∙◌, ◌++◌, ap, refl, subst, arith, length}
 use Rattle.std.proofs.lemmas.Result.{on_ok_weaker}
 use Rattle.std.specs.Bool.{OnFalse}
 use Rattle.std.specs.Prelude.{replicate}
 use Rattle.lx_regex.specs.Automaton.{final}
 use Rattle.lx_regex.specs.Pattern.{is_end, pattern_of, sorts_of}
 use Rattle.lx_regex.proofs.PartSizes.{measured}
-use Rattle.lx_tnfa.specs.Making.{AddsRule, CanAdd}
+use Rattle.lx_tnfa.specs.Making.{CanAdd}
 use Rattle.lx_tnfa.specs.declared.making.Making.{Making}
 use Rattle.lx_tnfa.proofs.RuleLists.{adds_end, adds_rule, is_rule, seen_push}
 use Rattle.lx_tnfa.proofs.making.Making.add_rule.Goals as goal

@@ -1,8 +1,6 @@
-use Rattle.std.proofs.Common.{◌≡◌, ◌*◌, ◌<◌, ◌∷◌, [], ◌∙◌, length, ap, refl, sym, subst, arith}
+use Rattle.std.proofs.Common.{◌≡◌, ◌*◌, ◌<◌, ◌∷◌, [], ◌∙◌, length, ap, sym, subst, arith}
 use Rattle.std.proofs.lemmas.Bool.Decides.{nat_tests}
-use Rattle.std.specs.Prelude.{List, ℕ}
-use Rattle.lx_tnfa.specs.Tnfa.{FinishesRest, FinishesPlace, state_at, rows_at}
-use Rattle.lx_tnfa.specs.declared.states.State.TheVariants.{Class, AnyUnit}
+use Rattle.lx_tnfa.specs.Tnfa.{FinishesRest, FinishesPlace, rows_at}
 use Rattle.lx_tnfa.proofs.PlaceSteps.{class_goes_on, goes_on, numbered_at, rows_are, state_is}
 use Rattle.lx_tnfa.proofs.tnfa.Tnfa.next.Goals as goal
 

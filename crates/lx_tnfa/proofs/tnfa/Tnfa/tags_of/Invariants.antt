@@ -1,6 +1,5 @@
-use Rattle.std.proofs.Common.{◌≡◌, map, drop}
+use Rattle.std.proofs.Common.{◌≡◌, drop}
 use Rattle.lx_tnfa.specs.Tnfa.{sorts_for}
-use Rattle.lx_tnfa.specs.declared.tnfa.RuleTags.{RuleTags}
 use Rattle.lx_tnfa.specs.Making.{seen_tags}
 use Rattle.lx_tnfa.proofs.tnfa.Tnfa.tags_of.Given as goal
 
