@@ -24,6 +24,7 @@ pub mod PosixShapes
 pub mod PosixUnique
 pub mod Readings
 pub mod Rows
+pub mod RuleCuts
 pub mod RuleParts
 pub mod Scripts
 pub mod ShapeOfScript

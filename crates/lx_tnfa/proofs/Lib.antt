@@ -4,6 +4,7 @@ pub mod ClassLists
 pub mod FirstStates
 pub mod MemberMoves
 pub mod Members
+pub mod OnePlace
 pub mod PlaceSteps
 pub mod RuleLists
 pub mod RuleTagLists

@@ -4,5 +4,6 @@ pub mod Ends
 pub mod Making
 pub mod Moves
 pub mod Rows
+pub mod Standing
 pub mod TagLists
 pub mod Tnfa

@@ -4,6 +4,7 @@
 mod building;
 mod classes;
 mod counts;
+pub mod laws;
 mod making;
 mod places;
 mod states;
