@@ -135,7 +135,7 @@ few_tags (first ∷ rules) zero rule lt is =
 few_tags (first ∷ rules) (suc place) rule lt is =
     let few : length rule.tags + 2 * (rule.groups - 1) ≤ tags_of rules = few_tags rules place rule (omega arith) is in omega arith
 
-length-group_ends : (groups : ℕ) → length (group_ends groups) ≡ 2 * groups
+pub length-group_ends : (groups : ℕ) → length (group_ends groups) ≡ 2 * groups
 length-group_ends zero = refl
 length-group_ends (suc groups) = let e = length-group_ends groups in omega (arith, e)
 

@@ -14,3 +14,6 @@ mod tnfa;
 pub use places::Place;
 pub use states::{Event, Move};
 pub use tnfa::Tnfa;
+
+#[cfg(test)]
+mod tests;
