@@ -1,6 +1,6 @@
-ghost use Rattle.std.specs.Prelude.{◌≡◌, ◌∷◌, [], ℕ, ◌+◌, ◌*◌, ◌≤◌, ◌<◌, ◌^◌, IfOk, Option, None, length};
+ghost use Rattle.std.specs.Prelude.{◌≡◌, ◌∷◌, [], ℕ, ◌+◌, ◌*◌, ◌≤◌, ◌<◌, ◌^◌, IfOk, Option, None, Some, length, map, sum};
 ghost use Rattle.lx_base.specs.declared.settings.Enc.{Enc};
-ghost use Rattle.lx_regex.specs.Expr.{size_of, term_of, times};
+ghost use Rattle.lx_regex.specs.Expr.{members_of, size_of, term_of, times};
 ghost use Rattle.lx_regex.specs.Limits.{HasLongSequences, IsWithinLimits, numbers_from};
 ghost use Rattle.lx_regex.specs.Pattern.{patterns_of, terms_of};
 ghost use Rattle.lx_regex.specs.Script.{tags_in};
@@ -15,6 +15,7 @@ use lx_class::{ClassSet, MAX_POINT};
 use lx_regex::{Expr, Kind, Rule, RuleSet, Tag};
 use std::alloc::Global;
 use std::test::Fail;
+use std::time::Instant;
 
 /// The class of the points between two.
 fn points(alloc: Global, lo: u32, hi: u32) -> Result<Expr, Memory>
@@ -102,9 +103,8 @@ fn unnamed(alloc: Global, count: u32) -> Result<Sequence<Tag>, Memory>
 
 /// The rule list of one rule, with so many s-tags and groups.
 fn scanner(alloc: Global, enc: Enc, expr: Expr, tags: u32, groups: u32) -> Result<RuleSet, Memory>
-    requires few { tags ≤ 4 }
-    requires grouped { groups ≤ 4 }
-    requires size { size_of expr ≤ 100 }
+    requires few { tags + 2 * groups ≤ 128 }
+    requires size { size_of expr ≤ 4096 }
     requires sequences { HasLongSequences (term_of tags expr) }
     requires fits { ClassesFit enc (term_of tags expr) }
     requires told { tags_in (term_of tags expr) ≡ numbers_from 0 (tags + 2 * groups) }
@@ -176,6 +176,38 @@ fn wide(alloc: Global) -> Result<Expr, Memory>
     ensures size { IfOk result (λ e. size_of e ≤ 100) }
 {
     let expr = points(alloc, 0xFFFF, 0x10000)?;
+    Ok(expr)
+}
+
+/// So many s-tags, numbered from 0.
+fn marks(alloc: Global, count: u32) -> Result<Vec<Expr>, Memory>
+    ensures terms { IfOk result (λ list. map (term_of 128) list.items ≡ map tag (numbers_from 0 count)) }
+    ensures sizes { IfOk result (λ list. sum (map size_of list.items) ≡ count) }
+{
+    let mut list = Vec::new(alloc);
+    for number in 0..count {
+        let next = mark(number);
+        list.push(next)?;
+    }
+    Ok(list)
+}
+
+/// One of some expressions.
+fn one_of(members: Vec<Expr>) -> Expr
+    ensures term { (tags : ℕ) → term_of tags result ≡ alt (members_of (map (term_of tags) members.items)) }
+    ensures size { size_of result ≡ sum (map size_of members.items) + 1 }
+{
+    Expr::Alt(members)
+}
+
+/// One of 128 tags, 31 times: each of 3,968 moves unsets all tags but one.
+fn tags_apart(alloc: Global) -> Result<Expr, Memory>
+    ensures term { IfOk result (λ e. term_of 128 e ≡ repeat (alt (members_of (map tag (numbers_from 0 128)))) 31 (Some 31)) }
+    ensures size { IfOk result (λ e. size_of e ≡ 4000) }
+{
+    let list = marks(alloc, 128)?;
+    let body = one_of(list);
+    let expr = repeated(alloc, body, 31, Some(31))?;
     Ok(expr)
 }
 
@@ -267,5 +299,22 @@ fn a_class_of_both_lengths_has_a_place_in_its_middle(rt: HostRuntime) -> Result<
     let set = scanner(alloc, Enc::Utf16, expr, 0, 0)?;
     let t = Tnfa::of(alloc, &set, Enc::Utf16)?;
     assert_eq!(rt; table(alloc, &t)?.as_str(), "||| class 0| 0");
+    for class in &t.classes {
+        assert_eq!(rt; class.graph.starts().len(), 2);
+    }
+    Ok(())
+}
+
+/// Prints how long a rule list of the greatest size takes in which most moves unset 127 tags (`bench/tnfa.sh`).
+#[test]
+fn time_of_many_tags(rt: HostRuntime) -> Result<(), Fail> {
+    let alloc = rt.alloc();
+    let expr = tags_apart(alloc)?;
+    let set = scanner(alloc, Enc::Utf8, expr, 128, 0)?;
+    let start = Instant::now(&rt)?;
+    let t = Tnfa::of(alloc, &set, Enc::Utf8)?;
+    let elapsed = start.elapsed(&rt)?;
+    println!(rt; "many_tags: {} us", elapsed.as_micros())?;
+    assert_eq!(rt; t.states.len(), 8002);
     Ok(())
 }
