@@ -1,10 +1,11 @@
 ghost use Rattle.std.specs.Prelude.{◌≡◌, ◌∷◌, [], ℕ, ◌+◌, ◌*◌, ◌≤◌, ◌<◌, ◌^◌, IfOk, Option, None, Some, length, map, sum};
 ghost use Rattle.lx_base.specs.declared.settings.Enc.{Enc};
+ghost use Rattle.lx_base.specs.declared.settings.Enc.TheVariants.{Utf8};
 ghost use Rattle.lx_regex.specs.Expr.{members_of, size_of, term_of, times};
 ghost use Rattle.lx_regex.specs.Limits.{HasLongSequences, IsWithinLimits, numbers_from};
 ghost use Rattle.lx_regex.specs.Pattern.{patterns_of, terms_of};
 ghost use Rattle.lx_regex.specs.Script.{tags_in};
-ghost use Rattle.lx_regex.specs.Term.{Term, alt, cat, class, cons, group, nil, repeat, tag};
+ghost use Rattle.lx_regex.specs.Term.{Term, alt, cat, class, cons, empty, group, nil, repeat, tag};
 ghost use Rattle.lx_tnfa.specs.Rows.{ClassesFit};
 ghost use Rattle.lx_tnfa.specs.Tnfa.{AllClassesFit};
 
@@ -33,6 +34,14 @@ fn mark(number: u32) -> Expr
     ensures size { size_of result ≡ 1 }
 {
     Expr::STag(number)
+}
+
+/// The empty string.
+fn nothing() -> Expr
+    ensures term { (tags : ℕ) → term_of tags result ≡ empty }
+    ensures size { size_of result ≡ 1 }
+{
+    Expr::Empty
 }
 
 /// The group with a number.
@@ -211,6 +220,21 @@ fn tags_apart(alloc: Global) -> Result<Expr, Memory>
     Ok(expr)
 }
 
+/// A tag, or nothing, or nothing, so many times in one another.
+fn nested(alloc: Global, depth: u32) -> Result<Expr, Memory>
+    ensures sequences { IfOk result (λ e. HasLongSequences (term_of 1 e)) }
+    ensures fits { IfOk result (λ e. ClassesFit Utf8 (term_of 1 e)) }
+    ensures told { IfOk result (λ e. tags_in (term_of 1 e) ≡ 0 ∷ []) }
+    ensures size { IfOk result (λ e. size_of e ≡ 2 * depth + 1) }
+{
+    let mut expr = mark(0);
+    for level in 0..depth {
+        let other = nothing();
+        expr = either(alloc, expr, other)?;
+    }
+    Ok(expr)
+}
+
 /// What a state holds: each move's state with the tags that it sets and unsets, or what is read.
 fn row(alloc: Global, state: &State) -> Result<String, Fail> {
     let mut text = String::new(alloc);
@@ -316,5 +340,19 @@ fn time_of_many_tags(rt: HostRuntime) -> Result<(), Fail> {
     let elapsed = start.elapsed(&rt)?;
     println!(rt; "many_tags: {} us", elapsed.as_micros())?;
     assert_eq!(rt; t.states.len(), 8002);
+    Ok(())
+}
+
+/// Prints how long 2,000 alternations in one another take (`bench/tnfa.sh`).
+#[test]
+fn time_of_nested_alternations(rt: HostRuntime) -> Result<(), Fail> {
+    let alloc = rt.alloc();
+    let expr = nested(alloc, 2000)?;
+    let set = scanner(alloc, Enc::Utf8, expr, 1, 0)?;
+    let start = Instant::now(&rt)?;
+    let t = Tnfa::of(alloc, &set, Enc::Utf8)?;
+    let elapsed = start.elapsed(&rt)?;
+    println!(rt; "nested_alternations: {} us", elapsed.as_micros())?;
+    assert_eq!(rt; t.states.len(), 8004);
     Ok(())
 }
