@@ -1,16 +1,14 @@
 -- Residuals that the same units finish are equal, and so are the places of cuts at one place.
-use Rattle.std.proofs.Common.{◌≡◌, ℕ, zero, suc, ◌+◌, ◌*◌, ◌<◌, ◌≤◌, ◌↔◌, arith, List, [], ◌∷◌, length, refl, sym, ap, ap₂, ◌∙◌, subst}
+use Rattle.std.proofs.Common.{◌≡◌, ℕ, zero, suc, ◌<◌, ◌↔◌, arith, List, [], ◌∷◌, length, refl, sym, ap, ap₂, ◌∙◌, subst}
 use Rattle.lx_base.specs.declared.settings.Enc.{Enc}
-use Rattle.lx_encode.specs.Graph.{IsGraphOf}
 use Rattle.lx_encode.specs.Table.{Finishes}
-use Rattle.lx_encode.specs.declared.graph.Residual.{Residual}
 use Rattle.lx_regex.specs.Cut as cuts
 use Rattle.lx_regex.specs.Cut.{Cut, IsCut, SamePlace}
 use Rattle.lx_regex.specs.Pattern.{Pattern, terms_of}
 use Rattle.lx_regex.proofs.RuleCuts.{cuts_one_rule}
 use Rattle.lx_tnfa.specs.Classes.{AreClasses}
 use Rattle.lx_tnfa.specs.Standing.{StandsAt}
-use Rattle.lx_tnfa.specs.Tnfa.{Tnfa, FinishesPlace, FinishesRest, IsPlace, IsRest, IsTnfaOf, rows_at, state_at}
+use Rattle.lx_tnfa.specs.Tnfa.{Tnfa, FinishesPlace, FinishesRest, IsRest, IsTnfaOf, rows_at, state_at}
 use Rattle.lx_tnfa.specs.declared.classes.ClassGraph.{ClassGraph}
 use Rattle.lx_tnfa.specs.declared.places.Place.{Place}
 use Rattle.lx_tnfa.specs.declared.states.State.{State}

@@ -272,7 +272,10 @@ fn alternatives_unset_the_tags_of_the_others(rt: HostRuntime) -> Result<(), Fail
     let expr = tagged(alloc)?;
     let set = scanner(alloc, Enc::Utf8, expr, 1, 0)?;
     let t = Tnfa::of(alloc, &set, Enc::Utf8)?;
-    assert_eq!(rt; table(alloc, &t)?.as_str(), "||| 4 3-0| 0| 6 12-0| 4 3| 8| 5| class 0| 10| 11+0| 7| class 1| 5");
+    assert_eq!(rt;
+        table(alloc, &t)?.as_str(),
+        "||| 4 3-0| 0| 6 12-0| 4 3| 8| 5| class 0| 10| 11+0| 7| class 1| 5"
+    );
     Ok(())
 }
 
@@ -282,7 +285,10 @@ fn each_copy_of_a_repetition_has_its_states(rt: HostRuntime) -> Result<(), Fail>
     let expr = counted(alloc, 2, Some(3))?;
     let set = scanner(alloc, Enc::Utf8, expr, 0, 0)?;
     let t = Tnfa::of(alloc, &set, Enc::Utf8)?;
-    assert_eq!(rt; table(alloc, &t)?.as_str(), "||| 4| 0| class 0| 6| class 0| 8 3| class 0| 3");
+    assert_eq!(rt;
+        table(alloc, &t)?.as_str(),
+        "||| 4| 0| class 0| 6| class 0| 8 3| class 0| 3"
+    );
     Ok(())
 }
 
@@ -292,7 +298,10 @@ fn the_last_copy_leads_back_to_itself(rt: HostRuntime) -> Result<(), Fail> {
     let expr = counted(alloc, 2, None)?;
     let set = scanner(alloc, Enc::Utf8, expr, 0, 0)?;
     let t = Tnfa::of(alloc, &set, Enc::Utf8)?;
-    assert_eq!(rt; table(alloc, &t)?.as_str(), "||| 4| 0| class 0| 6| class 0| 6 3");
+    assert_eq!(rt;
+        table(alloc, &t)?.as_str(),
+        "||| 4| 0| class 0| 6| class 0| 6 3"
+    );
     Ok(())
 }
 
@@ -302,7 +311,10 @@ fn a_group_sets_a_tag_at_each_end(rt: HostRuntime) -> Result<(), Fail> {
     let expr = whole_and_part(alloc)?;
     let set = scanner(alloc, Enc::Utf8, expr, 0, 2)?;
     let t = Tnfa::of(alloc, &set, Enc::Utf8)?;
-    assert_eq!(rt; table(alloc, &t)?.as_str(), "||| 4+0| 0| 6+2| 3+1| class 0| 5+3");
+    assert_eq!(rt;
+        table(alloc, &t)?.as_str(),
+        "||| 4+0| 0| 6+2| 3+1| class 0| 5+3"
+    );
     Ok(())
 }
 
@@ -312,7 +324,10 @@ fn a_trailing_context_sets_its_tag(rt: HostRuntime) -> Result<(), Fail> {
     let expr = with_context(alloc)?;
     let set = scanner(alloc, Enc::Utf8, expr, 1, 0)?;
     let t = Tnfa::of(alloc, &set, Enc::Utf8)?;
-    assert_eq!(rt; table(alloc, &t)?.as_str(), "||| 4| 0| class 0| 6| 7+0| 8| class 1| 3");
+    assert_eq!(rt;
+        table(alloc, &t)?.as_str(),
+        "||| 4| 0| class 0| 6| 7+0| 8| class 1| 3"
+    );
     Ok(())
 }
 

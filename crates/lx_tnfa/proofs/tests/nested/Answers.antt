@@ -1,4 +1,4 @@
-use Rattle.std.proofs.Common.{◌≡◌, ℕ, List, [], arith, refl, ap}
+use Rattle.std.proofs.Common.{ℕ, List, [], arith, refl, ap}
 use Rattle.lx_regex.specs.Script.{merge_tags}
 use Rattle.lx_tnfa.proofs.tests.nested.Goals as goal
 
@@ -11,4 +11,4 @@ loop-level-preserved c =
     let all = c.in_ok-expr.ensures.size in
     let one = c.nothing-other.ensures.size in
     rw (c.in_ok-expr.ensures.term 1) (rw (c.nothing-other.ensures.term 1)
-        ((sequences, (tt, tt)), (fits, (tt, tt)), ap (λ (tags : List ℕ). merge_tags tags []) told, omega (arith, all, one, size)))
+    ((sequences, (tt, tt)), (fits, (tt, tt)), ap (λ (tags : List ℕ). merge_tags tags []) told, omega (arith, all, one, size)))
