@@ -9,7 +9,6 @@ use Rattle.lx_regex.specs.Script.{Symbol, may_iterate, copy_part}
 use Rattle.lx_regex.specs.Term.{Term, empty, class, any_unit, cat, alt, repeat, tag, group, Terms, nil, cons, copies, parts, parts_of_all}
 use Rattle.lx_regex.specs.Walk.{IsAmong, first, next}
 use Rattle.lx_regex.proofs.Cuts.{rule_stands, rule_positive, paired_rules, code_even, front_part, way_of, cutting_of}
-use Rattle.lx_regex.proofs.Exchange.{Cutting}
 use Rattle.lx_regex.proofs.Fronts.{Front, by_move, by_code, within, no_rows}
 use Rattle.lx_regex.proofs.PartLists.{parts_positive}
 use Rattle.lx_regex.proofs.Rows.{Stands, copy_within, table_length}
@@ -69,9 +68,9 @@ module _ (P : ℕ → Type 0) where
   after_to p body low high n h =
       round_to (may_iterate n high) _ _ (2 * copy_part p body low high n) (2 * p + 1)
       (λ may.
-        let k : copy_part p body low high n + parts body ≤ p + (1 + copies low high * parts body) = copy_within p body low high n may in
-        let s : 0 < parts body = some_parts body in
-        spot p (1 + copies low high * parts body) (copy_part p body low high n) (omega arith) (omega arith) h)
+      let k : copy_part p body low high n + parts body ≤ p + (1 + copies low high * parts body) = copy_within p body low high n may in
+      let s : 0 < parts body = some_parts body in
+      spot p (1 + copies low high * parts body) (copy_part p body low high n) (omega arith) (omega arith) h)
       (end_spot p (1 + copies low high * parts body) (omega arith) h)
 
   copies_to : (rows : ℕ → List Move → List State) (p : ℕ) (body : Term) (low : ℕ) (high : Option ℕ) (n c : ℕ) → c + n ≡ copies low high → Spans p (1 + copies low high * parts body) → ((q : ℕ) (ms : List Move) → Spans q (parts body) → RowTo (moves ms) → AllTo (rows q ms)) → AllTo (copies_table rows p body low high n c)
@@ -191,9 +190,9 @@ cuts_one_rule enc rules j k p q ij ik gj gk same =
     ⊎_elim
     (λ e. e)
     (λ d. ⊎_elim
-      (λ l. absurd (⊎_elim (λ x. omega (arith, x, a.1, b.0, same)) (λ n. let z : Some gk.0 ≡ None = sym gk.2 ∙ n in cc) (rule_after rules j.rule k.rule gj.0 gj.2 l)))
-      (λ l. absurd (⊎_elim (λ x. omega (arith, x, b.1, a.0, same)) (λ n. let z : Some gj.0 ≡ None = sym gj.2 ∙ n in cc) (rule_after rules k.rule j.rule gk.0 gk.2 l)))
-      d)
+    (λ l. absurd (⊎_elim (λ x. omega (arith, x, a.1, b.0, same)) (λ n. let z : Some gk.0 ≡ None = sym gk.2 ∙ n in cc) (rule_after rules j.rule k.rule gj.0 gj.2 l)))
+    (λ l. absurd (⊎_elim (λ x. omega (arith, x, b.1, a.0, same)) (λ n. let z : Some gj.0 ≡ None = sym gj.2 ∙ n in cc) (rule_after rules k.rule j.rule gk.0 gk.2 l)))
+    d)
     (cases_order j.rule k.rule)
   where
     a : (rule_part rules j.rule ≤ last_part 0 j.front) × (last_part 0 j.front < rule_part rules j.rule + parts gj.0)
@@ -201,4 +200,3 @@ cuts_one_rule enc rules j k p q ij ik gj gk same =
 
     b : (rule_part rules k.rule ≤ last_part 0 k.front) × (last_part 0 k.front < rule_part rules k.rule + parts gk.0)
     b = cut_within enc rules k.rule gk.0 gk.2 k q refl ik gk
-
