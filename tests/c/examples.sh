@@ -12,16 +12,22 @@ trap 'rm -rf "$work"' EXIT
 # The end's label is one that no jump need reach, and the piece declares its variables whether it needs them or not.
 options="-std=c99 -Wall -Wextra -Werror -Wno-unused-label -Wno-unused-variable"
 
-# prints NAME EXPECTED: what the example prints, with blanks for line feeds
+# prints NAME EXPECTED [OPTION ..]: what the example prints, with blanks for line feeds, where it is compiled with these options
 prints() {
-	"$root/bin/re2c" -i "$root/examples/$1.re" > "$work/$1.c"
+	name=$1
+	expected=$2
+	shift 2
+	"$root/bin/re2c" -i "$@" "$root/examples/$name.re" > "$work/$name.c"
 	# shellcheck disable=SC2086
-	"$compiler" $options "$work/$1.c" -o "$work/$1"
-	test "$("$work/$1" | tr '\n' ' ')" = "$2 "
-	echo "$1: $2"
+	"$compiler" $options "$work/$name.c" -o "$work/$name"
+	test "$("$work/$name" | tr '\n' ' ')" = "$expected "
+	echo "$name: $expected"
 }
 
 prints quoted "2 3 1"
 prints keywords "1 3 2 4 5 d o"
 prints two_scanners "2 2 1 0 2 5 2 2 0 0"
 prints signs "L s s ?"
+prints utf_8 "dollar pound . . euro money bag . ." -8
+prints utf_16 "1 0 3 2 0 2" -x
+prints utf_32 "a e e f ? l ? ?" -u

@@ -3,7 +3,7 @@ use Rattle.std.proofs.Common.{◌≡◌, ℕ, ◌<◌, ◌≤◌, ◌^◌, arith
 use Rattle.std.specs.Prelude.{IfSome, unwrap_or}
 use Rattle.std.specs.List.{AllByRecursion}
 use Rattle.std.proofs.lemmas.List.Elements.{recursion_from_All}
-use Rattle.lx_base.specs.declared.settings.Enc.TheVariants.{Byte}
+use Rattle.lx_base.specs.declared.settings.Enc.{Enc}
 use Rattle.lx_kernels.specs.Count.{IsCountable}
 use Rattle.lx_regex.specs.Pattern.{Pattern, patterns_of}
 use Rattle.lx_regex.specs.Strings.{AreStrings, no_rule, default_rule, string_rule}
@@ -37,17 +37,17 @@ pub length-actions_of : (acts : List Act) → length (actions_of acts) ≡ lengt
 length-actions_of [] = refl
 length-actions_of (act ∷ acts) = omega (arith, length-actions_of acts)
 
-pub AreNumbered-of : (scanner : Scanner) (acts : List Act) (strings : Strings) → IsFit (length acts) scanner
-    → AreStrings (patterns_of scanner.set.rules) strings.rules strings.default → IsCountable Byte strings.rules
-    → AreNumbered Byte (length (actions_of acts)) strings
-AreNumbered-of scanner acts strings fit are countable =
+pub AreNumbered-of : (enc : Enc) (scanner : Scanner) (acts : List Act) (strings : Strings) → IsFit (length acts) scanner
+    → AreStrings (patterns_of scanner.set.rules) strings.rules strings.default → IsCountable enc strings.rules
+    → AreNumbered enc (length (actions_of acts)) strings
+AreNumbered-of enc scanner acts strings fit are countable =
     let numbered = strings_numbered are (length acts) scanner.set.rules refl
     (recursion_from_All (λ (rule : Rule). (0 < rule.number) × (rule.number ≤ length acts)) scanner.set.rules fit.numbers) in
     rw (length-actions_of acts)
-    (record { points = spelled-points strings.rules countable.points; numbers = numbered.0; default = numbered.1 })
+    (record { points = spelled-points enc strings.rules countable.points; numbers = numbered.0; default = numbered.1 })
 
-pub AreFew-of : (strings : Strings) → IsCountable Byte strings.rules → AreFew strings.rules
-AreFew-of strings countable = record { rules = countable.few; points = countable.short }
+pub AreFew-of : (enc : Enc) (strings : Strings) → IsCountable enc strings.rules → AreFew strings.rules
+AreFew-of enc strings countable = record { rules = countable.few; points = countable.short }
 
 short_actions : (acts : List Act) → AllByRecursion (λ (act : Act). IsShort act.code) acts → AllByRecursion (λ (action : List ℕ). length action < 2 ^ 32) (actions_of acts)
 short_actions [] short = tt

@@ -15,11 +15,11 @@ use Rattle.lx_base.specs.declared.settings.SurPolicy.{SurPolicy}
 use Rattle.lx_base.specs.declared.settings.SurPolicy.TheVariants.{Ignore, Substitute, Fail}
 use Rattle.lx_class.specs.declared.ranges.Range.{Range}
 use Rattle.lx_parse.specs.Expressions.{Part}
-use Rattle.lx_rules.specs.Checks.{Check, Then, Finds, waits, Checks, LeafChecks, IsFilled, PointsAre, AreClasses, HasPoint, bounds_fault, class_ranges, is_class, is_wrong, name_fault, repeated_tag, tag_fault, tag_name, tags_of, is_among}
+use Rattle.lx_rules.specs.Checks.{Check, Then, Finds, waits, Checks, LeafChecks, IsFilled, PointsAre, AreClasses, HasPoint, LeafHas, bounds_fault, class_ranges, is_class, is_wrong, name_fault, repeated_tag, tag_fault, tag_name, tags_of, is_among}
 use Rattle.lx_rules.specs.Environments.{Definition, definition_of}
 use Rattle.lx_rules.specs.Forms.{Form, leaf, group, repeated, sequence, difference, alternative, IsForm, is_leaf, is_group, is_bare, is_repeated, is_first_post, is_sequence, is_first_cat, is_difference, is_first_diff, is_alternative}
 use Rattle.lx_rules.specs.Lexemes.{Lexeme, nth_lexeme, points_in}
-use Rattle.lx_rules.specs.Points.{least_within, points_fault, singles, surrogate_fault}
+use Rattle.lx_rules.specs.Points.{least_from, points_fault, singles, surrogate_fault, up_to}
 use Rattle.lx_token.specs.Numbers.{repeat_of}
 use Rattle.lx_token.specs.declared.kinds.TokenKind.{TokenKind}
 use Rattle.lx_token.specs.declared.kinds.TokenKind.TheVariants as kind
@@ -111,14 +111,14 @@ option_map-in_first (Some x) fault_of are = are x
 surrogate-in_first : (policy : SurPolicy) (at : Pos) (ranges : List Range) → at.file ≡ 0 → AreInFirst (surrogate_fault policy at ranges)
 surrogate-in_first Ignore at ranges is = tt
 surrogate-in_first Substitute at ranges is = tt
-surrogate-in_first Fail at ranges is = option_map-in_first (least_within 0xD800 0xDFFF ranges) _ (λ point. is)
+surrogate-in_first Fail at ranges is = option_map-in_first (up_to 0xDFFF (least_from 0xD800 ranges)) _ (λ point. is)
 
 points-in_first : (enc : Enc) (policy : SurPolicy) (at : Pos) (ranges : List Range) → at.file ≡ 0 → AreInFirst (points_fault enc policy at ranges)
 points-in_first enc policy at ranges is =
     option_or-in_first
-    (option_map (λ point. CodePoint at point) (least_within (suc (greatest_point enc)) 0xFFFFFFFF ranges))
+    (option_map (λ point. CodePoint at point) (least_from (suc (greatest_point enc)) ranges))
     (surrogate_fault policy at ranges)
-    (option_map-in_first (least_within (suc (greatest_point enc)) 0xFFFFFFFF ranges) (λ point. CodePoint at point) (λ point. is))
+    (option_map-in_first (least_from (suc (greatest_point enc)) ranges) (λ point. CodePoint at point) (λ point. is))
     (surrogate-in_first policy at ranges is)
 
 repeated_tag-in_first : (at : Pos) (tags seen : List (List ℕ)) → at.file ≡ 0 → AreInFirst (repeated_tag at tags seen)
@@ -184,20 +184,17 @@ module _ (options : Options) (definitions : List Definition) where
   leaf-in_first kind.MTag is_operand seen lexeme is =
       then_waits (Finds (tag_fault options definitions lexeme seen)) lexeme is
       (FindsInFirst-Finds (tag_fault options definitions lexeme seen) (tag-in_first lexeme seen is))
-  leaf-in_first kind.IStr is_operand seen lexeme is =
-      then_waits (PointsAre options definitions lexeme (singles (points_in lexeme))) lexeme is
-      (PointsAre-in_first lexeme (singles (points_in lexeme)) is)
+  leaf-in_first kind.IStr is_operand seen lexeme is = PointsAre-in_first lexeme (singles (points_in lexeme)) is
   leaf-in_first kind.Class is_operand seen lexeme is =
-      let Filled = IsFilled options definitions options.empty is_operand lexeme.at (HasPoint options definitions (leaf lexeme)) in
+      let Filled = IsFilled options definitions options.empty is_operand lexeme.at (LeafHas options definitions kind.Class lexeme) in
       let Points = PointsAre options definitions lexeme (class_ranges lexeme) in
-      then_waits (Then Points Filled) lexeme is
-      (FindsInFirst-Then Points Filled (PointsAre-in_first lexeme (class_ranges lexeme) is)
-      (filled-in_first options.empty is_operand lexeme.at (HasPoint options definitions (leaf lexeme)) is))
+      FindsInFirst-Then Points Filled (PointsAre-in_first lexeme (class_ranges lexeme) is)
+      (filled-in_first options.empty is_operand lexeme.at (LeafHas options definitions kind.Class lexeme) is)
   leaf-in_first kind.Config is_operand seen lexeme is = waits-in_first lexeme is
   leaf-in_first kind.Number is_operand seen lexeme is = waits-in_first lexeme is
   leaf-in_first kind.Bounds is_operand seen lexeme is = waits-in_first lexeme is
   leaf-in_first kind.Code is_operand seen lexeme is = waits-in_first lexeme is
-  leaf-in_first kind.Signs is_operand seen lexeme is = waits-in_first lexeme is
+  leaf-in_first kind.Signs is_operand seen lexeme is = FindsInFirst-Finds None tt
 
   AreClasses-in_first : (left right : Form) (sign : Lexeme) → sign.at.file ≡ 0 → FindsInFirst (AreClasses options definitions left right sign)
   AreClasses-in_first left right sign is =
@@ -225,12 +222,11 @@ module _ (options : Options) (definitions : List Definition) where
       let Filled = IsFilled options definitions options.empty is_operand sign.at Has in
       let Classes = AreClasses options definitions left right sign in
       let Right = Checks options definitions true behind right in
-      FindsInFirst-Then (Checks options definitions true seen left) (Then (Finds (waits sign)) (Then Right (Then Classes Filled)))
+      FindsInFirst-Then (Checks options definitions true seen left) (Then Right (Then Classes Filled))
       (Checks-in_first true seen left is.0)
-      (then_waits (Then Right (Then Classes Filled)) sign is.1
       (FindsInFirst-Then Right (Then Classes Filled) (Checks-in_first true behind right is.2)
       (FindsInFirst-Then Classes Filled (AreClasses-in_first left right sign is.1)
-      (filled-in_first options.empty is_operand sign.at Has is.1))))
+      (filled-in_first options.empty is_operand sign.at Has is.1)))
   Checks-in_first is_operand seen (alternative left sign right) is =
       let behind = seen ++ tags_of options definitions left in
       FindsInFirst-Then (Checks options definitions is_operand seen left) (Then (Finds (waits sign)) (Checks options definitions is_operand behind right))

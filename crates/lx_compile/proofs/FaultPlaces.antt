@@ -81,7 +81,7 @@ among-in_first options environment (piece.Block kind body at start end_line ∷ 
 
 -- the fault of a scanner with too many kernels
 kernels-in_first : (options : Options) (environment : Environment) (pieces : List SourcePiece) (parts : List Part) (fault : Fault)
-    → AreParts options environment pieces parts → IsKernelFault parts (Some fault) → AllByRecursion IsPieceInFile pieces → StandsInFirst fault
+    → AreParts options environment pieces parts → IsKernelFault options.enc parts (Some fault) → AllByRecursion IsPieceInFile pieces → StandsInFirst fault
 kernels-in_first options environment [] [] fault are is places = absurd cc
 kernels-in_first options environment [] (part ∷ parts) fault are is places = absurd are
 kernels-in_first options environment (piece.Outside text ∷ pieces) [] fault are is places = absurd are

@@ -1,26 +1,22 @@
 -- The checks of an expression find one fault, or none; and it has one meaning.
-use Rattle.std.proofs.Common.{◌≡◌, ℕ, ◌+◌, ◌⊎◌, max, Bool, true, false, List, [], ◌∷◌, ◌++◌, drop, Option, Some, None, refl, sym, ap, ap₂, subst, inl, inr, ◌∙◌, arith}
+use Rattle.std.proofs.Common.{◌≡◌, ℕ, suc, max, ◌⊎◌, Bool, true, false, List, [], ◌++◌, drop, Option, Some, None, sym, ap, ap₂, subst, inl, inr, ◌∙◌}
 use Rattle.std.specs.Prelude.{◌&&◌, if◌then◌else◌}
-use Rattle.std.specs.List.{AllByRecursion}
-use Rattle.std.specs.Str.{bytes_eq}
-use Rattle.std.proofs.lemmas.List.{append_cancel_right}
 use Rattle.lx_base.specs.declared.faults.Fault.{Fault}
 use Rattle.lx_base.specs.declared.faults.Fault.TheVariants.{NotClass}
 use Rattle.lx_base.specs.declared.places.Pos.{Pos}
 use Rattle.lx_base.specs.declared.settings.EmptyPolicy.{EmptyPolicy}
 use Rattle.lx_base.specs.declared.settings.EmptyPolicy.TheVariants.{MatchEmpty, MatchNone, Error}
 use Rattle.lx_base.specs.declared.settings.Options.{Options}
+use Rattle.lx_class.proofs.Law.{same_ranges}
 use Rattle.lx_class.specs.declared.ranges.Range.{Range}
-use Rattle.lx_parse.specs.Expressions.{alt}
-use Rattle.lx_rules.specs.Checks.{Check, Then, Finds, waits, Checks, LeafChecks, IsFilled, PointsAre, AreClasses, HasPoint, bounds_fault, class_ranges, is_class, name_fault, tag_fault, tags_of}
+use Rattle.lx_rules.specs.Checks.{Check, Then, Finds, waits, Checks, LeafChecks, IsFilled, PointsAre, AreClasses, HasPoint, LeafHas, bounds_fault, class_ranges, is_class, name_fault, tag_fault, tags_of}
 use Rattle.lx_rules.specs.Environments.{Definition, Meaning, definition_of}
 use Rattle.lx_rules.specs.Forms.{Form, leaf, group, repeated, sequence, difference, alternative}
 use Rattle.lx_rules.specs.Items.{ContextChecks, ExpressionChecks, IsExpression}
 use Rattle.lx_rules.specs.Lexemes.{Lexeme, nth_lexeme, points_in}
-use Rattle.lx_rules.specs.Meanings.{IsLeafMeaning, IsMeaning, copied, followed}
+use Rattle.lx_rules.specs.Meanings.{IsClassMeaning, IsLeafMeaning, IsMeaning, IsSetOf, class_meaning, copied, followed}
 use Rattle.lx_rules.specs.Points.{points_fault, singles}
-use Rattle.lx_rules.specs.Reading.{nothing, tokens_fault, tokens_meaning}
-use Rattle.lx_rules.proofs.FormRuns.{NoTags, IsRun, form_runs}
+use Rattle.lx_rules.proofs.OneForm.{one_form}
 use Rattle.lx_token.specs.declared.kinds.TokenKind.{TokenKind}
 use Rattle.lx_token.specs.declared.kinds.TokenKind.TheVariants as kind
 
@@ -51,10 +47,6 @@ FindsOne-by Holds Fails one two apart = record { one = by }
     by fault other (inr is) (inl is_other) = absurd (apart is_other.0 is.0)
     by fault other (inr is) (inr is_other) = is.1 ∙ sym is_other.1
 
--- no definition has tags
-abbrev pub AreTagless : List Definition → Type 0
-AreTagless definitions = AllByRecursion (λ (definition : Definition). definition.tags ≡ []) definitions
-
 module _ (options : Options) (definitions : List Definition) where
   filled-one : (policy : EmptyPolicy) (is_operand : Bool) (at : Pos) (HasPoint : ℕ → Type 0)
       → FindsOne (IsFilled options definitions policy is_operand at HasPoint)
@@ -78,19 +70,17 @@ module _ (options : Options) (definitions : List Definition) where
       then_waits-one (Finds (tag_fault options definitions lexeme seen)) lexeme (FindsOne-Finds (tag_fault options definitions lexeme seen))
   leaf-one kind.MTag is_operand seen lexeme =
       then_waits-one (Finds (tag_fault options definitions lexeme seen)) lexeme (FindsOne-Finds (tag_fault options definitions lexeme seen))
-  leaf-one kind.IStr is_operand seen lexeme =
-      then_waits-one (PointsAre options definitions lexeme (singles (points_in lexeme))) lexeme (points-one lexeme (singles (points_in lexeme)))
+  leaf-one kind.IStr is_operand seen lexeme = points-one lexeme (singles (points_in lexeme))
   leaf-one kind.Class is_operand seen lexeme =
-      let Filled = IsFilled options definitions options.empty is_operand lexeme.at (HasPoint options definitions (leaf lexeme)) in
+      let Filled = IsFilled options definitions options.empty is_operand lexeme.at (LeafHas options definitions kind.Class lexeme) in
       let Points = PointsAre options definitions lexeme (class_ranges lexeme) in
-      then_waits-one (Then Points Filled) lexeme
-      (FindsOne-Then Points Filled (points-one lexeme (class_ranges lexeme))
-      (filled-one options.empty is_operand lexeme.at (HasPoint options definitions (leaf lexeme))))
+      FindsOne-Then Points Filled (points-one lexeme (class_ranges lexeme))
+      (filled-one options.empty is_operand lexeme.at (LeafHas options definitions kind.Class lexeme))
   leaf-one kind.Config is_operand seen lexeme = FindsOne-Finds (waits lexeme)
   leaf-one kind.Number is_operand seen lexeme = FindsOne-Finds (waits lexeme)
   leaf-one kind.Bounds is_operand seen lexeme = FindsOne-Finds (waits lexeme)
   leaf-one kind.Code is_operand seen lexeme = FindsOne-Finds (waits lexeme)
-  leaf-one kind.Signs is_operand seen lexeme = FindsOne-Finds (waits lexeme)
+  leaf-one kind.Signs is_operand seen lexeme = FindsOne-Finds None
 
   classes-one : (left right : Form) (sign : Lexeme) → FindsOne (AreClasses options definitions left right sign)
   classes-one left right sign =
@@ -115,11 +105,10 @@ module _ (options : Options) (definitions : List Definition) where
       let Filled = IsFilled options definitions options.empty is_operand sign.at Has in
       let Classes = AreClasses options definitions left right sign in
       let Right = Checks options definitions true behind right in
-      FindsOne-Then (Checks options definitions true seen left) (Then (Finds (waits sign)) (Then Right (Then Classes Filled)))
+      FindsOne-Then (Checks options definitions true seen left) (Then Right (Then Classes Filled))
       (Checks-one true seen left)
-      (then_waits-one (Then Right (Then Classes Filled)) sign
       (FindsOne-Then Right (Then Classes Filled) (Checks-one true behind right)
-      (FindsOne-Then Classes Filled (classes-one left right sign) (filled-one options.empty is_operand sign.at Has))))
+      (FindsOne-Then Classes Filled (classes-one left right sign) (filled-one options.empty is_operand sign.at Has)))
   Checks-one is_operand seen (alternative left sign right) =
       let behind = seen ++ tags_of options definitions left in
       FindsOne-Then (Checks options definitions is_operand seen left) (Then (Finds (waits sign)) (Checks options definitions is_operand behind right))
@@ -127,87 +116,51 @@ module _ (options : Options) (definitions : List Definition) where
       (then_waits-one (Checks options definitions is_operand behind right) sign (Checks-one is_operand behind right))
 
   -- a token has one meaning, and a form too
-  leaf_meaning-one : (sort : TokenKind) (lexeme : Lexeme) (meaning other : Meaning) → IsLeafMeaning options definitions sort lexeme meaning
-      → IsLeafMeaning options definitions sort lexeme other → meaning ≡ other
-  leaf_meaning-one kind.Str lexeme meaning other is is_other = is ∙ sym is_other
-  leaf_meaning-one kind.Name lexeme meaning other is is_other =
+  set-one : (Has : ℕ → Type 0) (set other : List Range) → IsSetOf Has set → IsSetOf Has other → set ≡ other
+  set-one Has set other is is_other =
+      same_ranges 0 0 set other is.canonical is_other.canonical
+      (λ point inside. (is_other.points point).1 ((is.points point).0 inside)) (λ point inside. (is.points point).1 ((is_other.points point).0 inside))
+
+  class_meaning-one : (operand : Bool) (nesting : ℕ) (Has : ℕ → Type 0) (meaning other : Meaning) → IsClassMeaning options definitions operand nesting Has meaning
+      → IsClassMeaning options definitions operand nesting Has other → meaning ≡ other
+  class_meaning-one operand nesting Has meaning other is is_other =
+      is.2 ∙ ap (class_meaning operand options.empty nesting) (set-one Has is.0 is_other.0 is.1 is_other.1) ∙ sym is_other.2
+
+  leaf_meaning-one : (operand : Bool) (sort : TokenKind) (lexeme : Lexeme) (meaning other : Meaning)
+      → IsLeafMeaning options definitions operand sort lexeme meaning → IsLeafMeaning options definitions operand sort lexeme other → meaning ≡ other
+  leaf_meaning-one operand kind.Str lexeme meaning other is is_other = is ∙ sym is_other
+  leaf_meaning-one operand kind.IStr lexeme meaning other is is_other = is ∙ sym is_other
+  leaf_meaning-one operand kind.Class lexeme meaning other is is_other =
+      class_meaning-one operand 0 (LeafHas options definitions kind.Class lexeme) meaning other is is_other
+  leaf_meaning-one operand kind.Signs lexeme meaning other is is_other =
+      class_meaning-one operand 0 (LeafHas options definitions kind.Signs lexeme) meaning other is is_other
+  leaf_meaning-one operand kind.Name lexeme meaning other is is_other =
       let same : is.0 ≡ is_other.0 = let found = sym is.1 ∙ is_other.1 in cc in
       is.2 ∙ ap copied same ∙ sym is_other.2
-  leaf_meaning-one kind.STag lexeme meaning other is is_other = absurd is
-  leaf_meaning-one kind.MTag lexeme meaning other is is_other = absurd is
-  leaf_meaning-one kind.IStr lexeme meaning other is is_other = absurd is
-  leaf_meaning-one kind.Class lexeme meaning other is is_other = absurd is
-  leaf_meaning-one kind.Config lexeme meaning other is is_other = absurd is
-  leaf_meaning-one kind.Number lexeme meaning other is is_other = absurd is
-  leaf_meaning-one kind.Bounds lexeme meaning other is is_other = absurd is
-  leaf_meaning-one kind.Code lexeme meaning other is is_other = absurd is
-  leaf_meaning-one kind.Signs lexeme meaning other is is_other = absurd is
+  leaf_meaning-one operand kind.STag lexeme meaning other is is_other = absurd is
+  leaf_meaning-one operand kind.MTag lexeme meaning other is is_other = absurd is
+  leaf_meaning-one operand kind.Config lexeme meaning other is is_other = absurd is
+  leaf_meaning-one operand kind.Number lexeme meaning other is is_other = absurd is
+  leaf_meaning-one operand kind.Bounds lexeme meaning other is is_other = absurd is
+  leaf_meaning-one operand kind.Code lexeme meaning other is is_other = absurd is
 
-  meaning-one : (form : Form) (meaning other : Meaning) → IsMeaning options definitions form meaning → IsMeaning options definitions form other → meaning ≡ other
-  meaning-one (leaf lexeme) meaning other is is_other = leaf_meaning-one lexeme.kind lexeme meaning other is is_other
-  meaning-one (group opening inner) meaning other is is_other = absurd is
-  meaning-one (repeated inner sign) meaning other is is_other = absurd is
-  meaning-one (sequence front back) meaning other is is_other =
-      is.4 ∙ ap₂ followed (meaning-one front is.0 is_other.0 is.2 is_other.2) (meaning-one back is.1 is_other.1 is.3 is_other.3) ∙ sym is_other.4
-  meaning-one (difference left sign right) meaning other is is_other = absurd is
-  meaning-one (alternative left sign right) meaning other is is_other = absurd is
+  meaning-one : (operand : Bool) (form : Form) (meaning other : Meaning) → IsMeaning options definitions operand form meaning
+      → IsMeaning options definitions operand form other → meaning ≡ other
+  meaning-one operand (leaf lexeme) meaning other is is_other = leaf_meaning-one operand lexeme.kind lexeme meaning other is is_other
+  meaning-one operand (group opening inner) meaning other is is_other = absurd is
+  meaning-one operand (repeated inner sign) meaning other is is_other = absurd is
+  meaning-one operand (sequence front back) meaning other is is_other =
+      is.4 ∙ ap₂ followed (meaning-one false front is.0 is_other.0 is.2 is_other.2) (meaning-one false back is.1 is_other.1 is.3 is_other.3) ∙ sym is_other.4
+  meaning-one operand (difference left sign right) meaning other is is_other =
+      let one = meaning-one true left is.0 is_other.0 is.2 is_other.2 in
+      let two = meaning-one true right is.1 is_other.1 is.3 is_other.3 in
+      let Has = HasPoint options definitions (difference left sign right) in
+      class_meaning-one operand (max is.0.nesting is.1.nesting) Has meaning other is.4
+      (subst (λ nesting. IsClassMeaning options definitions operand nesting Has other)
+      (ap₂ (λ (a b : Meaning). max a.nesting b.nesting) (sym one) (sym two)) is_other.4)
+  meaning-one operand (alternative left sign right) meaning other is is_other = absurd is
 
-  -- where no definition has tags, no meaning has
-  found-tagless : (listed : List Definition) (name : List ℕ) (definition : Definition) → AreTagless listed → definition_of listed name ≡ Some definition
-      → definition.tags ≡ []
-  found-tagless [] name definition free found = absurd (let h = found in cc)
-  found-tagless (first ∷ others) name definition free found =
-      by (bytes_eq name first.name) found (λ later. found-tagless others name definition free.1 later)
-    where
-      by : (same : Bool) → (if same then Some first else definition_of others name) ≡ Some definition
-          → (definition_of others name ≡ Some definition → definition.tags ≡ []) → definition.tags ≡ []
-      by true found later = let same : first ≡ definition = cc in subst (λ (d : Definition). d.tags ≡ []) same free.0
-      by false found later = later found
-
-  leaf_meaning-tagless : AreTagless definitions → (sort : TokenKind) (lexeme : Lexeme) (meaning : Meaning)
-      → IsLeafMeaning options definitions sort lexeme meaning → meaning.tags ≡ []
-  leaf_meaning-tagless free kind.Str lexeme meaning is = ap (λ (m : Meaning). m.tags) is
-  leaf_meaning-tagless free kind.Name lexeme meaning is =
-      ap (λ (m : Meaning). m.tags) is.2 ∙ found-tagless definitions lexeme.text is.0 free is.1
-  leaf_meaning-tagless free kind.STag lexeme meaning is = absurd is
-  leaf_meaning-tagless free kind.MTag lexeme meaning is = absurd is
-  leaf_meaning-tagless free kind.IStr lexeme meaning is = absurd is
-  leaf_meaning-tagless free kind.Class lexeme meaning is = absurd is
-  leaf_meaning-tagless free kind.Config lexeme meaning is = absurd is
-  leaf_meaning-tagless free kind.Number lexeme meaning is = absurd is
-  leaf_meaning-tagless free kind.Bounds lexeme meaning is = absurd is
-  leaf_meaning-tagless free kind.Code lexeme meaning is = absurd is
-  leaf_meaning-tagless free kind.Signs lexeme meaning is = absurd is
-
-  pub meaning-tagless : AreTagless definitions → (form : Form) (meaning : Meaning) → IsMeaning options definitions form meaning → meaning.tags ≡ []
-  meaning-tagless free (leaf lexeme) meaning is = leaf_meaning-tagless free lexeme.kind lexeme meaning is
-  meaning-tagless free (group opening inner) meaning is = absurd is
-  meaning-tagless free (repeated inner sign) meaning is = absurd is
-  meaning-tagless free (sequence front back) meaning is =
-      ap (λ (m : Meaning). m.tags) is.4 ∙ ap₂ (λ a b. a ++ b) (meaning-tagless free front is.0 is.2) (meaning-tagless free back is.1 is.3)
-  meaning-tagless free (difference left sign right) meaning is = absurd is
-  meaning-tagless free (alternative left sign right) meaning is = absurd is
-
-  no_tags : (listed : List Definition) → AreTagless listed → NoTags options definitions listed
-  no_tags [] free = tt
-  no_tags (definition ∷ listed) free = (free.0, no_tags listed free.1)
-
-  module _ (lexemes : List Lexeme) (free : AreTagless definitions) where
-    -- the tokens of an expression from one place up to another, which are its checks and its meaning
-    abbrev RunsIn : (from until : ℕ) → Form → Type 0
-    RunsIn from until form = (front : List Lexeme) × (drop from lexemes ≡ front ++ drop until lexemes) × IsRun options definitions form front
-
-    runs : (from until : ℕ) (form : Form) → IsExpression options lexemes from until form → RunsIn from until form
-    runs from until form is = form_runs options definitions (no_tags definitions free) alt (drop from lexemes) (drop until lexemes) form is
-
-    runs-same : (from until : ℕ) (form other : Form) (run : RunsIn from until form) (run_other : RunsIn from until other) → run.0 ≡ run_other.0
-    runs-same from until form other run run_other =
-        append_cancel_right run.0 run_other.0 (drop until lexemes) (sym run.1 ∙ run_other.1)
-
-    run-fault : (from until : ℕ) (form : Form) (run : RunsIn from until form) (fault : Option Fault) → Checks options definitions false [] form fault
-        → fault ≡ tokens_fault options definitions run.0
-    run-fault from until form run fault checks = (Checks-one false [] form).one fault _ checks (run.2.checks false [])
-
+  module _ (lexemes : List Lexeme) where
     -- the checks of an expression find one fault, or none
     pub expression-one : (from until : ℕ) → FindsOne (ExpressionChecks options lexemes definitions from until)
     expression-one from until = record { one = by }
@@ -215,55 +168,37 @@ module _ (options : Options) (definitions : List Definition) where
         by : (fault other : Option Fault) → ExpressionChecks options lexemes definitions from until fault
             → ExpressionChecks options lexemes definitions from until other → fault ≡ other
         by fault other is is_other =
-            let run = runs from until is.0 is.1 in
-            let run_other = runs from until is_other.0 is_other.1 in
-            run-fault from until is.0 run fault is.2 ∙ ap (tokens_fault options definitions) (runs-same from until is.0 is_other.0 run run_other)
-            ∙ sym (run-fault from until is_other.0 run_other other is_other.2)
+            let same = one_form (drop from lexemes) (drop until lexemes) is.0 is_other.0 is.1 is_other.1 in
+            (Checks-one false [] is_other.0).one fault other (subst (λ (form : Form). Checks options definitions false [] form fault) same is.2) is_other.2
 
-    -- behind an expression a trailing context waits
-    context-waits : (from slash until : ℕ) (fault : Option Fault) → ContextChecks options lexemes definitions from slash until fault
-        → Then (ExpressionChecks options lexemes definitions from slash) (Finds (waits (nth_lexeme lexemes slash))) fault
-    context-waits from slash until fault is = by is.4
-      where
-        by : Then (Checks options definitions false [] is.0)
-            (Then (Finds (waits (nth_lexeme lexemes slash))) (Checks options definitions false (tags_of options definitions is.0) is.1)) fault
-            → Then (ExpressionChecks options lexemes definitions from slash) (Finds (waits (nth_lexeme lexemes slash))) fault
-        by (inl found) = inl ((is.0, is.2, found.0), waiting found.1)
-          where
-            waiting : Then (Finds (waits (nth_lexeme lexemes slash))) (Checks options definitions false (tags_of options definitions is.0) is.1) fault
-                → fault ≡ waits (nth_lexeme lexemes slash)
-            waiting (inl none) = absurd (let h = none.0 in cc)
-            waiting (inr some) = some.2 ∙ some.1
-        by (inr found) = inr (found.0, (is.0, is.2, found.1), found.2)
-
+    -- and so do those of an expression with a trailing context
     pub context-one : (from slash until : ℕ) → FindsOne (ContextChecks options lexemes definitions from slash until)
     context-one from slash until = record { one = by }
       where
+        Behind : (form behind : Form) → Check
+        Behind form behind = Then (Finds (waits (nth_lexeme lexemes slash))) (Checks options definitions false (tags_of options definitions form) behind)
+
+        Both : (form behind : Form) → Check
+        Both form behind = Then (Checks options definitions false [] form) (Behind form behind)
+
+        both-one : (form behind : Form) → FindsOne (Both form behind)
+        both-one form behind =
+            FindsOne-Then (Checks options definitions false [] form) (Behind form behind) (Checks-one false [] form)
+            (then_waits-one (Checks options definitions false (tags_of options definitions form) behind) (nth_lexeme lexemes slash)
+            (Checks-one false (tags_of options definitions form) behind))
+
         by : (fault other : Option Fault) → ContextChecks options lexemes definitions from slash until fault
             → ContextChecks options lexemes definitions from slash until other → fault ≡ other
         by fault other is is_other =
-            let waiting = FindsOne-Then (ExpressionChecks options lexemes definitions from slash) (Finds (waits (nth_lexeme lexemes slash)))
-            (expression-one from slash) (FindsOne-Finds (waits (nth_lexeme lexemes slash))) in
-            waiting.one fault other (context-waits from slash until fault is) (context-waits from slash until other is_other)
+            let same = one_form (drop from lexemes) (drop slash lexemes) is.0 is_other.0 is.2 is_other.2 in
+            let same_behind = one_form (drop (suc slash) lexemes) (drop until lexemes) is.1 is_other.1 is.3 is_other.3 in
+            (both-one is_other.0 is_other.1).one fault other
+            (subst (λ (form : Form). Both form is_other.1 fault) same (subst (λ (behind : Form). Both is.0 behind fault) same_behind is.4)) is_other.4
 
-    followed-nothing : (meaning : Meaning) → followed nothing meaning ≡ meaning
-    followed-nothing meaning =
-        let size : 0 + meaning.size ≡ meaning.size = omega arith in
-        let nesting : max 0 meaning.nesting ≡ meaning.nesting = omega arith in
-        rw (size, nesting) refl
-
-    -- an expression without a fault has one meaning
-    pub expression_meaning-one : (from until : ℕ) (form other : Form) (meaning meant : Meaning) → ExpressionChecks options lexemes definitions from until None
+    -- an expression has one meaning, if it has one
+    pub expression_meaning-one : (from until : ℕ) (form other : Form) (meaning meant : Meaning)
         → IsExpression options lexemes from until form → IsExpression options lexemes from until other
-        → IsMeaning options definitions form meaning → IsMeaning options definitions other meant → meaning ≡ meant
-    expression_meaning-one from until form other meaning meant checks is is_other means means_other =
-        let run = runs from until form is in
-        let run_other = runs from until other is_other in
-        let same = runs-same from until form other run run_other in
-        let none = (expression-one from until).one _ None (form, is, run.2.checks false []) checks in
-        let none_other = (expression-one from until).one _ None (other, is_other, run_other.2.checks false []) checks in
-        let one = run.2.means none in
-        let two = run_other.2.means none_other in
-        meaning-one form meaning one.0 means one.1 ∙ sym (followed-nothing one.0) ∙ sym (one.2 nothing)
-        ∙ ap (λ front. tokens_meaning options definitions nothing front) same ∙ two.2 nothing ∙ followed-nothing two.0
-        ∙ sym (meaning-one other meant two.0 means_other two.1)
+        → IsMeaning options definitions false form meaning → IsMeaning options definitions false other meant → meaning ≡ meant
+    expression_meaning-one from until form other meaning meant is is_other means means_other =
+        let same = one_form (drop from lexemes) (drop until lexemes) form other is is_other in
+        meaning-one false other meaning meant (subst (λ (form : Form). IsMeaning options definitions false form meaning) same means) means_other

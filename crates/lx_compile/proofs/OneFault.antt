@@ -10,7 +10,7 @@ use Rattle.lx_base.specs.declared.blocks.BlockKind.TheVariants.{Code}
 use Rattle.lx_base.specs.declared.faults.Fault.{Fault}
 use Rattle.lx_base.specs.declared.faults.Fault.TheVariants.{Syntax, TooManyStates}
 use Rattle.lx_base.specs.declared.places.Pos.{Pos}
-use Rattle.lx_base.specs.declared.settings.Enc.TheVariants.{Byte}
+use Rattle.lx_base.specs.declared.settings.Enc.{Enc}
 use Rattle.lx_base.specs.declared.settings.Options.{Options}
 use Rattle.lx_parse.specs.Blocks.{BeginsBody, IsBody, IsRefused, IsSyntaxFault, form_of, place_of_next}
 use Rattle.lx_parse.specs.Sorts.{sorts_of}
@@ -35,8 +35,7 @@ use Rattle.lx_compile.specs.FirstFault.{IsFaultBehind, IsFaultOfBlocks, IsFaultO
 use Rattle.lx_compile.specs.Parts.{AreParts, HasTooLarge, IsFaultAmong, IsKernelFault}
 use Rattle.lx_compile.specs.declared.parts.Part.{Part}
 use Rattle.lx_compile.specs.declared.parts.Part.TheVariants.{Outside, Block}
-use Rattle.lx_compile.proofs.OneCheck.{AreTagless}
-use Rattle.lx_compile.proofs.OneItem.{AreAlike, HaveSameRules, IsBlockFault-one, Resolves-one, Resolves-tagless, resolves_or_not}
+use Rattle.lx_compile.proofs.OneItem.{AreAlike, HaveSameRules, IsBlockFault-one, Resolves-one, resolves_or_not}
 
 -- ---- syntax
 
@@ -118,27 +117,27 @@ module _ (body : List ℕ) (start : Pos) (tokens : List Token) where
 -- ---- what blocks resolve to
 
 -- what is alike is supported, or is not
-supported-alike : (config other_config : Config) (scanners others : List Scanner) → config.fill ≡ other_config.fill → HaveSameRules scanners others
-    → AllByRecursion (IsSupported config) scanners → AllByRecursion (IsSupported other_config) others
-supported-alike config other_config [] [] fill same are = tt
-supported-alike config other_config [] (other ∷ others) fill same are = absurd same
-supported-alike config other_config (scanner ∷ scanners) [] fill same are = absurd same
-supported-alike config other_config (scanner ∷ scanners) (other ∷ others) fill same are = (
-  record { no_refill = sym fill ∙ are.0.no_refill; strings = subst IsStringList same.0 are.0.strings },
-  supported-alike config other_config scanners others fill same.1 are.1,
+supported-alike : (enc : Enc) (config other_config : Config) (scanners others : List Scanner) → config.fill ≡ other_config.fill → HaveSameRules scanners others
+    → AllByRecursion (IsSupported enc config) scanners → AllByRecursion (IsSupported enc other_config) others
+supported-alike enc config other_config [] [] fill same are = tt
+supported-alike enc config other_config [] (other ∷ others) fill same are = absurd same
+supported-alike enc config other_config (scanner ∷ scanners) [] fill same are = absurd same
+supported-alike enc config other_config (scanner ∷ scanners) (other ∷ others) fill same are = (
+  record { no_refill = sym fill ∙ are.0.no_refill; strings = subst (IsStringList enc) same.0 are.0.strings },
+  supported-alike enc config other_config scanners others fill same.1 are.1,
 )
 
-AreSupported-alike : (resolved other : Resolved) → AreAlike resolved other → AreSupported resolved → AreSupported other
-AreSupported-alike resolved other alike are =
-    supported-alike resolved.config other.config resolved.scanners other.scanners alike.fill alike.scanners are
+AreSupported-alike : (enc : Enc) (resolved other : Resolved) → AreAlike resolved other → AreSupported enc resolved → AreSupported enc other
+AreSupported-alike enc resolved other alike are =
+    supported-alike enc resolved.config other.config resolved.scanners other.scanners alike.fill alike.scanners are
 
 -- what is alike has too many kernels, or has not
-too_large-alike : (scanners others : List Scanner) → HaveSameRules scanners others → HasTooLarge scanners → HasTooLarge others
-too_large-alike [] others same large = absurd large
-too_large-alike (scanner ∷ scanners) [] same large = absurd same
-too_large-alike (scanner ∷ scanners) (other ∷ others) same (inl large) =
-    inl (subst (λ (patterns : List Pattern). HasTooManyKernels Byte (terms_of patterns)) same.0 large)
-too_large-alike (scanner ∷ scanners) (other ∷ others) same (inr large) = inr (too_large-alike scanners others same.1 large)
+too_large-alike : (enc : Enc) (scanners others : List Scanner) → HaveSameRules scanners others → HasTooLarge enc scanners → HasTooLarge enc others
+too_large-alike enc [] others same large = absurd large
+too_large-alike enc (scanner ∷ scanners) [] same large = absurd same
+too_large-alike enc (scanner ∷ scanners) (other ∷ others) same (inl large) =
+    inl (subst (λ (patterns : List Pattern). HasTooManyKernels enc (terms_of patterns)) same.0 large)
+too_large-alike enc (scanner ∷ scanners) (other ∷ others) same (inr large) = inr (too_large-alike enc scanners others same.1 large)
 
 same-turned : (scanners others : List Scanner) → HaveSameRules scanners others → HaveSameRules others scanners
 same-turned [] [] same = tt
@@ -149,7 +148,7 @@ same-turned (scanner ∷ scanners) (other ∷ others) same = (sym same.0, same-t
 -- ---- blocks
 
 module _ (options : Options) where
-  module _ (environment : Environment) (kind : BlockKind) (body : List ℕ) (at start : Pos) (free : AreTagless environment.definitions) where
+  module _ (environment : Environment) (kind : BlockKind) (body : List ℕ) (at start : Pos) where
     -- a body is read in one way
     read-one : (tokens others : List Token) (items another : List Item) → IsRead body start tokens items → IsRead body start others another
         → (tokens ≡ others) × (items ≡ another)
@@ -170,17 +169,14 @@ module _ (options : Options) where
     body-one : (after other : Environment) (resolved another : Resolved) → IsResolvedBody options environment body at start after resolved
         → IsResolvedBody options environment body at start other another → (after ≡ other) × AreAlike resolved another
     body-one after other resolved another is is_other =
-        Resolves-one options (lexemes_of body is.tokens) at environment is.items free after other resolved another is.resolves
+        Resolves-one options (lexemes_of body is.tokens) at environment is.items after other resolved another is.resolves
         (resolves-again is.read is_other.read (λ tokens items. Resolves options at environment (lexemes_of body tokens) items other another) is_other.resolves)
-
-    body-tagless : (after : Environment) (resolved : Resolved) → IsResolvedBody options environment body at start after resolved → AreTagless after.definitions
-    body-tagless after resolved is = Resolves-tagless options (lexemes_of body is.tokens) at environment is.items free after resolved is.resolves
 
     body_or_not : (after : Environment) (resolved : Resolved) (tokens : List Token) (items : List Item) (fault : Fault)
         → IsResolvedBody options environment body at start after resolved → IsRead body start tokens items
         → IsBlockFault options at environment (lexemes_of body tokens) items fault → ⊥
     body_or_not after resolved tokens items fault is read found =
-        resolves_or_not options (lexemes_of body is.tokens) at environment is.items free after resolved fault is.resolves
+        resolves_or_not options (lexemes_of body is.tokens) at environment is.items after resolved fault is.resolves
         (resolves-again is.read read (λ tokens items. IsBlockFault options at environment (lexemes_of body tokens) items fault) found)
 
     -- a body that is read has tokens, and is well-formed
@@ -203,7 +199,7 @@ module _ (options : Options) where
     block_or_not after resolved fault is (refused tokens items code read found) =
         body_or_not after resolved tokens items fault is.resolves read found
     block_or_not after resolved fault is (unsupported other another code resolves not_supported fault_is) =
-        not_supported (AreSupported-alike resolved another (body-one after other resolved another is.resolves resolves).1 is.supported)
+        not_supported (AreSupported-alike options.enc resolved another (body-one after other resolved another is.resolves resolves).1 is.supported)
 
     -- a block has one fault, if it has one
     fault-one : (fault other : Fault) → IsFaultOf options environment kind body at start fault → IsFaultOf options environment kind body at start other → fault ≡ other
@@ -232,7 +228,7 @@ module _ (options : Options) where
     fault-one fault other (refused tokens items code read found) (no_items others code_other are syntax) =
         absurd (items_or_not tokens others items other read are syntax)
     fault-one fault other (refused tokens items code read found) (refused others another code_other read_other found_other) =
-        IsBlockFault-one options (lexemes_of body tokens) at environment items free fault other found
+        IsBlockFault-one options (lexemes_of body tokens) at environment items fault other found
         (resolves-again read read_other (λ tokens items. IsBlockFault options at environment (lexemes_of body tokens) items other) found_other)
     fault-one fault other (refused tokens items code read found) (unsupported after resolved code_other resolves not_supported is) =
         absurd (body_or_not after resolved tokens items fault resolves read found)
@@ -249,80 +245,80 @@ module _ (options : Options) where
   -- ---- sources
 
   -- a source has one first fault of a block, if it has one
-  among-one : (environment : Environment) (pieces : List SourcePiece) (fault other : Fault) → AreTagless environment.definitions
+  among-one : (environment : Environment) (pieces : List SourcePiece) (fault other : Fault)
       → IsFaultAmong options environment pieces fault → IsFaultAmong options environment pieces other → fault ≡ other
-  among-one environment [] fault other free is is_other = absurd is
-  among-one environment (piece.Outside text ∷ pieces) fault other free is is_other = among-one environment pieces fault other free is is_other
-  among-one environment (piece.Block kind body at start end_line ∷ pieces) fault other free (inl is) (inl is_other) =
-      fault-one environment kind body at start free fault other is is_other
-  among-one environment (piece.Block kind body at start end_line ∷ pieces) fault other free (inl is) (inr is_other) =
-      absurd (block_or_not environment kind body at start free is_other.0 is_other.1 fault is_other.2 is)
-  among-one environment (piece.Block kind body at start end_line ∷ pieces) fault other free (inr is) (inl is_other) =
-      absurd (block_or_not environment kind body at start free is.0 is.1 other is.2 is_other)
-  among-one environment (piece.Block kind body at start end_line ∷ pieces) fault other free (inr is) (inr is_other) =
-      let same = (body-one environment kind body at start free is.0 is_other.0 is.1 is_other.1 is.2.resolves is_other.2.resolves).0 in
-      among-one is.0 pieces fault other (body-tagless environment kind body at start free is.0 is.1 is.2.resolves) is.3
+  among-one environment [] fault other is is_other = absurd is
+  among-one environment (piece.Outside text ∷ pieces) fault other is is_other = among-one environment pieces fault other is is_other
+  among-one environment (piece.Block kind body at start end_line ∷ pieces) fault other (inl is) (inl is_other) =
+      fault-one environment kind body at start fault other is is_other
+  among-one environment (piece.Block kind body at start end_line ∷ pieces) fault other (inl is) (inr is_other) =
+      absurd (block_or_not environment kind body at start is_other.0 is_other.1 fault is_other.2 is)
+  among-one environment (piece.Block kind body at start end_line ∷ pieces) fault other (inr is) (inl is_other) =
+      absurd (block_or_not environment kind body at start is.0 is.1 other is.2 is_other)
+  among-one environment (piece.Block kind body at start end_line ∷ pieces) fault other (inr is) (inr is_other) =
+      let same = (body-one environment kind body at start is.0 is_other.0 is.1 is_other.1 is.2.resolves is_other.2.resolves).0 in
+      among-one is.0 pieces fault other is.3
       (subst (λ (after : Environment). IsFaultAmong options after pieces other) (sym same) is_other.3)
 
   -- a source whose blocks all resolve has none
-  parts_or_not : (environment : Environment) (pieces : List SourcePiece) (parts : List Part) (fault : Fault) → AreTagless environment.definitions
+  parts_or_not : (environment : Environment) (pieces : List SourcePiece) (parts : List Part) (fault : Fault)
       → AreParts options environment pieces parts → IsFaultAmong options environment pieces fault → ⊥
-  parts_or_not environment [] parts fault free are is = is
-  parts_or_not environment (piece.Outside text ∷ pieces) [] fault free are is = are
-  parts_or_not environment (piece.Outside text ∷ pieces) (Outside other ∷ parts) fault free are is = parts_or_not environment pieces parts fault free are.1 is
-  parts_or_not environment (piece.Outside text ∷ pieces) (Block place resolved ∷ parts) fault free are is = are
-  parts_or_not environment (piece.Block kind body at start end_line ∷ pieces) [] fault free are is = are
-  parts_or_not environment (piece.Block kind body at start end_line ∷ pieces) (Outside other ∷ parts) fault free are is = are
-  parts_or_not environment (piece.Block kind body at start end_line ∷ pieces) (Block place resolved ∷ parts) fault free are (inl is) =
-      block_or_not environment kind body at start free are.1.0 resolved fault are.1.1 is
-  parts_or_not environment (piece.Block kind body at start end_line ∷ pieces) (Block place resolved ∷ parts) fault free are (inr is) =
+  parts_or_not environment [] parts fault are is = is
+  parts_or_not environment (piece.Outside text ∷ pieces) [] fault are is = are
+  parts_or_not environment (piece.Outside text ∷ pieces) (Outside other ∷ parts) fault are is = parts_or_not environment pieces parts fault are.1 is
+  parts_or_not environment (piece.Outside text ∷ pieces) (Block place resolved ∷ parts) fault are is = are
+  parts_or_not environment (piece.Block kind body at start end_line ∷ pieces) [] fault are is = are
+  parts_or_not environment (piece.Block kind body at start end_line ∷ pieces) (Outside other ∷ parts) fault are is = are
+  parts_or_not environment (piece.Block kind body at start end_line ∷ pieces) (Block place resolved ∷ parts) fault are (inl is) =
+      block_or_not environment kind body at start are.1.0 resolved fault are.1.1 is
+  parts_or_not environment (piece.Block kind body at start end_line ∷ pieces) (Block place resolved ∷ parts) fault are (inr is) =
       let after = are.1.0 in
-      let same = (body-one environment kind body at start free after is.0 resolved is.1 are.1.1.resolves is.2.resolves).0 in
-      parts_or_not after pieces parts fault (body-tagless environment kind body at start free after resolved are.1.1.resolves) are.1.2
+      let same = (body-one environment kind body at start after is.0 resolved is.1 are.1.1.resolves is.2.resolves).0 in
+      parts_or_not after pieces parts fault are.1.2
       (subst (λ (after : Environment). IsFaultAmong options after pieces fault) (sym same) is.3)
 
   -- the parts of a source have one first scanner with too many kernels, or none
-  kernels-one : (environment : Environment) (pieces : List SourcePiece) (parts others : List Part) (fault other : Option Fault) → AreTagless environment.definitions
+  kernels-one : (environment : Environment) (pieces : List SourcePiece) (parts others : List Part) (fault other : Option Fault)
       → AreParts options environment pieces parts → AreParts options environment pieces others
-      → IsKernelFault parts fault → IsKernelFault others other → fault ≡ other
-  kernels-one environment [] [] [] fault other free are are_other is is_other = is ∙ sym is_other
-  kernels-one environment [] [] (second ∷ others) fault other free are are_other is is_other = absurd are_other
-  kernels-one environment [] (part ∷ parts) others fault other free are are_other is is_other = absurd are
-  kernels-one environment (piece.Outside text ∷ pieces) [] others fault other free are are_other is is_other = absurd are
-  kernels-one environment (piece.Outside text ∷ pieces) (Block place resolved ∷ parts) others fault other free are are_other is is_other = absurd are
-  kernels-one environment (piece.Outside text ∷ pieces) (Outside first ∷ parts) [] fault other free are are_other is is_other = absurd are_other
-  kernels-one environment (piece.Outside text ∷ pieces) (Outside first ∷ parts) (Block place resolved ∷ others) fault other free are are_other is is_other = absurd are_other
-  kernels-one environment (piece.Outside text ∷ pieces) (Outside first ∷ parts) (Outside second ∷ others) fault other free are are_other is is_other =
-      kernels-one environment pieces parts others fault other free are.1 are_other.1 is is_other
-  kernels-one environment (piece.Block kind body at start end_line ∷ pieces) [] others fault other free are are_other is is_other = absurd are
-  kernels-one environment (piece.Block kind body at start end_line ∷ pieces) (Outside first ∷ parts) others fault other free are are_other is is_other = absurd are
-  kernels-one environment (piece.Block kind body at start end_line ∷ pieces) (Block place resolved ∷ parts) [] fault other free are are_other is is_other = absurd are_other
-  kernels-one environment (piece.Block kind body at start end_line ∷ pieces) (Block place resolved ∷ parts) (Outside second ∷ others) fault other free are are_other is is_other =
+      → IsKernelFault options.enc parts fault → IsKernelFault options.enc others other → fault ≡ other
+  kernels-one environment [] [] [] fault other are are_other is is_other = is ∙ sym is_other
+  kernels-one environment [] [] (second ∷ others) fault other are are_other is is_other = absurd are_other
+  kernels-one environment [] (part ∷ parts) others fault other are are_other is is_other = absurd are
+  kernels-one environment (piece.Outside text ∷ pieces) [] others fault other are are_other is is_other = absurd are
+  kernels-one environment (piece.Outside text ∷ pieces) (Block place resolved ∷ parts) others fault other are are_other is is_other = absurd are
+  kernels-one environment (piece.Outside text ∷ pieces) (Outside first ∷ parts) [] fault other are are_other is is_other = absurd are_other
+  kernels-one environment (piece.Outside text ∷ pieces) (Outside first ∷ parts) (Block place resolved ∷ others) fault other are are_other is is_other = absurd are_other
+  kernels-one environment (piece.Outside text ∷ pieces) (Outside first ∷ parts) (Outside second ∷ others) fault other are are_other is is_other =
+      kernels-one environment pieces parts others fault other are.1 are_other.1 is is_other
+  kernels-one environment (piece.Block kind body at start end_line ∷ pieces) [] others fault other are are_other is is_other = absurd are
+  kernels-one environment (piece.Block kind body at start end_line ∷ pieces) (Outside first ∷ parts) others fault other are are_other is is_other = absurd are
+  kernels-one environment (piece.Block kind body at start end_line ∷ pieces) (Block place resolved ∷ parts) [] fault other are are_other is is_other = absurd are_other
+  kernels-one environment (piece.Block kind body at start end_line ∷ pieces) (Block place resolved ∷ parts) (Outside second ∷ others) fault other are are_other is is_other =
       absurd are_other
-  kernels-one environment (piece.Block kind body at start end_line ∷ pieces) (Block place resolved ∷ parts) (Block place_other another ∷ others) fault other free are are_other is is_other =
+  kernels-one environment (piece.Block kind body at start end_line ∷ pieces) (Block place resolved ∷ parts) (Block place_other another ∷ others) fault other are are_other is is_other =
       by is is_other (λ is is_other.
-      kernels-one are.1.0 pieces parts others fault other (body-tagless environment kind body at start free are.1.0 resolved are.1.1.resolves) are.1.2
+      kernels-one are.1.0 pieces parts others fault other are.1.2
       (subst (λ (given : Environment). AreParts options given pieces others) (sym both.0) are_other.1.2) is is_other)
     where
       both : (are.1.0 ≡ are_other.1.0) × AreAlike resolved another
-      both = body-one environment kind body at start free are.1.0 are_other.1.0 resolved another are.1.1.resolves are_other.1.1.resolves
+      both = body-one environment kind body at start are.1.0 are_other.1.0 resolved another are.1.1.resolves are_other.1.1.resolves
 
-      by : (HasTooLarge resolved.scanners × (fault ≡ Some (TooManyStates place))) ⊎ ((HasTooLarge resolved.scanners → ⊥) × IsKernelFault parts fault)
-          → (HasTooLarge another.scanners × (other ≡ Some (TooManyStates place_other))) ⊎ ((HasTooLarge another.scanners → ⊥) × IsKernelFault others other)
-          → (IsKernelFault parts fault → IsKernelFault others other → fault ≡ other) → fault ≡ other
+      by : (HasTooLarge options.enc resolved.scanners × (fault ≡ Some (TooManyStates place))) ⊎ ((HasTooLarge options.enc resolved.scanners → ⊥) × IsKernelFault options.enc parts fault)
+          → (HasTooLarge options.enc another.scanners × (other ≡ Some (TooManyStates place_other))) ⊎ ((HasTooLarge options.enc another.scanners → ⊥) × IsKernelFault options.enc others other)
+          → (IsKernelFault options.enc parts fault → IsKernelFault options.enc others other → fault ≡ other) → fault ≡ other
       by (inl large) (inl large_other) later = large.1 ∙ ap (λ (p : Pos). Some (TooManyStates p)) (are.0 ∙ sym are_other.0) ∙ sym large_other.1
-      by (inl large) (inr none) later = absurd (none.0 (too_large-alike resolved.scanners another.scanners both.1.scanners large.0))
+      by (inl large) (inr none) later = absurd (none.0 (too_large-alike options.enc resolved.scanners another.scanners both.1.scanners large.0))
       by (inr none) (inl large) later =
-          absurd (none.0 (too_large-alike another.scanners resolved.scanners (same-turned resolved.scanners another.scanners both.1.scanners) large.0))
+          absurd (none.0 (too_large-alike options.enc another.scanners resolved.scanners (same-turned resolved.scanners another.scanners both.1.scanners) large.0))
       by (inr none) (inr none_other) later = later none.1 none_other.1
 
   behind-one : (pieces : List SourcePiece) (fault other : Option Fault) → IsFaultBehind options pieces fault → IsFaultBehind options pieces other → fault ≡ other
   behind-one pieces fault other is is_other =
-      kernels-one first_environment pieces is.0 is_other.0 fault other tt is.1 is_other.1 is.2 is_other.2
+      kernels-one first_environment pieces is.0 is_other.0 fault other is.1 is_other.1 is.2 is_other.2
 
   behind_or_among : (pieces : List SourcePiece) (fault : Option Fault) (other : Fault) → IsFaultBehind options pieces fault
       → IsFaultAmong options first_environment pieces other → ⊥
-  behind_or_among pieces fault other is is_other = parts_or_not first_environment pieces is.0 other tt is.1 is_other
+  behind_or_among pieces fault other is is_other = parts_or_not first_environment pieces is.0 other is.1 is_other
 
   blocks-one : (pieces : List SourcePiece) (fault other : Option Fault) → IsFaultOfBlocks options pieces fault → IsFaultOfBlocks options pieces other → fault ≡ other
   blocks-one pieces None None is is_other = refl
@@ -330,7 +326,7 @@ module _ (options : Options) where
   blocks-one pieces None (Some other) is (inr is_other) = behind-one pieces None (Some other) is is_other
   blocks-one pieces (Some fault) None (inl is) is_other = absurd (behind_or_among pieces None fault is_other is)
   blocks-one pieces (Some fault) None (inr is) is_other = behind-one pieces (Some fault) None is is_other
-  blocks-one pieces (Some fault) (Some other) (inl is) (inl is_other) = ap Some (among-one first_environment pieces fault other tt is is_other)
+  blocks-one pieces (Some fault) (Some other) (inl is) (inl is_other) = ap Some (among-one first_environment pieces fault other is is_other)
   blocks-one pieces (Some fault) (Some other) (inl is) (inr is_other) = absurd (behind_or_among pieces (Some other) fault is_other is)
   blocks-one pieces (Some fault) (Some other) (inr is) (inl is_other) = absurd (behind_or_among pieces (Some fault) other is is_other)
   blocks-one pieces (Some fault) (Some other) (inr is) (inr is_other) = behind-one pieces (Some fault) (Some other) is is_other

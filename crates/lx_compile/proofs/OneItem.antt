@@ -12,23 +12,14 @@ use Rattle.lx_parse.specs.declared.items.Item.TheVariants.{Define, Configure, Ru
 use Rattle.lx_regex.specs.declared.rules.Kind.{Kind}
 use Rattle.lx_regex.specs.Pattern.{patterns_of}
 use Rattle.lx_rules.specs.Blocks.{AreScanners, BlockChecks, ClashCheck, IsBlockFault, IsResolved, NoClash, Resolves, conditions_of, lonely_fault, scanners_fault, targets_fault}
-use Rattle.lx_rules.specs.Checks.{Check, Then, Finds}
+use Rattle.lx_rules.specs.Checks.{Then, Finds}
 use Rattle.lx_rules.specs.Configurations.{config_fault}
 use Rattle.lx_rules.specs.Environments.{Definition, Environment, Meaning, defined, definition_of}
 use Rattle.lx_rules.specs.Items.{ExpressionChecks, Goes, ends, refused, next, HeadChecks, HeadSort, any, end, expression, IsAfter, IsHead, ItemChecks, ListChecks, RuleOf, State, TargetChecks, act_of, conds_of, first_of, first_state, head_sort, is_default, is_end, twice, unless}
 use Rattle.lx_rules.specs.Lexemes.{Lexeme, nth_lexeme, sort_at}
 use Rattle.lx_rules.specs.declared.resolved.Resolved.{Resolved}
 use Rattle.lx_rules.specs.declared.resolved.Scanner.{Scanner}
-use Rattle.lx_compile.proofs.OneCheck.{AreTagless, FindsOne, FindsOne-Finds, FindsOne-Then, FindsOne-by, context-one, expression-one, expression_meaning-one, meaning-tagless, then_waits-one}
-
-tagless-append : (definitions : List Definition) (definition : Definition) → AreTagless definitions → definition.tags ≡ [] → AreTagless (definitions ++ definition ∷ [])
-tagless-append [] definition free is = (is, tt)
-tagless-append (first ∷ definitions) definition free is = (free.0, tagless-append definitions definition free.1 is)
-
--- where the first of two checks finds nothing, and both do, the second one does
-then-none : (First Second : Check) → Then First Second None → First None × Second None
-then-none First Second (inl found) = found
-then-none First Second (inr found) = absurd (let h = found.2 in cc)
+use Rattle.lx_compile.proofs.OneCheck.{FindsOne, FindsOne-Finds, FindsOne-Then, FindsOne-by, context-one, expression-one, expression_meaning-one, then_waits-one}
 
 -- scanners have the same rules, one by one
 abbrev pub HaveSameRules : List Scanner → List Scanner → Type 0
@@ -65,58 +56,54 @@ module _ (options : Options) (lexemes : List Lexeme) where
       let lexeme = nth_lexeme lexemes (goes - 1) in
       then_waits-one options [] (Finds (unless options.conds lexeme.at)) lexeme (FindsOne-Finds (unless options.conds lexeme.at))
 
-  head-one : (state : State) (given : HeadSort) (conds : List (List ℕ)) (head : ℕ) (slash : Option ℕ) (until : ℕ) → AreTagless state.definitions
+  head-one : (state : State) (given : HeadSort) (conds : List (List ℕ)) (head : ℕ) (slash : Option ℕ) (until : ℕ)
       → FindsOne (HeadChecks options lexemes state given conds head slash until)
-  head-one state any conds head slash until free =
+  head-one state any conds head slash until =
       FindsOne-Finds (twice (nth_lexeme lexemes head).at (first_of is_default conds state.rules))
-  head-one state end conds head slash until free =
+  head-one state end conds head slash until =
       let found = twice (nth_lexeme lexemes head).at (first_of is_end conds state.rules) in
       then_waits-one options [] (Finds found) (nth_lexeme lexemes head) (FindsOne-Finds found)
-  head-one state expression conds head None until free = expression-one options state.definitions lexemes free head until
-  head-one state expression conds head (Some slash) until free = context-one options state.definitions lexemes free head slash until
+  head-one state expression conds head None until = expression-one options state.definitions lexemes head until
+  head-one state expression conds head (Some slash) until = context-one options state.definitions lexemes head slash until
 
   -- the checks of an item find one fault, or none
-  item-one : (state : State) (item : Item) → AreTagless state.definitions → FindsOne (ItemChecks options lexemes state item)
-  item-one state (Define name from until) free =
+  item-one : (state : State) (item : Item) → FindsOne (ItemChecks options lexemes state item)
+  item-one state (Define name from until) =
       let lexeme = nth_lexeme lexemes name in
       let first = option_map (λ (definition : Definition). definition.at) (definition_of state.definitions lexeme.text) in
       FindsOne-Then (Finds (twice lexeme.at first)) (ExpressionChecks options lexemes state.definitions from until)
-      (FindsOne-Finds (twice lexeme.at first)) (expression-one options state.definitions lexemes free from until)
-  item-one state (Configure name value) free = FindsOne-Finds (config_fault (nth_lexeme lexemes name) (nth_lexeme lexemes value))
-  item-one state (Rule first head slash until goes code) free =
+      (FindsOne-Finds (twice lexeme.at first)) (expression-one options state.definitions lexemes from until)
+  item-one state (Configure name value) = FindsOne-Finds (config_fault (nth_lexeme lexemes name) (nth_lexeme lexemes value))
+  item-one state (Rule first head slash until goes code) =
       let List' = ListChecks options lexemes (first == head) (nth_lexeme lexemes first).at in
       let Head = HeadChecks options lexemes state (head_sort (sort_at (nth_lexeme lexemes head))) (conds_of options lexemes first head) head slash until in
       let Target = TargetChecks options lexemes goes in
       FindsOne-Then List' (Then Head Target) (list-one (first == head) (nth_lexeme lexemes first).at)
       (FindsOne-Then Head Target
-      (head-one state (head_sort (sort_at (nth_lexeme lexemes head))) (conds_of options lexemes first head) head slash until free) (target-one goes))
-  item-one state (Text value) free = FindsOne-Finds None
+      (head-one state (head_sort (sort_at (nth_lexeme lexemes head))) (conds_of options lexemes first head) head slash until) (target-one goes))
+  item-one state (Text value) = FindsOne-Finds None
 
-  -- a head without a fault has one kind and one meaning
+  -- a head has one kind and one meaning, if it has one
   abbrev Heads : State → HeadSort → (head : ℕ) → (slash : Option ℕ) → (until : ℕ) → Type 0
   Heads state given head slash until =
-      (conds : List (List ℕ)) (kind other : Kind) (meaning meant : Meaning) → HeadChecks options lexemes state given conds head slash until None
+      (kind other : Kind) (meaning meant : Meaning)
       → IsHead options lexemes state.definitions given head slash until kind meaning
       → IsHead options lexemes state.definitions given head slash until other meant → (kind ≡ other) × (meaning ≡ meant)
 
-  head_meaning-one : (state : State) (given : HeadSort) (head : ℕ) (slash : Option ℕ) (until : ℕ) → AreTagless state.definitions
-      → Heads state given head slash until
-  head_meaning-one state any head slash until free = λ conds kind other meaning meant checks is is_other. (is.0 ∙ sym is_other.0, is.1 ∙ sym is_other.1)
-  head_meaning-one state end head slash until free = λ conds kind other meaning meant checks is is_other. absurd is
-  head_meaning-one state expression head None until free = λ conds kind other meaning meant checks is is_other. (
+  head_meaning-one : (state : State) (given : HeadSort) (head : ℕ) (slash : Option ℕ) (until : ℕ) → Heads state given head slash until
+  head_meaning-one state any head slash until = λ kind other meaning meant is is_other. (is.0 ∙ sym is_other.0, is.1 ∙ sym is_other.1)
+  head_meaning-one state end head slash until = λ kind other meaning meant is is_other. absurd is
+  head_meaning-one state expression head None until = λ kind other meaning meant is is_other. (
     is.0 ∙ sym is_other.0,
-    expression_meaning-one options state.definitions lexemes free head until is.1.0 is_other.1.0 meaning meant checks is.1.1 is_other.1.1 is.1.2 is_other.1.2,
+    expression_meaning-one options state.definitions lexemes head until is.1.0 is_other.1.0 meaning meant is.1.1 is_other.1.1 is.1.2 is_other.1.2,
   )
-  head_meaning-one state expression head (Some slash) until free = λ conds kind other meaning meant checks is is_other. absurd is
+  head_meaning-one state expression head (Some slash) until = λ kind other meaning meant is is_other. absurd is
 
-  -- behind an item without a fault one thing is known
-  after-one : (state : State) (item : Item) (after other : State) → AreTagless state.definitions → ItemChecks options lexemes state item None
-      → IsAfter options lexemes state item after → IsAfter options lexemes state item other → after ≡ other
-  after-one state (Define name from until) after other free checks is is_other =
-      let lexeme = nth_lexeme lexemes name in
-      let first = option_map (λ (definition : Definition). definition.at) (definition_of state.definitions lexeme.text) in
-      let found = then-none (Finds (twice lexeme.at first)) (ExpressionChecks options lexemes state.definitions from until) checks in
-      let same = expression_meaning-one options state.definitions lexemes free from until is.0 is_other.0 is.1 is_other.1 found.1 is.2 is_other.2 is.3 is_other.3 in
+  -- behind an item one thing is known
+  after-one : (state : State) (item : Item) (after other : State) → IsAfter options lexemes state item after
+      → IsAfter options lexemes state item other → after ≡ other
+  after-one state (Define name from until) after other is is_other =
+      let same = expression_meaning-one options state.definitions lexemes from until is.0 is_other.0 is.1 is_other.1 is.2 is_other.2 is.3 is_other.3 in
       is.4
       ∙ ap (λ (meaning : Meaning). record {
         definitions = state.definitions ++ defined (nth_lexeme lexemes name).text (nth_lexeme lexemes name).at meaning ∷ [];
@@ -124,16 +111,11 @@ module _ (options : Options) (lexemes : List Lexeme) where
         rules = state.rules;
       }) same
       ∙ sym is_other.4
-  after-one state (Configure name value) after other free checks is is_other =
+  after-one state (Configure name value) after other is is_other =
       let same : is.0 ≡ is_other.0 = let found = sym is.1 ∙ is_other.1 in cc in
       is.2 ∙ ap (λ (fill : Bool). record { definitions = state.definitions; fill = fill; rules = state.rules }) same ∙ sym is_other.2
-  after-one state (Rule first head slash until goes code) after other free checks is is_other =
-      let List' = ListChecks options lexemes (first == head) (nth_lexeme lexemes first).at in
-      let Head = HeadChecks options lexemes state (head_sort (sort_at (nth_lexeme lexemes head))) (conds_of options lexemes first head) head slash until in
-      let Target = TargetChecks options lexemes goes in
-      let found = then-none Head Target (then-none List' (Then Head Target) checks).1 in
-      let same = head_meaning-one state (head_sort (sort_at (nth_lexeme lexemes head))) head slash until free (conds_of options lexemes first head)
-      is.0 is_other.0 is.1 is_other.1 found.0 is.2 is_other.2 in
+  after-one state (Rule first head slash until goes code) after other is is_other =
+      let same = head_meaning-one state (head_sort (sort_at (nth_lexeme lexemes head))) head slash until is.0 is_other.0 is.1 is_other.1 is.2 is_other.2 in
       is.3
       ∙ ap₂ (λ (kind : Kind) (meaning : Meaning). record {
         definitions = state.definitions;
@@ -148,46 +130,29 @@ module _ (options : Options) (lexemes : List Lexeme) where
         } ∷ [];
       }) same.0 same.1
       ∙ sym is_other.3
-  after-one state (Text value) after other free checks is is_other = is ∙ sym is_other
-
-  after-tagless : (state : State) (item : Item) (after : State) → AreTagless state.definitions → IsAfter options lexemes state item after
-      → AreTagless after.definitions
-  after-tagless state (Define name from until) after free is =
-      subst (λ (s : State). AreTagless s.definitions) (sym is.4)
-      (tagless-append state.definitions _ free (meaning-tagless options state.definitions free is.0 is.1 is.3))
-  after-tagless state (Configure name value) after free is = subst (λ (s : State). AreTagless s.definitions) (sym is.2) free
-  after-tagless state (Rule first head slash until goes code) after free is = subst (λ (s : State). AreTagless s.definitions) (sym is.3) free
-  after-tagless state (Text value) after free is = subst (λ (s : State). AreTagless s.definitions) (sym is) free
+  after-one state (Text value) after other is is_other = is ∙ sym is_other
 
   ends-one : {state : State} {other : Result State Fault} → Goes options lexemes state [] other → Ok state ≡ other
   ends-one ends = refl
 
   -- items come to one end
   pub Goes-one : {state : State} {items : List Item} {result : Result State Fault} → Goes options lexemes state items result
-      → AreTagless state.definitions → (other : Result State Fault) → Goes options lexemes state items other → result ≡ other
-  Goes-one ends free other goes = ends-one goes
-  Goes-one (refused {state = state} {item = item} {items = items} fault checks) free other goes = by other goes
+      → (other : Result State Fault) → Goes options lexemes state items other → result ≡ other
+  Goes-one ends other goes = ends-one goes
+  Goes-one (refused {state = state} {item = item} {items = items} fault checks) other goes = by other goes
     where
       by : (other : Result State Fault) → Goes options lexemes state (item ∷ items) other → Err fault ≡ other
-      by other (refused found checks_other) = let same = (item-one state item free).one (Some fault) (Some found) checks checks_other in cc
-      by other (next after checks_other becomes goes) = absurd (let same = (item-one state item free).one (Some fault) None checks checks_other in cc)
-  Goes-one (next {state = state} {item = item} {items = items} {result = result} after checks becomes goes) free other goes_other =
-      by other goes_other (λ other goes_other. Goes-one goes (after-tagless state item after free becomes) other goes_other)
+      by other (refused found checks_other) = let same = (item-one state item).one (Some fault) (Some found) checks checks_other in cc
+      by other (next after checks_other becomes goes) = absurd (let same = (item-one state item).one (Some fault) None checks checks_other in cc)
+  Goes-one (next {state = state} {item = item} {items = items} {result = result} after checks becomes goes) other goes_other =
+      by other goes_other (λ other goes_other. Goes-one goes other goes_other)
     where
       by : (other : Result State Fault) → Goes options lexemes state (item ∷ items) other
           → ((other : Result State Fault) → Goes options lexemes after items other → result ≡ other) → result ≡ other
-      by other (refused found checks_other) later = absurd (let same = (item-one state item free).one None (Some found) checks checks_other in cc)
+      by other (refused found checks_other) later = absurd (let same = (item-one state item).one None (Some found) checks checks_other in cc)
       by other (next after_other checks_other becomes_other goes_other) later =
           later other
-          (subst (λ (s : State). Goes options lexemes s items other) (sym (after-one state item after after_other free checks becomes becomes_other)) goes_other)
-
-  -- and they leave no definition with tags
-  pub Goes-tagless : {state : State} {items : List Item} {result : Result State Fault} → Goes options lexemes state items result
-      → AreTagless state.definitions → (last : State) → result ≡ Ok last → AreTagless last.definitions
-  Goes-tagless (ends {state = state}) free last is = let same : state ≡ last = cc in subst (λ (s : State). AreTagless s.definitions) same free
-  Goes-tagless (refused fault checks) free last is = absurd (let h = is in cc)
-  Goes-tagless (next {state = state} {item = item} after checks becomes goes) free last is =
-      Goes-tagless goes (after-tagless state item after free becomes) last is
+          (subst (λ (s : State). Goes options lexemes s items other) (sym (after-one state item after after_other becomes becomes_other)) goes_other)
 
   module _ (at : Pos) where
     clash-one : (names : Spellings) (rules : List RuleOf) → FindsOne (ClashCheck at names rules)
@@ -203,11 +168,11 @@ module _ (options : Options) (lexemes : List Lexeme) where
         (FindsOne-Then Lonely (Then Targets Scanners) (FindsOne-Finds (lonely_fault at state.rules conds))
         (FindsOne-Then Targets Scanners (FindsOne-Finds (targets_fault state.rules conds)) (FindsOne-Finds (scanners_fault at state.rules conds))))
 
-    module _ (environment : Environment) (items : List Item) (free : AreTagless environment.definitions) where
+    module _ (environment : Environment) (items : List Item) where
       -- what is known behind all items is one thing
       state-one : (state other : State) → Goes options lexemes (first_state environment) items (Ok state)
           → Goes options lexemes (first_state environment) items (Ok other) → state ≡ other
-      state-one state other goes goes_other = let same = Goes-one goes free (Ok other) goes_other in cc
+      state-one state other goes goes_other = let same = Goes-one goes (Ok other) goes_other in cc
 
       block_checks-one : (state other : State) (fault found : Option Fault) → Goes options lexemes (first_state environment) items (Ok state)
           → Goes options lexemes (first_state environment) items (Ok other) → BlockChecks at state fault → BlockChecks at other found → fault ≡ found
@@ -218,20 +183,20 @@ module _ (options : Options) (lexemes : List Lexeme) where
       -- a block has one fault, if it has one
       pub IsBlockFault-one : (fault other : Fault) → IsBlockFault options at environment lexemes items fault
           → IsBlockFault options at environment lexemes items other → fault ≡ other
-      IsBlockFault-one fault other (inl goes) (inl goes_other) = let same = Goes-one goes free (Err other) goes_other in cc
-      IsBlockFault-one fault other (inl goes) (inr found) = absurd (let same = Goes-one goes free (Ok found.0) found.1 in cc)
-      IsBlockFault-one fault other (inr found) (inl goes) = absurd (let same = Goes-one goes free (Ok found.0) found.1 in cc)
+      IsBlockFault-one fault other (inl goes) (inl goes_other) = let same = Goes-one goes (Err other) goes_other in cc
+      IsBlockFault-one fault other (inl goes) (inr found) = absurd (let same = Goes-one goes (Ok found.0) found.1 in cc)
+      IsBlockFault-one fault other (inr found) (inl goes) = absurd (let same = Goes-one goes (Ok found.0) found.1 in cc)
       IsBlockFault-one fault other (inr found) (inr found_other) =
           let same = block_checks-one found.0 found_other.0 (Some fault) (Some other) found.1 found_other.1 found.2 found_other.2 in cc
 
       -- a block that resolves has none
       pub resolves_or_not : (after : Environment) (resolved : Resolved) (fault : Fault) → Resolves options at environment lexemes items after resolved
           → IsBlockFault options at environment lexemes items fault → ⊥
-      resolves_or_not after resolved fault is (inl goes) = let same = Goes-one is.1 free (Err fault) goes in cc
+      resolves_or_not after resolved fault is (inl goes) = let same = Goes-one is.1 (Err fault) goes in cc
       resolves_or_not after resolved fault is (inr found) =
           let same = block_checks-one is.0 found.0 None (Some fault) is.1 found.1 is.2 found.2 in cc
 
-      -- a block leaves one environment, without tags, and what it resolves to is alike
+      -- a block leaves one environment, and what it resolves to is alike
       pub Resolves-one : (after other : Environment) (resolved another : Resolved) → Resolves options at environment lexemes items after resolved
           → Resolves options at environment lexemes items other another → (after ≡ other) × AreAlike resolved another
       Resolves-one after other resolved another is is_other =
@@ -243,7 +208,3 @@ module _ (options : Options) (lexemes : List Lexeme) where
               scanners = scanners-alike options.conds is.0.rules (conditions_of is.0.rules) resolved.scanners another.scanners is.3.scanners ends_so.scanners;
             },
           )
-
-      pub Resolves-tagless : (after : Environment) (resolved : Resolved) → Resolves options at environment lexemes items after resolved → AreTagless after.definitions
-      Resolves-tagless after resolved is =
-          subst (λ (e : Environment). AreTagless e.definitions) (sym is.3.environment_is) (Goes-tagless is.1 free is.0 refl)

@@ -5,7 +5,7 @@ use Rattle.std.specs.List.{AllByRecursion}
 use Rattle.std.proofs.lemmas.List.Sums.{sum_by-cons}
 use Rattle.std.proofs.lemmas.List.Elements.{All-from_recursion, All-weaker, recursion_from_All}
 use Rattle.lx_base.specs.Spelling.{greatest_point}
-use Rattle.lx_base.specs.declared.settings.Enc.TheVariants.{Byte}
+use Rattle.lx_base.specs.declared.settings.Enc.{Enc}
 use Rattle.lx_kernels.specs.Count.{IsCountable}
 use Rattle.lx_regex.specs.Term.{Term, class, Terms, cat}
 use Rattle.lx_regex.specs.Expr.{members_of, size_of, size_step, term_of, term_step}
@@ -32,9 +32,14 @@ AreStrings-length (string_rule text rule rest) = omega (arith, AreStrings-length
 -- the size of a class is 1
 size_of-class : (tags : ℕ) (layer : Expr-F Expr) (ranges : List (ℕ × ℕ)) → class ranges ≡ term_of tags (roll-Expr layer) → 1 ≤ size_of (roll-Expr layer)
 size_of-class tags Expr-F.Empty ranges is = rw (fold-roll-Expr ℕ size_step Expr-F.Empty) (omega arith)
-size_of-class tags (Expr-F.Unit number) ranges is = rw (fold-roll-Expr ℕ size_step (Expr-F.Unit number)) (omega arith)
+size_of-class tags (Expr-F.Class set) ranges is = rw (fold-roll-Expr ℕ size_step (Expr-F.Class set)) (omega arith)
 size_of-class tags Expr-F.AnyUnit ranges is = rw (fold-roll-Expr ℕ size_step Expr-F.AnyUnit) (omega arith)
 size_of-class tags (Expr-F.Cat members) ranges is = let term = fold-roll-Expr Term (term_step tags) (Expr-F.Cat members) in cc
+size_of-class tags (Expr-F.Alt members) ranges is = let term = fold-roll-Expr Term (term_step tags) (Expr-F.Alt members) in cc
+size_of-class tags (Expr-F.Rep body low high) ranges is = let term = fold-roll-Expr Term (term_step tags) (Expr-F.Rep body low high) in cc
+size_of-class tags (Expr-F.STag number) ranges is = rw (fold-roll-Expr ℕ size_step (Expr-F.STag number)) (omega arith)
+size_of-class tags (Expr-F.MTag number) ranges is = rw (fold-roll-Expr ℕ size_step (Expr-F.MTag number)) (omega arith)
+size_of-class tags (Expr-F.Group number body) ranges is = let term = fold-roll-Expr Term (term_step tags) (Expr-F.Group number body) in cc
 
 -- a sequence has members, whose sizes together are its size
 record HasMembers (tags : ℕ) (expr : Expr) (terms : Terms) : Type 0 where
@@ -44,8 +49,13 @@ record HasMembers (tags : ℕ) (expr : Expr) (terms : Terms) : Type 0 where
 
 HasMembers-cat : (tags : ℕ) (layer : Expr-F Expr) (terms : Terms) → cat terms ≡ term_of tags (roll-Expr layer) → HasMembers tags (roll-Expr layer) terms
 HasMembers-cat tags Expr-F.Empty terms is = let term = fold-roll-Expr Term (term_step tags) Expr-F.Empty in absurd cc
-HasMembers-cat tags (Expr-F.Unit number) terms is = let term = fold-roll-Expr Term (term_step tags) (Expr-F.Unit number) in absurd cc
+HasMembers-cat tags (Expr-F.Class set) terms is = let term = fold-roll-Expr Term (term_step tags) (Expr-F.Class set) in absurd cc
 HasMembers-cat tags Expr-F.AnyUnit terms is = let term = fold-roll-Expr Term (term_step tags) Expr-F.AnyUnit in absurd cc
+HasMembers-cat tags (Expr-F.Alt members) terms is = let term = fold-roll-Expr Term (term_step tags) (Expr-F.Alt members) in absurd cc
+HasMembers-cat tags (Expr-F.Rep body low high) terms is = let term = fold-roll-Expr Term (term_step tags) (Expr-F.Rep body low high) in absurd cc
+HasMembers-cat tags (Expr-F.STag number) terms is = let term = fold-roll-Expr Term (term_step tags) (Expr-F.STag number) in absurd cc
+HasMembers-cat tags (Expr-F.MTag number) terms is = let term = fold-roll-Expr Term (term_step tags) (Expr-F.MTag number) in absurd cc
+HasMembers-cat tags (Expr-F.Group number body) terms is = let term = fold-roll-Expr Term (term_step tags) (Expr-F.Group number body) in absurd cc
 HasMembers-cat tags (Expr-F.Cat vec) terms is =
     let term = fold-roll-Expr Term (term_step tags) (Expr-F.Cat vec) in
     record { members = vec.items; terms_are = cc; size_is = fold-roll-Expr ℕ size_step (Expr-F.Cat vec) }
@@ -97,32 +107,32 @@ length-patterns_of : (rules : List Rule) → length (patterns_of rules) ≡ leng
 length-patterns_of [] = refl
 length-patterns_of (rule ∷ rules) = omega (arith, length-patterns_of rules)
 
-points_of-spelled : (strings : List StringRule) → AllByRecursion (λ (rule : StringRule). AreSpelled Byte rule.text) strings
-    → All (λ (rule : StringRule). All (λ point. point ≤ greatest_point Byte) rule.text) strings
-points_of-spelled strings spelled =
-    All-weaker (λ (rule : StringRule). AreSpelled Byte rule.text) (λ (rule : StringRule). All (λ point. point ≤ greatest_point Byte) rule.text)
-    (λ rule is. All-from_recursion (λ point. point ≤ greatest_point Byte) rule.text is) strings
-    (All-from_recursion (λ (rule : StringRule). AreSpelled Byte rule.text) strings spelled)
+points_of-spelled : (enc : Enc) (strings : List StringRule) → AllByRecursion (λ (rule : StringRule). AreSpelled enc rule.text) strings
+    → All (λ (rule : StringRule). All (λ point. point ≤ greatest_point enc) rule.text) strings
+points_of-spelled enc strings spelled =
+    All-weaker (λ (rule : StringRule). AreSpelled enc rule.text) (λ (rule : StringRule). All (λ point. point ≤ greatest_point enc) rule.text)
+    (λ rule is. All-from_recursion (λ point. point ≤ greatest_point enc) rule.text is) strings
+    (All-from_recursion (λ (rule : StringRule). AreSpelled enc rule.text) strings spelled)
 
-pub spelled-points : (strings : List StringRule) → All (λ (rule : StringRule). All (λ point. point ≤ greatest_point Byte) rule.text) strings
-    → AllByRecursion (λ (rule : StringRule). AreSpelled Byte rule.text) strings
-spelled-points strings points =
-    recursion_from_All (λ (rule : StringRule). AreSpelled Byte rule.text) strings
-    (All-weaker (λ (rule : StringRule). All (λ point. point ≤ greatest_point Byte) rule.text) (λ (rule : StringRule). AreSpelled Byte rule.text)
-    (λ rule is. recursion_from_All (λ point. point ≤ greatest_point Byte) rule.text is) strings points)
+pub spelled-points : (enc : Enc) (strings : List StringRule) → All (λ (rule : StringRule). All (λ point. point ≤ greatest_point enc) rule.text) strings
+    → AllByRecursion (λ (rule : StringRule). AreSpelled enc rule.text) strings
+spelled-points enc strings points =
+    recursion_from_All (λ (rule : StringRule). AreSpelled enc rule.text) strings
+    (All-weaker (λ (rule : StringRule). All (λ point. point ≤ greatest_point enc) rule.text) (λ (rule : StringRule). AreSpelled enc rule.text)
+    (λ rule is. recursion_from_All (λ point. point ≤ greatest_point enc) rule.text is) strings points)
 
 -- the kernels of strings that a scanner may have can be counted
-pub IsCountable-of : (scanner : Scanner) (acts : ℕ) (strings : List StringRule) (default : Option ℕ) → IsFit acts scanner
-    → AreStrings (patterns_of scanner.set.rules) strings default → IsStringList (patterns_of scanner.set.rules) → IsCountable Byte strings
-IsCountable-of scanner acts strings default fit are list = record {
+pub IsCountable-of : (enc : Enc) (scanner : Scanner) (acts : ℕ) (strings : List StringRule) (default : Option ℕ) → IsFit acts scanner
+    → AreStrings (patterns_of scanner.set.rules) strings default → IsStringList enc (patterns_of scanner.set.rules) → IsCountable enc strings
+IsCountable-of enc scanner acts strings default fit are list = record {
   few = omega (arith, AreStrings-length are, length-patterns_of scanner.set.rules, fit.few);
   short = omega (arith, AreStrings-sum are scanner.set.rules refl, fit.size);
-  points = points_of-spelled strings
-      (subst (λ l. AllByRecursion (λ (rule : StringRule). AreSpelled Byte rule.text) l) (strings_unique list.are_strings are refl).0 list.spelled);
+  points = points_of-spelled enc strings
+      (subst (λ l. AllByRecursion (λ (rule : StringRule). AreSpelled enc rule.text) l) (strings_unique list.are_strings are refl).0 list.spelled);
 }
 
 -- strings whose kernels can be counted are a list of strings
-pub IsStringList-of : (patterns : List Pattern) (strings : List StringRule) (default : Option ℕ) → AreStrings patterns strings default
-    → IsCountable Byte strings → IsStringList patterns
-IsStringList-of patterns strings default are countable =
-    record { strings = strings; default = default; are_strings = are; spelled = spelled-points strings countable.points }
+pub IsStringList-of : (enc : Enc) (patterns : List Pattern) (strings : List StringRule) (default : Option ℕ) → AreStrings patterns strings default
+    → IsCountable enc strings → IsStringList enc patterns
+IsStringList-of enc patterns strings default are countable =
+    record { strings = strings; default = default; are_strings = are; spelled = spelled-points enc strings countable.points }

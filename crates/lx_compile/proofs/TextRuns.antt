@@ -3,30 +3,31 @@ use Rattle.std.proofs.Common.{◌≡◌, ℕ, suc, ◌<◌, ◌+◌, add-one, Li
 use Rattle.std.proofs.Math.Seq.{drop-cons}
 use Rattle.lx_rules.specs.declared.resolved.Resolved.{Resolved}
 use Rattle.lx_base.specs.declared.places.Pos.{Pos}
+use Rattle.lx_base.specs.declared.settings.Enc.{Enc}
 use Rattle.lx_compile.specs.Output.{AreTexts, IsTextOf}
 use Rattle.lx_compile.specs.declared.parts.Part.{Part}
 use Rattle.lx_compile.specs.declared.parts.Part.TheVariants.{Outside, Block}
 
 -- the text of the first parts stands there, and the pieces of the others are numbered from here on
-pub record HasTexts (parts rest : List Part) (number : ℕ) (output : List ℕ) : Type 0 where
-  pub continues : (more : List ℕ) → AreTexts number rest more → AreTexts 1 parts (output ++ more)
+pub record HasTexts (enc : Enc) (parts rest : List Part) (number : ℕ) (output : List ℕ) : Type 0 where
+  pub continues : (more : List ℕ) → AreTexts enc number rest more → AreTexts enc 1 parts (output ++ more)
 
-pub HasTexts-start : (parts : List Part) → HasTexts parts parts 1 []
-HasTexts-start parts = record { continues = λ more are. are }
+pub HasTexts-start : (enc : Enc) (parts : List Part) → HasTexts enc parts parts 1 []
+HasTexts-start enc parts = record { continues = λ more are. are }
 
-pub HasTexts-outside : (parts rest : List Part) (number : ℕ) (output text : List ℕ)
-    → HasTexts parts (Outside text ∷ rest) number output → HasTexts parts rest number (output ++ text)
-HasTexts-outside parts rest number output text has =
+pub HasTexts-outside : (enc : Enc) (parts rest : List Part) (number : ℕ) (output text : List ℕ)
+    → HasTexts enc parts (Outside text ∷ rest) number output → HasTexts enc parts rest number (output ++ text)
+HasTexts-outside enc parts rest number output text has =
     record { continues = λ more are. rw append_assoc (has.continues (text ++ more) (more, refl, are)) }
 
-pub HasTexts-block : (parts rest : List Part) (number : ℕ) (output text : List ℕ) (at : Pos) (resolved : Resolved)
-    → HasTexts parts (Block at resolved ∷ rest) number output → IsTextOf number resolved.acts resolved.scanners text
-    → HasTexts parts rest (number + 1) (output ++ text)
-HasTexts-block parts rest number output text at resolved has is =
+pub HasTexts-block : (enc : Enc) (parts rest : List Part) (number : ℕ) (output text : List ℕ) (at : Pos) (resolved : Resolved)
+    → HasTexts enc parts (Block at resolved ∷ rest) number output → IsTextOf enc number resolved.acts resolved.scanners text
+    → HasTexts enc parts rest (number + 1) (output ++ text)
+HasTexts-block enc parts rest number output text at resolved has is =
     rw add-one (record { continues = λ more are. rw append_assoc (has.continues (text ++ more) (text, more, refl, is, are)) })
 
-pub HasTexts-end : (parts : List Part) (number : ℕ) (output : List ℕ) → HasTexts parts [] number output → AreTexts 1 parts output
-HasTexts-end parts number output has = subst (λ l. AreTexts 1 parts l) (append-nil output) (has.continues [] refl)
+pub HasTexts-end : (enc : Enc) (parts : List Part) (number : ℕ) (output : List ℕ) → HasTexts enc parts [] number output → AreTexts enc 1 parts output
+HasTexts-end enc parts number output has = subst (λ l. AreTexts enc 1 parts l) (append-nil output) (has.continues [] refl)
 
 -- the part at a place is the first one of those from there on
 pub parts_from : (parts : List Part) (i : ℕ) (part : Part) → i < length parts → part ≡ get_or parts i part → drop i parts ≡ part ∷ drop (i + 1) parts

@@ -14,7 +14,7 @@ use Rattle.lx_compile.specs.declared.parts.Part.{Part}
 -- behind all blocks, the fault of a scanner with too many kernels, or none
 abbrev pub IsFaultBehind : Options → List SourcePiece → Option Fault → Type 0
 IsFaultBehind options pieces fault =
-    (parts : List Part) × AreParts options first_environment pieces parts × IsKernelFault parts fault
+    (parts : List Part) × AreParts options first_environment pieces parts × IsKernelFault options.enc parts fault
 
 -- the fault of the blocks of a source, or none
 abbrev pub IsFaultOfBlocks : Options → List SourcePiece → Option Fault → Type 0

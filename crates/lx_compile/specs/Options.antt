@@ -1,9 +1,8 @@
 -- What the command line asks for.
 use Rattle.std.specs.Prelude.{◌≡◌, false}
-use Rattle.lx_base.specs.declared.settings.Enc.TheVariants.{Byte}
 use Rattle.lx_base.specs.declared.settings.Options.{Options}
 
--- what is asked for is compiled so far: no `#line`, conditions, stored states, tags or captures, and bytes as code units
+-- what is asked for is compiled so far: no `#line`, conditions, stored states, tags or captures
 pub record ArePlain (options : Options) : Type 0 where
   pub lines : options.lines ≡ false
   pub conds : options.conds ≡ false
@@ -11,4 +10,3 @@ pub record ArePlain (options : Options) : Type 0 where
   pub tags : options.tags ≡ false
   pub captures : options.captures ≡ false
   pub posix : options.posix ≡ false
-  pub enc : options.enc ≡ Byte

@@ -1,7 +1,7 @@
 -- What the output of a source is.
 use Rattle.std.specs.Prelude.{◌≡◌, ℕ, suc, List, [], ◌∷◌, ◌++◌, map, None, Ok, unwrap_or}
 use Rattle.lx_base.specs.Names.{usual_names}
-use Rattle.lx_base.specs.declared.settings.Enc.TheVariants.{Byte}
+use Rattle.lx_base.specs.declared.settings.Enc.{Enc}
 use Rattle.lx_base.specs.declared.settings.Options.{Options}
 use Rattle.lx_ccode.specs.Bodies.{body_piece_text, no_body}
 use Rattle.lx_ccode.specs.Text.{piece_text}
@@ -21,31 +21,31 @@ use Rattle.lx_compile.specs.declared.parts.Part.TheVariants.{Outside, Block}
 abbrev pub actions_of : List Act → List (List ℕ)
 actions_of acts = map (λ (act : Act). unwrap_or act.code []) acts
 
--- the text is that of a piece with this number, which is a scanner of the rules
-pub record IsScannerText (number : ℕ) (patterns : List Pattern) (actions : List (List ℕ)) (text : List ℕ) : Type 0 where
+-- the text is that of a piece with this number, which is a scanner of the rules in the encoding
+pub record IsScannerText (enc : Enc) (number : ℕ) (patterns : List Pattern) (actions : List (List ℕ)) (text : List ℕ) : Type 0 where
   pub piece : Piece
-  pub scanner : IsScannerOf Byte number usual_names patterns actions piece
+  pub scanner : IsScannerOf enc number usual_names patterns actions piece
   pub text_is : text ≡ piece_text piece
 
 -- the text of the piece in the place of a block; without conditions a block has no scanner, and its piece is empty, or one
-abbrev pub IsTextOf : (number : ℕ) → List Act → List Scanner → (text : List ℕ) → Type 0
-IsTextOf number acts [] text = text ≡ body_piece_text number usual_names no_body None
-IsTextOf number acts (scanner ∷ []) text = IsScannerText number (patterns_of scanner.set.rules) (actions_of acts) text
-IsTextOf number acts (scanner ∷ next ∷ scanners) text = ⊥
+abbrev pub IsTextOf : Enc → (number : ℕ) → List Act → List Scanner → (text : List ℕ) → Type 0
+IsTextOf enc number acts [] text = text ≡ body_piece_text number usual_names no_body None
+IsTextOf enc number acts (scanner ∷ []) text = IsScannerText enc number (patterns_of scanner.set.rules) (actions_of acts) text
+IsTextOf enc number acts (scanner ∷ next ∷ scanners) text = ⊥
 
 -- the parts of a source one behind another, where the pieces in the places of the blocks are numbered from here on
-abbrev pub AreTexts : (number : ℕ) → List Part → (output : List ℕ) → Type 0
-AreTexts number [] output = output ≡ []
-AreTexts number (Outside text ∷ parts) output = (rest : List ℕ) × (output ≡ text ++ rest) × AreTexts number parts rest
-AreTexts number (Block at resolved ∷ parts) output =
-    (text rest : List ℕ) × (output ≡ text ++ rest) × IsTextOf number resolved.acts resolved.scanners text
-    × AreTexts (suc number) parts rest
+abbrev pub AreTexts : Enc → (number : ℕ) → List Part → (output : List ℕ) → Type 0
+AreTexts enc number [] output = output ≡ []
+AreTexts enc number (Outside text ∷ parts) output = (rest : List ℕ) × (output ≡ text ++ rest) × AreTexts enc number parts rest
+AreTexts enc number (Block at resolved ∷ parts) output =
+    (text rest : List ℕ) × (output ≡ text ++ rest) × IsTextOf enc number resolved.acts resolved.scanners text
+    × AreTexts enc (suc number) parts rest
 
 -- The output of a source is its texts outside of blocks, unchanged, with the text of one piece in the place of each block. The
--- pieces are numbered from 1.
+-- pieces are numbered from 1, and the scanners are in the encoding of the options.
 pub record IsOutput (options : Options) (source output : List ℕ) : Type 0 where
   pub pieces : List SourcePiece
   pub parts : List Part
   pub pieces_are : pieces_of options 0 source ≡ Ok pieces
   pub parts_are : AreParts options first_environment pieces parts
-  pub texts : AreTexts 1 parts output
+  pub texts : AreTexts options.enc 1 parts output

@@ -4,7 +4,7 @@ use Rattle.lx_base.specs.declared.faults.Fault.{Fault}
 use Rattle.lx_base.specs.declared.faults.Fault.TheVariants.{TooManyStates}
 use Rattle.lx_base.specs.declared.faults.Stop.{Stop}
 use Rattle.lx_base.specs.declared.faults.Stop.TheVariants as stop
-use Rattle.lx_base.specs.declared.settings.Enc.TheVariants.{Byte}
+use Rattle.lx_base.specs.declared.settings.Enc.{Enc}
 use Rattle.lx_base.specs.declared.settings.Options.{Options}
 use Rattle.lx_regex.specs.Kernel.{HasTooManyKernels}
 use Rattle.lx_regex.specs.Pattern.{patterns_of, terms_of}
@@ -45,24 +45,24 @@ abbrev pub StopsAmong : Options → Environment → List SourcePiece → Stop �
 StopsAmong options environment pieces stop.Memory = Unit {0}
 StopsAmong options environment pieces (stop.Fault fault) = IsFaultAmong options environment pieces fault
 
--- the scanner has too many kernels
-abbrev pub IsTooLarge : Scanner → Type 0
-IsTooLarge scanner = HasTooManyKernels Byte (terms_of (patterns_of scanner.set.rules))
+-- the scanner has too many kernels in the encoding
+abbrev pub IsTooLarge : Enc → Scanner → Type 0
+IsTooLarge enc scanner = HasTooManyKernels enc (terms_of (patterns_of scanner.set.rules))
 
 -- one of the scanners has
-abbrev pub HasTooLarge : List Scanner → Type 0
-HasTooLarge [] = ⊥
-HasTooLarge (scanner ∷ scanners) = IsTooLarge scanner ⊎ HasTooLarge scanners
+abbrev pub HasTooLarge : Enc → List Scanner → Type 0
+HasTooLarge enc [] = ⊥
+HasTooLarge enc (scanner ∷ scanners) = IsTooLarge enc scanner ⊎ HasTooLarge enc scanners
 
 -- the fault of the first block that has such a scanner, or none
-abbrev pub IsKernelFault : List Part → Option Fault → Type 0
-IsKernelFault [] fault = fault ≡ None
-IsKernelFault (Outside text ∷ parts) fault = IsKernelFault parts fault
-IsKernelFault (Block at resolved ∷ parts) fault =
-    (HasTooLarge resolved.scanners × (fault ≡ Some (TooManyStates at)))
-    ⊎ ((HasTooLarge resolved.scanners → ⊥) × IsKernelFault parts fault)
+abbrev pub IsKernelFault : Enc → List Part → Option Fault → Type 0
+IsKernelFault enc [] fault = fault ≡ None
+IsKernelFault enc (Outside text ∷ parts) fault = IsKernelFault enc parts fault
+IsKernelFault enc (Block at resolved ∷ parts) fault =
+    (HasTooLarge enc resolved.scanners × (fault ≡ Some (TooManyStates at)))
+    ⊎ ((HasTooLarge enc resolved.scanners → ⊥) × IsKernelFault enc parts fault)
 
 -- a call that is to find none stops with that fault, or where memory runs out
-abbrev pub StopsByKernels : List Part → Stop → Type 0
-StopsByKernels parts stop.Memory = Unit {0}
-StopsByKernels parts (stop.Fault fault) = IsKernelFault parts (Some fault)
+abbrev pub StopsByKernels : Enc → List Part → Stop → Type 0
+StopsByKernels enc parts stop.Memory = Unit {0}
+StopsByKernels enc parts (stop.Fault fault) = IsKernelFault enc parts (Some fault)

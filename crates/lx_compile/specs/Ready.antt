@@ -2,6 +2,7 @@
 use Rattle.std.specs.Prelude.{◌≡◌, ℕ, ◌≤◌, List, length}
 use Rattle.lx_base.specs.Names.{usual_names}
 use Rattle.lx_base.specs.declared.places.Pos.{Pos}
+use Rattle.lx_base.specs.declared.settings.Enc.{Enc}
 use Rattle.lx_rules.specs.Soundness.{IsFine}
 use Rattle.lx_rules.specs.declared.resolved.Resolved.{Resolved}
 use Rattle.lx_split.specs.declared.pieces.SourcePiece.{SourcePiece}
@@ -21,12 +22,12 @@ IsNearPiece (piece.Outside text) = Unit {0}
 IsNearPiece (piece.Block kind body at start end_line) = IsNear body start
 
 -- what a block resolves to can be emitted: it is within the limits of scanners, and has at most one scanner, of strings
-pub record IsReady (resolved : Resolved) : Type 0 where
+pub record IsReady (enc : Enc) (resolved : Resolved) : Type 0 where
   pub fine : IsFine resolved
-  pub supported : AreSupported resolved
+  pub supported : AreSupported enc resolved
   pub names : resolved.config.names ≡ usual_names
   pub one : length resolved.scanners ≤ 1
 
-abbrev pub IsReadyPart : Part → Type 0
-IsReadyPart (Outside text) = Unit {0}
-IsReadyPart (Block at resolved) = IsReady resolved
+abbrev pub IsReadyPart : Enc → Part → Type 0
+IsReadyPart enc (Outside text) = Unit {0}
+IsReadyPart enc (Block at resolved) = IsReady enc resolved

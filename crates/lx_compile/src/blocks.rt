@@ -15,23 +15,23 @@ use lx_token::tokens;
 use std::alloc::Global;
 
 /// Whether the rules of a scanner are strings of code points that the encoding has, and maybe `*`.
-fn is_string_list(alloc: Global, scanner: &Scanner) -> Result<bool, Memory>
+fn is_string_list(alloc: Global, enc: Enc, scanner: &Scanner) -> Result<bool, Memory>
     requires { (acts : ℕ) × IsFit acts scanner.now }
-    ensures { IfOk result (λ is_list. IsTrue is_list ↔ IsStringList (patterns_of scanner.now.set.rules)) }
+    ensures { IfOk result (λ is_list. IsTrue is_list ↔ IsStringList enc (patterns_of scanner.now.set.rules)) }
 {
     match strings_of(alloc, scanner.set.rules.as_slice())? {
         None => Ok(false),
-        Some(strings) => Ok(can_count_kernels(Enc::Byte, &strings)),
+        Some(strings) => Ok(can_count_kernels(enc, &strings)),
     }
 }
 
 /// Whether all scanners of a block are of a kind that is emitted so far.
-fn are_supported(alloc: Global, resolved: &Resolved) -> Result<bool, Memory>
+fn are_supported(alloc: Global, enc: Enc, resolved: &Resolved) -> Result<bool, Memory>
     requires { IsFine resolved.now }
-    ensures { IfOk result (λ are. IsTrue are ↔ AreSupported resolved.now) }
+    ensures { IfOk result (λ are. IsTrue are ↔ AreSupported enc resolved.now) }
 {
     for scanner in resolved.scanners.as_slice() {
-        if resolved.config.fill || !is_string_list(alloc, scanner)? {
+        if resolved.config.fill || !is_string_list(alloc, enc, scanner)? {
             return Ok(false);
         }
     }
@@ -64,7 +64,7 @@ pub(crate) fn resolve_block(
     let tokens = tokens(alloc, body, start)?;
     let tree = parse(alloc, body, &tokens, BlockKind::Code, start)?;
     let (after, resolved) = resolve(alloc, body, &tokens, &tree, at, env, options)?;
-    if !are_supported(alloc, &resolved)? {
+    if !are_supported(alloc, options.enc, &resolved)? {
         return Err(Stop::Fault(Fault::Unsupported { at: Some(at) }));
     }
     Ok((after, resolved))

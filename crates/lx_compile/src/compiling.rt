@@ -33,8 +33,8 @@ fn output_of(alloc: Global, source: &[u8], options: &Options) -> Result<Vec<u8>,
     }
     let pieces = split(alloc, source, 0, options)?;
     let parts = resolve_blocks(alloc, pieces, options)?;
-    count_kernels(alloc, parts.as_slice())?;
-    Ok(emit(alloc, parts.as_slice())?)
+    count_kernels(alloc, options.enc, parts.as_slice())?;
+    Ok(emit(alloc, options.enc, parts.as_slice())?)
 }
 
 /// The output of a source: the text outside of its blocks, unchanged, with one emitted piece in the place of each block.

@@ -5,7 +5,7 @@ ghost use Rattle.lx_ccode.specs.Bodies.{body_piece_text, no_body};
 ghost use Rattle.lx_kernels.specs.Count.{IsCountable};
 ghost use Rattle.lx_regex.specs.Pattern.{patterns_of};
 ghost use Rattle.lx_regex.specs.Strings.{AreStrings};
-ghost use Rattle.lx_base.specs.declared.settings.Enc.TheVariants.{Byte};
+ghost use Rattle.lx_base.specs.declared.settings.Enc.{Enc};
 ghost use Rattle.lx_rules.specs.Soundness.{IsFit};
 ghost use Rattle.lx_compile.specs.Blocks.{IsStringList};
 ghost use Rattle.lx_compile.specs.Output.{AreTexts, IsTextOf, IsScannerText, actions_of};
@@ -21,10 +21,11 @@ use std::alloc::Global;
 
 /// The strings of a scanner of strings.
 pub(crate) fn strings_in(alloc: Global, scanner: &Scanner) -> Result<Strings, Memory>
-    requires strings { IsStringList (patterns_of scanner.now.set.rules) }
+    requires strings { (enc : Enc) × IsStringList enc (patterns_of scanner.now.set.rules) }
     requires fit { (acts : ℕ) × IsFit acts scanner.now }
     ensures strings { IfOk result (λ strings. AreStrings (patterns_of scanner.now.set.rules) strings.rules strings.default) }
-    ensures countable { IfOk result (λ strings. IsCountable Byte strings.rules) }
+    ensures countable { IfOk result (λ strings. (enc : Enc) → IsStringList enc (patterns_of scanner.now.set.rules)
+        → IsCountable enc strings.rules) }
 {
     match strings_of(alloc, scanner.set.rules.as_slice())? {
         Some(strings) => Ok(strings),
@@ -56,20 +57,21 @@ fn actions_of(alloc: Global, acts: &[Act]) -> Result<Vec<ByteText>, Memory>
 /// The text of the piece of a block's scanner.
 fn scanner_text(
     alloc: Global,
+    enc: Enc,
     number: u32,
     scanner: &Scanner,
     resolved: &Resolved,
 ) -> Result<ByteText, Memory>
-    requires strings { IsStringList (patterns_of scanner.now.set.rules) }
-    requires ready { IsReady resolved.now }
+    requires strings { IsStringList enc (patterns_of scanner.now.set.rules) }
+    requires ready { IsReady enc resolved.now }
     requires fit { IsFit (length resolved.now.acts) scanner.now }
-    ensures { IfOk result (IsScannerText number (patterns_of scanner.now.set.rules) (actions_of resolved.now.acts)) }
+    ensures { IfOk result (IsScannerText enc number (patterns_of scanner.now.set.rules) (actions_of resolved.now.acts)) }
 {
     let strings = strings_in(alloc, scanner)?;
     let actions = actions_of(alloc, resolved.acts.as_slice())?;
     let piece = string_scanner(
         alloc,
-        Enc::Byte,
+        enc,
         number,
         &resolved.config.names,
         &strings,
@@ -98,17 +100,18 @@ fn append_empty(alloc: Global, output: &mut Vec<u8>, number: u32) -> Result<(), 
 fn append_block(
     alloc: Global,
     output: &mut Vec<u8>,
+    enc: Enc,
     number: u32,
     resolved: &Resolved,
 ) -> Result<(), Memory>
-    requires { IsReady resolved.now }
-    ensures { OnOk result ((text : List ℕ) × IsTextOf number resolved.now.acts resolved.now.scanners text
+    requires { IsReady enc resolved.now }
+    ensures { OnOk result ((text : List ℕ) × IsTextOf enc number resolved.now.acts resolved.now.scanners text
         × (output.new.items ≡ output.old.items ++ text)) }
 {
     match resolved.scanners.as_slice().first() {
         None => append_empty(alloc, output, number),
         Some(scanner) => {
-            let text = scanner_text(alloc, number, scanner, resolved)?;
+            let text = scanner_text(alloc, enc, number, scanner, resolved)?;
             output.extend_from_slice(text.as_slice())?;
             Ok(())
         }
@@ -116,10 +119,10 @@ fn append_block(
 }
 
 /// The parts of a source one behind another, with a piece in the place of each block.
-pub(crate) fn emit(alloc: Global, parts: &[Part]) -> Result<Vec<u8>, Memory>
-    requires ready { All IsReadyPart parts.now }
+pub(crate) fn emit(alloc: Global, enc: Enc, parts: &[Part]) -> Result<Vec<u8>, Memory>
+    requires ready { All (IsReadyPart enc) parts.now }
     requires few { length parts.now ≤ 16777216 }
-    ensures { IfOk result (λ output. AreTexts 1 parts.now output.items) }
+    ensures { IfOk result (λ output. AreTexts enc 1 parts.now output.items) }
 {
     let mut output = Vec::new(alloc);
     let mut number = 1;
@@ -127,7 +130,7 @@ pub(crate) fn emit(alloc: Global, parts: &[Part]) -> Result<Vec<u8>, Memory>
         match part {
             Part::Outside(text) => output.extend_from_slice(text.as_slice())?,
             Part::Block { resolved, .. } => {
-                append_block(alloc, &mut output, number, resolved)?;
+                append_block(alloc, &mut output, enc, number, resolved)?;
                 number += 1;
             }
         }

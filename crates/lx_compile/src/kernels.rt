@@ -14,22 +14,22 @@ use lx_rules::{Resolved, Scanner};
 use std::alloc::Global;
 
 /// Whether a scanner of strings has too many kernels.
-fn is_too_large(alloc: Global, scanner: &Scanner) -> Result<bool, Memory>
-    requires strings { IsStringList (patterns_of scanner.now.set.rules) }
+fn is_too_large(alloc: Global, enc: Enc, scanner: &Scanner) -> Result<bool, Memory>
+    requires strings { IsStringList enc (patterns_of scanner.now.set.rules) }
     requires fit { (acts : ℕ) × IsFit acts scanner.now }
-    ensures { IfOk result (λ is_large. IsTrue is_large ↔ IsTooLarge scanner.now) }
+    ensures { IfOk result (λ is_large. IsTrue is_large ↔ IsTooLarge enc scanner.now) }
 {
     let strings = strings_in(alloc, scanner)?;
-    Ok(has_too_many_kernels(Enc::Byte, &strings))
+    Ok(has_too_many_kernels(enc, &strings))
 }
 
 /// Whether a scanner of a block has too many kernels.
-fn has_too_large(alloc: Global, resolved: &Resolved) -> Result<bool, Memory>
-    requires { IsReady resolved.now }
-    ensures { IfOk result (λ has. IsTrue has ↔ HasTooLarge resolved.now.scanners) }
+fn has_too_large(alloc: Global, enc: Enc, resolved: &Resolved) -> Result<bool, Memory>
+    requires { IsReady enc resolved.now }
+    ensures { IfOk result (λ has. IsTrue has ↔ HasTooLarge enc resolved.now.scanners) }
 {
     for scanner in resolved.scanners.as_slice() {
-        if is_too_large(alloc, scanner)? {
+        if is_too_large(alloc, enc, scanner)? {
             return Ok(true);
         }
     }
@@ -37,13 +37,13 @@ fn has_too_large(alloc: Global, resolved: &Resolved) -> Result<bool, Memory>
 }
 
 /// Refuses the first block with a scanner that has too many kernels; `Memory` comes only where memory runs out.
-pub(crate) fn count_kernels(alloc: Global, parts: &[Part]) -> Result<(), Stop>
-    requires { All IsReadyPart parts.now }
-    ensures { MatchResult result (λ _. IsKernelFault parts.now None) (StopsByKernels parts.now) }
+pub(crate) fn count_kernels(alloc: Global, enc: Enc, parts: &[Part]) -> Result<(), Stop>
+    requires { All (IsReadyPart enc) parts.now }
+    ensures { MatchResult result (λ _. IsKernelFault enc parts.now None) (StopsByKernels enc parts.now) }
 {
     for part in parts {
         if let Part::Block { at, resolved } = part {
-            if has_too_large(alloc, resolved)? {
+            if has_too_large(alloc, enc, resolved)? {
                 return Err(Stop::Fault(Fault::TooManyStates { at: *at }));
             }
         }

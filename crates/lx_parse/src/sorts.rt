@@ -60,7 +60,7 @@ pub enum Sort {
 
 impl Sort {
     /// Whether it is an atom of an expression by itself.
-    pub(crate) fn is_atom(self) -> bool
+    pub fn is_atom(self) -> bool
         ensures { result ≡ is_atom self }
     {
         matches!(

@@ -13,6 +13,8 @@ pub mod NoUnits
 pub mod OneMatch
 pub mod OwnParts
 pub mod PartCount
+pub mod PartLists
+pub mod PartSizes
 pub mod PartStates
 pub mod PlainTest
 pub mod PlainWalk
@@ -22,6 +24,8 @@ pub mod PosixShapes
 pub mod PosixUnique
 pub mod Readings
 pub mod Rows
+pub mod RuleCuts
+pub mod RuleParts
 pub mod Scripts
 pub mod ShapeOfScript
 pub mod StringLists

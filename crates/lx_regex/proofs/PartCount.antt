@@ -4,7 +4,7 @@ use Rattle.std.proofs.Common.{arith, length-append}
 use Rattle.lx_regex.specs.Term.{Term, empty, class, any_unit, cat, alt, repeat, tag, group, Terms, nil, cons, copies, parts, parts_of_all}
 use Rattle.lx_regex.specs.Parts.{Part, copied_parts, parts_in, parts_among}
 
-copied_count :
+pub copied_count :
     (body : ℕ → ℕ → List Part) (size left number part : ℕ) → ((number part : ℕ) → length (body number part) ≡ size)
     → length (copied_parts body size left number part) ≡ left * size
 copied_count body size zero number part each = omega arith
@@ -28,7 +28,7 @@ mutual
   part_count rule up child part (tag number) = refl
   part_count rule up child part (group opening closing body) = omega (arith, part_count rule part 0 (part + 1) body)
 
-  among_count :
+  pub among_count :
       (rule up child part : ℕ) (members : Terms) → length (parts_among rule up child part members) ≡ parts_of_all members
   among_count rule up child part nil = refl
   among_count rule up child part (cons member members) =

@@ -3,15 +3,16 @@ use Rattle.std.proofs.Common.{◌≡◌, ℕ, suc, ◌<◌, ◌≤◌, arith, tr
 use Rattle.std.proofs.Math.ListN.{drop_of_length-le}
 use Rattle.std.proofs.Math.Seq.{drop-cons}
 use Rattle.lx_regex.specs.Term.{Term, class, cat, Terms, cons}
-use Rattle.lx_regex.specs.Expr.{members_of, term_of}
+use Rattle.lx_class.specs.declared.ranges.Range.{Range}
+use Rattle.lx_regex.specs.Expr.{members_of, ranges_of, term_of}
 use Rattle.lx_regex.specs.Pattern.{Pattern, pattern_of, patterns_of}
 use Rattle.lx_regex.specs.Strings.{IsString, no_character, character, sequence, AreJoined, no_member, member_then, Appends, AreStrings, no_rule, default_rule, string_rule, IsStringRule, IsDefaultRule}
 use Rattle.lx_regex.specs.declared.expr.Expr.{Expr}
 use Rattle.lx_regex.specs.declared.rules.Kind.TheVariants.{Plain, Default}
 use Rattle.lx_regex.specs.declared.rules.Rule.{Rule}
 use Rattle.lx_regex.specs.declared.strings.StringRule.{StringRule}
-use Rattle.lx_regex.specs.declared.expr.Expr.TheVariants.{Empty, Unit, Cat}
-use Rattle.lx_regex.proofs.Folds.{term_of-empty, term_of-unit, term_of-cat}
+use Rattle.lx_regex.specs.declared.expr.Expr.TheVariants.{Empty, Class, Cat}
+use Rattle.lx_regex.proofs.Folds.{term_of-empty, term_of-class, term_of-cat}
 
 -- the members of a sequence as terms
 abbrev pub terms_at : ℕ → List Expr → Terms
@@ -21,14 +22,35 @@ pub appends-empty : (e : Expr) (old : List ℕ) → e ≡ Empty → Appends e ol
 appends-empty e old is =
     ([], (λ tags. subst (λ y. IsString y []) (sym (ap (λ y. term_of tags y) is ∙ term_of-empty tags)) no_character), sym (append-nil old))
 
-pub appends-unit : (e : Expr) (point : ℕ) (old new : List ℕ) → e ≡ Unit point → new ≡ old ++ point ∷ []
-    → Appends e old new true
-appends-unit e point old new is more = (
+-- the ranges of one point
+abbrev one_point : ℕ → List Range
+one_point point = record { lo = point; hi = point } ∷ []
+
+pub appends-class : (e : Expr) (set : List Range) (point : ℕ) (old new : List ℕ) → e ≡ Class set → set ≡ one_point point
+    → new ≡ old ++ point ∷ [] → Appends e old new true
+appends-class e set point old new is one more = (
   point ∷ [],
   (λ tags.
-      subst (λ y. IsString y (point ∷ [])) (sym (ap (λ y. term_of tags y) is ∙ term_of-unit tags point)) (character point)),
+      subst
+      (λ y. IsString y (point ∷ [])) (sym (ap (λ y. term_of tags y) is ∙ term_of-class tags set ∙ ap (λ l. class (ranges_of l)) one)) (character point)),
   more,
 )
+
+-- a class that is a string has one point
+class_in : {e : Term} {text : List ℕ} → IsString e text → (set : List Range) → e ≡ class (ranges_of set)
+    → (point : ℕ) × (set ≡ one_point point)
+class_in no_character set is = cc
+class_in (character point) [] is = cc
+class_in (character point) (range ∷ []) is =
+    let ends : ◌≡◌ {A = ℕ × ℕ} (range.lo, range.hi) (point, point) = cc in
+    (point, ap₂ (λ lo hi. record { lo = lo; hi = hi } ∷ []) (ap (λ e. e.0) ends) (ap (λ e. e.1) ends))
+class_in (character point) (range ∷ next ∷ set) is = cc
+class_in (sequence joined) set is = cc
+
+pub appends-many : (e : Expr) (set : List Range) (old new : List ℕ) → e ≡ Class set → ((point : ℕ) → set ≡ one_point point → ⊥)
+    → Appends e old new false
+appends-many e set old new is many tags text string =
+    let one = class_in string set (ap (λ y. term_of tags y) is ∙ term_of-class tags set) in many one.0 one.1
 
 joined_in : {e : Term} {text : List ℕ} → IsString e text → (members : Terms) → e ≡ cat members → AreJoined members text
 joined_in no_character members is = cc

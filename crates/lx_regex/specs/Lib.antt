@@ -5,8 +5,10 @@ pub mod Examples
 pub mod Expr
 pub mod Kernel
 pub mod Least
+pub mod Limits
 pub mod Match
 pub mod Order
+pub mod PartList
 pub mod Parts
 pub mod Pattern
 pub mod Plain

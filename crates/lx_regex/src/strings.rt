@@ -1,5 +1,5 @@
 //! Rule lists whose rules are strings.
-ghost use Rattle.std.specs.Prelude.{◌≡◌, ◌↔◌, ℕ, List, Option, IfOk, IfSome, IsNone, IsSome, IsTrue, MatchOption, length};
+ghost use Rattle.std.specs.Prelude.{◌≡◌, ◌↔◌, ◌∷◌, [], ℕ, List, Option, IfOk, IfSome, IsNone, IsSome, IsTrue, MatchOption, length};
 ghost use Rattle.lx_regex.specs.Pattern.{pattern_of, patterns_of};
 ghost use Rattle.lx_regex.specs.Strings.{AreStrings, IsBare, IsDefaultRule, IsStringRule, Appends};
 ghost use Rattle.lx_regex.specs.declared.rules.Kind.TheVariants.{Plain};
@@ -8,6 +8,7 @@ ghost use Rattle.lx_regex.specs.declared.strings.StringRule.{StringRule};
 use crate::expr::Expr;
 use crate::rules::{Kind, Rule};
 use lx_base::{Memory, Sequence};
+use lx_class::ClassSet;
 use std::alloc::Global;
 
 /// A rule that matches one string.
@@ -27,17 +28,36 @@ pub struct Strings {
     pub default: Option<u32>,
 }
 
+/// The point of a class that has one alone.
+fn only_point(set: &ClassSet) -> Option<u32>
+    ensures { MatchOption result ((point : ℕ) → set.now ≡ record { lo = point; hi = point } ∷ [] → ⊥)
+        (λ point. set.now ≡ record { lo = point; hi = point } ∷ []) }
+{
+    match set.ranges() {
+        [range] if range.lo == range.hi => Some(range.lo),
+        _ => None,
+    }
+}
+
 /// Puts the code points of an expression at the end of the text, or answers `false` where the expression is no string.
 fn append_characters(text: &mut Vec<u32>, expr: &Expr) -> Result<bool, Memory>
     ensures { IfOk result (λ is_string. Appends expr.now text.old.items text.new.items is_string) }
 {
     match expr {
         Expr::Empty => Ok(true),
-        Expr::Unit(point) => {
-            text.push(*point)?;
-            Ok(true)
-        }
-        Expr::AnyUnit => Ok(false),
+        Expr::Class(set) => match only_point(set) {
+            Some(point) => {
+                text.push(point)?;
+                Ok(true)
+            }
+            None => Ok(false),
+        },
+        Expr::AnyUnit
+        | Expr::Alt(_)
+        | Expr::Rep(..)
+        | Expr::STag(_)
+        | Expr::MTag(_)
+        | Expr::Group(..) => Ok(false),
         Expr::Cat(members) => {
             for member in members {
                 if !append_characters(text, member)? {

@@ -1,5 +1,6 @@
 -- The expressions of a block, which stand in ranges of its tokens.
-use Rattle.std.proofs.Common.{◌≡◌, false, ℕ, zero, suc, ◌+◌, ◌-◌, List, [], ◌∷◌, ◌++◌, drop, length, None, refl, sym, ap, ◌∙◌, subst, arith, length-append, append_assoc, max, take}
+use Rattle.std.proofs.Common.{◌≡◌, false, ℕ, zero, suc, ◌-◌, ⊎_elim, List, [], ◌∷◌, ◌++◌, drop, length, None, Some, Result, Ok, Err, refl, sym, ap, ◌∙◌, subst, arith, append-nil, length-append, append_assoc, take}
+use Rattle.lx_base.specs.declared.faults.Fault.{Fault}
 use Rattle.std.proofs.lemmas.List.{length-map, length-drop, drop-map, take-append-drop}
 use Rattle.lx_base.specs.declared.settings.Options.{Options}
 use Rattle.lx_parse.specs.declared.sorts.Sort.{Sort}
@@ -7,12 +8,13 @@ use Rattle.lx_parse.specs.Expressions.{alt}
 use Rattle.lx_parse.specs.Ranges.{IsPart}
 use Rattle.lx_rules.specs.Lexemes.{Lexeme, nth_lexeme, sort_at, sorts_at}
 use Rattle.lx_rules.specs.Environments.{Definition, Meaning}
-use Rattle.lx_rules.specs.Meanings.{IsMeaning, followed}
+use Rattle.lx_rules.specs.Meanings.{IsMeaning}
 use Rattle.lx_rules.specs.Checks.{Checks}
 use Rattle.lx_rules.specs.Forms.{Form, IsForm}
 use Rattle.lx_rules.specs.Items.{IsExpression}
-use Rattle.lx_rules.specs.Reading.{lexemes_from, nothing, tokens_fault, tokens_meaning}
-use Rattle.lx_rules.proofs.FormRuns.{NoTags, form_runs}
+use Rattle.lx_rules.specs.Reading.{Begun, Goes, ends, closed, unclosed, alone, lexemes_from, nothing}
+use Rattle.lx_rules.proofs.FormRuns.{NoTags, alt_goes}
+use Rattle.lx_rules.proofs.OneForm.{form_front}
 use Rattle.lx_rules.proofs.FormReading.{HasForm, reads_form}
 
 -- the first of what stands from a place on
@@ -49,26 +51,48 @@ same_rest (lexeme ∷ front) (first ∷ other) rest back same long =
     let tail : front ++ rest ≡ other ++ back = cc in same_rest front other rest back tail long
 
 module _ (options : Options) (definitions : List Definition) (lexemes : List Lexeme) where
-  -- what is known of the expression in a range of tokens, by which it is read
-  pub record IsRead (from until : ℕ) : Type 0 where
+  -- what is read from one place up to another
+  abbrev pub GoesIn : (from until : ℕ) → Result Meaning Fault → Type 0
+  GoesIn from until result = Goes options definitions (alone nothing) (lexemes_from lexemes from (until - from)) result
+
+  -- the expression in a range of tokens: what its reading finds is what its checks find, and what it means
+  pub record IsExpressionRead (from until : ℕ) : Type 0 where
     pub form : Form
     pub stands : IsExpression options lexemes from until form
-    pub checks : Checks options definitions false [] form (tokens_fault options definitions (lexemes_from lexemes from (until - from)))
-    pub means : tokens_fault options definitions (lexemes_from lexemes from (until - from)) ≡ None
-        → IsMeaning options definitions form (tokens_meaning options definitions nothing (lexemes_from lexemes from (until - from)))
+    pub refused : (fault : Fault) → GoesIn from until (Err fault) → Checks options definitions false [] form (Some fault)
+    pub taken : (meaning : Meaning) → GoesIn from until (Ok meaning)
+        → Checks options definitions false [] form None × IsMeaning options definitions false form meaning
 
-  nothing_before : (meaning : Meaning) → followed nothing meaning ≡ meaning
-  nothing_before meaning =
-      let size : 0 + meaning.size ≡ meaning.size = omega arith in
-      let nesting : max 0 meaning.nesting ≡ meaning.nesting = omega arith in
-      rw (size, nesting) refl
+  -- behind all tokens stands what was begun
+  ends_so : (begun : Begun) (result : Result Meaning Fault) → begun.left ≡ None → Goes options definitions begun [] result → result ≡ Ok begun.current
+  ends_so begun result whole (ends _ _) = refl
+  ends_so begun result whole (closed _ _ _ left meaning sign begins stops checks means goes) = let h : Some (left, sign) ≡ None = sym begins ∙ whole in cc
+  ends_so begun result whole (unclosed _ _ fault left sign begins stops checks) = let h : Some (left, sign) ≡ None = sym begins ∙ whole in cc
 
-  pub part_is_read : NoTags options definitions definitions → (from until : ℕ) → IsPart (sorts_at lexemes) alt from until → IsRead from until
+  module _ (free : NoTags options definitions definitions) (front : List Lexeme) (form : Form) (is : IsForm alt front [] form) where
+    found : (fault : Fault) → Goes options definitions (alone nothing) front (Err fault) → Checks options definitions false [] form (Some fault)
+    found fault goes =
+        ⊎_elim
+        (λ refused. let same : refused.0 ≡ fault = let h = refused.1 in cc in subst (λ f. Checks options definitions false [] form (Some f)) same (refused.2 []))
+        (λ taken. let h : Err fault ≡ Ok taken.0 = ends_so (alone taken.0) (Err fault) refl taken.3 in cc)
+        (alt_goes options definitions free is refl refl (Err fault) goes)
+
+    means : (meaning : Meaning) → Goes options definitions (alone nothing) front (Ok meaning)
+        → Checks options definitions false [] form None × IsMeaning options definitions false form meaning
+    means meaning goes =
+        ⊎_elim
+        (λ refused. let h : Ok meaning ≡ Err refused.0 = refused.1 in cc)
+        (λ taken.
+        let same : taken.0 ≡ meaning = let h : Ok meaning ≡ Ok taken.0 = ends_so (alone taken.0) (Ok meaning) refl taken.3 in cc in
+        (taken.1 [], subst (IsMeaning options definitions false form) same taken.2))
+        (alt_goes options definitions free is refl refl (Ok meaning) goes)
+
+  pub part_is_read : NoTags options definitions definitions → (from until : ℕ) → IsPart (sorts_at lexemes) alt from until → IsExpressionRead from until
   part_is_read free from until part = of (reads_form alt (drop from (sorts_at lexemes)) (drop until (sorts_at lexemes)) part.reads (drop from lexemes) (drop-map sort_at from lexemes))
     where
-      of : HasForm alt (drop from lexemes) (drop until (sorts_at lexemes)) → IsRead from until
+      of : HasForm alt (drop from lexemes) (drop until (sorts_at lexemes)) → IsExpressionRead from until
       of read =
-          let run = form_runs options definitions free alt (drop from lexemes) read.0 read.1 read.3 in
+          let run = form_front read.3 in
           let sorted : sorts_at read.0 ≡ sorts_at (drop until lexemes) = sym read.2 ∙ drop-map sort_at until lexemes in
           let long : length read.0 ≡ length (drop until lexemes) = sym (length-map read.0 sort_at) ∙ ap length sorted ∙ length-map (drop until lexemes) sort_at in
           let within = part.within in
@@ -82,12 +106,11 @@ module _ (options : Options) (definitions : List Definition) (lexemes : List Lex
           let rest : read.0 ≡ drop until lexemes = same_rest (take from lexemes ++ run.0) (take until lexemes) read.0 (drop until lexemes) whole long in
           let front : run.0 ≡ lexemes_from lexemes from (until - from) =
           front_from lexemes run.0 read.0 from run.1 ∙ ap (lexemes_from lexemes from) front_length in
+          let is : IsForm alt (lexemes_from lexemes from (until - from)) [] read.1 =
+          subst (λ l. IsForm alt l [] read.1) (append-nil run.0 ∙ front) (run.2 []) in
           record {
             form = read.1;
             stands = subst (λ r. IsForm alt (drop from lexemes) r read.1) rest read.3;
-            checks = subst (λ l. Checks options definitions false [] read.1 (tokens_fault options definitions l)) front (run.2.checks false []);
-            means = λ none.
-                let mean = run.2.means (ap (tokens_fault options definitions) front ∙ none) in
-                subst (IsMeaning options definitions read.1)
-                (sym (sym (ap (tokens_meaning options definitions nothing) front) ∙ mean.2 nothing ∙ nothing_before mean.0)) mean.1;
+            refused = found free (lexemes_from lexemes from (until - from)) read.1 is;
+            taken = means free (lexemes_from lexemes from (until - from)) read.1 is;
           }

@@ -1,5 +1,5 @@
 -- The heads of rules.
-use Rattle.std.proofs.Common.{◌≡◌, ℕ, suc, ◌-◌, ◌<◌, inl, inr, ⊎_elim, Bool, true, false, List, [], ◌∷◌, Option, None, Some, refl, sym, ap, ◌∙◌, subst}
+use Rattle.std.proofs.Common.{◌≡◌, ℕ, suc, ◌-◌, ◌<◌, inl, inr, ⊎_elim, Bool, true, false, List, [], ◌∷◌, Option, None, Some, Ok, Err, refl, sym, ap, ◌∙◌, subst}
 use Rattle.std.specs.Option.{unwrap_or}
 use Rattle.std.specs.List.{AllByRecursion}
 use Rattle.lx_base.specs.declared.faults.Fault.TheVariants.{Unsupported, Redefined}
@@ -17,17 +17,18 @@ use Rattle.lx_regex.specs.declared.rules.Kind.TheVariants as kind
 use Rattle.lx_rules.specs.declared.items.Known.{Known}
 use Rattle.lx_rules.specs.declared.items.DefaultRule.{DefaultRule}
 use Rattle.lx_rules.specs.declared.heads.Head.TheVariants as head
-use Rattle.lx_rules.specs.declared.expressions.Reading.{Reading}
+use Rattle.lx_rules.specs.declared.reading.Reading.{Reading}
 use Rattle.lx_rules.specs.Lexemes.{Lexeme, nth_lexeme, sort_at, sorts_at}
-use Rattle.lx_rules.specs.Checks.{Check, Checks}
+use Rattle.lx_rules.specs.Checks.{Check}
 use Rattle.lx_rules.specs.Items.{RuleOf, State, HeadChecks, IsHead, any_meaning, expression, head_sort, first_of, is_default, twice}
 use Rattle.lx_rules.specs.Blocks.{of_kind}
 use Rattle.lx_rules.specs.Keeping.{Holds, HoldsDefault, IsUsual, IsHeadRead, StopsHead}
-use Rattle.lx_rules.specs.Reading.{IsReading, lexemes_from, nothing, tokens_meaning}
-use Rattle.lx_rules.specs.Seen.{IsStop, definitions_view}
+use Rattle.lx_rules.specs.Environments.{Meaning}
+use Rattle.lx_rules.specs.Reading.{IsRead, lexemes_from}
+use Rattle.lx_rules.specs.Seen.{definitions_view}
 use Rattle.lx_rules.proofs.FormReading.{part_some}
 use Rattle.lx_rules.proofs.ExpressionRanges.{at_sort}
-use Rattle.lx_rules.proofs.ItemSteps.{expression_checked, fault_in, fault_same, read_part}
+use Rattle.lx_rules.proofs.ItemSteps.{GoesIn, StopsIn, expression_checked, expression_refused, goes_same, read_part}
 
 -- the place of the first of some rules
 abbrev pub first_at : List RuleOf → Option Pos
@@ -129,59 +130,58 @@ module _ (options : Options) (lexemes : List Lexeme) (known : Known) (state : St
   -- the expression of a rule is read
   pub plain_read :
       (from until room : ℕ) (reading : Reading) (no_star : sort_at (nth_lexeme lexemes from) ≡ sort.Star → ⊥) (no_dollar : sort_at (nth_lexeme lexemes from) ≡ sort.Dollar → ⊥)
-      → HasExpressions (sorts_at lexemes) (item.Rule from from None until None None) → fault_in options lexemes known state holds from until ≡ None
-      → IsReading room (tokens_meaning options (definitions_view known.env.definitions) nothing (lexemes_from lexemes from (until - from))) reading
+      → HasExpressions (sorts_at lexemes) (item.Rule from from None until None None)
+      → IsRead options (definitions_view known.env.definitions) (lexemes_from lexemes from (until - from)) room reading
       → IsHeadRead options lexemes state from None until room (head.Plain reading)
-  plain_read from until room reading no_star no_dollar has free read =
+  plain_read from until room reading no_star no_dollar has read =
       let part = head_part options lexemes from until no_star no_dollar has in
       let other = sym (is_other from None until no_star no_dollar) in
       let stands = read_part options lexemes known state holds from until part in
-      let meaning = tokens_meaning options state.definitions nothing (lexemes_from lexemes from (until - from)) in (
-        subst (λ s. HeadChecks options lexemes state s ([] ∷ []) from None until None) other (expression_checked options lexemes known state holds from until None part free),
+      let goes = goes_same options lexemes known state holds from until (Ok read.meaning) read.goes in (
+        subst (λ s. HeadChecks options lexemes state s ([] ∷ []) from None until None) other
+            (expression_checked options lexemes known state holds from until read.meaning part read.goes),
         (
           kind.Plain,
-          meaning,
-          subst (λ s. IsHead options lexemes state.definitions s from None until kind.Plain meaning) other
-              (refl, (stands.form, stands.stands, stands.means (fault_same options lexemes known state holds from until None free))),
-          (
-            refl,
-            subst (λ definitions. IsReading room (tokens_meaning options definitions nothing (lexemes_from lexemes from (until - from))) reading) holds.definitions read,
-          ),
+          read.meaning,
+          subst (λ s. IsHead options lexemes state.definitions s from None until kind.Plain read.meaning) other
+              (refl, (stands.form, stands.stands, (stands.taken read.meaning goes).1)),
+          (refl, read.stands),
         ),
       )
 
   -- or it is refused
   pub plain_refused :
       (from until : ℕ) (stopped : Stop) (no_star : sort_at (nth_lexeme lexemes from) ≡ sort.Star → ⊥) (no_dollar : sort_at (nth_lexeme lexemes from) ≡ sort.Dollar → ⊥)
-      → HasExpressions (sorts_at lexemes) (item.Rule from from None until None None) → IsStop (fault_in options lexemes known state holds from until) stopped
+      → HasExpressions (sorts_at lexemes) (item.Rule from from None until None None) → StopsIn options lexemes known state holds from until stopped
       → StopsHead options lexemes state from None until stopped
   plain_refused from until stop.Memory no_star no_dollar has stops = tt
   plain_refused from until (stop.Fault fault) no_star no_dollar has stops =
       subst (λ s. HeadChecks options lexemes state s ([] ∷ []) from None until (Some fault)) (sym (is_other from None until no_star no_dollar))
-      (expression_checked options lexemes known state holds from until (Some fault) (head_part options lexemes from until no_star no_dollar has) stops)
+      (expression_refused options lexemes known state holds from until fault (head_part options lexemes from until no_star no_dollar has) stops)
 
   -- the checks of an expression before a trailing context
   pub context_refused :
       (from slash until : ℕ) (stopped : Stop) (no_star : sort_at (nth_lexeme lexemes from) ≡ sort.Star → ⊥) (no_dollar : sort_at (nth_lexeme lexemes from) ≡ sort.Dollar → ⊥)
-      → HasExpressions (sorts_at lexemes) (item.Rule from from (Some slash) until None None) → IsStop (fault_in options lexemes known state holds from slash) stopped
+      → HasExpressions (sorts_at lexemes) (item.Rule from from (Some slash) until None None) → StopsIn options lexemes known state holds from slash stopped
       → StopsHead options lexemes state from (Some slash) until stopped
   context_refused from slash until stop.Memory no_star no_dollar has stops = tt
   context_refused from slash until (stop.Fault fault) no_star no_dollar has stops =
       let front = read_part options lexemes known state holds from slash has.0 in
       let back = read_part options lexemes known state holds (suc slash) until has.1 in
-      let found = subst (Checks options state.definitions false [] front.form) (fault_same options lexemes known state holds from slash (Some fault) stops) front.checks in
+      let found = front.refused fault (goes_same options lexemes known state holds from slash (Err fault) stops) in
       subst (λ s. HeadChecks options lexemes state s ([] ∷ []) from (Some slash) until (Some fault)) (sym (is_other from (Some slash) until no_star no_dollar))
       (front.form, back.form, front.stands, back.stands, inr (fault, found, refl))
 
   -- a trailing context waits
   pub context_waits :
       (from slash until : ℕ) (no_star : sort_at (nth_lexeme lexemes from) ≡ sort.Star → ⊥) (no_dollar : sort_at (nth_lexeme lexemes from) ≡ sort.Dollar → ⊥)
-      → HasExpressions (sorts_at lexemes) (item.Rule from from (Some slash) until None None) → fault_in options lexemes known state holds from slash ≡ None
+      → HasExpressions (sorts_at lexemes) (item.Rule from from (Some slash) until None None) → (meaning : Meaning)
+      → GoesIn options lexemes known state holds from slash (Ok meaning)
       → StopsHead options lexemes state from (Some slash) until (stop.Fault (Unsupported (Some (nth_lexeme lexemes slash).at)))
-  context_waits from slash until no_star no_dollar has free =
+  context_waits from slash until no_star no_dollar has meaning goes =
       let front = read_part options lexemes known state holds from slash has.0 in
       let back = read_part options lexemes known state holds (suc slash) until has.1 in
-      let found = subst (Checks options state.definitions false [] front.form) (fault_same options lexemes known state holds from slash None free) front.checks in
+      let found = (front.taken meaning (goes_same options lexemes known state holds from slash (Ok meaning) goes)).0 in
       let fault = Unsupported (Some (nth_lexeme lexemes slash).at) in
       subst (λ s. HeadChecks options lexemes state s ([] ∷ []) from (Some slash) until (Some fault)) (sym (is_other from (Some slash) until no_star no_dollar))
       (front.form, back.form, front.stands, back.stands, inl (found, inr (fault, refl, refl)))
@@ -189,7 +189,7 @@ module _ (options : Options) (lexemes : List Lexeme) (known : Known) (state : St
   -- whether a trailing context stands there or not
   pub head_refused :
       (from : ℕ) (slash : Option ℕ) (until : ℕ) (stopped : Stop) (no_star : sort_at (nth_lexeme lexemes from) ≡ sort.Star → ⊥) (no_dollar : sort_at (nth_lexeme lexemes from) ≡ sort.Dollar → ⊥)
-      → HasExpressions (sorts_at lexemes) (item.Rule from from slash until None None) → IsStop (fault_in options lexemes known state holds from (unwrap_or slash until)) stopped
+      → HasExpressions (sorts_at lexemes) (item.Rule from from slash until None None) → StopsIn options lexemes known state holds from (unwrap_or slash until) stopped
       → StopsHead options lexemes state from slash until stopped
   head_refused from None until stopped no_star no_dollar has stops = plain_refused from until stopped no_star no_dollar has stops
   head_refused from (Some slash) until stopped no_star no_dollar has stops = context_refused from slash until stopped no_star no_dollar has stops

@@ -1,5 +1,5 @@
 -- The items of a block, one behind another.
-use Rattle.std.proofs.Common.{◌≡◌, ℕ, zero, suc, ◌-◌, ◌≤◌, ◌<◌, inl, inr, List, [], ◌∷◌, ◌++◌, length, take, drop, get_or, Option, None, Some, Result, Ok, Err, IfOk, MatchResult, refl, ap, ◌∙◌, arith}
+use Rattle.std.proofs.Common.{◌≡◌, ℕ, zero, suc, ◌-◌, ◌≤◌, ◌<◌, inr, List, [], ◌∷◌, ◌++◌, length, take, drop, get_or, Option, None, Some, Result, Ok, Err, IfOk, MatchResult, refl, ap, ◌∙◌, arith}
 use Rattle.std.proofs.lemmas.List.{length-map}
 use Rattle.lx_base.specs.declared.faults.Fault.{Fault}
 use Rattle.lx_base.specs.declared.faults.Stop.{Stop}
@@ -20,7 +20,8 @@ use Rattle.lx_rules.specs.Environments.{Environment}
 use Rattle.lx_rules.specs.Blocks.{BlockChecks, StopsWith}
 use Rattle.lx_rules.specs.Lexemes.{Lexeme, lexeme_of, lexemes_of, sort_at, sorts_at}
 use Rattle.lx_rules.specs.Items.{State, Goes, ends, refused, next, first_state, ItemChecks, IsAfter}
-use Rattle.lx_rules.specs.Keeping.{StopsAt, StopsGoing}
+use Rattle.lx_rules.specs.Keeping.{StopsGoing}
+use Rattle.lx_rules.specs.Checks.{StopsAt}
 use Rattle.lx_rules.proofs.FormReading.{reads_some}
 
 module _ (options : Options) (lexemes : List Lexeme) where

@@ -1,5 +1,5 @@
 -- What is known behind an item.
-use Rattle.std.proofs.Common.{◌≡◌, ℕ, ◌-◌, ◌≤◌, inl, inr, Bool, false, List, [], ◌∷◌, ◌++◌, map, Option, None, Some, IfSome, Vec, Global, refl, sym, ap, ◌∙◌, subst}
+use Rattle.std.proofs.Common.{◌≡◌, ℕ, ◌-◌, ◌≤◌, inl, inr, Bool, List, [], ◌∷◌, ◌++◌, map, Option, None, Some, Result, Ok, Err, IfSome, Vec, Global, refl, sym, ap, ◌∙◌, subst}
 use Rattle.std.specs.Option.{option_map}
 use Rattle.lx_base.specs.declared.faults.Fault.{Fault}
 use Rattle.lx_base.specs.declared.faults.Fault.TheVariants.{Redefined}
@@ -18,17 +18,18 @@ use Rattle.lx_regex.specs.declared.rules.Rule as regex_rules
 use Rattle.lx_rules.specs.declared.resolved.Act.{Act}
 use Rattle.lx_rules.specs.declared.items.Known.{Known}
 use Rattle.lx_rules.specs.Lexemes.{Lexeme, nth_lexeme, sorts_at}
-use Rattle.lx_rules.specs.Environments.{Definition, Meaning, defined, definition_of, kept, built_term}
-use Rattle.lx_rules.specs.Checks.{Finds, Checks}
+use Rattle.lx_rules.specs.Environments.{Definition, Meaning, defined, definition_of, kept, kept_term}
+use Rattle.lx_rules.specs.Checks.{Finds, StopsAt}
 use Rattle.lx_rules.specs.Configurations.{config_fault, switch_of}
 use Rattle.lx_rules.specs.Items.{State, ExpressionChecks, ItemChecks, is_default, twice}
-use Rattle.lx_rules.specs.Keeping.{Holds, HoldsDefault, IsTaken, StopsAt}
-use Rattle.lx_rules.specs.Reading.{lexemes_from, nothing, tokens_fault, tokens_meaning}
+use Rattle.lx_rules.specs.Keeping.{Holds, HoldsDefault, IsTaken}
+use Rattle.lx_rules.specs.Reading.{Goes, StopsReading, alone, lexemes_from, nothing}
 use Rattle.lx_rules.specs.Blocks.{of_kind}
 use Rattle.lx_rules.specs.Soundness.{FitsSize, IsSound}
-use Rattle.lx_rules.specs.Seen.{IsStop, definition_view, definitions_view}
+use Rattle.lx_rules.specs.Seen.{definition_view, definitions_view}
 use Rattle.lx_rules.proofs.FormRuns.{NoTags}
-use Rattle.lx_rules.proofs.ExpressionRanges.{IsRead, part_is_read}
+use Rattle.lx_rules.proofs.ExpressionRanges as ranges
+use Rattle.lx_rules.proofs.ExpressionRanges.{IsExpressionRead, part_is_read}
 
 -- definitions that are kept have no tags
 pub NoTags-view : {K : Type 0} (options : Options) (definitions : List Definition) (items : K → List ℕ) (entries : List (K × Kept))
@@ -42,24 +43,31 @@ module _ (options : Options) (lexemes : List Lexeme) (known : Known) (state : St
   known_free =
       subst (NoTags options state.definitions) holds.definitions (NoTags-view options state.definitions (λ key. key.items) known.env.definitions.by_name.entries)
 
-  -- the expression in a range of tokens
-  abbrev pub texts : (from until : ℕ) → List Lexeme
-  texts from until = lexemes_from lexemes from (until - from)
+  -- what is read from one place up to another
+  abbrev pub GoesIn : (from until : ℕ) → Result Meaning Fault → Type 0
+  GoesIn from until result =
+      Goes options (definitions_view known.env.definitions) (alone nothing) (lexemes_from lexemes from (until - from)) result
 
-  abbrev pub fault_in : (from until : ℕ) → Option Fault
-  fault_in from until = tokens_fault options (definitions_view known.env.definitions) (texts from until)
+  abbrev pub StopsIn : (from until : ℕ) → Stop → Type 0
+  StopsIn from until stopped =
+      StopsReading options (definitions_view known.env.definitions) (alone nothing) (lexemes_from lexemes from (until - from)) stopped
 
-  pub read_part : (from until : ℕ) → IsPart (sorts_at lexemes) alt from until → IsRead options state.definitions lexemes from until
+  pub read_part : (from until : ℕ) → IsPart (sorts_at lexemes) alt from until → IsExpressionRead options state.definitions lexemes from until
   read_part from until part = part_is_read options state.definitions lexemes known_free from until part
 
-  pub fault_same : (from until : ℕ) (found : Option Fault) → fault_in from until ≡ found → tokens_fault options state.definitions (texts from until) ≡ found
-  fault_same from until found is = ap (λ definitions. tokens_fault options definitions (texts from until)) (sym holds.definitions) ∙ is
+  pub goes_same : (from until : ℕ) (result : Result Meaning Fault) → GoesIn from until result → ranges.GoesIn options state.definitions lexemes from until result
+  goes_same from until result goes =
+      subst (λ definitions. ranges.GoesIn options definitions lexemes from until result) holds.definitions goes
 
-  pub expression_checked : (from until : ℕ) (found : Option Fault) → IsPart (sorts_at lexemes) alt from until → fault_in from until ≡ found
-      → ExpressionChecks options lexemes state.definitions from until found
-  expression_checked from until found part is =
-      let read = read_part from until part in
-      (read.form, read.stands, subst (Checks options state.definitions false [] read.form) (fault_same from until found is) read.checks)
+  pub expression_checked : (from until : ℕ) (meaning : Meaning) → IsPart (sorts_at lexemes) alt from until → GoesIn from until (Ok meaning)
+      → ExpressionChecks options lexemes state.definitions from until None
+  expression_checked from until meaning part goes =
+      let read = read_part from until part in (read.form, read.stands, (read.taken meaning (goes_same from until (Ok meaning) goes)).0)
+
+  pub expression_refused : (from until : ℕ) (fault : Fault) → IsPart (sorts_at lexemes) alt from until → GoesIn from until (Err fault)
+      → ExpressionChecks options lexemes state.definitions from until (Some fault)
+  expression_refused from until fault part goes =
+      let read = read_part from until part in (read.form, read.stands, read.refused fault (goes_same from until (Err fault) goes))
 
   -- a configuration is taken
   pub configured : (name value : ℕ) (fill : Bool) → config_fault (nth_lexeme lexemes name) (nth_lexeme lexemes value) ≡ None
@@ -107,36 +115,35 @@ module _ (options : Options) (lexemes : List Lexeme) (known : Known) (state : St
 
   -- so is one whose expression is refused
   pub define_refused : (name from until : ℕ) (stopped : Stop) → definition_of state.definitions (nth_lexeme lexemes name).text ≡ None
-      → IsPart (sorts_at lexemes) alt from until → IsStop (fault_in from until) stopped
+      → IsPart (sorts_at lexemes) alt from until → StopsIn from until stopped
       → StopsAt (ItemChecks options lexemes state (Define name from until)) stopped
   define_refused name from until stop.Memory none part is = tt
-  define_refused name from until (stop.Fault fault) none part is = inl (once name none, expression_checked from until (Some fault) part is)
+  define_refused name from until (stop.Fault fault) none part goes = inl (once name none, expression_refused from until fault part goes)
 
   -- what is kept of an expression is what is defined
   defined-view : (name : List ℕ) (at : Pos) (given : Kept) (meaning : Meaning) → given.at ≡ at → given.size ≡ kept meaning.size
-      → given.nesting ≡ kept meaning.nesting → meaning.tags ≡ [] → option_map (term_of 0) given.expr ≡ built_term 4096 meaning
+      → given.nesting ≡ kept meaning.nesting → meaning.tags ≡ [] → option_map (term_of 0) given.expr ≡ kept_term meaning
       → definition_view name given ≡ defined name at meaning
   defined-view name at given meaning at_is size nesting tags term = rw (at_is, size, nesting, tags, term) refl
 
   -- a definition is taken
   pub define_taken :
-      (name from until : ℕ) (after : Known) (given : Kept) → definition_of state.definitions (nth_lexeme lexemes name).text ≡ None
-      → IsPart (sorts_at lexemes) alt from until → fault_in from until ≡ None
-      → (let meaning = tokens_meaning options (definitions_view known.env.definitions) nothing (texts from until) in
-      (given.at ≡ (nth_lexeme lexemes name).at) × (given.size ≡ kept meaning.size) × (given.nesting ≡ kept meaning.nesting) × (meaning.tags ≡ [])
-      × (option_map (term_of 0) given.expr ≡ built_term 4096 meaning))
+      (name from until : ℕ) (after : Known) (given : Kept) (meaning : Meaning) → definition_of state.definitions (nth_lexeme lexemes name).text ≡ None
+      → IsPart (sorts_at lexemes) alt from until → GoesIn from until (Ok meaning)
+      → (given.at ≡ (nth_lexeme lexemes name).at) × (given.size ≡ kept meaning.size) × (given.nesting ≡ kept meaning.nesting) × (meaning.tags ≡ [])
+      × (option_map (term_of 0) given.expr ≡ kept_term meaning)
       → definitions_view after.env.definitions ≡ definitions_view known.env.definitions ++ definition_view (nth_lexeme lexemes name).text given ∷ []
       → IsSound after.env → after.env.fill ≡ known.env.fill → after.rules ≡ known.rules → after.default ≡ known.default → after.acts ≡ known.acts
       → after.size ≡ known.size → after.nesting ≡ known.nesting → IsTaken options lexemes state (Define name from until) after
-  define_taken name from until after given none part free means added sound fill rules default acts size nesting = record {
-    checked = inl (once name none, expression_checked from until None part free);
+  define_taken name from until after given meaning none part goes means added sound fill rules default acts size nesting = record {
+    checked = inl (once name none, expression_checked from until meaning part goes);
     next = record { definitions = state.definitions ++ new ∷ []; fill = state.fill; rules = state.rules };
-    is_after = (read.form, meaning, read.stands, read.means (fault_same from until None free), refl);
+    is_after = (read.form, meaning, read.stands, (read.taken meaning (goes_same from until (Ok meaning) goes)).1, refl);
     holds = record {
       without_conds = holds.without_conds;
       definitions =
           added ∙ ap (λ l. l ++ definition_view (nth_lexeme lexemes name).text given ∷ []) holds.definitions
-          ∙ ap (λ d. state.definitions ++ d ∷ []) (defined-view (nth_lexeme lexemes name).text (nth_lexeme lexemes name).at given meaning means'.0 means'.1 means'.2 means'.3 means'.4);
+          ∙ ap (λ d. state.definitions ++ d ∷ []) (defined-view (nth_lexeme lexemes name).text (nth_lexeme lexemes name).at given meaning means.0 means.1 means.2 means.3 means.4);
       fill = fill ∙ holds.fill;
       acts = ap (λ (l : Vec Act Global). l.items) acts ∙ holds.acts;
       size = size ∙ holds.size;
@@ -153,23 +160,11 @@ module _ (options : Options) (lexemes : List Lexeme) (known : Known) (state : St
     };
   }
     where
-      read : IsRead options state.definitions lexemes from until
+      read : IsExpressionRead options state.definitions lexemes from until
       read = read_part from until part
-
-      meaning : Meaning
-      meaning = tokens_meaning options state.definitions nothing (texts from until)
 
       new : Definition
       new = defined (nth_lexeme lexemes name).text (nth_lexeme lexemes name).at meaning
-
-      means' : (given.at ≡ (nth_lexeme lexemes name).at) × (given.size ≡ kept meaning.size) × (given.nesting ≡ kept meaning.nesting) × (meaning.tags ≡ [])
-          × (option_map (term_of 0) given.expr ≡ built_term 4096 meaning)
-      means' =
-          subst
-          (λ (m : Meaning).
-          (given.at ≡ (nth_lexeme lexemes name).at) × (given.size ≡ kept m.size) × (given.nesting ≡ kept m.nesting) × (m.tags ≡ [])
-          × (option_map (term_of 0) given.expr ≡ built_term 4096 m))
-          (ap (λ definitions. tokens_meaning options definitions nothing (texts from until)) holds.definitions) means
 
 pub FitsSize-of : (expr : Option Expr) (size : ℕ) → IfSome expr (λ e. size_of e ≤ size) → 1 ≤ size → FitsSize expr size
 FitsSize-of None size within some = some

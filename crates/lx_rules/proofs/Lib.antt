@@ -1,9 +1,13 @@
 pub mod DefinitionLists
+pub mod PointSets
 pub mod Readings
 pub mod MemberCopies
-pub mod TokenRuns
+pub mod ClassForms
+pub mod LeafSteps
+pub mod ExpressionSteps
 pub mod FormRuns
 pub mod FormReading
+pub mod OneForm
 pub mod ExpressionRanges
 pub mod ItemSteps
 pub mod HeadSteps

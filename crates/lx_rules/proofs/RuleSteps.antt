@@ -17,12 +17,12 @@ use Rattle.lx_rules.specs.declared.items.DefaultRule.{DefaultRule}
 use Rattle.lx_rules.specs.declared.heads.Head.TheVariants as head
 use Rattle.lx_regex.specs.declared.expr.Expr.{Expr}
 use Rattle.lx_rules.specs.declared.environment.Env.{Env}
-use Rattle.lx_rules.specs.declared.expressions.Reading.{Reading}
+use Rattle.lx_rules.specs.declared.reading.Reading.{Reading}
 use Rattle.lx_rules.specs.Environments.{Meaning, built_term, fits, is_built, joined_term, kept}
 use Rattle.lx_rules.specs.Items.{RuleOf, State, any_meaning, is_default}
 use Rattle.lx_rules.specs.Blocks.{of_kind, not_of_kind, pattern_of, size_of, nesting_of}
 use Rattle.lx_rules.specs.Keeping.{Holds, HoldsDefault, DefaultWithin, AddsPlain, IsNew, IsUsual, default_count, default_pattern, plain_pattern, room_behind, with_rule}
-use Rattle.lx_rules.specs.Reading.{IsReading}
+use Rattle.lx_rules.specs.Content.{IsReading}
 use Rattle.lx_rules.specs.Soundness.{IsShort, IsSound, rules_size}
 use Rattle.lx_rules.specs.Seen.{definitions_view}
 use Rattle.lx_rules.proofs.DefinitionLists.{All-one}

@@ -1,11 +1,13 @@
 -- The checks of an expression, at its tokens from left to right.
 use Rattle.std.specs.Prelude.{◌≡◌, ◌≢◌, ℕ, ◌+◌, ◌-◌, ◌⊎◌, Bool, true, false, List, [], ◌∷◌, ◌++◌, length, map, drop, nat_lt, ◌==◌, ◌&&◌, ◌||◌, Option, Some, None, is_some, if◌then◌else◌}
-use Rattle.std.specs.Option.{option_and_then, option_map}
+use Rattle.std.specs.Option.{option_and_then}
 use Rattle.std.specs.Str.{bytes_eq}
 use Rattle.lx_base.specs.Letters.{is_within}
 use Rattle.lx_base.specs.declared.places.Pos.{Pos}
 use Rattle.lx_base.specs.declared.faults.Fault.{Fault}
 use Rattle.lx_base.specs.declared.faults.Fault.TheVariants.{Unsupported, UnknownName, NotClass, Bounds, EmptyClass, TagsOff, DuplicateTag}
+use Rattle.lx_base.specs.declared.faults.Stop.{Stop}
+use Rattle.lx_base.specs.declared.faults.Stop.TheVariants as stop
 use Rattle.lx_base.specs.declared.settings.Options.{Options}
 use Rattle.lx_base.specs.declared.settings.EmptyPolicy.{EmptyPolicy}
 use Rattle.lx_base.specs.declared.settings.EmptyPolicy.TheVariants.{Error}
@@ -18,8 +20,8 @@ use Rattle.lx_class.specs.declared.ranges.Range.{Range}
 use Rattle.lx_encode.specs.Policy.{IsAfter, IsPoint}
 use Rattle.lx_rules.specs.Lexemes.{Lexeme, points_in}
 use Rattle.lx_rules.specs.Points.{singles, points_fault}
-use Rattle.lx_regex.specs.Term.{Term, class, alt, Terms, nil, cons, IsInRanges}
-use Rattle.lx_rules.specs.Environments.{Definition, definition_of}
+use Rattle.lx_regex.specs.Term.{IsInRanges}
+use Rattle.lx_rules.specs.Environments.{Definition, class_in, definition_of}
 use Rattle.lx_rules.specs.Forms.{Form, leaf, group, repeated, sequence, difference, alternative}
 
 -- a check says which fault is found, or none
@@ -33,6 +35,11 @@ Then First Second fault = (First None × Second fault) ⊎ ((first : Fault) × F
 -- a check that finds this fault, or none
 abbrev pub Finds : Option Fault → Check
 Finds found fault = fault ≡ found
+
+-- a call stops with a fault that a check finds, or where memory runs out
+abbrev pub StopsAt : Check → Stop → Type 0
+StopsAt Found stop.Memory = Unit {0}
+StopsAt Found (stop.Fault fault) = Found (Some fault)
 
 -- a form that is not supported yet is refused at its token, before the other checks there
 abbrev pub waits : Lexeme → Option Fault
@@ -51,18 +58,6 @@ both_cases [] = []
 both_cases (point ∷ points) =
     if is_within 65 90 point then point ∷ (point + 32) ∷ both_cases points
     else (if is_within 97 122 point then point ∷ (point - 32) ∷ both_cases points else point ∷ both_cases points)
-
--- the code points of a term that is a class or an alternation of classes
-abbrev mutual
-  points_of : Term → Option (List (ℕ × ℕ))
-  points_of (class ranges) = Some ranges
-  points_of (alt members) = points_among members
-  points_of term = None
-
-  points_among : Terms → Option (List (ℕ × ℕ))
-  points_among nil = Some []
-  points_among (cons member members) =
-      option_and_then (λ ranges. option_map (λ others. ranges ++ others) (points_among members)) (points_of member)
 
 -- a tag that stands among those before it
 abbrev pub is_among : (name : List ℕ) → List (List ℕ) → Bool
@@ -87,6 +82,11 @@ bounds_fault kind lexeme = None
 abbrev pub tag_name : Lexeme → List ℕ
 tag_name lexeme = drop 1 lexeme.text
 
+-- the point is one of a class
+abbrev pub IsIn : Option (List (ℕ × ℕ)) → ℕ → Type 0
+IsIn None point = ⊥
+IsIn (Some ranges) point = IsInRanges ranges point
+
 module _ (options : Options) (definitions : List Definition) where
   -- the code points of a token are those that the encoding has, and no surrogates where these are refused
   abbrev pub PointsAre : Lexeme → List Range → Check
@@ -100,13 +100,9 @@ module _ (options : Options) (definitions : List Definition) where
   IsFilled policy is_operand at HasPoint fault = fault ≡ None
 
   -- the code points of a definition, where it is a class
-  abbrev defined_points : Option Definition → Option (List (ℕ × ℕ))
+  abbrev pub defined_points : Option Definition → Option (List (ℕ × ℕ))
   defined_points None = None
-  defined_points (Some definition) = option_and_then points_of definition.term
-
-  abbrev IsIn : Option (List (ℕ × ℕ)) → ℕ → Type 0
-  IsIn None point = ⊥
-  IsIn (Some ranges) point = IsInRanges ranges point
+  defined_points (Some definition) = option_and_then class_in definition.term
 
   -- the point belongs to ranges, or to the others
   abbrev pub ClassHas : (is_negated : Bool) → List Range → ℕ → Type 0
@@ -187,10 +183,10 @@ module _ (options : Options) (definitions : List Definition) where
   LeafChecks kind.Name is_operand seen lexeme = Finds (name_fault (definition_of definitions lexeme.text) lexeme seen)
   LeafChecks kind.STag is_operand seen lexeme = Then (Finds (waits lexeme)) (Finds (tag_fault lexeme seen))
   LeafChecks kind.MTag is_operand seen lexeme = Then (Finds (waits lexeme)) (Finds (tag_fault lexeme seen))
-  LeafChecks kind.IStr is_operand seen lexeme = Then (Finds (waits lexeme)) (PointsAre lexeme (singles (points_in lexeme)))
+  LeafChecks kind.IStr is_operand seen lexeme = PointsAre lexeme (singles (points_in lexeme))
   LeafChecks kind.Class is_operand seen lexeme =
-      Then (Finds (waits lexeme))
-      (Then (PointsAre lexeme (class_ranges lexeme)) (IsFilled options.empty is_operand lexeme.at (HasPoint (leaf lexeme))))
+      Then (PointsAre lexeme (class_ranges lexeme)) (IsFilled options.empty is_operand lexeme.at (LeafHas kind.Class lexeme))
+  LeafChecks kind.Signs is_operand seen lexeme = Finds None
   LeafChecks kind is_operand seen lexeme = Finds (waits lexeme)
 
   -- the checks of an expression, behind tags that were seen before
@@ -202,8 +198,7 @@ module _ (options : Options) (definitions : List Definition) where
   Checks is_operand seen (sequence front back) = Then (Checks false seen front) (Checks false (seen ++ tags_of front) back)
   Checks is_operand seen (difference left sign right) =
       Then (Checks true seen left)
-      (Then (Finds (waits sign))
       (Then (Checks true (seen ++ tags_of left) right)
-      (Then (AreClasses left right sign) (IsFilled options.empty is_operand sign.at (HasPoint (difference left sign right))))))
+      (Then (AreClasses left right sign) (IsFilled options.empty is_operand sign.at (HasPoint (difference left sign right)))))
   Checks is_operand seen (alternative left sign right) =
       Then (Checks is_operand seen left) (Then (Finds (waits sign)) (Checks is_operand (seen ++ tags_of left) right))

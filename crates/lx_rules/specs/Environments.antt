@@ -1,8 +1,9 @@
 -- Definitions, and what the expressions behind them mean.
 use Rattle.std.specs.Prelude.{ℕ, ◌^◌, Bool, true, List, [], ◌∷◌, min, nat_le, ◌&&◌, Option, Some, None, if◌then◌else◌}
+use Rattle.std.specs.Option.{option_map}
 use Rattle.std.specs.Str.{bytes_eq}
 use Rattle.lx_base.specs.declared.places.Pos.{Pos}
-use Rattle.lx_regex.specs.Term.{Term, cat}
+use Rattle.lx_regex.specs.Term.{Term, class, cat}
 use Rattle.lx_regex.specs.Expr.{members_of}
 
 -- what an expression means: the terms that stand in it one behind another, its size and nesting, and its tags, in order
@@ -31,6 +32,19 @@ is_built room meaning = fits room meaning.size meaning.nesting
 abbrev pub built_term : (room : ℕ) → Meaning → Option Term
 built_term room meaning = if is_built room meaning then Some (joined_term meaning.terms) else None
 
+-- the ranges of a term that is a class; alternations of classes are not supported yet
+abbrev pub class_in : Term → Option (List (ℕ × ℕ))
+class_in (class ranges) = Some ranges
+class_in term = None
+
+-- the ranges of an expression that is a class
+abbrev pub meant_class : Meaning → Option (List (ℕ × ℕ))
+meant_class meaning = class_in (joined_term meaning.terms)
+
+-- what is kept of an expression: its term within the limits of a scanner, and past them its class, where it is one
+abbrev pub kept_term : Meaning → Option Term
+kept_term meaning = if is_built 4096 meaning then Some (joined_term meaning.terms) else option_map class (meant_class meaning)
+
 -- a definition: its name, where that stands, and of its expression what is kept
 pub record Definition : Type 0 where
   pub name : List ℕ
@@ -40,7 +54,7 @@ pub record Definition : Type 0 where
   pub tags : List (List ℕ)
   pub term : Option Term
 
--- what is kept of a definition; its term, where it is within the limits of a scanner
+-- what is kept of a definition
 abbrev pub defined : (name : List ℕ) → Pos → Meaning → Definition
 defined name at meaning = record {
   name = name;
@@ -48,7 +62,7 @@ defined name at meaning = record {
   size = kept meaning.size;
   nesting = kept meaning.nesting;
   tags = meaning.tags;
-  term = built_term 4096 meaning;
+  term = kept_term meaning;
 }
 
 -- the definition of a name

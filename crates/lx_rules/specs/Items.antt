@@ -143,7 +143,7 @@ module _ (options : Options) (lexemes : List Lexeme) where
   IsHead definitions any head slash until sort meaning = (sort ≡ kind.Default) × (meaning ≡ any_meaning)
   IsHead definitions end head slash until sort meaning = ⊥
   IsHead definitions expression head None until sort meaning =
-      (sort ≡ kind.Plain) × ((form : Form) × IsExpression head until form × IsMeaning options definitions form meaning)
+      (sort ≡ kind.Plain) × ((form : Form) × IsExpression head until form × IsMeaning options definitions false form meaning)
   IsHead definitions expression head (Some slash) until sort meaning = ⊥
 
   -- the action of a rule with this number: its target, its text with the braces, and the place of that or of `:=>`
@@ -161,7 +161,7 @@ module _ (options : Options) (lexemes : List Lexeme) where
   -- what is known behind one item more
   abbrev pub IsAfter : State → Item → State → Type 0
   IsAfter state (Define name from until) after =
-      (form : Form) × (meaning : Meaning) × IsExpression from until form × IsMeaning options state.definitions form meaning
+      (form : Form) × (meaning : Meaning) × IsExpression from until form × IsMeaning options state.definitions false form meaning
       × (after ≡ record {
         definitions = state.definitions ++ defined (lexeme_at name).text (lexeme_at name).at meaning ∷ [];
         fill = state.fill;

@@ -20,11 +20,11 @@ use Rattle.lx_rules.specs.declared.heads.Head.{Head}
 use Rattle.lx_rules.specs.declared.heads.Head.TheVariants as head
 use Rattle.lx_rules.specs.Lexemes.{Lexeme, nth_lexeme, sort_at}
 use Rattle.lx_rules.specs.Environments.{Meaning, fits, is_built, joined_term, kept}
-use Rattle.lx_rules.specs.Checks.{Check}
+use Rattle.lx_rules.specs.Checks.{StopsAt}
 use Rattle.lx_rules.specs.Items.{RuleOf, State, Goes, HeadChecks, head_sort, IsHead, ItemChecks, IsAfter, any_meaning, is_default}
 use Rattle.lx_rules.specs.Blocks.{of_kind, not_of_kind, pattern_of, size_of, nesting_of}
-use Rattle.lx_rules.specs.declared.expressions.Reading.{Reading}
-use Rattle.lx_rules.specs.Reading.{IsReading}
+use Rattle.lx_rules.specs.declared.reading.Reading.{Reading}
+use Rattle.lx_rules.specs.Content.{IsReading}
 use Rattle.lx_rules.specs.Seen.{definitions_view}
 use Rattle.lx_rules.specs.Soundness.{IsHonest, IsSound, IsShort, rules_size}
 
@@ -76,11 +76,6 @@ pub record Holds (conds : Bool) (known : Known) (state : State) : Type 0 where
   pub numbers : All (λ (rule : regex_rules.Rule). (0 < rule.number) × (rule.number ≤ length known.acts.items)) known.rules.items
   pub default_number : DefaultWithin known.default (length known.acts.items)
   pub short : All (λ (act : Act). IsShort act.code) known.acts.items
-
--- a call stops with a fault that a check finds, or where memory runs out
-abbrev pub StopsAt : Check → Stop → Type 0
-StopsAt Found stop.Memory = Unit {0}
-StopsAt Found (stop.Fault fault) = Found (Some fault)
 
 -- the head that was read means this, and is of this kind
 abbrev pub IsHeadOf : (room : ℕ) → Kind → Meaning → Head → Type 0

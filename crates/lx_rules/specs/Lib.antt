@@ -1,6 +1,7 @@
 pub mod Blocks
 pub mod Checks
 pub mod Configurations
+pub mod Content
 pub mod Environments
 pub mod Finishing
 pub mod Forms

@@ -1,10 +1,11 @@
 -- What the definitions see of the code's values.
-use Rattle.std.specs.Prelude.{◌≡◌, ℕ, List, [], map, Option, Some}
+use Rattle.std.specs.Prelude.{◌≡◌, ◌≤◌, ℕ, All, List, [], map, Option, Some}
 use Rattle.std.specs.Option.{option_map}
 use Rattle.lx_base.specs.declared.faults.Fault.{Fault}
 use Rattle.lx_base.specs.declared.faults.Stop.{Stop}
 use Rattle.lx_base.specs.declared.faults.Stop.TheVariants as stop
 use Rattle.lx_token.specs.declared.characters.Character.{Character}
+use Rattle.lx_class.specs.declared.ranges.Range.{Range}
 use Rattle.lx_regex.specs.Expr.{term_of}
 use Rattle.lx_rules.specs.declared.definitions.Kept.{Kept}
 use Rattle.lx_rules.specs.declared.definitions.Definitions.{Definitions}
@@ -40,6 +41,14 @@ definitions_view definitions = map (λ entry. definition_view entry.0.items entr
 -- the code points of characters
 abbrev pub points_of : List Character → List ℕ
 points_of characters = map (λ (character : Character). character.point) characters
+
+-- each character has a code point
+abbrev pub AreCodePoints : List Character → Type 0
+AreCodePoints characters = All (λ (character : Character). character.point ≤ 0x10FFFF) characters
+
+-- a range begins no later than it ends, and is one of code points
+abbrev pub IsOrdered : Range → Type 0
+IsOrdered range = (range.lo ≤ range.hi) × (range.hi ≤ 0x10FFFF)
 
 -- a call stops with the first fault, where memory does not run out
 abbrev pub IsStop : Option Fault → Stop → Type 0

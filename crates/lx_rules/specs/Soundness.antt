@@ -1,10 +1,11 @@
 -- What holds of what blocks resolve to, whatever they say.
-use Rattle.std.specs.Prelude.{ℕ, ◌+◌, ◌<◌, ◌≤◌, ◌^◌, List, [], ◌∷◌, length, map, sum, All, Option, Some, None}
+use Rattle.std.specs.Prelude.{ℕ, ◌+◌, ◌<◌, ◌≤◌, ◌^◌, List, [], ◌∷◌, length, All, Option, Some, None}
 use Rattle.lx_regex.specs.Expr.{size_of}
 use Rattle.lx_regex.specs.declared.expr.Expr.{Expr}
 use Rattle.lx_regex.specs.declared.rules.Rule.{Rule}
 use Rattle.lx_rules.specs.declared.definitions.Definitions.{Definitions}
-use Rattle.lx_rules.specs.declared.expressions.Reading.{Reading}
+use Rattle.lx_rules.specs.declared.reading.Reading.{Reading}
+use Rattle.lx_rules.specs.Content.{content_size}
 use Rattle.lx_rules.specs.declared.environment.Env.{Env}
 use Rattle.lx_rules.specs.declared.resolved.Act.{Act}
 use Rattle.lx_rules.specs.declared.resolved.Scanner.{Scanner}
@@ -22,9 +23,9 @@ AreSound definitions = All (λ entry. FitsSize entry.1.expr entry.1.size) defini
 abbrev pub IsSound : Env → Type 0
 IsSound env = AreSound env.definitions
 
--- what is read of an expression has at least the size of its members
+-- what is read of an expression has at least the size of what is kept
 pub record IsHonest (reading : Reading) : Type 0 where
-  pub size : sum (map size_of reading.members.items) ≤ reading.size
+  pub size : content_size reading.content ≤ reading.size
   pub kept : reading.size ≤ 2 ^ 40
 
 -- the size of rules

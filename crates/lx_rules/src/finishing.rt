@@ -93,7 +93,8 @@ impl Known {
     ghost use Rattle.std.specs.Prelude.{◌≡◌, ◌≤◌, ◌||◌, Bool, MatchResult, length, nat_lt};
     ghost use Rattle.lx_rules.specs.Blocks.{BlockChecks, IsResolved};
     ghost use Rattle.lx_rules.specs.Items.{State};
-    ghost use Rattle.lx_rules.specs.Keeping.{Holds, StopsAt};
+    ghost use Rattle.lx_rules.specs.Keeping.{Holds};
+    ghost use Rattle.lx_rules.specs.Checks.{StopsAt};
     ghost use Rattle.lx_rules.specs.Finishing.{IsFinished};
 
     /// Whether the scanner is past a limit.

@@ -1,6 +1,8 @@
 //! Reads the heads of rules.
-use crate::expressions::{Reading, read_expression};
+use crate::expressions::read_expression;
 use crate::items::{Block, Known, waits};
+use crate::leaves::Reader;
+use crate::reading::Reading;
 use lx_base::{Fault, Stop};
 use lx_parse::Sort;
 use std::alloc::Global;
@@ -73,12 +75,15 @@ impl Known {
         ensures fresh { IfOk result (IsFresh self.now.default) }
         ensures honest { IsSound self.now.env → IfOk result IsSoundHead }
     {
+        let reader = Reader {
+            options: block.options,
+            definitions: &self.env.definitions,
+            room: self.room(),
+        };
         let reading = match read_expression(
             alloc,
-            block.options,
+            reader,
             block.lexemes,
-            &self.env.definitions,
-            self.room(),
             head as usize,
             slash.unwrap_or(until) as usize,
         ) {

@@ -7,6 +7,7 @@ use crate::configurations::read_config;
 use crate::definitions::Kept;
 use crate::environment::Env;
 use crate::expressions::read_expression;
+use crate::leaves::Reader;
 use crate::lexemes::Lexemes;
 use crate::resolved::Act;
 use lx_base::{ByteText, Fault, Memory, Options, Pos, Stop};
@@ -69,7 +70,8 @@ impl Known {
     ghost use Rattle.lx_parse.specs.Ranges.{IsPart};
     ghost use Rattle.lx_parse.specs.declared.items.Item.TheVariants as item;
     ghost use Rattle.lx_rules.specs.Items.{State, ItemChecks, first_state};
-    ghost use Rattle.lx_rules.specs.Keeping.{Holds, IsTaken, StopsAt, room_behind};
+    ghost use Rattle.lx_rules.specs.Keeping.{Holds, IsTaken, room_behind};
+    ghost use Rattle.lx_rules.specs.Checks.{StopsAt};
     ghost use Rattle.lx_rules.specs.Lexemes.{sorts_at};
     ghost use Rattle.lx_rules.specs.Seen.{environment_view, lexemes_view};
     ghost use Rattle.lx_rules.specs.Soundness.{IsSound};
@@ -121,12 +123,15 @@ impl Known {
                 first: kept.at,
             }));
         }
+        let reader = Reader {
+            options: block.options,
+            definitions: &self.env.definitions,
+            room: MOST_SIZE,
+        };
         let reading = match read_expression(
             alloc,
-            block.options,
+            reader,
             block.lexemes,
-            &self.env.definitions,
-            MOST_SIZE,
             from as usize,
             until as usize,
         ) {
@@ -137,7 +142,7 @@ impl Known {
             at: name.at,
             size: reading.size,
             nesting: reading.nesting,
-            expr: reading.into_expr(MOST_SIZE),
+            expr: reading.into_kept(alloc),
         };
         self.env.definitions.add(alloc, name.text, kept)?;
         Ok(())

@@ -9,11 +9,14 @@ mod expressions;
 mod finishing;
 mod heads;
 mod items;
+mod leaves;
 mod lexemes;
 mod points;
+mod reading;
 pub mod resolved;
 pub mod resolving;
 mod rules;
+mod sets;
 
 pub use definitions::Definitions;
 pub use environment::Env;

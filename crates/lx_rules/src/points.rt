@@ -1,11 +1,10 @@
-//! The code points that an encoding has, and what a policy makes of surrogates.
-ghost use Rattle.std.specs.Prelude.{◌≡◌, map};
+//! The faults of the code points that stand in one token.
+ghost use Rattle.std.specs.Prelude.{◌≡◌, IsNone, ◌≤◌, All};
 ghost use Rattle.lx_base.specs.Spelling.{greatest_point};
-ghost use Rattle.lx_rules.specs.Points.{least_with, least_within, points_fault, replaced, singles};
-ghost use Rattle.lx_rules.specs.Seen.{points_of};
+ghost use Rattle.lx_rules.specs.Points.{least_from, least_with, points_fault, replaced, up_to};
 
 use lx_base::{Enc, Fault, Pos, SurPolicy};
-use lx_token::Character;
+use lx_class::Range;
 
 const FIRST_SURROGATE: u32 = 0xD800;
 
@@ -25,48 +24,54 @@ fn greatest_point(enc: Enc) -> u32
     }
 }
 
-/// The lesser of a point and of the least one so far, where it lies between two bounds.
-fn least_with(low: u32, high: u32, point: u32, least: Option<u32>) -> Option<u32>
-    ensures { result ≡ least_with low high (record { lo = point; hi = point }) least }
+/// The lesser of the least point so far and of the least one of a range from a bound on.
+fn least_with(low: u32, range: Range, least: Option<u32>) -> Option<u32>
+    ensures { result ≡ least_with low range least }
 {
-    if point < low || high < point {
+    if range.hi < low {
         return least;
     }
+    let point = low.max(range.lo);
     match least {
         None => Some(point),
         Some(other) => Some(point.min(other)),
     }
 }
 
-/// The least point of the characters that lies between two bounds.
-fn least_within(low: u32, high: u32, characters: &[Character]) -> Option<u32>
-    ensures { result ≡ least_within low high (singles (points_of characters.now)) }
+/// The least point of the ranges from a bound on.
+fn least_from(low: u32, ranges: &[Range]) -> Option<u32>
+    ensures { result ≡ least_from low ranges.now }
 {
-    let mut rest = characters;
+    let mut rest = ranges;
     let mut least = None;
-    while let Some((character, front)) = rest.split_last() {
-        least = least_with(low, high, character.point, least);
+    while let Some((range, front)) = rest.split_last() {
+        least = least_with(low, *range, least);
         rest = front;
     }
     least
 }
 
-/// The fault of the characters of one token: a point that the encoding does not have, or a surrogate where these are
-/// refused. It names the least one.
-pub(crate) fn points_fault(
-    enc: Enc,
-    policy: SurPolicy,
-    at: Pos,
-    characters: &[Character],
-) -> Option<Fault>
-    ensures { result ≡ points_fault enc policy at (singles (points_of characters.now)) }
+/// The point, where it is not past a bound.
+fn up_to(high: u32, point: Option<u32>) -> Option<u32>
+    ensures { result ≡ up_to high point }
 {
-    if let Some(point) = least_within(greatest_point(enc) + 1, u32::MAX, characters) {
+    match point {
+        Some(point) if point <= high => Some(point),
+        _ => None,
+    }
+}
+
+/// The fault of the ranges of one token: a point that the encoding does not have, or a surrogate where these are refused. It
+/// names the least one.
+pub(crate) fn points_fault(enc: Enc, policy: SurPolicy, at: Pos, ranges: &[Range]) -> Option<Fault>
+    ensures { result ≡ points_fault enc policy at ranges.now }
+{
+    if let Some(point) = least_from(greatest_point(enc) + 1, ranges) {
         return Some(Fault::CodePoint { at, point });
     }
     match policy {
         SurPolicy::Ignore | SurPolicy::Substitute => None,
-        SurPolicy::Fail => match least_within(FIRST_SURROGATE, LAST_SURROGATE, characters) {
+        SurPolicy::Fail => match up_to(LAST_SURROGATE, least_from(FIRST_SURROGATE, ranges)) {
             Some(point) => Some(Fault::Surrogate { at, point }),
             None => None,
         },

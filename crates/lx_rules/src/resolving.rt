@@ -84,7 +84,8 @@ impl Known {
     ghost use Rattle.std.specs.Prelude.{◌≡◌, ◌≤◌, ◌<◌, suc, length, MatchResult, OnOk};
     ghost use Rattle.lx_parse.specs.Ranges.{HasExpressions};
     ghost use Rattle.lx_rules.specs.Items.{State, ItemChecks};
-    ghost use Rattle.lx_rules.specs.Keeping.{Holds, IsTaken, StopsAt};
+    ghost use Rattle.lx_rules.specs.Checks.{StopsAt};
+    ghost use Rattle.lx_rules.specs.Keeping.{Holds, IsTaken};
     ghost use Rattle.lx_rules.specs.Lexemes.{sorts_at};
     ghost use Rattle.lx_rules.specs.Seen.{lexemes_view};
     ghost use Rattle.lx_rules.specs.Soundness.{IsSound};

@@ -5,9 +5,9 @@ ghost use Rattle.lx_regex.specs.Pattern as regex;
 ghost use Rattle.lx_rules.specs.Items.{act_of};
 ghost use Rattle.lx_rules.specs.Seen.{lexemes_view};
 
-use crate::expressions::{Reading, sum};
 use crate::heads::Head;
 use crate::items::{Block, DefaultRule, Known, text, waits};
+use crate::reading::{Reading, sum};
 use crate::resolved::Act;
 use lx_base::{Fault, Memory, Pos, Sequence, Stop};
 use lx_regex::{Expr, Kind, Rule};
@@ -58,7 +58,8 @@ impl Known {
     ghost use Rattle.lx_base.specs.declared.places.Pos.{Pos};
     ghost use Rattle.lx_rules.specs.declared.heads.Head.TheVariants as head;
     ghost use Rattle.lx_rules.specs.Items.{RuleOf, State, ItemChecks};
-    ghost use Rattle.lx_rules.specs.Keeping.{AddsPlain, Holds, IsNew, IsSoundHead, IsTaken, StopsAt, room_behind, with_rule};
+    ghost use Rattle.lx_rules.specs.Keeping.{AddsPlain, Holds, IsNew, IsSoundHead, IsTaken, room_behind, with_rule};
+    ghost use Rattle.lx_rules.specs.Checks.{StopsAt};
     ghost use Rattle.lx_rules.specs.Lexemes.{sorts_at};
     ghost use Rattle.lx_rules.specs.Seen.{lexemes_view};
     ghost use Rattle.lx_rules.specs.Soundness.{IsHonest, IsSound};
@@ -76,7 +77,7 @@ impl Known {
         let room = self.room();
         self.size = sum(self.size, reading.size);
         self.nesting = self.nesting.max(reading.nesting);
-        match reading.into_expr(room) {
+        match reading.into_expr(alloc, room) {
             None => Ok(()),
             Some(expr) => {
                 self.rules

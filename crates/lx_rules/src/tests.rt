@@ -1,4 +1,6 @@
 //! Worked blocks: what they resolve to, and where they are refused.
+mod classes;
+
 use super::*;
 use lx_base::{BlockKind, EmptyPolicy, Enc, Fault, FileName, Job, Options, Pos, Stop, SurPolicy};
 use lx_parse::parse;
@@ -42,6 +44,8 @@ fn name_of(fault: &Fault) -> &'static str {
         Fault::Redefined { .. } => "redefined",
         Fault::CodePoint { .. } => "code point",
         Fault::Surrogate { .. } => "surrogate",
+        Fault::NotClass { .. } => "not a class",
+        Fault::EmptyClass { .. } => "empty class",
         Fault::UnknownConfig { .. } => "unknown configuration",
         Fault::BadValue { .. } => "bad value",
         Fault::TooManyParts { .. } => "too many parts",
@@ -153,7 +157,10 @@ fn faults_stand_at_their_tokens(rt: HostRuntime) -> Result<(), Fail> {
         ("re2c:eof = 0;", "unsupported at 1:1"),
         ("re2c:yyfill:enable = 2;", "bad value at 1:22"),
         ("re2c:yyfill:enable = 'x';", "unsupported at 1:22"),
-        ("\"a\" [b] { }", "unsupported at 1:5"),
+        ("\"a\" | [b] { }", "unsupported at 1:5"),
+        ("(\"a\") { }", "unsupported at 1:1"),
+        ("[a]+ { }", "unsupported at 1:4"),
+        ("\"ab\" \\ [b] | \"c\" { }", "not a class at 1:6"),
         ("\"a\"* { }", "unsupported at 1:4"),
         ("\"a\" / x { }", "unsupported at 1:5"),
         ("x / \"a\" { }", "unknown name at 1:1"),
@@ -172,8 +179,8 @@ fn the_first_of_two_faults_is_told(rt: HostRuntime) -> Result<(), Fail> {
     let alloc = rt.alloc();
     let options = options(alloc, Enc::Byte, SurPolicy::Ignore)?;
     for (body, want) in [
-        ("x { } [a] { }", "unknown name at 1:1"),
-        ("[a] { } x { }", "unsupported at 1:1"),
+        ("x { } [a]* { }", "unknown name at 1:1"),
+        ("[a]* { } x { }", "unsupported at 1:4"),
         ("\"\\u0100\" x { }", "code point at 1:1"),
         ("x \"\\u0100\" { }", "unknown name at 1:1"),
         ("x = \"a\"; x = y;", "redefined at 1:10"),

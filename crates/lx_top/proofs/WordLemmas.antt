@@ -1,12 +1,11 @@
 -- Words that are read ask for no compilation but such as there is so far.
-use Rattle.std.proofs.Common.{◌≡◌, ℕ, Bool, true, false, List, Option, Some, None, refl, ap, rules}
-use Rattle.std.specs.Prelude.{codes, ◌+◌, ◌||◌, ◌&&◌, nat_lt, not, is_some, if◌then◌else◌}
+use Rattle.std.proofs.Common.{◌≡◌, ℕ, Bool, true, false, List, Option, Some, None, refl, ap}
+use Rattle.std.specs.Prelude.{codes, ◌||◌, ◌&&◌, not, is_some, if◌then◌else◌}
 use Rattle.lx_base.specs.declared.faults.Fault.TheVariants.{Unsupported, Usage}
-use Rattle.lx_base.specs.declared.settings.Enc.TheVariants.{Byte, Ucs2, Utf8, Utf16, Utf32}
 use Rattle.lx_compile.specs.Options.{ArePlain}
 use Rattle.lx_words.specs.Line.{Line, has_flag, has_value, is_refused, line_of, value}
 use Rattle.lx_words.specs.Options.{job_by, number_of, options_of, words_fault}
-use Rattle.lx_words.specs.Points.{encoding_count, is_wrong, one_if}
+use Rattle.lx_words.specs.Points.{is_wrong}
 use Rattle.lx_words.specs.Waiting.{compiles, waits}
 use Rattle.lx_top.specs.Jobs.{IsPlainWhere, job_of, options_for}
 
@@ -24,37 +23,24 @@ or-none : (one two : Bool) → (one || two) ≡ false → (one ≡ false) × (tw
 or-none true two is = absurd (let h = is in cc)
 or-none false two is = (refl, is)
 
--- no encoding is asked for
-encoding-none : (one two three four : Bool) → nat_lt 0 (one_if one + one_if two + one_if three + one_if four) ≡ false
-    → (if one then Utf8 else if two then Utf16 else if three then Utf32 else if four then Ucs2 else Byte) ≡ Byte
-encoding-none false false false false is = refl
-encoding-none true two three four is = absurd (search rules)
-encoding-none false true three four is = absurd (search rules)
-encoding-none false false true four is = absurd (search rules)
-encoding-none false false false true is = absurd (let h = is in cc)
-
 -- what the flags of a line say where it asks for nothing that waits
-record Waits (conditions states tags captures encoded source compiled shown : Bool) : Type 0 where
+record Waits (conditions states tags captures source compiled shown : Bool) : Type 0 where
   pub conditions_off : conditions ≡ false
   pub states_off : states ≡ false
   pub tags_off : tags ≡ false
   pub captures_off : captures ≡ false
-  pub encoded_off : encoded ≡ false
   pub source_off : source ≡ false
   pub compiled_shown : (compiled && not shown) ≡ false
 
-none_waits : (conditions states reusable tags captures encoded policy empty folder source window piece compiled shown : Bool)
-    → (conditions || (states || (reusable || (tags || (captures || (encoded || (policy || (empty || (folder || (source || (window || (piece || (compiled && not shown))))))))))))) ≡ false
-    → Waits conditions states tags captures encoded source compiled shown
-none_waits conditions states reusable tags captures encoded policy empty folder source window piece compiled shown none =
+none_waits : (conditions states reusable tags captures folder source window piece compiled shown : Bool)
+    → (conditions || (states || (reusable || (tags || (captures || (folder || (source || (window || (piece || (compiled && not shown)))))))))) ≡ false
+    → Waits conditions states tags captures source compiled shown
+none_waits conditions states reusable tags captures folder source window piece compiled shown none =
     let states_on = or-none conditions _ none in
     let reusable_on = or-none states _ states_on.1 in
     let tags_on = or-none reusable _ reusable_on.1 in
     let captures_on = or-none tags _ tags_on.1 in
-    let encoded_on = or-none captures _ captures_on.1 in
-    let policy_on = or-none encoded _ encoded_on.1 in
-    let empty_on = or-none policy _ policy_on.1 in
-    let folder_on = or-none empty _ empty_on.1 in
+    let folder_on = or-none captures _ captures_on.1 in
     let source_on = or-none folder _ folder_on.1 in
     let window_on = or-none source _ source_on.1 in
     let piece_on = or-none window _ window_on.1 in
@@ -63,8 +49,7 @@ none_waits conditions states reusable tags captures encoded policy empty folder 
       conditions_off = states_on.0;
       states_off = reusable_on.0;
       tags_off = captures_on.0;
-      captures_off = encoded_on.0;
-      encoded_off = policy_on.0;
+      captures_off = folder_on.0;
       source_off = window_on.0;
       compiled_shown = last.1;
     }
@@ -74,9 +59,8 @@ plain_compiled : (line : Line) → waits line ≡ false → has_value line (code
 unfolding options_of
 plain_compiled line none no_run =
     let given = none_waits (has_flag line (codes "conditions")) (has_flag line (codes "storable-state")) (has_flag line (codes "reusable"))
-    (has_flag line (codes "tags")) (has_flag line (codes "captures")) (nat_lt 0 (encoding_count line)) (has_value line (codes "encoding-policy"))
-    (has_value line (codes "empty-class")) (has_value line (codes "include")) (has_value line (codes "x-source")) (has_value line (codes "x-window"))
-    (has_value line (codes "x-piece")) (compiles line) (has_flag line (codes "no-debug-info")) none in
+    (has_flag line (codes "tags")) (has_flag line (codes "captures")) (has_value line (codes "include")) (has_value line (codes "x-source"))
+    (has_value line (codes "x-window")) (has_value line (codes "x-piece")) (compiles line) (has_flag line (codes "no-debug-info")) none in
     record {
       lines = shown (has_value line (codes "x-run")) (has_value line (codes "x-source")) (has_flag line (codes "no-debug-info")) no_run given.source_off given.compiled_shown;
       conds = given.conditions_off;
@@ -84,7 +68,6 @@ plain_compiled line none no_run =
       tags = given.tags_off;
       captures = given.captures_off;
       posix = refl;
-      enc = encoding-none (has_flag line (codes "utf-8")) (has_flag line (codes "utf-16")) (has_flag line (codes "utf-32")) (has_flag line (codes "ucs-2")) given.encoded_off;
     }
   where
     shown : (run source flag : Bool) → run ≡ false → source ≡ false → (not (run || source) && not flag) ≡ false → not flag ≡ false

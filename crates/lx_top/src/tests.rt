@@ -4,6 +4,8 @@ use lx_files::{Files, MemFiles, MemSink};
 use std::alloc::Global;
 use std::test::Fail;
 
+mod classes;
+mod encodings;
 mod sources;
 
 /// What a run left: the exit status, what was given to the standard output and to the standard error, and the files.

@@ -1,18 +1,16 @@
 -- What a command line may ask for that is not supported yet.
-use Rattle.std.specs.Prelude.{◌||◌, ◌&&◌, Bool, not, codes, nat_lt}
+use Rattle.std.specs.Prelude.{◌||◌, ◌&&◌, Bool, not, codes}
 use Rattle.lx_words.specs.Line.{Line, has_value, has_flag}
-use Rattle.lx_words.specs.Points.{encoding_count}
 
 -- whether a source is compiled, and neither a scanner run nor a source generated
 abbrev pub compiles : Line → Bool
 compiles line = not (has_value line (codes "x-run") || has_value line (codes "x-source"))
 
--- the line asks for conditions, stored states, reusable rules, tags or captures, for an encoding or a policy, for a folder of includes,
--- for a generated source or for a window, or compiles with line marks
+-- the line asks for conditions, stored states, reusable rules, tags or captures, for a folder of includes, for a generated source or
+-- for a window, or compiles with line marks
 abbrev pub waits : Line → Bool
 waits line =
     has_flag line (codes "conditions") || (has_flag line (codes "storable-state") || (has_flag line (codes "reusable")
-    || (has_flag line (codes "tags") || (has_flag line (codes "captures") || (nat_lt 0 (encoding_count line)
-    || (has_value line (codes "encoding-policy") || (has_value line (codes "empty-class") || (has_value line (codes "include")
+    || (has_flag line (codes "tags") || (has_flag line (codes "captures") || (has_value line (codes "include")
     || (has_value line (codes "x-source") || (has_value line (codes "x-window") || (has_value line (codes "x-piece")
-    || (compiles line && not (has_flag line (codes "no-debug-info"))))))))))))))
+    || (compiles line && not (has_flag line (codes "no-debug-info")))))))))))

@@ -159,9 +159,6 @@ pub fn waits(line: &ArgMatches<'_>) -> bool
         || has_flag(line, "reusable")
         || has_flag(line, "tags")
         || has_flag(line, "captures")
-        || encoding_count(line) > 0
-        || has_value(line, "encoding-policy")
-        || has_value(line, "empty-class")
         || has_value(line, "include")
         || has_value(line, "x-source")
         || has_value(line, "x-window")

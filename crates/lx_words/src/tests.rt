@@ -104,13 +104,7 @@ fn lines_for_later_are_refused_as_such(rt: HostRuntime) -> Result<(), Fail> {
         "-i -r a.re",
         "-i -T a.re",
         "-i --captures a.re",
-        "-i -8 a.re",
-        "-i -x a.re",
-        "-i -u a.re",
-        "-i -w a.re",
         "-i -I dir a.re",
-        "-i --encoding-policy ignore a.re",
-        "-i --empty-class match-empty a.re",
         "--x-source 2 -o g.c",
         "--x-run in.txt --x-window 5 q.c",
         "--x-run in.txt --x-piece 1 q.c",
@@ -183,6 +177,65 @@ fn lines_are_read(rt: HostRuntime) -> Result<(), Fail> {
                     options.empty == EmptyPolicy::MatchEmpty && !options.tags,
                     "{line}"
                 );
+            }
+            Err(_) => assert!(rt; false, "{line}"),
+        }
+    }
+    Ok(())
+}
+
+#[test]
+fn encodings_and_policies_are_read(rt: HostRuntime) -> Result<(), Fail> {
+    let (enc, surrogates, empty) = (Enc::Byte, SurPolicy::Ignore, EmptyPolicy::MatchEmpty);
+    for (line, enc, surrogates, empty) in [
+        ("-i -8 a.re", Enc::Utf8, surrogates, empty),
+        ("-i -x a.re", Enc::Utf16, surrogates, empty),
+        ("-i -u a.re", Enc::Utf32, surrogates, empty),
+        ("-i -w a.re", Enc::Ucs2, surrogates, empty),
+        ("--utf-8 -i8 a.re", Enc::Utf8, surrogates, empty),
+        ("-i a.re --utf-16", Enc::Utf16, surrogates, empty),
+        (
+            "-i --encoding-policy ignore a.re",
+            enc,
+            SurPolicy::Ignore,
+            empty,
+        ),
+        (
+            "-ix --encoding-policy=substitute a.re",
+            Enc::Utf16,
+            SurPolicy::Substitute,
+            empty,
+        ),
+        (
+            "-i8 --encoding-policy fail a.re",
+            Enc::Utf8,
+            SurPolicy::Fail,
+            empty,
+        ),
+        (
+            "-i --empty-class match-empty a.re",
+            enc,
+            surrogates,
+            EmptyPolicy::MatchEmpty,
+        ),
+        (
+            "-i --empty-class match-none a.re",
+            enc,
+            surrogates,
+            EmptyPolicy::MatchNone,
+        ),
+        (
+            "-iw --empty-class=error a.re",
+            Enc::Ucs2,
+            surrogates,
+            EmptyPolicy::Error,
+        ),
+    ] {
+        match read(rt.alloc(), line)? {
+            Ok(options) => {
+                assert_eq!(rt; options.enc, enc, "{line}");
+                assert_eq!(rt; options.surrogates, surrogates, "{line}");
+                assert_eq!(rt; options.empty, empty, "{line}");
             }
             Err(_) => assert!(rt; false, "{line}"),
         }

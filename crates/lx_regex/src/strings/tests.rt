@@ -1,3 +1,5 @@
+ghost use Rattle.std.specs.Prelude.{◌≤◌};
+
 use super::*;
 
 fn rule(alloc: Global, number: u32, kind: Kind, expr: Expr) -> Rule {
@@ -11,13 +13,20 @@ fn rule(alloc: Global, number: u32, kind: Kind, expr: Expr) -> Rule {
     }
 }
 
+/// The class of one code point.
+fn character(alloc: Global, point: u32) -> Result<Expr, Memory>
+    requires { point ≤ 0x10FFFF }
+{
+    Ok(Expr::Class(ClassSet::range(alloc, point, point)?))
+}
+
 /// `"a" ("b" "")`, nested in one another.
 fn nested(alloc: Global) -> Result<Expr, Memory> {
     let mut inner = Vec::new(alloc);
-    inner.push(Expr::Unit(98))?;
+    inner.push(character(alloc, 98)?)?;
     inner.push(Expr::Empty)?;
     let mut outer = Vec::new(alloc);
-    outer.push(Expr::Unit(97))?;
+    outer.push(character(alloc, 97)?)?;
     outer.push(Expr::Cat(inner))?;
     Ok(Expr::Cat(outer))
 }
@@ -61,12 +70,26 @@ fn the_default_rule_stands_last(rt: HostRuntime) {
 #[test]
 fn any_unit_in_a_sequence_is_no_string(rt: HostRuntime) {
     let mut members = Vec::new(rt.alloc());
-    assert!(rt; members.push(Expr::Unit(97)).is_ok());
+    let letter = character(rt.alloc(), 97).expect(&rt, "memory");
+    assert!(rt; members.push(letter).is_ok());
     assert!(rt; members.push(Expr::AnyUnit).is_ok());
     let mut rules = Vec::new(rt.alloc());
     assert!(rt;
         rules
             .push(rule(rt.alloc(), 1, Kind::Plain, Expr::Cat(members)))
+            .is_ok()
+    );
+    let found = strings_of(rt.alloc(), rules.as_slice()).expect(&rt, "memory");
+    assert!(rt; found.is_none());
+}
+
+#[test]
+fn a_class_of_two_points_is_no_string(rt: HostRuntime) {
+    let class = ClassSet::range(rt.alloc(), 97, 98).expect(&rt, "memory");
+    let mut rules = Vec::new(rt.alloc());
+    assert!(rt;
+        rules
+            .push(rule(rt.alloc(), 1, Kind::Plain, Expr::Class(class)))
             .is_ok()
     );
     let found = strings_of(rt.alloc(), rules.as_slice()).expect(&rt, "memory");

@@ -7,4 +7,4 @@ use Rattle.lx_compile.proofs.blocks.are_supported.Goals as goal
 pub returns : goal.returns
 returns c =
     let all = rw (take_all c.loop-scanner.scanner-index c.args.resolved.now.scanners (omega (arith, ap length c.as_slice-scanner-items.ensures))) at c.loop-scanner.invariant in
-    ((λ _. recursion_from_All (IsSupported c.args.resolved.now.config) c.args.resolved.now.scanners all), (λ _. search rules))
+    ((λ _. recursion_from_All (IsSupported c.args.enc c.args.resolved.now.config) c.args.resolved.now.scanners all), (λ _. search rules))

@@ -4,4 +4,4 @@ use Rattle.lx_compile.specs.Blocks.{IsSupported}
 use Rattle.lx_compile.proofs.blocks.are_supported.Given as goal
 
 abbrev pub invariant-loop-scanner : goal.invariant-loop-scanner
-invariant-loop-scanner l = All (IsSupported l.resolved.config) (take l.scanner-index l.resolved.scanners)
+invariant-loop-scanner l = All (IsSupported l.enc l.resolved.config) (take l.scanner-index l.resolved.scanners)

@@ -6,6 +6,7 @@ use Rattle.lx_compile.proofs.emission.emit.Goals.{in-Outside+in_ok-extend_from_s
 
 pub loop-part-preserved : goal.loop-part-preserved
 loop-part-preserved c =
+    let enc = c.args.enc in
     let parts = c.args.parts.now in
     let i = c.loop-part.part-index in
     let number = c.loop-part.number in
@@ -16,20 +17,21 @@ loop-part-preserved c =
       | in-Outside+in_ok-extend_from_slice-in-Outside w ↦ record {
         texts =
             rw (w.number-is, w.output-is, w.in_ok-extend_from_slice-in-Outside.ensures.items, w.as_slice.ensures)
-            (HasTexts-outside parts (drop (i + 1) parts) number output w.in-Outside.text (rw w.in-Outside.is at texts));
+            (HasTexts-outside enc parts (drop (i + 1) parts) number output w.in-Outside.text (rw w.in-Outside.is at texts));
         small = omega arith;
       }
       | in-Block+in_ok-append_block-in-Block w ↦ let text = w.in_ok-append_block-in-Block.ensures in record {
         texts =
             rw (w.number-is, w.output-is, text.2)
-            (HasTexts-block parts (drop (i + 1) parts) number output text.0 w.in-Block.at w.in-Block.resolved (rw w.in-Block.is at texts) text.1);
+            (HasTexts-block enc parts (drop (i + 1) parts) number output text.0 w.in-Block.at w.in-Block.resolved (rw w.in-Block.is at texts) text.1);
         small = omega arith;
       }
     ]
 
 pub returns : goal.returns
 returns c =
+    let enc = c.args.enc in
     let parts = c.args.parts.now in
     let i = c.loop-part.part-index in
     let ended : length parts ≤ i = omega arith in
-    HasTexts-end parts c.loop-part.number c.loop-part.output.items (rw (drop_of_length-le parts ended) at c.loop-part.invariant.texts)
+    HasTexts-end enc parts c.loop-part.number c.loop-part.output.items (rw (drop_of_length-le parts ended) at c.loop-part.invariant.texts)

@@ -4,6 +4,6 @@ use Rattle.lx_compile.proofs.emission.emit.Given as goal
 
 abbrev pub invariant-loop-part : goal.invariant-loop-part
 invariant-loop-part l = record {
-  texts : HasTexts l.parts (drop l.part-index l.parts) l.number l.output.items;
+  texts : HasTexts l.enc l.parts (drop l.part-index l.parts) l.number l.output.items;
   small : l.number ≤ 1 + l.part-index;
 }

@@ -3,4 +3,4 @@ use Rattle.lx_compile.specs.Parts.{HasTooLarge}
 use Rattle.lx_compile.proofs.kernels.has_too_large.Given as goal
 
 abbrev pub invariant-loop-scanner : goal.invariant-loop-scanner
-invariant-loop-scanner l = HasTooLarge (take l.scanner-index l.resolved.scanners) → ⊥
+invariant-loop-scanner l = HasTooLarge l.enc (take l.scanner-index l.resolved.scanners) → ⊥

@@ -1,15 +1,18 @@
 use Rattle.std.proofs.Common.{◌≡◌, ◌+◌, suc, arith, subst, true, false}
 use Rattle.lx_regex.specs.Strings.{Appends}
-use Rattle.lx_regex.proofs.StringLists.{HasAppended, appends-empty, appends-unit, appends-none, appends-all, appended-more}
+use Rattle.lx_regex.proofs.StringLists.{HasAppended, appends-empty, appends-class, appends-many, appends-none, appends-all, appended-more}
 use Rattle.lx_regex.proofs.strings.+append_characters.Goals as goal
 
 pub returns-in-Empty : goal.returns-in-Empty
 returns-in-Empty t c = appends-empty c.args.expr.now c.args.text.now.items c.in-Empty.is
 
-pub returns-in_ok-push-in-Unit : goal.returns-in_ok-push-in-Unit
-returns-in_ok-push-in-Unit t c =
-    appends-unit c.args.expr.now c.in-Unit.point c.args.text.now.items c.push.new.self.items c.in-Unit.is
-    c.in_ok-push-in-Unit.ensures.items
+pub returns-in_ok-push-in-Some : goal.returns-in_ok-push-in-Some
+returns-in_ok-push-in-Some t c =
+    appends-class c.args.expr.now c.in-Class.set c.in-Some.point c.args.text.now.items c.push.new.self.items c.in-Class.is
+    c.in-Some.ensures c.in_ok-push-in-Some.ensures.items
+
+pub returns-in-None : goal.returns-in-None
+returns-in-None t c = appends-many c.args.expr.now c.in-Class.set c.args.text.now.items c.args.text.now.items c.in-Class.is c.in-None.ensures
 
 pub returns-then-not-branch : goal.returns-then-not-branch
 returns-then-not-branch t c =

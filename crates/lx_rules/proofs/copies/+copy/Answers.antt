@@ -1,33 +1,51 @@
 use Rattle.std.proofs.Common.{◌≡◌, ◌∙◌, ap, sym, suc, ◌+◌, arith, map}
 use Rattle.std.proofs.lemmas.List.{take_all}
 use Rattle.lx_regex.specs.Expr.{size_of, term_of}
-use Rattle.lx_rules.proofs.MemberCopies.{map-copies, cat-copies, size-copies}
+use Rattle.lx_rules.proofs.MemberCopies.{map-copies, cat-copies, alt-copies, rep-copies, group-copies}
 use Rattle.lx_rules.proofs.copies.+copy.Goals as goal
 
-pub loop-member-preserved : goal.loop-member-preserved
-loop-member-preserved t c =
+pub copy_members-loop-member-preserved : goal.copy_members-loop-member-preserved
+copy_members-loop-member-preserved t c =
     let next : c.loop-member.member-index + 1 ≡ suc c.loop-member.member-index = omega arith in
-    let members = c.deref-member-items.result.now in
+    let members = c.args.members.now in
     let place = c.loop-member.member-index in
-    let pushed = c.in_ok-push-in-Cat.ensures.items in
-    let copy = c.in_ok-copy-in-Cat.field-0 in record {
+    let pushed = c.in_ok-push.ensures.items in
+    let copy = c.in_ok-copy.field-0 in record {
       terms = λ tags.
-          rw (next)
+          rw next
           (map-copies (term_of tags) place members c.loop-member.copies.items c.push.new.self.items c.member-item.result copy c.loop-member-test.true
-          c.member-item.is pushed (c.in_ok-copy-in-Cat.ensures.term tags) (c.loop-member.invariant.terms tags));
+          c.member-item.is pushed (c.in_ok-copy.ensures.term tags) (c.loop-member.invariant.terms tags));
       sizes =
-          rw (next)
+          rw next
           (map-copies size_of place members c.loop-member.copies.items c.push.new.self.items c.member-item.result copy c.loop-member-test.true
-          c.member-item.is pushed c.in_ok-copy-in-Cat.ensures.size c.loop-member.invariant.sizes);
+          c.member-item.is pushed c.in_ok-copy.ensures.size c.loop-member.invariant.sizes);
     }
 
-pub returns-after-loop-member : goal.returns-after-loop-member
-returns-after-loop-member t c =
-    let all = take_all c.loop-member.member-index c.deref-member-items.result.now c.loop-member-test.false ∙ c.deref-member-items.ensures.value in record {
-      term = λ tags.
-          cat-copies tags c.in-Cat.members c.loop-member.copies (c.loop-member.invariant.terms tags ∙ ap (map (term_of tags)) all)
-          ∙ ap (term_of tags) (sym c.in-Cat.is);
-      size =
-          size-copies c.in-Cat.members c.loop-member.copies (c.loop-member.invariant.sizes ∙ ap (map size_of) all)
-          ∙ ap size_of (sym c.in-Cat.is);
-    }
+pub copy_members-returns-clause-terms : goal.copy_members-returns-clause-terms
+copy_members-returns-clause-terms t c tags =
+    c.loop-member.invariant.terms tags
+    ∙ ap (map (term_of tags)) (take_all c.loop-member.member-index c.args.members.now c.loop-member-test.false)
+
+pub copy-returns-in_ok-copy_members-in-Cat-clause-term : goal.copy-returns-in_ok-copy_members-in-Cat-clause-term
+copy-returns-in_ok-copy_members-in-Cat-clause-term t c tags =
+    cat-copies tags c.in_ok-copy_members-in-Cat.field-0 c.in-Cat.members
+    (c.in_ok-copy_members-in-Cat.ensures.terms tags ∙ ap (map (term_of tags)) c.deref.ensures.value)
+    ∙ ap (term_of tags) (sym c.in-Cat.is)
+
+pub copy-returns-in_ok-copy_members-in-Alt-clause-term : goal.copy-returns-in_ok-copy_members-in-Alt-clause-term
+copy-returns-in_ok-copy_members-in-Alt-clause-term t c tags =
+    alt-copies tags c.in_ok-copy_members-in-Alt.field-0 c.in-Alt.members
+    (c.in_ok-copy_members-in-Alt.ensures.terms tags ∙ ap (map (term_of tags)) c.deref-in-Alt.ensures.value)
+    ∙ ap (term_of tags) (sym c.in-Alt.is)
+
+pub copy-returns-in_ok-body-in-Rep-clause-term : goal.copy-returns-in_ok-body-in-Rep-clause-term
+copy-returns-in_ok-body-in-Rep-clause-term t c tags =
+    rep-copies tags c.in_ok-body-in-Rep.body c.in-Rep.body c.in-Rep.low c.in-Rep.high
+    (ap (term_of tags) c.in_ok-body-in-Rep.ensures.ok ∙ c.in_ok-copy-in-Rep.ensures.term tags ∙ ap (term_of tags) c.deref-in-Rep.ensures)
+    ∙ ap (term_of tags) (sym c.in-Rep.is)
+
+pub copy-returns-in_ok-body-in-Group-clause-term : goal.copy-returns-in_ok-body-in-Group-clause-term
+copy-returns-in_ok-body-in-Group-clause-term t c tags =
+    group-copies tags c.in-Group.number c.in_ok-body-in-Group.body c.in-Group.body
+    (ap (term_of tags) c.in_ok-body-in-Group.ensures.ok ∙ c.in_ok-copy-in-Group.ensures.term tags ∙ ap (term_of tags) c.deref-in-Group.ensures)
+    ∙ ap (term_of tags) (sym c.in-Group.is)

@@ -5,7 +5,7 @@ use Rattle.lx_parse.specs.Sorts.{sorts_of}
 use Rattle.lx_parse.proofs.Reading.{few_spans}
 use Rattle.lx_rules.specs.Blocks.{BlockChecks, Resolves, StopsWith}
 use Rattle.lx_rules.specs.Finishing.{IsFinished}
-use Rattle.lx_rules.specs.Keeping.{StopsAt}
+use Rattle.lx_rules.specs.Checks.{StopsAt}
 use Rattle.lx_rules.specs.Lexemes.{lexemes_of, sorts_at}
 use Rattle.lx_rules.specs.Items.{Goes, first_state}
 use Rattle.lx_rules.specs.Seen.{environment_view}

@@ -1,0 +1,13 @@
+pub mod BuiltCopies
+pub mod BuiltStates
+pub mod ClassLists
+pub mod FirstStates
+pub mod MemberMoves
+pub mod Members
+pub mod OnePlace
+pub mod PlaceSteps
+pub mod RuleLists
+pub mod RuleTagLists
+pub mod TagBounds
+pub mod TagMerges
+pub mod WholeTable

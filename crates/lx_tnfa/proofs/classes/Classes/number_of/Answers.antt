@@ -1,0 +1,14 @@
+use Rattle.std.proofs.Common.{◌≡◌, sym, subst, arith, length}
+use Rattle.lx_encode.specs.Graph.{IsGraphOf}
+use Rattle.lx_tnfa.proofs.ClassLists.{classes_push, class_last}
+use Rattle.lx_tnfa.proofs.classes.Classes.number_of.Goals as goal
+
+pub returns-clause-sound : goal.returns-clause-sound
+returns-clause-sound c =
+    classes_push c.args.self.now.enc c.args.self.now.list.items c.push.new.self.items _ c.in_ok-push.ensures.items c.requires.sound
+    (subst (λ s. IsGraphOf c.args.self.now.enc s c.in_ok-graph.graph) (sym c.in_ok-set.ensures.ranges) c.in_ok-graph.ensures.graph)
+
+pub returns-clause-number : goal.returns-clause-number
+returns-clause-number c =
+    let count : c.len-number.result ≡ length c.args.self.now.list.items = omega (arith, c.len-number.ensures) in
+    class_last c.args.self.now.list.items c.push.new.self.items _ c.len-number.result c.args.set.now c.in_ok-push.ensures.items count c.in_ok-set.ensures.ranges

@@ -1,0 +1,10 @@
+use Rattle.std.proofs.Common.{◌≡◌, ◌++◌, take, drop, length}
+use Rattle.lx_tnfa.specs.TagLists.{remove_tag}
+use Rattle.lx_tnfa.proofs.tags.remove_tag.Given as goal
+
+abbrev pub invariant-loop-place : goal.invariant-loop-place
+invariant-loop-place l = record {
+  same : l.list.items ≡ l.fn.list.items;
+  so : remove_tag l.number l.list.items ≡ take l.place l.list.items ++ remove_tag l.number (drop l.place l.list.items);
+  end : l.place-end ≡ length l.list.items;
+}

@@ -1,0 +1,44 @@
+use Rattle.std.proofs.Common.{◌≡◌, ◌+◌, suc, sym, subst, arith}
+use Rattle.lx_regex.specs.Automaton.{automaton}
+use Rattle.lx_regex.specs.Limits.{IsWithinLimits}
+use Rattle.lx_regex.specs.Pattern.{patterns_of, terms_of}
+use Rattle.lx_tnfa.specs.Tnfa.{AllClassesFit}
+use Rattle.lx_tnfa.proofs.WholeTable.{RulesMade, made_begin, made_can, made_more, made_end, held_numbered}
+use Rattle.lx_tnfa.proofs.tnfa.Tnfa.of.Goals as goal
+
+pub loop-rule-init : goal.loop-rule-init
+loop-rule-init c =
+    let limits = subst IsWithinLimits (sym c.as_slice-rule-items.ensures) c.requires.limits in
+    let made = c.in_ok-making.ensures in
+    made_begin c.as_slice-rule-items.result.now c.in_ok-making.making limits made.classes made.owners made.rules
+
+pub add_rule-requires-clause-can : goal.add_rule-requires-clause-can
+add_rule-requires-clause-can c =
+    let rules = c.as_slice-rule-items.result.now in
+    let same = sym c.as_slice-rule-items.ensures in
+    made_can c.args.enc rules c.in_ok-making.making c.loop-rule.making c.loop-rule.rule-index c.rule-item.result c.loop-rule-test.true c.rule-item.is
+    (subst IsWithinLimits same c.requires.limits) (subst (λ l. AllClassesFit c.args.enc (terms_of (patterns_of l))) same c.requires.classes)
+    c.in_ok-making.ensures.enc c.loop-rule.invariant
+
+pub loop-rule-preserved : goal.loop-rule-preserved
+loop-rule-preserved c =
+    let rules = c.as_slice-rule-items.result.now in
+    let next : suc c.loop-rule.rule-index ≡ c.loop-rule.rule-index + 1 = omega arith in
+    subst
+    (RulesMade rules c.in_ok-making.making c.add_rule.new.self) next
+    (made_more rules c.in_ok-making.making c.loop-rule.making c.add_rule.new.self c.loop-rule.rule-index c.rule-item.result c.loop-rule-test.true
+    c.rule-item.is (subst IsWithinLimits (sym c.as_slice-rule-items.ensures) c.requires.limits) c.loop-rule.invariant c.in_ok-add_rule.ensures)
+
+pub invariant_of-result : goal.invariant_of-result
+invariant_of-result c =
+    let whole =
+    made_end c.args.enc c.as_slice-rule-items.result.now c.in_ok-making.making c.loop-rule.making c.loop-rule.rule-index c.loop-rule-test.false
+    c.in_ok-making.ensures.states c.in_ok-making.ensures.enc c.loop-rule.invariant in
+    held_numbered c.loop-rule.making.building.classes.list.items (automaton (terms_of (patterns_of c.as_slice-rule-items.result.now))) c.loop-rule.making.building.states.items whole.states
+
+pub returns : goal.returns
+returns c =
+    let whole =
+    made_end c.args.enc c.as_slice-rule-items.result.now c.in_ok-making.making c.loop-rule.making c.loop-rule.rule-index c.loop-rule-test.false
+    c.in_ok-making.ensures.states c.in_ok-making.ensures.enc c.loop-rule.invariant in
+    rw c.as_slice-rule-items.ensures at whole

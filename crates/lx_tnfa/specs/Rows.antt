@@ -1,0 +1,74 @@
+-- What the program holds of the states of an automaton.
+use Rattle.std.specs.Prelude.{◌≡◌, ℕ, ◌+◌, ◌*◌, ◌^◌, ◌<◌, ◌≤◌, List, [], ◌∷◌, ◌++◌, map, length}
+use Rattle.lx_base.specs.declared.settings.Enc.{Enc}
+use Rattle.lx_encode.specs.Policy.{FitsEncoding}
+use Rattle.lx_regex.specs.Automaton as spec
+use Rattle.lx_regex.specs.Automaton.{moves, leaf, unit_leaf}
+use Rattle.lx_regex.specs.PartList.{set_of}
+use Rattle.lx_regex.specs.Term.{Term, empty, class, any_unit, cat, alt, repeat, tag, group, Terms, nil, cons}
+use Rattle.lx_tnfa.specs.Classes.{AreClasses, HasClass}
+use Rattle.lx_tnfa.specs.Ends.{EndsFit, EndsFitAmong}
+use Rattle.lx_tnfa.specs.Moves.{shown_move}
+use Rattle.lx_tnfa.specs.declared.building.Building.{Building}
+use Rattle.lx_tnfa.specs.declared.classes.ClassGraph.{ClassGraph}
+use Rattle.lx_tnfa.specs.declared.states.State.{State}
+use Rattle.lx_tnfa.specs.declared.states.State.TheVariants.{Moves, Class, AnyUnit}
+
+-- what is held of a state: its moves, or for a leaf the number of its class
+abbrev pub IsHeld : List ClassGraph → spec.State → State → Type 0
+IsHeld classes (moves ways) (Moves held) = held ≡ map shown_move ways
+IsHeld classes (moves ways) (Class number) = ⊥
+IsHeld classes (moves ways) AnyUnit = ⊥
+IsHeld classes (leaf ranges) (Moves held) = ⊥
+IsHeld classes (leaf ranges) (Class number) = HasClass classes number (set_of ranges)
+IsHeld classes (leaf ranges) AnyUnit = ⊥
+IsHeld classes unit_leaf (Moves held) = ⊥
+IsHeld classes unit_leaf (Class number) = ⊥
+IsHeld classes unit_leaf AnyUnit = Unit {0}
+
+-- the same of states one by one
+abbrev pub AreHeld : List ClassGraph → List spec.State → List State → Type 0
+AreHeld classes [] [] = Unit {0}
+AreHeld classes [] (state ∷ states) = ⊥
+AreHeld classes (row ∷ rows) [] = ⊥
+AreHeld classes (row ∷ rows) (state ∷ states) = IsHeld classes row state × AreHeld classes rows states
+
+-- every point of a class of the term is one of the encoding
+abbrev mutual
+  pub ClassesFit : Enc → Term → Type 0
+  ClassesFit enc empty = Unit {0}
+  ClassesFit enc (class ranges) = FitsEncoding enc (set_of ranges)
+  ClassesFit enc any_unit = Unit {0}
+  ClassesFit enc (cat members) = ClassesFitAmong enc members
+  ClassesFit enc (alt members) = ClassesFitAmong enc members
+  ClassesFit enc (repeat body low high) = ClassesFit enc body
+  ClassesFit enc (tag number) = Unit {0}
+  ClassesFit enc (group opening closing body) = ClassesFit enc body
+
+  pub ClassesFitAmong : Enc → Terms → Type 0
+  ClassesFitAmong enc nil = Unit {0}
+  ClassesFitAmong enc (cons member members) = ClassesFit enc member × ClassesFitAmong enc members
+
+-- a term of which the states can be built: its group ends have 32 bits, and its classes fit the encoding
+abbrev pub IsBuildable : Enc → Term → Type 0
+IsBuildable enc e = EndsFit e × ClassesFit enc e
+
+abbrev pub AreBuildable : Enc → Terms → Type 0
+AreBuildable enc members = EndsFitAmong members × ClassesFitAmong enc members
+
+-- so many parts can be built from this part on
+pub record HasRoom (building : Building) (part count : ℕ) : Type 0 where
+  pub parts : part + count < 2 ^ 31
+  pub classes : length building.classes.list.items ≤ part
+  pub sound : AreClasses building.classes.enc building.classes.list.items
+
+-- these states came to those that were there
+pub record Builds (old new : Building) (rows : List spec.State) : Type 0 where
+  pub enc : new.classes.enc ≡ old.classes.enc
+  pub sound : AreClasses new.classes.enc new.classes.list.items
+  pub later : List ClassGraph
+  pub classes : new.classes.list.items ≡ old.classes.list.items ++ later
+  pub few : 2 * length later ≤ length rows
+  pub more : List State
+  pub states : new.states.items ≡ old.states.items ++ more
+  pub held : AreHeld new.classes.list.items rows more

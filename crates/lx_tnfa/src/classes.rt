@@ -1,0 +1,73 @@
+//! The classes of leaves, each with its graph.
+ghost use Rattle.std.specs.Prelude.{◌≡◌, ◌+◌, ◌<◌, ◌^◌, length, IfOk, IsTrue, OnOk, slice_get};
+ghost use Rattle.lx_encode.specs.Policy.{FitsEncoding};
+ghost use Rattle.lx_tnfa.specs.Classes.{AreClasses, HasClass, Adds};
+
+use lx_base::{Enc, Memory};
+use lx_class::{ClassSet, Range};
+use lx_encode::UnitGraph;
+use std::alloc::Global;
+use std::collections::HashMap;
+
+/// A class and its graph.
+#[derive(Debug, Drop)]
+pub(crate) struct ClassGraph {
+    pub set: ClassSet,
+    pub graph: UnitGraph,
+}
+
+/// The classes that were met, each once but for those whose digests collide.
+#[derive(Drop)]
+pub(crate) struct Classes {
+    /// The encoding of the graphs.
+    pub enc: Enc,
+    /// The classes, by their numbers.
+    pub list: Vec<ClassGraph>,
+    /// For a digest the number of a class that has it.
+    pub numbers: HashMap<u64, u32>,
+}
+
+/// A number by which classes are told apart quickly.
+fn digest(ranges: &[Range]) -> u64 {
+    let mut digest: u64 = 0xCBF2_9CE4_8422_2325;
+    for range in ranges {
+        digest = (digest ^ u64::from(range.lo)).wrapping_mul(0x100_0000_01B3);
+        digest = (digest ^ u64::from(range.hi)).wrapping_mul(0x100_0000_01B3);
+    }
+    digest
+}
+
+/// Whether the class with this number is this one.
+fn has_class(list: &[ClassGraph], number: u32, set: &ClassSet) -> bool
+    ensures { IsTrue result → HasClass list.now number set.now }
+{
+    match list.get(number as usize) {
+        Some(class) => class.set.ranges() == set.ranges(),
+        None => false,
+    }
+}
+
+impl Classes {
+    /// The number of a class, whose graph is made where it was not met before.
+    pub fn number_of(&mut self, alloc: Global, set: &ClassSet) -> Result<u32, Memory>
+        requires fits { FitsEncoding self.old.enc set.now }
+        requires sound { AreClasses self.old.enc self.old.list.items }
+        requires room { length self.old.list.items < 2 ^ 32 }
+        ensures adds { OnOk result (Adds self.old self.new 1) }
+        ensures sound { OnOk result (AreClasses self.new.enc self.new.list.items) }
+        ensures number { IfOk result (λ number. HasClass self.new.list.items number set.now) }
+    {
+        let digest = digest(set.ranges());
+        if let Some(number) = self.numbers.get(&digest).copied() {
+            if has_class(&self.list, number, set) {
+                return Ok(number);
+            }
+        }
+        let graph = UnitGraph::of(alloc, self.enc, set)?;
+        let number = self.list.len() as u32;
+        let set = set.copy(alloc)?;
+        self.list.push(ClassGraph { set, graph })?;
+        self.numbers.insert(digest, number)?;
+        Ok(number)
+    }
+}

@@ -1,0 +1,19 @@
+//! The tagged automaton of a rule list, with ordered moves.
+#![tactic(auto)]
+
+mod building;
+mod classes;
+mod counts;
+pub mod laws;
+mod making;
+mod places;
+mod states;
+mod tags;
+mod tnfa;
+
+pub use places::Place;
+pub use states::{Event, Move};
+pub use tnfa::Tnfa;
+
+#[cfg(test)]
+mod tests;

@@ -1,0 +1,153 @@
+//! The automaton of a rule list.
+ghost use Rattle.std.specs.Prelude.{◌≡◌, ◌↔◌, ◌∷◌, ℕ, ◌<◌, List, Some, length, IfOk, IsNone, IsSome, slice_index};
+ghost use Rattle.std.specs.List.Sorted.{IsStrictlyIncreasing};
+ghost use Rattle.lx_base.specs.Spelling.{greatest_unit};
+ghost use Rattle.lx_encode.specs.Graph.{Separates};
+ghost use Rattle.lx_regex.specs.Limits.{IsWithinLimits};
+ghost use Rattle.lx_regex.specs.Pattern.{patterns_of, terms_of};
+
+use crate::classes::ClassGraph;
+use crate::making::Making;
+use crate::places::Place;
+use crate::states::State;
+use lx_base::{Enc, Memory};
+use lx_encode::{Residual, greatest_unit};
+use lx_regex::RuleSet;
+use std::alloc::Global;
+use std::marker::Model;
+
+/// The number of a rule, and of each of its tags and group ends whether it is an m-tag.
+#[derive(Debug, Drop)]
+pub(crate) struct RuleTags {
+    pub number: u32,
+    pub many: Vec<bool>,
+}
+
+/// The tagged automaton of a rule list, for one encoding. State 2 p is the beginning of part p and state 2 p + 1 its end.
+///
+/// `IsTnfaOf` in `specs/Tnfa.antt` says what its states, their moves and its leaves are.
+#[derive(Drop)]
+pub struct Tnfa {
+    pub(crate) enc: Enc,
+    pub(crate) states: Vec<State>,
+    pub(crate) classes: Vec<ClassGraph>,
+    pub(crate) owners: Vec<u32>,
+    pub(crate) rules: Vec<RuleTags>,
+}
+
+impl Model for Tnfa {
+    ghost use Rattle.std.specs.Prelude.{map, length};
+    ghost use Rattle.lx_tnfa.specs.Tnfa as spec;
+    ghost use Rattle.lx_tnfa.specs.Tnfa.{AreNumbered};
+    ghost use Rattle.lx_tnfa.specs.declared.tnfa.RuleTags.{RuleTags};
+
+    ghost Value = { spec.Tnfa };
+
+    ghost view = { λ t. record {
+      enc = t.enc;
+      states = t.states.items;
+      classes = t.classes.items;
+      owners = t.owners.items;
+      rules = map (λ (rule : RuleTags). (rule.number, rule.many.items)) t.rules.items;
+    } };
+
+    ghost invariant = { λ t. AreNumbered (length t.classes.items) t.states.items };
+}
+
+impl Tnfa {
+    ghost use Rattle.lx_tnfa.specs.Tnfa.{AllClassesFit, FinishesPlace, IsPlace, IsTnfaOf, place_after, rest_after, sorts_for, state_at};
+
+    /// The automaton of a rule list within the limits of a scanner, of whose classes the encoding has each point.
+    pub fn of(alloc: Global, set: &RuleSet, enc: Enc) -> Result<Tnfa, Memory>
+        requires limits { IsWithinLimits set.now.rules }
+        requires classes { AllClassesFit enc (terms_of (patterns_of set.now.rules)) }
+        ensures { IfOk result (IsTnfaOf enc (patterns_of set.now.rules)) }
+    {
+        let mut making = Making::start(alloc, enc)?;
+        for rule in set.rules.as_slice() {
+            making.add_rule(alloc, rule)?;
+        }
+        let Making {
+            building,
+            owners,
+            rules,
+        } = making;
+        Ok(Tnfa {
+            enc,
+            states: building.states,
+            classes: building.classes.list,
+            owners,
+            rules,
+        })
+    }
+
+    /// The place in the same leaf after one more unit; nothing exactly where no units that begin with this one finish the leaf,
+    /// and always at the start. It takes no memory.
+    pub fn next(&self, place: &Place, unit: u32) -> Option<Place>
+        requires { IsPlace self.now place.now }
+        ensures next { result ≡ place_after self.now place.now unit }
+        ensures none { IsNone result ↔ ((units : List ℕ) → ¬ FinishesPlace self.now place.now (unit ∷ units)) }
+    {
+        match &self.states[2 * place.part as usize] {
+            State::Moves(_) => None,
+            State::Class(number) => {
+                let graph = &self.classes[*number as usize].graph;
+                let rest = graph.step(place.rest, unit)?;
+                Some(Place {
+                    part: place.part,
+                    rest,
+                })
+            }
+            State::AnyUnit => {
+                if place.rest != Residual(1) {
+                    return None;
+                }
+                Some(Place {
+                    part: place.part,
+                    rest: Residual(0),
+                })
+            }
+        }
+    }
+
+    /// The units at which `next` may change its answer, in order: for any two units without one of these that is greater than
+    /// the lesser and at most the greater it is the same. It takes no memory.
+    pub fn unit_cuts(&self, place: &Place) -> &[u32]
+        requires { IsPlace self.now place.now }
+        ensures sorted { IsStrictlyIncreasing result.now }
+        ensures separating { Separates result.now (rest_after self.now.classes (state_at self.now place.now) place.now.rest.0) }
+    {
+        match &self.states[2 * place.part as usize] {
+            State::Class(number) => self.classes[*number as usize].graph.cuts(place.rest),
+            State::Moves(_) | State::AnyUnit => &[],
+        }
+    }
+
+    /// The number of the rule of a part. It takes no memory.
+    pub fn rule_of(&self, part: u32) -> u32
+        requires { part < length self.now.owners }
+        ensures { result ≡ slice_index self.now.owners part }
+    {
+        self.owners[part as usize]
+    }
+
+    /// Of each tag number of a rule, the ends of its groups included, whether it is an m-tag. It takes no memory.
+    pub fn tags_of(&self, rule: u32) -> &[bool]
+        requires { IsSome (sorts_for self.now.rules rule) }
+        ensures { Some result.now ≡ sorts_for self.now.rules rule }
+    {
+        for known in &self.rules {
+            if known.number == rule {
+                return &known.many;
+            }
+        }
+        unreachable!()
+    }
+
+    /// The greatest code unit of the encoding. It takes no memory.
+    pub fn greatest(&self) -> u32
+        ensures { result ≡ greatest_unit self.now.enc }
+    {
+        greatest_unit(self.enc)
+    }
+}
