@@ -5,13 +5,13 @@ use Rattle.std.specs.Prelude.{nat_eq, nat_le, if◌then◌else◌}
 use Rattle.lx_base.specs.declared.settings.Enc.{Enc}
 use Rattle.lx_class.specs.declared.ranges.Range.{Range}
 use Rattle.lx_encode.specs.Policy.{FitsEncoding}
-use Rattle.lx_regex.specs.Automaton.{iteration_moves, moves_after, next_member, move}
+use Rattle.lx_regex.specs.Automaton.{iteration_moves, member_moves, moves_after, next_member, move}
 use Rattle.lx_regex.specs.Expr.{term_of}
 use Rattle.lx_regex.specs.Script.{may_iterate, tags_in, copy_part}
 use Rattle.lx_regex.specs.Term.{Term, copies, parts}
 use Rattle.lx_regex.specs.declared.expr.Expr.{Expr}
-use Rattle.lx_regex.specs.declared.expr.Expr.TheVariants.{Class, Cat, Rep}
-use Rattle.lx_regex.proofs.Folds.{term_of-class, term_of-cat, term_of-rep}
+use Rattle.lx_regex.specs.declared.expr.Expr.TheVariants.{Class, Cat, Alt, Rep}
+use Rattle.lx_regex.proofs.Folds.{term_of-class, term_of-cat, term_of-alt, term_of-rep}
 use Rattle.lx_regex.proofs.NoUnits.{terms_in}
 use Rattle.lx_regex.proofs.PartLists.{set_of-ranges_of}
 use Rattle.lx_tnfa.proofs.Members.{not_zero}
@@ -96,6 +96,12 @@ pub cat_held : (classes : List ClassGraph) (tags part : ℕ) (e : Expr) (members
 cat_held classes tags part e members to b ways is empty goes ways-are =
     for_form (λ t. IsHeld classes (first_state t part) (held.Moves ways)) tags e (Cat members) _ is (term_of-cat tags members)
     (ways-are ∙ ap (λ n. map shown_move (move None [] [] n ∷ [])) (sym (next_of members.items tags (part + 1) (2 * part + 1) to b empty goes)))
+
+pub alt_held : (classes : List ClassGraph) (tags part : ℕ) (e : Expr) (members : Vec Expr Global) (ways : List Move) → e ≡ Alt members
+    → ways ≡ map shown_move (member_moves (terms_in tags members.items) 0 (part + 1) (λ tags. tags))
+    → IsHeld classes (first_state (term_of tags e) part) (held.Moves ways)
+alt_held classes tags part e members ways is ways-are =
+    for_form (λ t. IsHeld classes (first_state t part) (held.Moves ways)) tags e (Alt members) _ is (term_of-alt tags members) ways-are
 
 pub rep_held : (classes : List ClassGraph) (tags : ℕ) (e : Expr) (body : Box Expr Global) (r : Repeat) (unset : List ℕ) (ways : List Move)
     → e ≡ Rep body r.low r.high → r.size ≡ counted_size r.low r.high (term_of tags body.value)

@@ -8,6 +8,7 @@ pub mod OnePlace
 pub mod PlaceSteps
 pub mod RuleLists
 pub mod RuleTagLists
+pub mod ShapeFacts
 pub mod TagBounds
 pub mod TagMerges
 pub mod WholeTable

@@ -1,14 +1,12 @@
 -- What holds of all members holds of each.
-use Rattle.std.proofs.Common.{◌≡◌, ℕ, zero, suc, ◌+◌, ◌*◌, ◌<◌, ◌≤◌, arith, Bool, true, false, List, [], ◌∷◌, length, get_or, drop, refl, sym, ap, ◌∙◌, subst}
+use Rattle.std.proofs.Common.{◌≡◌, ℕ, zero, suc, ◌+◌, ◌<◌, arith, Bool, true, false, List, [], ◌∷◌, length, get_or, drop, refl, sym, ap, subst}
 use Rattle.std.proofs.lemmas.Bool.{eqb-true}
 use Rattle.std.specs.Prelude.{nat_eq}
 use Rattle.lx_regex.specs.Expr.{term_of}
-use Rattle.lx_regex.specs.Script.{merge_tags, tags_in, tags_among}
 use Rattle.lx_regex.specs.Term.{parts, parts_of_all}
 use Rattle.lx_regex.specs.declared.expr.Expr.{Expr}
 use Rattle.lx_regex.proofs.NoUnits.{terms_in, next_member}
 use Rattle.lx_tnfa.specs.Ends.{EndsFit, EndsFitAmong}
-use Rattle.lx_tnfa.proofs.TagMerges.{merge_more}
 
 pub ends_at : (tags : ℕ) (members : List Expr) (i : ℕ) (member : Expr) → i < length members → member ≡ get_or members i member
     → EndsFitAmong (terms_in tags members) → EndsFit (term_of tags member)
@@ -16,24 +14,10 @@ ends_at tags [] i member lt is fit = absurd (omega arith)
 ends_at tags (x ∷ members) zero member lt is fit = subst (λ y. EndsFit (term_of tags y)) (sym is) fit.0
 ends_at tags (x ∷ members) (suc i) member lt is fit = ends_at tags members i member (omega arith) is fit.1
 
--- the tags of one member more
-pub tags_next : (tags : ℕ) (members : List Expr) (i : ℕ) (member : Expr) (now new all : List ℕ) → i < length members
-    → member ≡ get_or members i member → merge_tags (tags_among (terms_in tags (drop i members))) now ≡ all
-    → new ≡ merge_tags (tags_in (term_of tags member)) now → merge_tags (tags_among (terms_in tags (drop (suc i) members))) new ≡ all
-tags_next tags members i member now new all lt is so more =
-    ap (merge_tags (tags_among (terms_in tags (drop (suc i) members)))) more
-    ∙ sym (merge_more (tags_in (term_of tags member)) (tags_among (terms_in tags (drop (suc i) members))) now)
-    ∙ ap (λ l. merge_tags (tags_among (terms_in tags l)) now) (sym (next_member members i member lt is)) ∙ so
-
 -- the parts of one member and of the others
 pub parts_next : (tags : ℕ) (members : List Expr) (i : ℕ) (member : Expr) → i < length members → member ≡ get_or members i member
     → parts_of_all (terms_in tags (drop i members)) ≡ parts (term_of tags member) + parts_of_all (terms_in tags (drop (suc i) members))
 parts_next tags members i member lt is = ap (λ l. parts_of_all (terms_in tags l)) (next_member members i member lt is)
-
--- one of some copies is not greater than all of them
-pub once : (count size : ℕ) → (count ≡ 0 → ⊥) → size ≤ count * size
-once zero size some = absurd (some refl)
-once (suc count) size some = omega arith
 
 pub not_zero : (n : ℕ) → (n ≡ 0 → ⊥) → nat_eq n 0 ≡ false
 not_zero n ne = at (nat_eq n 0) refl

@@ -5,8 +5,7 @@ use Rattle.std.proofs.Math.Seq.{take-suc, drop-cons}
 use Rattle.std.proofs.lemmas.Bool.{cases_lt, eqb-true, lt-leb}
 use Rattle.std.proofs.lemmas.List.{take_all}
 use Rattle.std.specs.Prelude.{nat_eq, if◌then◌else◌}
-use Rattle.lx_regex.specs.Term.{Term, empty, class, any_unit, cat, alt, repeat, tag, group, Terms, nil, cons}
-use Rattle.lx_regex.specs.Script.{put_tag, merge_tags, tags_in, tags_among}
+use Rattle.lx_regex.specs.Script.{put_tag, merge_tags}
 use Rattle.lx_tnfa.specs.TagLists.{remove_tag, remove_tags}
 
 -- a tag is put before the first one that is not less
@@ -53,7 +52,7 @@ merge-put n (x ∷ l) more = at (merge-put n l more) (cases_lt x n)
         ap (λ k. merge_tags k more) (put-behind n x l lt) ∙ ap (put_tag x) e ∙ put_put x n (merge_tags l more)
     at e (inr le) = ap (λ k. merge_tags k more) (put-before n x l le)
 
-merge_assoc : (a b c : List ℕ) → merge_tags (merge_tags a b) c ≡ merge_tags a (merge_tags b c)
+pub merge_assoc : (a b c : List ℕ) → merge_tags (merge_tags a b) c ≡ merge_tags a (merge_tags b c)
 merge_assoc [] b c = refl
 merge_assoc (n ∷ a) b c = merge-put n (merge_tags a b) c ∙ ap (put_tag n) (merge_assoc a b c)
 
@@ -68,30 +67,6 @@ merge_swap (n ∷ a) b c = ap (put_tag n) (merge_swap a b c) ∙ put_merge n b (
 -- tags of a member and then those of the others, put into a list
 pub merge_more : (a b list : List ℕ) → merge_tags (merge_tags a b) list ≡ merge_tags b (merge_tags a list)
 merge_more a b list = merge_assoc a b list ∙ merge_swap a b list
-
--- the tags of a group, put into a list
-pub merge_group : (opening closing : ℕ) (inner list : List ℕ)
-    → merge_tags (put_tag opening (put_tag closing inner)) list ≡ put_tag opening (put_tag closing (merge_tags inner list))
-merge_group opening closing inner list =
-    merge-put opening (put_tag closing inner) list ∙ ap (put_tag opening) (merge-put closing inner list)
-
--- the tags of a term stand in order already
-mutual
-  pub merge-nil : (e : Term) → merge_tags (tags_in e) [] ≡ tags_in e
-  merge-nil empty = refl
-  merge-nil (class ranges) = refl
-  merge-nil any_unit = refl
-  merge-nil (cat members) = merge-nil_among members
-  merge-nil (alt members) = merge-nil_among members
-  merge-nil (repeat body low high) = merge-nil body
-  merge-nil (tag number) = refl
-  merge-nil (group opening closing body) =
-      merge_group opening closing (tags_in body) [] ∙ ap (λ l. put_tag opening (put_tag closing l)) (merge-nil body)
-
-  pub merge-nil_among : (members : Terms) → merge_tags (tags_among members) [] ≡ tags_among members
-  merge-nil_among nil = refl
-  merge-nil_among (cons member members) =
-      merge_assoc (tags_in member) (tags_among members) [] ∙ ap (merge_tags (tags_in member)) (merge-nil_among members)
 
 remove-here : (n x : ℕ) (l : List ℕ) → x ≡ n → remove_tag n (x ∷ l) ≡ l
 remove-here n x l e = ap (λ b. if b then l else x ∷ remove_tag n l) (eq-eqb x n e)
@@ -157,3 +132,9 @@ pub remove_none : (n : ℕ) (list : List ℕ) (i : ℕ) → length list ≤ i �
     → remove_tag n list ≡ list
 remove_none n list i le so =
     so ∙ ap₂ (λ a b. a ++ remove_tag n b) (take_all i list le) (drop_of_length-le list le) ∙ append-nil list
+
+-- the first of some tags is put into a list before the others
+pub merge_next : (tags : List ℕ) (i : ℕ) (list all : List ℕ) → i < length tags → merge_tags (drop i tags) list ≡ all
+    → merge_tags (drop (suc i) tags) (put_tag (get_or tags i 0) list) ≡ all
+merge_next tags i list all lt so =
+    sym (put_merge (get_or tags i 0) (drop (suc i) tags) list) ∙ ap (λ l. merge_tags l list) (sym (drop-cons tags i 0 lt)) ∙ so

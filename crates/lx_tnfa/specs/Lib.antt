@@ -4,6 +4,7 @@ pub mod Ends
 pub mod Making
 pub mod Moves
 pub mod Rows
+pub mod Shapes
 pub mod Standing
 pub mod TagLists
 pub mod Tnfa

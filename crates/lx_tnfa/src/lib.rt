@@ -3,10 +3,10 @@
 
 mod building;
 mod classes;
-mod counts;
 pub mod laws;
 mod making;
 mod places;
+mod shape;
 mod states;
 mod tags;
 mod tnfa;

@@ -9,7 +9,7 @@ ghost use Rattle.lx_tnfa.specs.declared.states.State.TheVariants.{Moves};
 
 use crate::building::{Building, Site, build};
 use crate::classes::Classes;
-use crate::counts::count_parts;
+use crate::shape::shape_of;
 use crate::states::{State, one_move};
 use crate::tnfa::RuleTags;
 use lx_base::{Enc, Memory, Sequence};
@@ -100,15 +100,11 @@ impl Making {
             Kind::Plain | Kind::Default => {
                 let tags = rule.tags.as_slice().len() as u32;
                 let part = self.owners.len() as u32;
+                let shape = shape_of(alloc, tags, &rule.expr)?;
+                let site = Site { tags, part };
                 let exits = one_move(alloc, 0, None)?;
-                build(
-                    alloc,
-                    &mut self.building,
-                    Site { tags, part },
-                    &rule.expr,
-                    exits,
-                )?;
-                push_owners(&mut self.owners, rule.number, count_parts(&rule.expr))
+                build(alloc, &mut self.building, site, &rule.expr, &shape, exits)?;
+                push_owners(&mut self.owners, rule.number, shape.parts)
             }
         }
     }

@@ -1,18 +1,16 @@
 //! States and their ordered moves.
 ghost use Rattle.std.specs.Prelude.{◌≡◌, ℕ, ◌+◌, ◌*◌, ◌<◌, ◌^◌, [], ◌∷◌, None, map, IfOk, nat_eq, if◌then◌else◌, option_to_list};
 ghost use Rattle.lx_regex.specs.Automaton.{member_moves, move};
-ghost use Rattle.lx_regex.specs.Expr.{members_of, term_of};
-ghost use Rattle.lx_regex.specs.Script.{tags_in};
-ghost use Rattle.lx_regex.specs.Term.{Term, copies, parts, parts_of_all};
-ghost use Rattle.lx_tnfa.specs.Ends.{EndsFit, EndsFitAmong};
+ghost use Rattle.lx_regex.specs.Script.{tags_among};
+ghost use Rattle.lx_regex.specs.Term.{Terms, copies};
 ghost use Rattle.lx_tnfa.specs.Moves.{shown_move, sized_moves};
+ghost use Rattle.lx_tnfa.specs.Shapes.{HaveShapes, parts_together};
 ghost use Rattle.lx_tnfa.specs.TagLists.{remove_tags};
 ghost use Rattle.lx_tnfa.specs.declared.states.Event.TheVariants.{Unset};
 
-use crate::counts::count_parts;
-use crate::tags::{put_tags, put_tags_of_all, remove_tags};
+use crate::shape::Shape;
+use crate::tags::remove_tags;
 use lx_base::{Memory, Sequence};
-use lx_regex::Expr;
 use lx_regex::parts::copies;
 use std::alloc::Global;
 
@@ -78,16 +76,12 @@ pub(crate) struct Repeat {
     pub high: Option<u32>,
 }
 
-/// A repetition that is this part. Where it has no copy of its body, the body's parts count for nothing.
-pub(crate) fn repeat_of(part: u32, body: &Expr, low: u32, high: Option<u32>) -> Repeat
-    requires { (tags : ℕ) → copies low high * parts (term_of tags body.now) < 2 ^ 32 }
-    ensures { (tags : ℕ) → result ≡ record { part = part; size = if nat_eq (copies low high) 0 then 0 else parts (term_of tags body.now); low = low; high = high } }
+/// A repetition that is this part, of a body with so many parts. Where it has no copy of its body, the body's parts count for
+/// nothing.
+pub(crate) fn repeat_of(part: u32, size: u32, low: u32, high: Option<u32>) -> Repeat
+    ensures { result ≡ record { part = part; size = if nat_eq (copies low high) 0 then 0 else size; low = low; high = high } }
 {
-    let size = if copies(low, high) == 0 {
-        0
-    } else {
-        count_parts(body)
-    };
+    let size = if copies(low, high) == 0 { 0 } else { size };
     Repeat {
         part,
         size,
@@ -126,41 +120,31 @@ pub(crate) fn iteration_moves(
 /// The moves to the members of an alternation, of which the first is this part; each unsets the tags of the other members.
 pub(crate) fn member_moves(
     alloc: Global,
-    tags: u32,
     first: u32,
-    members: &[Expr],
+    all: &[u32],
+    members: &[Shape],
 ) -> Result<Sequence<Move>, Memory>
-    requires ends { EndsFitAmong (members_of (map (term_of tags) members.now)) }
-    requires room { first + parts_of_all (members_of (map (term_of tags) members.now)) < 2 ^ 31 }
-    ensures { IfOk result (λ ways. ways ≡ map shown_move (member_moves (members_of (map (term_of tags) members.now)) 0 first (λ tags. tags))) }
+    requires room { first + parts_together members.now < 2 ^ 31 }
+    ensures { IfOk result (λ ways. (terms : Terms) → HaveShapes terms members.now → all.now ≡ tags_among terms
+        → ways ≡ map shown_move (member_moves terms 0 first (λ tags. tags))) }
 {
-    let mut all = Vec::new(alloc);
-    put_tags_of_all(&mut all, tags, members)?;
     let mut part = first;
     let mut ways = Sequence::new(alloc);
     for member in members {
         ways.push(Move {
             to: 2 * part,
-            events: unset_others(alloc, &all, tags, member)?,
+            events: unset_others(alloc, all, &member.tags)?,
         })?;
-        part += count_parts(member);
+        part += member.parts;
     }
     Ok(ways)
 }
 
-/// The events by which all tags but those of a member are unset.
-fn unset_others(
-    alloc: Global,
-    all: &[u32],
-    tags: u32,
-    member: &Expr,
-) -> Result<Sequence<Event>, Memory>
-    requires { EndsFit (term_of tags member.now) }
-    ensures { IfOk result (λ events. events ≡ map Unset (remove_tags (tags_in (term_of tags member.now)) all.now)) }
+/// The events by which all tags but some are unset.
+fn unset_others(alloc: Global, all: &[u32], own: &[u32]) -> Result<Sequence<Event>, Memory>
+    ensures { IfOk result (λ events. events ≡ map Unset (remove_tags own.now all.now)) }
 {
-    let mut own = Vec::new(alloc);
-    put_tags(&mut own, tags, member)?;
     let mut others = Vec::from_slice(alloc, all)?;
-    remove_tags(&mut others, &own);
+    remove_tags(&mut others, own);
     unset_events(alloc, &others)
 }

@@ -1,6 +1,6 @@
-use Rattle.std.proofs.Common.{◌≡◌, ◌+◌, ◌-◌, ◌*◌, ◌∙◌, suc, ap, arith, refl, sym, subst, rules, length, drop, [], ◌∷◌, ◌++◌, None, inl, inr}
+use Rattle.std.proofs.Common.{◌<◌, ◌≡◌, ◌+◌, ◌-◌, ◌*◌, ◌∙◌, suc, ap, arith, refl, sym, subst, rules, length, drop, [], ◌∷◌, ◌++◌, None, inl, inr}
 use Rattle.std.proofs.lemmas.Result.{on_ok_weaker}
-use Rattle.std.specs.Prelude.{ℕ, List}
+use Rattle.std.specs.Prelude.{ℕ, ◌^◌, List}
 use Rattle.lx_regex.specs.Automaton as spec
 use Rattle.lx_regex.specs.Automaton.{members_table, alternatives_table, table, move, moves_after, next_member}
 use Rattle.lx_regex.specs.Expr.{term_of}
@@ -9,14 +9,15 @@ use Rattle.lx_regex.specs.declared.expr.Expr.{the_lemmas}
 use Rattle.lx_regex.proofs.Folds.{term_of-cat, term_of-alt, term_of-rep, term_of-group}
 use Rattle.lx_regex.proofs.NoUnits.{terms_in}
 use Rattle.lx_regex.proofs.PartLists.{parts-form}
-use Rattle.lx_regex.proofs.PartSizes.{measured}
 use Rattle.lx_regex.proofs.Rows.{table_length}
 use Rattle.lx_tnfa.specs.Moves.{counted_size}
 use Rattle.lx_tnfa.specs.Rows.{HasRoom, IsBuildable}
+use Rattle.lx_tnfa.specs.Shapes.{HasShape}
 use Rattle.lx_tnfa.specs.declared.building.Building.{Building}
 use Rattle.lx_tnfa.proofs.BuiltCopies.{CopiesBuilt, copies_begin, copies_end, copies_more, copy_exits, copy_room, size_counts}
 use Rattle.lx_tnfa.proofs.BuiltStates.{both_pushed, buildable_at, built, built_leaf, leads_on, room_inside, member_room, members_begin, members_end, members_more, room_front}
 use Rattle.lx_tnfa.proofs.FirstStates.{counted_times, from_form}
+use Rattle.lx_tnfa.proofs.ShapeFacts.{counted_shape, parts_shape, repeat_body, shape_at, shapes_many}
 use Rattle.lx_tnfa.proofs.building.+build.Goals as goal
 use Rattle.lx_tnfa.proofs.building.+build.Goals.{build_members-then-i-members, build_members-else-i-members}
 
@@ -53,66 +54,75 @@ member_one last e others part = refl
 member_size : (last : ℕ) (e : Term) (others : Terms) (part : ℕ) → length (member_own last e others part) ≡ 2 * parts e
 member_size last e others part = table_length e part (move None [] [] (next_member (part + parts e) others last) ∷ [])
 
-pub build_alternatives-loop-member-init : goal.build_alternatives-loop-member-init
-build_alternatives-loop-member-init t c = record {
+pub build_alternatives-loop-i-init : goal.build_alternatives-loop-i-init
+build_alternatives-loop-i-init t c = record {
   tags = refl;
   built = members_begin (alternative_rows c.args.last) (alternative_own c.args.last) (alternative_none c.args.last) (alternative_one c.args.last) (alternative_size c.args.last) c.args.building.now c.args.first.tags c.args.first.part c.args.members.now c.requires.room;
 }
 
 pub build_alternatives-build-requires : goal.build_alternatives-build-requires
 build_alternatives-build-requires t c =
-    let tags = c.loop-member.invariant.tags in
-    let now = c.loop-member.building in
-    let item = c.member-item.result in
+    let tags = c.loop-i.invariant.tags in
+    let now = c.loop-i.building in
+    let item = c.index-members-i.result in
     let room =
     member_room (alternative_rows c.args.last) (alternative_own c.args.last) (alternative_none c.args.last) (alternative_one c.args.last) (alternative_size c.args.last)
-    c.args.building.now c.loop-member.building c.args.first.tags c.args.first.part c.args.members.now c.loop-member.site.part c.loop-member.member-index
-    c.member-item.result c.loop-member-test.true c.member-item.is c.loop-member.invariant.built in
+    c.args.building.now c.loop-i.building c.args.first.tags c.args.first.part c.args.members.now c.loop-i.site.part c.loop-i.i
+    c.index-members-i.result c.loop-i-test.true c.index-members-i.is c.loop-i.invariant.built in
     let term =
-    buildable_at c.args.building.now.classes.enc c.args.first.tags c.args.members.now c.loop-member.member-index item c.loop-member-test.true c.member-item.is
-    c.requires.terms in (
+    buildable_at c.args.building.now.classes.enc c.args.first.tags c.args.members.now c.loop-i.i item c.loop-i-test.true c.index-members-i.is
+    c.requires.terms in
+    let has =
+    shape_at c.args.first.tags c.args.members.now c.args.shapes.now c.loop-i.i c.index-members-i.result c.index-shapes-i.result c.requires.shapes
+    c.loop-i-test.true c.index-members-i.is c.index-shapes-i.is in (
       search (rules, the_lemmas),
       (
-        subst (λ n. HasRoom now c.loop-member.site.part (parts (term_of n item))) (sym tags) (room_front _ _ _ _ room),
-        subst (λ n. IsBuildable now.classes.enc (term_of n item)) (sym tags)
-            (subst (λ enc. IsBuildable enc (term_of c.args.first.tags item)) (sym c.loop-member.invariant.built.builds.enc) term),
+        subst (λ n. HasRoom now c.loop-i.site.part (parts (term_of n item))) (sym tags) (room_front _ _ _ _ room),
+        (
+          subst (λ n. IsBuildable now.classes.enc (term_of n item)) (sym tags)
+              (subst (λ enc. IsBuildable enc (term_of c.args.first.tags item)) (sym c.loop-i.invariant.built.builds.enc) term),
+          subst (λ n. HasShape (term_of n item) c.index-shapes-i.result) (sym tags) has,
+        ),
       ),
     )
-
-pub build_alternatives-count_parts-requires : goal.build_alternatives-count_parts-requires
-build_alternatives-count_parts-requires t c tags =
-    let room =
-    member_room (alternative_rows c.args.last) (alternative_own c.args.last) (alternative_none c.args.last) (alternative_one c.args.last) (alternative_size c.args.last)
-    c.args.building.now c.loop-member.building c.args.first.tags c.args.first.part c.args.members.now c.loop-member.site.part c.loop-member.member-index
-    c.member-item.result c.loop-member-test.true c.member-item.is c.loop-member.invariant.built in
-    omega (arith, (measured c.member-item.result).alike tags c.args.first.tags, room.parts)
 
 pub build_alternatives-overflow_add-site : goal.build_alternatives-overflow_add-site
 build_alternatives-overflow_add-site t c =
     let room =
     member_room (alternative_rows c.args.last) (alternative_own c.args.last) (alternative_none c.args.last) (alternative_one c.args.last) (alternative_size c.args.last)
-    c.args.building.now c.loop-member.building c.args.first.tags c.args.first.part c.args.members.now c.loop-member.site.part c.loop-member.member-index
-    c.member-item.result c.loop-member-test.true c.member-item.is c.loop-member.invariant.built in
-    omega (arith, c.count_parts.ensures c.args.first.tags, room.parts)
+    c.args.building.now c.loop-i.building c.args.first.tags c.args.first.part c.args.members.now c.loop-i.site.part c.loop-i.i
+    c.index-members-i.result c.loop-i-test.true c.index-members-i.is c.loop-i.invariant.built in
+    let has =
+    shape_at c.args.first.tags c.args.members.now c.args.shapes.now c.loop-i.i c.index-members-i.result c.index-shapes-i.result c.requires.shapes
+    c.loop-i-test.true c.index-members-i.is c.index-shapes-i.is in
+    let count = parts_shape (term_of c.args.first.tags c.index-members-i.result) c.index-shapes-i.result has (omega (arith, room.parts)) in
+    omega (arith, count, room.parts)
 
-pub build_alternatives-loop-member-preserved : goal.build_alternatives-loop-member-preserved
-build_alternatives-loop-member-preserved t c =
-    let tags = c.loop-member.invariant.tags in
-    let i = c.loop-member.member-index in
+pub build_alternatives-loop-i-preserved : goal.build_alternatives-loop-i-preserved
+build_alternatives-loop-i-preserved t c =
+    let tags = c.loop-i.invariant.tags in
+    let i = c.loop-i.i in
     let next : suc i ≡ i + 1 = omega arith in
-    let count = c.count_parts.ensures c.args.first.tags in
+    let room =
+    member_room (alternative_rows c.args.last) (alternative_own c.args.last) (alternative_none c.args.last) (alternative_one c.args.last) (alternative_size c.args.last)
+    c.args.building.now c.loop-i.building c.args.first.tags c.args.first.part c.args.members.now c.loop-i.site.part c.loop-i.i
+    c.index-members-i.result c.loop-i-test.true c.index-members-i.is c.loop-i.invariant.built in
+    let has =
+    shape_at c.args.first.tags c.args.members.now c.args.shapes.now c.loop-i.i c.index-members-i.result c.index-shapes-i.result c.requires.shapes
+    c.loop-i-test.true c.index-members-i.is c.index-shapes-i.is in
+    let count = parts_shape (term_of c.args.first.tags c.index-members-i.result) c.index-shapes-i.result has (omega (arith, room.parts)) in
     let own = rw tags at (c.in_ok-build.ensures (move None [] [] c.args.last ∷ []) c.in_ok-exits.ensures) in
     let more =
     members_more (alternative_rows c.args.last) (alternative_own c.args.last) (alternative_none c.args.last) (alternative_one c.args.last) (alternative_size c.args.last)
-    c.args.building.now c.loop-member.building c.build.new.building c.args.first.tags c.args.first.part c.args.members.now c.loop-member.site.part i
-    c.member-item.result c.loop-member-test.true c.member-item.is c.loop-member.invariant.built own in
+    c.args.building.now c.loop-i.building c.build.new.building c.args.first.tags c.args.first.part c.args.members.now c.loop-i.site.part i
+    c.index-members-i.result c.loop-i-test.true c.index-members-i.is c.loop-i.invariant.built own in
     record { tags = tags; built = rw (count, ← next) more }
 
 pub build_alternatives-returns : goal.build_alternatives-returns
 build_alternatives-returns t c =
     members_end (alternative_rows c.args.last) (alternative_own c.args.last) (alternative_none c.args.last) (alternative_one c.args.last) (alternative_size c.args.last)
-    c.args.building.now c.loop-member.building c.args.first.tags c.args.first.part c.args.members.now c.loop-member.site.part c.loop-member.member-index
-    c.loop-member-test.false c.loop-member.invariant.built
+    c.args.building.now c.loop-i.building c.args.first.tags c.args.first.part c.args.members.now c.loop-i.site.part c.loop-i.i
+    c.loop-i-test.false c.loop-i.invariant.built
 
 pub build_members-loop-i-init : goal.build_members-loop-i-init
 build_members-loop-i-init t c = record {
@@ -131,22 +141,20 @@ build_members-build-requires t c =
     c.index-members-i.result c.loop-i-test.true c.index-members-i.is c.loop-i.invariant.built in
     let term =
     buildable_at c.args.building.now.classes.enc c.args.first.tags c.args.members.now c.loop-i.i item c.loop-i-test.true c.index-members-i.is
-    c.requires.terms in (
+    c.requires.terms in
+    let has =
+    shape_at c.args.first.tags c.args.members.now c.args.shapes.now c.loop-i.i c.index-members-i.result c.index-shapes-i.result c.requires.shapes
+    c.loop-i-test.true c.index-members-i.is c.index-shapes-i.is in (
       search (rules, the_lemmas),
       (
         subst (λ n. HasRoom now c.loop-i.site.part (parts (term_of n item))) (sym tags) (room_front _ _ _ _ room),
-        subst (λ n. IsBuildable now.classes.enc (term_of n item)) (sym tags)
-            (subst (λ enc. IsBuildable enc (term_of c.args.first.tags item)) (sym c.loop-i.invariant.built.builds.enc) term),
+        (
+          subst (λ n. IsBuildable now.classes.enc (term_of n item)) (sym tags)
+              (subst (λ enc. IsBuildable enc (term_of c.args.first.tags item)) (sym c.loop-i.invariant.built.builds.enc) term),
+          subst (λ n. HasShape (term_of n item) c.index-shapes-i.result) (sym tags) has,
+        ),
       ),
     )
-
-pub build_members-count_parts-requires : goal.build_members-count_parts-requires
-build_members-count_parts-requires t c tags =
-    let room =
-    member_room (member_rows c.args.last) (member_own c.args.last) (member_none c.args.last) (member_one c.args.last) (member_size c.args.last)
-    c.args.building.now c.loop-i.building c.args.first.tags c.args.first.part c.args.members.now c.loop-i.site.part c.loop-i.i
-    c.index-members-i.result c.loop-i-test.true c.index-members-i.is c.loop-i.invariant.built in
-    omega (arith, (measured c.index-members-i.result).alike tags c.args.first.tags, room.parts)
 
 pub build_members-overflow_add-next : goal.build_members-overflow_add-next
 build_members-overflow_add-next t c =
@@ -154,7 +162,11 @@ build_members-overflow_add-next t c =
     member_room (member_rows c.args.last) (member_own c.args.last) (member_none c.args.last) (member_one c.args.last) (member_size c.args.last)
     c.args.building.now c.loop-i.building c.args.first.tags c.args.first.part c.args.members.now c.loop-i.site.part c.loop-i.i
     c.index-members-i.result c.loop-i-test.true c.index-members-i.is c.loop-i.invariant.built in
-    omega (arith, c.count_parts.ensures c.args.first.tags, room.parts)
+    let has =
+    shape_at c.args.first.tags c.args.members.now c.args.shapes.now c.loop-i.i c.index-members-i.result c.index-shapes-i.result c.requires.shapes
+    c.loop-i-test.true c.index-members-i.is c.index-shapes-i.is in
+    let count = parts_shape (term_of c.args.first.tags c.index-members-i.result) c.index-shapes-i.result has (omega (arith, room.parts)) in
+    omega (arith, count, room.parts)
 
 pub build_members-overflow_mul-to : goal.build_members-overflow_mul-to
 build_members-overflow_mul-to t c =
@@ -162,7 +174,11 @@ build_members-overflow_mul-to t c =
     member_room (member_rows c.args.last) (member_own c.args.last) (member_none c.args.last) (member_one c.args.last) (member_size c.args.last)
     c.args.building.now c.loop-i.building c.args.first.tags c.args.first.part c.args.members.now c.loop-i.site.part c.loop-i.i
     c.index-members-i.result c.loop-i-test.true c.index-members-i.is c.loop-i.invariant.built in
-    omega (arith, c.count_parts.ensures c.args.first.tags, room.parts)
+    let has =
+    shape_at c.args.first.tags c.args.members.now c.args.shapes.now c.loop-i.i c.index-members-i.result c.index-shapes-i.result c.requires.shapes
+    c.loop-i-test.true c.index-members-i.is c.index-shapes-i.is in
+    let count = parts_shape (term_of c.args.first.tags c.index-members-i.result) c.index-shapes-i.result has (omega (arith, room.parts)) in
+    omega (arith, count, room.parts)
 
 pub build_members-loop-i-preserved : goal.build_members-loop-i-preserved
 build_members-loop-i-preserved t c =
@@ -172,7 +188,14 @@ build_members-loop-i-preserved t c =
     let e = term_of c.args.first.tags item in
     let part = c.loop-i.site.part in
     let next : suc i ≡ i + 1 = omega arith in
-    let count = c.count_parts.ensures c.args.first.tags in
+    let room =
+    member_room (member_rows c.args.last) (member_own c.args.last) (member_none c.args.last) (member_one c.args.last) (member_size c.args.last)
+    c.args.building.now c.loop-i.building c.args.first.tags c.args.first.part c.args.members.now c.loop-i.site.part c.loop-i.i
+    c.index-members-i.result c.loop-i-test.true c.index-members-i.is c.loop-i.invariant.built in
+    let has =
+    shape_at c.args.first.tags c.args.members.now c.args.shapes.now c.loop-i.i c.index-members-i.result c.index-shapes-i.result c.requires.shapes
+    c.loop-i-test.true c.index-members-i.is c.index-shapes-i.is in
+    let count = parts_shape (term_of c.args.first.tags c.index-members-i.result) c.index-shapes-i.result has (omega (arith, room.parts)) in
     let to : c.if-i-members.to ≡ next_member (part + parts e) (terms_in c.args.first.tags (drop (suc i) c.args.members.now)) c.args.last =
     leads_on c.args.first.tags c.args.members.now i (part + parts e) c.args.last c.if-i-members.to
     (elim c.if-i-members.branch [
@@ -213,7 +236,7 @@ build_copies-build-requires t c =
       search (rules, the_lemmas),
       (
         room_front now (r.part + 1 + number * r.size) (parts body) (left * r.size) (copy_room c.args.building.now now r body number left so size),
-        subst (λ enc. IsBuildable enc body) (sym c.loop-number.invariant.builds.enc) c.requires.term,
+        (subst (λ enc. IsBuildable enc body) (sym c.loop-number.invariant.builds.enc) c.requires.term, c.requires.shape),
       ),
     )
 
@@ -243,12 +266,6 @@ build_copies-returns t c =
     copies_end c.args.building.now c.loop-number.building r body c.loop-number.number
     (subst (CopiesBuilt c.args.building.now c.loop-number.building r body c.loop-number.number) none c.loop-number.invariant)
 
-pub build-repeat_of-repeat-requires : goal.build-repeat_of-repeat-requires
-build-repeat_of-repeat-requires t c tags =
-    let e = parts-form c.args.expr.now _ _ c.in-Rep.is (λ tags. term_of-rep tags c.in-Rep.body c.in-Rep.low c.in-Rep.high) tags in
-    let alike = (measured c.args.expr.now).alike tags c.args.site.tags in
-    rw c.deref-in-Rep.ensures (omega (arith, e, alike, c.requires.room.parts))
-
 pub build-build_copies-requires : goal.build-build_copies-requires
 build-build_copies-requires t c =
     let tags = c.args.site.tags in
@@ -257,6 +274,9 @@ build-build_copies-requires t c =
     let body = term_of tags c.in-Rep.body.value in
     let mid : Building = record { states = c.push-2.new.self; classes = c.beginning.new.classes } in
     let e = parts-form c.args.expr.now _ _ c.in-Rep.is (λ tags. term_of-rep tags c.in-Rep.body low high) tags in
+    let has = repeat_body tags c.args.expr.now c.in-Rep.body low high c.args.shape.now c.index-inner.result.now c.in-Rep.is c.requires.shape c.index-inner.ensures in
+    let few : copies low high * parts body < 2 ^ 31 = omega (arith, e, c.requires.room.parts) in
+    let so = c.repeat_of-repeat.ensures ∙ ap (λ n. record { part = c.args.site.part; size = n; low = low; high = high }) (counted_shape low high body c.index-inner.result.now has few) in
     let counts : parts (term_of tags c.args.expr.now) ≡ 1 + copies low high * counted_size low high body =
     e ∙ ap (λ n. 1 + n) (sym (counted_times (copies low high) (parts body))) in
     let room =
@@ -265,8 +285,8 @@ build-build_copies-requires t c =
     let term =
     from_form (IsBuildable c.args.building.now.classes.enc) tags c.args.expr.now _ _ c.in-Rep.is (term_of-rep tags c.in-Rep.body low high) c.requires.term in (
       search (rules, the_lemmas),
-      rw (c.repeat_of-repeat.ensures tags, c.deref-in-Rep.ensures, c.deref-in-Rep-2.ensures)
-          (room, (refl, subst (λ enc. IsBuildable enc body) (sym c.in_ok-state.ensures.adds.enc) term)),
+      rw (so, c.deref-in-Rep.ensures)
+          (room, (refl, (subst (λ enc. IsBuildable enc body) (sym c.in_ok-state.ensures.adds.enc) term, has))),
     )
 
 pub build-returns-in-Cat : goal.build-returns-in-Cat
@@ -297,11 +317,18 @@ build-returns-in-Rep t c =
     let mid : Building = record { states = c.push-2.new.self; classes = c.beginning.new.classes } in
     let pushed = both_pushed c.args.building.now.states.items c.push.new.self.items c.push-2.new.self.items _ _ c.in_ok-push.ensures.items c.in_ok-push-2.ensures.items in
     let first = c.in_ok-state.ensures in
+    let low = c.in-Rep.low in
+    let high = c.in-Rep.high in
+    let body = term_of tags c.in-Rep.body.value in
+    let e = parts-form c.args.expr.now _ _ c.in-Rep.is (λ tags. term_of-rep tags c.in-Rep.body low high) tags in
+    let has = repeat_body tags c.args.expr.now c.in-Rep.body low high c.args.shape.now c.index-inner.result.now c.in-Rep.is c.requires.shape c.index-inner.ensures in
+    let few : copies low high * parts body < 2 ^ 31 = omega (arith, e, c.requires.room.parts) in
+    let so = c.repeat_of-repeat.ensures ∙ ap (λ n. record { part = c.args.site.part; size = n; low = low; high = high }) (counted_shape low high body c.index-inner.result.now has few) in
     on_ok_weaker c.build_copies.result
     (λ inner ways out.
     built c.args.building.now mid c.build_copies.new.building tags c.args.site.part c.args.expr.now _ _ c.in_ok-state.state c.args.exits ways
     c.in-Rep.is (term_of-rep tags c.in-Rep.body c.in-Rep.low c.in-Rep.high) first.adds first.sound first.held pushed
-    (rw (c.repeat_of-repeat.ensures tags, c.deref-in-Rep-2.ensures) at inner) out)
+    (rw (so, c.deref-in-Rep.ensures) at inner) out)
     c.build_copies.ensures
 
 pub build-returns-in_ok-ways-in-Group : goal.build-returns-in_ok-ways-in-Group
@@ -358,3 +385,11 @@ build-returns-in-Empty-5 t c ways out =
     let first = c.in_ok-state.ensures in
     built_leaf c.args.building.now mid c.args.site.tags c.args.site.part c.args.expr.now c.in_ok-state.state c.args.exits ways c.in-Empty.is
     first.adds first.sound first.held pushed out
+
+pub build_alternatives-bounds-shapes-i : goal.build_alternatives-bounds-shapes-i
+build_alternatives-bounds-shapes-i t c =
+    omega (arith, c.loop-i-test.true, shapes_many c.args.first.tags c.args.members.now c.args.shapes.now c.requires.shapes)
+
+pub build_members-bounds-shapes-i : goal.build_members-bounds-shapes-i
+build_members-bounds-shapes-i t c =
+    omega (arith, c.loop-i-test.true, shapes_many c.args.first.tags c.args.members.now c.args.shapes.now c.requires.shapes)

@@ -11,10 +11,10 @@ invariant-build_members-loop-i l = record {
   built : MembersBuilt (λ members part. members_table members part l.last) l.fn.building l.building l.fn.first.tags l.fn.first.part l.members l.site.part l.i;
 }
 
-abbrev pub invariant-build_alternatives-loop-member : goal.invariant-build_alternatives-loop-member
-invariant-build_alternatives-loop-member l = record {
+abbrev pub invariant-build_alternatives-loop-i : goal.invariant-build_alternatives-loop-i
+invariant-build_alternatives-loop-i l = record {
   tags : l.site.tags ≡ l.fn.first.tags;
-  built : MembersBuilt (λ members part. alternatives_table members part l.last) l.fn.building l.building l.fn.first.tags l.fn.first.part l.members l.site.part l.member-index;
+  built : MembersBuilt (λ members part. alternatives_table members part l.last) l.fn.building l.building l.fn.first.tags l.fn.first.part l.members l.site.part l.i;
 }
 
 abbrev pub invariant-build_copies-loop-number : goal.invariant-build_copies-loop-number

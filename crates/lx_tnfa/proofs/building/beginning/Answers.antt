@@ -1,15 +1,14 @@
 use Rattle.std.proofs.Common.{◌≡◌, ◌+◌, ◌*◌, ◌∙◌, ap, arith, refl, sym, length, vec_len}
 use Rattle.std.specs.Prelude.{nat_eq, if◌then◌else◌}
 use Rattle.lx_regex.specs.Expr.{term_of}
-use Rattle.lx_regex.specs.Script.{merge_tags, tags_in}
 use Rattle.lx_regex.specs.Term.{copies, parts}
-use Rattle.lx_regex.proofs.Folds.{term_of-rep}
+use Rattle.lx_regex.proofs.Folds.{term_of-alt, term_of-rep}
+use Rattle.lx_regex.proofs.NoUnits.{terms_in}
 use Rattle.lx_regex.proofs.PartLists.{parts-form}
-use Rattle.lx_regex.proofs.PartSizes.{measured}
 use Rattle.lx_tnfa.specs.declared.states.Repeat.{Repeat}
 use Rattle.lx_tnfa.specs.Moves.{counted_size}
-use Rattle.lx_tnfa.proofs.FirstStates.{cat_held, class_fits, class_held, counted_times, rep_held}
-use Rattle.lx_tnfa.proofs.TagMerges.{merge-nil}
+use Rattle.lx_tnfa.proofs.FirstStates.{alt_held, cat_held, class_fits, class_held, counted_times, rep_held}
+use Rattle.lx_tnfa.proofs.ShapeFacts.{alternation_shapes, counted_shape, few_together, repeat_body, repeat_tags}
 use Rattle.lx_tnfa.proofs.building.beginning.Goals as goal
 use Rattle.lx_tnfa.proofs.building.beginning.Goals.{then-is_empty, else-is_empty}
 
@@ -36,30 +35,53 @@ returns-in_ok-one_move-in-Cat-clause-held c =
     cat_held c.args.classes.now.list.items c.args.site.tags part c.args.expr.now c.in-Cat.members c.if-is_empty.to c.is_empty.result
     c.in_ok-one_move-in-Cat.field-0 c.in-Cat.is count goes c.in_ok-one_move-in-Cat.ensures
 
-pub repeat_of-repeat-requires : goal.repeat_of-repeat-requires
-repeat_of-repeat-requires c tags =
-    let e = parts-form c.args.expr.now _ _ c.in-Rep.is (λ tags. term_of-rep tags c.in-Rep.body c.in-Rep.low c.in-Rep.high) tags in
-    let alike = (measured c.args.expr.now).alike tags c.args.site.tags in
-    rw c.deref-in-Rep-2.ensures (omega (arith, e, alike, c.requires.parts))
+pub member_moves-requires : goal.member_moves-requires
+member_moves-requires c =
+    let tags = c.args.site.tags in
+    let members = c.in-Alt.field-0 in
+    let e = parts-form c.args.expr.now _ _ c.in-Alt.is (λ tags. term_of-alt tags members) tags in
+    let shapes = alternation_shapes tags c.args.expr.now members c.args.shape.now c.in-Alt.is c.requires.shape in
+    record {
+      room = rw c.deref-in-Alt.ensures.value
+          (few_together (terms_in tags members.items) _ (c.args.site.part + 1) shapes.0 (omega (arith, e, c.requires.parts)));
+    }
 
 pub iteration_moves-requires : goal.iteration_moves-requires
 iteration_moves-requires c =
     let tags = c.args.site.tags in
     let low = c.in-Rep.low in
     let high = c.in-Rep.high in
-    let e = parts-form c.args.expr.now _ _ c.in-Rep.is (λ tags. term_of-rep tags c.in-Rep.body low high) tags in
-    let sizes = counted_times (copies low high) (parts (term_of tags c.in-Rep.body.value)) in
-    rw (c.repeat_of-repeat.ensures tags, c.deref-in-Rep-2.ensures) (omega (arith, e, sizes, c.requires.parts))
+    let body = c.in-Rep.field-0 in
+    let e = parts-form c.args.expr.now _ _ c.in-Rep.is (λ tags. term_of-rep tags body low high) tags in
+    let b = term_of tags body.value in
+    let has = repeat_body tags c.args.expr.now body low high c.args.shape.now c.index-inner.result.now c.in-Rep.is c.requires.shape c.index-inner.ensures in
+    let size = counted_shape low high b c.index-inner.result.now has (omega (arith, e, c.requires.parts)) in
+    let so = c.repeat_of-repeat.ensures ∙ ap (λ n. record { part = c.args.site.part; size = n; low = low; high = high }) size in
+    rw so (omega (arith, e, counted_times (copies low high) (parts b), c.requires.parts))
 
 pub returns-in_ok-iteration_moves-in-Rep-clause-held : goal.returns-in_ok-iteration_moves-in-Rep-clause-held
 returns-in_ok-iteration_moves-in-Rep-clause-held c =
     let tags = c.args.site.tags in
-    let body = c.in-Rep.body in
-    let own = tags_in (term_of tags body.value) in
-    let made : Repeat = record { part = c.args.site.part; size = counted_size c.in-Rep.low c.in-Rep.high (term_of tags body.value); low = c.in-Rep.low; high = c.in-Rep.high } in
-    let is : c.repeat_of-repeat.result ≡ made = rw c.deref-in-Rep-2.ensures at (c.repeat_of-repeat.ensures tags) in
-    let gathered : c.put_tags.new.list.items ≡ own =
-    rw c.deref-in-Rep.ensures at c.in_ok-put_tags-in-Rep.ensures ∙ ap (merge_tags own) c.new-unset.ensures.items ∙ merge-nil (term_of tags body.value) in
-    let ways = rw is at c.in_ok-iteration_moves-in-Rep.ensures in
-    rep_held c.args.classes.now.list.items tags c.args.expr.now body made c.deref-in-Rep-3.result.now c.in_ok-iteration_moves-in-Rep.field-0
-    c.in-Rep.is refl (c.deref-in-Rep-3.ensures.value ∙ gathered) ways
+    let low = c.in-Rep.low in
+    let high = c.in-Rep.high in
+    let body = c.in-Rep.field-0 in
+    let e = parts-form c.args.expr.now _ _ c.in-Rep.is (λ tags. term_of-rep tags body low high) tags in
+    let b = term_of tags body.value in
+    let has = repeat_body tags c.args.expr.now body low high c.args.shape.now c.index-inner.result.now c.in-Rep.is c.requires.shape c.index-inner.ensures in
+    let size = counted_shape low high b c.index-inner.result.now has (omega (arith, e, c.requires.parts)) in
+    let made : Repeat = record { part = c.args.site.part; size = counted_size low high b; low = low; high = high } in
+    let so : c.repeat_of-repeat.result ≡ made =
+    c.repeat_of-repeat.ensures ∙ ap (λ n. record { part = c.args.site.part; size = n; low = low; high = high }) size in
+    let ways = rw so at c.in_ok-iteration_moves-in-Rep.ensures in
+    let own = repeat_tags tags c.args.expr.now body low high c.args.shape.now c.in-Rep.is c.requires.shape in
+    rep_held c.args.classes.now.list.items tags c.args.expr.now body made c.deref-in-Rep.result.now c.in_ok-iteration_moves-in-Rep.field-0
+    c.in-Rep.is refl (c.deref-in-Rep.ensures.value ∙ own) ways
+
+pub returns-in_ok-ways-in-Alt-clause-held : goal.returns-in_ok-ways-in-Alt-clause-held
+returns-in_ok-ways-in-Alt-clause-held c =
+    let tags = c.args.site.tags in
+    let members = c.in-Alt.field-0 in
+    let shapes = alternation_shapes tags c.args.expr.now members c.args.shape.now c.in-Alt.is c.requires.shape in
+    let ways = rw (c.deref.ensures.value, c.deref-in-Alt.ensures.value) at c.in_ok-ways-in-Alt.ensures in
+    alt_held c.args.classes.now.list.items tags c.args.site.part c.args.expr.now members c.in_ok-ways-in-Alt.ways c.in-Alt.is
+    (ways (terms_in tags members.items) shapes.0 shapes.1)

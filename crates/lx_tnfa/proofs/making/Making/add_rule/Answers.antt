@@ -3,18 +3,13 @@ use Rattle.std.proofs.lemmas.Result.{on_ok_weaker}
 use Rattle.std.specs.Bool.{OnFalse}
 use Rattle.std.specs.Prelude.{replicate}
 use Rattle.lx_regex.specs.Automaton.{final}
+use Rattle.lx_regex.specs.Expr.{term_of}
 use Rattle.lx_regex.specs.Pattern.{is_end, pattern_of, sorts_of}
-use Rattle.lx_regex.proofs.PartSizes.{measured}
 use Rattle.lx_tnfa.specs.Making.{CanAdd}
 use Rattle.lx_tnfa.specs.declared.making.Making.{Making}
 use Rattle.lx_tnfa.proofs.RuleLists.{adds_end, adds_rule, is_rule, seen_push}
+use Rattle.lx_tnfa.proofs.ShapeFacts.{parts_shape}
 use Rattle.lx_tnfa.proofs.making.Making.add_rule.Goals as goal
-
-pub count_parts-requires : goal.count_parts-requires
-count_parts-requires c tags =
-    let rule = c.args.rule.now in
-    let can = subst (λ b. OnFalse b (CanAdd c.args.self.now rule)) (is_rule rule.kind c.in-Plain.is) c.requires.can in
-    omega (arith, can.room.parts, (measured rule.expr).alike tags (length rule.tags))
 
 pub returns-in-Eof : goal.returns-in-Eof
 returns-in-Eof c =
@@ -32,8 +27,11 @@ returns-in_ok-build-in-Plain c =
     let new : Making = record { building = c.build.new.building; owners = c.push_owners.new.owners; rules = c.push.new.self } in
     let part : c.len-part.result ≡ length old.owners.items = omega (arith, c.len-part.ensures) in
     let states = rw (c.as_slice.ensures, part) at (c.in_ok-build-in-Plain.ensures final c.in_ok-exits-in-Plain.ensures) in
+    let can = subst (λ b. OnFalse b (CanAdd old rule)) (is_rule rule.kind c.in-Plain.is) c.requires.can in
+    let has = rw c.as_slice.ensures at c.in_ok-shape-in-Plain.ensures in
+    let count = parts_shape (term_of (length rule.tags) rule.expr) c.in_ok-shape-in-Plain.shape has (omega (arith, can.room.parts)) in
     on_ok_weaker c.push_owners.result
     (λ owners. adds_rule old new rule (is_rule rule.kind c.in-Plain.is)
     (seen_push old.rules.items c.push.new.self.items _ rule.number (sorts_of (pattern_of rule)) c.in_ok-push.ensures.items tags.number tags.many)
-    (owners ∙ ap (λ n. old.owners.items ++ replicate n rule.number) (c.count_parts.ensures (length rule.tags))) states)
+    (owners ∙ ap (λ n. old.owners.items ++ replicate n rule.number) count) states)
     c.push_owners.ensures
