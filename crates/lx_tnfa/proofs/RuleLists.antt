@@ -1,5 +1,5 @@
 -- Rules that are added one by one.
-use Rattle.std.proofs.Common.{◌≡◌, ℕ, suc, ◌-◌, ◌<◌, ◌≤◌, arith, Bool, true, false, List, [], ◌∷◌, ◌++◌, length, sym, ap, ap₂, ◌∙◌, subst, append_assoc, append-nil, ◌⊎◌, ⊎_elim}
+use Rattle.std.proofs.Common.{◌≡◌, ℕ, suc, ◌-◌, ◌*◌, ◌<◌, ◌≤◌, arith, Bool, true, false, List, [], ◌∷◌, ◌++◌, length, sym, ap, ap₂, ◌∙◌, subst, append_assoc, append-nil, ◌⊎◌, ⊎_elim}
 use Rattle.std.proofs.lemmas.List.{map-append}
 use Rattle.std.specs.Prelude.{replicate, if◌then◌else◌}
 use Rattle.lx_regex.specs.Automaton.{table, final}
@@ -56,12 +56,15 @@ is_rule kind is = ⊎_elim (λ h. ap is_end h) (λ h. ap is_end h) is
 -- the rule `$` adds no state and no part
 pub adds_end : (old new : Making) (rule : Rule) → is_end rule.kind ≡ true → AreClasses old.building.classes.enc old.building.classes.list.items
     → seen_tags new.rules.items ≡ seen_tags old.rules.items ++ (rule.number, sorts_of (pattern_of rule)) ∷ [] → new.owners.items ≡ old.owners.items
-    → new.building ≡ old.building → AddsRule old new rule
-adds_end old new rule ends sound rules owners same = record {
+    → new.begins.items ≡ old.begins.items → new.building ≡ old.building → AddsRule old new rule
+adds_end old new rule ends sound rules owners begins same = record {
   rules = rules;
   owners =
       owners ∙ sym (append-nil old.owners.items)
       ∙ ap (λ b. old.owners.items ++ replicate (if b then 0 else parts (pattern_of rule).term) rule.number) (sym ends);
+  begins =
+      begins ∙ sym (append-nil old.begins.items)
+      ∙ ap (λ b. old.begins.items ++ (if b then [] else 2 * length old.owners.items ∷ [])) (sym ends);
   states =
       subst (λ b. Builds old.building new.building (if b then [] else table (pattern_of rule).term (length old.owners.items) final)) (sym ends)
       (subst (λ b. Builds old.building b []) (sym same) (builds_none old.building sound));
@@ -71,9 +74,11 @@ adds_end old new rule ends sound rules owners same = record {
 pub adds_rule : (old new : Making) (rule : Rule) → is_end rule.kind ≡ false
     → seen_tags new.rules.items ≡ seen_tags old.rules.items ++ (rule.number, sorts_of (pattern_of rule)) ∷ []
     → new.owners.items ≡ old.owners.items ++ replicate (parts (pattern_of rule).term) rule.number
+    → new.begins.items ≡ old.begins.items ++ 2 * length old.owners.items ∷ []
     → Builds old.building new.building (table (pattern_of rule).term (length old.owners.items) final) → AddsRule old new rule
-adds_rule old new rule plain rules owners states = record {
+adds_rule old new rule plain rules owners begins states = record {
   rules = rules;
   owners = owners ∙ ap (λ b. old.owners.items ++ replicate (if b then 0 else parts (pattern_of rule).term) rule.number) (sym plain);
+  begins = begins ∙ ap (λ b. old.begins.items ++ (if b then [] else 2 * length old.owners.items ∷ [])) (sym plain);
   states = subst (λ b. Builds old.building new.building (if b then [] else table (pattern_of rule).term (length old.owners.items) final)) (sym plain) states;
 }

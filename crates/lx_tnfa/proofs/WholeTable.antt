@@ -1,5 +1,5 @@
 -- The whole automaton, rule by rule.
-use Rattle.std.proofs.Common.{◌≡◌, ℕ, zero, suc, ◌+◌, ◌*◌, ◌<◌, ◌≤◌, arith, Bool, true, false, List, [], ◌∷◌, ◌++◌, map, length, get_or, drop, refl, sym, ap, ap₂, ◌∙◌, subst, append_assoc, append-nil, length-append, Some}
+use Rattle.std.proofs.Common.{◌≡◌, ℕ, zero, suc, ◌+◌, ◌*◌, ◌^◌, ◌<◌, ◌≤◌, arith, Bool, true, false, List, [], ◌∷◌, ◌++◌, map, length, get_or, drop, refl, sym, ap, ap₂, ◌∙◌, subst, append_assoc, append-nil, length-append, Some}
 use Rattle.std.proofs.lemmas.List.{length-replicate, map-append}
 use Rattle.std.proofs.Math.ListN.{drop_of_length-le}
 use Rattle.std.specs.Bool.{OnFalse}
@@ -15,9 +15,10 @@ use Rattle.lx_regex.specs.declared.rules.Rule.{Rule}
 use Rattle.lx_regex.proofs.RuleParts.{few_ends, few_tags, length-numbers_from, next_rule, regular_at, rule_alike, rule_counted, rule_room, rules_part, sizes_next}
 use Rattle.lx_regex.proofs.Rows.{table_length}
 use Rattle.lx_tnfa.specs.Classes.{AreClasses}
-use Rattle.lx_tnfa.specs.Making.{AddsRule, CanAdd, rule_size, rule_states, seen_tags}
+use Rattle.lx_tnfa.specs.Live.{AreLive}
+use Rattle.lx_tnfa.specs.Making.{AddsRule, CanAdd, rule_beginning, rule_size, rule_states, seen_tags}
 use Rattle.lx_tnfa.specs.Rows.{AreHeld, Builds, ClassesFit, IsHeld}
-use Rattle.lx_tnfa.specs.Tnfa.{AllClassesFit, AreNumbered, IsNumbered, IsTnfaOf}
+use Rattle.lx_tnfa.specs.Tnfa.{AllClassesFit, AreNumbered, IsNumbered, IsTnfaOf, beginnings_from}
 use Rattle.lx_tnfa.specs.declared.classes.ClassGraph.{ClassGraph}
 use Rattle.lx_tnfa.specs.declared.making.Making.{Making}
 use Rattle.lx_tnfa.specs.declared.states.State.{State}
@@ -53,12 +54,28 @@ rules_states pattern patterns part = at (is_end pattern.kind)
     at true = let e : part ≡ part + 0 = omega arith in ap (rules_table (terms_of patterns)) e
     at false = refl
 
+-- the beginning of the first rule and those of the others
+rules_beginnings : (pattern : Pattern) (patterns : List Pattern) (part : ℕ)
+    → beginnings_from (terms_of (pattern ∷ patterns)) part ≡ rule_beginning pattern part ++ beginnings_from (terms_of patterns) (part + rule_size pattern)
+rules_beginnings pattern patterns part = at (is_end pattern.kind)
+  where
+    at : (b : Bool) → beginnings_from (map (λ (p : Pattern). p.term) (if b then with_terms patterns else pattern ∷ with_terms patterns)) part
+        ≡ (if b then [] else 2 * part ∷ []) ++ beginnings_from (terms_of patterns) (part + (if b then 0 else parts pattern.term))
+    at true = let e : part ≡ part + 0 = omega arith in ap (beginnings_from (terms_of patterns)) e
+    at false = refl
+
 states_count : (pattern : Pattern) (part : ℕ) → length (rule_states pattern part) ≡ 2 * rule_size pattern
 states_count pattern part = at (is_end pattern.kind)
   where
     at : (b : Bool) → length (if b then [] else table pattern.term part final) ≡ 2 * (if b then 0 else parts pattern.term)
     at true = refl
     at false = table_length pattern.term part final
+
+held_length : (classes : List ClassGraph) (rows : List spec.State) (states : List State) → AreHeld classes rows states → length states ≡ length rows
+held_length classes [] [] h = refl
+held_length classes [] (state ∷ states) h = absurd h
+held_length classes (row ∷ rows) [] h = absurd h
+held_length classes (row ∷ rows) (state ∷ states) h = let r : length states ≡ length rows = held_length classes rows states h.1 in omega (arith, r)
 
 -- what a loop over rules has made
 pub record RulesMade (rules : List Rule) (start now : Making) (place : ℕ) : Type 0 where
@@ -68,17 +85,22 @@ pub record RulesMade (rules : List Rule) (start now : Making) (place : ℕ) : Ty
   pub owners : now.owners.items ++ map owner (parts_of_rules place (length now.owners.items) (patterns_of (drop place rules)))
       ≡ map owner (parts_of (patterns_of rules))
   pub tags : seen_tags now.rules.items ++ map tags_pair (patterns_of (drop place rules)) ≡ map tags_pair (patterns_of rules)
+  pub begins : now.begins.items ++ beginnings_from (terms_of (patterns_of (drop place rules))) (length now.owners.items)
+      ≡ beginnings_from (terms_of (patterns_of rules)) 1
   pub room : length now.owners.items + 132 * sizes_of (drop place rules) ≤ 1 + 132 * 4096
+  pub count : length now.building.states.items ≡ 2 * length now.owners.items
   pub classes : length now.building.classes.list.items ≤ length now.owners.items
 
 pub made_begin : (rules : List Rule) (start : Making) → IsWithinLimits rules → start.building.classes.list.items ≡ [] → start.owners.items ≡ 0 ∷ []
-    → start.rules.items ≡ [] → RulesMade rules start start 0
-made_begin rules start limits classes owners none = record {
+    → start.rules.items ≡ [] → start.begins.items ≡ [] → start.building.states.items ≡ held.Moves [] ∷ held.Moves [] ∷ [] → RulesMade rules start start 0
+made_begin rules start limits classes owners none nowhere states = record {
+  count = omega (arith, ap length owners, ap length states);
   done = [];
   builds = builds_none start.building (subst (AreClasses start.building.classes.enc) (sym classes) tt);
   left = ap (λ l. rules_table (terms_of (patterns_of rules)) (length l)) owners;
   owners = ap (λ l. l ++ map owner (parts_of_rules 0 (length l) (patterns_of rules))) owners;
   tags = ap (λ l. seen_tags l ++ map tags_pair (patterns_of rules)) none;
+  begins = ap₂ (λ b l. b ++ beginnings_from (terms_of (patterns_of rules)) (length l)) nowhere owners;
   room = omega (arith, ap length owners, limits.size);
   classes = omega (arith, ap length classes);
 }
@@ -113,7 +135,23 @@ made_more rules start now new place rule lt is limits made adds =
           ap (λ l. l ++ map tags_pair rest) adds.rules
           ∙ append_assoc (seen_tags now.rules.items) (tags_pair pattern ∷ []) (map tags_pair rest)
           ∙ ap (λ l. seen_tags now.rules.items ++ map tags_pair l) (sym next) ∙ made.tags;
+      begins =
+          ap₂ (λ a n. a ++ beginnings_from (terms_of rest) n) adds.begins count
+          ∙ append_assoc now.begins.items (rule_beginning pattern part) (beginnings_from (terms_of rest) (part + size))
+          ∙ ap (λ l. now.begins.items ++ l)
+          (sym (rules_beginnings pattern rest part) ∙ ap (λ l. beginnings_from (terms_of l) part) (sym next))
+          ∙ made.begins;
       room = omega (arith, count, fits, sizes_next rules place rule lt is, made.room);
+      count =
+          omega (
+            arith,
+            count,
+            made.count,
+            ap length adds.states.states,
+            length-append now.building.states.items adds.states.more,
+            held_length new.building.classes.list.items (rule_states pattern part) adds.states.more adds.states.held,
+            states_count pattern part,
+          );
       classes =
           omega (
             arith,
@@ -191,16 +229,18 @@ held_numbered classes (row ∷ rows) (state ∷ states) h = (one row state h.0, 
     one unit_leaf (held.Class number) h = absurd h
 
 -- all rules are made, and so the automaton of the list
-pub made_end : (enc : Enc) (rules : List Rule) (start now : Making) (place : ℕ) → length rules ≤ place
+pub made_end : (enc : Enc) (rules : List Rule) (start now : Making) (place : ℕ) (live : List Bool) → length rules ≤ place
     → start.building.states.items ≡ held.Moves [] ∷ held.Moves [] ∷ [] → start.building.classes.enc ≡ enc → RulesMade rules start now place
-    → IsTnfaOf enc (patterns_of rules) (record {
+    → AreLive now.building.classes.list.items now.building.states.items live → IsTnfaOf enc (patterns_of rules) (record {
       enc = enc;
       states = now.building.states.items;
       classes = now.building.classes.list.items;
       owners = now.owners.items;
       rules = seen_tags now.rules.items;
+      begins = now.begins.items;
+      live = live;
     })
-made_end enc rules start now place le states encoding made =
+made_end enc rules start now place live le states encoding made marked =
     let none : patterns_of (drop place rules) ≡ [] = ap patterns_of (drop_of_length-le rules le) in
     let whole : made.done ≡ rules_table (terms_of (patterns_of rules)) 1 =
     sym (append-nil made.done) ∙ ap (λ l. made.done ++ rules_table (terms_of l) (length now.owners.items)) (sym none) ∙ made.left in
@@ -215,4 +255,20 @@ made_end enc rules start now place le states encoding made =
           sym (append-nil now.owners.items)
           ∙ ap (λ l. now.owners.items ++ map owner (parts_of_rules place (length now.owners.items) l)) (sym none) ∙ made.owners;
       rules = sym (append-nil (seen_tags now.rules.items)) ∙ ap (λ l. seen_tags now.rules.items ++ map tags_pair l) (sym none) ∙ made.tags;
+      begins =
+          sym (append-nil now.begins.items)
+          ∙ ap (λ l. now.begins.items ++ beginnings_from (terms_of l) (length now.owners.items)) (sym none) ∙ made.begins;
+      live = marked;
     }
+
+-- there is a state
+pub made_some : (rules : List Rule) (start now : Making) (place : ℕ) → start.building.states.items ≡ held.Moves [] ∷ held.Moves [] ∷ []
+    → RulesMade rules start now place → 0 < length now.building.states.items
+made_some rules start now place states made =
+    let all : length now.building.states.items ≡ length (held.Moves [] ∷ held.Moves [] ∷ made.builds.more) =
+    ap length (made.builds.states ∙ ap (λ l. l ++ made.builds.more) states) in
+    omega (arith, all)
+
+-- the numbers of the states have 32 bits
+pub made_few : (rules : List Rule) (start now : Making) (place : ℕ) → RulesMade rules start now place → length now.building.states.items < 2 ^ 32
+made_few rules start now place made = omega (arith, made.count, made.room)

@@ -1,6 +1,8 @@
 pub mod Beginnings
 pub mod Classes
+pub mod Closure
 pub mod Ends
+pub mod Live
 pub mod Making
 pub mod Moves
 pub mod Rows

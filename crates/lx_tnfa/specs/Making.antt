@@ -1,5 +1,5 @@
 -- An automaton that is made rule by rule.
-use Rattle.std.specs.Prelude.{◌≡◌, ℕ, ◌^◌, ◌<◌, List, [], ◌∷◌, ◌++◌, map, length, replicate, Bool, if◌then◌else◌}
+use Rattle.std.specs.Prelude.{◌≡◌, ℕ, ◌^◌, ◌<◌, List, [], ◌∷◌, ◌*◌, ◌++◌, map, length, replicate, Bool, if◌then◌else◌}
 use Rattle.lx_regex.specs.Automaton.{State, table, final}
 use Rattle.lx_regex.specs.Pattern.{Pattern, is_end, pattern_of, sorts_of}
 use Rattle.lx_regex.specs.Term.{parts}
@@ -20,6 +20,10 @@ rule_states pattern part = if is_end pattern.kind then [] else table pattern.ter
 abbrev pub rule_size : Pattern → ℕ
 rule_size pattern = if is_end pattern.kind then 0 else parts pattern.term
 
+-- the state at the beginning of a rule that is this part; the rule `$` has none
+abbrev pub rule_beginning : Pattern → (part : ℕ) → List ℕ
+rule_beginning pattern part = if is_end pattern.kind then [] else 2 * part ∷ []
+
 -- a rule with an expression can be added
 pub record CanAdd (making : Making) (rule : Rule) : Type 0 where
   pub tags : length rule.tags < 2 ^ 32
@@ -30,4 +34,5 @@ pub record CanAdd (making : Making) (rule : Rule) : Type 0 where
 pub record AddsRule (old new : Making) (rule : Rule) : Type 0 where
   pub rules : seen_tags new.rules.items ≡ seen_tags old.rules.items ++ (rule.number, sorts_of (pattern_of rule)) ∷ []
   pub owners : new.owners.items ≡ old.owners.items ++ replicate (rule_size (pattern_of rule)) rule.number
+  pub begins : new.begins.items ≡ old.begins.items ++ rule_beginning (pattern_of rule) (length old.owners.items)
   pub states : Builds old.building new.building (rule_states (pattern_of rule) (length old.owners.items))

@@ -1,5 +1,5 @@
 -- What contracts see of an automaton, its places, and how a unit moves one on.
-use Rattle.std.specs.Prelude.{◌≡◌, ℕ, ◌*◌, ◌<◌, ◌≤◌, List, [], ◌∷◌, map, length, Option, Some, None, Bool, slice_index_or, nat_eq, if◌then◌else◌}
+use Rattle.std.specs.Prelude.{◌≡◌, ℕ, ◌+◌, ◌*◌, ◌<◌, ◌≤◌, List, [], ◌∷◌, map, length, Option, Some, None, Bool, slice_index_or, nat_eq, if◌then◌else◌}
 use Rattle.std.specs.Option.{option_map}
 use Rattle.lx_base.specs.declared.settings.Enc.{Enc}
 use Rattle.lx_encode.specs.Table.{Rows, Finishes, step_of}
@@ -7,8 +7,9 @@ use Rattle.lx_encode.specs.Graph.{numbered}
 use Rattle.lx_regex.specs.Automaton.{automaton}
 use Rattle.lx_regex.specs.Parts.{Part, parts_of}
 use Rattle.lx_regex.specs.Pattern.{Pattern, sorts_of, terms_of}
-use Rattle.lx_regex.specs.Term.{Term}
+use Rattle.lx_regex.specs.Term.{Term, parts}
 use Rattle.lx_tnfa.specs.Classes.{AreClasses}
+use Rattle.lx_tnfa.specs.Live.{AreLive}
 use Rattle.lx_tnfa.specs.Rows.{AreHeld, ClassesFit}
 use Rattle.lx_tnfa.specs.declared.classes.ClassGraph.{ClassGraph}
 use Rattle.lx_tnfa.specs.declared.places.Place.{Place}
@@ -16,13 +17,16 @@ use Rattle.lx_tnfa.specs.declared.states.State.{State}
 use Rattle.lx_tnfa.specs.declared.states.State.TheVariants.{Moves, Class, AnyUnit}
 
 -- An automaton: its encoding, its states, the classes of their leaves with their graphs, for each part the number of its rule,
--- and for each rule its number and of each of its tags whether it is an m-tag.
+-- for each rule its number and of each of its tags whether it is an m-tag, the beginnings of rules, and of each state whether an
+-- end can be reached from it.
 pub record Tnfa : Type 0 where
   pub enc : Enc
   pub states : List State
   pub classes : List ClassGraph
   pub owners : List ℕ
   pub rules : List (ℕ × List Bool)
+  pub begins : List ℕ
+  pub live : List Bool
 
 -- the rows of the graph of the class with this number
 abbrev pub rows_at : List ClassGraph → ℕ → Rows
@@ -79,6 +83,11 @@ abbrev pub AreNumbered : (count : ℕ) → List State → Type 0
 AreNumbered count [] = Unit {0}
 AreNumbered count (state ∷ states) = IsNumbered count state × AreNumbered count states
 
+-- the states at the beginnings of rules, of which the first is this part
+abbrev pub beginnings_from : List Term → (part : ℕ) → List ℕ
+beginnings_from [] part = []
+beginnings_from (e ∷ rules) part = 2 * part ∷ beginnings_from rules (part + parts e)
+
 -- the automaton of a rule list
 pub record IsTnfaOf (encoding : Enc) (patterns : List Pattern) (tnfa : Tnfa) : Type 0 where
   pub enc : tnfa.enc ≡ encoding
@@ -86,6 +95,8 @@ pub record IsTnfaOf (encoding : Enc) (patterns : List Pattern) (tnfa : Tnfa) : T
   pub classes : AreClasses encoding tnfa.classes
   pub owners : tnfa.owners ≡ map (λ (part : Part). part.rule) (parts_of patterns)
   pub rules : tnfa.rules ≡ map (λ (pattern : Pattern). (pattern.number, sorts_of pattern)) patterns
+  pub begins : tnfa.begins ≡ beginnings_from (terms_of patterns) 1
+  pub live : AreLive tnfa.classes tnfa.states tnfa.live
 
 -- every point of a class of the terms is one of the encoding
 abbrev pub AllClassesFit : Enc → List Term → Type 0

@@ -1,11 +1,18 @@
 //! What holds of places. Each law is the contract of a function that does nothing.
-ghost use Rattle.std.specs.Prelude.{◌≡◌, ◌↔◌, ℕ, List};
+ghost use Rattle.std.specs.Prelude.{◌≡◌, ◌↔◌, ℕ, List, Some, map, slice_get};
 ghost use Rattle.lx_base.specs.declared.settings.Enc.{Enc};
+ghost use Rattle.lx_regex.specs.Automaton as spec;
+ghost use Rattle.lx_regex.specs.Automaton.{automaton, moves};
 ghost use Rattle.lx_regex.specs.Cut.{Cut, IsCut, SamePlace};
 ghost use Rattle.lx_regex.specs.Pattern.{Pattern, terms_of};
+ghost use Rattle.lx_tnfa.specs.Closure.{IsClosureOf};
+ghost use Rattle.lx_tnfa.specs.Live.{state_of};
+ghost use Rattle.lx_tnfa.specs.Moves.{shown_move};
 ghost use Rattle.lx_tnfa.specs.Standing.{StandsAt};
 ghost use Rattle.lx_tnfa.specs.Tnfa.{IsTnfaOf, Tnfa};
+ghost use Rattle.lx_tnfa.specs.declared.closure.Reach.{Reach};
 ghost use Rattle.lx_tnfa.specs.declared.places.Place.{Place};
+ghost use Rattle.lx_tnfa.specs.declared.states.State.TheVariants.{Moves};
 
 /// Two cuts, at any words, stand at one place exactly where they stand at one place of the automaton: where part and residual
 /// are equal.
@@ -14,4 +21,17 @@ pub fn places_are_told_apart()
         → IsTnfaOf enc patterns tnfa → IsCut enc (terms_of patterns) word cut → IsCut enc (terms_of patterns) other_word other
         → StandsAt enc (terms_of patterns) tnfa cut place → StandsAt enc (terms_of patterns) tnfa other there
         → SamePlace enc (terms_of patterns) cut other ↔ (place ≡ there) }
+{}
+
+/// Two lists that are closures of the same places are equal.
+pub fn closures_are_unique()
+    ensures { (tnfa : Tnfa) (places : List Place) (reaches others : List Reach)
+        → IsClosureOf tnfa places reaches → IsClosureOf tnfa places others → reaches ≡ others }
+{}
+
+/// A state of the automaton that goes on by moves has the same moves in the program: so the walks of closures are over them.
+pub fn moves_are_those_of_the_automaton()
+    ensures { (enc : Enc) (patterns : List Pattern) (tnfa : Tnfa) (number : ℕ) (ways : List spec.Move) → IsTnfaOf enc patterns tnfa
+        → slice_get (automaton (terms_of patterns)) number ≡ Some (moves ways)
+        → state_of tnfa.states number ≡ Moves (map shown_move ways) }
 {}

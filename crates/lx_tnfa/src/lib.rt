@@ -3,7 +3,9 @@
 
 mod building;
 mod classes;
+mod closure;
 pub mod laws;
+mod live;
 mod making;
 mod places;
 mod shape;
@@ -11,6 +13,7 @@ mod states;
 mod tags;
 mod tnfa;
 
+pub use closure::{Reach, Target};
 pub use places::Place;
 pub use states::{Event, Move};
 pub use tnfa::Tnfa;

@@ -17,12 +17,14 @@ use lx_regex::{Kind, Rule};
 use std::alloc::Global;
 use std::collections::HashMap;
 
-/// An automaton that is made: its states, for each part the number of its rule, and the tags of its rules.
+/// An automaton that is made: its states, for each part the number of its rule, and the tags and beginnings of its rules.
 #[derive(Drop)]
 pub(crate) struct Making {
     pub building: Building,
     pub owners: Vec<u32>,
     pub rules: Vec<RuleTags>,
+    /// The states at the beginnings of rules.
+    pub begins: Vec<u32>,
 }
 
 /// Puts a rule's number at the end, so many times.
@@ -70,6 +72,7 @@ impl Making {
         ensures classes { IfOk result (λ making. making.building.classes.list.items ≡ []) }
         ensures owners { IfOk result (λ making. making.owners.items ≡ 0 ∷ []) }
         ensures rules { IfOk result (λ making. making.rules.items ≡ []) }
+        ensures begins { IfOk result (λ making. making.begins.items ≡ []) }
     {
         let mut states = Vec::new(alloc);
         states.push(State::Moves(Sequence::new(alloc)))?;
@@ -85,6 +88,7 @@ impl Making {
             building: Building { states, classes },
             owners,
             rules: Vec::new(alloc),
+            begins: Vec::new(alloc),
         })
     }
 
@@ -102,6 +106,7 @@ impl Making {
                 let part = self.owners.len() as u32;
                 let shape = shape_of(alloc, tags, &rule.expr)?;
                 let site = Site { tags, part };
+                self.begins.push(2 * part)?;
                 let exits = one_move(alloc, 0, None)?;
                 build(alloc, &mut self.building, site, &rule.expr, &shape, exits)?;
                 push_owners(&mut self.owners, rule.number, shape.parts)

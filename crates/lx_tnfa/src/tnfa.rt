@@ -7,6 +7,7 @@ ghost use Rattle.lx_regex.specs.Limits.{IsWithinLimits};
 ghost use Rattle.lx_regex.specs.Pattern.{patterns_of, terms_of};
 
 use crate::classes::ClassGraph;
+use crate::live::live_states;
 use crate::making::Making;
 use crate::places::Place;
 use crate::states::State;
@@ -33,10 +34,12 @@ pub struct Tnfa {
     pub(crate) classes: Vec<ClassGraph>,
     pub(crate) owners: Vec<u32>,
     pub(crate) rules: Vec<RuleTags>,
+    pub(crate) begins: Vec<u32>,
+    pub(crate) live: Vec<bool>,
 }
 
 impl Model for Tnfa {
-    ghost use Rattle.std.specs.Prelude.{map, length};
+    ghost use Rattle.std.specs.Prelude.{◌<◌, ◌^◌, map, length};
     ghost use Rattle.lx_tnfa.specs.Tnfa as spec;
     ghost use Rattle.lx_tnfa.specs.Tnfa.{AreNumbered};
     ghost use Rattle.lx_tnfa.specs.declared.tnfa.RuleTags.{RuleTags};
@@ -49,9 +52,11 @@ impl Model for Tnfa {
       classes = t.classes.items;
       owners = t.owners.items;
       rules = map (λ (rule : RuleTags). (rule.number, rule.many.items)) t.rules.items;
+      begins = t.begins.items;
+      live = t.live.items;
     } };
 
-    ghost invariant = { λ t. AreNumbered (length t.classes.items) t.states.items };
+    ghost invariant = { λ t. AreNumbered (length t.classes.items) t.states.items × (length t.states.items < 2 ^ 32) };
 }
 
 impl Tnfa {
@@ -71,13 +76,17 @@ impl Tnfa {
             building,
             owners,
             rules,
+            begins,
         } = making;
+        let live = live_states(alloc, &building.states, &building.classes.list)?;
         Ok(Tnfa {
             enc,
             states: building.states,
             classes: building.classes.list,
             owners,
             rules,
+            begins,
+            live,
         })
     }
 

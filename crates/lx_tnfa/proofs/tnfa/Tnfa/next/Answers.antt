@@ -11,7 +11,7 @@ returns-in_ok-rest-in-Class-clause-none c =
     let classes : tnfa.classes ≡ c.self.inside.classes.items = sym (ap (λ t. t.classes) c.self.view_is) in
     let state = state_is tnfa c.args.place.now c.self.inside.states.items c.index.result.now states c.requires.part c.index.ensures ∙ c.in-Class.is in
     let lt : 2 * c.args.place.now.part < length c.self.inside.states.items = subst (λ l. 2 * c.args.place.now.part < length l) states c.requires.part in
-    let within = numbered_at _ c.self.inside.states.items (2 * c.args.place.now.part) c.index.result.now c.in-Class.number c.self.invariant lt c.index.ensures c.in-Class.is in
+    let within = numbered_at _ c.self.inside.states.items (2 * c.args.place.now.part) c.index.result.now c.in-Class.number c.self.invariant.0 lt c.index.ensures c.in-Class.is in
     let rows =
     ap (λ l. rows_at l c.in-Class.number) classes
     ∙ rows_are c.self.inside.classes.items c.in-Class.number c.index-in-Class.result.now within c.index-in-Class.ensures in

@@ -1,16 +1,17 @@
-use Rattle.std.proofs.Common.{◌≡◌, ◌+◌, suc, sym, subst, arith}
+use Rattle.std.proofs.Common.{◌≡◌, ◌+◌, suc, sym, ap, subst, arith, length}
 use Rattle.lx_regex.specs.Automaton.{automaton}
 use Rattle.lx_regex.specs.Limits.{IsWithinLimits}
 use Rattle.lx_regex.specs.Pattern.{patterns_of, terms_of}
 use Rattle.lx_tnfa.specs.Tnfa.{AllClassesFit}
-use Rattle.lx_tnfa.proofs.WholeTable.{RulesMade, made_begin, made_can, made_more, made_end, held_numbered}
+use Rattle.lx_tnfa.proofs.LiveMarks.{live_same}
+use Rattle.lx_tnfa.proofs.WholeTable.{RulesMade, made_begin, made_can, made_more, made_end, made_few, made_some, held_numbered}
 use Rattle.lx_tnfa.proofs.tnfa.Tnfa.of.Goals as goal
 
 pub loop-rule-init : goal.loop-rule-init
 loop-rule-init c =
     let limits = subst IsWithinLimits (sym c.as_slice-rule-items.ensures) c.requires.limits in
     let made = c.in_ok-making.ensures in
-    made_begin c.as_slice-rule-items.result.now c.in_ok-making.making limits made.classes made.owners made.rules
+    made_begin c.as_slice-rule-items.result.now c.in_ok-making.making limits made.classes made.owners made.rules made.begins made.states
 
 pub add_rule-requires-clause-can : goal.add_rule-requires-clause-can
 add_rule-requires-clause-can c =
@@ -32,13 +33,26 @@ loop-rule-preserved c =
 pub invariant_of-result : goal.invariant_of-result
 invariant_of-result c =
     let whole =
-    made_end c.args.enc c.as_slice-rule-items.result.now c.in_ok-making.making c.loop-rule.making c.loop-rule.rule-index c.loop-rule-test.false
-    c.in_ok-making.ensures.states c.in_ok-making.ensures.enc c.loop-rule.invariant in
-    held_numbered c.loop-rule.making.building.classes.list.items (automaton (terms_of (patterns_of c.as_slice-rule-items.result.now))) c.loop-rule.making.building.states.items whole.states
+    made_end c.args.enc c.as_slice-rule-items.result.now c.in_ok-making.making c.loop-rule.making c.loop-rule.rule-index c.in_ok-live.live.items
+    c.loop-rule-test.false c.in_ok-making.ensures.states c.in_ok-making.ensures.enc c.loop-rule.invariant
+    (live_same c.loop-rule.making.building.classes.list.items c.deref-2.result.now c.loop-rule.making.building.states.items c.deref.result.now
+    c.in_ok-live.live.items c.deref-2.ensures.value c.deref.ensures.value c.in_ok-live.ensures.live) in (
+      held_numbered c.loop-rule.making.building.classes.list.items (automaton (terms_of (patterns_of c.as_slice-rule-items.result.now))) c.loop-rule.making.building.states.items whole.states,
+      made_few c.as_slice-rule-items.result.now c.in_ok-making.making c.loop-rule.making c.loop-rule.rule-index c.loop-rule.invariant,
+    )
 
 pub returns : goal.returns
 returns c =
     let whole =
-    made_end c.args.enc c.as_slice-rule-items.result.now c.in_ok-making.making c.loop-rule.making c.loop-rule.rule-index c.loop-rule-test.false
-    c.in_ok-making.ensures.states c.in_ok-making.ensures.enc c.loop-rule.invariant in
+    made_end c.args.enc c.as_slice-rule-items.result.now c.in_ok-making.making c.loop-rule.making c.loop-rule.rule-index c.in_ok-live.live.items
+    c.loop-rule-test.false c.in_ok-making.ensures.states c.in_ok-making.ensures.enc c.loop-rule.invariant
+    (live_same c.loop-rule.making.building.classes.list.items c.deref-2.result.now c.loop-rule.making.building.states.items c.deref.result.now
+    c.in_ok-live.live.items c.deref-2.ensures.value c.deref.ensures.value c.in_ok-live.ensures.live) in
     rw c.as_slice-rule-items.ensures at whole
+
+pub live_states-requires : goal.live_states-requires
+live_states-requires c =
+    let some =
+    made_some c.as_slice-rule-items.result.now c.in_ok-making.making c.loop-rule.making c.loop-rule.rule-index c.in_ok-making.ensures.states
+    c.loop-rule.invariant in
+    omega (arith, ap length c.deref.ensures.value, some)

@@ -1,0 +1,56 @@
+-- The states from which an end can be reached.
+use Rattle.std.specs.Prelude.{◌≡◌, ℕ, suc, ◌<◌, ◌↔◌, List, [], ◌∷◌, map, length, Bool, true, false, Contains, slice_index_or}
+use Rattle.std.specs.List.{list_any}
+use Rattle.lx_encode.specs.declared.graph.Residual.{Residual}
+use Rattle.lx_tnfa.specs.declared.classes.ClassGraph.{ClassGraph}
+use Rattle.lx_tnfa.specs.declared.states.Move.{Move}
+use Rattle.lx_tnfa.specs.declared.states.State.{State}
+use Rattle.lx_tnfa.specs.declared.states.State.TheVariants.{Moves, Class, AnyUnit}
+
+-- the starts of the graph of the class with this number
+abbrev pub starts_at : List ClassGraph → ℕ → List Residual
+starts_at classes number = slice_index_or (map (λ (class : ClassGraph). class.graph.starts) classes) number []
+
+-- a state, if a leaf has a spelling that leads to it
+abbrev pub behind_leaf : List Residual → ℕ → List ℕ
+behind_leaf [] state = []
+behind_leaf (start ∷ starts) state = state ∷ []
+
+-- the states to which a state with this number leads: by its moves in their order, or by a spelling of its leaf
+abbrev pub leads_to : List ClassGraph → (number : ℕ) → State → List ℕ
+leads_to classes number (Moves ways) = map (λ (way : Move). way.to) ways
+leads_to classes number (Class class) = behind_leaf (starts_at classes class) (suc number)
+leads_to classes number AnyUnit = suc number ∷ []
+
+-- the state with this number; there is none to which nothing leads
+abbrev pub state_of : List State → ℕ → State
+state_of states number = slice_index_or states number (Moves [])
+
+-- an end can be reached from the state: it is the last state of all, or leads to one from which an end can be reached
+pub data ReachesEnd (classes : List ClassGraph) (states : List State) : ℕ → Type 0 where
+  at_end : ReachesEnd classes states 0
+  onward : {number : ℕ}
+      → (next : ℕ) → Contains (leads_to classes number (state_of states number)) next → ReachesEnd classes states next
+      → ReachesEnd classes states number
+
+-- the mark of a state
+abbrev pub mark_at : List Bool → ℕ → Bool
+mark_at marks number = slice_index_or marks number false
+
+-- a marked state reaches an end
+abbrev pub MarksAreSound : List ClassGraph → List State → List Bool → Type 0
+MarksAreSound classes states marks = (number : ℕ) → mark_at marks number ≡ true → ReachesEnd classes states number
+
+-- whether a state leads to a marked one
+abbrev pub leads_to_marked : List ClassGraph → List State → List Bool → (number : ℕ) → Bool
+leads_to_marked classes states marks number = list_any (mark_at marks) (leads_to classes number (state_of states number))
+
+-- a state that leads to a marked one is marked
+abbrev pub MarksAreClosed : List ClassGraph → List State → List Bool → Type 0
+MarksAreClosed classes states marks =
+    (number : ℕ) → number < length states → leads_to_marked classes states marks number ≡ true → mark_at marks number ≡ true
+
+-- the states from which an end can be reached are marked, and no others
+abbrev pub AreLive : List ClassGraph → List State → List Bool → Type 0
+AreLive classes states marks =
+    (number : ℕ) → number < length states → (mark_at marks number ≡ true) ↔ ReachesEnd classes states number
