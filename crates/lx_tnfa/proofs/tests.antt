@@ -1,2 +1,4 @@
 pub mod OneMore
 pub mod OneRule
+pub mod ThreeRules
+pub mod UnitPlaces

@@ -3,8 +3,10 @@ ghost use Rattle.std.specs.Prelude.{◌≡◌, ◌↔◌, ℕ, List, Some, map, 
 ghost use Rattle.lx_base.specs.declared.settings.Enc.{Enc};
 ghost use Rattle.lx_regex.specs.Automaton as spec;
 ghost use Rattle.lx_regex.specs.Automaton.{automaton, moves};
-ghost use Rattle.lx_regex.specs.Cut.{Cut, IsCut, SamePlace};
+ghost use Rattle.lx_regex.specs.Cut.{Cut, EndsInUnit, GoesOn, IsCut, SamePlace};
 ghost use Rattle.lx_regex.specs.Pattern.{Pattern, terms_of};
+ghost use Rattle.lx_regex.specs.Script.{Symbol};
+ghost use Rattle.lx_regex.specs.Term.{Term};
 ghost use Rattle.lx_tnfa.specs.Closure.{IsClosureOf};
 ghost use Rattle.lx_tnfa.specs.Live.{state_of};
 ghost use Rattle.lx_tnfa.specs.Moves.{shown_move};
@@ -21,6 +23,12 @@ pub fn places_are_told_apart()
         → IsTnfaOf enc patterns tnfa → IsCut enc (terms_of patterns) word cut → IsCut enc (terms_of patterns) other_word other
         → StandsAt enc (terms_of patterns) tnfa cut place → StandsAt enc (terms_of patterns) tnfa other there
         → SamePlace enc (terms_of patterns) cut other ↔ (place ≡ there) }
+{}
+
+/// What goes on from a cut goes on from each cut at its place.
+pub fn cuts_at_one_place_go_on_alike()
+    ensures { (enc : Enc) (rules : List Term) (cut other : Cut) (rest : List Symbol) → SamePlace enc rules cut other
+        → EndsInUnit cut.front → EndsInUnit other.front → GoesOn enc rules cut rest → GoesOn enc rules other rest }
 {}
 
 /// Two lists that are closures of the same places are equal.

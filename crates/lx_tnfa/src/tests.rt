@@ -18,6 +18,11 @@ use std::alloc::Global;
 use std::test::Fail;
 use std::time::Instant;
 
+mod closures;
+mod places;
+mod rules;
+mod units;
+
 /// The class of the points between two.
 fn points(alloc: Global, lo: u32, hi: u32) -> Result<Expr, Memory>
     requires order { lo ≤ hi }
@@ -119,6 +124,7 @@ fn scanner(alloc: Global, enc: Enc, expr: Expr, tags: u32, groups: u32) -> Resul
     requires told { tags_in (term_of tags expr) ≡ numbers_from 0 (tags + 2 * groups) }
     ensures limits { IfOk result (λ set. IsWithinLimits set.rules) }
     ensures classes { IfOk result (λ set. AllClassesFit enc (terms_of (patterns_of set.rules))) }
+    ensures terms { IfOk result (λ set. terms_of (patterns_of set.rules) ≡ term_of tags expr ∷ []) }
 {
     let list = unnamed(alloc, tags)?;
     let mut rules = Sequence::new(alloc);

@@ -1,4 +1,4 @@
-use Rattle.std.proofs.Common.{◌≡◌, ℕ, ◌+◌, ◌*◌, length, arith, sym, subst, None}
+use Rattle.std.proofs.Common.{◌≡◌, ℕ, ◌+◌, ◌*◌, length, arith, refl, sym, subst, None}
 use Rattle.lx_regex.specs.Expr.{term_of}
 use Rattle.lx_regex.specs.Limits.{HasLongSequences, numbers_from}
 use Rattle.lx_regex.specs.Script.{tags_in}
@@ -19,3 +19,7 @@ returns-clause-limits c =
 pub returns-clause-classes : goal.returns-clause-classes
 returns-clause-classes c =
     rw c.in_ok-push.ensures.pushed (rw c.new-rules.ensures (rw c.in_ok-list.ensures (c.requires.fits, tt)))
+
+pub returns-clause-terms : goal.returns-clause-terms
+returns-clause-terms c =
+    rw c.in_ok-push.ensures.pushed (rw c.new-rules.ensures (rw c.in_ok-list.ensures refl))
