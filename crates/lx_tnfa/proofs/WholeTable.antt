@@ -231,7 +231,7 @@ held_numbered classes (row ∷ rows) (state ∷ states) h = (one row state h.0, 
 -- all rules are made, and so the automaton of the list
 pub made_end : (enc : Enc) (rules : List Rule) (start now : Making) (place : ℕ) (live : List Bool) → length rules ≤ place
     → start.building.states.items ≡ held.Moves [] ∷ held.Moves [] ∷ [] → start.building.classes.enc ≡ enc → RulesMade rules start now place
-    → AreLive now.building.classes.list.items now.building.states.items live → IsTnfaOf enc (patterns_of rules) (record {
+    → length live ≡ length now.building.states.items → AreLive now.building.classes.list.items now.building.states.items live → IsTnfaOf enc (patterns_of rules) (record {
       enc = enc;
       states = now.building.states.items;
       classes = now.building.classes.list.items;
@@ -240,7 +240,7 @@ pub made_end : (enc : Enc) (rules : List Rule) (start now : Making) (place : ℕ
       begins = now.begins.items;
       live = live;
     })
-made_end enc rules start now place live le states encoding made marked =
+made_end enc rules start now place live le states encoding made marks marked =
     let none : patterns_of (drop place rules) ≡ [] = ap patterns_of (drop_of_length-le rules le) in
     let whole : made.done ≡ rules_table (terms_of (patterns_of rules)) 1 =
     sym (append-nil made.done) ∙ ap (λ l. made.done ++ rules_table (terms_of l) (length now.owners.items)) (sym none) ∙ made.left in
@@ -258,6 +258,7 @@ made_end enc rules start now place live le states encoding made marked =
       begins =
           sym (append-nil now.begins.items)
           ∙ ap (λ l. now.begins.items ++ beginnings_from (terms_of l) (length now.owners.items)) (sym none) ∙ made.begins;
+      marks = marks;
       live = marked;
     }
 

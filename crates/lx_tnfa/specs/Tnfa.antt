@@ -96,6 +96,7 @@ pub record IsTnfaOf (encoding : Enc) (patterns : List Pattern) (tnfa : Tnfa) : T
   pub owners : tnfa.owners ≡ map (λ (part : Part). part.rule) (parts_of patterns)
   pub rules : tnfa.rules ≡ map (λ (pattern : Pattern). (pattern.number, sorts_of pattern)) patterns
   pub begins : tnfa.begins ≡ beginnings_from (terms_of patterns) 1
+  pub marks : length tnfa.live ≡ length tnfa.states
   pub live : AreLive tnfa.classes tnfa.states tnfa.live
 
 -- every point of a class of the terms is one of the encoding

@@ -1,4 +1,4 @@
-use Rattle.std.proofs.Common.{◌≡◌, ◌+◌, suc, sym, ap, subst, arith, length}
+use Rattle.std.proofs.Common.{◌≡◌, ◌∙◌, ◌+◌, suc, sym, ap, subst, arith, length}
 use Rattle.lx_regex.specs.Automaton.{automaton}
 use Rattle.lx_regex.specs.Limits.{IsWithinLimits}
 use Rattle.lx_regex.specs.Pattern.{patterns_of, terms_of}
@@ -35,6 +35,7 @@ invariant_of-result c =
     let whole =
     made_end c.args.enc c.as_slice-rule-items.result.now c.in_ok-making.making c.loop-rule.making c.loop-rule.rule-index c.in_ok-live.live.items
     c.loop-rule-test.false c.in_ok-making.ensures.states c.in_ok-making.ensures.enc c.loop-rule.invariant
+    (c.in_ok-live.ensures.count ∙ ap length c.deref.ensures.value)
     (live_same c.loop-rule.making.building.classes.list.items c.deref-2.result.now c.loop-rule.making.building.states.items c.deref.result.now
     c.in_ok-live.live.items c.deref-2.ensures.value c.deref.ensures.value c.in_ok-live.ensures.live) in (
       held_numbered c.loop-rule.making.building.classes.list.items (automaton (terms_of (patterns_of c.as_slice-rule-items.result.now))) c.loop-rule.making.building.states.items whole.states,
@@ -46,6 +47,7 @@ returns c =
     let whole =
     made_end c.args.enc c.as_slice-rule-items.result.now c.in_ok-making.making c.loop-rule.making c.loop-rule.rule-index c.in_ok-live.live.items
     c.loop-rule-test.false c.in_ok-making.ensures.states c.in_ok-making.ensures.enc c.loop-rule.invariant
+    (c.in_ok-live.ensures.count ∙ ap length c.deref.ensures.value)
     (live_same c.loop-rule.making.building.classes.list.items c.deref-2.result.now c.loop-rule.making.building.states.items c.deref.result.now
     c.in_ok-live.live.items c.deref-2.ensures.value c.deref.ensures.value c.in_ok-live.ensures.live) in
     rw c.as_slice-rule-items.ensures at whole
