@@ -14,7 +14,8 @@ use Rattle.lx_regex.specs.Walk.{IsAmong, first, mark, next}
 use Rattle.lx_regex.proofs.Exchange.{plain_from}
 use Rattle.lx_regex.proofs.Fronts.{no_rows, units_code}
 use Rattle.lx_regex.proofs.PlainWalk.{IsPlainList, IsUnseen, mark_tells, plain_choice, plain_label, plain_list, plain_mark, plain_reads, spell_some, units_label, units_mark, unseen_choice, unseen_label, unseen_mark, unseen_point}
-use Rattle.lx_regex.proofs.Readings.{Code, code_some, front_same_length, of_point, of_unit}
+use Rattle.lx_regex.proofs.Readings.{code_some, front_same_length}
+use Rattle.lx_regex.specs.Reading.{IsReading, of_point, of_unit}
 use Rattle.lx_regex.proofs.Scripts.{Path, ended, in_none, path_of, then_code, then_move, walk_from, zero_is}
 use Rattle.lx_regex.proofs.WholeWalk.{alone, alone_stands, alone_zero, walk_of, tree_of}
 
@@ -307,7 +308,7 @@ module _ (enc : Enc) (states : List State) (z : slice_get states 0 ≡ Some (mov
 
   from_code :
       (s : ℕ) (us seen : List ℕ) (r : State) → slice_get states s ≡ Some r → (l : List Symbol) → (d : List Symbol) (cs : List ℕ)
-      → Code enc r d cs → Path enc states (s + 1) l → units (mark s ∷ (d ++ (map reads cs ++ l))) ≡ us
+      → IsReading enc r d cs → Path enc states (s + 1) l → units (mark s ∷ (d ++ (map reads cs ++ l))) ≡ us
       → IsPlainList (mark s ∷ (d ++ (map reads cs ++ l))) → Via s us d cs (mark s ∷ (d ++ (map reads cs ++ l)))
   from_code s us seen r h l d cs k q u p = (
     units l,
@@ -322,20 +323,20 @@ module _ (enc : Enc) (states : List State) (z : slice_get states 0 ≡ Some (mov
     refl,
   )
 
-  pub unseen_code : {r : State} {d : List Symbol} {cs : List ℕ} → Code enc r d cs → (x : Symbol) (l : List Symbol)
+  pub unseen_code : {r : State} {d : List Symbol} {cs : List ℕ} → IsReading enc r d cs → (x : Symbol) (l : List Symbol)
       → IsUnseen x (d ++ (map reads cs ++ l))
   unseen_code (of_point {ranges} c i) x l =
       let q = code_some enc (of_point c i) in unseen_choice enc ranges c x _ (unseen_point x (spell enc c) q.0 q.1 l q.2)
   unseen_code (of_unit u) x l = tt
 
-  pub plain_code : {r : State} {d : List Symbol} {cs : List ℕ} → Code enc r d cs → (l : List Symbol) → IsPlainList l
+  pub plain_code : {r : State} {d : List Symbol} {cs : List ℕ} → IsReading enc r d cs → (l : List Symbol) → IsPlainList l
       → IsPlainList (d ++ (map reads cs ++ l))
   plain_code (of_point {ranges} c i) l h = plain_choice enc ranges c _ (plain_reads (spell enc c) l h)
   plain_code (of_unit u) l h = h
 
   to_code :
       (s : ℕ) (us seen : List ℕ) (r : State) → slice_get states s ≡ Some r → (Contains s seen → ⊥) → (d : List Symbol) (cs : List ℕ)
-      → Code enc r d cs → (l : List Symbol) → Via s us d cs l → Candidate s us seen l
+      → IsReading enc r d cs → (l : List Symbol) → Via s us d cs l → Candidate s us seen l
   to_code s us seen r h new d cs k l' v =
       let l = v.1 in
       let c = v.3 in
@@ -351,7 +352,7 @@ module _ (enc : Enc) (states : List State) (z : slice_get states 0 ≡ Some (mov
       → (l : List Symbol) → Candidate s us seen l → ViaRanges s us ranges ranges l
   from_leaf s us seen ranges h ne l c = at c.path c.over c.plain
     where
-      code : {r : State} {d : List Symbol} {cs : List ℕ} → Code enc r d cs → r ≡ leaf ranges → {l : List Symbol}
+      code : {r : State} {d : List Symbol} {cs : List ℕ} → IsReading enc r d cs → r ≡ leaf ranges → {l : List Symbol}
           → Path enc states (s + 1) l → units (mark s ∷ (d ++ (map reads cs ++ l))) ≡ us
           → IsPlainList (mark s ∷ (d ++ (map reads cs ++ l)))
           → ViaRanges s us ranges ranges (mark s ∷ (d ++ (map reads cs ++ l)))
@@ -376,7 +377,7 @@ module _ (enc : Enc) (states : List State) (z : slice_get states 0 ≡ Some (mov
       → (u : ℕ) × Via s us [] (u ∷ []) l
   from_unit s us seen h ne l c = at c.path c.over c.plain
     where
-      code : {r : State} {d : List Symbol} {cs : List ℕ} → Code enc r d cs → r ≡ unit_leaf → {l : List Symbol}
+      code : {r : State} {d : List Symbol} {cs : List ℕ} → IsReading enc r d cs → r ≡ unit_leaf → {l : List Symbol}
           → Path enc states (s + 1) l → units (mark s ∷ (d ++ (map reads cs ++ l))) ≡ us
           → IsPlainList (mark s ∷ (d ++ (map reads cs ++ l)))
           → (u : ℕ) × Via s us [] (u ∷ []) (mark s ∷ (d ++ (map reads cs ++ l)))

@@ -15,7 +15,8 @@ use Rattle.lx_regex.proofs.Clear.{AllAreClear, clear_append, none_clear, one_cle
 use Rattle.lx_regex.proofs.Exchange.{Cutting, cut_walk, first_mark, plain_swap, swap_walks}
 use Rattle.lx_regex.proofs.Fronts.{Front, DiffersBefore, by_code, by_move, fronts_differ, fronts_order, within}
 use Rattle.lx_regex.proofs.PlainWalk.{units_append}
-use Rattle.lx_regex.proofs.Readings.{Code, code_row, of_point, of_unit}
+use Rattle.lx_regex.proofs.Readings.{code_row}
+use Rattle.lx_regex.specs.Reading.{IsReading, of_point, of_unit}
 use Rattle.lx_regex.proofs.Rows.{mark_begins, mark_ends, stands_front, Stands}
 use Rattle.lx_regex.proofs.TreeWalk.{member_back}
 use Rattle.lx_regex.proofs.WholeWalk.{stands_all, walk_of, tree_of}
@@ -107,7 +108,7 @@ paired_rules (e ∷ rules) p = paired_append (table e p final) _ (paired_table e
 -- a row that is no list of moves is the first of a pair
 pub code_even :
     (enc : Enc) (states : List State) (s : ℕ) (r : State) {d : List Symbol} {us : List ℕ} → ArePaired states → slice_get states s ≡ Some r
-    → Code enc r d us → (p : ℕ) × (s ≡ 2 * p)
+    → IsReading enc r d us → (p : ℕ) × (s ≡ 2 * p)
 code_even enc [] s r h k c = cc
 code_even enc (x ∷ []) s r h k c = absurd h
 code_even enc (x ∷ moves ms ∷ states) zero r h k c = (0, refl)
@@ -141,7 +142,7 @@ last_choice Utf16 ranges c q = at (has_short ranges && has_long ranges)
     at false = refl
 last_choice Utf32 ranges c q = refl
 
-pub last_code : (enc : Enc) {r : State} {d : List Symbol} {us : List ℕ} → Code enc r d us → (q : ℕ) → last_part q d ≡ q
+pub last_code : (enc : Enc) {r : State} {d : List Symbol} {us : List ℕ} → IsReading enc r d us → (q : ℕ) → last_part q d ≡ q
 last_code enc (of_point {ranges} c i) q = last_choice enc ranges c q
 last_code enc (of_unit u) q = refl
 

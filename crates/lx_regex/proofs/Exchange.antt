@@ -11,7 +11,8 @@ use Rattle.lx_regex.specs.Tree.{Tree}
 use Rattle.lx_regex.specs.Walk.{Walk, at_point, at_unit, mark, moved, stay, symbols}
 use Rattle.lx_regex.proofs.Fronts.{Front, by_code, by_move, within}
 use Rattle.lx_regex.proofs.PlainWalk.{IsPlainList, IsUnseen, mark_tells, plain_list, units_label, units_mark}
-use Rattle.lx_regex.proofs.Readings.{Code, code_quiet, of_point, of_unit}
+use Rattle.lx_regex.proofs.Readings.{code_quiet}
+use Rattle.lx_regex.specs.Reading.{IsReading, of_point, of_unit}
 use Rattle.lx_regex.proofs.Rows.{Stands}
 use Rattle.lx_regex.proofs.WholeWalk.{walk_of, tree_of}
 
@@ -89,19 +90,19 @@ module _ (enc : Enc) (states : List State) (end : ℕ) where
       }
 
   within_at : (s : ℕ) (r : State) (d : List Symbol) (fore : List ℕ) (u : ℕ) (back : List ℕ) → slice_get states s ≡ Some r
-      → Code enc r d (fore ++ u ∷ back) → Front enc states s back s (mark s ∷ (d ++ (map reads fore ++ reads u ∷ [])))
+      → IsReading enc r d (fore ++ u ∷ back) → Front enc states s back s (mark s ∷ (d ++ (map reads fore ++ reads u ∷ [])))
   within_at s r d [] u back h c = within refl r d u [] h c
   within_at s r d (x ∷ fore) u back h c =
       let e : fore ++ u ∷ back ≡ (fore ++ u ∷ []) ++ back = sym (append_assoc fore (u ∷ []) back) in
       subst
       (λ k. Front enc states s back s (mark s ∷ (d ++ reads x ∷ k))) (map_one fore)
-      (within refl r d x (fore ++ u ∷ []) h (subst (λ k. Code enc r d (x ∷ k)) e c))
+      (within refl r d x (fore ++ u ∷ []) h (subst (λ k. IsReading enc r d (x ∷ k)) e c))
     where
       map_one : (us : List ℕ) → map reads (us ++ u ∷ []) ≡ map reads us ++ reads u ∷ []
       map_one [] = refl
       map_one (y ∷ us) = ap (λ k. reads y ∷ k) (map_one us)
 
-  cut_code : (s : ℕ) (r : State) (d : List Symbol) (us : List ℕ) → slice_get states s ≡ Some r → Code enc r d us
+  cut_code : (s : ℕ) (r : State) (d : List Symbol) (us : List ℕ) → slice_get states s ≡ Some r → IsReading enc r d us
       → (w : Walk states end (s + 1)) → (before : List Symbol) (u : ℕ) (rest : List Symbol)
       → ((l : List Symbol) → symbols enc w [] ≡ l ++ reads u ∷ rest → Cutting (s + 1) (l ++ reads u ∷ []) rest)
       → mark s ∷ (d ++ (map reads us ++ symbols enc w [])) ≡ before ++ reads u ∷ rest
@@ -135,7 +136,7 @@ module _ (enc : Enc) (states : List State) (end : ℕ) where
             left = b.1;
             front =
                 subst
-                (λ k. Front enc states s b.1 s k) same (within_at s r d b.0 u b.1 h (subst (λ k. Code enc r d k) b.2 c));
+                (λ k. Front enc states s b.1 s k) same (within_at s r d b.0 u b.1 h (subst (λ k. IsReading enc r d k) b.2 c));
             walk = w;
             goes = b.4;
           }
@@ -166,7 +167,7 @@ module _ (enc : Enc) (states : List State) (end : ℕ) where
       cut_code s unit_leaf [] (x ∷ []) h (of_unit x) w before u rest (λ l k. cut_walk w l u rest k) e
 
   -- and put together again
-  pub code_walk : {s : ℕ} {r : State} {d : List Symbol} {us : List ℕ} → Code enc r d us → slice_get states s ≡ Some r
+  pub code_walk : {s : ℕ} {r : State} {d : List Symbol} {us : List ℕ} → IsReading enc r d us → slice_get states s ≡ Some r
       → (w : Walk states end (s + 1))
       → (w' : Walk states end s) × (symbols enc w' [] ≡ mark s ∷ (d ++ (map reads us ++ symbols enc w [])))
   code_walk (of_point {ranges} c i) h w = (at_point ranges c h i w, refl)

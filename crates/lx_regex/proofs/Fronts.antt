@@ -9,7 +9,8 @@ use Rattle.lx_regex.specs.Script.{Symbol, begins, choices, ends, picks, reads, s
 use Rattle.lx_regex.specs.Walk.{IsAmong, mark}
 use Rattle.lx_regex.proofs.Clear.{AllAreClear, AreClear, clear_at, picked}
 use Rattle.lx_regex.proofs.PlainWalk.{units_append, units_label, units_mark}
-use Rattle.lx_regex.proofs.Readings.{Code, code_choice, code_free, code_quiet, code_row, code_some}
+use Rattle.lx_regex.proofs.Readings.{code_choice, code_free, code_quiet, code_row, code_some}
+use Rattle.lx_regex.specs.Reading.{IsReading}
 
 -- The symbols of a walk from a state up to a unit, after which it stands in the leaf at f; the units v may finish it there.
 pub data Front (enc : Enc) (states : List State) (f : ℕ) (v : List ℕ) : ℕ → List Symbol → Type 0 where
@@ -17,10 +18,10 @@ pub data Front (enc : Enc) (states : List State) (f : ℕ) (v : List ℕ) : ℕ 
       → Front enc states f v (target m) l → Front enc states f v s (mark s ∷ (label m ++ l))
   by_code :
       {s : ℕ} {l : List Symbol} →
-      (r : State) (d : List Symbol) (us : List ℕ) → slice_get states s ≡ Some r → Code enc r d us
+      (r : State) (d : List Symbol) (us : List ℕ) → slice_get states s ≡ Some r → IsReading enc r d us
       → Front enc states f v (s + 1) l → Front enc states f v s (mark s ∷ (d ++ (map reads us ++ l)))
   within : {s : ℕ} → s ≡ f → (r : State) (d : List Symbol) (u : ℕ) (us : List ℕ) → slice_get states s ≡ Some r
-      → Code enc r d (u ∷ (us ++ v)) → Front enc states f v s (mark s ∷ (d ++ map reads (u ∷ us)))
+      → IsReading enc r d (u ∷ (us ++ v)) → Front enc states f v s (mark s ∷ (d ++ map reads (u ∷ us)))
 
 pub units_reads : (us : List ℕ) (l : List Symbol) → units (map reads us ++ l) ≡ us ++ units l
 units_reads [] l = refl
@@ -104,11 +105,11 @@ module _ (enc : Enc) (states : List State) where
   front_some f v (within {s} at r d u us h c) =
       (u, us, units_mark s _ ∙ units_append d _ ∙ ap₂ (λ p q. p ++ q) (code_quiet enc c) (units_reads_all (u ∷ us)))
 
-  pub units_code : (s : ℕ) (r : State) (d : List Symbol) (us : List ℕ) (l : List Symbol) → Code enc r d us
+  pub units_code : (s : ℕ) (r : State) (d : List Symbol) (us : List ℕ) (l : List Symbol) → IsReading enc r d us
       → units (mark s ∷ (d ++ (map reads us ++ l))) ≡ us ++ units l
   units_code s r d us l c = units_mark s _ ∙ units_append d _ ∙ ap₂ (λ p q. p ++ q) (code_quiet enc c) (units_reads us l)
 
-  units_within : (s : ℕ) (r : State) (d : List Symbol) (us v : List ℕ) → Code enc r d (us ++ v)
+  units_within : (s : ℕ) (r : State) (d : List Symbol) (us v : List ℕ) → IsReading enc r d (us ++ v)
       → units (mark s ∷ (d ++ map reads us)) ≡ us
   units_within s r d us v c =
       units_mark s _ ∙ units_append d _ ∙ ap₂ (λ p q. p ++ q) (code_quiet enc c) (units_reads_all us)
@@ -121,7 +122,7 @@ module _ (enc : Enc) (states : List State) where
   choices_within s d us = choices_mark s _ ∙ choices_append d _ ∙ ap (λ k. choices d ++ k) (choices_reads_all us)
 
   pub no_rows : (s : ℕ) (ms : List Move) (r : State) {d : List Symbol} {us : List ℕ} → slice_get states s ≡ Some (moves ms)
-      → slice_get states s ≡ Some r → Code enc r d us → ⊥
+      → slice_get states s ≡ Some r → IsReading enc r d us → ⊥
   no_rows s ms r h h' c = code_row enc c ms (cc)
 
   -- fronts over the same units, of which the choices of one begin those of the other, are the same, and stand in one leaf
@@ -147,7 +148,7 @@ module _ (enc : Enc) (states : List State) where
   front_same clear f f' v v' (within {s} at r d x us h' k) (by_move ms m h i b) u rest c = absurd (no_rows s ms r h h' k)
   front_same clear f f' v v' (by_code {s} {l} r d us h k a) (by_code {l = l'} r' d' us' h' k' b) u rest c =
       let e : r' ≡ r = cc in
-      let k'' : Code enc r d' us' = subst (λ n. Code enc n d' us') e k' in
+      let k'' : IsReading enc r d' us' = subst (λ n. IsReading enc n d' us') e k' in
       let c0 : choices d' ++ choices l' ≡ choices d ++ (choices l ++ rest) =
       sym (choices_code s d' us' l') ∙ c ∙ ap (λ n. n ++ rest) (choices_code s d us l)
       ∙ append_assoc (choices d) (choices l) rest in
@@ -158,7 +159,7 @@ module _ (enc : Enc) (states : List State) where
       (ap₂ (λ x y. mark s ∷ (x ++ y)) q.0 (ap₂ (λ x y. map reads x ++ y) p.0 z.0), z.1)
   front_same clear f f' v v' (by_code {s} {l} r d us h k a) (within at r' d' x us' h' k') u rest c =
       let e : r' ≡ r = cc in
-      let k'' : Code enc r d' ((x ∷ us') ++ v') = subst (λ n. Code enc n d' (x ∷ (us' ++ v'))) e k' in
+      let k'' : IsReading enc r d' ((x ∷ us') ++ v') = subst (λ n. IsReading enc n d' (x ∷ (us' ++ v'))) e k' in
       let c0 : choices d' ++ [] ≡ choices d ++ (choices l ++ rest) =
       sym (choices_within s d' (x ∷ us')) ∙ c ∙ ap (λ n. n ++ rest) (choices_code s d us l)
       ∙ append_assoc (choices d) (choices l) rest in
@@ -172,7 +173,7 @@ module _ (enc : Enc) (states : List State) where
       absurd (cc)
   front_same clear f f' v v' (within {s} at r' d' x us' h' k') (by_code {l} r d us h k a) u rest c =
       let e : r' ≡ r = cc in
-      let k'' : Code enc r d' ((x ∷ us') ++ v) = subst (λ n. Code enc n d' (x ∷ (us' ++ v))) e k' in
+      let k'' : IsReading enc r d' ((x ∷ us') ++ v) = subst (λ n. IsReading enc n d' (x ∷ (us' ++ v))) e k' in
       let c0 : choices d ++ choices l ≡ choices d' ++ rest =
       sym (choices_code s d us l) ∙ c ∙ ap (λ n. n ++ rest) (choices_within s d' (x ∷ us'))
       ∙ append_assoc (choices d') [] rest in
@@ -186,7 +187,7 @@ module _ (enc : Enc) (states : List State) where
       absurd (cc)
   front_same clear f f' v v' (within {s} at r d x us h k) (within at' r' d' x' us' h' k') u rest c =
       let e : r' ≡ r = cc in
-      let k'' : Code enc r d' ((x' ∷ us') ++ v') = subst (λ n. Code enc n d' (x' ∷ (us' ++ v'))) e k' in
+      let k'' : IsReading enc r d' ((x' ∷ us') ++ v') = subst (λ n. IsReading enc n d' (x' ∷ (us' ++ v'))) e k' in
       let c0 : choices d' ++ [] ≡ choices d ++ rest =
       sym (choices_within s d' (x' ∷ us')) ∙ c ∙ ap (λ n. n ++ rest) (choices_within s d (x ∷ us))
       ∙ append_assoc (choices d) [] rest in

@@ -11,6 +11,7 @@ pub mod LeastScript
 pub mod LeastTree
 pub mod NoUnits
 pub mod OneMatch
+pub mod OneRule
 pub mod OwnParts
 pub mod PartCount
 pub mod PartLists

@@ -17,7 +17,8 @@ use Rattle.lx_regex.proofs.Folds.{term_of-empty, term_of-class, term_of-any_unit
 use Rattle.lx_regex.proofs.PlainWalk.{units_append, units_label}
 use Rattle.lx_regex.proofs.TreeWalk.{stop_label, iteration_label, stop_move, iteration_move}
 use Rattle.lx_regex.specs.Automaton.{leaf, move}
-use Rattle.lx_regex.proofs.Readings.{Code, of_point, code_quiet, code_some}
+use Rattle.lx_regex.proofs.Readings.{code_quiet, code_some}
+use Rattle.lx_regex.specs.Reading.{IsReading, of_point}
 use Rattle.lx_regex.proofs.Fronts.{units_reads}
 
 front_empty : (a b : List ℕ) → a ++ b ≡ [] → a ≡ []
@@ -33,7 +34,7 @@ class_reads enc part ranges has = at has.0 has.1
   where
     at : (tree : Tree (class ranges)) → units (script enc part tree) ≡ [] → ⊥
     at (point number within) e =
-        let reading : Code enc (leaf ranges) (leaf_choice enc ranges number) (spell enc number) = of_point number within in
+        let reading : IsReading enc (leaf ranges) (leaf_choice enc ranges number) (spell enc number) = of_point number within in
         let some = code_some enc reading in
         let says : spell enc number ++ [] ≡ [] =
         sym (units_append (leaf_choice enc ranges number) _ ∙ ap₂ (λ a b. a ++ b) (code_quiet enc reading) (units_reads (spell enc number) (ends part ∷ [])))

@@ -10,7 +10,8 @@ use Rattle.lx_regex.proofs.Fronts.{units_reads}
 use Rattle.lx_regex.proofs.PlainWalk.{units_append, units_label}
 use Rattle.lx_regex.proofs.PosixAhead.{len, SameAmong}
 use Rattle.lx_regex.proofs.PosixOrder.{SameLengths, precedes_total}
-use Rattle.lx_regex.proofs.Readings.{of_point, code_quiet}
+use Rattle.lx_regex.proofs.Readings.{code_quiet}
+use Rattle.lx_regex.specs.Reading.{of_point}
 use Rattle.lx_regex.specs.Automaton.{move}
 use Rattle.lx_regex.specs.Script.{Symbol, begins, ends, reads, sets, unsets, picks, script, row_script, choice_script, iterations_script, units, leaf_choice, has_short, has_long, chosen_place, merge_tags, tags_in, tags_beside, may_iterate, iterate_choice, stop_choice, copy_part}
 use Rattle.lx_regex.specs.Order.{posix}

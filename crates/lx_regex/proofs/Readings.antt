@@ -5,19 +5,14 @@ use Rattle.std.proofs.lemmas.Bool.{and_from, or_left, or_right}
 use Rattle.lx_base.specs.declared.settings.Enc.{Enc}
 use Rattle.lx_base.specs.declared.settings.Enc.TheVariants.{Byte, Ucs2, Utf8, Utf16, Utf32}
 use Rattle.lx_base.specs.Spelling.{spell, utf8, utf16, continuation}
-use Rattle.lx_regex.specs.Automaton.{Move, State, leaf, moves, unit_leaf}
+use Rattle.lx_regex.specs.Automaton.{Move, State, moves}
+use Rattle.lx_regex.specs.Reading.{IsReading, of_point, of_unit}
 use Rattle.lx_regex.specs.Script.{Symbol, choices, has_long, has_short, leaf_choice, picks, units}
 use Rattle.lx_regex.specs.Term.{IsInRanges}
 use Rattle.lx_regex.proofs.PlainWalk.{spell_some}
 
--- what a leaf may read: its choice and its units
-pub data Code (enc : Enc) : State → List Symbol → List ℕ → Type 0 where
-  of_point : {ranges : List (ℕ × ℕ)} → (c : ℕ) → IsInRanges ranges c
-      → Code enc (leaf ranges) (leaf_choice enc ranges c) (spell enc c)
-  of_unit : (u : ℕ) → Code enc unit_leaf [] (u ∷ [])
-
 pub code_row :
-    (enc : Enc) {r : State} {d : List Symbol} {us : List ℕ} → Code enc r d us → (ms : List Move) → r ≡ moves ms → ⊥
+    (enc : Enc) {r : State} {d : List Symbol} {us : List ℕ} → IsReading enc r d us → (ms : List Move) → r ≡ moves ms → ⊥
 code_row enc (of_point c i) ms e = cc
 code_row enc (of_unit u) ms e = cc
 
@@ -33,12 +28,12 @@ choice_quiet Utf16 ranges c = at (has_short ranges && has_long ranges)
     at false = refl
 choice_quiet Utf32 ranges c = refl
 
-pub code_quiet : (enc : Enc) {r : State} {d : List Symbol} {us : List ℕ} → Code enc r d us → units d ≡ []
+pub code_quiet : (enc : Enc) {r : State} {d : List Symbol} {us : List ℕ} → IsReading enc r d us → units d ≡ []
 code_quiet enc (of_point {ranges} c i) = choice_quiet enc ranges c
 code_quiet enc (of_unit u) = refl
 
 pub code_some :
-    (enc : Enc) {r : State} {d : List Symbol} {us : List ℕ} → Code enc r d us → (x : ℕ) × (xs : List ℕ) × (us ≡ x ∷ xs)
+    (enc : Enc) {r : State} {d : List Symbol} {us : List ℕ} → IsReading enc r d us → (x : ℕ) × (xs : List ℕ) × (us ≡ x ∷ xs)
 code_some enc (of_point c i) = spell_some enc c
 code_some enc (of_unit u) = (u, [], refl)
 
@@ -60,7 +55,7 @@ choice_same Utf16 ranges c c' x w e =
 choice_same Utf32 ranges c c' x w e = (refl, e)
 
 pub code_choice :
-    (enc : Enc) {r : State} {d d' : List Symbol} {us us' : List ℕ} → Code enc r d us → Code enc r d' us' → (x w : List ℕ)
+    (enc : Enc) {r : State} {d d' : List Symbol} {us us' : List ℕ} → IsReading enc r d us → IsReading enc r d' us' → (x w : List ℕ)
     → choices d' ++ x ≡ choices d ++ w → (d ≡ d') × (x ≡ w)
 code_choice enc (of_point {ranges} c i) (of_point c' i') x w e = choice_same enc ranges c c' x w e
 code_choice enc (of_unit u) (of_unit u') x w e = (refl, e)
@@ -161,7 +156,7 @@ front_same_length (u ∷ a) (w ∷ b) x y n e =
 
 -- no spelling with the same choice begins another
 pub code_free :
-    (enc : Enc) {r : State} {d d' : List Symbol} {us us' : List ℕ} → Code enc r d us → Code enc r d' us' → d ≡ d'
+    (enc : Enc) {r : State} {d d' : List Symbol} {us us' : List ℕ} → IsReading enc r d us → IsReading enc r d' us' → d ≡ d'
     → (x y : List ℕ) → us ++ x ≡ us' ++ y → (us ≡ us') × (x ≡ y)
 code_free enc (of_point {ranges} c i) (of_point c' i') e x y h =
     front_same_length _ _ x y (spell_length enc ranges c c' i i' e x y h) h

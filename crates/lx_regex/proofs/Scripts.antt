@@ -14,7 +14,8 @@ use Rattle.lx_regex.proofs.Clear.{AllAreClear, clear_at, picked, alone_clear}
 use Rattle.lx_regex.proofs.Fronts.{DiffersBefore, choices_code, choices_label, choices_mark, compare_lists, drop_picks, no_rows, pick_list, same_pick, differs-before, units_code}
 use Rattle.lx_regex.proofs.PlainWalk.{units_label, units_mark}
 use Rattle.lx_regex.proofs.WholeWalk.{alone, alone_stands, alone_zero, walk_of}
-use Rattle.lx_regex.proofs.Readings.{Code, code_choice, code_free, of_point, of_unit}
+use Rattle.lx_regex.proofs.Readings.{code_choice, code_free}
+use Rattle.lx_regex.specs.Reading.{IsReading, of_point, of_unit}
 use Rattle.lx_regex.specs.Order.{greedy}
 
 -- the symbols of a walk from a state to state 0
@@ -24,7 +25,7 @@ pub data Path (enc : Enc) (states : List State) : ℕ → List Symbol → Type 0
       → Path enc states (target m) l → Path enc states s (mark s ∷ (label m ++ l))
   then_code :
       {s : ℕ} {l : List Symbol} →
-      (r : State) (d : List Symbol) (us : List ℕ) → slice_get states s ≡ Some r → Code enc r d us
+      (r : State) (d : List Symbol) (us : List ℕ) → slice_get states s ≡ Some r → IsReading enc r d us
       → Path enc states (s + 1) l → Path enc states s (mark s ∷ (d ++ (map reads us ++ l)))
 
 pub path_of : (enc : Enc) (states : List State) {s : ℕ} → (w : Walk states 0 s) → Path enc states s (symbols enc w [])
@@ -34,7 +35,7 @@ path_of enc states (at_point {state = s} ranges c h i w) =
     then_code (leaf ranges) (leaf_choice enc ranges c) (spell enc c) h (of_point c i) (path_of enc states w)
 path_of enc states (at_unit {state = s} u h w) = then_code unit_leaf [] (u ∷ []) h (of_unit u) (path_of enc states w)
 
-code_step : (enc : Enc) (states : List State) {s : ℕ} {r : State} {d : List Symbol} {us : List ℕ} → Code enc r d us
+code_step : (enc : Enc) (states : List State) {s : ℕ} {r : State} {d : List Symbol} {us : List ℕ} → IsReading enc r d us
     → slice_get states s ≡ Some r → (w : Walk states 0 (s + 1))
     → (w' : Walk states 0 s) × (symbols enc w' [] ≡ mark s ∷ (d ++ (map reads us ++ symbols enc w [])))
 code_step enc states (of_point {ranges} c i) h w = (at_point ranges c h i w, refl)
@@ -93,7 +94,7 @@ path_same enc states clear z (then_code {s} r d us h' k a) (then_move ms m h i b
     absurd (no_rows enc states s ms r h h' k)
 path_same enc states clear z (then_code {s} {l} r d us h k a) (then_code {l = l'} r' d' us' h' k' b) u rest c =
     let e : r' ≡ r = cc in
-    let k'' : Code enc r d' us' = subst (λ n. Code enc n d' us') e k' in
+    let k'' : IsReading enc r d' us' = subst (λ n. IsReading enc n d' us') e k' in
     let c0 : choices d' ++ choices l' ≡ choices d ++ (choices l ++ rest) =
     sym (choices_code enc states s d' us' l') ∙ c ∙ ap (λ n. n ++ rest) (choices_code enc states s d us l)
     ∙ append_assoc (choices d) (choices l) rest in

@@ -10,7 +10,8 @@ use Rattle.lx_regex.specs.Least.{HasTree}
 use Rattle.lx_regex.specs.Automaton.{leaf}
 use Rattle.lx_regex.specs.Strings.{spell_all, IsString, no_character, character, sequence, AreJoined, no_member, member_then}
 use Rattle.lx_regex.proofs.PlainWalk.{units_append}
-use Rattle.lx_regex.proofs.Readings.{Code, of_point, code_quiet}
+use Rattle.lx_regex.proofs.Readings.{code_quiet}
+use Rattle.lx_regex.specs.Reading.{IsReading, of_point}
 use Rattle.lx_regex.proofs.Fronts.{units_reads}
 
 pub spell_all-append : (enc : Enc) (front back : List ℕ) → spell_all enc (front ++ back) ≡ spell_all enc front ++ spell_all enc back
@@ -23,7 +24,7 @@ spell_all-append enc (letter ∷ front) back =
 leaf_units : (enc : Enc) (ranges : List (ℕ × ℕ)) (number part : ℕ) → IsInRanges ranges number
     → units (leaf_choice enc ranges number ++ (map reads (spell enc number) ++ ends part ∷ [])) ≡ spell enc number
 leaf_units enc ranges number part within =
-    let reading : Code enc (leaf ranges) (leaf_choice enc ranges number) (spell enc number) = of_point number within in
+    let reading : IsReading enc (leaf ranges) (leaf_choice enc ranges number) (spell enc number) = of_point number within in
     units_append (leaf_choice enc ranges number) _
     ∙ ap₂ (λ a b. a ++ b) (code_quiet enc reading) (units_reads (spell enc number) (ends part ∷ []))
     ∙ append-nil (spell enc number)

@@ -13,6 +13,7 @@ pub mod Parts
 pub mod Pattern
 pub mod Plain
 pub mod Posix
+pub mod Reading
 pub mod Script
 pub mod Strings
 pub mod Term

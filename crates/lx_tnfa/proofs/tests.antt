@@ -1,4 +1,3 @@
 pub mod OneMore
-pub mod OneRule
 pub mod ThreeRules
 pub mod UnitPlaces

@@ -2,7 +2,7 @@ use Rattle.std.proofs.Common.{◌≡◌, ℕ, ◌+◌, ◌*◌, length, arith, r
 use Rattle.lx_regex.specs.Expr.{term_of}
 use Rattle.lx_regex.specs.Limits.{HasLongSequences, numbers_from}
 use Rattle.lx_regex.specs.Script.{tags_in}
-use Rattle.lx_tnfa.proofs.tests.OneRule.{limits_of_one}
+use Rattle.lx_regex.proofs.OneRule.{limits_of_one}
 use Rattle.lx_tnfa.proofs.tests.scanner.Goals as goal
 
 pub returns-clause-limits : goal.returns-clause-limits
