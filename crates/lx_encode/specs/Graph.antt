@@ -1,5 +1,5 @@
 -- The graph of a class: its residuals, and the unit lists that finish them.
-use Rattle.std.specs.Prelude.{◌≡◌, ℕ, ◌<◌, ◌≤◌, ◌⊎◌, ◌↔◌, List, [], ◌∷◌, length, Option, ◌==◌, if◌then◌else◌}
+use Rattle.std.specs.Prelude.{◌≡◌, ℕ, ◌<◌, ◌≤◌, ◌⊎◌, ◌↔◌, List, [], ◌∷◌, length, Option, Some, ◌==◌, if◌then◌else◌}
 use Rattle.lx_base.specs.Spelling.{spell}
 use Rattle.lx_base.specs.declared.settings.Enc.{Enc}
 use Rattle.lx_base.specs.declared.settings.Enc.TheVariants.{Byte, Ucs2, Utf8, Utf16, Utf32}
@@ -7,7 +7,7 @@ use Rattle.lx_class.specs.Ranges.{InRanges}
 use Rattle.lx_class.specs.declared.ranges.Range.{Range}
 use Rattle.lx_encode.specs.declared.graph.Residual.{Residual}
 use Rattle.lx_encode.specs.Policy.{NoneWithin}
-use Rattle.lx_encode.specs.Table.{Rows, Finishes}
+use Rattle.lx_encode.specs.Table.{Rows, Finishes, step_of}
 
 -- what contracts see of a graph
 pub record Graph : Type 0 where
@@ -60,6 +60,8 @@ AreStarts rows enc set (part ∷ others) starts =
 -- the graph of a set
 pub record IsGraphOf (enc : Enc) (set : List Range) (graph : Graph) : Type 0 where
   pub starts : AreStarts graph.rows enc set (parts enc) graph.starts
+  pub within : (residual unit next : ℕ) → residual < length graph.rows → step_of graph.rows residual unit ≡ Some next
+      → next < length graph.rows
   pub live : (residual : ℕ) → residual < length graph.rows → (units : List ℕ) × Finishes graph.rows residual units
   pub same : (left right : ℕ) → left < length graph.rows → right < length graph.rows →
       ((units : List ℕ) → Finishes graph.rows left units ↔ Finishes graph.rows right units) → left ≡ right

@@ -15,7 +15,7 @@ use Rattle.lx_tnfa.specs.declared.states.State.{State}
 use Rattle.lx_tnfa.specs.declared.states.State.TheVariants.{Moves, Class, AnyUnit}
 
 -- in one graph residuals that the same units finish are equal
-graph_same : (enc : Enc) (classes : List ClassGraph) (number r s : ℕ) → AreClasses enc classes → r < length (rows_at classes number)
+pub graph_same : (enc : Enc) (classes : List ClassGraph) (number r s : ℕ) → AreClasses enc classes → r < length (rows_at classes number)
     → s < length (rows_at classes number)
     → ((units : List ℕ) → Finishes (rows_at classes number) r units ↔ Finishes (rows_at classes number) s units) → r ≡ s
 graph_same enc [] number r s are lt lt' same = absurd (omega arith)

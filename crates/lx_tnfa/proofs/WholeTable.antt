@@ -71,7 +71,7 @@ states_count pattern part = at (is_end pattern.kind)
     at true = refl
     at false = table_length pattern.term part final
 
-held_length : (classes : List ClassGraph) (rows : List spec.State) (states : List State) → AreHeld classes rows states → length states ≡ length rows
+pub held_length : (classes : List ClassGraph) (rows : List spec.State) (states : List State) → AreHeld classes rows states → length states ≡ length rows
 held_length classes [] [] h = refl
 held_length classes [] (state ∷ states) h = absurd h
 held_length classes (row ∷ rows) [] h = absurd h

@@ -2,9 +2,11 @@ pub mod Beginnings
 pub mod Classes
 pub mod Closure
 pub mod Ends
+pub mod LeafReadings
 pub mod Live
 pub mod Making
 pub mod Moves
+pub mod PlaceNumbers
 pub mod Rows
 pub mod Shapes
 pub mod Standing

@@ -8,10 +8,12 @@ ghost use Rattle.lx_regex.specs.Pattern.{Pattern, terms_of};
 ghost use Rattle.lx_regex.specs.Script.{Symbol};
 ghost use Rattle.lx_regex.specs.Term.{Term};
 ghost use Rattle.lx_tnfa.specs.Closure.{IsClosureOf};
+ghost use Rattle.lx_tnfa.specs.LeafReadings.{NumbersLeaves};
 ghost use Rattle.lx_tnfa.specs.Live.{state_of};
 ghost use Rattle.lx_tnfa.specs.Moves.{shown_move};
+ghost use Rattle.lx_tnfa.specs.PlaceNumbers.{number_behind, numbers_after, symbols_added};
 ghost use Rattle.lx_tnfa.specs.Standing.{StandsAt};
-ghost use Rattle.lx_tnfa.specs.Tnfa.{IsTnfaOf, Tnfa};
+ghost use Rattle.lx_tnfa.specs.Tnfa.{AllClassesFit, IsTnfaOf, Tnfa};
 ghost use Rattle.lx_tnfa.specs.declared.closure.Reach.{Reach};
 ghost use Rattle.lx_tnfa.specs.declared.places.Place.{Place};
 ghost use Rattle.lx_tnfa.specs.declared.states.State.TheVariants.{Moves};
@@ -42,4 +44,19 @@ pub fn moves_are_those_of_the_automaton()
     ensures { (enc : Enc) (patterns : List Pattern) (tnfa : Tnfa) (number : ℕ) (ways : List spec.Move) → IsTnfaOf enc patterns tnfa
         → slice_get (automaton (terms_of patterns)) number ≡ Some (moves ways)
         → state_of tnfa.states number ≡ Moves (map shown_move ways) }
+{}
+
+/// The automaton of a rule list, of whose classes the encoding has each point, gives numbers to the places within leaves and at
+/// their ends. By them each unit is read as in the leaves of the definition, and two places have one number exactly where they
+/// are in one leaf, which the same units finish.
+pub fn leaves_are_read_as_places()
+    ensures { (enc : Enc) (patterns : List Pattern) (tnfa : Tnfa) → IsTnfaOf enc patterns tnfa → AllClassesFit enc (terms_of patterns)
+        → NumbersLeaves enc (terms_of patterns) (numbers_after tnfa) (symbols_added tnfa) (number_behind tnfa) }
+{}
+
+/// Each cut of a word stands at a place of the automaton of a rule list, of whose classes the encoding has each point.
+pub fn cuts_stand_at_places()
+    ensures { (enc : Enc) (patterns : List Pattern) (tnfa : Tnfa) (word : List ℕ) (cut : Cut) → IsTnfaOf enc patterns tnfa
+        → AllClassesFit enc (terms_of patterns) → IsCut enc (terms_of patterns) word cut
+        → (place : Place) × StandsAt enc (terms_of patterns) tnfa cut place }
 {}

@@ -1,6 +1,6 @@
 use Rattle.std.proofs.Common.{sym, subst}
 use Rattle.lx_encode.specs.Starts.{AreEnded}
-use Rattle.lx_encode.proofs.Residuals.{live, same_residual}
+use Rattle.lx_encode.proofs.Residuals.{live, same_residual, step_within}
 use Rattle.lx_encode.proofs.graph.UnitGraph.of.Goals as goal
 
 pub returns-clause-graph : goal.returns-clause-graph
@@ -11,6 +11,7 @@ returns-clause-graph c =
     let ended' = subst (λ l. AreEnded c.args.set.now l) (sym c.deref.ensures.value) ended in
     record {
       starts = c.in_ok-starts.ensures.starts c.args.set.now c.ranges-2.ensures.canonical ended';
+      within = λ residual unit next lt is. step_within rows table residual lt unit next is;
       live = live rows table;
       same = same_residual rows table;
     }
