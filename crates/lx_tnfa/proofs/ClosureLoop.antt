@@ -2,14 +2,12 @@
 use Rattle.std.proofs.Common.{◌≡◌, ℕ, zero, suc, ◌+◌, ◌<◌, ◌⊎◌, inl, inr, arith, List, [], ◌∷◌, ◌++◌, map, length, get_or, refl, sym, ap, ap₂, ◌∙◌, subst, append_assoc, append-nil, length-append, Some, None}
 use Rattle.std.proofs.lemmas.List.{length-map, length-reverse, map-append, reverse-append, reverse-reverse}
 use Rattle.std.specs.Prelude.{All, Contains, MatchOption, Option, reverse, slice_get}
-use Rattle.lx_tnfa.specs.Closure.{Arrival, IsClosureOf, IsDead, IsWalk, beginning_of, one_step_on, steps_from, waiting_from}
+use Rattle.lx_tnfa.specs.Closure.{Arrival, IsClosureOf, IsDead, IsWalk, beginning_of, steps_from, waiting_from, Step, Waiting}
 use Rattle.lx_tnfa.specs.Tnfa.{Tnfa, IsPlace}
 use Rattle.lx_tnfa.specs.declared.closure.Reach.{Reach}
-use Rattle.lx_tnfa.specs.declared.closure.Step.{Step}
 use Rattle.lx_tnfa.specs.declared.closure.Stop.{Stop}
 use Rattle.lx_tnfa.specs.declared.closure.Stop.TheVariants.{AtState, AtTarget}
 use Rattle.lx_tnfa.specs.declared.closure.Target.{Target}
-use Rattle.lx_tnfa.specs.declared.closure.Waiting.{Waiting}
 use Rattle.lx_tnfa.specs.declared.places.Place.{Place}
 use Rattle.lx_tnfa.specs.declared.states.Event.{Event}
 use Rattle.lx_tnfa.proofs.DepthFirst.{Found, IsIn, successors, visited}
@@ -18,7 +16,12 @@ use Rattle.lx_tnfa.proofs.SearchBounds.{search_at, search_from, search_from-is_s
 use Rattle.lx_tnfa.proofs.SearchPaths.{Each-from_all}
 use Rattle.lx_tnfa.proofs.SearchStack.{after_choices, found_by, found_by-new, found_by-seen, found_by-starts, stacked}
 use Rattle.lx_tnfa.proofs.StopNumbers.{dead_from_listed, dead_stops, dead_to_listed, leads, stop_graph, stop_number, stop_same, stop_successors}
+use Rattle.lx_tnfa.proofs.Membership.{behind, either_part, in_front, in_reverse}
 use Rattle.lx_tnfa.proofs.LeastWalks.{IsFoundPath, Shows, begin_numbers, found_plain, search_least}
+
+-- a stop that waits, one step on
+abbrev pub one_step_on : Waiting → Step → Waiting
+one_step_on waiting step = record { stop = step.to; events = waiting.events ++ step.events; from = waiting.from }
 
 -- a walk with one step more
 walk_on : (tnfa : Tnfa) (from : Stop) (choices : List ℕ) (passed : List Stop) (events : List Event) (to : Stop) (choice : ℕ) (step : Step)
@@ -180,29 +183,6 @@ on_top tnfa places stops top old waiting reaches is so =
     at [] all w = absurd w
     at (found ∷ stack) all w =
         record { done = so.done; found = found; stack = stack; all = all; here = w.0; waits = w.1; gives = so.gives }
-
-in_front : (xs ys : List ℕ) (x : ℕ) → IsIn xs x → IsIn (xs ++ ys) x
-in_front [] ys x m = absurd m
-in_front (y ∷ xs) ys x (inl e) = inl e
-in_front (y ∷ xs) ys x (inr m) = inr (in_front xs ys x m)
-
-behind : (xs ys : List ℕ) (x : ℕ) → IsIn ys x → IsIn (xs ++ ys) x
-behind [] ys x m = m
-behind (y ∷ xs) ys x m = inr (behind xs ys x m)
-
-either_part : (xs ys : List ℕ) (x : ℕ) → IsIn (xs ++ ys) x → IsIn xs x ⊎ IsIn ys x
-either_part [] ys x m = inr m
-either_part (y ∷ xs) ys x (inl e) = inl (inl e)
-either_part (y ∷ xs) ys x (inr m) = at (either_part xs ys x m)
-  where
-    at : IsIn xs x ⊎ IsIn ys x → IsIn (y ∷ xs) x ⊎ IsIn ys x
-    at (inl k) = inl (inr k)
-    at (inr k) = inr k
-
-in_reverse : (xs : List ℕ) (x : ℕ) → IsIn xs x → IsIn (reverse xs) x
-in_reverse [] x m = m
-in_reverse (y ∷ xs) x (inl e) = subst (λ l. IsIn l x) (sym (reverse-append (y ∷ []) xs)) (behind (reverse xs) (y ∷ []) x (inl e))
-in_reverse (y ∷ xs) x (inr m) = subst (λ l. IsIn l x) (sym (reverse-append (y ∷ []) xs)) (in_front (reverse xs) (y ∷ []) x (in_reverse xs x m))
 
 number_in : (stops : List Stop) (stop : Stop) → Contains stops stop → IsIn (map stop_number stops) (stop_number stop)
 number_in [] stop c = absurd (omega (arith, c.1))
@@ -512,9 +492,9 @@ closure_whole tnfa (place ∷ places) stops reaches are so =
     closure_end tnfa (some_state tnfa (place ∷ places) are 0 place refl) (place ∷ places) stops reaches so
 
 -- nothing was taken from the end, so there was nothing
-pub none_left : (result : Option Waiting) (old : List Waiting) (count rest : ℕ) → length old ≡ count
+pub none_left : {X : Type 0} (result : Option X) (old : List X) (count rest : ℕ) → length old ≡ count
     → MatchOption result ((count ≡ 0) × (rest ≡ 0)) (λ top. rest + 1 ≡ count)
-    → ((top : Waiting) → result ≡ Some top → ⊥) → old ≡ []
+    → ((top : X) → result ≡ Some top → ⊥) → old ≡ []
 none_left (Some top) old count rest is cases never = absurd (never top refl)
 none_left None [] count rest is cases never = refl
 none_left None (top ∷ old) count rest is cases never = absurd (omega (arith, is, cases.0))

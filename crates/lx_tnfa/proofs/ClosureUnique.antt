@@ -2,10 +2,9 @@
 use Rattle.std.proofs.Common.{◌≡◌, ℕ, zero, suc, ◌<◌, arith, List, [], ◌∷◌, ◌++◌, map, length, get_or, refl, sym, ap, ap₂, ◌∙◌, subst, Some}
 use Rattle.std.specs.Prelude.{AllPairs, Contains, slice_get}
 use Rattle.lx_regex.specs.Dictionary.{IsBefore}
-use Rattle.lx_tnfa.specs.Closure.{Arrival, AreLeastWalks, ComesBefore, IsClosureOf, IsPlainWalk, IsWalk, beginning_of}
+use Rattle.lx_tnfa.specs.Closure.{Arrival, AreLeastWalks, ComesBefore, IsClosureOf, IsPlainWalk, IsWalk, beginning_of, Step}
 use Rattle.lx_tnfa.specs.Tnfa.{Tnfa}
 use Rattle.lx_tnfa.specs.declared.closure.Reach.{Reach}
-use Rattle.lx_tnfa.specs.declared.closure.Step.{Step}
 use Rattle.lx_tnfa.specs.declared.closure.Stop.{Stop}
 use Rattle.lx_tnfa.specs.declared.closure.Stop.TheVariants.{AtTarget}
 use Rattle.lx_tnfa.specs.declared.closure.Target.{Target}

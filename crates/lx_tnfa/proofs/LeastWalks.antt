@@ -6,9 +6,8 @@ use Rattle.std.proofs.lemmas.List.Elements.{All-map}
 use Rattle.std.proofs.lemmas.List.Kept.{AllPairs-cons}
 use Rattle.std.specs.Prelude.{All, AllPairs, Contains, slice_get}
 use Rattle.lx_regex.specs.Dictionary.{IsBefore}
-use Rattle.lx_tnfa.specs.Closure.{Arrival, AreLeastWalks, ComesBefore, IsDead, IsPlainWalk, IsWalk, beginning_of}
+use Rattle.lx_tnfa.specs.Closure.{Arrival, AreLeastWalks, ComesBefore, IsDead, IsPlainWalk, IsWalk, beginning_of, Step}
 use Rattle.lx_tnfa.specs.Tnfa.{Tnfa}
-use Rattle.lx_tnfa.specs.declared.closure.Step.{Step}
 use Rattle.lx_tnfa.specs.declared.closure.Stop.{Stop}
 use Rattle.lx_tnfa.specs.declared.closure.Stop.TheVariants.{AtState, AtTarget}
 use Rattle.lx_tnfa.specs.declared.closure.Target.{Target}

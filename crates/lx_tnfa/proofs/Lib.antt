@@ -7,6 +7,7 @@ pub mod ClosureUnique
 pub mod CutPlaces
 pub mod DepthFirst
 pub mod FirstStates
+pub mod FormedLeaves
 pub mod FrontLeaves
 pub mod HeldStates
 pub mod LeafGraphs
@@ -19,6 +20,7 @@ pub mod LiveMarks
 pub mod LiveWalks
 pub mod MemberMoves
 pub mod Members
+pub mod Membership
 pub mod NthLists
 pub mod OnePlace
 pub mod PlaceSteps
@@ -30,9 +32,11 @@ pub mod SearchBounds
 pub mod SearchLaws
 pub mod SearchPaths
 pub mod SearchStack
+pub mod SearchTrail
 pub mod SearchUnique
 pub mod ShapeFacts
 pub mod StopNumbers
+pub mod StopSets
 pub mod TableLeaves
 pub mod TagBounds
 pub mod TagMerges

@@ -2,10 +2,9 @@
 use Rattle.std.proofs.Common.{◌≡◌, ℕ, zero, suc, ◌+◌, ◌*◌, ◌<◌, ◌≤◌, ◌⊎◌, inl, inr, arith, Bool, true, false, List, [], ◌∷◌, ◌++◌, map, length, get_or, refl, sym, ap, ap₂, ◌∙◌, subst, Some, None}
 use Rattle.std.proofs.lemmas.Bool.{false≢true}
 use Rattle.std.specs.Prelude.{Option, slice_get}
-use Rattle.lx_tnfa.specs.Closure.{steps_at, steps_from, IsDead, IsWalk}
+use Rattle.lx_tnfa.specs.Closure.{steps_at, steps_from, IsDead, IsWalk, Step}
 use Rattle.lx_tnfa.specs.Live.{mark_at, state_of}
 use Rattle.lx_tnfa.specs.Tnfa.{Tnfa}
-use Rattle.lx_tnfa.specs.declared.closure.Step.{Step}
 use Rattle.lx_tnfa.specs.declared.closure.Stop.{Stop}
 use Rattle.lx_tnfa.specs.declared.closure.Stop.TheVariants.{AtState, AtTarget}
 use Rattle.lx_tnfa.specs.declared.closure.Target.TheVariants.{Leaf, End}

@@ -6,15 +6,13 @@ use Rattle.lx_encode.specs.declared.graph.Residual.{Residual}
 use Rattle.lx_encode.specs.declared.runs.Run.{Run}
 use Rattle.lx_regex.specs.Dictionary.{IsBefore}
 use Rattle.lx_tnfa.specs.Live.{mark_at, starts_at, state_of}
-use Rattle.lx_tnfa.specs.Tnfa.{Tnfa, rows_at, state_at}
+use Rattle.lx_tnfa.specs.Tnfa.{Tnfa, IsPlace, rows_at, state_at}
 use Rattle.lx_tnfa.specs.declared.classes.ClassGraph.{ClassGraph}
 use Rattle.lx_tnfa.specs.declared.closure.Reach.{Reach}
-use Rattle.lx_tnfa.specs.declared.closure.Step.{Step}
 use Rattle.lx_tnfa.specs.declared.closure.Stop.{Stop}
 use Rattle.lx_tnfa.specs.declared.closure.Stop.TheVariants.{AtState, AtTarget}
 use Rattle.lx_tnfa.specs.declared.closure.Target.{Target}
 use Rattle.lx_tnfa.specs.declared.closure.Target.TheVariants.{Leaf, End}
-use Rattle.lx_tnfa.specs.declared.closure.Waiting.{Waiting}
 use Rattle.lx_tnfa.specs.declared.places.Place.{Place}
 use Rattle.lx_tnfa.specs.declared.states.Event.{Event}
 use Rattle.lx_tnfa.specs.declared.states.Move.{Move}
@@ -25,6 +23,11 @@ use Rattle.lx_tnfa.specs.declared.states.State.TheVariants.{Moves, Class, AnyUni
 abbrev pub stop_at : (rule : ℕ) → (number : ℕ) → Stop
 stop_at rule zero = AtTarget (End rule)
 stop_at rule (suc number) = AtState (suc number)
+
+-- a step of a walk: where it leads, and the tag events on the way
+pub record Step : Type 0 where
+  pub to : Stop
+  pub events : List Event
 
 -- a step to a target, without events
 abbrev pub leaf_step : (part : ℕ) → Residual → Step
@@ -106,9 +109,30 @@ IsClosureOf tnfa places reaches =
     (arrivals : List Arrival) × AreLeastWalks tnfa places arrivals
     × (reaches ≡ map (λ (arrival : Arrival). record { to = arrival.to; events = arrival.events; from = arrival.from }) arrivals)
 
--- a stop to which a walk leads that is still to be looked at, one step on
-abbrev pub one_step_on : Waiting → Step → Waiting
-one_step_on waiting step = record { stop = step.to; events = waiting.events ++ step.events; from = waiting.from }
+-- a leaf that is reached is a place of the automaton
+abbrev pub IsTarget : Tnfa → Target → Type 0
+IsTarget tnfa (Leaf place) = IsPlace tnfa place
+IsTarget tnfa (End rule) = Unit {0}
+
+-- the same of a stop; a state is no leaf that is reached
+abbrev pub IsTargetAt : Tnfa → Stop → Type 0
+IsTargetAt tnfa (AtState number) = Unit {0}
+IsTargetAt tnfa (AtTarget target) = IsTarget tnfa target
+
+-- and of each stop to which a step leads
+abbrev pub LeadToTargets : Tnfa → List Step → Type 0
+LeadToTargets tnfa [] = Unit {0}
+LeadToTargets tnfa (step ∷ steps) = IsTargetAt tnfa step.to × LeadToTargets tnfa steps
+
+-- each leaf that is reached is a place of the automaton
+abbrev pub AllPlaces : Tnfa → List Reach → Type 0
+AllPlaces tnfa reaches = All (λ (reach : Reach). IsTarget tnfa reach.to) reaches
+
+-- a stop that is still to be looked at, with the events of the walk to it and the index of the place where that begins
+pub record Waiting : Type 0 where
+  pub stop : Stop
+  pub events : List Event
+  pub from : ℕ
 
 -- the stops at which the walks from places begin, of which the first has this index
 abbrev pub waiting_from : Tnfa → (from : ℕ) → List Place → List Waiting

@@ -8,6 +8,7 @@ pub mod Making
 pub mod Moves
 pub mod PlaceNumbers
 pub mod Rows
+pub mod Search
 pub mod Shapes
 pub mod Standing
 pub mod TagLists

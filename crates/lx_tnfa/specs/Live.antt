@@ -1,6 +1,5 @@
 -- The states from which an end can be reached.
-use Rattle.std.specs.Prelude.{◌≡◌, ℕ, suc, ◌<◌, ◌↔◌, List, [], ◌∷◌, map, length, Bool, true, false, Contains, slice_index_or}
-use Rattle.std.specs.List.{list_any}
+use Rattle.std.specs.Prelude.{◌≡◌, ℕ, suc, ◌<◌, ◌↔◌, List, [], ◌∷◌, ◌++◌, map, length, Bool, true, false, Contains, slice_index_or, slice_set, if◌then◌else◌}
 use Rattle.lx_encode.specs.declared.graph.Residual.{Residual}
 use Rattle.lx_tnfa.specs.declared.classes.ClassGraph.{ClassGraph}
 use Rattle.lx_tnfa.specs.declared.states.Move.{Move}
@@ -37,18 +36,35 @@ pub data ReachesEnd (classes : List ClassGraph) (states : List State) : ℕ → 
 abbrev pub mark_at : List Bool → ℕ → Bool
 mark_at marks number = slice_index_or marks number false
 
--- a marked state reaches an end
-abbrev pub MarksAreSound : List ClassGraph → List State → List Bool → Type 0
-MarksAreSound classes states marks = (number : ℕ) → mark_at marks number ≡ true → ReachesEnd classes states number
+-- the list with this number
+abbrev pub list_at : List (List ℕ) → ℕ → List ℕ
+list_at lists number = slice_index_or lists number []
 
--- whether a state leads to a marked one
-abbrev pub leads_to_marked : List ClassGraph → List State → List Bool → (number : ℕ) → Bool
-leads_to_marked classes states marks number = list_any (mark_at marks) (leads_to classes number (state_of states number))
+-- a state is put on the list of one to which it leads
+abbrev pub put_one : List (List ℕ) → (number next : ℕ) → List (List ℕ)
+put_one before number next = slice_set before next (list_at before next ++ number ∷ [])
 
--- a state that leads to a marked one is marked
-abbrev pub MarksAreClosed : List ClassGraph → List State → List Bool → Type 0
-MarksAreClosed classes states marks =
-    (number : ℕ) → number < length states → leads_to_marked classes states marks number ≡ true → mark_at marks number ≡ true
+-- and on the lists of all to which it leads
+abbrev pub put_each : List (List ℕ) → (number : ℕ) → List ℕ → List (List ℕ)
+put_each before number [] = before
+put_each before number (next ∷ others) = put_each (put_one before number next) number others
+
+-- the list of each state has those that lead to it
+abbrev pub ArePredecessors : List ClassGraph → List State → List (List ℕ) → Type 0
+ArePredecessors classes states before =
+    (number next : ℕ) → next < length states
+    → Contains (list_at before next) number ↔ Contains (leads_to classes number (state_of states number)) next
+
+-- the marks after some states are marked
+abbrev pub marks_each : List Bool → List ℕ → List Bool
+marks_each marks [] = marks
+marks_each marks (number ∷ numbers) = marks_each (if mark_at marks number then marks else slice_set marks number true) numbers
+
+-- those of them that had no mark
+abbrev pub waits_each : List Bool → List ℕ → List ℕ
+waits_each marks [] = []
+waits_each marks (number ∷ numbers) =
+    if mark_at marks number then waits_each marks numbers else number ∷ waits_each (slice_set marks number true) numbers
 
 -- the states from which an end can be reached are marked, and no others
 abbrev pub AreLive : List ClassGraph → List State → List Bool → Type 0

@@ -83,6 +83,22 @@ abbrev pub AreNumbered : (count : ℕ) → List State → Type 0
 AreNumbered count [] = Unit {0}
 AreNumbered count (state ∷ states) = IsNumbered count state × AreNumbered count states
 
+-- the state is no leaf
+abbrev pub HasMoves : State → Type 0
+HasMoves (Moves ways) = Unit {0}
+HasMoves (Class number) = ⊥
+HasMoves AnyUnit = ⊥
+
+-- no end of a part is a leaf: leaves stand at even numbers only
+abbrev pub NoEndIsLeaf : List State → Type 0
+NoEndIsLeaf [] = Unit {0}
+NoEndIsLeaf (state ∷ []) = Unit {0}
+NoEndIsLeaf (state ∷ last ∷ states) = HasMoves last × NoEndIsLeaf states
+
+-- leaves stand at the beginnings of parts, and each graph is that of its class
+unfoldable pub IsFormed : Enc → List ClassGraph → List State → Type 0
+IsFormed enc classes states = NoEndIsLeaf states × AreClasses enc classes
+
 -- the states at the beginnings of rules, of which the first is this part
 abbrev pub beginnings_from : List Term → (part : ℕ) → List ℕ
 beginnings_from [] part = []

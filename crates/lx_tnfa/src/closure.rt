@@ -1,20 +1,17 @@
 //! Targets of plain walks.
-ghost use Rattle.std.specs.Prelude.{◌≡◌, ℕ, [], ◌∷◌, ◌++◌, map, reverse, length, not, Contains, IfOk, IfNone, IfSome, IsTrue, OnOk, ◌↔◌};
-ghost use Rattle.lx_tnfa.specs.Closure.{leaf_step, one_step_on, stop_at};
-ghost use Rattle.lx_tnfa.specs.declared.closure.Step.{Step as step_type};
-ghost use Rattle.lx_tnfa.specs.declared.closure.Stop.TheVariants.{AtState};
-ghost use Rattle.lx_tnfa.specs.declared.states.Move.{Move as move_type};
+ghost use Rattle.std.specs.Prelude.{◌≡◌, [], ◌++◌, map, reverse, length, take, IfOk, IsTrue, OnOk, ◌↔◌};
 
 use crate::places::Place;
-use crate::states::{Event, Move, State};
+use crate::search::{Branch, Entry, Search, Way, push_begins, push_moves, push_starts};
+use crate::states::{Event, State};
 use crate::tnfa::Tnfa;
+use crate::visited::Visited;
 use lx_base::{Memory, Sequence};
 use lx_encode::Residual;
 use std::alloc::Global;
-use std::marker::Model;
 
 /// Where a walk without units may end.
-#[derive(Clone, Copy, Debug, PartialEq, Eq)]
+#[derive(Clone, Copy, Debug, PartialEq, Eq, Hash)]
 pub enum Target {
     /// Before a leaf, or in the middle of one.
     Leaf(Place),
@@ -34,137 +31,66 @@ pub struct Reach {
 }
 
 /// Where a walk may stand: at the state with this number, or at a target.
-#[derive(Clone, Copy, Debug, PartialEq, Eq)]
+#[derive(Clone, Copy, Debug, PartialEq, Eq, Hash)]
 pub(crate) enum Stop {
     AtState(u32),
     AtTarget(Target),
 }
 
-/// A step of a walk: where it leads, and the tag events on the way.
-#[derive(Drop)]
-pub(crate) struct Step {
-    pub to: Stop,
-    pub events: Sequence<Event>,
-}
-
-/// A stop that is still to be looked at, with the events of the walk to it and the index of the place where that begins.
-#[derive(Drop)]
-pub(crate) struct Waiting {
-    pub stop: Stop,
-    pub events: Sequence<Event>,
-    pub from: u32,
-}
-
-/// Some events and then some others, as a list of their own.
-fn joined(alloc: Global, events: &[Event], others: &[Event]) -> Result<Sequence<Event>, Memory>
-    ensures { IfOk result (λ all. all ≡ events.now ++ others.now) }
-{
-    let mut all = Vec::from_slice(alloc, events)?;
-    all.extend_from_slice(others)?;
-    Ok(Sequence::from_vec(all))
-}
-
-/// The steps to the beginnings of rules.
-pub(crate) fn begin_steps(alloc: Global, begins: &[u32]) -> Result<Vec<Step>, Memory>
-    ensures { IfOk result (λ steps. steps.items ≡ map (λ begin. record { to = AtState begin; events = [] }) begins.now) }
-{
-    let mut steps = Vec::new(alloc);
-    for begin in begins {
-        steps.push(Step {
-            to: Stop::AtState(*begin),
-            events: Sequence::new(alloc),
-        })?;
-    }
-    Ok(steps)
-}
-
-/// A state; the last state of all is the end of the rule.
-fn stop_at(rule: u32, number: u32) -> Stop
-    ensures { result ≡ stop_at rule number }
-{
-    if number == 0 {
-        Stop::AtTarget(Target::End(rule))
-    } else {
-        Stop::AtState(number)
-    }
-}
-
-/// The steps by moves, in a rule with this number.
-pub(crate) fn move_steps(alloc: Global, rule: u32, ways: &[Move]) -> Result<Vec<Step>, Memory>
-    ensures { IfOk result (λ steps. steps.items ≡ map (λ (way : move_type). record { to = stop_at rule way.to; events = way.events }) ways.now) }
-{
-    let mut steps = Vec::new(alloc);
-    for way in ways {
-        steps.push(Step {
-            to: stop_at(rule, way.to),
-            events: joined(alloc, &[], way.events.as_slice())?,
-        })?;
-    }
-    Ok(steps)
-}
-
-/// The steps to places in a leaf.
-pub(crate) fn leaf_steps(alloc: Global, part: u32, starts: &[Residual]) -> Result<Vec<Step>, Memory>
-    ensures { IfOk result (λ steps. steps.items ≡ map (leaf_step part) starts.now) }
-{
-    let mut steps = Vec::new(alloc);
-    for start in starts {
-        steps.push(Step {
-            to: Stop::AtTarget(Target::Leaf(Place { part, rest: *start })),
-            events: Sequence::new(alloc),
-        })?;
-    }
-    Ok(steps)
-}
-
-/// Puts the stops one step on behind those that wait, the last step first.
-pub(crate) fn push_steps(
-    alloc: Global,
-    waiting: &mut Vec<Waiting>,
-    at: &Waiting,
-    steps: &[Step],
-) -> Result<(), Memory>
-    ensures { OnOk result (waiting.new.items ≡ waiting.old.items ++ reverse (map (one_step_on at.now) steps.now)) }
-{
-    for index in (0..steps.len()).rev() {
-        let step = &steps[index];
-        waiting.push(Waiting {
-            stop: step.to,
-            events: joined(alloc, at.events.as_slice(), step.events.as_slice())?,
-            from: at.from,
-        })?;
-    }
-    Ok(())
-}
-
 impl Tnfa {
-    ghost use Rattle.std.specs.Prelude.{All, ◌+◌, ◌<◌, ◌^◌, false};
-    ghost use Rattle.lx_tnfa.specs.Closure.{IsClosureOf, IsDead, beginning_of, steps_at, waiting_from};
+    ghost use Rattle.std.specs.Prelude.{All, ◌+◌, ◌<◌, ◌^◌};
+    ghost use Rattle.lx_tnfa.specs.Closure.{AllPlaces, IsClosureOf, IsDead, LeadToTargets, beginning_of, steps_at, waiting_from};
     ghost use Rattle.lx_tnfa.specs.Live.{state_of};
+    ghost use Rattle.lx_tnfa.specs.Search.{Enters, entries_at, first_entry, trail_to, way_events};
     ghost use Rattle.lx_tnfa.specs.Tnfa.{IsPlace};
 
-    /// The steps from the state with this number.
-    fn steps_at(&self, alloc: Global, number: u32) -> Result<Vec<Step>, Memory>
-        ensures { IfOk result (λ steps. steps.items ≡ steps_at self.now number (state_of self.now.states number)) }
+    /// The events of a move.
+    fn events_of(&self, way: &Way) -> &[Event]
+        ensures { result.now ≡ way_events self.now.states (Some way.now) }
     {
-        if number == 0 {
-            return begin_steps(alloc, &self.begins);
+        match self.states.get(way.state as usize) {
+            Some(State::Moves(ways)) => match ways.as_slice().get(way.index) {
+                Some(way) => way.events.as_slice(),
+                None => &[],
+            },
+            Some(State::Class(_)) | Some(State::AnyUnit) | None => &[],
         }
-        let part = number / 2;
-        match self.states.get(number as usize) {
+    }
+
+    /// Cuts the trail back to where a stop that waits branches off, and goes on to it.
+    fn follow(&self, trail: &mut Vec<Event>, at: &Entry) -> Result<(), Memory>
+        ensures { OnOk result (trail.new.items ≡ trail_to self.now.states trail.old.items at.now) }
+    {
+        trail.truncate(at.depth);
+        if let Some(way) = &at.way {
+            trail.extend_from_slice(self.events_of(way))?;
+        }
+        Ok(())
+    }
+
+    /// Puts the stops one step on behind those that wait, the last step first.
+    fn push_steps(&self, waiting: &mut Vec<Entry>, branch: Branch) -> Result<(), Memory>
+        ensures pushed { OnOk result (waiting.new.items ≡ waiting.old.items ++ reverse (entries_at self.now branch branch.state (state_of self.now.states branch.state))) }
+        ensures targets { LeadToTargets self.now (steps_at self.now branch.state (state_of self.now.states branch.state)) }
+    {
+        if branch.state == 0 {
+            return push_begins(waiting, branch, &self.begins);
+        }
+        let part = branch.state / 2;
+        match self.states.get(branch.state as usize) {
             Some(State::Moves(ways)) => {
                 let rule = match self.owners.get(part as usize) {
                     Some(rule) => *rule,
                     None => 0,
                 };
-                move_steps(alloc, rule, ways.as_slice())
+                push_moves(waiting, branch, rule, ways.as_slice())
             }
             Some(State::Class(class)) => match self.classes.get(*class as usize) {
-                Some(class) => leaf_steps(alloc, part, class.graph.starts()),
-                None => Ok(Vec::new(alloc)),
+                Some(class) => push_starts(waiting, branch, part, class.graph.starts()),
+                None => Ok(()),
             },
-            Some(State::AnyUnit) => leaf_steps(alloc, part, &[Residual(1)]),
-            None => Ok(Vec::new(alloc)),
+            Some(State::AnyUnit) => push_starts(waiting, branch, part, &[Residual(1)]),
+            None => Ok(()),
         }
     }
 
@@ -179,6 +105,16 @@ impl Tnfa {
             },
             Stop::AtTarget(_) => false,
         }
+    }
+
+    /// Whether a stop is to be entered, which then counts as visited: not where no end can be reached from it, and only once.
+    fn enters(&self, visited: &mut Visited, stop: Stop) -> Result<bool, Memory>
+        ensures { IfOk result (Enters self.now stop visited.old visited.new) }
+    {
+        if self.is_dead(stop) {
+            return Ok(false);
+        }
+        visited.add(stop)
     }
 
     /// Where a walk from a place begins.
@@ -198,93 +134,84 @@ impl Tnfa {
         }
     }
 
-    /// The stops at which the walks from places begin, the last place first.
-    fn beginnings(&self, alloc: Global, places: &[Place]) -> Result<Vec<Waiting>, Memory>
+    /// Puts the stops at which the walks from places begin behind those that wait, the last place first.
+    fn push_beginnings(&self, waiting: &mut Vec<Entry>, places: &[Place]) -> Result<(), Memory>
         requires places { All (IsPlace self.now) places.now }
         requires few { length places.now + 1 < 2 ^ 32 }
-        ensures { IfOk result (λ waiting. waiting.items ≡ reverse (waiting_from self.now 0 places.now)) }
+        ensures { OnOk result (waiting.new.items ≡ waiting.old.items ++ reverse (map first_entry (waiting_from self.now 0 places.now))) }
     {
-        let mut waiting = Vec::new(alloc);
         for index in (0..places.len()).rev() {
-            waiting.push(Waiting {
+            waiting.push(Entry {
                 stop: self.beginning_of(&places[index]),
-                events: Sequence::new(alloc),
+                depth: 0,
+                way: None,
                 from: index as u32,
             })?;
         }
-        Ok(waiting)
+        Ok(())
     }
 
     /// The targets that plain walks from places reach, each once, by place and then by least walk, with the events of that walk.
     ///
-    /// `IsClosureOf` in `specs/Closure.antt` says what plain walks are. The search is depth first, with a stack of the stops that
-    /// wait; it keeps no memory from call to call.
+    /// `IsClosureOf` in `specs/Closure.antt` says what plain walks are. A caller who calls often lends the buffers of the search, to
+    /// `closure_with`.
     pub fn closure(&self, alloc: Global, places: &[Place]) -> Result<Sequence<Reach>, Memory>
         requires places { All (IsPlace self.now) places.now }
         requires few { length places.now + 1 < 2 ^ 32 }
-        ensures { IfOk result (IsClosureOf self.now places.now) }
+        ensures closure { IfOk result (IsClosureOf self.now places.now) }
+        ensures places { IfOk result (AllPlaces self.now) }
     {
-        let mut waiting = self.beginnings(alloc, places)?;
-        let mut visited = Visited::new(alloc);
+        let mut search = Search::new(alloc);
+        self.closure_with(alloc, &mut search, places)
+    }
+
+    /// The same as `closure`, by a search in buffers that the caller lends, whatever they hold: a caller who calls often lends one
+    /// `Search`. Its buffers are kept, and grow to the largest call; all other memory that is taken is the answer's.
+    ///
+    /// The search is depth first, with a stack of the stops that wait, and a trail of the events on the way to the stop where it is.
+    /// It takes time linear in the states and moves that it visits, the events of these moves, and the answer.
+    pub fn closure_with(
+        &self,
+        alloc: Global,
+        search: &mut Search,
+        places: &[Place],
+    ) -> Result<Sequence<Reach>, Memory>
+        requires places { All (IsPlace self.now) places.now }
+        requires few { length places.now + 1 < 2 ^ 32 }
+        ensures closure { IfOk result (IsClosureOf self.now places.now) }
+        ensures places { IfOk result (AllPlaces self.now) }
+    {
+        let Search {
+            visited,
+            waiting,
+            trail,
+        } = search;
+        visited.clear();
+        trail.clear();
+        waiting.clear();
+        self.push_beginnings(waiting, places)?;
         let mut reaches = Sequence::new(alloc);
         while let Some(at) = waiting.pop() {
-            if self.is_dead(at.stop) || visited.contains(at.stop) {
+            if !self.enters(visited, at.stop)? {
                 continue;
             }
-            visited.add(at.stop)?;
+            self.follow(trail, &at)?;
             match at.stop {
-                Stop::AtState(number) => {
-                    let steps = self.steps_at(alloc, number)?;
-                    push_steps(alloc, &mut waiting, &at, &steps)?;
+                Stop::AtState(state) => {
+                    let branch = Branch {
+                        state,
+                        depth: trail.len(),
+                        from: at.from,
+                    };
+                    self.push_steps(waiting, branch)?;
                 }
                 Stop::AtTarget(to) => reaches.push(Reach {
                     to,
-                    events: at.events,
+                    events: Sequence::from_vec(Vec::from_slice(alloc, trail)?),
                     from: at.from,
                 })?,
             }
         }
         Ok(reaches)
-    }
-}
-
-/// The stops that were visited, in order.
-#[derive(Drop)]
-pub(crate) struct Visited {
-    stops: Vec<Stop>,
-}
-
-impl Model for Visited {
-    ghost use Rattle.std.specs.Prelude.{List};
-    ghost use Rattle.lx_tnfa.specs.declared.closure.Stop.{Stop};
-
-    ghost Value = { List Stop };
-
-    ghost view = { λ visited. visited.stops.items };
-}
-
-impl Visited {
-    /// No stop.
-    pub(crate) fn new(alloc: Global) -> Visited
-        ensures { result ≡ [] }
-    {
-        Visited {
-            stops: Vec::new(alloc),
-        }
-    }
-
-    /// Whether a stop was visited.
-    pub(crate) fn contains(&self, stop: Stop) -> bool
-        ensures { IsTrue result ↔ Contains self.now stop }
-    {
-        self.stops.contains(&stop)
-    }
-
-    /// Adds a stop.
-    pub(crate) fn add(&mut self, stop: Stop) -> Result<(), Memory>
-        ensures { OnOk result (self.new ≡ self.old ++ stop ∷ []) }
-    {
-        self.stops.push(stop)?;
-        Ok(())
     }
 }

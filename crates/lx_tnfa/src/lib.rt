@@ -8,13 +8,16 @@ pub mod laws;
 mod live;
 mod making;
 mod places;
+mod search;
 mod shape;
 mod states;
 mod tags;
 mod tnfa;
+mod visited;
 
 pub use closure::{Reach, Target};
 pub use places::Place;
+pub use search::Search;
 pub use states::{Event, Move};
 pub use tnfa::Tnfa;
 

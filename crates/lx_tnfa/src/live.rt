@@ -1,85 +1,114 @@
 //! The states from which an end can be reached.
-ghost use Rattle.std.specs.Prelude.{◌≡◌, ℕ, ◌<◌, ◌≤◌, length, true, false, count_by, not, map, IfOk};
-ghost use Rattle.std.specs.List.{list_any};
-ghost use Rattle.lx_tnfa.specs.Live.{AreLive, MarksAreClosed, MarksAreSound, leads_to_marked, mark_at};
+ghost use Rattle.std.specs.Prelude.{◌≡◌, [], ◌∷◌, ◌++◌, ◌<◌, All, length, true, false, map, replicate, IfOk, OnOk};
+ghost use Rattle.lx_tnfa.specs.Live.{AreLive, ArePredecessors, leads_to, marks_each, put_each, put_one, waits_each};
 ghost use Rattle.lx_tnfa.specs.declared.states.Move.{Move as Way};
 
 use crate::classes::ClassGraph;
 use crate::states::{Move, State};
-use lx_base::Memory;
+use lx_base::{Memory, Sequence};
 use std::alloc::Global;
 
-/// The mark of a state.
-fn is_marked(marks: &[bool], number: usize) -> bool
-    ensures { result ≡ mark_at marks.now number }
+/// Puts a state on the list of those that lead to another one, if that is there.
+fn put(before: &mut [Sequence<usize>], number: usize, next: usize) -> Result<(), Memory>
+    ensures { OnOk result (before.new ≡ put_one before.old number next) }
 {
-    match marks.get(number) {
-        Some(mark) => *mark,
-        None => false,
+    if next < before.len() {
+        before[next].push(number)?;
     }
+    Ok(())
 }
 
-/// Whether a move leads to a marked state.
-fn any_marked(marks: &[bool], ways: &[Move]) -> bool
-    ensures { result ≡ list_any (mark_at marks.now) (map (λ (way : Way). way.to) ways.now) }
+/// Puts a state on the lists of those to which its moves lead.
+fn put_moves(before: &mut [Sequence<usize>], number: usize, ways: &[Move]) -> Result<(), Memory>
+    ensures { OnOk result (before.new ≡ put_each before.old number (map (λ (way : Way). way.to) ways.now)) }
 {
     for way in ways {
-        if is_marked(marks, way.to as usize) {
-            return true;
-        }
+        put(before, number, way.to as usize)?;
     }
-    false
+    Ok(())
 }
 
-/// Whether a state leads to a marked one: by a move, or by a spelling of its leaf.
-fn leads_to_marked(states: &[State], classes: &[ClassGraph], marks: &[bool], number: usize) -> bool
-    requires { number < length states.now }
-    ensures { result ≡ leads_to_marked classes.now states.now marks.now number }
+/// Puts a state on the lists of those to which it leads: by a move, or by a spelling of its leaf.
+fn put_state(
+    before: &mut [Sequence<usize>],
+    classes: &[ClassGraph],
+    number: usize,
+    state: &State,
+) -> Result<(), Memory>
+    requires { number < length before.old }
+    ensures { OnOk result (before.new ≡ put_each before.old number (leads_to classes.now number state.now)) }
 {
-    match &states[number] {
-        State::Moves(ways) => any_marked(marks, ways.as_slice()),
+    match state {
+        State::Moves(ways) => put_moves(before, number, ways.as_slice()),
         State::Class(class) => match classes.get(*class as usize) {
-            Some(class) => !class.graph.starts().is_empty() && is_marked(marks, number + 1),
-            None => false,
+            Some(class) => {
+                if class.graph.starts().is_empty() {
+                    return Ok(());
+                }
+                put(before, number, number + 1)
+            }
+            None => Ok(()),
         },
-        State::AnyUnit => is_marked(marks, number + 1),
+        State::AnyUnit => put(before, number, number + 1),
     }
 }
 
-/// Marks states that lead to marked ones, from the last state to the first, and says whether there were any.
-fn spread(states: &[State], classes: &[ClassGraph], marks: &mut [bool]) -> bool
-    requires { length marks.old ≡ length states.now }
-    ensures sound { MarksAreSound classes.now states.now marks.old → MarksAreSound classes.now states.now marks.new }
-    ensures kept { (number : ℕ) → mark_at marks.old number ≡ true → mark_at marks.new number ≡ true }
-    ensures fewer { count_by not marks.new ≤ count_by not marks.old }
-    ensures more { result ≡ true → count_by not marks.new < count_by not marks.old }
-    ensures closed { result ≡ false → MarksAreClosed classes.now states.now marks.new }
+/// So many empty lists.
+fn empty_lists(alloc: Global, count: usize) -> Result<Vec<Sequence<usize>>, Memory>
+    ensures { IfOk result (λ lists. lists.items ≡ replicate count []) }
 {
-    let mut more = false;
-    for number in (0..states.len()).rev() {
-        if !marks[number] && leads_to_marked(states, classes, marks, number) {
-            marks[number] = true;
-            more = true;
+    let mut lists = Vec::new(alloc);
+    for _ in 0..count {
+        lists.push(Sequence::new(alloc))?;
+    }
+    Ok(lists)
+}
+
+/// Of each state, those that lead to it.
+fn predecessors(
+    alloc: Global,
+    states: &[State],
+    classes: &[ClassGraph],
+) -> Result<Vec<Sequence<usize>>, Memory>
+    ensures count { IfOk result (λ before. length before.items ≡ length states.now) }
+    ensures lists { IfOk result (λ before. ArePredecessors classes.now states.now before.items) }
+{
+    let mut before = empty_lists(alloc, states.len())?;
+    for (number, state) in states.iter().enumerate() {
+        put_state(&mut before, classes, number, state)?;
+    }
+    Ok(before)
+}
+
+/// A mark, and so many behind it that are not set.
+fn first_mark(alloc: Global, others: usize) -> Result<Vec<bool>, Memory>
+    ensures { IfOk result (λ marks. marks.items ≡ true ∷ replicate others false) }
+{
+    let mut marks = Vec::new(alloc);
+    marks.push(true)?;
+    for _ in 0..others {
+        marks.push(false)?;
+    }
+    Ok(marks)
+}
+
+/// Marks states, and puts those that had no mark behind the ones that wait.
+fn mark_each(numbers: &[usize], marks: &mut [bool], waiting: &mut Vec<usize>) -> Result<(), Memory>
+    requires { All (λ number. number < length marks.old) numbers.now }
+    ensures marks { OnOk result (marks.new ≡ marks_each marks.old numbers.now) }
+    ensures waiting { OnOk result (waiting.new.items ≡ waiting.old.items ++ waits_each marks.old numbers.now) }
+{
+    for number in numbers {
+        if !marks[*number] {
+            marks[*number] = true;
+            waiting.push(*number)?;
         }
     }
-    more
+    Ok(())
 }
 
-/// Marks each state from which an end can be reached, where the last state of all is marked and only such states are.
-fn spread_all(states: &[State], classes: &[ClassGraph], marks: &mut [bool])
-    requires count { length marks.old ≡ length states.now }
-    requires begun { mark_at marks.old 0 ≡ true }
-    requires sound { MarksAreSound classes.now states.now marks.old }
-    ensures { AreLive classes.now states.now marks.new }
-{
-    let mut more = true;
-    while more {
-        more = spread(states, classes, marks);
-    }
-}
-
-/// Of each state, whether an end can be reached from it. A pass marks what leads to marked states, and there are at most as
-/// many passes as expressions stand in one another.
+/// Of each state, whether an end can be reached from it. Each marked state waits once, until those that lead to it are marked: so
+/// this takes time linear in the states and moves.
 pub(crate) fn live_states(
     alloc: Global,
     states: &[State],
@@ -89,11 +118,12 @@ pub(crate) fn live_states(
     ensures count { IfOk result (λ live. length live.items ≡ length states.now) }
     ensures live { IfOk result (λ live. AreLive classes.now states.now live.items) }
 {
-    let mut live = Vec::new(alloc);
-    live.push(true)?;
-    for _ in &states[1..] {
-        live.push(false)?;
+    let before = predecessors(alloc, states, classes)?;
+    let mut live = first_mark(alloc, states.len() - 1)?;
+    let mut waiting = Vec::new(alloc);
+    waiting.push(0)?;
+    while let Some(number) = waiting.pop() {
+        mark_each(before[number].as_slice(), &mut live, &mut waiting)?;
     }
-    spread_all(states, classes, &mut live);
     Ok(live)
 }

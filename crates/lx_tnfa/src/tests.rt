@@ -1,6 +1,7 @@
 ghost use Rattle.std.specs.Prelude.{◌≡◌, ◌∷◌, [], ℕ, ◌+◌, ◌*◌, ◌≤◌, ◌<◌, ◌^◌, IfOk, Option, None, Some, length, map, sum};
 ghost use Rattle.lx_base.specs.declared.settings.Enc.{Enc};
 ghost use Rattle.lx_base.specs.declared.settings.Enc.TheVariants.{Utf8};
+ghost use Rattle.lx_encode.specs.Graph.{numbered};
 ghost use Rattle.lx_regex.specs.Expr.{members_of, size_of, term_of, times};
 ghost use Rattle.lx_regex.specs.Limits.{HasLongSequences, IsWithinLimits, numbers_from};
 ghost use Rattle.lx_regex.specs.Pattern.{patterns_of, terms_of};
@@ -13,6 +14,7 @@ use super::*;
 use crate::states::State;
 use lx_base::{Enc, Memory, Sequence};
 use lx_class::{ClassSet, MAX_POINT};
+use lx_encode::Residual;
 use lx_regex::{Expr, Kind, Rule, RuleSet, Tag};
 use std::alloc::Global;
 use std::test::Fail;
@@ -21,6 +23,7 @@ use std::time::Instant;
 mod closures;
 mod places;
 mod rules;
+mod spellings;
 mod units;
 
 /// The class of the points between two.
@@ -350,7 +353,18 @@ fn a_class_of_both_lengths_has_a_place_in_its_middle(rt: HostRuntime) -> Result<
     Ok(())
 }
 
-/// Prints how long a rule list of the greatest size takes in which most moves unset 127 tags (`bench/tnfa.sh`).
+/// The start of every automaton.
+fn beginning() -> Place
+    ensures { result ≡ record { part = 0; rest = numbered 0 } }
+{
+    Place {
+        part: 0,
+        rest: Residual(0),
+    }
+}
+
+/// Prints how long a rule list of the greatest size takes in which most moves unset 127 tags, and the closure of its start
+/// (`bench/tnfa.sh`).
 #[test]
 fn time_of_many_tags(rt: HostRuntime) -> Result<(), Fail> {
     let alloc = rt.alloc();
@@ -360,11 +374,16 @@ fn time_of_many_tags(rt: HostRuntime) -> Result<(), Fail> {
     let t = Tnfa::of(alloc, &set, Enc::Utf8)?;
     let elapsed = start.elapsed(&rt)?;
     println!(rt; "many_tags: {} us", elapsed.as_micros())?;
+    let start = Instant::now(&rt)?;
+    let reaches = t.closure(alloc, &[beginning()])?;
+    let elapsed = start.elapsed(&rt)?;
+    println!(rt; "many_tags_closure: {} us", elapsed.as_micros())?;
+    assert_eq!(rt; reaches.as_slice().len(), 1);
     assert_eq!(rt; t.states.len(), 8002);
     Ok(())
 }
 
-/// Prints how long 2,000 alternations in one another take (`bench/tnfa.sh`).
+/// Prints how long 2,000 alternations in one another take, and the closure of their start (`bench/tnfa.sh`).
 #[test]
 fn time_of_nested_alternations(rt: HostRuntime) -> Result<(), Fail> {
     let alloc = rt.alloc();
@@ -374,6 +393,11 @@ fn time_of_nested_alternations(rt: HostRuntime) -> Result<(), Fail> {
     let t = Tnfa::of(alloc, &set, Enc::Utf8)?;
     let elapsed = start.elapsed(&rt)?;
     println!(rt; "nested_alternations: {} us", elapsed.as_micros())?;
+    let start = Instant::now(&rt)?;
+    let reaches = t.closure(alloc, &[beginning()])?;
+    let elapsed = start.elapsed(&rt)?;
+    println!(rt; "nested_alternations_closure: {} us", elapsed.as_micros())?;
+    assert_eq!(rt; reaches.as_slice().len(), 1);
     assert_eq!(rt; t.states.len(), 8004);
     Ok(())
 }

@@ -1,5 +1,5 @@
 //! The automaton of a rule list.
-ghost use Rattle.std.specs.Prelude.{◌≡◌, ◌↔◌, ◌∷◌, ℕ, ◌<◌, List, Some, length, IfOk, IsNone, IsSome, slice_index};
+ghost use Rattle.std.specs.Prelude.{◌≡◌, ◌↔◌, ◌∷◌, ℕ, ◌<◌, List, Some, length, IfOk, IfSome, IsNone, IsSome, slice_index};
 ghost use Rattle.std.specs.List.Sorted.{IsStrictlyIncreasing};
 ghost use Rattle.lx_base.specs.Spelling.{greatest_unit};
 ghost use Rattle.lx_encode.specs.Graph.{Separates};
@@ -41,7 +41,7 @@ pub struct Tnfa {
 impl Model for Tnfa {
     ghost use Rattle.std.specs.Prelude.{◌<◌, ◌^◌, map, length};
     ghost use Rattle.lx_tnfa.specs.Tnfa as spec;
-    ghost use Rattle.lx_tnfa.specs.Tnfa.{AreNumbered};
+    ghost use Rattle.lx_tnfa.specs.Tnfa.{AreNumbered, IsFormed};
     ghost use Rattle.lx_tnfa.specs.declared.tnfa.RuleTags.{RuleTags};
 
     ghost Value = { spec.Tnfa };
@@ -56,7 +56,8 @@ impl Model for Tnfa {
       live = t.live.items;
     } };
 
-    ghost invariant = { λ t. AreNumbered (length t.classes.items) t.states.items × (length t.states.items < 2 ^ 32) };
+    ghost invariant = { λ t. AreNumbered (length t.classes.items) t.states.items × (length t.states.items < 2 ^ 32)
+        × IsFormed t.enc t.classes.items t.states.items };
 }
 
 impl Tnfa {
@@ -96,6 +97,7 @@ impl Tnfa {
         requires { IsPlace self.now place.now }
         ensures next { result ≡ place_after self.now place.now unit }
         ensures none { IsNone result ↔ ((units : List ℕ) → ¬ FinishesPlace self.now place.now (unit ∷ units)) }
+        ensures place { IfSome result (IsPlace self.now) }
     {
         match &self.states[2 * place.part as usize] {
             State::Moves(_) => None,

@@ -53,6 +53,24 @@ pub(super) fn from_start(alloc: Global, set: &RuleSet) -> Result<String, Memory>
     Ok(text)
 }
 
+/// The closures of the start by two calls with one search, as text.
+fn twice(alloc: Global, set: &RuleSet) -> Result<String, Memory>
+    requires limits { IsWithinLimits set.now.rules }
+    requires classes { AllClassesFit Utf8 (terms_of (patterns_of set.now.rules)) }
+{
+    let t = Tnfa::of(alloc, set, Enc::Utf8)?;
+    let start = Place {
+        part: 0,
+        rest: Residual(0),
+    };
+    let mut search = Search::new(alloc);
+    let first = t.closure_with(alloc, &mut search, &[start])?;
+    let second = t.closure_with(alloc, &mut search, &[start])?;
+    let mut text = shown(alloc, first.as_slice())?;
+    text.push_str(&shown(alloc, second.as_slice())?)?;
+    Ok(text)
+}
+
 /// `"x"?`.
 fn maybe(alloc: Global) -> Result<Expr, Memory>
     ensures term { IfOk result (λ e. term_of 0 e ≡ repeat (class ((120, 120) ∷ [])) 0 (Some 1)) }
@@ -156,5 +174,14 @@ fn events_are_those_of_the_least_walk(rt: HostRuntime) -> Result<(), Fail> {
     let expr = two_ways(alloc)?;
     let set = scanner(alloc, Enc::Utf8, expr, 1, 0)?;
     assert_eq!(rt; from_start(alloc, &set)?.as_str(), "0:leaf 5/1+0 ");
+    Ok(())
+}
+
+#[test]
+fn a_search_forgets_what_it_visited(rt: HostRuntime) -> Result<(), Fail> {
+    let alloc = rt.alloc();
+    let expr = two_ways(alloc)?;
+    let set = scanner(alloc, Enc::Utf8, expr, 1, 0)?;
+    assert_eq!(rt; twice(alloc, &set)?.as_str(), "0:leaf 5/1+0 0:leaf 5/1+0 ");
     Ok(())
 }

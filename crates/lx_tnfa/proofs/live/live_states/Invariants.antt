@@ -1,6 +1,9 @@
-use Rattle.std.proofs.Common.{◌≡◌, ◌∷◌, false, true}
-use Rattle.std.specs.Prelude.{replicate}
+use Rattle.std.proofs.Common.{◌+◌, count_by, length, not}
+use Rattle.lx_tnfa.proofs.LiveMarks.{IsSpreading}
 use Rattle.lx_tnfa.proofs.live.live_states.Given as goal
 
-abbrev pub invariant-loop : goal.invariant-loop
-invariant-loop l = l.live.items ≡ true ∷ replicate l.index false
+abbrev pub invariant-loop-number : goal.invariant-loop-number
+invariant-loop-number l = IsSpreading l.classes l.states l.before.items l.live.items l.waiting.items
+
+abbrev pub decreases-loop-number : goal.decreases-loop-number
+decreases-loop-number l = count_by not l.live.items + length l.waiting.items

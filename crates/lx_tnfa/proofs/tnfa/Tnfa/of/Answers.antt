@@ -3,6 +3,7 @@ use Rattle.lx_regex.specs.Automaton.{automaton}
 use Rattle.lx_regex.specs.Limits.{IsWithinLimits}
 use Rattle.lx_regex.specs.Pattern.{patterns_of, terms_of}
 use Rattle.lx_tnfa.specs.Tnfa.{AllClassesFit}
+use Rattle.lx_tnfa.proofs.FormedLeaves.{automaton_formed}
 use Rattle.lx_tnfa.proofs.LiveMarks.{live_same}
 use Rattle.lx_tnfa.proofs.WholeTable.{RulesMade, made_begin, made_can, made_more, made_end, made_few, made_some, held_numbered}
 use Rattle.lx_tnfa.proofs.tnfa.Tnfa.of.Goals as goal
@@ -40,6 +41,8 @@ invariant_of-result c =
     c.in_ok-live.live.items c.deref-2.ensures.value c.deref.ensures.value c.in_ok-live.ensures.live) in (
       held_numbered c.loop-rule.making.building.classes.list.items (automaton (terms_of (patterns_of c.as_slice-rule-items.result.now))) c.loop-rule.making.building.states.items whole.states,
       made_few c.as_slice-rule-items.result.now c.in_ok-making.making c.loop-rule.making c.loop-rule.rule-index c.loop-rule.invariant,
+      automaton_formed c.args.enc c.loop-rule.making.building.classes.list.items (terms_of (patterns_of c.as_slice-rule-items.result.now))
+          c.loop-rule.making.building.states.items whole.states whole.classes,
     )
 
 pub returns : goal.returns

@@ -1,0 +1,14 @@
+use Rattle.lx_tnfa.proofs.FormedLeaves.{steps_lead_of}
+use Rattle.lx_tnfa.proofs.tnfa.Tnfa.push_steps.Goals as goal
+
+pub returns-then-branch-eq0-clause-targets : goal.returns-then-branch-eq0-clause-targets
+returns-then-branch-eq0-clause-targets c = steps_lead_of c.args.self.now _ c.self.view_is c.self.invariant.2 c.args.branch.state
+
+pub returns-after-get-3-clause-targets : goal.returns-after-get-3-clause-targets
+returns-after-get-3-clause-targets c = steps_lead_of c.args.self.now _ c.self.view_is c.self.invariant.2 c.args.branch.state
+
+pub returns-in-Some-get-clause-targets : goal.returns-in-Some-get-clause-targets
+returns-in-Some-get-clause-targets c = steps_lead_of c.args.self.now _ c.self.view_is c.self.invariant.2 c.args.branch.state
+
+pub returns-in-Some-AnyUnit-clause-targets : goal.returns-in-Some-AnyUnit-clause-targets
+returns-in-Some-AnyUnit-clause-targets c = steps_lead_of c.args.self.now _ c.self.view_is c.self.invariant.2 c.args.branch.state
