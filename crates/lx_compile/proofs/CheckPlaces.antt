@@ -15,12 +15,11 @@ use Rattle.lx_base.specs.declared.settings.SurPolicy.{SurPolicy}
 use Rattle.lx_base.specs.declared.settings.SurPolicy.TheVariants.{Ignore, Substitute, Fail}
 use Rattle.lx_class.specs.declared.ranges.Range.{Range}
 use Rattle.lx_parse.specs.Expressions.{Part}
-use Rattle.lx_rules.specs.Checks.{Check, Then, Finds, waits, Checks, LeafChecks, IsFilled, PointsAre, AreClasses, HasPoint, LeafHas, bounds_fault, class_ranges, is_class, is_wrong, name_fault, repeated_tag, tag_fault, tag_name, tags_of, is_among}
+use Rattle.lx_rules.specs.Checks.{Check, Then, Finds, waits, Checks, LeafChecks, IsFilled, PointsAre, AreClasses, HasPoint, LeafHas, are_groups, bounds_fault, bounds_of, class_ranges, group_fault, is_class, is_wrong, name_fault, repeated_tag, tag_fault, tag_name, tags_of, is_among}
 use Rattle.lx_rules.specs.Environments.{Definition, definition_of}
 use Rattle.lx_rules.specs.Forms.{Form, leaf, group, repeated, sequence, difference, alternative, IsForm, is_leaf, is_group, is_bare, is_repeated, is_first_post, is_sequence, is_first_cat, is_difference, is_first_diff, is_alternative}
 use Rattle.lx_rules.specs.Lexemes.{Lexeme, nth_lexeme, points_in}
 use Rattle.lx_rules.specs.Points.{least_from, points_fault, singles, surrogate_fault, up_to}
-use Rattle.lx_token.specs.Numbers.{repeat_of}
 use Rattle.lx_token.specs.declared.kinds.TokenKind.{TokenKind}
 use Rattle.lx_token.specs.declared.kinds.TokenKind.TheVariants as kind
 use Rattle.lx_compile.specs.Places.{StandsInFirst}
@@ -125,20 +124,10 @@ repeated_tag-in_first : (at : Pos) (tags seen : List (List ℕ)) → at.file ≡
 repeated_tag-in_first at [] seen is = tt
 repeated_tag-in_first at (tag ∷ tags) seen is = if-in_first (is_among tag seen) (Some (DuplicateTag at tag)) (repeated_tag at tags seen) is (repeated_tag-in_first at tags seen is)
 
-bounds-in_first : (sort : TokenKind) (lexeme : Lexeme) → lexeme.at.file ≡ 0 → AreInFirst (bounds_fault sort lexeme)
-bounds-in_first kind.Bounds lexeme is =
-    let bounds = repeat_of lexeme.text in
+bounds-in_first : (lexeme : Lexeme) → lexeme.at.file ≡ 0 → AreInFirst (bounds_fault lexeme)
+bounds-in_first lexeme is =
+    let bounds = bounds_of lexeme in
     if-in_first (is_wrong bounds.min bounds.max) (Some (Bounds lexeme.at bounds.min bounds.max)) None is tt
-bounds-in_first kind.Name lexeme is = tt
-bounds-in_first kind.Config lexeme is = tt
-bounds-in_first kind.Number lexeme is = tt
-bounds-in_first kind.Str lexeme is = tt
-bounds-in_first kind.IStr lexeme is = tt
-bounds-in_first kind.Class lexeme is = tt
-bounds-in_first kind.STag lexeme is = tt
-bounds-in_first kind.MTag lexeme is = tt
-bounds-in_first kind.Code lexeme is = tt
-bounds-in_first kind.Signs lexeme is = tt
 
 module _ (options : Options) (definitions : List Definition) where
   filled-in_first : (policy : EmptyPolicy) (is_operand : Bool) (at : Pos) (HasPoint : ℕ → Type 0) → at.file ≡ 0
@@ -179,8 +168,7 @@ module _ (options : Options) (definitions : List Definition) where
       FindsInFirst-Finds (name_fault options definitions (definition_of definitions lexeme.text) lexeme seen)
       (name-in_first (definition_of definitions lexeme.text) lexeme seen is)
   leaf-in_first kind.STag is_operand seen lexeme is =
-      then_waits (Finds (tag_fault options definitions lexeme seen)) lexeme is
-      (FindsInFirst-Finds (tag_fault options definitions lexeme seen) (tag-in_first lexeme seen is))
+      FindsInFirst-Finds (tag_fault options definitions lexeme seen) (tag-in_first lexeme seen is)
   leaf-in_first kind.MTag is_operand seen lexeme is =
       then_waits (Finds (tag_fault options definitions lexeme seen)) lexeme is
       (FindsInFirst-Finds (tag_fault options definitions lexeme seen) (tag-in_first lexeme seen is))
@@ -206,12 +194,12 @@ module _ (options : Options) (definitions : List Definition) where
       → FindsInFirst (Checks options definitions is_operand seen form)
   Checks-in_first is_operand seen (leaf lexeme) is = leaf-in_first lexeme.kind is_operand seen lexeme is
   Checks-in_first is_operand seen (group opening inner) is =
-      then_waits (Checks options definitions is_operand seen inner) opening is.0 (Checks-in_first is_operand seen inner is.1)
+      FindsInFirst-Then (Finds (group_fault options definitions opening)) (Checks options definitions is_operand seen inner)
+      (FindsInFirst-Finds (group_fault options definitions opening) (if-in_first (are_groups options definitions) (waits opening) None is.0 tt))
+      (Checks-in_first is_operand seen inner is.1)
   Checks-in_first is_operand seen (repeated inner sign) is =
-      let Sign = Then (Finds (waits sign)) (Finds (bounds_fault sign.kind sign)) in
-      FindsInFirst-Then (Checks options definitions false seen inner) Sign (Checks-in_first false seen inner is.0)
-      (then_waits (Finds (bounds_fault sign.kind sign)) sign is.1
-      (FindsInFirst-Finds (bounds_fault sign.kind sign) (bounds-in_first sign.kind sign is.1)))
+      FindsInFirst-Then (Checks options definitions false seen inner) (Finds (bounds_fault sign)) (Checks-in_first false seen inner is.0)
+      (FindsInFirst-Finds (bounds_fault sign) (bounds-in_first sign is.1))
   Checks-in_first is_operand seen (sequence front back) is =
       let behind = seen ++ tags_of options definitions front in
       FindsInFirst-Then (Checks options definitions false seen front) (Checks options definitions false behind back)
@@ -229,6 +217,5 @@ module _ (options : Options) (definitions : List Definition) where
       (filled-in_first options.empty is_operand sign.at Has is.1)))
   Checks-in_first is_operand seen (alternative left sign right) is =
       let behind = seen ++ tags_of options definitions left in
-      FindsInFirst-Then (Checks options definitions is_operand seen left) (Then (Finds (waits sign)) (Checks options definitions is_operand behind right))
-      (Checks-in_first is_operand seen left is.0)
-      (then_waits (Checks options definitions is_operand behind right) sign is.1 (Checks-in_first is_operand behind right is.2))
+      FindsInFirst-Then (Checks options definitions is_operand seen left) (Checks options definitions is_operand behind right)
+      (Checks-in_first is_operand seen left is.0) (Checks-in_first is_operand behind right is.2)

@@ -133,7 +133,7 @@ module _ (options : Options) (lexemes : List Lexeme) (are : AreTokensInFirst lex
 
   targets_after : (state : State) (item : Item) (after : State) → IsAfter options lexemes state item after → AreTargetsInFirst state.rules
       → AreTargetsInFirst after.rules
-  targets_after state (Define name from until) after is targets = subst (λ (s : State). AreTargetsInFirst s.rules) (sym is.4) targets
+  targets_after state (Define name from until) after is targets = subst (λ (s : State). AreTargetsInFirst s.rules) (sym is.6) targets
   targets_after state (Configure name value) after is targets = subst (λ (s : State). AreTargetsInFirst s.rules) (sym is.2) targets
   targets_after state (Rule first head slash until goes code) after is targets =
       subst (λ (s : State). AreTargetsInFirst s.rules) (sym is.3) (targets-append state.rules _ targets (of_goes goes))

@@ -1,5 +1,5 @@
 -- The checks of an expression find one fault, or none; and it has one meaning.
-use Rattle.std.proofs.Common.{◌≡◌, ℕ, suc, max, ◌⊎◌, Bool, true, false, List, [], ◌++◌, drop, Option, Some, None, sym, ap, ap₂, subst, inl, inr, ◌∙◌}
+use Rattle.std.proofs.Common.{◌≡◌, ℕ, suc, max, ◌⊎◌, Bool, true, false, List, [], ◌++◌, drop, length, Option, Some, None, refl, sym, ap, ap₂, subst, inl, inr, ◌∙◌}
 use Rattle.std.specs.Prelude.{◌&&◌, if◌then◌else◌}
 use Rattle.lx_base.specs.declared.faults.Fault.{Fault}
 use Rattle.lx_base.specs.declared.faults.Fault.TheVariants.{NotClass}
@@ -9,16 +9,47 @@ use Rattle.lx_base.specs.declared.settings.EmptyPolicy.TheVariants.{MatchEmpty, 
 use Rattle.lx_base.specs.declared.settings.Options.{Options}
 use Rattle.lx_class.proofs.Law.{same_ranges}
 use Rattle.lx_class.specs.declared.ranges.Range.{Range}
-use Rattle.lx_rules.specs.Checks.{Check, Then, Finds, waits, Checks, LeafChecks, IsFilled, PointsAre, AreClasses, HasPoint, LeafHas, bounds_fault, class_ranges, is_class, name_fault, tag_fault, tags_of}
-use Rattle.lx_rules.specs.Environments.{Definition, Meaning, definition_of}
+use Rattle.lx_rules.specs.Checks.{Check, Then, Finds, waits, Checks, LeafChecks, IsFilled, PointsAre, AreClasses, HasPoint, LeafHas, bounds_fault, bounds_of, class_ranges, group_fault, is_class, name_fault, tag_fault, tags_of}
+use Rattle.lx_regex.specs.Expr.{ranges_of}
+use Rattle.lx_regex.specs.Term.{Term, class}
+use Rattle.lx_rules.specs.Environments.{Definition, HasClass, IsClassKept, IsDefined, IsTermKept, Meaning, definition_of, is_built, meant_class, whole_room}
 use Rattle.lx_rules.specs.Forms.{Form, leaf, group, repeated, sequence, difference, alternative}
 use Rattle.lx_rules.specs.Items.{ContextChecks, ExpressionChecks, IsExpression}
 use Rattle.lx_rules.specs.Lexemes.{Lexeme, nth_lexeme, points_in}
-use Rattle.lx_rules.specs.Meanings.{IsClassMeaning, IsLeafMeaning, IsMeaning, IsSetOf, class_meaning, copied, followed}
+use Rattle.lx_rules.specs.Meanings.{IsClassMeaning, IsLeafMeaning, IsMeaning, IsSetOf, alternated, class_meaning, copied, enclosed, followed, repeated_by}
 use Rattle.lx_rules.specs.Points.{points_fault, singles}
 use Rattle.lx_rules.proofs.OneForm.{one_form}
 use Rattle.lx_token.specs.declared.kinds.TokenKind.{TokenKind}
 use Rattle.lx_token.specs.declared.kinds.TokenKind.TheVariants as kind
+
+-- of an expression one thing is kept
+kept_class-one : (ranges : Option (List (ℕ × ℕ))) (one two : Option Term) → IsClassKept ranges one → IsClassKept ranges two → one ≡ two
+kept_class-one ranges None None is is_other = refl
+kept_class-one ranges None (Some term) is is_other = absurd (subst (HasClass (Some is_other.0)) is is_other.1)
+kept_class-one ranges (Some term) None is is_other = absurd (subst (HasClass (Some is.0)) is_other is.1)
+kept_class-one None (Some term) (Some other) is is_other = absurd is.1
+kept_class-one (Some ranges) (Some term) (Some other) is is_other =
+    let same = same_ranges 0 0 is.0 is_other.0 is.1.0 is_other.1.0
+        (λ point inside. (is_other.1.1 point).1 ((is.1.1 point).0 inside)) (λ point inside. (is.1.1 point).1 ((is_other.1.1 point).0 inside)) in
+    ap Some (is.2 ∙ ap (λ set. class (ranges_of set)) same ∙ sym is_other.2)
+
+kept-one : (built : Bool) (meaning : Meaning) (one two : Option Term) → IsTermKept built meaning one → IsTermKept built meaning two → one ≡ two
+kept-one true meaning one two is is_other = is ∙ sym is_other
+kept-one false meaning one two is is_other = kept_class-one (meant_class meaning) one two is is_other
+
+-- and a name has one definition
+pub definition-one : (name : List ℕ) (at : Pos) (meaning : Meaning) (one two : Definition) → IsDefined name at meaning one → IsDefined name at meaning two
+    → one ≡ two
+definition-one name at meaning one two is is_other =
+    ap₂ (λ f x. f x)
+    (ap₂ (λ f x. f x)
+    (ap₂ (λ f x. f x)
+    (ap₂ (λ f x. f x) (ap₂ (λ f x. f x) (ap make (is.name_is ∙ sym is_other.name_is)) (is.at_is ∙ sym is_other.at_is)) (is.size ∙ sym is_other.size))
+    (is.nesting ∙ sym is_other.nesting)) (is.tags ∙ sym is_other.tags))
+    (kept-one (is_built whole_room meaning) meaning one.term two.term is.term is_other.term)
+  where
+    make : List ℕ → Pos → ℕ → ℕ → List (List ℕ) → Option Term → Definition
+    make name at size nesting tags term = record { name = name; at = at; size = size; nesting = nesting; tags = tags; term = term }
 
 -- a check finds one fault, or none
 pub record FindsOne (Faults : Check) : Type 0 where
@@ -66,8 +97,7 @@ module _ (options : Options) (definitions : List Definition) where
       → FindsOne (LeafChecks options definitions sort is_operand seen lexeme)
   leaf-one kind.Str is_operand seen lexeme = points-one lexeme (singles (points_in lexeme))
   leaf-one kind.Name is_operand seen lexeme = FindsOne-Finds (name_fault options definitions (definition_of definitions lexeme.text) lexeme seen)
-  leaf-one kind.STag is_operand seen lexeme =
-      then_waits-one (Finds (tag_fault options definitions lexeme seen)) lexeme (FindsOne-Finds (tag_fault options definitions lexeme seen))
+  leaf-one kind.STag is_operand seen lexeme = FindsOne-Finds (tag_fault options definitions lexeme seen)
   leaf-one kind.MTag is_operand seen lexeme =
       then_waits-one (Finds (tag_fault options definitions lexeme seen)) lexeme (FindsOne-Finds (tag_fault options definitions lexeme seen))
   leaf-one kind.IStr is_operand seen lexeme = points-one lexeme (singles (points_in lexeme))
@@ -90,11 +120,11 @@ module _ (options : Options) (definitions : List Definition) where
   pub Checks-one : (is_operand : Bool) (seen : List (List ℕ)) (form : Form) → FindsOne (Checks options definitions is_operand seen form)
   Checks-one is_operand seen (leaf lexeme) = leaf-one lexeme.kind is_operand seen lexeme
   Checks-one is_operand seen (group opening inner) =
-      then_waits-one (Checks options definitions is_operand seen inner) opening (Checks-one is_operand seen inner)
+      FindsOne-Then (Finds (group_fault options definitions opening)) (Checks options definitions is_operand seen inner)
+      (FindsOne-Finds (group_fault options definitions opening)) (Checks-one is_operand seen inner)
   Checks-one is_operand seen (repeated inner sign) =
-      let Sign = Then (Finds (waits sign)) (Finds (bounds_fault sign.kind sign)) in
-      FindsOne-Then (Checks options definitions false seen inner) Sign (Checks-one false seen inner)
-      (then_waits-one (Finds (bounds_fault sign.kind sign)) sign (FindsOne-Finds (bounds_fault sign.kind sign)))
+      FindsOne-Then (Checks options definitions false seen inner) (Finds (bounds_fault sign)) (Checks-one false seen inner)
+      (FindsOne-Finds (bounds_fault sign))
   Checks-one is_operand seen (sequence front back) =
       let behind = seen ++ tags_of options definitions front in
       FindsOne-Then (Checks options definitions false seen front) (Checks options definitions false behind back)
@@ -111,9 +141,8 @@ module _ (options : Options) (definitions : List Definition) where
       (FindsOne-Then Classes Filled (classes-one left right sign) (filled-one options.empty is_operand sign.at Has)))
   Checks-one is_operand seen (alternative left sign right) =
       let behind = seen ++ tags_of options definitions left in
-      FindsOne-Then (Checks options definitions is_operand seen left) (Then (Finds (waits sign)) (Checks options definitions is_operand behind right))
-      (Checks-one is_operand seen left)
-      (then_waits-one (Checks options definitions is_operand behind right) sign (Checks-one is_operand behind right))
+      FindsOne-Then (Checks options definitions is_operand seen left) (Checks options definitions is_operand behind right)
+      (Checks-one is_operand seen left) (Checks-one is_operand behind right)
 
   -- a token has one meaning, and a form too
   set-one : (Has : ℕ → Type 0) (set other : List Range) → IsSetOf Has set → IsSetOf Has other → set ≡ other
@@ -121,44 +150,54 @@ module _ (options : Options) (definitions : List Definition) where
       same_ranges 0 0 set other is.canonical is_other.canonical
       (λ point inside. (is_other.points point).1 ((is.points point).0 inside)) (λ point inside. (is.points point).1 ((is_other.points point).0 inside))
 
-  class_meaning-one : (operand : Bool) (nesting : ℕ) (Has : ℕ → Type 0) (meaning other : Meaning) → IsClassMeaning options definitions operand nesting Has meaning
-      → IsClassMeaning options definitions operand nesting Has other → meaning ≡ other
-  class_meaning-one operand nesting Has meaning other is is_other =
-      is.2 ∙ ap (class_meaning operand options.empty nesting) (set-one Has is.0 is_other.0 is.1 is_other.1) ∙ sym is_other.2
+  class_meaning-one : (operand : Bool) (nesting : ℕ) (tags : List (List ℕ)) (count : ℕ) (Has : ℕ → Type 0) (meaning other : Meaning)
+      → IsClassMeaning options definitions operand nesting tags count Has meaning → IsClassMeaning options definitions operand nesting tags count Has other
+      → meaning ≡ other
+  class_meaning-one operand nesting tags count Has meaning other is is_other =
+      is.2 ∙ ap (class_meaning operand options.empty nesting tags count) (set-one Has is.0 is_other.0 is.1 is_other.1) ∙ sym is_other.2
 
-  leaf_meaning-one : (operand : Bool) (sort : TokenKind) (lexeme : Lexeme) (meaning other : Meaning)
-      → IsLeafMeaning options definitions operand sort lexeme meaning → IsLeafMeaning options definitions operand sort lexeme other → meaning ≡ other
-  leaf_meaning-one operand kind.Str lexeme meaning other is is_other = is ∙ sym is_other
-  leaf_meaning-one operand kind.IStr lexeme meaning other is is_other = is ∙ sym is_other
-  leaf_meaning-one operand kind.Class lexeme meaning other is is_other =
-      class_meaning-one operand 0 (LeafHas options definitions kind.Class lexeme) meaning other is is_other
-  leaf_meaning-one operand kind.Signs lexeme meaning other is is_other =
-      class_meaning-one operand 0 (LeafHas options definitions kind.Signs lexeme) meaning other is is_other
-  leaf_meaning-one operand kind.Name lexeme meaning other is is_other =
+  leaf_meaning-one : (operand : Bool) (sort : TokenKind) (seen : List (List ℕ)) (lexeme : Lexeme) (meaning other : Meaning)
+      → IsLeafMeaning options definitions operand sort seen lexeme meaning → IsLeafMeaning options definitions operand sort seen lexeme other
+      → meaning ≡ other
+  leaf_meaning-one operand kind.Str seen lexeme meaning other is is_other = is ∙ sym is_other
+  leaf_meaning-one operand kind.IStr seen lexeme meaning other is is_other = is ∙ sym is_other
+  leaf_meaning-one operand kind.Class seen lexeme meaning other is is_other =
+      class_meaning-one operand 0 [] (length seen) (LeafHas options definitions kind.Class lexeme) meaning other is is_other
+  leaf_meaning-one operand kind.Signs seen lexeme meaning other is is_other =
+      class_meaning-one operand 0 [] (length seen) (LeafHas options definitions kind.Signs lexeme) meaning other is is_other
+  leaf_meaning-one operand kind.Name seen lexeme meaning other is is_other =
       let same : is.0 ≡ is_other.0 = let found = sym is.1 ∙ is_other.1 in cc in
-      is.2 ∙ ap copied same ∙ sym is_other.2
-  leaf_meaning-one operand kind.STag lexeme meaning other is is_other = absurd is
-  leaf_meaning-one operand kind.MTag lexeme meaning other is is_other = absurd is
-  leaf_meaning-one operand kind.Config lexeme meaning other is is_other = absurd is
-  leaf_meaning-one operand kind.Number lexeme meaning other is is_other = absurd is
-  leaf_meaning-one operand kind.Bounds lexeme meaning other is is_other = absurd is
-  leaf_meaning-one operand kind.Code lexeme meaning other is is_other = absurd is
+      is.2 ∙ ap (copied (length seen)) same ∙ sym is_other.2
+  leaf_meaning-one operand kind.STag seen lexeme meaning other is is_other = is ∙ sym is_other
+  leaf_meaning-one operand kind.MTag seen lexeme meaning other is is_other = absurd is
+  leaf_meaning-one operand kind.Config seen lexeme meaning other is is_other = absurd is
+  leaf_meaning-one operand kind.Number seen lexeme meaning other is is_other = absurd is
+  leaf_meaning-one operand kind.Bounds seen lexeme meaning other is is_other = absurd is
+  leaf_meaning-one operand kind.Code seen lexeme meaning other is is_other = absurd is
 
-  meaning-one : (operand : Bool) (form : Form) (meaning other : Meaning) → IsMeaning options definitions operand form meaning
-      → IsMeaning options definitions operand form other → meaning ≡ other
-  meaning-one operand (leaf lexeme) meaning other is is_other = leaf_meaning-one operand lexeme.kind lexeme meaning other is is_other
-  meaning-one operand (group opening inner) meaning other is is_other = absurd is
-  meaning-one operand (repeated inner sign) meaning other is is_other = absurd is
-  meaning-one operand (sequence front back) meaning other is is_other =
-      is.4 ∙ ap₂ followed (meaning-one false front is.0 is_other.0 is.2 is_other.2) (meaning-one false back is.1 is_other.1 is.3 is_other.3) ∙ sym is_other.4
-  meaning-one operand (difference left sign right) meaning other is is_other =
-      let one = meaning-one true left is.0 is_other.0 is.2 is_other.2 in
-      let two = meaning-one true right is.1 is_other.1 is.3 is_other.3 in
+  meaning-one : (operand : Bool) (seen : List (List ℕ)) (form : Form) (meaning other : Meaning) → IsMeaning options definitions operand seen form meaning
+      → IsMeaning options definitions operand seen form other → meaning ≡ other
+  meaning-one operand seen (leaf lexeme) meaning other is is_other = leaf_meaning-one operand lexeme.kind seen lexeme meaning other is is_other
+  meaning-one operand seen (group opening inner) meaning other is is_other =
+      is.2 ∙ ap enclosed (meaning-one operand seen inner is.0 is_other.0 is.1 is_other.1) ∙ sym is_other.2
+  meaning-one operand seen (repeated inner sign) meaning other is is_other =
+      is.2 ∙ ap (repeated_by (bounds_of sign)) (meaning-one false seen inner is.0 is_other.0 is.1 is_other.1) ∙ sym is_other.2
+  meaning-one operand seen (sequence front back) meaning other is is_other =
+      let one = meaning-one false seen front is.0 is_other.0 is.2 is_other.2 in
+      let two = meaning-one false (seen ++ tags_of options definitions front) back is.1 is_other.1 is.3 is_other.3 in
+      is.4 ∙ ap₂ followed one two ∙ sym is_other.4
+  meaning-one operand seen (difference left sign right) meaning other is is_other =
+      let one = meaning-one true seen left is.0 is_other.0 is.2 is_other.2 in
+      let two = meaning-one true (seen ++ tags_of options definitions left) right is.1 is_other.1 is.3 is_other.3 in
       let Has = HasPoint options definitions (difference left sign right) in
-      class_meaning-one operand (max is.0.nesting is.1.nesting) Has meaning other is.4
-      (subst (λ nesting. IsClassMeaning options definitions operand nesting Has other)
-      (ap₂ (λ (a b : Meaning). max a.nesting b.nesting) (sym one) (sym two)) is_other.4)
-  meaning-one operand (alternative left sign right) meaning other is is_other = absurd is
+      class_meaning-one operand (max is.0.nesting is.1.nesting) (is.0.tags ++ is.1.tags) (max is.0.count is.1.count) Has meaning other is.4
+      (subst (λ (first : Meaning). IsClassMeaning options definitions operand (max first.nesting is.1.nesting) (first.tags ++ is.1.tags) (max first.count is.1.count) Has other) (sym one)
+      (subst (λ (second : Meaning). IsClassMeaning options definitions operand (max is_other.0.nesting second.nesting) (is_other.0.tags ++ second.tags) (max is_other.0.count second.count) Has other) (sym two)
+      is_other.4))
+  meaning-one operand seen (alternative left sign right) meaning other is is_other =
+      let one = meaning-one operand seen left is.0 is_other.0 is.2 is_other.2 in
+      let two = meaning-one operand (seen ++ tags_of options definitions left) right is.1 is_other.1 is.3 is_other.3 in
+      is.4 ∙ ap₂ alternated one two ∙ sym is_other.4
 
   module _ (lexemes : List Lexeme) where
     -- the checks of an expression find one fault, or none
@@ -198,7 +237,7 @@ module _ (options : Options) (definitions : List Definition) where
     -- an expression has one meaning, if it has one
     pub expression_meaning-one : (from until : ℕ) (form other : Form) (meaning meant : Meaning)
         → IsExpression options lexemes from until form → IsExpression options lexemes from until other
-        → IsMeaning options definitions false form meaning → IsMeaning options definitions false other meant → meaning ≡ meant
+        → IsMeaning options definitions false [] form meaning → IsMeaning options definitions false [] other meant → meaning ≡ meant
     expression_meaning-one from until form other meaning meant is is_other means means_other =
         let same = one_form (drop from lexemes) (drop until lexemes) form other is is_other in
-        meaning-one false other meaning meant (subst (λ (form : Form). IsMeaning options definitions false form meaning) same means) means_other
+        meaning-one false [] other meaning meant (subst (λ (form : Form). IsMeaning options definitions false [] form meaning) same means) means_other

@@ -14,12 +14,12 @@ use Rattle.lx_regex.specs.Pattern.{patterns_of}
 use Rattle.lx_rules.specs.Blocks.{AreScanners, BlockChecks, ClashCheck, IsBlockFault, IsResolved, NoClash, Resolves, conditions_of, lonely_fault, scanners_fault, targets_fault}
 use Rattle.lx_rules.specs.Checks.{Then, Finds}
 use Rattle.lx_rules.specs.Configurations.{config_fault}
-use Rattle.lx_rules.specs.Environments.{Definition, Environment, Meaning, defined, definition_of}
+use Rattle.lx_rules.specs.Environments.{Definition, Environment, Meaning, IsDefined, definition_of}
 use Rattle.lx_rules.specs.Items.{ExpressionChecks, Goes, ends, refused, next, HeadChecks, HeadSort, any, end, expression, IsAfter, IsHead, ItemChecks, ListChecks, RuleOf, State, TargetChecks, act_of, conds_of, first_of, first_state, head_sort, is_default, is_end, twice, unless}
 use Rattle.lx_rules.specs.Lexemes.{Lexeme, nth_lexeme, sort_at}
 use Rattle.lx_rules.specs.declared.resolved.Resolved.{Resolved}
 use Rattle.lx_rules.specs.declared.resolved.Scanner.{Scanner}
-use Rattle.lx_compile.proofs.OneCheck.{FindsOne, FindsOne-Finds, FindsOne-Then, FindsOne-by, context-one, expression-one, expression_meaning-one, then_waits-one}
+use Rattle.lx_compile.proofs.OneCheck.{FindsOne, FindsOne-Finds, FindsOne-Then, FindsOne-by, context-one, definition-one, expression-one, expression_meaning-one, then_waits-one}
 
 -- scanners have the same rules, one by one
 abbrev pub HaveSameRules : List Scanner → List Scanner → Type 0
@@ -103,14 +103,17 @@ module _ (options : Options) (lexemes : List Lexeme) where
   after-one : (state : State) (item : Item) (after other : State) → IsAfter options lexemes state item after
       → IsAfter options lexemes state item other → after ≡ other
   after-one state (Define name from until) after other is is_other =
-      let same = expression_meaning-one options state.definitions lexemes from until is.0 is_other.0 is.1 is_other.1 is.2 is_other.2 is.3 is_other.3 in
-      is.4
-      ∙ ap (λ (meaning : Meaning). record {
-        definitions = state.definitions ++ defined (nth_lexeme lexemes name).text (nth_lexeme lexemes name).at meaning ∷ [];
+      let lexeme = nth_lexeme lexemes name in
+      let same = expression_meaning-one options state.definitions lexemes from until is.0 is_other.0 is.1 is_other.1 is.3 is_other.3 is.4 is_other.4 in
+      let defined = definition-one lexeme.text lexeme.at is_other.1 is.2 is_other.2
+          (subst (λ (meaning : Meaning). IsDefined lexeme.text lexeme.at meaning is.2) same is.5) is_other.5 in
+      is.6
+      ∙ ap (λ (definition : Definition). record {
+        definitions = state.definitions ++ definition ∷ [];
         fill = state.fill;
         rules = state.rules;
-      }) same
-      ∙ sym is_other.4
+      }) defined
+      ∙ sym is_other.6
   after-one state (Configure name value) after other is is_other =
       let same : is.0 ≡ is_other.0 = let found = sym is.1 ∙ is_other.1 in cc in
       is.2 ∙ ap (λ (fill : Bool). record { definitions = state.definitions; fill = fill; rules = state.rules }) same ∙ sym is_other.2

@@ -23,7 +23,7 @@ AreUnnamed-append (first ∷ rules) rule unnamed is = (unnamed.0, AreUnnamed-app
 
 module _ (options : Options) (lexemes : List Lexeme) where
   AreUnnamed-after : (state : State) (item : Item) (after : State) → IsAfter options lexemes state item after → AreUnnamed state.rules → AreUnnamed after.rules
-  AreUnnamed-after state (Define name from until) after is unnamed = subst (λ (s : State). AreUnnamed s.rules) (sym is.4) unnamed
+  AreUnnamed-after state (Define name from until) after is unnamed = subst (λ (s : State). AreUnnamed s.rules) (sym is.6) unnamed
   AreUnnamed-after state (Configure name value) after is unnamed = subst (λ (s : State). AreUnnamed s.rules) (sym is.2) unnamed
   AreUnnamed-after state (Rule first head slash until goes code) after is unnamed =
       subst (λ (s : State). AreUnnamed s.rules) (sym is.3) (AreUnnamed-append state.rules _ unnamed refl)

@@ -6,13 +6,13 @@ use Rattle.std.specs.Option.{option_or}
 use Rattle.lx_base.specs.declared.places.Pos.{Pos}
 use Rattle.lx_base.specs.declared.faults.Fault.{Fault}
 use Rattle.lx_base.specs.declared.faults.Fault.TheVariants.{BadValue, EofPair, NoRules}
-use Rattle.lx_base.specs.Names.{Spellings, DoNotClash, IsTagName, usual_names}
+use Rattle.lx_base.specs.Names.{usual_names}
 use Rattle.lx_regex.specs.declared.rules.Kind.{Kind}
 use Rattle.lx_regex.specs.declared.rules.Kind.TheVariants as kind
 use Rattle.lx_rules.specs.Checks.{is_among}
 use Rattle.lx_rules.specs.Items.{RuleOf, State, is_default, is_end}
-use Rattle.lx_rules.specs.Blocks.{every, conditions_behind, conditions_of, rules_under, of_kind, not_of_kind, own_or, shared_beside, scanner_rules, rules_of, size_of, nesting_of, tags_of, limits_fault, scanner_fault, scanners_fault, lonely_fault, targets_fault, BlockChecks}
-use Rattle.lx_rules.specs.Keeping.{IsUsual}
+use Rattle.lx_rules.specs.Blocks.{every, conditions_behind, conditions_of, rules_under, of_kind, not_of_kind, own_or, shared_beside, scanner_rules, rules_of, size_of, nesting_of, tags_of, limits_fault, scanner_fault, scanners_fault, lonely_fault, targets_fault, BlockChecks, NoClash}
+use Rattle.lx_rules.specs.Keeping.{IsUsual, names_of}
 
 -- the rules are usual ones
 abbrev pub AreUsual : List RuleOf → Type 0
@@ -86,6 +86,10 @@ nesting_of-both : (front back : List RuleOf) → nesting_of (front ++ back) ≡ 
 nesting_of-both [] back = omega arith
 nesting_of-both (rule ∷ front) back = let later = nesting_of-both front back in omega (arith, later)
 
+tags_of-both : (front back : List RuleOf) → tags_of (front ++ back) ≡ tags_of front + tags_of back
+tags_of-both [] back = omega arith
+tags_of-both (rule ∷ front) back = let later = tags_of-both front back in omega (arith, later)
+
 -- the order does not matter for what rules add up to
 size_of-in_order : (rules : List RuleOf) → size_of (in_order rules) ≡ size_of rules
 size_of-in_order rules = size_of-both (not_of_kind is_default rules) (of_kind is_default rules) ∙ apart rules
@@ -98,6 +102,18 @@ size_of-in_order rules = size_of-both (not_of_kind is_default rules) (of_kind is
             → size_of (not_of_kind is_default (rule ∷ rules)) + size_of (of_kind is_default (rule ∷ rules)) ≡ size_of (rule ∷ rules)
         at true e later = rw (e) (omega (arith, later))
         at false e later = rw (e) (omega (arith, later))
+
+tags_of-in_order : (rules : List RuleOf) → tags_of (in_order rules) ≡ length (names_of rules)
+tags_of-in_order rules = tags_of-both (not_of_kind is_default rules) (of_kind is_default rules) ∙ apart rules
+  where
+    apart : (rules : List RuleOf) → tags_of (not_of_kind is_default rules) + tags_of (of_kind is_default rules) ≡ length (names_of rules)
+    apart [] = omega arith
+    apart (rule ∷ rules) = at (is_default rule.kind) refl (apart rules)
+      where
+        at : (b : Bool) → is_default rule.kind ≡ b → tags_of (not_of_kind is_default rules) + tags_of (of_kind is_default rules) ≡ length (names_of rules)
+            → tags_of (not_of_kind is_default (rule ∷ rules)) + tags_of (of_kind is_default (rule ∷ rules)) ≡ length (names_of (rule ∷ rules))
+        at true e later = let longer = length-append rule.meaning.tags (names_of rules) in rw (e) (omega (arith, later, longer))
+        at false e later = let longer = length-append rule.meaning.tags (names_of rules) in rw (e) (omega (arith, later, longer))
 
 nesting_of-in_order : (rules : List RuleOf) → nesting_of (in_order rules) ≡ nesting_of rules
 nesting_of-in_order rules = nesting_of-both (not_of_kind is_default rules) (of_kind is_default rules) ∙ apart rules
@@ -112,7 +128,7 @@ nesting_of-in_order rules = nesting_of-both (not_of_kind is_default rules) (of_k
         at true e later = rw (e) (omega (arith, later))
         at false e later = rw (e) (omega (arith, later))
 
--- none of the rules is `$`, and none has a tag
+-- none of the rules is `$`
 no_end : (rule : RuleOf) → IsUsual rule → is_end rule.kind ≡ false
 no_end rule usual = at rule.kind refl
   where
@@ -128,12 +144,6 @@ no_ends (rule ∷ rules) usual = ap₂ (λ a b. a || b) (no_end rule usual.0) (n
 all_but_end : (rules : List RuleOf) → AreUsual rules → not_of_kind is_end rules ≡ rules
 all_but_end [] usual = refl
 all_but_end (rule ∷ rules) usual = let e = no_end rule usual.0 in rw (e) (ap (λ l. rule ∷ l) (all_but_end rules usual.1))
-
-tags_of-usual : (rules : List RuleOf) → AreUsual rules → tags_of rules ≡ 0
-tags_of-usual [] usual = refl
-tags_of-usual (rule ∷ rules) usual =
-    let later = tags_of-usual rules usual.1 in
-    let none = ap length usual.0.no_tags in omega (arith, later, none)
 
 any_true : (rules : List RuleOf) → AreUsual rules → 0 < length rules → list_any (λ (rule : RuleOf). not (is_end rule.kind)) rules ≡ true
 any_true [] usual some = absurd (omega (arith, some))
@@ -153,18 +163,31 @@ no_targets : (rules : List RuleOf) (conds : List (List ℕ)) → AreUsual rules 
 no_targets [] conds usual = refl
 no_targets (rule ∷ rules) conds usual = let goes = usual.0.no_target in rw (goes) (no_targets rules conds usual.1)
 
-usual_names_free : (names : Spellings) (rules : List RuleOf) → AreUsual rules
-    → AllByRecursion (λ (rule : RuleOf). AllByRecursion (IsTagName names) rule.meaning.tags) rules
-usual_names_free names [] usual = tt
-usual_names_free names (rule ∷ rules) usual = let none = usual.0.no_tags in (rw (none) tt, usual_names_free names rules usual.1)
+-- a fact of the names of all tags is one of those of each rule
+module _ (P : List ℕ → Type 0) where
+  each_both : (front back : List (List ℕ)) → AllByRecursion P front → AllByRecursion P back → AllByRecursion P (front ++ back)
+  each_both [] back one two = two
+  each_both (name ∷ front) back one two = (one.0, each_both front back one.1 two)
+
+  each_apart : (front back : List (List ℕ)) → AllByRecursion P (front ++ back) → AllByRecursion P front × AllByRecursion P back
+  each_apart [] back all = (tt, all)
+  each_apart (name ∷ front) back all = let later = each_apart front back all.1 in ((all.0, later.0), later.1)
+
+  pub each_name : (rules : List RuleOf) → AllByRecursion P (names_of rules) → AllByRecursion (λ (rule : RuleOf). AllByRecursion P rule.meaning.tags) rules
+  each_name [] all = tt
+  each_name (rule ∷ rules) all =
+      let apart = each_apart rule.meaning.tags (names_of rules) all in (apart.0, each_name rules apart.1)
+
+  pub all_names : (rules : List RuleOf) → AllByRecursion (λ (rule : RuleOf). AllByRecursion P rule.meaning.tags) rules → AllByRecursion P (names_of rules)
+  all_names [] all = tt
+  all_names (rule ∷ rules) all = each_both rule.meaning.tags (names_of rules) all.0 (all_names rules all.1)
 
 module _ (at : Pos) (state : State) (usual : AreUsual state.rules) where
-  -- the size and nesting of the scanner, if there is one
-  abbrev over : Option Fault
-  over = limits_fault at (size_of state.rules) (nesting_of state.rules) 0
+  -- what the limits say of rules
+  abbrev pub over : List RuleOf → Option Fault
+  over rules = limits_fault at (size_of rules) (nesting_of rules) (length (names_of rules))
 
-  scanner_usual : (rule : RuleOf) (rules : List RuleOf) → AreUsual (rule ∷ rules)
-      → scanner_fault at (rules_of [] (rule ∷ rules)) ≡ limits_fault at (size_of (rule ∷ rules)) (nesting_of (rule ∷ rules)) 0
+  scanner_usual : (rule : RuleOf) (rules : List RuleOf) → AreUsual (rule ∷ rules) → scanner_fault at (rules_of [] (rule ∷ rules)) ≡ over (rule ∷ rules)
   scanner_usual rule rules are =
       let all = in_order-usual (rule ∷ rules) are in
       let some = any_true (in_order (rule ∷ rules)) all (some_in_order rule rules) in
@@ -172,15 +195,14 @@ module _ (at : Pos) (state : State) (usual : AreUsual state.rules) where
       ap (scanner_fault at) (rules_of-usual (rule ∷ rules) are)
       ∙ ap₂ (λ a b. option_or (if not a then Some (NoRules at) else None) (option_or (if b then Some (EofPair at) else None) (limits_fault at (size_of (not_of_kind is_end (in_order (rule ∷ rules)))) (nesting_of (not_of_kind is_end (in_order (rule ∷ rules)))) (tags_of (not_of_kind is_end (in_order (rule ∷ rules))))))) some ends
       ∙ ap (λ l. limits_fault at (size_of l) (nesting_of l) (tags_of l)) (all_but_end (in_order (rule ∷ rules)) all)
-      ∙ ap (λ n. limits_fault at (size_of (in_order (rule ∷ rules))) (nesting_of (in_order (rule ∷ rules))) n) (tags_of-usual (in_order (rule ∷ rules)) all)
-      ∙ ap₂ (λ s n. limits_fault at s n 0) (size_of-in_order (rule ∷ rules)) (nesting_of-in_order (rule ∷ rules))
+      ∙ ap₂ (λ s n. limits_fault at s n (tags_of (in_order (rule ∷ rules)))) (size_of-in_order (rule ∷ rules)) (nesting_of-in_order (rule ∷ rules))
+      ∙ ap (limits_fault at (size_of (rule ∷ rules)) (nesting_of (rule ∷ rules))) (tags_of-in_order (rule ∷ rules))
 
   or_none : (fault : Option Fault) → option_or fault None ≡ fault
   or_none None = refl
   or_none (Some fault) = refl
 
-  scanners_usual : (rules : List RuleOf) → AreUsual rules
-      → scanners_fault at rules (conditions_of rules) ≡ limits_fault at (size_of rules) (nesting_of rules) 0
+  scanners_usual : (rules : List RuleOf) → AreUsual rules → scanners_fault at rules (conditions_of rules) ≡ over rules
   scanners_usual [] are = refl
   scanners_usual (rule ∷ rules) are =
       ap (scanners_fault at (rule ∷ rules)) (conditions_of-usual rule rules are) ∙ or_none (scanner_fault at (rules_of [] (rule ∷ rules)))
@@ -191,13 +213,13 @@ module _ (at : Pos) (state : State) (usual : AreUsual state.rules) where
   lonely_usual (rule ∷ rules) are = ap (lonely_fault at (rule ∷ rules)) (conditions_of-usual rule rules are)
 
   -- the checks behind the items find what the limits say
-  pub block_checked : (fault : Option Fault) → DoNotClash usual_names → over ≡ fault → BlockChecks at state fault
-  block_checked fault differ is =
+  pub block_checked : (fault : Option Fault) → NoClash usual_names state.rules → over state.rules ≡ fault → BlockChecks at state fault
+  block_checked fault free is =
       inl (
-        inl ((differ, usual_names_free usual_names state.rules usual), refl),
+        inl (free, refl),
         inl (sym (lonely_usual state.rules usual), inl (sym (no_targets state.rules (conditions_of state.rules) usual), sym (scanners_usual state.rules usual ∙ is))),
       )
 
-  -- or that spellings clash
-  pub block_clashes : (DoNotClash usual_names → ⊥) → BlockChecks at state (Some (BadValue at))
-  block_clashes clash = inr (BadValue at, inr ((λ free. clash free.0), refl), refl)
+  -- or that spellings or tags clash
+  pub block_clashes : (NoClash usual_names state.rules → ⊥) → BlockChecks at state (Some (BadValue at))
+  block_clashes clash = inr (BadValue at, inr (clash, refl), refl)

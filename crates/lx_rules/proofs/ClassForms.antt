@@ -1,9 +1,10 @@
 -- Forms that are classes: where one is an operand of a difference, its meaning is the class of its points.
-use Rattle.std.proofs.Common.{◌≡◌, ℕ, suc, ◌+◌, ◌-◌, ◌≤◌, ◌<◌, inl, inr, ⊎_elim, ◌⊎◌, ◌↔◌, Bool, true, false, List, [], ◌∷◌, ◌++◌, length, map, Option, None, Some, refl, sym, ap, ◌∙◌, subst, arith}
-use Rattle.std.specs.Prelude.{◌==◌, ◌&&◌, is_some, nat_le}
+use Rattle.std.proofs.Common.{◌≡◌, ℕ, suc, ◌+◌, ◌-◌, ◌≤◌, ◌<◌, inl, inr, ⊎_elim, ◌⊎◌, ◌↔◌, Bool, true, false, List, [], ◌∷◌, ◌++◌, length, map, Option, None, Some, refl, sym, ap, ap₂, ◌∙◌, subst, arith}
+use Rattle.std.specs.Prelude.{◌==◌, ◌&&◌, is_some, nat_le, if◌then◌else◌}
 use Rattle.std.specs.Option.{option_and_then}
 use Rattle.lx_base.specs.Letters.{is_within}
 use Rattle.lx_base.specs.declared.faults.Fault.{Fault}
+use Rattle.lx_base.specs.declared.faults.Fault.TheVariants.{Unsupported}
 use Rattle.lx_base.specs.declared.places.Pos.{Pos}
 use Rattle.lx_base.specs.declared.settings.EmptyPolicy.{EmptyPolicy}
 use Rattle.lx_base.specs.declared.settings.EmptyPolicy.TheVariants.{MatchEmpty, MatchNone, Error}
@@ -15,15 +16,16 @@ use Rattle.lx_class.specs.declared.ranges.Range.{Range}
 use Rattle.lx_encode.specs.Policy.{IsAfter, IsSurrogate}
 use Rattle.lx_token.specs.declared.kinds.TokenKind.{TokenKind}
 use Rattle.lx_token.specs.declared.kinds.TokenKind.TheVariants as kind
-use Rattle.lx_regex.specs.Term.{Term, IsInRanges}
+use Rattle.lx_regex.specs.Term as term
+use Rattle.lx_regex.specs.Term.{Term, Terms, IsInRanges}
 use Rattle.lx_regex.specs.Expr.{ranges_of}
 use Rattle.lx_rules.specs.Lexemes.{Lexeme, points_in}
 use Rattle.lx_rules.specs.Points.{replaced, singles}
-use Rattle.lx_rules.specs.Content.{is_empty, is_nothing}
-use Rattle.lx_rules.specs.Environments.{Definition, Meaning, class_in, definition_of, joined_term, meant_class}
-use Rattle.lx_rules.specs.Meanings.{IsClassMeaning, IsLeafMeaning, IsMeaning, character_set, copied, string_term, term_or_empty}
-use Rattle.lx_rules.specs.Checks.{HasPoint, IsFilled, IsIn, LeafHas, both_cases, defined_points, is_class, leaf_is_class}
+use Rattle.lx_rules.specs.Environments.{Definition, Meaning, Shape, one, both_classes, class_in, classes_in, definition_of, meant_class, whole}
+use Rattle.lx_rules.specs.Meanings.{IsClassMeaning, IsLeafMeaning, IsMeaning, character_set, copied, shifted, shifted_all, string_term, term_or_empty}
+use Rattle.lx_rules.specs.Checks.{Check, Checks, HasPoint, IsFilled, IsIn, LeafHas, Then, are_groups, both_cases, defined_points, group_fault, is_class, leaf_is_class, tags_of, waits}
 use Rattle.lx_rules.specs.Forms.{Form, leaf, group, repeated, sequence, difference, alternative}
+use Rattle.lx_rules.proofs.ClassUnions.{class_in-choice}
 
 -- the ranges of a set have its points
 pub in_ranges_of : (set : List Range) (point : ℕ) → IsInRanges (ranges_of set) point ↔ InRanges set point
@@ -32,59 +34,80 @@ in_ranges_of (range ∷ set) point =
     let later = in_ranges_of set point in
     (⊎_elim (λ is. inl is) (λ is. inr (later.0 is)), ⊎_elim (λ is. inl is) (λ is. inr (later.1 is)))
 
--- some terms and some more are no class
-joined-both : (front back : List Term) → is_empty front ≡ false → is_empty back ≡ false → class_in (joined_term (front ++ back)) ≡ None
-joined-both [] back some more = absurd (let h = some in cc)
-joined-both (term ∷ front) [] some more = absurd (let h = more in cc)
-joined-both (term ∷ []) (next ∷ back) some more = refl
-joined-both (term ∷ second ∷ front) (next ∷ back) some more = refl
+-- the points of ranges and others
+in_ranges-append : (ranges others : List (ℕ × ℕ)) (point : ℕ)
+    → IsInRanges (ranges ++ others) point ↔ (IsInRanges ranges point ⊎ IsInRanges others point)
+in_ranges-append [] others point = (λ is. inr is, ⊎_elim (λ none. absurd none) (λ is. is))
+in_ranges-append (range ∷ ranges) others point =
+    let later = in_ranges-append ranges others point in (
+      ⊎_elim (λ is. inl (inl is)) (λ is. ⊎_elim (λ here. inl (inr here)) (λ there. inr there) (later.0 is)),
+      ⊎_elim (⊎_elim (λ is. inl is) (λ is. inr (later.1 (inl is)))) (λ is. inr (later.1 (inr is))),
+    )
 
-module _ (options : Options) (definitions : List Definition) where
-  -- a form means something
-  leaf_meaning-some : (operand : Bool) (sort : TokenKind) (lexeme : Lexeme) (meaning : Meaning)
-      → IsLeafMeaning options definitions operand sort lexeme meaning → is_nothing meaning ≡ false
-  leaf_meaning-some operand kind.Str lexeme meaning is = ap is_nothing is
-  leaf_meaning-some operand kind.IStr lexeme meaning is = ap is_nothing is
-  leaf_meaning-some operand kind.Class lexeme meaning is = ap is_nothing is.2
-  leaf_meaning-some operand kind.Signs lexeme meaning is = ap is_nothing is.2
-  leaf_meaning-some operand kind.Name lexeme meaning is = ap is_nothing is.2
-  leaf_meaning-some operand kind.Config lexeme meaning is = absurd is
-  leaf_meaning-some operand kind.Number lexeme meaning is = absurd is
-  leaf_meaning-some operand kind.STag lexeme meaning is = absurd is
-  leaf_meaning-some operand kind.MTag lexeme meaning is = absurd is
-  leaf_meaning-some operand kind.Bounds lexeme meaning is = absurd is
-  leaf_meaning-some operand kind.Code lexeme meaning is = absurd is
+in_both : (first second : Option (List (ℕ × ℕ))) (point : ℕ) → is_some first ≡ true → is_some second ≡ true
+    → IsIn (both_classes first second) point ↔ (IsIn first point ⊎ IsIn second point)
+in_both None second point some more = absurd (let h : false ≡ true = some in cc)
+in_both (Some ranges) None point some more = absurd (let h : false ≡ true = more in cc)
+in_both (Some ranges) (Some others) point some more = in_ranges-append ranges others point
 
-  some_behind : (front back : List Term) → is_empty front ≡ false → is_empty (front ++ back) ≡ false
-  some_behind [] back some = absurd (let h = some in cc)
-  some_behind (term ∷ front) back some = refl
+is_some-both : (first second : Option (List (ℕ × ℕ))) → (is_some first && is_some second) ≡ is_some (both_classes first second)
+is_some-both None second = refl
+is_some-both (Some ranges) None = refl
+is_some-both (Some ranges) (Some others) = refl
 
-  pub meaning-some : (operand : Bool) (form : Form) (meaning : Meaning) → IsMeaning options definitions operand form meaning
-      → is_nothing meaning ≡ false
-  meaning-some operand (leaf lexeme) meaning is = leaf_meaning-some operand lexeme.kind lexeme meaning is
-  meaning-some operand (group opening inner) meaning is = absurd is
-  meaning-some operand (repeated inner sign) meaning is = absurd is
-  meaning-some operand (sequence front back) meaning is =
-      ap is_nothing is.4 ∙ some_behind is.0.terms is.1.terms (meaning-some false front is.0 is.2)
-  meaning-some operand (difference left sign right) meaning is = ap is_nothing is.4.2
-  meaning-some operand (alternative left sign right) meaning is = absurd is
+both_hold : (first second : Bool) → (first && second) ≡ true → (first ≡ true) × (second ≡ true)
+both_hold true second is = (refl, is)
+both_hold false second is = absurd (let h : false ≡ true = is in cc)
 
-  -- a meaning is the class of these points, or it is none
-  pub record Agrees (is_class : Bool) (Has : ℕ → Type 0) (meaning : Meaning) : Type 0 where
-    pub class : is_class ≡ is_some (meant_class meaning)
-    pub points : is_class ≡ true → (point : ℕ) → IsIn (meant_class meaning) point ↔ Has point
+-- a copy is the same class
+mutual
+  class_in-shifted : (by : ℕ) (body : Term) → class_in (shifted by body) ≡ class_in body
+  class_in-shifted by (term.alt members) = classes_in-shifted by members
+  class_in-shifted by body = refl
 
-  agrees-none : (is_class : Bool) (Has : ℕ → Type 0) (meaning : Meaning) → is_class ≡ false → meant_class meaning ≡ None → Agrees is_class Has meaning
-  agrees-none is_class Has meaning is none = record { class = is ∙ ap is_some (sym none); points = λ held. absurd (let h = sym is ∙ held in cc) }
+  classes_in-shifted : (by : ℕ) (members : Terms) → classes_in (shifted_all by members) ≡ classes_in members
+  classes_in-shifted by term.nil = refl
+  classes_in-shifted by (term.cons member members) =
+      ap₂ both_classes (class_in-shifted by member) (classes_in-shifted by members)
 
-  agrees-set : (Has : ℕ → Type 0) (meaning : Meaning) (set : List Range) → meant_class meaning ≡ Some (ranges_of set)
-      → ((point : ℕ) → InRanges set point ↔ Has point) → Agrees true Has meaning
-  agrees-set Has meaning set is points = record {
-    class = ap is_some (sym is);
-    points = λ held point.
-        subst (λ class. IsIn class point ↔ Has point) (sym is)
-        (λ inside. (points point).0 ((in_ranges_of set point).0 inside), λ has. (in_ranges_of set point).1 ((points point).1 has));
-  }
+-- the ranges of a meaning are the class of these points, or it is none
+pub record Agrees (is_class : Bool) (Has : ℕ → Type 0) (class : Option (List (ℕ × ℕ))) : Type 0 where
+  pub class_is : is_class ≡ is_some class
+  pub points : is_class ≡ true → (point : ℕ) → IsIn class point ↔ Has point
+
+agrees-none : (is_class : Bool) (Has : ℕ → Type 0) (class : Option (List (ℕ × ℕ))) → is_class ≡ false → class ≡ None → Agrees is_class Has class
+agrees-none is_class Has class is none = record {
+  class_is = is ∙ ap is_some (sym none);
+  points = λ held. absurd (let h : false ≡ true = sym is ∙ held in cc);
+}
+
+agrees-set : (Has : ℕ → Type 0) (class : Option (List (ℕ × ℕ))) (set : List Range) → class ≡ Some (ranges_of set)
+    → ((point : ℕ) → InRanges set point ↔ Has point) → Agrees true Has class
+agrees-set Has class set is points = record {
+  class_is = ap is_some (sym is);
+  points = λ held point.
+      subst (λ class. IsIn class point ↔ Has point) (sym is)
+      (λ inside. (points point).0 ((in_ranges_of set point).0 inside), λ has. (in_ranges_of set point).1 ((points point).1 has));
+}
+
+agrees-both : (a b : Bool) (Left Right : ℕ → Type 0) (first second : Option (List (ℕ × ℕ))) → Agrees a Left first → Agrees b Right second
+    → Agrees (a && b) (λ point. Left point ⊎ Right point) (both_classes first second)
+agrees-both a b Left Right first second here there = record {
+  class_is = ap₂ (λ (x y : Bool). x && y) here.class_is there.class_is ∙ is_some-both first second;
+  points = λ held point.
+      let are = both_hold a b held in
+      let both = in_both first second point (sym here.class_is ∙ are.0) (sym there.class_is ∙ are.1) in
+      let left = here.points are.0 point in
+      let right = there.points are.1 point in (
+        λ is. ⊎_elim (λ inside. inl (left.0 inside)) (λ inside. inr (right.0 inside)) (both.0 is),
+        λ has. both.1 (⊎_elim (λ held. inl (left.1 held)) (λ held. inr (right.1 held)) has),
+      );
+}
+
+-- two checks find nothing where both do
+pub then-none : (First Second : Check) → Then First Second None → First None × Second None
+then-none First Second (inl found) = found
+then-none First Second (inr found) = absurd (let h : None ≡ Some found.0 = found.2 in cc)
 
 -- where no point is a surrogate, no policy changes anything
 after_plain : (policy : SurPolicy) (ranges : List Range) → ((point : ℕ) → InRanges ranges point → IsSurrogate point → ⊥)
@@ -127,19 +150,19 @@ two_within lesser greater point (inl is) = inl (omega (arith, is))
 two_within lesser greater point (inr is) = inr (one_within greater point is)
 
 -- two code points that are no surrogates, in either order
-two_after : (policy : SurPolicy) (one two point : ℕ) → one < 0xD800 → two < 0xD800
-    → InRanges (singles (one ∷ two ∷ [])) point ↔ IsAfter policy (singles (one ∷ two ∷ [])) point
-two_after policy one two point small small_too =
-    after_plain policy (singles (one ∷ two ∷ []))
+two_after : (policy : SurPolicy) (first second point : ℕ) → first < 0xD800 → second < 0xD800
+    → InRanges (singles (first ∷ second ∷ [])) point ↔ IsAfter policy (singles (first ∷ second ∷ [])) point
+two_after policy first second point small small_too =
+    after_plain policy (singles (first ∷ second ∷ []))
     (λ other is surrogate.
     ⊎_elim (λ same. let low = surrogate.0 in omega (arith, same, low, small)) (λ same. let low = surrogate.0 in omega (arith, same, low, small_too))
-    (two_within one two other is))
+    (two_within first second other is))
     point
 
-exchanged : (one two point : ℕ) → InRanges (singles (one ∷ two ∷ [])) point → InRanges (singles (two ∷ one ∷ [])) point
-exchanged one two point (inl is) = inr (inl is)
-exchanged one two point (inr (inl is)) = inl is
-exchanged one two point (inr (inr is)) = absurd is
+exchanged : (first second point : ℕ) → InRanges (singles (first ∷ second ∷ [])) point → InRanges (singles (second ∷ first ∷ [])) point
+exchanged first second point (inl is) = inr (inl is)
+exchanged first second point (inr (inl is)) = inl is
+exchanged first second point (inr (inr is)) = absurd is
 
 -- the cases of a character
 abbrev cases_of : (is_caseless : Bool) → ℕ → List ℕ
@@ -166,72 +189,101 @@ character_after policy true number point = at (is_within 65 90 number) (is_withi
 module _ (options : Options) (definitions : List Definition) where
   -- a string is a class where it has one character
   string-agrees : (is_caseless : Bool) (points : List ℕ) (Has : ℕ → Type 0) (meaning : Meaning)
-      → meaning.terms ≡ string_term (map (character_set options.surrogates is_caseless) points) ∷ []
+      → meaning.shape ≡ one (string_term (map (character_set options.surrogates is_caseless) points))
       → ((number : ℕ) → points ≡ number ∷ [] → (point : ℕ) → IsAfter options.surrogates (singles (cases_of is_caseless number)) point ↔ Has point)
-      → Agrees options definitions (length points == 1) Has meaning
-  string-agrees is_caseless [] Has meaning is points = agrees-none options definitions false Has meaning refl (ap (λ terms. class_in (joined_term terms)) is)
+      → Agrees (length points == 1) Has (meant_class meaning)
+  string-agrees is_caseless [] Has meaning is points = agrees-none false Has (meant_class meaning) refl (ap (λ (shape : Shape). class_in (whole shape)) is)
   string-agrees is_caseless (number ∷ []) Has meaning is points =
-      agrees-set options definitions Has meaning (character_set options.surrogates is_caseless number) (ap (λ terms. class_in (joined_term terms)) is)
+      agrees-set Has (meant_class meaning) (character_set options.surrogates is_caseless number) (ap (λ (shape : Shape). class_in (whole shape)) is)
       (λ point.
       let after = character_after options.surrogates is_caseless number point in
       let has = points number refl point in (λ inside. has.0 (after.0 inside), λ held. after.1 (has.1 held)))
   string-agrees is_caseless (number ∷ next ∷ points) Has meaning is each =
       let two : (suc (suc (length points)) == 1) ≡ false = search arith in
-      agrees-none options definitions (suc (suc (length points)) == 1) Has meaning two (ap (λ terms. class_in (joined_term terms)) is)
+      agrees-none (suc (suc (length points)) == 1) Has (meant_class meaning) two (ap (λ (shape : Shape). class_in (whole shape)) is)
 
-  class-meaning-agrees : (nesting : ℕ) (Has : ℕ → Type 0) (meaning : Meaning) → IsClassMeaning options definitions true nesting Has meaning
-      → Agrees options definitions true Has meaning
-  class-meaning-agrees nesting Has meaning is =
-      agrees-set options definitions Has meaning is.0 (ap (λ (m : Meaning). meant_class m) is.2) is.1.points
+  class-meaning-agrees : (nesting : ℕ) (tags : List (List ℕ)) (count : ℕ) (Has : ℕ → Type 0) (meaning : Meaning)
+      → IsClassMeaning options definitions true nesting tags count Has meaning → Agrees true Has (meant_class meaning)
+  class-meaning-agrees nesting tags count Has meaning is =
+      agrees-set Has (meant_class meaning) is.0 (ap (λ (m : Meaning). meant_class m) is.2) is.1.points
 
-  copied-agrees : (definition : Definition) (found : Option Definition) (meaning : Meaning) → found ≡ Some definition → meaning ≡ copied definition
-      → Agrees options definitions (is_some (defined_points options definitions found)) (IsIn (defined_points options definitions found)) meaning
-  copied-agrees definition found meaning is means = rw (is) (record {
-    class = ap is_some (sym (same definition.term) ∙ ap (λ (m : Meaning). meant_class m) (sym means));
+  copied-agrees : (by : ℕ) (definition : Definition) (found : Option Definition) (meaning : Meaning) → found ≡ Some definition
+      → meaning ≡ copied by definition
+      → Agrees (is_some (defined_points options definitions found)) (IsIn (defined_points options definitions found)) (meant_class meaning)
+  copied-agrees by definition found meaning is means = rw (is) (record {
+    class_is = ap is_some same_class;
     points = λ held point.
-        subst (λ class. IsIn class point ↔ IsIn (defined_points options definitions (Some definition)) point)
-        (sym (same definition.term) ∙ ap (λ (m : Meaning). meant_class m) (sym means)) (λ is. is, λ is. is);
+        subst (λ class. IsIn class point ↔ IsIn (defined_points options definitions (Some definition)) point) same_class (λ is. is, λ is. is);
   })
     where
-      same : (term : Option Term) → class_in (term_or_empty term) ≡ option_and_then class_in term
+      same : (term : Option Term) → class_in (shifted by (term_or_empty term)) ≡ option_and_then class_in term
       same None = refl
-      same (Some term) = refl
+      same (Some term) = class_in-shifted by term
 
-  leaf-agrees : (sort : TokenKind) (lexeme : Lexeme) (meaning : Meaning) → IsLeafMeaning options definitions true sort lexeme meaning
-      → Agrees options definitions (leaf_is_class options definitions sort lexeme) (LeafHas options definitions sort lexeme) meaning
-  leaf-agrees kind.Str lexeme meaning is =
-      string-agrees false (points_in lexeme) (LeafHas options definitions kind.Str lexeme) meaning (ap (λ (m : Meaning). m.terms) is)
+      same_class : defined_points options definitions (Some definition) ≡ meant_class meaning
+      same_class = sym (same definition.term) ∙ ap (λ (m : Meaning). meant_class m) (sym means)
+
+  leaf-agrees : (sort : TokenKind) (seen : List (List ℕ)) (lexeme : Lexeme) (meaning : Meaning)
+      → IsLeafMeaning options definitions true sort seen lexeme meaning
+      → Agrees (leaf_is_class options definitions sort lexeme) (LeafHas options definitions sort lexeme) (meant_class meaning)
+  leaf-agrees kind.Str seen lexeme meaning is =
+      string-agrees false (points_in lexeme) (LeafHas options definitions kind.Str lexeme) meaning (ap (λ (m : Meaning). m.shape) is)
       (λ number same point.
       subst (λ points. IsAfter options.surrogates (singles (number ∷ [])) point ↔ IsAfter options.surrogates (singles points) point) (sym same)
       (λ is. is, λ is. is))
-  leaf-agrees kind.IStr lexeme meaning is =
-      string-agrees true (points_in lexeme) (LeafHas options definitions kind.IStr lexeme) meaning (ap (λ (m : Meaning). m.terms) is)
+  leaf-agrees kind.IStr seen lexeme meaning is =
+      string-agrees true (points_in lexeme) (LeafHas options definitions kind.IStr lexeme) meaning (ap (λ (m : Meaning). m.shape) is)
       (λ number same point.
       subst (λ points. IsAfter options.surrogates (singles (both_cases (number ∷ []))) point ↔ IsAfter options.surrogates (singles (both_cases points)) point)
       (sym same) (λ is. is, λ is. is))
-  leaf-agrees kind.Class lexeme meaning is = class-meaning-agrees 0 (LeafHas options definitions kind.Class lexeme) meaning is
-  leaf-agrees kind.Signs lexeme meaning is = class-meaning-agrees 0 (LeafHas options definitions kind.Signs lexeme) meaning is
-  leaf-agrees kind.Name lexeme meaning is = copied-agrees is.0 (definition_of definitions lexeme.text) meaning is.1 is.2
-  leaf-agrees kind.Config lexeme meaning is = absurd is
-  leaf-agrees kind.Number lexeme meaning is = absurd is
-  leaf-agrees kind.STag lexeme meaning is = absurd is
-  leaf-agrees kind.MTag lexeme meaning is = absurd is
-  leaf-agrees kind.Bounds lexeme meaning is = absurd is
-  leaf-agrees kind.Code lexeme meaning is = absurd is
+  leaf-agrees kind.Class seen lexeme meaning is =
+      class-meaning-agrees 0 [] (length seen) (LeafHas options definitions kind.Class lexeme) meaning is
+  leaf-agrees kind.Signs seen lexeme meaning is =
+      class-meaning-agrees 0 [] (length seen) (LeafHas options definitions kind.Signs lexeme) meaning is
+  leaf-agrees kind.Name seen lexeme meaning is =
+      copied-agrees (length seen) is.0 (definition_of definitions lexeme.text) meaning is.1 is.2
+  leaf-agrees kind.STag seen lexeme meaning is =
+      agrees-none false (LeafHas options definitions kind.STag lexeme) (meant_class meaning) refl (ap (λ (m : Meaning). meant_class m) is)
+  leaf-agrees kind.Config seen lexeme meaning is = absurd is
+  leaf-agrees kind.Number seen lexeme meaning is = absurd is
+  leaf-agrees kind.MTag seen lexeme meaning is = absurd is
+  leaf-agrees kind.Bounds seen lexeme meaning is = absurd is
+  leaf-agrees kind.Code seen lexeme meaning is = absurd is
 
-  -- an operand of a difference is a class where its meaning is one
-  pub form-agrees : (form : Form) (meaning : Meaning) → IsMeaning options definitions true form meaning
-      → Agrees options definitions (is_class options definitions form) (HasPoint options definitions form) meaning
-  form-agrees (leaf lexeme) meaning is = leaf-agrees lexeme.kind lexeme meaning is
-  form-agrees (group opening inner) meaning is = absurd is
-  form-agrees (repeated inner sign) meaning is = absurd is
-  form-agrees (sequence front back) meaning is =
-      agrees-none options definitions false (HasPoint options definitions (sequence front back)) meaning refl
-      (ap (λ (m : Meaning). meant_class m) is.4
-      ∙ joined-both is.0.terms is.1.terms (meaning-some options definitions false front is.0 is.2) (meaning-some options definitions false back is.1 is.3))
-  form-agrees (difference left sign right) meaning is =
-      class-meaning-agrees _ (HasPoint options definitions (difference left sign right)) meaning is.4
-  form-agrees (alternative left sign right) meaning is = absurd is
+  -- parentheses that are not refused are no group
+  no_groups : (opening : Lexeme) → None ≡ group_fault options definitions opening → are_groups options definitions ≡ false
+  no_groups opening found = at (are_groups options definitions) found
+    where
+      at : (b : Bool) → None ≡ (if b then waits opening else None) → b ≡ false
+      at true found = absurd (let h : None ≡ Some (Unsupported (Some opening.at)) = found in cc)
+      at false found = refl
+
+  -- an operand of a difference in which nothing is refused is a class where its meaning is one
+  pub form-agrees : (form : Form) (seen : List (List ℕ)) (meaning : Meaning) → Checks options definitions true seen form None
+      → IsMeaning options definitions true seen form meaning
+      → Agrees (is_class options definitions form) (HasPoint options definitions form) (meant_class meaning)
+  form-agrees (leaf lexeme) seen meaning checked is = leaf-agrees lexeme.kind seen lexeme meaning is
+  form-agrees (group opening inner) seen meaning checked is =
+      let found = then-none (λ fault. fault ≡ group_fault options definitions opening) (Checks options definitions true seen inner) checked in
+      let agrees = form-agrees inner seen is.0 found.1 is.1 in
+      rw (no_groups opening found.0)
+      (subst (Agrees (is_class options definitions inner) (HasPoint options definitions inner)) (ap (λ (m : Meaning). meant_class m) (sym is.2)) agrees)
+  form-agrees (repeated inner sign) seen meaning checked is =
+      agrees-none false (HasPoint options definitions (repeated inner sign)) (meant_class meaning) refl (ap (λ (m : Meaning). meant_class m) is.2)
+  form-agrees (sequence front back) seen meaning checked is =
+      agrees-none false (HasPoint options definitions (sequence front back)) (meant_class meaning) refl (ap (λ (m : Meaning). meant_class m) is.4)
+  form-agrees (difference left sign right) seen meaning checked is =
+      class-meaning-agrees _ _ _ (HasPoint options definitions (difference left sign right)) meaning is.4
+  form-agrees (alternative left sign right) seen meaning checked is =
+      let found =
+      then-none (Checks options definitions true seen left) (Checks options definitions true (seen ++ tags_of options definitions left) right) checked in
+      let here = form-agrees left seen is.0 found.0 is.2 in
+      let there = form-agrees right (seen ++ tags_of options definitions left) is.1 found.1 is.3 in
+      let class : both_classes (meant_class is.0) (meant_class is.1) ≡ meant_class meaning =
+      sym (class_in-choice is.0.shape (whole is.1.shape)) ∙ ap (λ (m : Meaning). meant_class m) (sym is.4) in
+      subst (Agrees (is_class options definitions (alternative left sign right)) (HasPoint options definitions (alternative left sign right))) class
+      (agrees-both (is_class options definitions left) (is_class options definitions right) (HasPoint options definitions left)
+      (HasPoint options definitions right) (meant_class is.0) (meant_class is.1) here there)
 
   -- a class that has these points is filled where one is that has the same
   pub filled-same : (policy : EmptyPolicy) (operand : Bool) (at : Pos) (Has Same : ℕ → Type 0) → ((point : ℕ) → Has point ↔ Same point)

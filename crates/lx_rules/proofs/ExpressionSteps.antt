@@ -1,189 +1,193 @@
--- The reading of an expression, token by token.
-use Rattle.std.proofs.Common.{◌≡◌, ◌≢◌, ℕ, zero, suc, ◌+◌, ◌-◌, ◌<◌, ◌≤◌, ◌⊎◌, ◌↔◌, inl, inr, ⊎_elim, max, Bool, true, false, List, [], ◌∷◌, Option, None, Some, Result, Err, refl, sym, ap, ap₂, ◌∙◌, subst, arith}
+-- The steps of an expression, one behind another.
+use Rattle.std.proofs.Common.{◌≡◌, ℕ, zero, suc, ◌<◌, ◌↔◌, arith, inl, max, Bool, List, [], ◌∷◌, ◌++◌, map, reverse, length, take, drop, get_or, Option, None, Some, Result, Ok, Err, MatchResult, refl, sym, ap, ◌∙◌, subst}
 use Rattle.std.specs.Prelude.{◌&&◌, is_some, if◌then◌else◌}
+use Rattle.std.proofs.lemmas.List.{reverse-append}
+use Rattle.std.proofs.lemmas.Result.{MatchResult-weaker}
 use Rattle.lx_base.specs.declared.faults.Fault.{Fault}
-use Rattle.lx_base.specs.declared.faults.Fault.TheVariants.{NotClass, Unsupported}
+use Rattle.lx_base.specs.declared.faults.Fault.TheVariants.{NotClass}
 use Rattle.lx_base.specs.declared.faults.Stop.{Stop}
 use Rattle.lx_base.specs.declared.faults.Stop.TheVariants as stop
+use Rattle.lx_base.specs.declared.places.Pos.{Pos}
 use Rattle.lx_base.specs.declared.settings.Options.{Options}
-use Rattle.lx_class.specs.Ranges.{InRanges, IsCanonical, IsDifference}
+use Rattle.lx_class.specs.Ranges.{InRanges, IsCanonical}
+use Rattle.lx_class.specs.Ranges as ranges
 use Rattle.lx_class.specs.declared.ranges.Range.{Range}
-use Rattle.lx_parse.specs.declared.sorts.Sort.{Sort}
-use Rattle.lx_parse.specs.declared.sorts.Sort.TheVariants.{Backslash}
-use Rattle.lx_parse.specs.Sorts.{is_atom}
-use Rattle.lx_regex.specs.Expr.{ranges_of}
-use Rattle.lx_rules.specs.declared.expressions.Expression.{Expression}
-use Rattle.lx_rules.specs.declared.expressions.Left.{Left}
-use Rattle.lx_rules.specs.declared.reading.Reading.{Reading}
-use Rattle.lx_rules.specs.Checks.{IsFilled, LeafChecks, StopsAt}
-use Rattle.lx_rules.specs.Content.{IsReading}
-use Rattle.lx_rules.specs.Environments.{Definition, Meaning, meant_class}
-use Rattle.lx_rules.specs.Lexemes.{Lexeme, nth_lexeme, sort_at}
-use Rattle.lx_rules.specs.Meanings.{IsLeafMeaning, class_meaning, followed}
-use Rattle.lx_rules.specs.Reading.{Advances, Begun, Closes, DifferenceChecks, DifferenceHas, Goes, closed, unclosed, signed, read, refused, waiting, IsBegun, IsLeafRead, IsLeft, MatchesLeft, StopsAdvance, StopsClosing, StopsLeaf, StopsReading, alone, behind, ends_operand, is_backslash, is_operand, lexemes_from, next_sort, nothing}
-use Rattle.lx_rules.proofs.ClassForms.{filled-same, in_ranges_of}
+use Rattle.lx_rules.specs.declared.expressions.Operands.{Operands as Held}
+use Rattle.lx_rules.specs.declared.values.Room.{Room}
+use Rattle.lx_rules.specs.declared.values.Value.{Value}
+use Rattle.lx_rules.specs.Checks.{IsFilled, IsIn, StopsAt}
+use Rattle.lx_rules.specs.Environments.{Definition, HasClass, Meaning, meant_class}
+use Rattle.lx_rules.specs.Lexemes.{Lexeme}
+use Rattle.lx_rules.specs.Meanings.{class_meaning}
+use Rattle.lx_rules.specs.Reading.{AreOperands, AreValues, DifferenceChecks, DifferenceHas, Goes, ends, refused, next, IsDifference, IsLeafRead, IsStepTaken, IsStepped, Operands, StepChecks, StopsReading, SubtractChecks, Subtracts, in_place, with_more}
+use Rattle.lx_rules.specs.Steps.{Step, reads, subtracts}
+use Rattle.lx_rules.specs.Values.{IsValue}
+use Rattle.lx_rules.proofs.ClassForms.{filled-same}
 
--- the sort of the next token, where there is one
-pub next_sort-some : (lexemes : List Lexeme) (place count : ℕ) → 0 < count
-    → next_sort (lexemes_from lexemes place count) ≡ Some (sort_at (nth_lexeme lexemes place))
-next_sort-some lexemes place zero some = absurd (omega (arith, some))
-next_sort-some lexemes place (suc count) some = refl
+-- the last of some values, as they are listed from the last one on
+pub reversed : (front items : List Value) (value : Value) → items ≡ front ++ value ∷ [] → reverse items ≡ value ∷ reverse front
+reversed front items value same = ap reverse same ∙ reverse-append front (value ∷ [])
 
-pub followed-nothing : (meaning : Meaning) → followed nothing meaning ≡ meaning
-followed-nothing meaning =
-    let size : 0 + meaning.size ≡ meaning.size = omega arith in
-    let nesting : max 0 meaning.nesting ≡ meaning.nesting = omega arith in
-    rw (size, nesting) refl
+pub values_more : (room : Room) (meanings : List Meaning) (meaning : Meaning) (front items : List Value) (value : Value) → items ≡ front ++ value ∷ []
+    → IsValue room meaning value → AreValues room meanings (reverse front) → AreValues room (meaning ∷ meanings) (reverse items)
+values_more room meanings meaning front items value same is are =
+    subst (AreValues room (meaning ∷ meanings)) (sym (reversed front items value same)) (is, are)
 
--- nothing is begun where nothing is read as the left operand
-pub left-none : (begun : Option (Meaning × Lexeme)) (left : Option Left) → left ≡ None → MatchesLeft begun left → begun ≡ None
-left-none None left none matches = refl
-left-none (Some first) None none matches = absurd matches
-left-none (Some first) (Some left) none matches = absurd (let h = none in cc)
+-- the last two of the meanings, and their values
+pub record HasTwo (room : Room) (meanings : List Meaning) (front : List Value) (left right : Value) : Type 0 where
+  pub first : Meaning
+  pub second : Meaning
+  pub others : List Meaning
+  pub are : meanings ≡ second ∷ first ∷ others
+  pub left_is : IsValue room first left
+  pub right_is : IsValue room second right
+  pub others_are : AreValues room others (reverse front)
 
--- and what is read is what is begun
-pub left-some : (begun : Option (Meaning × Lexeme)) (found : Option Left) (left : Left) → found ≡ Some left → MatchesLeft begun found
-    → (first : Meaning) × (sign : Lexeme) × (begun ≡ Some (first, sign)) × IsLeft first sign left
-left-some None found left is matches = absurd (subst (λ f. MatchesLeft None f) is matches)
-left-some (Some first) found left is matches = (first.0, first.1, refl, subst (λ f. MatchesLeft (Some first) f) is matches)
+pub last_two : (room : Room) (meanings : List Meaning) (items middle front : List Value) (left right : Value) → items ≡ middle ++ right ∷ []
+    → middle ≡ front ++ left ∷ [] → AreValues room meanings (reverse items) → HasTwo room meanings front left right
+last_two room meanings items middle front left right last before are =
+    go meanings (subst (AreValues room meanings) (reversed middle items right last ∙ ap (λ l. right ∷ l) (reversed front middle left before)) are)
+  where
+    go : (l : List Meaning) → AreValues room l (right ∷ left ∷ reverse front) → HasTwo room l front left right
+    go [] is = absurd is
+    go (second ∷ []) is = absurd is.1
+    go (second ∷ first ∷ others) is =
+        record { first = first; second = second; others = others; are = refl; left_is = is.1.0; right_is = is.0; others_are = is.1.1 }
 
-module _ (options : Options) (definitions : List Definition) (room : ℕ) (operand : Bool) (begun : Begun) where
-  -- no difference was begun
-  pub closes-whole : (expression : Expression) → begun.left ≡ None → IsBegun room begun expression → Closes options definitions room operand begun expression
-  closes-whole expression whole stands = record { closed = begun; stands = stands; whole = whole; goes = λ lexemes result stops is_left goes. goes }
-
-  module _ (left : Meaning) (sign : Lexeme) (begins : begun.left ≡ Some (left, sign)) where
-    -- an operand is no class
-    pub closes-refused : (meant_class left ≡ None) ⊎ (meant_class begun.current ≡ None)
-        → StopsClosing options definitions operand begun (stop.Fault (NotClass sign.at))
-    closes-refused none lexemes stops same =
-        unclosed begun lexemes (NotClass sign.at) left sign begins stops (inr (NotClass sign.at, sym (⊎_elim first second none), refl))
-      where
-        first : meant_class left ≡ None → (if is_some (meant_class left) && is_some (meant_class begun.current) then None else Some (NotClass sign.at)) ≡ Some (NotClass sign.at)
-        first none = ap (λ (c : Option (List (ℕ × ℕ))). if is_some c && is_some (meant_class begun.current) then None else Some (NotClass sign.at)) none
-
-        second : meant_class begun.current ≡ None → (if is_some (meant_class left) && is_some (meant_class begun.current) then None else Some (NotClass sign.at)) ≡ Some (NotClass sign.at)
-        second none = by (is_some (meant_class left))
-          where
-            by : (b : Bool) → (if b && is_some (meant_class begun.current) then None else Some (NotClass sign.at)) ≡ Some (NotClass sign.at)
-            by true = ap (λ (c : Option (List (ℕ × ℕ))). if is_some c then None else Some (NotClass sign.at)) none
-            by false = refl
-
-    module _ (whole holes set : List Range) (first : meant_class left ≡ Some (ranges_of whole)) (second : meant_class begun.current ≡ Some (ranges_of holes))
-        (canonical : IsCanonical set) (without : IsDifference whole holes set) where
-      has : (point : ℕ) → InRanges set point ↔ DifferenceHas options definitions left begun.current point
-      has point =
-          rw (first, second) (
-            λ is. let parts = (without point).0 is in ((in_ranges_of whole point).1 parts.0, λ hole. parts.1 ((in_ranges_of holes point).0 hole)),
-            λ held. (without point).1 ((in_ranges_of whole point).0 held.0, λ hole. held.1 ((in_ranges_of holes point).1 hole)),
-          )
-
-      checked : (fault : Option Fault) → IsFilled options definitions options.empty operand sign.at (InRanges set) fault
-          → DifferenceChecks options definitions operand left begun.current sign fault
-      checked fault is = inl (
-        sym (ap₂ (λ (a b : Option (List (ℕ × ℕ))). if is_some a && is_some b then None else Some (NotClass sign.at)) first second),
-        filled-same options definitions options.empty operand sign.at (InRanges set) (DifferenceHas options definitions left begun.current) has fault is,
-      )
-
-      abbrev remains : Meaning
-      remains = class_meaning operand options.empty (max left.nesting begun.current.nesting) set
-
-      pub closes-done : (after : Reading) → IsFilled options definitions options.empty operand sign.at (InRanges set) None
-          × IsReading room (followed nothing remains) after → Closes options definitions room operand begun (record { left = None; current = after })
-      closes-done after is = record {
-        closed = alone remains;
-        stands = record { left = tt; current = subst (λ m. IsReading room m after) (followed-nothing remains) is.1 };
-        whole = refl;
-        goes = λ lexemes result stops same goes.
-            closed begun lexemes result left remains sign begins stops
-            (subst (λ b. DifferenceChecks options definitions b left begun.current sign None) (sym same) (checked None is.0))
-            (set, record { canonical = canonical; points = has }, ap (λ b. class_meaning b options.empty (max left.nesting begun.current.nesting) set) (sym same)) goes;
+module _ (options : Options) (definitions : List Definition) where
+  -- a leaf is read
+  pub leaf_taken : (room : Room) (operands : Operands) (old new : Held) (is_operand : Bool) (lexeme : Lexeme) (value : Value)
+      → AreOperands room operands old → new.values.items ≡ old.values.items ++ value ∷ []
+      → IsLeafRead options definitions room is_operand old.seen.items lexeme new.seen.items value
+      → IsStepTaken options definitions room operands (reads is_operand lexeme) new
+  leaf_taken room operands old new is_operand lexeme value are values read =
+      let here = subst (λ before. IsLeafRead options definitions room is_operand before lexeme new.seen.items value) are.seen read in
+      record {
+        checked = here.checked;
+        after = with_more operands here.meaning;
+        stepped = (here.meaning, here.means, refl);
+        stands = record {
+          values = values_more room operands.meanings here.meaning old.values.items new.values.items value values here.stands are.values;
+          seen = here.seen;
+        };
       }
 
-      pub closes-stop : (stopped : Stop) → StopsAt (IsFilled options definitions options.empty operand sign.at (InRanges set)) stopped
-          → StopsClosing options definitions operand begun stopped
-      closes-stop stop.Memory is = λ lexemes stops same. tt
-      closes-stop (stop.Fault fault) is = λ lexemes stops same.
-          unclosed begun lexemes fault left sign begins stops
-          (subst (λ b. DifferenceChecks options definitions b left begun.current sign (Some fault)) (sym same) (checked (Some fault) is))
+  -- the points of a difference
+  different : (first second : Option (List (ℕ × ℕ))) (whole holes set : List Range) → HasClass (Some whole) first → HasClass (Some holes) second
+      → ranges.IsDifference whole holes set → (point : ℕ) → InRanges set point ↔ (IsIn first point × ¬ IsIn second point)
+  different None second whole holes set has more without = absurd has
+  different (Some points) None whole holes set has more without = absurd more
+  different (Some points) (Some others) whole holes set has more without = λ point. (
+    λ is. let both = (without point).0 is in ((has.1 point).0 both.0, λ inside. both.1 ((more.1 point).1 inside)),
+    λ is. (without point).1 ((has.1 point).1 is.0, λ inside. is.1 ((more.1 point).0 inside)),
+  )
 
-module _ (options : Options) (definitions : List Definition) (room : ℕ) (lexeme : Lexeme) (next : Option Sort) (begun : Begun) where
-  -- the sign of a difference is read behind its left operand
-  pub advances-sign : (ended after : Expression) (closes : Closes options definitions room true begun ended) → sort_at lexeme ≡ Backslash
-      → IsBegun room (record { left = Some (closes.closed.current, lexeme); current = nothing }) after
-      → Advances options definitions room lexeme next begun after
-  advances-sign ended after closes is stands = record {
-    after = record { left = Some (closes.closed.current, lexeme); current = nothing };
-    stands = stands;
-    goes = λ lexemes result same goes.
-        closes.goes (lexeme ∷ lexemes) result (ap ends_operand is) (ap is_backslash is) (signed closes.closed lexeme lexemes result closes.whole is goes);
+  are_classes : (first second : Option (List (ℕ × ℕ))) (whole holes : List Range) (at : Pos) → HasClass (Some whole) first → HasClass (Some holes) second
+      → None ≡ (if is_some first && is_some second then None else Some (NotClass at))
+  are_classes None second whole holes at has more = absurd has
+  are_classes (Some points) None whole holes at has more = absurd more
+  are_classes (Some points) (Some others) whole holes at has more = refl
+
+  module _ (room : Room) (operand : Bool) (first second : Meaning) (sign : Lexeme) (whole holes set : List Range)
+      (has : HasClass (Some whole) (meant_class first)) (more : HasClass (Some holes) (meant_class second)) (canonical : IsCanonical set)
+      (without : ranges.IsDifference whole holes set) where
+    checks_so : (fault : Option Fault) → IsFilled options definitions options.empty operand sign.at (InRanges set) fault
+        → DifferenceChecks options definitions operand first second sign fault
+    checks_so fault is =
+        inl (
+          are_classes (meant_class first) (meant_class second) whole holes sign.at has more,
+          filled-same options definitions options.empty operand sign.at (InRanges set) (DifferenceHas options definitions first second)
+              (different (meant_class first) (meant_class second) whole holes set has more without) fault is,
+        )
+
+    stops_so : (stopped : Stop) → StopsAt (IsFilled options definitions options.empty operand sign.at (InRanges set)) stopped
+        → StopsAt (DifferenceChecks options definitions operand first second sign) stopped
+    stops_so stop.Memory is = tt
+    stops_so (stop.Fault fault) is = checks_so (Some fault) is
+
+    pub difference_read : (result : Result Value Stop)
+        → MatchResult result
+        (λ value. IsFilled options definitions options.empty operand sign.at (InRanges set) None
+        × IsValue room (class_meaning operand options.empty (max first.nesting second.nesting) (first.tags ++ second.tags) (max first.count second.count) set) value)
+        (StopsAt (IsFilled options definitions options.empty operand sign.at (InRanges set)))
+        → MatchResult result
+        (λ value. DifferenceChecks options definitions operand first second sign None
+        × ((meaning : Meaning) × IsDifference options definitions operand first second meaning × IsValue room meaning value))
+        (StopsAt (DifferenceChecks options definitions operand first second sign))
+    difference_read result is =
+        MatchResult-weaker result is
+        (λ value read. (
+          checks_so None read.0,
+          (
+            class_meaning operand options.empty (max first.nesting second.nesting) (first.tags ++ second.tags) (max first.count second.count) set,
+            (set, record { canonical = canonical; points = different (meant_class first) (meant_class second) whole holes set has more without }, refl),
+            read.1,
+          ),
+        ))
+        stops_so
+
+  -- a difference is put in the place of its sides
+  pub subtract_taken : (room : Room) (operands : Operands) (old new : Held) (operand : Bool) (sign : Lexeme) (front : List Value) (left right value : Value)
+      → AreOperands room operands old → (two : HasTwo room operands.meanings front left right) → new.values.items ≡ front ++ value ∷ []
+      → new.seen.items ≡ old.seen.items
+      → DifferenceChecks options definitions operand two.first two.second sign None
+      × ((meaning : Meaning) × IsDifference options definitions operand two.first two.second meaning × IsValue room meaning value)
+      → IsStepTaken options definitions room operands (subtracts operand sign) new
+  subtract_taken room operands old new operand sign front left right value are two values seen read = record {
+    checked = subst (λ l. SubtractChecks options definitions operand l sign None) (sym two.are) read.0;
+    after = in_place operands (read.1.0 ∷ two.others);
+    stepped = (
+      read.1.0 ∷ two.others,
+      subst (λ l. Subtracts options definitions operand l (read.1.0 ∷ two.others)) (sym two.are) (read.1.0, read.1.1, refl),
+      refl,
+    );
+    stands = record {
+      values = values_more room two.others read.1.0 front new.values.items value values read.1.2 two.others_are;
+      seen = seen ∙ are.seen;
+    };
   }
 
-  module _ (atom : is_atom (sort_at lexeme) ≡ true) (operand : Bool) (same_operand : operand ≡ is_operand begun next) where
-    operand_at : (lexemes : List Lexeme) → next_sort lexemes ≡ next → operand ≡ is_operand begun (next_sort lexemes)
-    operand_at lexemes same = same_operand ∙ ap (λ n. is_operand begun n) (sym same)
+  pub subtract_stops : (room : Room) (meanings : List Meaning) (operand : Bool) (sign : Lexeme) (front : List Value) (left right : Value) (stopped : Stop)
+      → (two : HasTwo room meanings front left right) → StopsAt (DifferenceChecks options definitions operand two.first two.second sign) stopped
+      → StopsAt (SubtractChecks options definitions operand meanings sign) stopped
+  subtract_stops room meanings operand sign front left right stopped two is =
+      subst (λ l. StopsAt (SubtractChecks options definitions operand l sign) stopped) (sym two.are) (at stopped is)
+    where
+      at : (s : Stop) → StopsAt (DifferenceChecks options definitions operand two.first two.second sign) s
+          → StopsAt (SubtractChecks options definitions operand (two.second ∷ two.first ∷ two.others) sign) s
+      at stop.Memory h = tt
+      at (stop.Fault fault) h = h
 
-    -- a token is read
-    pub advances-atom : (left : Option Left) (current : Reading) → MatchesLeft begun.left left
-        → IsLeafRead options definitions lexeme.kind room operand lexeme begun.current current
-        → Advances options definitions room lexeme next begun (record { left = left; current = current })
-    advances-atom left current matches leaf = record {
-      after = behind begun leaf.meaning;
-      stands = record { left = matches; current = leaf.stands };
-      goes = λ lexemes result same goes.
-          read begun lexeme lexemes result leaf.meaning atom
-          (subst (λ b. LeafChecks options definitions lexeme.kind b [] lexeme None) (operand_at lexemes same) leaf.checked)
-          (subst (λ b. IsLeafMeaning options definitions b lexeme.kind lexeme leaf.meaning) (operand_at lexemes same) leaf.means) goes;
-    }
+  -- one step more
+  pub goes-snoc : (first operands after : Operands) (steps : List Step) (step : Step) → Goes options definitions first steps (Ok operands)
+      → StepChecks options definitions operands step None → IsStepped options definitions operands step after
+      → Goes options definitions first (steps ++ step ∷ []) (Ok after)
+  goes-snoc first operands after [] step ends checks is = next after checks is ends
+  goes-snoc first operands after (other ∷ steps) step (next middle checked stepped rest) checks is =
+      next middle checked stepped (goes-snoc middle operands after steps step rest checks is)
 
-    -- or refused
-    pub stops-atom : (stopped : Stop) → StopsLeaf options definitions lexeme.kind operand lexeme stopped → StopsAdvance options definitions lexeme next begun stopped
-    stops-atom stop.Memory is lexemes same = tt
-    stops-atom (stop.Fault fault) is lexemes same =
-        refused begun lexeme lexemes fault atom
-        (subst (λ b. LeafChecks options definitions lexeme.kind b [] lexeme (Some fault)) (operand_at lexemes same) is)
+  goes-refused : (first operands : Operands) (steps : List Step) (step : Step) (others : List Step) (fault : Fault)
+      → Goes options definitions first steps (Ok operands) → StepChecks options definitions operands step (Some fault)
+      → Goes options definitions first (steps ++ step ∷ others) (Err fault)
+  goes-refused first operands [] step others fault ends checks = refused fault checks
+  goes-refused first operands (other ∷ steps) step others fault (next middle checked stepped rest) checks =
+      next middle checked stepped (goes-refused middle operands steps step others fault rest checks)
 
-  module _ (no_atom : is_atom (sort_at lexeme) ≡ false) (no_sign : sort_at lexeme ≢ Backslash) where
-    no_backslash : (s : Sort) → s ≢ Backslash → is_backslash s ≡ false
-    no_backslash Backslash other = absurd (other refl)
-    no_backslash s other = refl
+  pub goes-stops : (first operands : Operands) (steps : List Step) (step : Step) (others : List Step) (stopped : Stop)
+      → Goes options definitions first steps (Ok operands) → StopsAt (StepChecks options definitions operands step) stopped
+      → StopsReading options definitions first (steps ++ step ∷ others) stopped
+  goes-stops first operands steps step others stop.Memory goes checks = tt
+  goes-stops first operands steps step others (stop.Fault fault) goes checks = goes-refused first operands steps step others fault goes checks
 
-    off : (b : Bool) → (b && false) ≡ false
-    off true = refl
-    off false = refl
+-- what is seen of a list up to a place, and from it on
+pub take-next : {A B : Type 0} (f : A → B) (i : ℕ) (list : List A) (default : A) → i < length list
+    → take (suc i) (map f list) ≡ take i (map f list) ++ f (get_or list i default) ∷ []
+take-next f i [] default lt = absurd (omega (arith, lt))
+take-next f zero (x ∷ list) default lt = refl
+take-next f (suc i) (x ∷ list) default lt = ap (λ l. f x ∷ l) (take-next f i list default (omega (arith, lt)))
 
-    -- a token is not supported yet, behind an operand that it ends
-    pub stops-behind : (ended : Expression) → ends_operand (sort_at lexeme) ≡ true → Closes options definitions room false begun ended
-        → StopsAdvance options definitions lexeme next begun (stop.Fault (Unsupported (Some lexeme.at)))
-    stops-behind ended stops closes lexemes same =
-        closes.goes (lexeme ∷ lexemes) (Err (Unsupported (Some lexeme.at))) stops (no_backslash (sort_at lexeme) no_sign)
-        (waiting closes.closed lexeme lexemes no_atom no_sign (ap (λ left. is_some left && ends_operand (sort_at lexeme)) closes.whole))
-
-    pub stops-closing : (stopped : Stop) → ends_operand (sort_at lexeme) ≡ true → StopsClosing options definitions false begun stopped
-        → StopsAdvance options definitions lexeme next begun stopped
-    stops-closing stopped stops is lexemes same = is (lexeme ∷ lexemes) stops (no_backslash (sort_at lexeme) no_sign)
-
-    -- or it ends none
-    pub stops-waiting : ends_operand (sort_at lexeme) ≡ false → StopsAdvance options definitions lexeme next begun (stop.Fault (Unsupported (Some lexeme.at)))
-    stops-waiting on lexemes same =
-        waiting begun lexeme lexemes no_atom no_sign (ap (λ b. is_some begun.left && b) on ∙ off (is_some begun.left))
-
--- the lexemes from a place on begin with that at the place
-pub lexemes_from-next : (lexemes : List Lexeme) (place until : ℕ) → place < until
-    → lexemes_from lexemes place (until - place) ≡ nth_lexeme lexemes place ∷ lexemes_from lexemes (place + 1) (until - (place + 1))
-lexemes_from-next lexemes place until less =
-    let count : until - place ≡ suc (until - (place + 1)) = omega (arith, less) in
-    let next : suc place ≡ place + 1 = omega arith in
-    ap (lexemes_from lexemes place) count ∙ ap (λ n. nth_lexeme lexemes place ∷ lexemes_from lexemes n (until - (place + 1))) next
-
--- and behind the last place there is none
-pub lexemes_from-end : (lexemes : List Lexeme) (place until : ℕ) → until ≤ place → lexemes_from lexemes place (until - place) ≡ []
-lexemes_from-end lexemes place until behind_it =
-    let count : until - place ≡ 0 = omega (arith, behind_it) in ap (lexemes_from lexemes place) count
-
--- a fault that is found from a place on is one of all
-pub stops-from : (options : Options) (definitions : List Definition) (before after : Begun) (lexemes rest : List Lexeme) (stopped : Stop)
-    → ((result : Result Meaning Fault) → Goes options definitions after rest result → Goes options definitions before lexemes result)
-    → StopsReading options definitions after rest stopped → StopsReading options definitions before lexemes stopped
-stops-from options definitions before after lexemes rest stop.Memory goes is = tt
-stops-from options definitions before after lexemes rest (stop.Fault fault) goes is = goes (Err fault) is
+pub drop-next : {A B : Type 0} (f : A → B) (i : ℕ) (list : List A) (default : A) → i < length list
+    → drop i (map f list) ≡ f (get_or list i default) ∷ drop (suc i) (map f list)
+drop-next f i [] default lt = absurd (omega (arith, lt))
+drop-next f zero (x ∷ list) default lt = refl
+drop-next f (suc i) (x ∷ list) default lt = drop-next f i list default (omega (arith, lt))

@@ -4,8 +4,9 @@ use Rattle.std.proofs.lemmas.Bool.{false≢true}
 use Rattle.std.proofs.lemmas.List.{map-append, length-map}
 use Rattle.std.proofs.lemmas.List.Elements.{All-append}
 use Rattle.lx_base.specs.declared.places.Pos.{Pos}
-use Rattle.lx_base.specs.declared.faults.Fault.TheVariants.{TooManyParts}
-use Rattle.lx_base.specs.Names.{DoNotClash, usual_names}
+use Rattle.lx_base.specs.declared.faults.Fault.TheVariants.{BadValue, TooManyParts}
+use Rattle.lx_base.specs.Names.{DoNotClash, IsTagName, usual_names}
+use Rattle.std.specs.List.{AllByRecursion}
 use Rattle.std.specs.Prelude.{◌||◌, nat_lt, if◌then◌else◌}
 use Rattle.lx_regex.specs.Expr.{size_of, size_step, term_of}
 use Rattle.lx_regex.specs.Pattern as regex
@@ -23,13 +24,13 @@ use Rattle.lx_rules.specs.declared.resolved.Scanner.{Scanner}
 use Rattle.lx_rules.specs.declared.resolved.Resolved.{Resolved}
 use Rattle.lx_rules.specs.Items.{RuleOf, State, is_default}
 use Rattle.lx_rules.specs.Blocks as blocks
-use Rattle.lx_rules.specs.Blocks.{BlockChecks, limits_fault}
-use Rattle.lx_rules.specs.Environments.{fits, kept}
-use Rattle.lx_rules.specs.Keeping.{Holds, HoldsDefault, DefaultWithin, default_count}
+use Rattle.lx_rules.specs.Blocks.{BlockChecks}
+use Rattle.lx_rules.specs.Environments.{fits, kept, whole_room}
+use Rattle.lx_rules.specs.Keeping.{Holds, HoldsDefault, DefaultWithin, default_count, names_of}
 use Rattle.lx_rules.specs.Soundness.{IsFit, IsSound, rules_size}
 use Rattle.lx_rules.specs.Seen.{environment_view}
 use Rattle.lx_rules.specs.Finishing.{AddsDefault, AreScannersOf, IsFinished}
-use Rattle.lx_rules.proofs.BlockSteps.{AreUsual, block_checked, conditions_of-usual, in_order, rules_of-usual}
+use Rattle.lx_rules.proofs.BlockSteps.{AreUsual, all_names, block_checked, block_clashes, conditions_of-usual, each_name, in_order, over, rules_of-usual}
 use Rattle.lx_rules.proofs.RuleSteps.{rules_size-snoc}
 use Rattle.lx_rules.proofs.DefinitionLists.{All-one}
 
@@ -37,51 +38,74 @@ size_of-any_unit : size_of AnyUnit ≡ 1
 size_of-any_unit = ap size_of (sym rolls-AnyUnit) ∙ fold-roll-Expr ℕ size_step Expr-F.AnyUnit
 
 pub adds_default : (default : DefaultRule) (rules all : List Rule) (rule : Rule) → all ≡ rules ++ rule ∷ [] → rule.expr ≡ AnyUnit
-    → regex.pattern_of rule ≡ record { number = default.number; kind = kind.Default; term = term_of 0 AnyUnit; many = []; slash = None; groups = 0 }
+    → blocks.given_names rule ≡ [] → regex.pattern_of rule ≡ record { number = default.number; kind = kind.Default; term = term_of 0 AnyUnit; many = []; slash = None; groups = 0 }
     → AddsDefault (Some default) rules all
-adds_default default rules all rule added expr pattern = (
+adds_default default rules all rule added expr names pattern = (
   rule,
   added,
   ap (λ (p : Pattern). p.number) pattern,
   ap size_of expr ∙ size_of-any_unit,
+  names,
   pattern ∙ ap (λ t. record { number = default.number; kind = kind.Default; term = t; many = []; slash = None; groups = 0 }) (term_of-any_unit 0),
 )
 
+-- past a limit
+abbrev pub is_over : (size nesting tags : ℕ) → Bool
+is_over size nesting tags = nat_lt 4096 size || nat_lt 256 nesting || nat_lt 128 tags
+
 -- what is kept of a size and a nesting is past the same limits
-over_kept : (size nesting : ℕ) → (nat_lt 4096 (kept size) || nat_lt 256 (kept nesting)) ≡ (nat_lt 4096 size || nat_lt 256 nesting)
-over_kept size nesting =
+over_kept : (size nesting tags : ℕ) → is_over (kept size) (kept nesting) tags ≡ is_over size nesting tags
+over_kept size nesting tags =
     let a : nat_lt 4096 (kept size) ≡ nat_lt 4096 size = search arith in
     let b : nat_lt 256 (kept nesting) ≡ nat_lt 256 nesting = search arith in
-    ap₂ (λ a b. a || b) a b
+    ap₂ (λ a b. a || b || nat_lt 128 tags) a b
 
-limits_by : (at : Pos) (size nesting : ℕ) (over : Bool) → (nat_lt 4096 (kept size) || nat_lt 256 (kept nesting)) ≡ over
-    → limits_fault at size nesting 0 ≡ (if over then Some (TooManyParts at (kept size) (kept nesting) 0) else None)
-limits_by at size nesting over is =
-    ap (λ b. if b || nat_lt 128 0 then Some (TooManyParts at (kept size) (kept nesting) (kept 0)) else None) (sym (over_kept size nesting) ∙ is)
-    ∙ of over
-  where
-    of : (b : Bool) → (if b || nat_lt 128 0 then Some (TooManyParts at (kept size) (kept nesting) (kept 0)) else None)
-        ≡ (if b then Some (TooManyParts at (kept size) (kept nesting) 0) else None)
-    of true = refl
-    of false = refl
+fits_under : (size nesting tags : ℕ) → is_over size nesting tags ≡ false → fits whole_room size nesting tags ≡ true
+fits_under size nesting tags is = search arith
 
-module _ (conds : Bool) (known : Known) (state : State) (holds : Holds conds known state) (at : Pos) (differ : DoNotClash usual_names) where
-  over_is : (over : Bool) → (nat_lt 4096 known.size || nat_lt 256 known.nesting) ≡ over
-      → limits_fault at (blocks.size_of state.rules) (blocks.nesting_of state.rules) 0 ≡ (if over then Some (TooManyParts at known.size known.nesting 0) else None)
-  over_is over is =
-      limits_by at (blocks.size_of state.rules) (blocks.nesting_of state.rules) over
-      (ap₂ (λ a b. nat_lt 4096 a || nat_lt 256 b) (sym holds.size) (sym holds.nesting) ∙ is)
-      ∙ ap₂ (λ a b. if over then Some (TooManyParts at a b 0) else None) (sym holds.size) (sym holds.nesting)
+small_under : (size nesting tags : ℕ) → is_over size nesting tags ≡ false → size ≤ 4096
+small_under size nesting tags is = search arith
+
+nothing_mapped : {A B : Type 0} (f : A → B) (items : List A) → map f items ≡ [] → items ≡ []
+nothing_mapped f [] none = refl
+nothing_mapped f (item ∷ items) none = cc
+
+module _ (conds : Bool) (known : Known) (state : State) (holds : Holds conds known state) (at : Pos) where
+  abbrev known_over : Bool
+  known_over = is_over known.size known.nesting (length known.tags.items)
+
+  -- the limits are those on what is known
+  over_is : (is : Bool) → known_over ≡ is
+      → over at state holds.usual state.rules ≡ (if is then Some (TooManyParts at known.size known.nesting (kept (length known.tags.items))) else None)
+  over_is is e =
+      let sizes = sym holds.size in let depths = sym holds.nesting in let tagged = ap length (sym holds.tags) in
+      let same : is_over (blocks.size_of state.rules) (blocks.nesting_of state.rules) (length (names_of state.rules)) ≡ is =
+      sym (over_kept (blocks.size_of state.rules) (blocks.nesting_of state.rules) (length (names_of state.rules)))
+      ∙ ap₂ (λ a b. is_over a b (length (names_of state.rules))) sizes depths ∙ ap (is_over known.size known.nesting) tagged ∙ e in
+      ap₂ (λ b t. if b then Some (TooManyParts at (kept (blocks.size_of state.rules)) (kept (blocks.nesting_of state.rules)) (kept t)) else None) same tagged
+      ∙ ap₂ (λ a b. if is then Some (TooManyParts at a b (kept (length known.tags.items))) else None) sizes depths
+
+  -- the tags that are known have names that they may have
+  pub free_names : DoNotClash usual_names → AllByRecursion (IsTagName usual_names) known.tags.items → blocks.NoClash usual_names state.rules
+  free_names differ names = (differ, each_name (IsTagName usual_names) state.rules (subst (AllByRecursion (IsTagName usual_names)) holds.tags names))
+
+  -- names that clash are refused
+  pub clashing : (DoNotClash usual_names → AllByRecursion (IsTagName usual_names) known.tags.items → ⊥) → BlockChecks at state (Some (BadValue at))
+  clashing clash =
+      block_clashes at state holds.usual
+      (λ free. clash free.0 (subst (AllByRecursion (IsTagName usual_names)) (sym holds.tags) (all_names (IsTagName usual_names) state.rules free.1)))
 
   -- a scanner that is past a limit is refused
-  pub too_large : (nat_lt 4096 known.size || nat_lt 256 known.nesting) ≡ true → BlockChecks at state (Some (TooManyParts at known.size known.nesting 0))
-  too_large is = block_checked at state holds.usual (Some (TooManyParts at known.size known.nesting 0)) differ (over_is true is)
+  pub too_large : blocks.NoClash usual_names state.rules → known_over ≡ true
+      → BlockChecks at state (Some (TooManyParts at known.size known.nesting (kept (length known.tags.items))))
+  too_large free is = block_checked at state holds.usual (Some (TooManyParts at known.size known.nesting (kept (length known.tags.items)))) free (over_is true is)
 
-  fits_all : (size nesting : ℕ) → (nat_lt 4096 (kept size) || nat_lt 256 (kept nesting)) ≡ false → fits 4096 size nesting ≡ true
-  fits_all size nesting is = search arith
-
-  small_all : (nat_lt 4096 known.size || nat_lt 256 known.nesting) ≡ false → known.size ≤ 4096
-  small_all is = search arith
+  known_fits : known_over ≡ false → fits whole_room (blocks.size_of state.rules) (blocks.nesting_of state.rules) (length (names_of state.rules)) ≡ true
+  known_fits under =
+      fits_under (blocks.size_of state.rules) (blocks.nesting_of state.rules) (length (names_of state.rules))
+      (sym (over_kept (blocks.size_of state.rules) (blocks.nesting_of state.rules) (length (names_of state.rules)))
+      ∙ ap₂ (λ a b. is_over a b (length (names_of state.rules))) (sym holds.size) (sym holds.nesting)
+      ∙ ap (is_over known.size known.nesting) (ap length (sym holds.tags)) ∙ under)
 
   no_rules : length known.acts.items ≡ 0 → state.rules ≡ []
   no_rules none = of state.rules (sym (length-map state.rules (λ (r : RuleOf). r.act)) ∙ sym (ap length holds.acts) ∙ none)
@@ -90,22 +114,36 @@ module _ (conds : Bool) (known : Known) (state : State) (holds : Holds conds kno
       of [] none = refl
       of (rule ∷ rules) none = absurd (omega (arith, none))
 
+  in_order-bare : blocks.of_kind is_default state.rules ≡ [] → in_order state.rules ≡ blocks.not_of_kind is_default state.rules
+  in_order-bare none =
+      ap (λ l. blocks.not_of_kind is_default state.rules ++ l) none ∙ append-nil (blocks.not_of_kind is_default state.rules)
+
   -- the patterns of the scanner
   patterns_all : (scanner : Scanner) (default : Option DefaultRule) → known.default ≡ default → AddsDefault default known.rules.items scanner.set.rules
-      → (nat_lt 4096 known.size || nat_lt 256 known.nesting) ≡ false
-      → map regex.pattern_of scanner.set.rules ≡ map blocks.pattern_of (in_order state.rules)
+      → known_over ≡ false → map regex.pattern_of scanner.set.rules ≡ map blocks.pattern_of (in_order state.rules)
   patterns_all scanner None is adds under =
       let none = subst (λ d. HoldsDefault d (blocks.of_kind is_default state.rules)) is holds.default in
-      ap (map regex.pattern_of) adds ∙ holds.rules (fits_all (blocks.size_of state.rules) (blocks.nesting_of state.rules) (ap₂ (λ a b. nat_lt 4096 a || nat_lt 256 b) (sym holds.size) (sym holds.nesting) ∙ under))
-      ∙ ap (map blocks.pattern_of) (sym (append-nil (blocks.not_of_kind is_default state.rules)) ∙ ap (λ l. blocks.not_of_kind is_default state.rules ++ l) (sym none))
+      ap (map regex.pattern_of) adds ∙ holds.rules (known_fits under) ∙ ap (map blocks.pattern_of) (sym (in_order-bare none))
   patterns_all scanner (Some default) is adds under =
       let one = subst (λ d. HoldsDefault d (blocks.of_kind is_default state.rules)) is holds.default in
       ap (map regex.pattern_of) adds.1 ∙ map-append regex.pattern_of known.rules.items (adds.0 ∷ [])
-      ∙ ap₂ (λ a b. a ++ b ∷ [])
-      (holds.rules (fits_all (blocks.size_of state.rules) (blocks.nesting_of state.rules) (ap₂ (λ a b. nat_lt 4096 a || nat_lt 256 b) (sym holds.size) (sym holds.nesting) ∙ under)))
-      (adds.4 ∙ sym one.3)
+      ∙ ap₂ (λ a b. a ++ b ∷ []) (holds.rules (known_fits under)) (adds.5 ∙ sym one.3)
       ∙ sym (map-append blocks.pattern_of (blocks.not_of_kind is_default state.rules) (one.0 ∷ []))
       ∙ ap (λ l. map blocks.pattern_of (blocks.not_of_kind is_default state.rules ++ l)) (sym one.1)
+
+  -- the names of their tags
+  names_all : (scanner : Scanner) (default : Option DefaultRule) → known.default ≡ default → AddsDefault default known.rules.items scanner.set.rules
+      → known_over ≡ false → map blocks.given_names scanner.set.rules ≡ map (λ (rule : RuleOf). rule.meaning.tags) (in_order state.rules)
+  names_all scanner None is adds under =
+      let none = subst (λ d. HoldsDefault d (blocks.of_kind is_default state.rules)) is holds.default in
+      ap (map blocks.given_names) adds ∙ holds.names (known_fits under) ∙ ap (map (λ (rule : RuleOf). rule.meaning.tags)) (sym (in_order-bare none))
+  names_all scanner (Some default) is adds under =
+      let one = subst (λ d. HoldsDefault d (blocks.of_kind is_default state.rules)) is holds.default in
+      let untagged = nothing_mapped (λ name. false) one.0.meaning.tags (ap (λ (p : Pattern). p.many) one.3) in
+      ap (map blocks.given_names) adds.1 ∙ map-append blocks.given_names known.rules.items (adds.0 ∷ [])
+      ∙ ap₂ (λ a b. a ++ b ∷ []) (holds.names (known_fits under)) (adds.4 ∙ sym untagged)
+      ∙ sym (map-append (λ (rule : RuleOf). rule.meaning.tags) (blocks.not_of_kind is_default state.rules) (one.0 ∷ []))
+      ∙ ap (λ l. map (λ (rule : RuleOf). rule.meaning.tags) (blocks.not_of_kind is_default state.rules ++ l)) (sym one.1)
 
   -- the scanner fits
   fit_all : (scanner : Scanner) (default : Option DefaultRule) → known.default ≡ default → AddsDefault default known.rules.items scanner.set.rules
@@ -131,14 +169,14 @@ module _ (conds : Bool) (known : Known) (state : State) (holds : Holds conds kno
       }
 
   scanners_all : (is_empty : Bool) (scanners : List Scanner) → (is_empty ≡ true → length known.acts.items ≡ 0) → (is_empty ≡ false → 0 < length known.acts.items)
-      → AreScannersOf is_empty known.default known.rules.items scanners → (nat_lt 4096 known.size || nat_lt 256 known.nesting) ≡ false
+      → AreScannersOf is_empty known.default known.rules.items scanners → known_over ≡ false
       → blocks.AreScanners conds state.rules (blocks.conditions_of state.rules) scanners × All (IsFit (length known.acts.items)) scanners
   scanners_all true scanners empty some are under =
       let none = no_rules (empty refl) in rw (are, none) (tt, λ k d lt. absurd (omega (arith, lt)))
   scanners_all false scanners empty some are under =
       rw (are.1) (
         scanners_are state.rules (omega (arith, some refl, ap length holds.acts, length-map state.rules (λ (r : RuleOf). r.act))) refl,
-        All-one (IsFit (length known.acts.items)) are.0 (fit_all are.0 known.default refl are.3 (small_all under)),
+        All-one (IsFit (length known.acts.items)) are.0 (fit_all are.0 known.default refl are.3 (small_under known.size known.nesting (length known.tags.items) under)),
       )
     where
       unconditional : (b : Bool) → conds ≡ b → 0 < length state.rules → blocks.cond_name conds [] ≡ None
@@ -156,20 +194,23 @@ module _ (conds : Bool) (known : Known) (state : State) (holds : Holds conds kno
             record {
               name = are.2 ∙ sym (unconditional conds refl here);
               patterns = patterns_all are.0 known.default refl are.3 under ∙ ap (map blocks.pattern_of) (sym (rules_of-usual state.rules holds.usual));
+              names =
+                  names_all are.0 known.default refl are.3 under
+                  ∙ ap (map (λ (rule : RuleOf). rule.meaning.tags)) (sym (rules_of-usual state.rules holds.usual));
             },
             tt,
           )
 
   -- what the block resolves to
   pub finished :
-      (answer : Env × Resolved) → answer.0 ≡ known.env → answer.1.acts ≡ known.acts.items → answer.1.config.names ≡ usual_names → answer.1.config.eof ≡ None
+      (answer : Env × Resolved) → blocks.NoClash usual_names state.rules → answer.0 ≡ known.env → answer.1.acts ≡ known.acts.items → answer.1.config.names ≡ usual_names → answer.1.config.eof ≡ None
       → answer.1.config.fill ≡ known.env.fill → length known.acts.items ≤ 16777216 → (is_empty : Bool)
       → (is_empty ≡ true → length known.acts.items ≡ 0) → (is_empty ≡ false → 0 < length known.acts.items)
-      → AreScannersOf is_empty known.default known.rules.items answer.1.scanners → (nat_lt 4096 known.size || nat_lt 256 known.nesting) ≡ false
+      → AreScannersOf is_empty known.default known.rules.items answer.1.scanners → known_over ≡ false
       → IsFinished conds at state answer
-  finished answer env acts names eof fill few is_empty empty some are under =
+  finished answer free env acts names eof fill few is_empty empty some are under =
       let scanners = scanners_all is_empty answer.1.scanners empty some are under in (
-        block_checked at state holds.usual None differ (over_is false under),
+        block_checked at state holds.usual None free (over_is false under),
         record {
           environment_is = ap environment_view env ∙ ap₂ (λ d f. record { definitions = d; fill = f }) holds.definitions holds.fill;
           scanners = scanners.0;

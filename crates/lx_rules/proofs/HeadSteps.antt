@@ -1,5 +1,5 @@
 -- The heads of rules.
-use Rattle.std.proofs.Common.{◌≡◌, ℕ, suc, ◌-◌, ◌<◌, inl, inr, ⊎_elim, Bool, true, false, List, [], ◌∷◌, Option, None, Some, Ok, Err, refl, sym, ap, ◌∙◌, subst}
+use Rattle.std.proofs.Common.{◌≡◌, ℕ, zero, suc, inl, inr, ⊎_elim, Bool, true, false, List, [], ◌∷◌, drop, Option, None, Some, refl, sym, ap, ◌∙◌, subst}
 use Rattle.std.specs.Option.{unwrap_or}
 use Rattle.std.specs.List.{AllByRecursion}
 use Rattle.lx_base.specs.declared.faults.Fault.TheVariants.{Unsupported, Redefined}
@@ -14,21 +14,19 @@ use Rattle.lx_parse.specs.Expressions.{alt}
 use Rattle.lx_parse.specs.Ranges.{HasExpressions, IsPart}
 use Rattle.lx_regex.specs.declared.rules.Kind.{Kind}
 use Rattle.lx_regex.specs.declared.rules.Kind.TheVariants as kind
+use Rattle.lx_rules.specs.declared.expressions.Reading.{Reading}
+use Rattle.lx_rules.specs.declared.heads.Head.TheVariants as head
 use Rattle.lx_rules.specs.declared.items.Known.{Known}
 use Rattle.lx_rules.specs.declared.items.DefaultRule.{DefaultRule}
-use Rattle.lx_rules.specs.declared.heads.Head.TheVariants as head
-use Rattle.lx_rules.specs.declared.reading.Reading.{Reading}
+use Rattle.lx_rules.specs.declared.values.Room.{Room}
 use Rattle.lx_rules.specs.Lexemes.{Lexeme, nth_lexeme, sort_at, sorts_at}
-use Rattle.lx_rules.specs.Checks.{Check}
-use Rattle.lx_rules.specs.Items.{RuleOf, State, HeadChecks, IsHead, any_meaning, expression, head_sort, first_of, is_default, twice}
+use Rattle.lx_rules.specs.Checks.{Check, StopsAt}
+use Rattle.lx_rules.specs.Items.{RuleOf, State, ExpressionChecks, HeadChecks, IsHead, any_meaning, expression, head_sort, first_of, is_default, twice}
 use Rattle.lx_rules.specs.Blocks.{of_kind}
-use Rattle.lx_rules.specs.Keeping.{Holds, HoldsDefault, IsUsual, IsHeadRead, StopsHead}
-use Rattle.lx_rules.specs.Environments.{Meaning}
-use Rattle.lx_rules.specs.Reading.{IsRead, lexemes_from}
+use Rattle.lx_rules.specs.Keeping.{Holds, HoldsDefault, IsRead, IsUsual, IsHeadRead, StopsHead}
 use Rattle.lx_rules.specs.Seen.{definitions_view}
-use Rattle.lx_rules.proofs.FormReading.{part_some}
-use Rattle.lx_rules.proofs.ExpressionRanges.{at_sort}
-use Rattle.lx_rules.proofs.ItemSteps.{GoesIn, StopsIn, expression_checked, expression_refused, goes_same, read_part}
+use Rattle.lx_rules.proofs.ExpressionRanges.{part_form}
+use Rattle.lx_rules.proofs.ItemSteps.{read_checked, read_known}
 
 -- the place of the first of some rules
 abbrev pub first_at : List RuleOf → Option Pos
@@ -46,15 +44,24 @@ first_of-usual test (rule ∷ rules) usual = at (test rule.kind) refl (first_of-
     at true e later = let conds = usual.0.conds in rw (e, conds) refl
     at false e later = rw (e) later
 
--- a part of an expression that begins with neither `*` nor `$`
-head_part : (options : Options) (lexemes : List Lexeme) (from until : ℕ) → (sort_at (nth_lexeme lexemes from) ≡ sort.Star → ⊥)
-    → (sort_at (nth_lexeme lexemes from) ≡ sort.Dollar → ⊥) → HasExpressions (sorts_at lexemes) (item.Rule from from None until None None)
-    → IsPart (sorts_at lexemes) alt from until
-head_part options lexemes from until no_star no_dollar (inl part) = part
-head_part options lexemes from until no_star no_dollar (inr bare) =
+-- the sort of the first lexeme from a place on
+sort_from : (all : List Lexeme) (from : ℕ) (sort : Sort) (rest : List Sort) → drop from (sorts_at all) ≡ sort ∷ rest
+    → sort_at (nth_lexeme all from) ≡ sort
+sort_from [] zero sort rest same = cc
+sort_from [] (suc from) sort rest same = cc
+sort_from (first ∷ all) zero sort rest same = cc
+sort_from (first ∷ all) (suc from) sort rest same = sort_from all from sort rest same
+
+-- the expression of a rule that begins with neither `*` nor `$` stands before its trailing context, if it has one
+pub head_part : (lexemes : List Lexeme) (from : ℕ) (slash : Option ℕ) (until : ℕ) → (sort_at (nth_lexeme lexemes from) ≡ sort.Star → ⊥)
+    → (sort_at (nth_lexeme lexemes from) ≡ sort.Dollar → ⊥) → HasExpressions (sorts_at lexemes) (item.Rule from from slash until None None)
+    → IsPart (sorts_at lexemes) alt from (unwrap_or slash until)
+head_part lexemes from None until no_star no_dollar (inl part) = part
+head_part lexemes from None until no_star no_dollar (inr bare) =
     absurd (⊎_elim
-    (λ star. no_star (at_sort lexemes from sort.Star star.rest star.is))
-    (λ dollar. no_dollar (at_sort lexemes from sort.Dollar dollar.rest dollar.is)) bare.stands)
+    (λ star. no_star (sort_from lexemes from sort.Star star.rest star.is))
+    (λ dollar. no_dollar (sort_from lexemes from sort.Dollar dollar.rest dollar.is)) bare.stands)
+head_part lexemes from (Some slash) until no_star no_dollar has = has.0
 
 -- a terminal that is neither `*` nor `$` begins an expression
 other_head : (s : Sort) → (s ≡ sort.Star → ⊥) → (s ≡ sort.Dollar → ⊥) → head_sort s ≡ expression
@@ -113,7 +120,7 @@ module _ (options : Options) (lexemes : List Lexeme) (known : Known) (state : St
         subst (λ s. Heads s (Some (Redefined start.at default.at))) (sym star) (ap (twice start.at) (sym (default_first default is)))
 
     -- the first one is read
-    pub star_read : (room : ℕ) → sort_at start ≡ sort.Star → known.default ≡ None → IsHeadRead options lexemes state from slash until room head.Default
+    pub star_read : (room : Room) → sort_at start ≡ sort.Star → known.default ≡ None → IsHeadRead options lexemes state from slash until room head.Default
     star_read room star is = (
       subst (λ s. Heads s None) (sym star) (ap (twice start.at) (sym (default_none is))),
       (kind.Default, any_meaning, subst (λ s. IsHead options lexemes state.definitions (head_sort s) from slash until kind.Default any_meaning) (sym star) (refl, refl), (refl, refl)),
@@ -129,73 +136,65 @@ module _ (options : Options) (lexemes : List Lexeme) (known : Known) (state : St
 
   -- the expression of a rule is read
   pub plain_read :
-      (from until room : ℕ) (reading : Reading) (no_star : sort_at (nth_lexeme lexemes from) ≡ sort.Star → ⊥) (no_dollar : sort_at (nth_lexeme lexemes from) ≡ sort.Dollar → ⊥)
-      → HasExpressions (sorts_at lexemes) (item.Rule from from None until None None)
-      → IsRead options (definitions_view known.env.definitions) (lexemes_from lexemes from (until - from)) room reading
+      (from until : ℕ) (room : Room) (reading : Reading) (no_star : sort_at (nth_lexeme lexemes from) ≡ sort.Star → ⊥) (no_dollar : sort_at (nth_lexeme lexemes from) ≡ sort.Dollar → ⊥)
+      → IsRead options lexemes (definitions_view known.env.definitions) room from until reading
       → IsHeadRead options lexemes state from None until room (head.Plain reading)
-  plain_read from until room reading no_star no_dollar has read =
-      let part = head_part options lexemes from until no_star no_dollar has in
-      let other = sym (is_other from None until no_star no_dollar) in
-      let stands = read_part options lexemes known state holds from until part in
-      let goes = goes_same options lexemes known state holds from until (Ok read.meaning) read.goes in (
+  plain_read from until room reading no_star no_dollar given =
+      let read = read_known options lexemes known state holds room from until reading given in
+      let other = sym (is_other from None until no_star no_dollar) in (
         subst (λ s. HeadChecks options lexemes state s ([] ∷ []) from None until None) other
-            (expression_checked options lexemes known state holds from until read.meaning part read.goes),
+            (read_checked options lexemes state.definitions room from until reading read),
         (
           kind.Plain,
           read.meaning,
           subst (λ s. IsHead options lexemes state.definitions s from None until kind.Plain read.meaning) other
-              (refl, (stands.form, stands.stands, (stands.taken read.meaning goes).1)),
+              (refl, (read.form, read.stands_there, read.means)),
           (refl, read.stands),
         ),
       )
 
+  -- what an expression that is refused stops with
+  abbrev pub StopsIn : (from until : ℕ) → Stop → Type 0
+  StopsIn from until stopped = StopsAt (ExpressionChecks options lexemes (definitions_view known.env.definitions) from until) stopped
+
   -- or it is refused
   pub plain_refused :
       (from until : ℕ) (stopped : Stop) (no_star : sort_at (nth_lexeme lexemes from) ≡ sort.Star → ⊥) (no_dollar : sort_at (nth_lexeme lexemes from) ≡ sort.Dollar → ⊥)
-      → HasExpressions (sorts_at lexemes) (item.Rule from from None until None None) → StopsIn options lexemes known state holds from until stopped
-      → StopsHead options lexemes state from None until stopped
-  plain_refused from until stop.Memory no_star no_dollar has stops = tt
-  plain_refused from until (stop.Fault fault) no_star no_dollar has stops =
+      → StopsIn from until stopped → StopsHead options lexemes state from None until stopped
+  plain_refused from until stop.Memory no_star no_dollar stops = tt
+  plain_refused from until (stop.Fault fault) no_star no_dollar stops =
       subst (λ s. HeadChecks options lexemes state s ([] ∷ []) from None until (Some fault)) (sym (is_other from None until no_star no_dollar))
-      (expression_refused options lexemes known state holds from until fault (head_part options lexemes from until no_star no_dollar has) stops)
+      (subst (λ definitions. ExpressionChecks options lexemes definitions from until (Some fault)) holds.definitions stops)
 
   -- the checks of an expression before a trailing context
   pub context_refused :
       (from slash until : ℕ) (stopped : Stop) (no_star : sort_at (nth_lexeme lexemes from) ≡ sort.Star → ⊥) (no_dollar : sort_at (nth_lexeme lexemes from) ≡ sort.Dollar → ⊥)
-      → HasExpressions (sorts_at lexemes) (item.Rule from from (Some slash) until None None) → StopsIn options lexemes known state holds from slash stopped
+      → HasExpressions (sorts_at lexemes) (item.Rule from from (Some slash) until None None) → StopsIn from slash stopped
       → StopsHead options lexemes state from (Some slash) until stopped
   context_refused from slash until stop.Memory no_star no_dollar has stops = tt
   context_refused from slash until (stop.Fault fault) no_star no_dollar has stops =
-      let front = read_part options lexemes known state holds from slash has.0 in
-      let back = read_part options lexemes known state holds (suc slash) until has.1 in
-      let found = front.refused fault (goes_same options lexemes known state holds from slash (Err fault) stops) in
+      let front = subst (λ definitions. ExpressionChecks options lexemes definitions from slash (Some fault)) holds.definitions stops in
+      let back = part_form options lexemes (suc slash) until has.1 in
       subst (λ s. HeadChecks options lexemes state s ([] ∷ []) from (Some slash) until (Some fault)) (sym (is_other from (Some slash) until no_star no_dollar))
-      (front.form, back.form, front.stands, back.stands, inr (fault, found, refl))
+      (front.0, back.0, front.1, back.1, inr (fault, front.2, refl))
 
   -- a trailing context waits
   pub context_waits :
       (from slash until : ℕ) (no_star : sort_at (nth_lexeme lexemes from) ≡ sort.Star → ⊥) (no_dollar : sort_at (nth_lexeme lexemes from) ≡ sort.Dollar → ⊥)
-      → HasExpressions (sorts_at lexemes) (item.Rule from from (Some slash) until None None) → (meaning : Meaning)
-      → GoesIn options lexemes known state holds from slash (Ok meaning)
+      → HasExpressions (sorts_at lexemes) (item.Rule from from (Some slash) until None None) → (room : Room) (reading : Reading)
+      → IsRead options lexemes (definitions_view known.env.definitions) room from slash reading
       → StopsHead options lexemes state from (Some slash) until (stop.Fault (Unsupported (Some (nth_lexeme lexemes slash).at)))
-  context_waits from slash until no_star no_dollar has meaning goes =
-      let front = read_part options lexemes known state holds from slash has.0 in
-      let back = read_part options lexemes known state holds (suc slash) until has.1 in
-      let found = (front.taken meaning (goes_same options lexemes known state holds from slash (Ok meaning) goes)).0 in
+  context_waits from slash until no_star no_dollar has room reading given =
+      let read = read_known options lexemes known state holds room from slash reading given in
+      let back = part_form options lexemes (suc slash) until has.1 in
       let fault = Unsupported (Some (nth_lexeme lexemes slash).at) in
       subst (λ s. HeadChecks options lexemes state s ([] ∷ []) from (Some slash) until (Some fault)) (sym (is_other from (Some slash) until no_star no_dollar))
-      (front.form, back.form, front.stands, back.stands, inl (found, inr (fault, refl, refl)))
+      (read.form, back.0, read.stands_there, back.1, inl (read.checked, inr (fault, refl, refl)))
 
   -- whether a trailing context stands there or not
   pub head_refused :
       (from : ℕ) (slash : Option ℕ) (until : ℕ) (stopped : Stop) (no_star : sort_at (nth_lexeme lexemes from) ≡ sort.Star → ⊥) (no_dollar : sort_at (nth_lexeme lexemes from) ≡ sort.Dollar → ⊥)
-      → HasExpressions (sorts_at lexemes) (item.Rule from from slash until None None) → StopsIn options lexemes known state holds from (unwrap_or slash until) stopped
+      → HasExpressions (sorts_at lexemes) (item.Rule from from slash until None None) → StopsIn from (unwrap_or slash until) stopped
       → StopsHead options lexemes state from slash until stopped
-  head_refused from None until stopped no_star no_dollar has stops = plain_refused from until stopped no_star no_dollar has stops
+  head_refused from None until stopped no_star no_dollar has stops = plain_refused from until stopped no_star no_dollar stops
   head_refused from (Some slash) until stopped no_star no_dollar has stops = context_refused from slash until stopped no_star no_dollar has stops
-
--- the expression of a rule has a token at least
-pub head_some : (options : Options) (lexemes : List Lexeme) (from until : ℕ) → (sort_at (nth_lexeme lexemes from) ≡ sort.Star → ⊥)
-    → (sort_at (nth_lexeme lexemes from) ≡ sort.Dollar → ⊥) → HasExpressions (sorts_at lexemes) (item.Rule from from None until None None)
-    → from < until
-head_some options lexemes from until no_star no_dollar has = part_some (sorts_at lexemes) from until (head_part options lexemes from until no_star no_dollar has)

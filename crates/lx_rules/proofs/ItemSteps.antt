@@ -1,73 +1,40 @@
 -- What is known behind an item.
-use Rattle.std.proofs.Common.{◌≡◌, ℕ, ◌-◌, ◌≤◌, inl, inr, Bool, List, [], ◌∷◌, ◌++◌, map, Option, None, Some, Result, Ok, Err, IfSome, Vec, Global, refl, sym, ap, ◌∙◌, subst}
+use Rattle.std.proofs.Common.{◌≡◌, ℕ, inl, inr, Bool, List, [], ◌∷◌, ◌++◌, map, None, Some, Vec, Global, refl, sym, ap, ◌∙◌, subst}
 use Rattle.std.specs.Option.{option_map}
-use Rattle.lx_base.specs.declared.faults.Fault.{Fault}
 use Rattle.lx_base.specs.declared.faults.Fault.TheVariants.{Redefined}
 use Rattle.lx_base.specs.declared.faults.Stop.{Stop}
 use Rattle.lx_base.specs.declared.faults.Stop.TheVariants as stop
-use Rattle.lx_base.specs.declared.places.Pos.{Pos}
 use Rattle.lx_base.specs.declared.settings.Options.{Options}
 use Rattle.lx_parse.specs.declared.items.Item.TheVariants.{Define, Configure}
-use Rattle.lx_parse.specs.Expressions.{alt}
-use Rattle.lx_parse.specs.Ranges.{IsPart}
-use Rattle.lx_rules.specs.declared.definitions.Kept.{Kept}
-use Rattle.lx_regex.specs.Expr.{size_of, term_of}
 use Rattle.lx_regex.specs.Pattern as regex
-use Rattle.lx_regex.specs.declared.expr.Expr.{Expr}
 use Rattle.lx_regex.specs.declared.rules.Rule as regex_rules
-use Rattle.lx_rules.specs.declared.resolved.Act.{Act}
+use Rattle.lx_rules.specs.declared.definitions.Kept.{Kept}
+use Rattle.lx_rules.specs.declared.expressions.Reading.{Reading}
 use Rattle.lx_rules.specs.declared.items.Known.{Known}
-use Rattle.lx_rules.specs.Lexemes.{Lexeme, nth_lexeme, sorts_at}
-use Rattle.lx_rules.specs.Environments.{Definition, Meaning, defined, definition_of, kept, kept_term}
+use Rattle.lx_rules.specs.declared.resolved.Act.{Act}
+use Rattle.lx_rules.specs.declared.values.Room.{Room}
+use Rattle.lx_rules.specs.Lexemes.{Lexeme, nth_lexeme}
+use Rattle.lx_rules.specs.Environments.{Definition, IsDefined, definition_of, whole_room}
 use Rattle.lx_rules.specs.Checks.{Finds, StopsAt}
 use Rattle.lx_rules.specs.Configurations.{config_fault, switch_of}
 use Rattle.lx_rules.specs.Items.{State, ExpressionChecks, ItemChecks, is_default, twice}
-use Rattle.lx_rules.specs.Keeping.{Holds, HoldsDefault, IsTaken}
-use Rattle.lx_rules.specs.Reading.{Goes, StopsReading, alone, lexemes_from, nothing}
-use Rattle.lx_rules.specs.Blocks.{of_kind}
-use Rattle.lx_rules.specs.Soundness.{FitsSize, IsSound}
+use Rattle.lx_rules.specs.Keeping.{Holds, HoldsDefault, IsRead, IsTaken}
+use Rattle.lx_rules.specs.Blocks.{given_names, of_kind}
+use Rattle.lx_rules.specs.Soundness.{IsSound}
 use Rattle.lx_rules.specs.Seen.{definition_view, definitions_view}
-use Rattle.lx_rules.proofs.FormRuns.{NoTags}
-use Rattle.lx_rules.proofs.ExpressionRanges as ranges
-use Rattle.lx_rules.proofs.ExpressionRanges.{IsExpressionRead, part_is_read}
 
--- definitions that are kept have no tags
-pub NoTags-view : {K : Type 0} (options : Options) (definitions : List Definition) (items : K → List ℕ) (entries : List (K × Kept))
-    → NoTags options definitions (map (λ entry. definition_view (items entry.0) entry.1) entries)
-NoTags-view options definitions items [] = tt
-NoTags-view options definitions items (entry ∷ entries) = (refl, NoTags-view options definitions items entries)
+-- the checks of an expression that is read find nothing
+pub read_checked : (options : Options) (lexemes : List Lexeme) (definitions : List Definition) (room : Room) (from until : ℕ) (reading : Reading)
+    → IsRead options lexemes definitions room from until reading → ExpressionChecks options lexemes definitions from until None
+read_checked options lexemes definitions room from until reading read = (read.form, read.stands_there, read.checked)
 
 module _ (options : Options) (lexemes : List Lexeme) (known : Known) (state : State) (holds : Holds options.conds known state) where
-  -- the definitions that are known have no tags
-  pub known_free : NoTags options state.definitions state.definitions
-  known_free =
-      subst (NoTags options state.definitions) holds.definitions (NoTags-view options state.definitions (λ key. key.items) known.env.definitions.by_name.entries)
-
-  -- what is read from one place up to another
-  abbrev pub GoesIn : (from until : ℕ) → Result Meaning Fault → Type 0
-  GoesIn from until result =
-      Goes options (definitions_view known.env.definitions) (alone nothing) (lexemes_from lexemes from (until - from)) result
-
-  abbrev pub StopsIn : (from until : ℕ) → Stop → Type 0
-  StopsIn from until stopped =
-      StopsReading options (definitions_view known.env.definitions) (alone nothing) (lexemes_from lexemes from (until - from)) stopped
-
-  pub read_part : (from until : ℕ) → IsPart (sorts_at lexemes) alt from until → IsExpressionRead options state.definitions lexemes from until
-  read_part from until part = part_is_read options state.definitions lexemes known_free from until part
-
-  pub goes_same : (from until : ℕ) (result : Result Meaning Fault) → GoesIn from until result → ranges.GoesIn options state.definitions lexemes from until result
-  goes_same from until result goes =
-      subst (λ definitions. ranges.GoesIn options definitions lexemes from until result) holds.definitions goes
-
-  pub expression_checked : (from until : ℕ) (meaning : Meaning) → IsPart (sorts_at lexemes) alt from until → GoesIn from until (Ok meaning)
-      → ExpressionChecks options lexemes state.definitions from until None
-  expression_checked from until meaning part goes =
-      let read = read_part from until part in (read.form, read.stands, (read.taken meaning (goes_same from until (Ok meaning) goes)).0)
-
-  pub expression_refused : (from until : ℕ) (fault : Fault) → IsPart (sorts_at lexemes) alt from until → GoesIn from until (Err fault)
-      → ExpressionChecks options lexemes state.definitions from until (Some fault)
-  expression_refused from until fault part goes =
-      let read = read_part from until part in (read.form, read.stands, read.refused fault (goes_same from until (Err fault) goes))
+  -- what is read with the definitions that are known
+  pub read_known : (room : Room) (from until : ℕ) (reading : Reading)
+      → IsRead options lexemes (definitions_view known.env.definitions) room from until reading
+      → IsRead options lexemes state.definitions room from until reading
+  read_known room from until reading read =
+      subst (λ definitions. IsRead options lexemes definitions room from until reading) holds.definitions read
 
   -- a configuration is taken
   pub configured : (name value : ℕ) (fill : Bool) → config_fault (nth_lexeme lexemes name) (nth_lexeme lexemes value) ≡ None
@@ -79,6 +46,7 @@ module _ (options : Options) (lexemes : List Lexeme) (known : Known) (state : St
         acts = known.acts;
         size = known.size;
         nesting = known.nesting;
+        tags = known.tags;
       })
   configured name value fill none is = record {
     checked = sym none;
@@ -93,7 +61,9 @@ module _ (options : Options) (lexemes : List Lexeme) (known : Known) (state : St
       nesting = holds.nesting;
       usual = holds.usual;
       default = holds.default;
+      tags = holds.tags;
       rules = holds.rules;
+      names = holds.names;
       sound = holds.sound;
       within = holds.within;
       few = holds.few;
@@ -115,42 +85,37 @@ module _ (options : Options) (lexemes : List Lexeme) (known : Known) (state : St
 
   -- so is one whose expression is refused
   pub define_refused : (name from until : ℕ) (stopped : Stop) → definition_of state.definitions (nth_lexeme lexemes name).text ≡ None
-      → IsPart (sorts_at lexemes) alt from until → StopsIn from until stopped
+      → StopsAt (ExpressionChecks options lexemes (definitions_view known.env.definitions) from until) stopped
       → StopsAt (ItemChecks options lexemes state (Define name from until)) stopped
-  define_refused name from until stop.Memory none part is = tt
-  define_refused name from until (stop.Fault fault) none part goes = inl (once name none, expression_refused from until fault part goes)
-
-  -- what is kept of an expression is what is defined
-  defined-view : (name : List ℕ) (at : Pos) (given : Kept) (meaning : Meaning) → given.at ≡ at → given.size ≡ kept meaning.size
-      → given.nesting ≡ kept meaning.nesting → meaning.tags ≡ [] → option_map (term_of 0) given.expr ≡ kept_term meaning
-      → definition_view name given ≡ defined name at meaning
-  defined-view name at given meaning at_is size nesting tags term = rw (at_is, size, nesting, tags, term) refl
+  define_refused name from until stop.Memory none stops = tt
+  define_refused name from until (stop.Fault fault) none stops =
+      inl (once name none, subst (λ definitions. ExpressionChecks options lexemes definitions from until (Some fault)) holds.definitions stops)
 
   -- a definition is taken
   pub define_taken :
-      (name from until : ℕ) (after : Known) (given : Kept) (meaning : Meaning) → definition_of state.definitions (nth_lexeme lexemes name).text ≡ None
-      → IsPart (sorts_at lexemes) alt from until → GoesIn from until (Ok meaning)
-      → (given.at ≡ (nth_lexeme lexemes name).at) × (given.size ≡ kept meaning.size) × (given.nesting ≡ kept meaning.nesting) × (meaning.tags ≡ [])
-      × (option_map (term_of 0) given.expr ≡ kept_term meaning)
+      (name from until : ℕ) (after : Known) (given : Kept) (reading : Reading) → definition_of state.definitions (nth_lexeme lexemes name).text ≡ None
+      → (read : IsRead options lexemes state.definitions whole_room from until reading)
+      → IsDefined (nth_lexeme lexemes name).text (nth_lexeme lexemes name).at read.meaning (definition_view (nth_lexeme lexemes name).text given)
       → definitions_view after.env.definitions ≡ definitions_view known.env.definitions ++ definition_view (nth_lexeme lexemes name).text given ∷ []
       → IsSound after.env → after.env.fill ≡ known.env.fill → after.rules ≡ known.rules → after.default ≡ known.default → after.acts ≡ known.acts
-      → after.size ≡ known.size → after.nesting ≡ known.nesting → IsTaken options lexemes state (Define name from until) after
-  define_taken name from until after given meaning none part goes means added sound fill rules default acts size nesting = record {
-    checked = inl (once name none, expression_checked from until meaning part goes);
+      → after.size ≡ known.size → after.nesting ≡ known.nesting → after.tags ≡ known.tags
+      → IsTaken options lexemes state (Define name from until) after
+  define_taken name from until after given reading none read defined added sound fill rules default acts size nesting tags = record {
+    checked = inl (once name none, read_checked options lexemes state.definitions whole_room from until reading read);
     next = record { definitions = state.definitions ++ new ∷ []; fill = state.fill; rules = state.rules };
-    is_after = (read.form, meaning, read.stands, (read.taken meaning (goes_same from until (Ok meaning) goes)).1, refl);
+    is_after = (read.form, read.meaning, new, read.stands_there, read.means, defined, refl);
     holds = record {
       without_conds = holds.without_conds;
-      definitions =
-          added ∙ ap (λ l. l ++ definition_view (nth_lexeme lexemes name).text given ∷ []) holds.definitions
-          ∙ ap (λ d. state.definitions ++ d ∷ []) (defined-view (nth_lexeme lexemes name).text (nth_lexeme lexemes name).at given meaning means.0 means.1 means.2 means.3 means.4);
+      definitions = added ∙ ap (λ definitions. definitions ++ new ∷ []) holds.definitions;
       fill = fill ∙ holds.fill;
       acts = ap (λ (l : Vec Act Global). l.items) acts ∙ holds.acts;
       size = size ∙ holds.size;
       nesting = nesting ∙ holds.nesting;
       usual = holds.usual;
       default = subst (λ d. HoldsDefault d (of_kind is_default state.rules)) (sym default) holds.default;
-      rules = λ is. ap (λ (l : Vec regex_rules.Rule Global). map regex.pattern_of l.items) rules ∙ holds.rules is;
+      tags = ap (λ (l : Vec (List ℕ) Global). l.items) tags ∙ holds.tags;
+      rules = λ fit. ap (λ (l : Vec regex_rules.Rule Global). map regex.pattern_of l.items) rules ∙ holds.rules fit;
+      names = λ fit. ap (λ (l : Vec regex_rules.Rule Global). map given_names l.items) rules ∙ holds.names fit;
       sound = sound;
       within = rw (rules, default, size) holds.within;
       few = rw (rules, default, size) holds.few;
@@ -160,12 +125,5 @@ module _ (options : Options) (lexemes : List Lexeme) (known : Known) (state : St
     };
   }
     where
-      read : IsExpressionRead options state.definitions lexemes from until
-      read = read_part from until part
-
       new : Definition
-      new = defined (nth_lexeme lexemes name).text (nth_lexeme lexemes name).at meaning
-
-pub FitsSize-of : (expr : Option Expr) (size : ℕ) → IfSome expr (λ e. size_of e ≤ size) → 1 ≤ size → FitsSize expr size
-FitsSize-of None size within some = some
-FitsSize-of (Some expr) size within some = (some, within)
+      new = definition_view (nth_lexeme lexemes name).text given

@@ -1,12 +1,16 @@
 pub mod DefinitionLists
 pub mod PointSets
-pub mod Readings
 pub mod MemberCopies
+pub mod ClassUnions
 pub mod ClassForms
+pub mod StepOrder
+pub mod TermTags
+pub mod LeafContents
 pub mod LeafSteps
+pub mod TagNames
+pub mod FormReading
 pub mod ExpressionSteps
 pub mod FormRuns
-pub mod FormReading
 pub mod OneForm
 pub mod ExpressionRanges
 pub mod ItemSteps
@@ -16,3 +20,8 @@ pub mod RuleItems
 pub mod BlockSteps
 pub mod FinishingSteps
 pub mod ItemRuns
+pub mod PlainForms
+pub mod StepMarks
+pub mod OperandValues
+pub mod ValueContents
+pub mod ValueLimits

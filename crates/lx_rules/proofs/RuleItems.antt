@@ -10,20 +10,17 @@ use Rattle.lx_token.specs.declared.list.Token.{Token}
 use Rattle.lx_rules.specs.declared.heads.Head.{Head}
 use Rattle.lx_rules.specs.declared.heads.Head.TheVariants as head
 use Rattle.lx_rules.specs.declared.items.Known.{Known}
+use Rattle.lx_rules.specs.declared.values.Room.{Room}
 use Rattle.lx_rules.specs.Lexemes.{Lexeme, nth_lexeme, lexemes_of}
 use Rattle.lx_rules.specs.Environments.{Meaning}
 use Rattle.lx_rules.specs.Items.{RuleOf, State, ListChecks, act_of, unless}
 use Rattle.lx_rules.specs.Keeping.{Holds, IsFresh, IsHeadOf, IsHeadRead, IsNew, IsSoundHead, IsTaken, room_behind, with_rule}
 use Rattle.lx_rules.specs.Soundness.{IsShort}
 
--- a head that was read is not `$`, and has no tags
-head_no_end : (room : ℕ) (sort : Kind) (meaning : Meaning) (read : Head) → IsHeadOf room sort meaning read → sort ≡ kind.Eof → ⊥
+-- a head that was read is not `$`
+head_no_end : (room : Room) (sort : Kind) (meaning : Meaning) (read : Head) → IsHeadOf room sort meaning read → sort ≡ kind.Eof → ⊥
 head_no_end room sort meaning head.Default is same = let h : kind.Default ≡ kind.Eof = sym is.0 ∙ same in cc
 head_no_end room sort meaning (head.Plain reading) is same = let h : kind.Plain ≡ kind.Eof = sym is.0 ∙ same in cc
-
-head_no_tags : (room : ℕ) (sort : Kind) (meaning : Meaning) (read : Head) → IsHeadOf room sort meaning read → meaning.tags ≡ []
-head_no_tags room sort meaning head.Default is = ap (λ (m : Meaning). m.tags) is.1
-head_no_tags room sort meaning (head.Plain reading) is = is.1.no_tags
 
 -- the text of a token is no longer than the body
 text_short : (body : List ℕ) (tokens : List Token) (place : ℕ) → length (nth_lexeme (lexemes_of body tokens) place).text ≤ length body
@@ -49,7 +46,7 @@ module _ (options : Options) (body : List ℕ) (tokens : List Token) (known : Kn
   lexemes = lexemes_of body tokens
 
   module _ (from : ℕ) (slash : Option ℕ) (until : ℕ) (code : Option ℕ) (read : Head)
-      (heads : IsHeadRead options lexemes state from slash until (room_behind known.size known.nesting) read) where
+      (heads : IsHeadRead options lexemes state from slash until (room_behind known.size known.nesting (length known.tags.items)) read) where
     -- the rule that is taken
     abbrev pub taken : RuleOf
     taken = record {
@@ -70,9 +67,8 @@ module _ (options : Options) (body : List ℕ) (tokens : List Token) (known : Kn
       without_conds = unconditional;
       usual = record {
         conds = refl;
-        no_end = head_no_end (room_behind known.size known.nesting) heads.1.0 heads.1.1 read heads.1.3;
+        no_end = head_no_end (room_behind known.size known.nesting (length known.tags.items)) heads.1.0 heads.1.1 read heads.1.3;
         no_target = act_stays options lexemes (suc (length state.rules)) code;
-        no_tags = head_no_tags (room_behind known.size known.nesting) heads.1.0 heads.1.1 read heads.1.3;
       };
       at_is = refl;
       act_is = refl;

@@ -1,8 +1,7 @@
 -- What is known behind a rule.
-use Rattle.std.proofs.Common.{◌≡◌, ℕ, ◌+◌, ◌≤◌, ◌<◌, ◌^◌, inl, inr, Bool, true, false, not, List, [], ◌∷◌, ◌++◌, map, min, max, length, All, Option, None, Some, Vec, Global, refl, sym, ap, ap₂, ◌∙◌, subst, arith, length-append, append-nil}
+use Rattle.std.proofs.Common.{◌≡◌, ℕ, ◌+◌, ◌-◌, ◌≤◌, ◌<◌, ◌^◌, inl, inr, Bool, true, false, not, List, [], ◌∷◌, ◌++◌, map, min, max, length, All, Option, None, Some, Vec, Global, refl, sym, ap, ap₂, ◌∙◌, subst, arith, length-append, append-nil, append_assoc}
 use Rattle.std.specs.Prelude.{if◌then◌else◌}
 use Rattle.std.specs.List.{AllByRecursion}
-use Rattle.std.specs.Option.{option_map}
 use Rattle.std.proofs.lemmas.List.{map-append}
 use Rattle.std.proofs.lemmas.List.Elements.{All-append}
 use Rattle.lx_base.specs.declared.places.Pos.{Pos}
@@ -11,22 +10,20 @@ use Rattle.lx_regex.specs.Pattern as regex
 use Rattle.lx_regex.specs.declared.rules.Rule.{Rule}
 use Rattle.lx_regex.specs.declared.rules.Kind.{Kind}
 use Rattle.lx_regex.specs.declared.rules.Kind.TheVariants as kind
-use Rattle.lx_rules.specs.declared.resolved.Act.{Act}
-use Rattle.lx_rules.specs.declared.items.Known.{Known}
-use Rattle.lx_rules.specs.declared.items.DefaultRule.{DefaultRule}
-use Rattle.lx_rules.specs.declared.heads.Head.TheVariants as head
-use Rattle.lx_regex.specs.declared.expr.Expr.{Expr}
 use Rattle.lx_rules.specs.declared.environment.Env.{Env}
-use Rattle.lx_rules.specs.declared.reading.Reading.{Reading}
-use Rattle.lx_rules.specs.Environments.{Meaning, built_term, fits, is_built, joined_term, kept}
+use Rattle.lx_rules.specs.declared.expressions.Reading.{Reading}
+use Rattle.lx_rules.specs.declared.heads.Head.TheVariants as head
+use Rattle.lx_rules.specs.declared.items.DefaultRule.{DefaultRule}
+use Rattle.lx_rules.specs.declared.items.Known.{Known}
+use Rattle.lx_rules.specs.declared.resolved.Act.{Act}
+use Rattle.lx_rules.specs.declared.values.Room.{Room}
+use Rattle.lx_rules.specs.Environments.{Meaning, fits, is_built, kept, term_of_meaning, whole_room}
 use Rattle.lx_rules.specs.Items.{RuleOf, State, any_meaning, is_default}
-use Rattle.lx_rules.specs.Blocks.{of_kind, not_of_kind, pattern_of, size_of, nesting_of}
-use Rattle.lx_rules.specs.Keeping.{Holds, HoldsDefault, DefaultWithin, AddsPlain, IsNew, IsUsual, default_count, default_pattern, plain_pattern, room_behind, with_rule}
-use Rattle.lx_rules.specs.Content.{IsReading}
+use Rattle.lx_rules.specs.Blocks.{given_names, of_kind, not_of_kind, pattern_of, size_of, nesting_of}
+use Rattle.lx_rules.specs.Keeping.{Holds, HoldsDefault, DefaultWithin, AddsPlain, IsNew, IsReadAs, IsUsual, default_count, default_pattern, names_of, plain_pattern, room_behind, with_rule}
 use Rattle.lx_rules.specs.Soundness.{IsShort, IsSound, rules_size}
 use Rattle.lx_rules.specs.Seen.{definitions_view}
 use Rattle.lx_rules.proofs.DefinitionLists.{All-one}
-use Rattle.lx_rules.proofs.Readings.{fits_within}
 
 -- one rule more
 of_kind-snoc : (test : Kind → Bool) (rules : List RuleOf) (rule : RuleOf) (is : Bool) → test rule.kind ≡ is
@@ -48,6 +45,11 @@ nesting_of-snoc : (rules : List RuleOf) (rule : RuleOf) → nesting_of (rules ++
 nesting_of-snoc [] rule = omega arith
 nesting_of-snoc (first ∷ rules) rule = let later = nesting_of-snoc rules rule in omega (arith, later)
 
+names_of-snoc : (rules : List RuleOf) (rule : RuleOf) → names_of (rules ++ rule ∷ []) ≡ names_of rules ++ rule.meaning.tags
+names_of-snoc [] rule = append-nil rule.meaning.tags
+names_of-snoc (first ∷ rules) rule =
+    ap (λ l. first.meaning.tags ++ l) (names_of-snoc rules rule) ∙ sym (append_assoc first.meaning.tags (names_of rules) rule.meaning.tags)
+
 pub rules_size-snoc : (rules : List Rule) (rule : Rule) → rules_size (rules ++ rule ∷ []) ≡ rules_size rules + regex_size.size_of rule.expr
 rules_size-snoc [] rule = omega arith
 rules_size-snoc (first ∷ rules) rule = let later = rules_size-snoc rules rule in omega (arith, later)
@@ -56,35 +58,47 @@ usual-snoc : (rules : List RuleOf) (rule : RuleOf) → AllByRecursion IsUsual ru
 usual-snoc [] rule usual is = (is, tt)
 usual-snoc (first ∷ rules) rule usual is = (usual.0, usual-snoc rules rule usual.1 is)
 
--- a rule that fits behind others is built
-fits_room : (size more nesting other : ℕ) → fits 4096 (size + more) (max nesting other) ≡ true
-    → fits (room_behind (kept size) (kept nesting)) more other ≡ true
-fits_room size more nesting other e = search arith
+-- what is within a room, number by number
+within_room : (room : Room) (size nesting count : ℕ) → fits room size nesting count ≡ true → (size ≤ room.size) × (nesting ≤ 256) × (count ≤ room.tags)
+within_room room size nesting count e = search arith
 
--- what is built is small, with what stood before
-built_small : (before deep size nesting : ℕ) → fits (room_behind before deep) size nesting ≡ true → (size ≤ 4096) × (1 ≤ size → before + size ≤ 4096)
-built_small before deep size nesting e = (search arith, λ some. search (arith, some))
+fits_so : (room : Room) (size nesting count : ℕ) → size ≤ room.size → nesting ≤ 256 → count ≤ room.tags → fits room size nesting count ≡ true
+fits_so room size nesting count a b c = search (arith, a, b, c)
 
--- what is built of an expression tells whether it is built
-pub adds_built : (room number : ℕ) (reading : Reading) (expr : Option Expr) (before after : List Rule) (rule : Rule)
-    → ((meaning : Meaning) → IsReading room meaning reading → option_map (regex_size.term_of 0) expr ≡ built_term room meaning)
-    → (built : Expr) → expr ≡ Some built → after ≡ before ++ rule ∷ [] → rule.number ≡ number → regex_size.size_of rule.expr ≤ reading.size
-    → regex.pattern_of rule ≡ plain_pattern number (regex_size.term_of 0 built) → AddsPlain room number reading before after
-adds_built room number reading expr before after rule terms built is added numbered size pattern =
+-- behind rules within the limits there is what they leave
+room_left : (size nesting tags : ℕ) → nesting ≤ 256 → tags ≤ 128 → (room_behind size nesting tags).size ≡ 4096 - size
+room_left size nesting tags a b = search (arith, a, b)
+
+-- what fits with more fits without it, and what comes behind it has room
+fits_front : (size more nesting other count own : ℕ) → fits whole_room (size + more) (max nesting other) (count + own) ≡ true
+    → fits whole_room size nesting count ≡ true
+fits_front size more nesting other count own e =
+    let all = within_room whole_room (size + more) (max nesting other) (count + own) e in
+    let a = all.0 in let b = all.1 in let c = all.2 in
+    fits_so whole_room size nesting count (omega (arith, a)) (omega (arith, b)) (omega (arith, c))
+
+fits_back : (size more nesting other count own : ℕ) → fits whole_room (size + more) (max nesting other) (count + own) ≡ true
+    → fits (room_behind (kept size) (kept nesting) count) more other own ≡ true
+fits_back size more nesting other count own e =
+    let all = within_room whole_room (size + more) (max nesting other) (count + own) e in
+    let a = all.0 in let b = all.1 in let c = all.2 in
+    let left = room_left (kept size) (kept nesting) count (omega (arith, b)) (omega (arith, c)) in
+    fits_so (room_behind (kept size) (kept nesting) count) more other own (omega (arith, a, left)) (omega (arith, b)) (omega (arith, c))
+
+-- a rule with the term, the names and the size of what was read is added
+pub adds_built : (room : Room) (number : ℕ) (reading : Reading) (before after : List Rule) (rule : Rule)
+    → after ≡ before ++ rule ∷ [] → rule.number ≡ number → regex_size.size_of rule.expr ≤ reading.value.size
+    → given_names rule ≡ reading.tags.items
+    → ((meaning : Meaning) → IsReadAs room meaning reading → regex.pattern_of rule ≡ plain_pattern number (term_of_meaning meaning) reading.tags.items)
+    → AddsPlain room number reading before after
+adds_built room number reading before after rule added numbered size named pattern =
     inr (
       rule,
       added,
       numbered,
       size,
-      λ meaning read.
-          let both = of (is_built room meaning) meaning (sym (ap (option_map (regex_size.term_of 0)) is) ∙ terms meaning read) in
-          (both.0, pattern ∙ ap (plain_pattern number) both.1),
+      λ meaning read. (named ∙ read.tags, pattern meaning read ∙ ap (plain_pattern number (term_of_meaning meaning)) read.tags),
     )
-  where
-    of : (b : Bool) (meaning : Meaning) → Some (regex_size.term_of 0 built) ≡ (if b then Some (joined_term meaning.terms) else None)
-        → (b ≡ true) × (regex_size.term_of 0 built ≡ joined_term meaning.terms)
-    of true meaning e = (refl, cc)
-    of false meaning e = let h : Some (regex_size.term_of 0 built) ≡ None = e in cc
 
 module _ (conds : Bool) (known after : Known) (state : State) (rule : RuleOf) (holds : Holds conds known state) where
   numbers_more : (rules : List Rule) (acts more : ℕ) → acts ≤ more → All (λ (r : Rule). (0 < r.number) × (r.number ≤ acts)) rules
@@ -95,24 +109,36 @@ module _ (conds : Bool) (known after : Known) (state : State) (rule : RuleOf) (h
   default_more None acts more le within = tt
   default_more (Some default) acts more le within = (within.0, omega (arith, le, within.1))
 
+  abbrev room : Room
+  room = room_behind known.size known.nesting (length known.tags.items)
+
+  -- all rules fit
+  abbrev AllFit : Type 0
+  AllFit = fits whole_room (size_of (state.rules ++ rule ∷ [])) (nesting_of (state.rules ++ rule ∷ [])) (length (names_of (state.rules ++ rule ∷ []))) ≡ true
+
+  abbrev Adds : Reading → Type 0
+  Adds reading = AddsPlain room rule.act.number reading known.rules.items after.rules.items
+
   -- a rule of an expression is added
   pub holds_plain :
       (at : Pos) (reading : Reading) → IsNew conds known (head.Plain reading) at rule.act rule → after.env ≡ known.env → after.default ≡ known.default
-      → after.acts.items ≡ known.acts.items ++ rule.act ∷ [] → after.size ≡ min (2 ^ 40) (known.size + reading.size)
-      → after.nesting ≡ max known.nesting reading.nesting
-      → AddsPlain (room_behind known.size known.nesting) rule.act.number reading known.rules.items after.rules.items → Holds conds after (with_rule state rule)
-  holds_plain at reading is env default acts size nesting adds = record {
+      → after.acts.items ≡ known.acts.items ++ rule.act ∷ [] → after.size ≡ min (2 ^ 40) (known.size + reading.value.size)
+      → after.nesting ≡ max known.nesting reading.value.nesting → after.tags.items ≡ known.tags.items ++ reading.tags.items
+      → Adds reading → Holds conds after (with_rule state rule)
+  holds_plain at reading is env default acts size nesting tags adds = record {
     without_conds = λ yes. let h : true ≡ false = sym yes ∙ is.without_conds in cc;
     definitions = ap (λ (e : Env). definitions_view e.definitions) env ∙ holds.definitions;
     fill = ap (λ (e : Env). e.fill) env ∙ holds.fill;
     acts = acts ∙ ap (λ l. l ++ rule.act ∷ []) holds.acts ∙ sym (map-append (λ (r : RuleOf). r.act) state.rules (rule ∷ []));
-    size = size ∙ ap₂ (λ a b. min (2 ^ 40) (a + b)) holds.size read.size ∙ counted;
-    nesting = nesting ∙ ap₂ max holds.nesting read.nesting ∙ deep;
+    size = size ∙ ap₂ (λ a b. min (2 ^ 40) (a + b)) holds.size read.value.counted.size_is ∙ counted;
+    nesting = nesting ∙ ap₂ max holds.nesting read.value.counted.nesting_is ∙ deep;
     usual = usual-snoc state.rules rule holds.usual is.usual;
     default =
         subst (HoldsDefault after.default) (sym (of_kind-snoc is_default state.rules rule false plain ∙ append-nil (of_kind is_default state.rules)))
         (subst (λ d. HoldsDefault d (of_kind is_default state.rules)) (sym default) holds.default);
+    tags = tags ∙ ap₂ (λ a b. a ++ b) holds.tags read.tags ∙ sym (names_of-snoc state.rules rule);
     rules = λ fit. rules_of_all fit adds;
+    names = λ fit. names_of_all fit adds;
     sound = subst IsSound (sym env) holds.sound;
     within = λ small. (bounds small).0;
     few = λ small. (bounds small).1;
@@ -126,7 +152,7 @@ module _ (conds : Bool) (known after : Known) (state : State) (rule : RuleOf) (h
       plain_kind : rule.kind ≡ kind.Plain
       plain_kind = is.head_of.0
 
-      read : IsReading (room_behind known.size known.nesting) rule.meaning reading
+      read : IsReadAs room rule.meaning reading
       read = is.head_of.1
 
       plain : is_default rule.kind ≡ false
@@ -141,43 +167,46 @@ module _ (conds : Bool) (known after : Known) (state : State) (rule : RuleOf) (h
       more_acts : length known.acts.items ≤ length after.acts.items
       more_acts = omega (arith, ap length acts, length-append known.acts.items (rule.act ∷ []))
 
-      fit_parts : fits 4096 (size_of (state.rules ++ rule ∷ [])) (nesting_of (state.rules ++ rule ∷ [])) ≡ true
-          → fits 4096 (size_of state.rules + rule.meaning.size) (max (nesting_of state.rules) rule.meaning.nesting) ≡ true
-      fit_parts fit = ap₂ (fits 4096) (sym (size_of-snoc state.rules rule)) (sym (nesting_of-snoc state.rules rule)) ∙ fit
+      fit_parts : AllFit
+          → fits whole_room (size_of state.rules + rule.meaning.size) (max (nesting_of state.rules) rule.meaning.nesting) (length (names_of state.rules) + length rule.meaning.tags) ≡ true
+      fit_parts fit =
+          let sizes = size_of-snoc state.rules rule in let depths = nesting_of-snoc state.rules rule in
+          let counts = ap length (names_of-snoc state.rules rule) ∙ length-append (names_of state.rules) rule.meaning.tags in
+          rw (sym sizes, sym depths, sym counts) fit
 
-      fit_built : fits 4096 (size_of (state.rules ++ rule ∷ [])) (nesting_of (state.rules ++ rule ∷ [])) ≡ true
-          → is_built (room_behind known.size known.nesting) rule.meaning ≡ true
+      fit_front : AllFit → fits whole_room (size_of state.rules) (nesting_of state.rules) (length (names_of state.rules)) ≡ true
+      fit_front fit =
+          fits_front (size_of state.rules) rule.meaning.size (nesting_of state.rules) rule.meaning.nesting (length (names_of state.rules)) (length rule.meaning.tags)
+          (fit_parts fit)
+
+      fit_built : AllFit → is_built room rule.meaning ≡ true
       fit_built fit =
-          ap₂ (λ a b. is_built (room_behind a b) rule.meaning) holds.size holds.nesting
-          ∙ fits_room (size_of state.rules) rule.meaning.size (nesting_of state.rules) rule.meaning.nesting (fit_parts fit)
+          let sizes = holds.size in let depths = holds.nesting in let tagged = holds.tags in let count = read.count in
+          rw (sizes, depths, tagged, count)
+          (fits_back (size_of state.rules) rule.meaning.size (nesting_of state.rules) rule.meaning.nesting (length (names_of state.rules)) (length rule.meaning.tags)
+          (fit_parts fit))
 
-      bounds_of : AddsPlain (room_behind known.size known.nesting) rule.act.number reading known.rules.items after.rules.items
-          → after.size ≤ 4096
+      bounds_of : Adds reading → after.size ≤ 4096
           → (rules_size after.rules.items + default_count known.default ≤ after.size) × (length after.rules.items + default_count known.default ≤ after.size)
       bounds_of (inl same) low =
-          let c = holds.size in
-          let below : known.size ≤ 4096 = omega (arith, low, size, c) in
+          let below : known.size ≤ 4096 = omega (arith, low, size) in
           let a = holds.within below in let b = holds.few below in
-          rw (same.0) (omega (arith, a, b, c, size), omega (arith, a, b, c, size))
+          rw (same.0) (omega (arith, a, b, low, size), omega (arith, a, b, low, size))
       bounds_of (inr one) low =
-          let c = holds.size in
-          let below : known.size ≤ 4096 = omega (arith, low, size, c) in
+          let below : known.size ≤ 4096 = omega (arith, low, size) in
           let a = holds.within below in let b = holds.few below in
-          let small = built_small known.size known.nesting rule.meaning.size rule.meaning.nesting (one.4 rule.meaning read).0 in
-          let sized = read.size in
-          let some = is.sound.1 in
+          let some = is.sound.some in
           let least = one.3 in
           rw (one.1) (
-            omega (arith, a, size, small, sized, some, least, rules_size-snoc known.rules.items one.0),
-            omega (arith, b, size, small, sized, some, length-append known.rules.items (one.0 ∷ [])),
+            omega (arith, a, size, low, least, rules_size-snoc known.rules.items one.0),
+            omega (arith, b, size, low, some, length-append known.rules.items (one.0 ∷ [])),
           )
 
       bounds : after.size ≤ 4096
           → (rules_size after.rules.items + default_count after.default ≤ after.size) × (length after.rules.items + default_count after.default ≤ after.size)
       bounds low = rw (default) (bounds_of adds low)
 
-      numbers_of : AddsPlain (room_behind known.size known.nesting) rule.act.number reading known.rules.items after.rules.items
-          → All (λ (r : Rule). (0 < r.number) × (r.number ≤ length after.acts.items)) after.rules.items
+      numbers_of : Adds reading → All (λ (r : Rule). (0 < r.number) × (r.number ≤ length after.acts.items)) after.rules.items
       numbers_of (inl same) = rw (same.0) (numbers_more known.rules.items (length known.acts.items) (length after.acts.items) more_acts holds.numbers)
       numbers_of (inr one) =
           let numbered = one.2 in let acted = is.number in
@@ -188,28 +217,33 @@ module _ (conds : Bool) (known after : Known) (state : State) (rule : RuleOf) (h
           (All-one (λ (r : Rule). (0 < r.number) × (r.number ≤ length after.acts.items)) one.0
           (omega (arith, numbered, acted), omega (arith, numbered, acted, longer))))
 
-      rules_of_all : fits 4096 (size_of (state.rules ++ rule ∷ [])) (nesting_of (state.rules ++ rule ∷ [])) ≡ true
-          → AddsPlain (room_behind known.size known.nesting) rule.act.number reading known.rules.items after.rules.items
-          → map regex.pattern_of after.rules.items ≡ map pattern_of (not_of_kind is_default (state.rules ++ rule ∷ []))
-      rules_of_all fit (inl same) =
-          let built = fit_built fit in
-          let h : false ≡ true = sym (same.1 rule.meaning read) ∙ built in cc
+      snoc : not_of_kind is_default (state.rules ++ rule ∷ []) ≡ not_of_kind is_default state.rules ++ rule ∷ []
+      snoc = of_kind-snoc (λ k. not (is_default k)) state.rules rule true (ap not plain)
+
+      rules_of_all : AllFit → Adds reading → map regex.pattern_of after.rules.items ≡ map pattern_of (not_of_kind is_default (state.rules ++ rule ∷ []))
+      rules_of_all fit (inl same) = let h : false ≡ true = sym (same.1 rule.meaning read) ∙ fit_built fit in cc
       rules_of_all fit (inr one) =
-          let snoc = of_kind-snoc (λ k. not (is_default k)) state.rules rule true (ap not plain) in
-          let pattern : plain_pattern rule.act.number (joined_term rule.meaning.terms) ≡ pattern_of rule =
-          ap (λ k. record { number = rule.act.number; kind = k; term = joined_term rule.meaning.terms; many = []; slash = None; groups = 0 }) (sym plain_kind) in
+          let pattern : plain_pattern rule.act.number (term_of_meaning rule.meaning) rule.meaning.tags ≡ pattern_of rule =
+          ap (λ k. record { number = rule.act.number; kind = k; term = term_of_meaning rule.meaning; many = map (λ name. false) rule.meaning.tags; slash = None; groups = 0 }) (sym plain_kind) in
           ap (map regex.pattern_of) one.1 ∙ map-append regex.pattern_of known.rules.items (one.0 ∷ [])
-          ∙ ap₂ (λ a b. a ++ b ∷ []) (holds.rules (fits_within 4096 (size_of state.rules) rule.meaning.size (nesting_of state.rules) rule.meaning.nesting (fit_parts fit)))
-          ((one.4 rule.meaning read).1 ∙ pattern)
+          ∙ ap₂ (λ a b. a ++ b ∷ []) (holds.rules (fit_front fit)) ((one.4 rule.meaning read).1 ∙ pattern)
           ∙ sym (map-append pattern_of (not_of_kind is_default state.rules) (rule ∷ [])) ∙ ap (map pattern_of) (sym snoc)
+
+      names_of_all : AllFit → Adds reading → map given_names after.rules.items ≡ map (λ (r : RuleOf). r.meaning.tags) (not_of_kind is_default (state.rules ++ rule ∷ []))
+      names_of_all fit (inl same) = let h : false ≡ true = sym (same.1 rule.meaning read) ∙ fit_built fit in cc
+      names_of_all fit (inr one) =
+          ap (map given_names) one.1 ∙ map-append given_names known.rules.items (one.0 ∷ [])
+          ∙ ap₂ (λ a b. a ++ b ∷ []) (holds.names (fit_front fit)) (one.4 rule.meaning read).0
+          ∙ sym (map-append (λ (r : RuleOf). r.meaning.tags) (not_of_kind is_default state.rules) (rule ∷ []))
+          ∙ ap (map (λ (r : RuleOf). r.meaning.tags)) (sym snoc)
 
   -- the rule `*` is added
   pub holds_default :
       (at : Pos) → IsNew conds known head.Default at rule.act rule → after.env ≡ known.env
       → after.default ≡ Some (record { number = rule.act.number; at = at }) → after.rules ≡ known.rules
       → after.acts.items ≡ known.acts.items ++ rule.act ∷ [] → after.size ≡ min (2 ^ 40) (known.size + 1) → after.nesting ≡ known.nesting
-      → Holds conds after (with_rule state rule)
-  holds_default at is env default rules acts size nesting = record {
+      → after.tags ≡ known.tags → Holds conds after (with_rule state rule)
+  holds_default at is env default rules acts size nesting tags = record {
     without_conds = λ yes. let h : true ≡ false = sym yes ∙ is.without_conds in cc;
     definitions = ap (λ (e : Env). definitions_view e.definitions) env ∙ holds.definitions;
     fill = ap (λ (e : Env). e.fill) env ∙ holds.fill;
@@ -218,12 +252,12 @@ module _ (conds : Bool) (known after : Known) (state : State) (rule : RuleOf) (h
     nesting = nesting ∙ holds.nesting ∙ deep;
     usual = usual-snoc state.rules rule holds.usual is.usual;
     default = subst (λ d. HoldsDefault d (of_kind is_default (state.rules ++ rule ∷ []))) (sym default) (rule, only, is.at_is, pattern);
+    tags = ap (λ (l : Vec (List ℕ) Global). l.items) tags ∙ holds.tags ∙ same_names;
     rules = λ fit.
-        let parts = ap₂ (fits 4096) (sym (size_of-snoc state.rules rule)) (sym (nesting_of-snoc state.rules rule)) ∙ fit in
-        let snoc = of_kind-snoc (λ k. not (is_default k)) state.rules rule false (ap not is_star) in
-        ap (λ (l : Vec Rule Global). map regex.pattern_of l.items) rules
-        ∙ holds.rules (fits_within 4096 (size_of state.rules) rule.meaning.size (nesting_of state.rules) rule.meaning.nesting parts)
-        ∙ ap (map pattern_of) (sym (snoc ∙ append-nil (not_of_kind is_default state.rules)));
+        ap (λ (l : Vec Rule Global). map regex.pattern_of l.items) rules ∙ holds.rules (fit_front fit) ∙ ap (map pattern_of) (sym others);
+    names = λ fit.
+        ap (λ (l : Vec Rule Global). map given_names l.items) rules ∙ holds.names (fit_front fit)
+        ∙ ap (map (λ (r : RuleOf). r.meaning.tags)) (sym others);
     sound = subst IsSound (sym env) holds.sound;
     within = λ low.
         let h = holds.size in
@@ -273,6 +307,21 @@ module _ (conds : Bool) (known after : Known) (state : State) (rule : RuleOf) (h
 
       only : of_kind is_default (state.rules ++ rule ∷ []) ≡ rule ∷ []
       only = of_kind-snoc is_default state.rules rule true is_star ∙ ap (λ l. l ++ rule ∷ []) none
+
+      others : not_of_kind is_default (state.rules ++ rule ∷ []) ≡ not_of_kind is_default state.rules
+      others =
+          of_kind-snoc (λ k. not (is_default k)) state.rules rule false (ap not is_star) ∙ append-nil (not_of_kind is_default state.rules)
+
+      same_names : names_of state.rules ≡ names_of (state.rules ++ rule ∷ [])
+      same_names =
+          sym (names_of-snoc state.rules rule ∙ ap (λ (m : Meaning). names_of state.rules ++ m.tags) means ∙ append-nil (names_of state.rules))
+
+      fit_front : AllFit → fits whole_room (size_of state.rules) (nesting_of state.rules) (length (names_of state.rules)) ≡ true
+      fit_front fit =
+          let sizes = size_of-snoc state.rules rule in let depths = nesting_of-snoc state.rules rule in
+          let all = within_room whole_room (size_of (state.rules ++ rule ∷ [])) (nesting_of (state.rules ++ rule ∷ [])) (length (names_of (state.rules ++ rule ∷ []))) fit in
+          let a = all.0 in let b = all.1 in let c = all.2 in let counts = ap length same_names in
+          fits_so whole_room (size_of state.rules) (nesting_of state.rules) (length (names_of state.rules)) (omega (arith, a, sizes)) (omega (arith, b, depths)) (omega (arith, c, counts))
 
       pattern : pattern_of rule ≡ default_pattern rule.act.number
       pattern = rw (star, means) refl

@@ -12,10 +12,12 @@ use Rattle.lx_base.specs.Names.{Spellings, DoNotClash, IsTagName, usual_names}
 use Rattle.lx_parse.specs.declared.items.Item.{Item}
 use Rattle.lx_regex.specs.Pattern.{Pattern, patterns_of}
 use Rattle.lx_regex.specs.declared.rules.Kind.{Kind}
+use Rattle.lx_regex.specs.declared.rules.Rule.{Rule}
+use Rattle.lx_regex.specs.declared.rules.Tag.{Tag}
 use Rattle.lx_rules.specs.declared.resolved.Scanner.{Scanner}
 use Rattle.lx_rules.specs.declared.resolved.Resolved.{Resolved}
 use Rattle.lx_rules.specs.Lexemes.{Lexeme}
-use Rattle.lx_rules.specs.Environments.{Environment, joined_term, kept}
+use Rattle.lx_rules.specs.Environments.{Environment, kept, term_of_meaning}
 use Rattle.lx_rules.specs.Checks.{Check, Then, Finds, is_among}
 use Rattle.lx_rules.specs.Items.{RuleOf, State, first_state, Goes, is_default, is_end}
 
@@ -71,11 +73,15 @@ abbrev pub pattern_of : RuleOf → Pattern
 pattern_of rule = record {
   number = rule.act.number;
   kind = rule.kind;
-  term = joined_term rule.meaning.terms;
-  many = [];
+  term = term_of_meaning rule.meaning;
+  many = map (λ name. false) rule.meaning.tags;
   slash = None;
   groups = 0;
 }
+
+-- the names of the tags of a rule that is built
+abbrev pub given_names : Rule → List (List ℕ)
+given_names rule = map (λ (tag : Tag). tag.name) rule.tags
 
 -- a scanner of this condition, which has a name where conditions are in use
 abbrev pub cond_name : (named : Bool) → (cond : List ℕ) → Option (List ℕ)
@@ -86,6 +92,7 @@ cond_name false cond = None
 pub record IsScanner (named : Bool) (rules : List RuleOf) (cond : List ℕ) (scanner : Scanner) : Type 0 where
   pub name : scanner.cond ≡ cond_name named cond
   pub patterns : patterns_of scanner.set.rules ≡ map pattern_of (rules_of cond rules)
+  pub names : map given_names scanner.set.rules ≡ map (λ (rule : RuleOf). rule.meaning.tags) (rules_of cond rules)
 
 abbrev pub AreScanners : (named : Bool) → List RuleOf → (conds : List (List ℕ)) → List Scanner → Type 0
 AreScanners named rules [] [] = Unit {0}

@@ -16,9 +16,12 @@ use Rattle.lx_token.specs.declared.kinds.TokenKind.TheVariants as kind
 use Rattle.lx_token.specs.declared.classes.PointRange.{PointRange}
 use Rattle.lx_token.specs.Classes.{class_of}
 use Rattle.lx_token.specs.Numbers.{repeat_of}
+use Rattle.lx_token.specs.declared.numbers.Repeat.{Repeat}
+use Rattle.lx_parse.specs.declared.sorts.Sort.{Sort}
+use Rattle.lx_parse.specs.declared.sorts.Sort.TheVariants.{Star, Plus, Question}
 use Rattle.lx_class.specs.declared.ranges.Range.{Range}
 use Rattle.lx_encode.specs.Policy.{IsAfter, IsPoint}
-use Rattle.lx_rules.specs.Lexemes.{Lexeme, points_in}
+use Rattle.lx_rules.specs.Lexemes.{Lexeme, points_in, sort_at}
 use Rattle.lx_rules.specs.Points.{singles, points_fault}
 use Rattle.lx_regex.specs.Term.{IsInRanges}
 use Rattle.lx_rules.specs.Environments.{Definition, class_in, definition_of}
@@ -73,10 +76,19 @@ abbrev pub is_wrong : (least : ℕ) → (greatest : Option ℕ) → Bool
 is_wrong least None = nat_lt 4096 least
 is_wrong least (Some greatest) = nat_lt 4096 least || nat_lt 4096 greatest || nat_lt greatest least
 
-abbrev pub bounds_fault : TokenKind → Lexeme → Option Fault
-bounds_fault kind.Bounds lexeme =
-    let bounds = repeat_of lexeme.text in if is_wrong bounds.min bounds.max then Some (Bounds lexeme.at bounds.min bounds.max) else None
-bounds_fault kind lexeme = None
+-- how often a sign repeats what stands before it
+abbrev pub bounds_at : Sort → Lexeme → Repeat
+bounds_at Star lexeme = record { min = 0; max = None }
+bounds_at Plus lexeme = record { min = 1; max = None }
+bounds_at Question lexeme = record { min = 0; max = Some 1 }
+bounds_at sort lexeme = repeat_of lexeme.text
+
+abbrev pub bounds_of : Lexeme → Repeat
+bounds_of sign = bounds_at (sort_at sign) sign
+
+abbrev pub bounds_fault : Lexeme → Option Fault
+bounds_fault sign =
+    let bounds = bounds_of sign in if is_wrong bounds.min bounds.max then Some (Bounds sign.at bounds.min bounds.max) else None
 
 -- the tag's name, behind its mark
 abbrev pub tag_name : Lexeme → List ℕ
@@ -136,10 +148,18 @@ module _ (options : Options) (definitions : List Definition) where
   leaf_is_class kind.Name lexeme = is_some (defined_points (definition_of definitions lexeme.text))
   leaf_is_class kind lexeme = false
 
+  -- parentheses are a group of captures
+  abbrev pub are_groups : Bool
+  are_groups = options.captures || options.posix
+
+  -- groups of captures are not supported yet
+  abbrev pub group_fault : Lexeme → Option Fault
+  group_fault opening = if are_groups then waits opening else None
+
   -- a form that is a class; parentheses that are a group of captures are none
   abbrev pub is_class : Form → Bool
   is_class (leaf lexeme) = leaf_is_class lexeme.kind lexeme
-  is_class (group opening inner) = if options.captures || options.posix then false else is_class inner
+  is_class (group opening inner) = if are_groups then false else is_class inner
   is_class (repeated inner sign) = false
   is_class (sequence front back) = false
   is_class (difference left sign right) = true
@@ -150,7 +170,7 @@ module _ (options : Options) (definitions : List Definition) where
   AreClasses left right sign = Finds (if is_class left && is_class right then None else Some (NotClass sign.at))
 
   -- the tags of a form, in order; those of a name are its definition's
-  abbrev defined_tags : Option Definition → List (List ℕ)
+  abbrev pub defined_tags : Option Definition → List (List ℕ)
   defined_tags None = []
   defined_tags (Some definition) = definition.tags
 
@@ -181,7 +201,7 @@ module _ (options : Options) (definitions : List Definition) where
   abbrev pub LeafChecks : TokenKind → (is_operand : Bool) → (seen : List (List ℕ)) → Lexeme → Check
   LeafChecks kind.Str is_operand seen lexeme = PointsAre lexeme (singles (points_in lexeme))
   LeafChecks kind.Name is_operand seen lexeme = Finds (name_fault (definition_of definitions lexeme.text) lexeme seen)
-  LeafChecks kind.STag is_operand seen lexeme = Then (Finds (waits lexeme)) (Finds (tag_fault lexeme seen))
+  LeafChecks kind.STag is_operand seen lexeme = Finds (tag_fault lexeme seen)
   LeafChecks kind.MTag is_operand seen lexeme = Then (Finds (waits lexeme)) (Finds (tag_fault lexeme seen))
   LeafChecks kind.IStr is_operand seen lexeme = PointsAre lexeme (singles (points_in lexeme))
   LeafChecks kind.Class is_operand seen lexeme =
@@ -192,13 +212,12 @@ module _ (options : Options) (definitions : List Definition) where
   -- the checks of an expression, behind tags that were seen before
   abbrev pub Checks : (is_operand : Bool) → (seen : List (List ℕ)) → Form → Check
   Checks is_operand seen (leaf lexeme) = LeafChecks lexeme.kind is_operand seen lexeme
-  Checks is_operand seen (group opening inner) = Then (Finds (waits opening)) (Checks is_operand seen inner)
-  Checks is_operand seen (repeated inner sign) =
-      Then (Checks false seen inner) (Then (Finds (waits sign)) (Finds (bounds_fault sign.kind sign)))
+  Checks is_operand seen (group opening inner) = Then (Finds (group_fault opening)) (Checks is_operand seen inner)
+  Checks is_operand seen (repeated inner sign) = Then (Checks false seen inner) (Finds (bounds_fault sign))
   Checks is_operand seen (sequence front back) = Then (Checks false seen front) (Checks false (seen ++ tags_of front) back)
   Checks is_operand seen (difference left sign right) =
       Then (Checks true seen left)
       (Then (Checks true (seen ++ tags_of left) right)
       (Then (AreClasses left right sign) (IsFilled options.empty is_operand sign.at (HasPoint (difference left sign right)))))
   Checks is_operand seen (alternative left sign right) =
-      Then (Checks is_operand seen left) (Then (Finds (waits sign)) (Checks is_operand (seen ++ tags_of left) right))
+      Then (Checks is_operand seen left) (Checks is_operand (seen ++ tags_of left) right)

@@ -9,7 +9,7 @@ use Rattle.lx_rules.specs.declared.items.DefaultRule.{DefaultRule}
 use Rattle.lx_rules.specs.declared.resolved.Scanner.{Scanner}
 use Rattle.lx_rules.specs.declared.resolved.Resolved.{Resolved}
 use Rattle.lx_rules.specs.Items.{State}
-use Rattle.lx_rules.specs.Blocks.{BlockChecks, IsResolved}
+use Rattle.lx_rules.specs.Blocks.{BlockChecks, IsResolved, given_names}
 use Rattle.lx_rules.specs.Keeping.{default_pattern}
 use Rattle.lx_rules.specs.Seen.{environment_view}
 use Rattle.lx_rules.specs.Soundness.{IsFine, IsSound}
@@ -19,7 +19,7 @@ abbrev pub AddsDefault : Option DefaultRule → (rules all : List Rule) → Type
 AddsDefault None rules all = all ≡ rules
 AddsDefault (Some default) rules all =
     (rule : Rule) × (all ≡ rules ++ rule ∷ []) × (rule.number ≡ default.number) × (size_of rule.expr ≡ 1)
-    × (regex.pattern_of rule ≡ default_pattern default.number)
+    × (given_names rule ≡ []) × (regex.pattern_of rule ≡ default_pattern default.number)
 
 -- the one scanner of rules
 abbrev pub IsOneScanner : Option DefaultRule → (rules : List Rule) → List Scanner → Type 0

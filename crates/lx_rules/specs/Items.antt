@@ -17,7 +17,7 @@ use Rattle.lx_regex.specs.declared.rules.Kind.TheVariants as kind
 use Rattle.lx_rules.specs.declared.resolved.Act.{Act}
 use Rattle.lx_rules.specs.Lexemes.{Lexeme, nth_lexeme, sort_at}
 use Rattle.lx_rules.specs.Forms.{Form, IsForm}
-use Rattle.lx_rules.specs.Environments.{Definition, Meaning, Environment, defined, definition_of}
+use Rattle.lx_rules.specs.Environments.{Definition, Meaning, Environment, IsDefined, definition_of, one}
 use Rattle.lx_rules.specs.Meanings.{IsMeaning}
 use Rattle.lx_rules.specs.Configurations.{config_fault, switch_of}
 use Rattle.lx_rules.specs.Checks.{Check, Then, Finds, waits, Checks, is_among, tags_of}
@@ -44,7 +44,7 @@ first_state environment = record { definitions = environment.definitions; fill =
 
 -- what `*` means
 abbrev pub any_meaning : Meaning
-any_meaning = record { terms = any_unit ∷ []; size = 1; nesting = 0; tags = [] }
+any_meaning = record { shape = one any_unit; size = 1; nesting = 0; tags = []; count = 0 }
 
 -- the heads of rules: `*`, `$`, or an expression
 pub data HeadSort : Type 0 where
@@ -143,7 +143,7 @@ module _ (options : Options) (lexemes : List Lexeme) where
   IsHead definitions any head slash until sort meaning = (sort ≡ kind.Default) × (meaning ≡ any_meaning)
   IsHead definitions end head slash until sort meaning = ⊥
   IsHead definitions expression head None until sort meaning =
-      (sort ≡ kind.Plain) × ((form : Form) × IsExpression head until form × IsMeaning options definitions false form meaning)
+      (sort ≡ kind.Plain) × ((form : Form) × IsExpression head until form × IsMeaning options definitions false [] form meaning)
   IsHead definitions expression head (Some slash) until sort meaning = ⊥
 
   -- the action of a rule with this number: its target, its text with the braces, and the place of that or of `:=>`
@@ -161,9 +161,11 @@ module _ (options : Options) (lexemes : List Lexeme) where
   -- what is known behind one item more
   abbrev pub IsAfter : State → Item → State → Type 0
   IsAfter state (Define name from until) after =
-      (form : Form) × (meaning : Meaning) × IsExpression from until form × IsMeaning options state.definitions false form meaning
+      (form : Form) × (meaning : Meaning) × (definition : Definition) × IsExpression from until form
+      × IsMeaning options state.definitions false [] form meaning
+      × IsDefined (lexeme_at name).text (lexeme_at name).at meaning definition
       × (after ≡ record {
-        definitions = state.definitions ++ defined (lexeme_at name).text (lexeme_at name).at meaning ∷ [];
+        definitions = state.definitions ++ definition ∷ [];
         fill = state.fill;
         rules = state.rules;
       })

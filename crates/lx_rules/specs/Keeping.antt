@@ -1,5 +1,5 @@
 -- What the code knows behind some items of a block.
-use Rattle.std.specs.Prelude.{◌≡◌, ℕ, suc, ◌+◌, ◌-◌, ◌<◌, ◌≤◌, ◌⊎◌, nat_lt, length, All, Bool, true, false, if◌then◌else◌, List, [], ◌∷◌, ◌++◌, map, Option, Some, None, Err}
+use Rattle.std.specs.Prelude.{◌≡◌, ℕ, suc, ◌+◌, ◌-◌, ◌<◌, ◌≤◌, ◌⊎◌, nat_lt, ◌||◌, length, All, Bool, true, false, if◌then◌else◌, List, [], ◌∷◌, ◌++◌, map, Option, Some, None, Err}
 use Rattle.std.specs.List.{AllByRecursion}
 use Rattle.lx_base.specs.declared.faults.Stop.{Stop}
 use Rattle.lx_base.specs.declared.places.Pos.{Pos}
@@ -19,25 +19,48 @@ use Rattle.lx_rules.specs.declared.items.DefaultRule.{DefaultRule}
 use Rattle.lx_rules.specs.declared.heads.Head.{Head}
 use Rattle.lx_rules.specs.declared.heads.Head.TheVariants as head
 use Rattle.lx_rules.specs.Lexemes.{Lexeme, nth_lexeme, sort_at}
-use Rattle.lx_rules.specs.Environments.{Meaning, fits, is_built, joined_term, kept}
-use Rattle.lx_rules.specs.Checks.{StopsAt}
-use Rattle.lx_rules.specs.Items.{RuleOf, State, Goes, HeadChecks, head_sort, IsHead, ItemChecks, IsAfter, any_meaning, is_default}
-use Rattle.lx_rules.specs.Blocks.{of_kind, not_of_kind, pattern_of, size_of, nesting_of}
-use Rattle.lx_rules.specs.declared.reading.Reading.{Reading}
-use Rattle.lx_rules.specs.Content.{IsReading}
+use Rattle.lx_rules.specs.Environments.{Definition, Meaning, fits, is_built, kept, term_of_meaning, whole_room}
+use Rattle.lx_rules.specs.Checks.{Checks, StopsAt}
+use Rattle.lx_rules.specs.Forms.{Form}
+use Rattle.lx_rules.specs.Items.{RuleOf, State, Goes, HeadChecks, head_sort, IsHead, IsExpression, ItemChecks, IsAfter, any_meaning, is_default}
+use Rattle.lx_rules.specs.Meanings.{IsMeaning}
+use Rattle.lx_rules.specs.Blocks.{given_names, of_kind, not_of_kind, pattern_of, size_of, nesting_of}
+use Rattle.lx_rules.specs.declared.expressions.Reading.{Reading}
+use Rattle.lx_rules.specs.declared.values.Room.{Room}
+use Rattle.lx_rules.specs.Values.{IsHonest, IsValue}
 use Rattle.lx_rules.specs.Seen.{definitions_view}
-use Rattle.lx_rules.specs.Soundness.{IsHonest, IsSound, IsShort, rules_size}
+use Rattle.lx_rules.specs.Soundness.{IsSound, IsShort, rules_size}
 
--- the size that a rule may have behind rules of this size and nesting
-abbrev pub room_behind : (size nesting : ℕ) → ℕ
-room_behind size nesting = if nat_lt 256 nesting then 0 else 4096 - size
+-- what a rule may have behind rules of this size and nesting, and with so many tags
+abbrev pub room_behind : (size nesting tags : ℕ) → Room
+room_behind size nesting tags =
+    record { size = if nat_lt 256 nesting || nat_lt 128 tags then 0 else 4096 - size; tags = 128 - tags }
 
--- a rule of the kinds that are supported: it has the one condition without a name, no target and no tags, and is not `$`
+-- a rule of the kinds that are supported: it has the one condition without a name and no target, and is not `$`
 pub record IsUsual (rule : RuleOf) : Type 0 where
   pub conds : rule.conds ≡ [] ∷ []
   pub no_end : rule.kind ≡ kind.Eof → ⊥
   pub no_target : rule.act.goes ≡ None
-  pub no_tags : rule.meaning.tags ≡ []
+
+-- the names of all tags, rule by rule
+abbrev pub names_of : List RuleOf → List (List ℕ)
+names_of [] = []
+names_of (rule ∷ rules) = rule.meaning.tags ++ names_of rules
+
+-- what is read stands for a meaning, whose item has no tags but its own
+pub record IsReadAs (room : Room) (meaning : Meaning) (reading : Reading) : Type 0 where
+  pub value : IsValue room meaning reading.value
+  pub tags : reading.tags.items ≡ meaning.tags
+  pub count : meaning.count ≡ length meaning.tags
+
+-- an expression is read: its checks find nothing, and what is read stands for its meaning
+pub record IsRead (options : Options) (lexemes : List Lexeme) (definitions : List Definition) (room : Room) (from until : ℕ) (reading : Reading) : Type 0 where
+  pub form : Form
+  pub stands_there : IsExpression options lexemes from until form
+  pub checked : Checks options definitions false [] form None
+  pub meaning : Meaning
+  pub means : IsMeaning options definitions false [] form meaning
+  pub stands : IsReadAs room meaning reading
 
 -- the rule `*` with this number
 abbrev pub default_pattern : (number : ℕ) → Pattern
@@ -68,8 +91,11 @@ pub record Holds (conds : Bool) (known : Known) (state : State) : Type 0 where
   pub nesting : known.nesting ≡ kept (nesting_of state.rules)
   pub usual : AllByRecursion IsUsual state.rules
   pub default : HoldsDefault known.default (of_kind is_default state.rules)
-  pub rules : fits 4096 (size_of state.rules) (nesting_of state.rules) ≡ true
+  pub tags : known.tags.items ≡ names_of state.rules
+  pub rules : fits whole_room (size_of state.rules) (nesting_of state.rules) (length (names_of state.rules)) ≡ true
       → map regex.pattern_of known.rules.items ≡ map pattern_of (not_of_kind is_default state.rules)
+  pub names : fits whole_room (size_of state.rules) (nesting_of state.rules) (length (names_of state.rules)) ≡ true
+      → map given_names known.rules.items ≡ map (λ (rule : RuleOf). rule.meaning.tags) (not_of_kind is_default state.rules)
   pub sound : IsSound known.env
   pub within : known.size ≤ 4096 → rules_size known.rules.items + default_count known.default ≤ known.size
   pub few : known.size ≤ 4096 → length known.rules.items + default_count known.default ≤ known.size
@@ -78,9 +104,9 @@ pub record Holds (conds : Bool) (known : Known) (state : State) : Type 0 where
   pub short : All (λ (act : Act). IsShort act.code) known.acts.items
 
 -- the head that was read means this, and is of this kind
-abbrev pub IsHeadOf : (room : ℕ) → Kind → Meaning → Head → Type 0
+abbrev pub IsHeadOf : (room : Room) → Kind → Meaning → Head → Type 0
 IsHeadOf room sort meaning head.Default = (sort ≡ kind.Default) × (meaning ≡ any_meaning)
-IsHeadOf room sort meaning (head.Plain reading) = (sort ≡ kind.Plain) × IsReading room meaning reading
+IsHeadOf room sort meaning (head.Plain reading) = (sort ≡ kind.Plain) × IsReadAs room meaning reading
 
 -- an item is taken where its checks find nothing, and then it is known what is known behind it
 pub record IsTaken (options : Options) (lexemes : List Lexeme) (state : State) (item : Item) (after : Known) : Type 0 where
@@ -90,7 +116,7 @@ pub record IsTaken (options : Options) (lexemes : List Lexeme) (state : State) (
   pub holds : Holds options.conds after next
 
 -- the head of a rule is read: its checks find nothing, and this is what it means
-abbrev pub IsHeadRead : Options → List Lexeme → State → (head : ℕ) → (slash : Option ℕ) → (until room : ℕ) → Head → Type 0
+abbrev pub IsHeadRead : Options → List Lexeme → State → (head : ℕ) → (slash : Option ℕ) → (until : ℕ) → (room : Room) → Head → Type 0
 IsHeadRead options lexemes state head slash until room read =
     HeadChecks options lexemes state (head_sort (sort_at (nth_lexeme lexemes head))) ([] ∷ []) head slash until None
     × ((sort : Kind) × (meaning : Meaning)
@@ -106,26 +132,27 @@ abbrev pub IsFresh : Option DefaultRule → Head → Type 0
 IsFresh default head.Default = default ≡ None
 IsFresh default (head.Plain reading) = Unit {0}
 
--- an expression that was read has a size of 1 at least, and no less than its members have
+-- an expression that was read has the size and the tags of what is kept of it
 abbrev pub IsSoundHead : Head → Type 0
 IsSoundHead head.Default = Unit {0}
-IsSoundHead (head.Plain reading) = IsHonest reading × (1 ≤ reading.size)
+IsSoundHead (head.Plain reading) = IsHonest (length reading.tags.items) reading.value
 
 -- what is known behind one rule more
 abbrev pub with_rule : State → RuleOf → State
 with_rule state rule = record { definitions = state.definitions; fill = state.fill; rules = state.rules ++ rule ∷ [] }
 
--- a rule as a pattern, by the term of its expression
-abbrev pub plain_pattern : (number : ℕ) → Term → Pattern
-plain_pattern number term = record { number = number; kind = kind.Plain; term = term; many = []; slash = None; groups = 0 }
+-- a rule as a pattern, by the term of its expression and the names of its tags
+abbrev pub plain_pattern : (number : ℕ) → Term → (tags : List (List ℕ)) → Pattern
+plain_pattern number term tags =
+    record { number = number; kind = kind.Plain; term = term; many = map (λ name. false) tags; slash = None; groups = 0 }
 
--- the rule of an expression that was read is added, where it is built
-abbrev pub AddsPlain : (room number : ℕ) → Reading → (before after : List regex_rules.Rule) → Type 0
+-- the rule of an expression that was read is added, and left out only where it is not built
+abbrev pub AddsPlain : (room : Room) → (number : ℕ) → Reading → (before after : List regex_rules.Rule) → Type 0
 AddsPlain room number reading before after =
-    ((after ≡ before) × ((meaning : Meaning) → IsReading room meaning reading → is_built room meaning ≡ false))
-    ⊎ ((rule : regex_rules.Rule) × (after ≡ before ++ rule ∷ []) × (rule.number ≡ number) × (regex_size.size_of rule.expr ≤ reading.size)
-    × ((meaning : Meaning) → IsReading room meaning reading
-    → (is_built room meaning ≡ true) × (regex.pattern_of rule ≡ plain_pattern number (joined_term meaning.terms))))
+    ((after ≡ before) × ((meaning : Meaning) → IsReadAs room meaning reading → is_built room meaning ≡ false))
+    ⊎ ((rule : regex_rules.Rule) × (after ≡ before ++ rule ∷ []) × (rule.number ≡ number) × (regex_size.size_of rule.expr ≤ reading.value.size)
+    × ((meaning : Meaning) → IsReadAs room meaning reading
+    → (given_names rule ≡ meaning.tags) × (regex.pattern_of rule ≡ plain_pattern number (term_of_meaning meaning) meaning.tags)))
 
 -- a rule may be added whose head and action these are
 pub record IsNew (conds : Bool) (known : Known) (read : Head) (at : Pos) (act : Act) (rule : RuleOf) : Type 0 where
@@ -133,7 +160,7 @@ pub record IsNew (conds : Bool) (known : Known) (read : Head) (at : Pos) (act : 
   pub usual : IsUsual rule
   pub at_is : rule.at ≡ at
   pub act_is : rule.act ≡ act
-  pub head_of : IsHeadOf (room_behind known.size known.nesting) rule.kind rule.meaning read
+  pub head_of : IsHeadOf (room_behind known.size known.nesting (length known.tags.items)) rule.kind rule.meaning read
   pub fresh : IsFresh known.default read
   pub sound : IsSoundHead read
   pub number : act.number ≡ suc (length known.acts.items)

@@ -1,7 +1,6 @@
 pub mod Blocks
 pub mod Checks
 pub mod Configurations
-pub mod Content
 pub mod Environments
 pub mod Finishing
 pub mod Forms
@@ -13,3 +12,7 @@ pub mod Points
 pub mod Reading
 pub mod Seen
 pub mod Soundness
+pub mod StepRuns
+pub mod StepViews
+pub mod Steps
+pub mod Values

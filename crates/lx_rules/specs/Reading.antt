@@ -1,75 +1,46 @@
--- The reading of an expression token by token, as the supported forms allow it.
-use Rattle.std.specs.Prelude.{◌≡◌, ◌≢◌, ◌≤◌, ℕ, zero, suc, max, Bool, true, false, List, [], ◌∷◌, Option, Some, None, Result, Ok, Err, ◌&&◌, ◌||◌, is_some, if◌then◌else◌}
-use Rattle.std.specs.Option.{option_map}
+-- The reading of an expression, step by step.
+use Rattle.std.specs.Prelude.{◌≡◌, ◌≤◌, ℕ, suc, ◌-◌, max, Bool, List, [], ◌∷◌, ◌++◌, reverse, Some, None, Result, Ok, Err, ◌&&◌, is_some, if◌then◌else◌}
 use Rattle.lx_base.specs.declared.faults.Fault.{Fault}
-use Rattle.lx_base.specs.declared.faults.Fault.TheVariants.{NotClass, Unsupported}
+use Rattle.lx_base.specs.declared.faults.Fault.TheVariants.{NotClass}
 use Rattle.lx_base.specs.declared.faults.Stop.{Stop}
 use Rattle.lx_base.specs.declared.faults.Stop.TheVariants as stop
 use Rattle.lx_base.specs.declared.settings.Options.{Options}
-use Rattle.lx_parse.specs.declared.sorts.Sort.{Sort}
-use Rattle.lx_parse.specs.declared.sorts.Sort.TheVariants.{Backslash, Bar, Close}
-use Rattle.lx_parse.specs.Sorts.{is_atom}
-use Rattle.lx_regex.specs.Expr.{ranges_of}
-use Rattle.lx_rules.specs.declared.expressions.Expression.{Expression}
-use Rattle.lx_rules.specs.declared.expressions.Left.{Left}
-use Rattle.lx_rules.specs.declared.reading.Reading.{Reading}
-use Rattle.lx_rules.specs.Lexemes.{Lexeme, nth_lexeme, sort_at}
-use Rattle.lx_rules.specs.Content.{IsReading, is_nothing}
-use Rattle.lx_rules.specs.Environments.{Definition, Meaning, kept, meant_class}
-use Rattle.lx_rules.specs.Meanings.{IsClassMeaning, IsLeafMeaning, followed}
-use Rattle.lx_rules.specs.Checks.{Check, Then, Finds, IsFilled, IsIn, LeafChecks, StopsAt}
-use Rattle.lx_token.specs.declared.kinds.TokenKind.{TokenKind}
+use Rattle.lx_rules.specs.declared.expressions.Operands.{Operands as Held}
+use Rattle.lx_rules.specs.declared.values.Room.{Room}
+use Rattle.lx_rules.specs.declared.values.Value.{Value}
+use Rattle.lx_rules.specs.Lexemes.{Lexeme}
+use Rattle.lx_rules.specs.Environments.{Definition, Meaning, meant_class}
+use Rattle.lx_rules.specs.Meanings.{IsClassMeaning, IsLeafMeaning, alternated, enclosed, followed, repeated_by}
+use Rattle.lx_rules.specs.Checks.{Check, Then, Finds, IsFilled, IsIn, LeafChecks, bounds_fault, bounds_of, group_fault}
+use Rattle.lx_rules.specs.Steps.{Step, reads, opens, closes, repeats, joins, subtracts, chooses}
+use Rattle.lx_rules.specs.Values.{IsHonest, IsValue}
 
--- so many lexemes from a place on
-abbrev pub lexemes_from : List Lexeme → (from count : ℕ) → List Lexeme
-lexemes_from lexemes from zero = []
-lexemes_from lexemes from (suc count) = nth_lexeme lexemes from ∷ lexemes_from lexemes (suc from) count
+-- what is read before a step: meanings that are not yet put together, the last one first, and all tags so far
+pub record Operands : Type 0 where
+  pub meanings : List Meaning
+  pub seen : List (List ℕ)
 
--- the meaning of nothing
-abbrev pub nothing : Meaning
-nothing = record { terms = []; size = 0; nesting = 0; tags = [] }
+-- nothing is read
+abbrev pub no_operands : Operands
+no_operands = record { meanings = []; seen = [] }
 
--- what is read before a token: the left operand of a difference with its sign, and what stands behind that
-pub record Begun : Type 0 where
-  pub left : Option (Meaning × Lexeme)
-  pub current : Meaning
+-- one meaning more
+abbrev pub with_more : Operands → Meaning → Operands
+with_more operands meaning = record { meanings = meaning ∷ operands.meanings; seen = operands.seen ++ meaning.tags }
 
--- what stands in no difference so far
-abbrev pub alone : Meaning → Begun
-alone meaning = record { left = None; current = meaning }
+-- something else in the place of the last meaning
+abbrev pub with_last : (Meaning → Meaning) → List Meaning → List Meaning
+with_last change [] = []
+with_last change (last ∷ meanings) = change last ∷ meanings
 
--- one form more behind it
-abbrev pub behind : Begun → Meaning → Begun
-behind begun meaning = record { left = begun.left; current = followed begun.current meaning }
+-- one meaning in the place of the last two
+abbrev pub with_both : (Meaning → Meaning → Meaning) → List Meaning → List Meaning
+with_both put [] = []
+with_both put (last ∷ []) = last ∷ []
+with_both put (last ∷ other ∷ meanings) = put other last ∷ meanings
 
--- a sign that ends an operand
-abbrev pub ends_operand : Sort → Bool
-ends_operand Backslash = true
-ends_operand Bar = true
-ends_operand Close = true
-ends_operand sort = false
-
-abbrev pub is_backslash : Sort → Bool
-is_backslash Backslash = true
-is_backslash sort = false
-
--- the sort of the next token, if there is one
-abbrev pub next_sort : List Lexeme → Option Sort
-next_sort [] = None
-next_sort (lexeme ∷ lexemes) = Some (sort_at lexeme)
-
--- an operand ends before the next token; and that is the sign of a difference
-abbrev pub ends_before : Option Sort → Bool
-ends_before None = true
-ends_before (Some sort) = ends_operand sort
-
-abbrev pub is_left : Option Sort → Bool
-is_left None = false
-is_left (Some sort) = is_backslash sort
-
--- a token before this one is a whole operand of a difference
-abbrev pub is_operand : Begun → Option Sort → Bool
-is_operand begun next = is_nothing begun.current && (ends_before next && (is_some begun.left || is_left next))
+abbrev pub in_place : Operands → List Meaning → Operands
+in_place operands meanings = record { meanings = meanings; seen = operands.seen }
 
 module _ (options : Options) (definitions : List Definition) where
   -- the difference of two meanings: both are classes, and it has the points of the left one that the right one does not have
@@ -83,100 +54,117 @@ module _ (options : Options) (definitions : List Definition) where
 
   abbrev pub IsDifference : (is_operand : Bool) → (left right meaning : Meaning) → Type 0
   IsDifference is_operand left right meaning =
-      IsClassMeaning options definitions is_operand (max left.nesting right.nesting) (DifferenceHas left right) meaning
+      IsClassMeaning options definitions is_operand (max left.nesting right.nesting) (left.tags ++ right.tags) (max left.count right.count)
+      (DifferenceHas left right) meaning
 
-  -- The tokens are read in order: what all of them mean, or the first fault. A difference ends where its right operand does.
-  pub data Goes : Begun → List Lexeme → Result Meaning Fault → Type 0 where
-    ends : (begun : Begun) → begun.left ≡ None → Goes begun [] (Ok begun.current)
-    closed : (begun : Begun) (lexemes : List Lexeme) (result : Result Meaning Fault) (left meaning : Meaning) (sign : Lexeme)
-        → begun.left ≡ Some (left, sign) → ends_before (next_sort lexemes) ≡ true
-        → DifferenceChecks (is_left (next_sort lexemes)) left begun.current sign None
-        → IsDifference (is_left (next_sort lexemes)) left begun.current meaning
-        → Goes (alone meaning) lexemes result → Goes begun lexemes result
-    unclosed : (begun : Begun) (lexemes : List Lexeme) (fault : Fault) (left : Meaning) (sign : Lexeme)
-        → begun.left ≡ Some (left, sign) → ends_before (next_sort lexemes) ≡ true
-        → DifferenceChecks (is_left (next_sort lexemes)) left begun.current sign (Some fault) → Goes begun lexemes (Err fault)
-    signed : (begun : Begun) (sign : Lexeme) (lexemes : List Lexeme) (result : Result Meaning Fault)
-        → begun.left ≡ None → sort_at sign ≡ Backslash
-        → Goes (record { left = Some (begun.current, sign); current = nothing }) lexemes result → Goes begun (sign ∷ lexemes) result
-    read : (begun : Begun) (lexeme : Lexeme) (lexemes : List Lexeme) (result : Result Meaning Fault) (meaning : Meaning)
-        → is_atom (sort_at lexeme) ≡ true
-        → LeafChecks options definitions lexeme.kind (is_operand begun (next_sort lexemes)) [] lexeme None
-        → IsLeafMeaning options definitions (is_operand begun (next_sort lexemes)) lexeme.kind lexeme meaning
-        → Goes (behind begun meaning) lexemes result → Goes begun (lexeme ∷ lexemes) result
-    refused : (begun : Begun) (lexeme : Lexeme) (lexemes : List Lexeme) (fault : Fault) → is_atom (sort_at lexeme) ≡ true
-        → LeafChecks options definitions lexeme.kind (is_operand begun (next_sort lexemes)) [] lexeme (Some fault)
-        → Goes begun (lexeme ∷ lexemes) (Err fault)
-    waiting : (begun : Begun) (lexeme : Lexeme) (lexemes : List Lexeme) → is_atom (sort_at lexeme) ≡ false
-        → sort_at lexeme ≢ Backslash → (is_some begun.left && ends_operand (sort_at lexeme)) ≡ false
-        → Goes begun (lexeme ∷ lexemes) (Err (Unsupported (Some lexeme.at)))
+  -- the checks of the difference of the last two meanings
+  abbrev pub SubtractChecks : (is_operand : Bool) → List Meaning → (sign : Lexeme) → Check
+  SubtractChecks is_operand [] sign fault = ⊥
+  SubtractChecks is_operand (last ∷ []) sign fault = ⊥
+  SubtractChecks is_operand (last ∷ other ∷ meanings) sign fault = DifferenceChecks is_operand other last sign fault
 
-  -- a call that is to read the tokens stops with their fault, or where memory runs out
-  abbrev pub StopsReading : Begun → List Lexeme → Stop → Type 0
-  StopsReading begun lexemes stop.Memory = Unit {0}
-  StopsReading begun lexemes (stop.Fault fault) = Goes begun lexemes (Err fault)
+  -- the difference is put in their place
+  abbrev pub Subtracts : (is_operand : Bool) → List Meaning → List Meaning → Type 0
+  Subtracts is_operand [] after = ⊥
+  Subtracts is_operand (last ∷ []) after = ⊥
+  Subtracts is_operand (last ∷ other ∷ meanings) after =
+      (meaning : Meaning) × IsDifference is_operand other last meaning × (after ≡ meaning ∷ meanings)
 
--- the left operand of a difference: its class, where it is one, its nesting, and the place of the sign
-pub record IsLeft (meaning : Meaning) (sign : Lexeme) (left : Left) : Type 0 where
-  pub class : option_map ranges_of left.class ≡ meant_class meaning
-  pub nesting : left.nesting ≡ kept meaning.nesting
-  pub at : left.at ≡ sign.at
+  -- the checks of a step
+  abbrev pub StepChecks : Operands → Step → Check
+  StepChecks operands (reads is_operand lexeme) = LeafChecks options definitions lexeme.kind is_operand operands.seen lexeme
+  StepChecks operands (opens opening) = Finds (group_fault options definitions opening)
+  StepChecks operands (closes opening) = Finds None
+  StepChecks operands (repeats sign) = Finds (bounds_fault sign)
+  StepChecks operands joins = Finds None
+  StepChecks operands (subtracts is_operand sign) = SubtractChecks is_operand operands.meanings sign
+  StepChecks operands chooses = Finds None
 
-abbrev pub MatchesLeft : Option (Meaning × Lexeme) → Option Left → Type 0
-MatchesLeft None None = Unit {0}
-MatchesLeft None (Some left) = ⊥
-MatchesLeft (Some begun) None = ⊥
-MatchesLeft (Some begun) (Some left) = IsLeft begun.0 begun.1 left
+  -- what is read behind a step
+  abbrev pub IsStepped : Operands → Step → Operands → Type 0
+  IsStepped operands (reads is_operand lexeme) after =
+      (meaning : Meaning) × IsLeafMeaning options definitions is_operand lexeme.kind operands.seen lexeme meaning
+      × (after ≡ with_more operands meaning)
+  IsStepped operands (opens opening) after = after ≡ operands
+  IsStepped operands (closes opening) after = after ≡ in_place operands (with_last enclosed operands.meanings)
+  IsStepped operands (repeats sign) after =
+      after ≡ in_place operands (with_last (repeated_by (bounds_of sign)) operands.meanings)
+  IsStepped operands joins after = after ≡ in_place operands (with_both followed operands.meanings)
+  IsStepped operands (subtracts is_operand sign) after =
+      (meanings : List Meaning) × Subtracts is_operand operands.meanings meanings × (after ≡ in_place operands meanings)
+  IsStepped operands chooses after = after ≡ in_place operands (with_both alternated operands.meanings)
 
--- what is read of an expression stands for what was begun
-pub record IsBegun (room : ℕ) (begun : Begun) (expression : Expression) : Type 0 where
-  pub left : MatchesLeft begun.left expression.left
-  pub current : IsReading room begun.current expression.current
+  -- The steps are taken in order: what is read behind all of them, or the first fault.
+  pub data Goes : Operands → List Step → Result Operands Fault → Type 0 where
+    ends : {operands : Operands} → Goes operands [] (Ok operands)
+    refused : {operands : Operands} {step : Step} {steps : List Step} (fault : Fault) → StepChecks operands step (Some fault)
+        → Goes operands (step ∷ steps) (Err fault)
+    next : {operands : Operands} {step : Step} {steps : List Step} {result : Result Operands Fault} (after : Operands)
+        → StepChecks operands step None → IsStepped operands step after → Goes after steps result → Goes operands (step ∷ steps) result
 
--- A difference that was begun is done: each reading of tokens that end its right operand is one of what was begun. `operand` tells
--- whether the next token is the sign of a further difference.
-pub record Closes (options : Options) (definitions : List Definition) (room : ℕ) (operand : Bool) (begun : Begun) (expression : Expression) : Type 0 where
-  pub closed : Begun
-  pub stands : IsBegun room closed expression
-  pub whole : closed.left ≡ None
-  pub goes : (lexemes : List Lexeme) (result : Result Meaning Fault) → ends_before (next_sort lexemes) ≡ true
-      → is_left (next_sort lexemes) ≡ operand → Goes options definitions closed lexemes result → Goes options definitions begun lexemes result
+  -- a call that is to take the steps stops with their fault, or where memory runs out
+  abbrev pub StopsReading : Operands → List Step → Stop → Type 0
+  StopsReading operands steps stop.Memory = Unit {0}
+  StopsReading operands steps (stop.Fault fault) = Goes operands steps (Err fault)
 
--- or it has a fault
-abbrev pub StopsClosing : Options → List Definition → (operand : Bool) → Begun → Stop → Type 0
-StopsClosing options definitions operand begun stopped =
-    (lexemes : List Lexeme) → ends_before (next_sort lexemes) ≡ true → is_left (next_sort lexemes) ≡ operand
-    → StopsReading options definitions begun lexemes stopped
+-- so many meanings are needed for a step, and this many are there behind it
+abbrev pub Needs : Step → (depth : ℕ) → Type 0
+Needs (reads is_operand lexeme) depth = Unit {0}
+Needs (opens opening) depth = Unit {0}
+Needs (closes opening) depth = 1 ≤ depth
+Needs (repeats sign) depth = 1 ≤ depth
+Needs joins depth = 2 ≤ depth
+Needs (subtracts is_operand sign) depth = 2 ≤ depth
+Needs chooses depth = 2 ≤ depth
 
--- a token is read: each reading of what stands behind it is one of both
-pub record Advances (options : Options) (definitions : List Definition) (room : ℕ) (lexeme : Lexeme) (next : Option Sort) (begun : Begun) (expression : Expression) : Type 0 where
-  pub after : Begun
-  pub stands : IsBegun room after expression
-  pub goes : (lexemes : List Lexeme) (result : Result Meaning Fault) → next_sort lexemes ≡ next
-      → Goes options definitions after lexemes result → Goes options definitions begun (lexeme ∷ lexemes) result
+abbrev pub depth_behind : Step → (depth : ℕ) → ℕ
+depth_behind (reads is_operand lexeme) depth = suc depth
+depth_behind (opens opening) depth = depth
+depth_behind (closes opening) depth = depth
+depth_behind (repeats sign) depth = depth
+depth_behind joins depth = depth - 1
+depth_behind (subtracts is_operand sign) depth = depth - 1
+depth_behind chooses depth = depth - 1
 
--- or it has a fault
-abbrev pub StopsAdvance : Options → List Definition → Lexeme → (next : Option Sort) → Begun → Stop → Type 0
-StopsAdvance options definitions lexeme next begun stopped =
-    (lexemes : List Lexeme) → next_sort lexemes ≡ next → StopsReading options definitions begun (lexeme ∷ lexemes) stopped
+-- steps that need no more meanings than are there, and leave one
+abbrev pub AreInOrder : (depth : ℕ) → List Step → Type 0
+AreInOrder depth [] = depth ≡ 1
+AreInOrder depth (step ∷ steps) = Needs step depth × AreInOrder (depth_behind step depth) steps
 
--- what stands in no difference is not nothing
-abbrev pub IsSomeRead : Expression → Type 0
-IsSomeRead expression = expression.left ≡ None → 1 ≤ expression.current.size
+-- values stand for meanings one by one
+abbrev pub AreValues : Room → List Meaning → List Value → Type 0
+AreValues room [] [] = Unit {0}
+AreValues room [] (value ∷ values) = ⊥
+AreValues room (meaning ∷ meanings) [] = ⊥
+AreValues room (meaning ∷ meanings) (value ∷ values) = IsValue room meaning value × AreValues room meanings values
 
--- the tokens are read, and mean this
-pub record IsRead (options : Options) (definitions : List Definition) (lexemes : List Lexeme) (room : ℕ) (reading : Reading) : Type 0 where
+-- each value is honest
+abbrev pub AreHonest : (count : ℕ) → List Value → Type 0
+AreHonest count [] = Unit {0}
+AreHonest count (value ∷ values) = IsHonest count value × AreHonest count values
+
+-- what is held stands for what is read
+pub record AreOperands (room : Room) (operands : Operands) (held : Held) : Type 0 where
+  pub values : AreValues room operands.meanings (reverse held.values.items)
+  pub seen : held.seen.items ≡ operands.seen
+
+-- a step is taken: its checks find nothing, and what is held stands for what is read behind it
+pub record IsStepTaken (options : Options) (definitions : List Definition) (room : Room) (operands : Operands) (step : Step) (held : Held) : Type 0 where
+  pub checked : StepChecks options definitions operands step None
+  pub after : Operands
+  pub stepped : IsStepped options definitions operands step after
+  pub stands : AreOperands room after held
+
+-- the steps are taken, and what is held stands for what is read
+pub record AreTaken (options : Options) (definitions : List Definition) (room : Room) (operands : Operands) (steps : List Step) (held : Held) : Type 0 where
+  pub after : Operands
+  pub goes : Goes options definitions operands steps (Ok after)
+  pub stands : AreOperands room after held
+
+-- a token is read behind tags that were seen before
+pub record IsLeafRead (options : Options) (definitions : List Definition) (room : Room) (is_operand : Bool) (before : List (List ℕ)) (lexeme : Lexeme) (after : List (List ℕ)) (value : Value) : Type 0 where
+  pub checked : LeafChecks options definitions lexeme.kind is_operand before lexeme None
   pub meaning : Meaning
-  pub goes : Goes options definitions (alone nothing) lexemes (Ok meaning)
-  pub stands : IsReading room meaning reading
-
--- a token is read behind a meaning: its checks find nothing, and its own meaning stands behind that one
-pub record IsLeafRead (options : Options) (definitions : List Definition) (sort : TokenKind) (room : ℕ) (operand : Bool) (lexeme : Lexeme) (before : Meaning) (after : Reading) : Type 0 where
-  pub checked : LeafChecks options definitions sort operand [] lexeme None
-  pub meaning : Meaning
-  pub means : IsLeafMeaning options definitions operand sort lexeme meaning
-  pub stands : IsReading room (followed before meaning) after
-
--- or a call that is to read it stops with the fault that its checks find, or where memory runs out
-abbrev pub StopsLeaf : Options → List Definition → TokenKind → (operand : Bool) → Lexeme → Stop → Type 0
-StopsLeaf options definitions sort operand lexeme stopped = StopsAt (LeafChecks options definitions sort operand [] lexeme) stopped
+  pub means : IsLeafMeaning options definitions is_operand lexeme.kind before lexeme meaning
+  pub stands : IsValue room meaning value
+  pub seen : after ≡ before ++ meaning.tags

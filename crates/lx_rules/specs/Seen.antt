@@ -1,5 +1,5 @@
 -- What the definitions see of the code's values.
-use Rattle.std.specs.Prelude.{◌≡◌, ◌≤◌, ℕ, All, List, [], map, Option, Some}
+use Rattle.std.specs.Prelude.{◌≡◌, ◌≤◌, ℕ, All, List, map, Option, Some}
 use Rattle.std.specs.Option.{option_map}
 use Rattle.lx_base.specs.declared.faults.Fault.{Fault}
 use Rattle.lx_base.specs.declared.faults.Stop.{Stop}
@@ -30,7 +30,7 @@ definition_view name kept = record {
   at = kept.at;
   size = kept.size;
   nesting = kept.nesting;
-  tags = [];
+  tags = kept.tags;
   term = option_map (term_of 0) kept.expr;
 }
 

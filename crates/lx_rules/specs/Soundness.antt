@@ -1,32 +1,26 @@
 -- What holds of what blocks resolve to, whatever they say.
-use Rattle.std.specs.Prelude.{ℕ, ◌+◌, ◌<◌, ◌≤◌, ◌^◌, List, [], ◌∷◌, length, All, Option, Some, None}
-use Rattle.lx_regex.specs.Expr.{size_of}
+use Rattle.std.specs.Prelude.{ℕ, ◌+◌, ◌<◌, ◌≤◌, List, [], ◌∷◌, length, All, Option, Some, None}
+use Rattle.lx_regex.specs.Expr.{size_of, term_of}
 use Rattle.lx_regex.specs.declared.expr.Expr.{Expr}
 use Rattle.lx_regex.specs.declared.rules.Rule.{Rule}
 use Rattle.lx_rules.specs.declared.definitions.Definitions.{Definitions}
-use Rattle.lx_rules.specs.declared.reading.Reading.{Reading}
-use Rattle.lx_rules.specs.Content.{content_size}
+use Rattle.lx_rules.specs.Values.{HasTagsBelow}
 use Rattle.lx_rules.specs.declared.environment.Env.{Env}
 use Rattle.lx_rules.specs.declared.resolved.Act.{Act}
 use Rattle.lx_rules.specs.declared.resolved.Scanner.{Scanner}
 use Rattle.lx_rules.specs.declared.resolved.Resolved.{Resolved}
 
--- an expression that is kept has at most the size that is kept of it, which is at least 1
-abbrev pub FitsSize : Option Expr → (size : ℕ) → Type 0
-FitsSize None size = 1 ≤ size
-FitsSize (Some expr) size = (1 ≤ size) × (size_of expr ≤ size)
+-- an expression that is kept has at most the size that is kept of it, which is at least 1, and so many tags
+abbrev pub FitsKept : Option Expr → (size count : ℕ) → Type 0
+FitsKept None size count = 1 ≤ size
+FitsKept (Some expr) size count = (1 ≤ size) × (size_of expr ≤ size) × HasTagsBelow count (term_of 0 expr)
 
--- each definition's size is that of its expression
+-- each definition has the size and the tags of its expression
 abbrev pub AreSound : Definitions → Type 0
-AreSound definitions = All (λ entry. FitsSize entry.1.expr entry.1.size) definitions.by_name.entries
+AreSound definitions = All (λ entry. FitsKept entry.1.expr entry.1.size (length entry.1.tags)) definitions.by_name.entries
 
 abbrev pub IsSound : Env → Type 0
 IsSound env = AreSound env.definitions
-
--- what is read of an expression has at least the size of what is kept
-pub record IsHonest (reading : Reading) : Type 0 where
-  pub size : content_size reading.content ≤ reading.size
-  pub kept : reading.size ≤ 2 ^ 40
 
 -- the size of rules
 abbrev pub rules_size : List Rule → ℕ

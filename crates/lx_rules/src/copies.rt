@@ -1,45 +1,48 @@
 //! Copies of expressions.
-ghost use Rattle.std.specs.Prelude.{◌≡◌, ℕ, IfOk, map};
-ghost use Rattle.lx_regex.specs.Expr.{size_of, term_of};
+ghost use Rattle.std.specs.Prelude.{◌≡◌, ◌≤◌, ℕ, IfOk, map};
+ghost use Rattle.lx_regex.specs.Expr.{members_of, size_of, term_of};
+ghost use Rattle.lx_rules.specs.Meanings.{shifted};
+ghost use Rattle.lx_rules.specs.Values.{HasTagsBelow, HaveTagsBelow};
 
 use lx_base::Memory;
 use lx_regex::Expr;
 use std::alloc::Global;
 
-/// Expressions with the same terms, in the same order.
+/// Expressions with the same terms, in the same order, but for the numbers of their tags, which are so much greater.
 #[cycle(copy)]
-fn copy_members(alloc: Global, members: &[Expr]) -> Result<Vec<Expr>, Memory>
-    ensures terms { IfOk result (λ copies. (tags : ℕ) → map (term_of tags) copies.items ≡ map (term_of tags) members.now) }
+fn copy_members(alloc: Global, members: &[Expr], by: u32) -> Result<Vec<Expr>, Memory>
+    requires by { by ≤ 128 }
+    requires tags { HaveTagsBelow 128 (members_of (map (term_of 0) members.now)) }
+    ensures terms { IfOk result (λ copies. (tags : ℕ) → map (term_of tags) copies.items ≡ map (λ member. shifted by (term_of 0 member)) members.now) }
     ensures sizes { IfOk result (λ copies. map size_of copies.items ≡ map size_of members.now) }
 {
     let mut copies = Vec::new(alloc);
     for member in members {
-        copies.push(copy(alloc, member)?)?;
+        copies.push(copy(alloc, member, by)?)?;
     }
     Ok(copies)
 }
 
-/// An expression with the same term.
+/// An expression with the same term, but for the numbers of its tags, which are so much greater.
 #[cycle(copy)]
-pub(crate) fn copy(alloc: Global, expr: &Expr) -> Result<Expr, Memory>
-    ensures term { IfOk result (λ copy. (tags : ℕ) → term_of tags copy ≡ term_of tags expr.now) }
+pub(crate) fn copy(alloc: Global, expr: &Expr, by: u32) -> Result<Expr, Memory>
+    requires by { by ≤ 128 }
+    requires tags { HasTagsBelow 128 (term_of 0 expr.now) }
+    ensures term { IfOk result (λ copy. (tags : ℕ) → term_of tags copy ≡ shifted by (term_of 0 expr.now)) }
     ensures size { IfOk result (λ copy. size_of copy ≡ size_of expr.now) }
 {
     match expr {
         Expr::Empty => Ok(Expr::Empty),
         Expr::Class(set) => Ok(Expr::Class(set.copy(alloc)?)),
         Expr::AnyUnit => Ok(Expr::AnyUnit),
-        Expr::Cat(members) => Ok(Expr::Cat(copy_members(alloc, members)?)),
-        Expr::Alt(members) => Ok(Expr::Alt(copy_members(alloc, members)?)),
+        Expr::Cat(members) => Ok(Expr::Cat(copy_members(alloc, members, by)?)),
+        Expr::Alt(members) => Ok(Expr::Alt(copy_members(alloc, members, by)?)),
         Expr::Rep(body, low, high) => {
-            let body = Box::new(alloc, copy(alloc, body)?)?;
+            let body = Box::new(alloc, copy(alloc, body, by)?)?;
             Ok(Expr::Rep(body, *low, *high))
         }
-        Expr::STag(number) => Ok(Expr::STag(*number)),
-        Expr::MTag(number) => Ok(Expr::MTag(*number)),
-        Expr::Group(number, body) => {
-            let body = Box::new(alloc, copy(alloc, body)?)?;
-            Ok(Expr::Group(*number, body))
-        }
+        Expr::STag(number) => Ok(Expr::STag(*number + by)),
+        Expr::MTag(number) => Ok(Expr::MTag(*number + by)),
+        Expr::Group(..) => unreachable!(),
     }
 }

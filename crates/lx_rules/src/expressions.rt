@@ -1,230 +1,356 @@
 //! Reads the expressions of definitions and rules.
-ghost use Rattle.std.specs.Prelude.{◌≡◌, ◌-◌, ◌<◌, ◌≤◌, IfOk, MatchResult};
-ghost use Rattle.lx_rules.specs.Reading.{IsRead, StopsReading, alone, ends_before, ends_operand, lexemes_from, next_sort, nothing};
-ghost use Rattle.lx_rules.specs.Seen.{definitions_view, lexemes_view};
-ghost use Rattle.lx_rules.specs.Soundness.{AreSound, IsHonest};
+ghost use Rattle.std.specs.Prelude.{◌≡◌, ◌<◌, ◌≤◌, ◌^◌, ℕ, List, IfOk, IfSome, MatchResult, None, Some, length, map};
+ghost use Rattle.lx_base.specs.declared.settings.Options.{Options};
+ghost use Rattle.lx_parse.specs.Expressions.{alt};
+ghost use Rattle.lx_parse.specs.Ranges.{IsPart};
+ghost use Rattle.lx_rules.specs.Checks.{Finds, StopsAt, bounds_at, bounds_fault, bounds_of, group_fault, is_wrong};
+ghost use Rattle.lx_rules.specs.Environments.{Definition, Meaning};
+ghost use Rattle.lx_rules.specs.Items.{ExpressionChecks};
+ghost use Rattle.lx_rules.specs.Keeping.{IsRead};
+ghost use Rattle.lx_rules.specs.Lexemes as lexical;
+ghost use Rattle.lx_rules.specs.Lexemes.{sort_at, sorts_at};
+ghost use Rattle.lx_rules.specs.Reading.{AreHonest, AreInOrder, AreTaken, DifferenceChecks, IsDifference, StopsReading, no_operands};
+ghost use Rattle.lx_rules.specs.Seen.{definitions_view, lexeme_view, lexemes_view};
+ghost use Rattle.lx_rules.specs.Soundness.{AreSound};
+ghost use Rattle.lx_rules.specs.StepViews.{step_view};
+ghost use Rattle.lx_rules.specs.Values.{IsHonest, IsRoom, IsValue};
 
 use crate::items::waits;
-use crate::leaves::{Reader, put_class, read_leaf};
+use crate::leaves::{Reader, read_leaf, read_set};
 use crate::lexemes::{Lexeme, Lexemes};
-use crate::reading::{Reading, no_reading};
-use lx_base::{Fault, Pos, Stop};
-use lx_class::ClassSet;
+use crate::steps::{Step, StepSort, expression_steps};
+use crate::values::{Room, Value};
+use lx_base::{ByteText, Fault, Memory, Options, Pos, Stop};
 use lx_parse::Sort;
+use lx_token::{Repeat, repeat_of};
 use std::alloc::Global;
 
-/// The left operand of a difference.
+/// The greatest number of a repetition.
+const MOST_BOUND: u64 = 4096;
+
+/// What is read of an expression so far: values that are not yet put together, in order, and the names of all tags.
 #[derive(Debug, Drop)]
-pub(crate) struct Left {
-    /// The class that it is, if it is one.
-    class: Option<ClassSet>,
-    /// Its nesting; 2^40 stands for itself and for more.
-    nesting: u64,
-    /// The place of the `\` behind it.
+pub(crate) struct Operands {
+    values: Vec<Value>,
+    seen: Vec<ByteText>,
+}
+
+/// What is read of a whole expression, with the names of its tags, in order.
+#[derive(Debug, Drop)]
+pub(crate) struct Reading {
+    pub value: Value,
+    pub tags: Vec<ByteText>,
+}
+
+/// How often a sign repeats what stands before it.
+fn bounds_at(sign: &Lexeme<'_>) -> Repeat
+    ensures { result ≡ bounds_at (sort_at (lexeme_view sign.now)) (lexeme_view sign.now) }
+{
+    match sign.sort() {
+        Sort::Star => Repeat { min: 0, max: None },
+        Sort::Plus => Repeat { min: 1, max: None },
+        Sort::Question => Repeat {
+            min: 0,
+            max: Some(1),
+        },
+        _ => repeat_of(sign.text),
+    }
+}
+
+/// Whether bounds are in the wrong order, or have a number over 4,096.
+fn is_wrong(bounds: Repeat) -> bool
+    ensures { result ≡ is_wrong bounds.min bounds.max }
+{
+    match bounds.max {
+        Some(most) => bounds.min > MOST_BOUND || most > MOST_BOUND || most < bounds.min,
+        None => bounds.min > MOST_BOUND,
+    }
+}
+
+/// How often a sign repeats what stands before it, or the fault of its bounds.
+fn checked_bounds(sign: &Lexeme<'_>) -> Result<Repeat, Fault>
+    ensures bounds { MatchResult result
+        (λ bounds. (bounds ≡ bounds_of (lexeme_view sign.now)) × (bounds_fault (lexeme_view sign.now) ≡ None))
+        (λ fault. bounds_fault (lexeme_view sign.now) ≡ Some fault) }
+    ensures least { IfOk result (λ bounds. bounds.min ≤ 4096) }
+    ensures most { IfOk result (λ bounds. IfSome bounds.max (λ most. most ≤ 4096)) }
+{
+    let bounds = bounds_at(sign);
+    if is_wrong(bounds) {
+        return Err(Fault::Bounds {
+            at: sign.at,
+            min: bounds.min,
+            max: bounds.max,
+        });
+    }
+    Ok(bounds)
+}
+
+/// The difference of two values, whose sign stands at a place.
+fn difference(
+    alloc: Global,
+    reader: Reader<'_>,
+    left: Value,
+    right: Value,
+    is_operand: bool,
     at: Pos,
-}
-
-/// What is read of an expression: the left operand of a difference, if one is begun, and what stands behind that.
-#[derive(Debug, Drop)]
-pub(crate) struct Expression {
-    left: Option<Left>,
-    current: Reading,
-}
-
-/// Whether a sign ends an operand of a difference.
-fn ends_operand(sort: Sort) -> bool
-    ensures { result ≡ ends_operand sort }
+) -> Result<Value, Stop>
+    requires { IsRoom reader.room }
+    ensures read { let definitions = definitions_view reader.entry.definitions.now in
+        (first second : Meaning) (sign : lexical.Lexeme) → sign.at ≡ at → IsValue reader.entry.room first left → IsValue reader.entry.room second right
+        → MatchResult result
+        (λ value. DifferenceChecks reader.entry.options.now definitions is_operand first second sign None
+        × ((meaning : Meaning) × IsDifference reader.entry.options.now definitions is_operand first second meaning × IsValue reader.entry.room meaning value))
+        (StopsAt (DifferenceChecks reader.entry.options.now definitions is_operand first second sign)) }
+    ensures honest { (count : ℕ) → IfOk result (IsHonest count) }
 {
-    matches!(sort, Sort::Backslash | Sort::Bar | Sort::Close)
+    let nesting = left.nesting.max(right.nesting);
+    let tags = left.tags.max(right.tags);
+    let Some(whole) = left.into_class(alloc)? else {
+        return Err(Stop::Fault(Fault::NotClass { at }));
+    };
+    let Some(holes) = right.into_class(alloc)? else {
+        return Err(Stop::Fault(Fault::NotClass { at }));
+    };
+    let set = whole.minus(alloc, &holes)?;
+    read_set(alloc, reader, tags, set, is_operand, nesting, at)
 }
 
-/// Whether an operand ends before a token of this sort, or where there is none.
-fn ends_before(next: Option<Sort>) -> bool
-    ensures { result ≡ ends_before next }
-{
-    match next {
-        None => true,
-        Some(sort) => ends_operand(sort),
-    }
-}
+impl Operands {
+    ghost use Rattle.std.specs.Prelude.{◌≡◌, ◌≤◌, ◌<◌, ◌++◌, ◌∷◌, [], OnOk, MatchResult, length, suc};
+    ghost use Rattle.std.specs.Prelude.{ℕ, List};
+    ghost use Rattle.lx_base.specs.declared.settings.Options.{Options};
+    ghost use Rattle.lx_rules.specs.Checks.{StopsAt};
+    ghost use Rattle.lx_rules.specs.Environments.{Definition};
+    ghost use Rattle.lx_rules.specs.Meanings.{alternated, enclosed, followed};
+    ghost use Rattle.lx_rules.specs.Reading as reading;
+    ghost use Rattle.lx_rules.specs.Reading.{AreHonest, AreOperands, IsStepTaken, Needs, StepChecks, depth_behind, in_place, no_operands, with_both, with_last};
+    ghost use Rattle.lx_rules.specs.Seen.{definitions_view, lexeme_view, lexemes_view};
+    ghost use Rattle.lx_rules.specs.Soundness.{AreSound};
+    ghost use Rattle.lx_rules.specs.StepViews.{step_view};
+    ghost use Rattle.lx_rules.specs.Steps.{reads, repeats, subtracts};
+    ghost use Rattle.lx_rules.specs.Values.{IsRoom};
+    ghost use Rattle.lx_rules.specs.declared.values.Room.{Room};
 
-/// The sort of the token at a place, where it stands before the end of an expression.
-fn next_sort(lexemes: Lexemes<'_>, place: usize, until: usize) -> Option<Sort>
-    ensures { result ≡ next_sort (lexemes_from (lexemes_view lexemes.entry) place (until - place)) }
-{
-    if place < until {
-        Some(lexemes.at(place).sort())
-    } else {
-        None
-    }
-}
-
-impl Expression {
-    ghost use Rattle.std.specs.Prelude.{◌≡◌, ◌≢◌, ◌≤◌, ℕ, Option, IfOk, MatchResult, Some, true, false};
-    ghost use Rattle.lx_parse.specs.Sorts.{is_atom};
-    ghost use Rattle.lx_parse.specs.declared.sorts.Sort.{Sort};
-    ghost use Rattle.lx_parse.specs.declared.sorts.Sort.TheVariants.{Backslash};
-    ghost use Rattle.lx_rules.specs.Lexemes as lexical;
-    ghost use Rattle.lx_rules.specs.Lexemes.{sort_at};
-    ghost use Rattle.lx_rules.specs.Reading.{Advances, Begun, Closes, IsBegun, IsSomeRead, StopsAdvance, StopsClosing, is_operand, nothing};
-    ghost use Rattle.lx_rules.specs.Seen.{definitions_view, lexeme_view};
-    ghost use Rattle.lx_rules.specs.Soundness.{AreSound, IsHonest};
-
-    /// This, where the operand that was read last is at its end: a difference that was begun is done.
-    fn close(self, alloc: Global, reader: Reader<'_>, is_operand: bool) -> Result<Expression, Stop>
-        requires { reader.room ≤ 4096 }
-        ensures read { let definitions = definitions_view reader.entry.definitions.now in
-            (begun : Begun) → IsBegun reader.entry.room begun self → MatchResult result
-            (Closes reader.entry.options.now definitions reader.entry.room is_operand begun)
-            (StopsClosing reader.entry.options.now definitions is_operand begun) }
-        ensures honest { IsHonest self.current → IfOk result (λ after. IsHonest after.current) }
-        ensures some { IsSomeRead self → IfOk result (λ after. 1 ≤ after.current.size) }
+    /// Nothing is read.
+    fn new(alloc: Global) -> Operands
+        ensures stands { (room : Room) → AreOperands room no_operands result }
+        ensures honest { (count : ℕ) → AreHonest count result.values.items }
+        ensures none { result.values.items ≡ [] }
     {
-        let Expression { left, current } = self;
-        let Some(left) = left else {
-            return Ok(Expression {
-                left: None,
-                current,
-            });
-        };
-        let Left { class, nesting, at } = left;
-        let Some(whole) = class else {
-            return Err(Stop::Fault(Fault::NotClass { at }));
-        };
-        let nesting = nesting.max(current.nesting);
-        let Some(holes) = current.into_class() else {
-            return Err(Stop::Fault(Fault::NotClass { at }));
-        };
-        let set = whole.minus(alloc, &holes)?;
-        let current = match put_class(alloc, reader, no_reading(), set, is_operand, nesting, at) {
-            Ok(current) => current,
-            Err(stop) => return Err(stop),
-        };
-        Ok(Expression {
-            left: None,
-            current,
-        })
-    }
-
-    /// This as the left operand of a difference whose sign stands at a place.
-    fn into_left(self, at: Pos) -> Expression
-        ensures left { (room : ℕ) (begun : Begun) (sign : lexical.Lexeme) → IsBegun room begun self → at ≡ sign.at
-            → IsBegun room (record { left = Some (begun.current, sign); current = nothing }) result }
-        ensures honest { IsHonest result.current }
-        ensures some { IsSomeRead result }
-    {
-        let current = self.current;
-        let nesting = current.nesting;
-        let class = current.into_class();
-        Expression {
-            left: Some(Left { class, nesting, at }),
-            current: no_reading(),
+        Operands {
+            values: Vec::new(alloc),
+            seen: Vec::new(alloc),
         }
     }
 
-    /// Whether the next token to be read is a whole operand of a difference, where one of this sort stands behind it.
-    fn is_operand(&self, next: Option<Sort>) -> bool
-        ensures { (room : ℕ) (begun : Begun) → IsBegun room begun self.now → result ≡ is_operand begun next }
+    /// Puts a value behind the others.
+    fn push(&mut self, value: Value) -> Result<(), Memory>
+        ensures values { OnOk result (self.new.values.items ≡ self.old.values.items ++ value ∷ []) }
+        ensures seen { self.new.seen ≡ self.old.seen }
     {
-        self.current.is_nothing()
-            && ends_before(next)
-            && (self.left.is_some() || next == Some(Sort::Backslash))
+        self.values.push(value)?;
+        Ok(())
     }
 
-    /// Reads the sign of a difference.
-    fn read_sign(
-        self,
-        alloc: Global,
-        reader: Reader<'_>,
-        sign: &Lexeme<'_>,
-        next: Option<Sort>,
-    ) -> Result<Expression, Stop>
-        requires room { reader.room ≤ 4096 }
-        requires sort { sort_at (lexeme_view sign.now) ≡ Backslash }
-        ensures read { let definitions = definitions_view reader.entry.definitions.now in
-            (begun : Begun) → IsBegun reader.entry.room begun self → MatchResult result
-            (Advances reader.entry.options.now definitions reader.entry.room (lexeme_view sign.now) next begun)
-            (StopsAdvance reader.entry.options.now definitions (lexeme_view sign.now) next begun) }
-        ensures honest { IsHonest self.current → IfOk result (λ after. IsHonest after.current) }
-        ensures some { IfOk result IsSomeRead }
+    /// The value that was read last, which is taken away.
+    fn pop(&mut self) -> Value
+        requires { 0 < length self.old.values.items }
+        ensures values { self.old.values.items ≡ self.new.values.items ++ result ∷ [] }
+        ensures seen { self.new.seen ≡ self.old.seen }
     {
-        match self.close(alloc, reader, true) {
-            Ok(closed) => Ok(closed.into_left(sign.at)),
-            Err(stop) => Err(stop),
+        match self.values.pop() {
+            Some(value) => value,
+            None => unreachable!(),
         }
     }
 
     /// Reads a token that is no sign between others.
-    fn read_atom(
-        self,
-        alloc: Global,
-        reader: Reader<'_>,
-        lexeme: &Lexeme<'_>,
-        next: Option<Sort>,
-    ) -> Result<Expression, Stop>
-        requires room { reader.room ≤ 4096 }
-        requires sort { is_atom (sort_at (lexeme_view lexeme.now)) ≡ true }
-        ensures read { let definitions = definitions_view reader.entry.definitions.now in
-            (begun : Begun) → IsBegun reader.entry.room begun self → MatchResult result
-            (Advances reader.entry.options.now definitions reader.entry.room (lexeme_view lexeme.now) next begun)
-            (StopsAdvance reader.entry.options.now definitions (lexeme_view lexeme.now) next begun) }
-        ensures honest { AreSound reader.entry.definitions.now → IsHonest self.current → IfOk result (λ after. IsHonest after.current × IsSomeRead after) }
-    {
-        let is_operand = self.is_operand(next);
-        let left = self.left;
-        match read_leaf(alloc, reader, self.current, lexeme, is_operand) {
-            Ok(current) => Ok(Expression { left, current }),
-            Err(stop) => Err(stop),
-        }
-    }
-
-    /// Refuses a token of a form that is not supported yet, behind the fault of a difference that it ends.
-    fn refuse(self, alloc: Global, reader: Reader<'_>, lexeme: &Lexeme<'_>) -> Stop
-        requires room { reader.room ≤ 4096 }
-        requires no_atom { is_atom (sort_at (lexeme_view lexeme.now)) ≡ false }
-        requires no_sign { sort_at (lexeme_view lexeme.now) ≢ Backslash }
-        ensures { let definitions = definitions_view reader.entry.definitions.now in
-            (next : Option Sort) (begun : Begun) → IsBegun reader.entry.room begun self
-            → StopsAdvance reader.entry.options.now definitions (lexeme_view lexeme.now) next begun result }
-    {
-        if !ends_operand(lexeme.sort()) {
-            return waits(lexeme.at);
-        }
-        match self.close(alloc, reader, false) {
-            Ok(_closed) => waits(lexeme.at),
-            Err(stop) => stop,
-        }
-    }
-
-    /// Reads a token, behind which one of this sort stands.
     fn read(
-        self,
+        &mut self,
         alloc: Global,
         reader: Reader<'_>,
         lexeme: &Lexeme<'_>,
-        next: Option<Sort>,
-    ) -> Result<Expression, Stop>
-        requires { reader.room ≤ 4096 }
-        ensures read { let definitions = definitions_view reader.entry.definitions.now in
-            (begun : Begun) → IsBegun reader.entry.room begun self → MatchResult result
-            (Advances reader.entry.options.now definitions reader.entry.room (lexeme_view lexeme.now) next begun)
-            (StopsAdvance reader.entry.options.now definitions (lexeme_view lexeme.now) next begun) }
-        ensures honest { AreSound reader.entry.definitions.now → IsHonest self.current → IfOk result (λ after. IsHonest after.current × IsSomeRead after) }
+        is_operand: bool,
+    ) -> Result<(), Stop>
+        requires room { IsRoom reader.room }
+        requires sound { AreSound reader.definitions.now }
+        ensures stands { let definitions = definitions_view reader.entry.definitions.now in
+            (operands : reading.Operands) → AreOperands reader.entry.room operands self.old → MatchResult result
+            (λ _. IsStepTaken reader.entry.options.now definitions reader.entry.room operands (reads is_operand (lexeme_view lexeme.now)) self.new)
+            (StopsAt (StepChecks reader.entry.options.now definitions operands (reads is_operand (lexeme_view lexeme.now)))) }
+        ensures honest { AreHonest (length self.old.seen.items) self.old.values.items → OnOk result (AreHonest (length self.new.seen.items) self.new.values.items) }
+        ensures depth { OnOk result (length self.new.values.items ≡ suc (length self.old.values.items)) }
     {
-        let sort = lexeme.sort();
-        if sort == Sort::Backslash {
-            self.read_sign(alloc, reader, lexeme, next)
-        } else if sort.is_atom() {
-            self.read_atom(alloc, reader, lexeme, next)
-        } else {
-            Err(self.refuse(alloc, reader, lexeme))
+        let value = match read_leaf(alloc, reader, &mut self.seen, lexeme, is_operand) {
+            Ok(value) => value,
+            Err(stop) => return Err(stop),
+        };
+        self.push(value)?;
+        Ok(())
+    }
+
+    /// Closes a parenthesis.
+    fn close(&mut self, alloc: Global, room: Room) -> Result<(), Memory>
+        requires room { IsRoom room }
+        requires depth { 1 ≤ length self.old.values.items }
+        ensures stands { (operands : reading.Operands) → AreOperands room operands self.old
+            → OnOk result (AreOperands room (in_place operands (with_last enclosed operands.meanings)) self.new) }
+        ensures honest { AreHonest (length self.old.seen.items) self.old.values.items → OnOk result (AreHonest (length self.new.seen.items) self.new.values.items) }
+        ensures depth { OnOk result (length self.new.values.items ≡ length self.old.values.items) }
+    {
+        let value = self.pop().enclosed(alloc, room)?;
+        self.push(value)?;
+        Ok(())
+    }
+
+    /// Repeats what was read last.
+    fn repeat(&mut self, alloc: Global, room: Room, sign: &Lexeme<'_>) -> Result<(), Stop>
+        requires room { IsRoom room }
+        requires depth { 1 ≤ length self.old.values.items }
+        ensures stands { (options : Options) (definitions : List Definition) (operands : reading.Operands) → AreOperands room operands self.old → MatchResult result
+            (λ _. IsStepTaken options definitions room operands (repeats (lexeme_view sign.now)) self.new)
+            (StopsAt (StepChecks options definitions operands (repeats (lexeme_view sign.now)))) }
+        ensures honest { AreHonest (length self.old.seen.items) self.old.values.items → OnOk result (AreHonest (length self.new.seen.items) self.new.values.items) }
+        ensures depth { OnOk result (length self.new.values.items ≡ length self.old.values.items) }
+    {
+        let bounds = match checked_bounds(sign) {
+            Ok(bounds) => bounds,
+            Err(fault) => return Err(Stop::Fault(fault)),
+        };
+        let value = self.pop().repeated(alloc, room, bounds)?;
+        self.push(value)?;
+        Ok(())
+    }
+
+    /// Puts the last two values one behind the other.
+    fn join(&mut self, alloc: Global, room: Room) -> Result<(), Memory>
+        requires room { IsRoom room }
+        requires depth { 2 ≤ length self.old.values.items }
+        ensures stands { (operands : reading.Operands) → AreOperands room operands self.old
+            → OnOk result (AreOperands room (in_place operands (with_both followed operands.meanings)) self.new) }
+        ensures honest { AreHonest (length self.old.seen.items) self.old.values.items → OnOk result (AreHonest (length self.new.seen.items) self.new.values.items) }
+        ensures depth { OnOk result (suc (length self.new.values.items) ≡ length self.old.values.items) }
+    {
+        let back = self.pop();
+        let value = self.pop().followed_by(alloc, room, back)?;
+        self.push(value)?;
+        Ok(())
+    }
+
+    /// Puts the last two values beside each other.
+    fn choose(&mut self, alloc: Global, room: Room) -> Result<(), Memory>
+        requires room { IsRoom room }
+        requires depth { 2 ≤ length self.old.values.items }
+        ensures stands { (operands : reading.Operands) → AreOperands room operands self.old
+            → OnOk result (AreOperands room (in_place operands (with_both alternated operands.meanings)) self.new) }
+        ensures honest { AreHonest (length self.old.seen.items) self.old.values.items → OnOk result (AreHonest (length self.new.seen.items) self.new.values.items) }
+        ensures depth { OnOk result (suc (length self.new.values.items) ≡ length self.old.values.items) }
+    {
+        let right = self.pop();
+        let value = self.pop().beside(alloc, room, right)?;
+        self.push(value)?;
+        Ok(())
+    }
+
+    /// Puts the difference of the last two values in their place.
+    fn subtract(
+        &mut self,
+        alloc: Global,
+        reader: Reader<'_>,
+        sign: &Lexeme<'_>,
+        is_operand: bool,
+    ) -> Result<(), Stop>
+        requires room { IsRoom reader.room }
+        requires depth { 2 ≤ length self.old.values.items }
+        ensures stands { let definitions = definitions_view reader.entry.definitions.now in
+            (operands : reading.Operands) → AreOperands reader.entry.room operands self.old → MatchResult result
+            (λ _. IsStepTaken reader.entry.options.now definitions reader.entry.room operands (subtracts is_operand (lexeme_view sign.now)) self.new)
+            (StopsAt (StepChecks reader.entry.options.now definitions operands (subtracts is_operand (lexeme_view sign.now)))) }
+        ensures honest { AreHonest (length self.old.seen.items) self.old.values.items → OnOk result (AreHonest (length self.new.seen.items) self.new.values.items) }
+        ensures depth { OnOk result (suc (length self.new.values.items) ≡ length self.old.values.items) }
+    {
+        let right = self.pop();
+        let left = self.pop();
+        let value = match difference(alloc, reader, left, right, is_operand, sign.at) {
+            Ok(value) => value,
+            Err(stop) => return Err(stop),
+        };
+        self.push(value)?;
+        Ok(())
+    }
+
+    /// Takes a step.
+    fn take(
+        &mut self,
+        alloc: Global,
+        reader: Reader<'_>,
+        lexemes: Lexemes<'_>,
+        step: Step,
+    ) -> Result<(), Stop>
+        requires room { IsRoom reader.room }
+        requires sound { AreSound reader.definitions.now }
+        requires needs { Needs (step_view (lexemes_view lexemes) step) (length self.old.values.items) }
+        ensures stands { let definitions = definitions_view reader.entry.definitions.now in
+            (operands : reading.Operands) → AreOperands reader.entry.room operands self.old → MatchResult result
+            (λ _. IsStepTaken reader.entry.options.now definitions reader.entry.room operands (step_view (lexemes_view lexemes.entry) step) self.new)
+            (StopsAt (StepChecks reader.entry.options.now definitions operands (step_view (lexemes_view lexemes.entry) step))) }
+        ensures honest { AreHonest (length self.old.seen.items) self.old.values.items → OnOk result (AreHonest (length self.new.seen.items) self.new.values.items) }
+        ensures depth { OnOk result (length self.new.values.items ≡ depth_behind (step_view (lexemes_view lexemes.entry) step) (length self.old.values.items)) }
+    {
+        let lexeme = lexemes.at(step.place as usize);
+        match step.sort {
+            StepSort::Read => self.read(alloc, reader, &lexeme, step.is_operand),
+            StepSort::Open => open(reader.options, &lexeme),
+            StepSort::Close => Ok(self.close(alloc, reader.room)?),
+            StepSort::Repeat => self.repeat(alloc, reader.room, &lexeme),
+            StepSort::Join => Ok(self.join(alloc, reader.room)?),
+            StepSort::Subtract => self.subtract(alloc, reader, &lexeme, step.is_operand),
+            StepSort::Choose => Ok(self.choose(alloc, reader.room)?),
         }
     }
 }
 
-/// Reads the expression that stands from one token up to another. It is built only where its size is within the room.
-///
-/// Strings, classes, `.`, names and differences are supported; another token is refused as not supported yet.
+/// Opens a parenthesis. Groups of captures are not supported yet.
+fn open(options: &Options, opening: &Lexeme<'_>) -> Result<(), Stop>
+    ensures { (definitions : List Definition) → MatchResult result
+        (λ _. group_fault options.now definitions (lexeme_view opening.now) ≡ None)
+        (StopsAt (Finds (group_fault options.now definitions (lexeme_view opening.now)))) }
+{
+    if options.captures || options.posix {
+        return Err(waits(opening.at));
+    }
+    Ok(())
+}
+
+/// Takes steps in their order.
+fn take_steps(
+    alloc: Global,
+    reader: Reader<'_>,
+    lexemes: Lexemes<'_>,
+    steps: &[Step],
+) -> Result<Operands, Stop>
+    requires room { IsRoom reader.room }
+    requires sound { AreSound reader.definitions.now }
+    requires order { AreInOrder 0 (map (step_view (lexemes_view lexemes)) steps.now) }
+    ensures taken { let definitions = definitions_view reader.entry.definitions.now in
+        MatchResult result
+        (AreTaken reader.entry.options.now definitions reader.entry.room no_operands (map (step_view (lexemes_view lexemes.entry)) steps.now))
+        (StopsReading reader.entry.options.now definitions no_operands (map (step_view (lexemes_view lexemes.entry)) steps.now)) }
+    ensures honest { IfOk result (λ operands. AreHonest (length operands.seen.items) operands.values.items) }
+    ensures one { IfOk result (λ operands. length operands.values.items ≡ 1) }
+{
+    let mut operands = Operands::new(alloc);
+    for step in steps {
+        match operands.take(alloc, reader, lexemes, *step) {
+            Ok(()) => {}
+            Err(stop) => return Err(stop),
+        }
+    }
+    Ok(operands)
+}
+
+/// Reads the expression that stands from one token up to another. It is built only where it is within the room.
 pub(crate) fn read_expression(
     alloc: Global,
     reader: Reader<'_>,
@@ -232,27 +358,22 @@ pub(crate) fn read_expression(
     from: usize,
     until: usize,
 ) -> Result<Reading, Stop>
-    requires { reader.room ≤ 4096 }
-    ensures honest { AreSound reader.entry.definitions.now → IfOk result (λ reading. IsHonest reading × (from < until → 1 ≤ reading.size)) }
-    ensures read { let texts = lexemes_from (lexemes_view lexemes.entry) from (until - from) in
-        let definitions = definitions_view reader.entry.definitions.now in
-        MatchResult result (IsRead reader.entry.options.now definitions texts reader.entry.room)
-        (StopsReading reader.entry.options.now definitions (alone nothing) texts) }
+    requires room { IsRoom reader.room }
+    requires sound { AreSound reader.definitions.now }
+    requires part { IsPart (sorts_at (lexemes_view lexemes)) alt from until }
+    requires few { until < 2 ^ 32 }
+    ensures honest { IfOk result (λ reading. IsHonest (length reading.tags.items) reading.value) }
+    ensures read { let definitions = definitions_view reader.entry.definitions.now in
+        MatchResult result (IsRead reader.entry.options.now (lexemes_view lexemes.entry) definitions reader.entry.room from until)
+        (StopsAt (ExpressionChecks reader.entry.options.now (lexemes_view lexemes.entry) definitions from until)) }
 {
-    let mut expression = Expression {
-        left: None,
-        current: no_reading(),
+    let steps = expression_steps(alloc, lexemes, from, until)?;
+    let operands = match take_steps(alloc, reader, lexemes, &steps) {
+        Ok(operands) => operands,
+        Err(stop) => return Err(stop),
     };
-    for place in from..until {
-        let lexeme = lexemes.at(place);
-        let next = next_sort(lexemes, place + 1, until);
-        expression = match expression.read(alloc, reader, &lexeme, next) {
-            Ok(after) => after,
-            Err(stop) => return Err(stop),
-        };
-    }
-    match expression.close(alloc, reader, false) {
-        Ok(closed) => Ok(closed.current),
-        Err(stop) => Err(stop),
-    }
+    let mut operands = operands;
+    let value = operands.pop();
+    let tags = operands.seen;
+    Ok(Reading { value, tags })
 }

@@ -1,14 +1,17 @@
 //! What a block resolves to, by what is known behind its items.
-ghost use Rattle.std.specs.Prelude.{◌≡◌, IfOk};
-ghost use Rattle.lx_base.specs.Names.{usual_names};
+ghost use Rattle.std.specs.Prelude.{◌≡◌, ◌↔◌, IfOk, IsTrue};
+ghost use Rattle.std.specs.List.{AllByRecursion};
+ghost use Rattle.lx_base.specs.Names.{IsTagName, usual_names};
 ghost use Rattle.lx_rules.specs.Finishing.{AddsDefault, AreScannersOf, IsOneScanner};
 
 use crate::environment::Env;
-use crate::items::{DefaultRule, Known, MOST_NESTING, MOST_SIZE, text};
+use crate::items::{DefaultRule, Known};
 use crate::resolved::{Config, Resolved, Scanner};
-use crate::rules::bare_rule;
-use lx_base::spellings::do_not_clash;
-use lx_base::{Fault, Memory, Names, Pos, Sequence, Stop};
+use crate::rules::simple_rule;
+use crate::tags::text;
+use crate::values::{MOST_NESTING, MOST_SIZE, MOST_TAGS, sum};
+use lx_base::spellings::{do_not_clash, is_tag_name};
+use lx_base::{ByteText, Fault, Memory, Names, Pos, Sequence, Stop};
 use lx_regex::{Expr, Kind, Rule, RuleSet};
 use std::alloc::Global;
 
@@ -37,6 +40,18 @@ fn usual_names(alloc: Global) -> Result<Names, Memory>
     ]?))
 }
 
+/// Whether each of some names is one that a tag may have beside the spellings.
+fn are_tag_names(names: &Names, tags: &[ByteText]) -> bool
+    ensures { IsTrue result ↔ AllByRecursion (IsTagName names.now) tags.now }
+{
+    for tag in tags {
+        if !is_tag_name(names, tag.as_slice()) {
+            return false;
+        }
+    }
+    true
+}
+
 /// The rules, with `*` behind them.
 fn with_default(
     alloc: Global,
@@ -49,7 +64,12 @@ fn with_default(
         None => Ok(rules),
         Some(default) => {
             let mut rules = rules;
-            let rule = bare_rule(alloc, default.number, Kind::Default, Expr::AnyUnit);
+            let rule = simple_rule(
+                default.number,
+                Kind::Default,
+                Expr::AnyUnit,
+                Sequence::new(alloc),
+            );
             rules.push(rule)?;
             Ok(rules)
         }
@@ -99,9 +119,9 @@ impl Known {
 
     /// Whether the scanner is past a limit.
     fn is_too_large(&self) -> bool
-        ensures { result ≡ (nat_lt 4096 self.now.size || nat_lt 256 self.now.nesting) }
+        ensures { result ≡ (nat_lt 4096 self.now.size || nat_lt 256 self.now.nesting || nat_lt 128 (length self.now.tags.items)) }
     {
-        self.size > MOST_SIZE || self.nesting > MOST_NESTING
+        self.size > MOST_SIZE || self.nesting > MOST_NESTING || self.tags.len() as u64 > MOST_TAGS
     }
 
     /// What the block resolves to whose opener stands at this place, and what holds behind it.
@@ -110,7 +130,7 @@ impl Known {
         ensures { (conds : Bool) (state : State) → Holds conds self state → MatchResult result (IsFinished conds at state) (StopsAt (BlockChecks at state)) }
     {
         let names = usual_names(alloc)?;
-        if !do_not_clash(&names) {
+        if !do_not_clash(&names) || !are_tag_names(&names, &self.tags) {
             return Err(Stop::Fault(Fault::BadValue { at }));
         }
         if self.is_too_large() {
@@ -118,7 +138,7 @@ impl Known {
                 at,
                 size: self.size,
                 nesting: self.nesting,
-                tags: 0,
+                tags: sum(self.tags.len() as u64, 0),
             }));
         }
         let env = self.env;

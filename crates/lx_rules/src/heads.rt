@@ -1,8 +1,7 @@
 //! Reads the heads of rules.
-use crate::expressions::read_expression;
+use crate::expressions::{Reading, read_expression};
 use crate::items::{Block, Known, waits};
 use crate::leaves::Reader;
-use crate::reading::Reading;
 use lx_base::{Fault, Stop};
 use lx_parse::Sort;
 use std::alloc::Global;
@@ -17,7 +16,7 @@ pub(crate) enum Head {
 }
 
 impl Known {
-    ghost use Rattle.std.specs.Prelude.{◌≡◌, ◌∷◌, [], IfOk, MatchResult, None};
+    ghost use Rattle.std.specs.Prelude.{◌≡◌, ◌∷◌, [], IfOk, MatchResult, None, length};
     ghost use Rattle.lx_parse.specs.Ranges.{HasExpressions};
     ghost use Rattle.lx_parse.specs.declared.items.Item.TheVariants as item;
     ghost use Rattle.lx_parse.specs.declared.sorts.Sort.TheVariants.{Star, Dollar};
@@ -36,12 +35,13 @@ impl Known {
         slash: Option<u32>,
         until: u32,
     ) -> Result<Head, Stop>
-        requires { HasExpressions (sorts_at (lexemes_view block.lexemes)) (item.Rule head head slash until None None) }
+        requires sound { IsSound self.now.env }
+        requires expressions { HasExpressions (sorts_at (lexemes_view block.lexemes)) (item.Rule head head slash until None None) }
         ensures read { (state : State) → Holds block.entry.options.now.conds self.now state → MatchResult result
-            (IsHeadRead block.entry.options.now (lexemes_view block.entry.lexemes) state head slash until (room_behind self.now.size self.now.nesting))
+            (IsHeadRead block.entry.options.now (lexemes_view block.entry.lexemes) state head slash until (room_behind self.now.size self.now.nesting (length self.now.tags.items)))
             (StopsHead block.entry.options.now (lexemes_view block.entry.lexemes) state head slash until) }
         ensures fresh { IfOk result (IsFresh self.now.default) }
-        ensures honest { IsSound self.now.env → IfOk result IsSoundHead }
+        ensures honest { IfOk result IsSoundHead }
     {
         let start = block.lexemes.at(head as usize);
         match start.sort() {
@@ -66,14 +66,15 @@ impl Known {
         slash: Option<u32>,
         until: u32,
     ) -> Result<Head, Stop>
+        requires sound { IsSound self.now.env }
         requires expressions { HasExpressions (sorts_at (lexemes_view block.lexemes)) (item.Rule head head slash until None None) }
         requires star { sort_at (nth_lexeme (lexemes_view block.lexemes) head) ≡ Star → ⊥ }
         requires dollar { sort_at (nth_lexeme (lexemes_view block.lexemes) head) ≡ Dollar → ⊥ }
         ensures read { (state : State) → Holds block.entry.options.now.conds self.now state → MatchResult result
-            (IsHeadRead block.entry.options.now (lexemes_view block.entry.lexemes) state head slash until (room_behind self.now.size self.now.nesting))
+            (IsHeadRead block.entry.options.now (lexemes_view block.entry.lexemes) state head slash until (room_behind self.now.size self.now.nesting (length self.now.tags.items)))
             (StopsHead block.entry.options.now (lexemes_view block.entry.lexemes) state head slash until) }
         ensures fresh { IfOk result (IsFresh self.now.default) }
-        ensures honest { IsSound self.now.env → IfOk result IsSoundHead }
+        ensures honest { IfOk result IsSoundHead }
     {
         let reader = Reader {
             options: block.options,

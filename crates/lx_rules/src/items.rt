@@ -6,19 +6,14 @@ ghost use Rattle.lx_base.specs.declared.faults.Stop.TheVariants as stop;
 use crate::configurations::read_config;
 use crate::definitions::Kept;
 use crate::environment::Env;
-use crate::expressions::read_expression;
+use crate::expressions::{Reading, read_expression};
 use crate::leaves::Reader;
 use crate::lexemes::Lexemes;
 use crate::resolved::Act;
-use lx_base::{ByteText, Fault, Memory, Options, Pos, Stop};
+use crate::values::{MOST_NESTING, MOST_SIZE, MOST_TAGS, Room};
+use lx_base::{ByteText, Fault, Options, Pos, Sequence, Stop};
 use lx_regex::Rule;
 use std::alloc::Global;
-
-/// The greatest size of a scanner.
-pub(crate) const MOST_SIZE: u64 = 4096;
-
-/// The greatest nesting in a scanner.
-pub(crate) const MOST_NESTING: u64 = 256;
 
 /// What does not change while the items of a block are taken.
 #[derive(Clone, Copy)]
@@ -47,6 +42,8 @@ pub(crate) struct Known {
     pub size: u64,
     /// The greatest nesting; 2^40 stands for itself and for more.
     pub nesting: u64,
+    /// The names of all tags, rule by rule.
+    pub tags: Vec<ByteText>,
 }
 
 /// A form that is not supported yet.
@@ -56,16 +53,8 @@ pub(crate) fn waits(at: Pos) -> Stop
     Stop::Fault(Fault::Unsupported { at: Some(at) })
 }
 
-/// A text with these bytes.
-pub(crate) fn text(alloc: Global, bytes: &[u8]) -> Result<ByteText, Memory>
-    ensures { IfOk result (λ text. text ≡ bytes.now) }
-{
-    let bytes = Vec::from_slice(alloc, bytes)?;
-    Ok(ByteText::from_vec(bytes))
-}
-
 impl Known {
-    ghost use Rattle.std.specs.Prelude.{◌≡◌, MatchResult, OnOk, Bool};
+    ghost use Rattle.std.specs.Prelude.{length, ◌≡◌, MatchResult, OnOk, Bool};
     ghost use Rattle.lx_parse.specs.Expressions.{alt};
     ghost use Rattle.lx_parse.specs.Ranges.{IsPart};
     ghost use Rattle.lx_parse.specs.declared.items.Item.TheVariants as item;
@@ -88,17 +77,24 @@ impl Known {
             acts: Vec::new(alloc),
             size: 0,
             nesting: 0,
+            tags: Vec::new(alloc),
         }
     }
 
-    /// The size that the next rule may have. It has none behind a nesting that is past the limit.
-    pub fn room(&self) -> u64
-        ensures { result ≡ room_behind self.now.size self.now.nesting }
+    /// What the next rule may have. It may have nothing behind a nesting or a number of tags that is past the limit.
+    pub fn room(&self) -> Room
+        ensures { result ≡ room_behind self.now.size self.now.nesting (length self.now.tags.items) }
     {
-        if self.nesting > MOST_NESTING {
-            return 0;
+        let tags = self.tags.len() as u64;
+        let is_past = self.nesting > MOST_NESTING || tags > MOST_TAGS;
+        Room {
+            size: if is_past {
+                0
+            } else {
+                MOST_SIZE.saturating_sub(self.size)
+            },
+            tags: MOST_TAGS.saturating_sub(tags),
         }
-        MOST_SIZE.saturating_sub(self.size)
     }
 
     /// Takes a definition.
@@ -110,7 +106,8 @@ impl Known {
         from: u32,
         until: u32,
     ) -> Result<(), Stop>
-        requires { IsPart (sorts_at (lexemes_view block.lexemes)) alt from until }
+        requires part { IsPart (sorts_at (lexemes_view block.lexemes)) alt from until }
+        requires sound { IsSound self.old.env }
         ensures acts { OnOk result (self.new.acts ≡ self.old.acts) }
         ensures taken { (state : State) → Holds block.entry.options.now.conds self.old state → MatchResult result
             (λ _. IsTaken block.entry.options.now (lexemes_view block.entry.lexemes) state (item.Define name from until) self.new)
@@ -126,7 +123,10 @@ impl Known {
         let reader = Reader {
             options: block.options,
             definitions: &self.env.definitions,
-            room: MOST_SIZE,
+            room: Room {
+                size: MOST_SIZE,
+                tags: MOST_TAGS,
+            },
         };
         let reading = match read_expression(
             alloc,
@@ -138,11 +138,13 @@ impl Known {
             Ok(reading) => reading,
             Err(stop) => return Err(stop),
         };
+        let Reading { value, tags } = reading;
         let kept = Kept {
             at: name.at,
-            size: reading.size,
-            nesting: reading.nesting,
-            expr: reading.into_kept(alloc),
+            size: value.size,
+            nesting: value.nesting,
+            tags: Sequence::from_vec(tags),
+            expr: value.into_kept(),
         };
         self.env.definitions.add(alloc, name.text, kept)?;
         Ok(())

@@ -1,33 +1,34 @@
 //! Reads the tokens of an expression that are no signs between others.
-ghost use Rattle.std.specs.Prelude.{◌≡◌, ◌≤◌, ◌∷◌, ℕ, Bool, true, false, List, Some, None, [], IfOk, MatchResult, length, map, max};
-ghost use Rattle.std.specs.Option.{option_map};
+ghost use Rattle.std.specs.Prelude.{◌≡◌, ◌≤◌, ◌∷◌, ◌++◌, ◌^◌, ◌+◌, ℕ, Bool, true, false, List, Some, None, [], IfOk, MatchResult, length, map, max, min, suc};
 ghost use Rattle.lx_base.specs.declared.faults.Fault.TheVariants.{EmptyClass, UnknownName};
 ghost use Rattle.lx_base.specs.declared.places.Pos.{Pos};
 ghost use Rattle.lx_base.specs.declared.settings.Options.{Options};
-ghost use Rattle.lx_class.specs.Ranges.{InRanges};
-ghost use Rattle.lx_regex.specs.Expr.{members_of, ranges_of, size_of, term_of};
+ghost use Rattle.lx_class.specs.Ranges.{InRanges, IsCanonical};
+ghost use Rattle.lx_regex.specs.Expr.{members_of, size_of, term_of};
 ghost use Rattle.lx_regex.specs.Term.{cat};
-ghost use Rattle.lx_rules.specs.Checks.{IsFilled, PointsAre, StopsAt};
-ghost use Rattle.lx_rules.specs.Content.{IsAtom, IsReading, atom_size};
-ghost use Rattle.lx_rules.specs.Environments.{Definition, Meaning, class_in, kept};
+ghost use Rattle.lx_rules.specs.Checks.{IsFilled, LeafChecks, PointsAre, StopsAt};
+ghost use Rattle.lx_rules.specs.Environments.{Definition, is_built, kept};
+ghost use Rattle.lx_rules.specs.Lexemes as lexical;
 ghost use Rattle.lx_rules.specs.Lexemes.{points_in};
-ghost use Rattle.lx_rules.specs.Meanings.{character_set, class_meaning, copied, followed, meaning_of_string, set_term, string_meaning};
+ghost use Rattle.lx_rules.specs.Meanings.{IsSetOf, character_set, class_meaning, copied, meaning_of_string, set_term, string_meaning, tag_meaning};
 ghost use Rattle.lx_rules.specs.Points.{singles};
-ghost use Rattle.lx_rules.specs.Reading.{IsLeafRead, StopsLeaf};
+ghost use Rattle.lx_rules.specs.Reading.{IsLeafRead};
 ghost use Rattle.lx_rules.specs.Seen.{AreCodePoints, IsStop, definition_view, definitions_view, lexeme_view, points_of};
-ghost use Rattle.lx_rules.specs.Soundness.{AreSound, FitsSize, IsHonest};
+ghost use Rattle.lx_rules.specs.Soundness.{AreSound, FitsKept};
+ghost use Rattle.lx_rules.specs.Values.{AreTagsBelow, IsContent, IsHonest, IsRoom, IsValue, content_size, is_past};
 ghost use Rattle.lx_token.specs.declared.kinds.TokenKind.TheVariants as kind;
 
 use crate::copies::copy;
 use crate::definitions::{Definitions, Kept};
 use crate::lexemes::Lexeme;
 use crate::points::points_fault;
-use crate::reading::{Atom, Reading, sum};
 use crate::sets::{character_set, class_set, line_set, ranges_of, single_ranges};
+use crate::tags::{add_copies, add_copy, is_among, repeated_tag, tag_name, text};
+use crate::values::{Content, MOST_SIZE, MOST_TAGS, Room, Value, class_of, sum};
 use lx_base::{ByteText, EmptyPolicy, Fault, Memory, Options, Pos, Stop, SurPolicy};
 use lx_class::ClassSet;
 use lx_regex::Expr;
-use lx_token::{Character, TokenKind, characters_of, class_of};
+use lx_token::{Character, TokenKind, characters_of, class_of as written_class};
 use std::alloc::Global;
 
 /// What does not change while an expression is read.
@@ -35,8 +36,8 @@ use std::alloc::Global;
 pub(crate) struct Reader<'r> {
     pub options: &'r Options,
     pub definitions: &'r Definitions,
-    /// The size that the expression may have; a longer one is read to its end and not built.
-    pub room: u64,
+    /// What the expression may have; a greater one is read to its end and not built.
+    pub room: Room,
 }
 
 /// The characters of a string, one behind another.
@@ -47,7 +48,7 @@ fn sequence(
     characters: &[Character],
 ) -> Result<Expr, Memory>
     requires { AreCodePoints characters.now }
-    ensures term { IfOk result (λ expr. term_of 0 expr ≡ cat (members_of (map set_term (map (character_set policy is_caseless) (points_of characters.now))))) }
+    ensures term { IfOk result (λ expr. (tags : ℕ) → term_of tags expr ≡ cat (members_of (map set_term (map (character_set policy is_caseless) (points_of characters.now))))) }
     ensures size { IfOk result (λ expr. size_of expr ≡ length characters.now) }
 {
     let mut members = Vec::new(alloc);
@@ -58,102 +59,90 @@ fn sequence(
     Ok(Expr::Cat(members))
 }
 
-/// The string of characters.
-fn string_atom(
+/// What stands in a string. A long one is not built.
+fn string_content(
     alloc: Global,
     policy: SurPolicy,
     is_caseless: bool,
     characters: &[Character],
-    is_built: bool,
-) -> Result<Atom, Memory>
+) -> Result<Content, Memory>
     requires { AreCodePoints characters.now }
-    ensures atom { IfOk result (IsAtom is_built (string_meaning (map (character_set policy is_caseless) (points_of characters.now)))) }
-    ensures size { IfOk result (λ atom. atom_size atom ≤ max 1 (length characters.now)) }
+    ensures stands { (is_built : Bool) (count : ℕ) → (4096 + 1 ≤ length characters.now → is_built ≡ false)
+        → IfOk result (IsContent is_built (string_meaning count (map (character_set policy is_caseless) (points_of characters.now)))) }
+    ensures size { IfOk result (λ content. content_size content ≤ max 1 (length characters.now)) }
+    ensures tags { (bound : ℕ) → IfOk result (AreTagsBelow bound) }
 {
     match characters {
-        [] => Ok(Atom::Other(Some(Expr::Empty))),
+        [] => Ok(Content::One(Expr::Empty)),
         [character] => {
             let set = character_set(alloc, policy, is_caseless, character.point)?;
-            Ok(Atom::Class(set))
+            Ok(Content::One(Expr::Class(set)))
         }
-        _ if is_built => {
+        _ if characters.len() as u64 <= MOST_SIZE => {
             let expr = sequence(alloc, policy, is_caseless, characters)?;
-            Ok(Atom::Other(Some(expr)))
+            Ok(Content::One(expr))
         }
-        _ => Ok(Atom::Other(None)),
+        _ => Ok(Content::Past(None, false)),
     }
 }
 
 /// A class. One that is no operand of a difference and has no point is the empty word, where empty classes match that.
-fn class_atom(policy: EmptyPolicy, is_operand: bool, set: ClassSet) -> Atom
-    ensures atom { (is_built : Bool) (nesting : ℕ) → IsAtom is_built (class_meaning is_operand policy nesting set) result }
-    ensures size { atom_size result ≡ 1 }
+fn class_content(policy: EmptyPolicy, is_operand: bool, set: ClassSet) -> Content
+    ensures stands { (is_built : Bool) (nesting count : ℕ) (tags : List (List ℕ)) → IsContent is_built (class_meaning is_operand policy nesting tags count set) result }
+    ensures size { content_size result ≡ 1 }
+    ensures tags { (bound : ℕ) → AreTagsBelow bound result }
 {
     if !is_operand && policy == EmptyPolicy::MatchEmpty && set.ranges().is_empty() {
-        return Atom::Other(Some(Expr::Empty));
+        return Content::One(Expr::Empty);
     }
-    Atom::Class(set)
+    Content::One(Expr::Class(set))
 }
 
-/// The class that an expression is, if it is one.
-fn class_in(expr: &Expr) -> Option<&ClassSet>
-    ensures { option_map (λ set. ranges_of set.now) result ≡ class_in (term_of 0 expr.now) }
-{
-    match expr {
-        Expr::Class(set) => Some(set),
-        Expr::Empty
-        | Expr::AnyUnit
-        | Expr::Cat(_)
-        | Expr::Alt(_)
-        | Expr::Rep(..)
-        | Expr::STag(_)
-        | Expr::MTag(_)
-        | Expr::Group(..) => None,
-    }
-}
-
-/// A copy of the expression of a definition. One that was not built is missed nowhere.
-fn kept_atom(alloc: Global, kept: &Kept, is_built: bool) -> Result<Atom, Memory>
-    ensures atom { IfOk result (IsAtom is_built (copied (definition_view [] kept.now))) }
-    ensures size { FitsSize kept.now.expr kept.now.size → IfOk result (λ atom. atom_size atom ≤ kept.now.size) }
+/// A copy of the expression of a definition, behind so many tags. One that was not built is missed nowhere.
+fn kept_content(alloc: Global, kept: &Kept, by: usize) -> Result<Content, Memory>
+    requires { FitsKept kept.now.expr kept.now.size (length kept.now.tags) }
+    ensures stands { (is_built : Bool) → (128 + 1 ≤ by + length kept.now.tags → is_built ≡ false)
+        → IfOk result (IsContent is_built (copied by (definition_view [] kept.now))) }
+    ensures size { IfOk result (λ content. content_size content ≤ kept.now.size) }
+    ensures tags { IfOk result (AreTagsBelow (by + length kept.now.tags)) }
 {
     let Some(expr) = &kept.expr else {
-        return Ok(Atom::Other(Some(Expr::Empty)));
+        return Ok(Content::One(Expr::Empty));
     };
-    match class_in(expr) {
-        Some(set) => Ok(Atom::Class(set.copy(alloc)?)),
-        None if is_built => Ok(Atom::Other(Some(copy(alloc, expr)?))),
-        None => Ok(Atom::Other(None)),
+    if sum(by as u64, kept.tags.as_slice().len() as u64) > MOST_TAGS {
+        let class = class_of(alloc, expr)?;
+        return Ok(Content::Past(class, false));
     }
+    Ok(Content::One(copy(alloc, expr, by as u32)?))
 }
 
 /// The fault of a name that has no definition.
 fn unknown(alloc: Global, lexeme: &Lexeme<'_>) -> Stop
     ensures { IsStop (Some (UnknownName lexeme.now.at lexeme.now.text.now)) result }
 {
-    match Vec::from_slice(alloc, lexeme.text) {
+    match text(alloc, lexeme.text) {
         Ok(name) => Stop::Fault(Fault::UnknownName {
             at: lexeme.at,
-            name: ByteText::from_vec(name),
+            name,
         }),
         Err(_) => Stop::Memory,
     }
 }
 
-/// Reads a string.
+/// Reads a string behind so many tags.
 fn read_string(
     alloc: Global,
     reader: Reader<'_>,
-    current: Reading,
+    count: usize,
     lexeme: &Lexeme<'_>,
     is_caseless: bool,
-) -> Result<Reading, Stop>
-    requires { reader.room ≤ 4096 }
-    ensures read { (definitions : List Definition) (meaning : Meaning) → IsReading reader.entry.room meaning current → MatchResult result
-        (λ after. PointsAre reader.entry.options.now definitions (lexeme_view lexeme.now) (singles (points_in (lexeme_view lexeme.now))) None
-        × IsReading reader.entry.room (followed meaning (meaning_of_string reader.entry.options.now definitions is_caseless (lexeme_view lexeme.now))) after)
+) -> Result<Value, Stop>
+    requires { IsRoom reader.room }
+    ensures read { (definitions : List Definition) → MatchResult result
+        (λ value. PointsAre reader.entry.options.now definitions (lexeme_view lexeme.now) (singles (points_in (lexeme_view lexeme.now))) None
+        × IsValue reader.entry.room (meaning_of_string reader.entry.options.now definitions is_caseless count (lexeme_view lexeme.now)) value)
         (StopsAt (PointsAre reader.entry.options.now definitions (lexeme_view lexeme.now) (singles (points_in (lexeme_view lexeme.now))))) }
-    ensures honest { IsHonest current → IfOk result (λ after. IsHonest after × (1 ≤ after.size)) }
+    ensures honest { (all : ℕ) → IfOk result (IsHonest all) }
 {
     let options = reader.options;
     let characters = characters_of(alloc, lexeme.text)?;
@@ -162,10 +151,9 @@ fn read_string(
     if let Some(fault) = points_fault(options.enc, options.surrogates, lexeme.at, &ranges) {
         return Err(Stop::Fault(fault));
     }
-    let size = (characters.len() as u64).max(1);
-    let is_built = current.has_room(reader.room, size, 0);
-    let atom = string_atom(alloc, options.surrogates, is_caseless, characters, is_built)?;
-    Ok(current.followed_by(alloc, reader.room, atom, size, 0)?)
+    let content = string_content(alloc, options.surrogates, is_caseless, characters)?;
+    let size = sum((characters.len() as u64).max(1), 0);
+    Ok(Value::limited(alloc, reader.room, content, size, 0, sum(count as u64, 0))?)
 }
 
 /// Whether a class is refused since it is empty.
@@ -178,122 +166,185 @@ fn is_refused(policy: EmptyPolicy, is_operand: bool, set: &ClassSet) -> bool
     policy == EmptyPolicy::Error && !is_operand && set.ranges().is_empty()
 }
 
-/// Puts a class behind what is read, of this nesting and at this place. One that has no point may be refused.
-pub(crate) fn put_class(
+/// A class of this nesting and at this place, behind so many tags. One that has no point may be refused.
+pub(crate) fn read_set(
     alloc: Global,
     reader: Reader<'_>,
-    current: Reading,
+    count: u64,
     set: ClassSet,
     is_operand: bool,
     nesting: u64,
     at: Pos,
-) -> Result<Reading, Stop>
-    requires { reader.room ≤ 4096 }
-    ensures read { (definitions : List Definition) (meaning : Meaning) (depth : ℕ) → IsReading reader.entry.room meaning current
-        → nesting ≡ kept depth → MatchResult result
-        (λ after. IsFilled reader.entry.options.now definitions reader.entry.options.now.empty is_operand at (InRanges set) None
-        × IsReading reader.entry.room (followed meaning (class_meaning is_operand reader.entry.options.now.empty depth set)) after)
+) -> Result<Value, Stop>
+    requires { IsRoom reader.room }
+    ensures read { (definitions : List Definition) (depth all : ℕ) (tags : List (List ℕ)) → nesting ≡ kept depth → count ≡ kept all → MatchResult result
+        (λ value. IsFilled reader.entry.options.now definitions reader.entry.options.now.empty is_operand at (InRanges set) None
+        × IsValue reader.entry.room (class_meaning is_operand reader.entry.options.now.empty depth tags all set) value)
         (StopsAt (IsFilled reader.entry.options.now definitions reader.entry.options.now.empty is_operand at (InRanges set))) }
-    ensures honest { IsHonest current → IfOk result (λ after. IsHonest after × (1 ≤ after.size)) }
+    ensures honest { (all : ℕ) → IfOk result (IsHonest all) }
 {
     let policy = reader.options.empty;
     if is_refused(policy, is_operand, &set) {
         return Err(Stop::Fault(Fault::EmptyClass { at }));
     }
-    let atom = class_atom(policy, is_operand, set);
-    Ok(current.followed_by(alloc, reader.room, atom, 1, nesting)?)
+    let content = class_content(policy, is_operand, set);
+    Ok(Value::limited(alloc, reader.room, content, 1, nesting, count)?)
 }
 
-/// Reads a class.
+/// Reads a class behind so many tags.
 fn read_class(
     alloc: Global,
     reader: Reader<'_>,
-    current: Reading,
+    count: usize,
     lexeme: &Lexeme<'_>,
     is_operand: bool,
-) -> Result<Reading, Stop>
-    requires { reader.room ≤ 4096 }
+) -> Result<Value, Stop>
+    requires room { IsRoom reader.room }
+    requires sort { (lexeme_view lexeme.now).kind ≡ kind.Class }
     ensures read { let definitions = definitions_view reader.entry.definitions.now in
-        (meaning : Meaning) → IsReading reader.entry.room meaning current → MatchResult result
-        (IsLeafRead reader.entry.options.now definitions kind.Class reader.entry.room is_operand (lexeme_view lexeme.now) meaning)
-        (StopsLeaf reader.entry.options.now definitions kind.Class is_operand (lexeme_view lexeme.now)) }
-    ensures honest { IsHonest current → IfOk result (λ after. IsHonest after × (1 ≤ after.size)) }
+        (before : List (List ℕ)) → count ≡ length before → MatchResult result
+        (IsLeafRead reader.entry.options.now definitions reader.entry.room is_operand before (lexeme_view lexeme.now) before)
+        (StopsAt (LeafChecks reader.entry.options.now definitions (lexeme_view lexeme.now).kind is_operand before (lexeme_view lexeme.now))) }
+    ensures honest { (all : ℕ) → IfOk result (IsHonest all) }
 {
     let options = reader.options;
-    let class = class_of(alloc, lexeme.text)?;
+    let class = written_class(alloc, lexeme.text)?;
     let ranges = ranges_of(alloc, class.ranges.as_slice())?;
     if let Some(fault) = points_fault(options.enc, options.surrogates, lexeme.at, &ranges) {
         return Err(Stop::Fault(fault));
     }
     let set = class_set(alloc, options, class.is_negated, &ranges)?;
-    put_class(alloc, reader, current, set, is_operand, 0, lexeme.at)
+    read_set(
+        alloc,
+        reader,
+        sum(count as u64, 0),
+        set,
+        is_operand,
+        0,
+        lexeme.at,
+    )
 }
 
-/// Reads `.`, which is all code points but the line feed.
+/// Reads `.`, which is all code points but the line feed, behind so many tags.
 fn read_line(
     alloc: Global,
     reader: Reader<'_>,
-    current: Reading,
-    lexeme: &Lexeme<'_>,
+    count: usize,
     is_operand: bool,
-) -> Result<Reading, Stop>
-    requires { reader.room ≤ 4096 }
+) -> Result<Value, Memory>
+    requires { IsRoom reader.room }
     ensures read { let definitions = definitions_view reader.entry.definitions.now in
-        (meaning : Meaning) → IsReading reader.entry.room meaning current → MatchResult result
-        (IsLeafRead reader.entry.options.now definitions kind.Signs reader.entry.room is_operand (lexeme_view lexeme.now) meaning)
-        (StopsLeaf reader.entry.options.now definitions kind.Signs is_operand (lexeme_view lexeme.now)) }
-    ensures honest { IsHonest current → IfOk result (λ after. IsHonest after × (1 ≤ after.size)) }
+        (before : List (List ℕ)) (lexeme : lexical.Lexeme) → count ≡ length before → lexeme.kind ≡ kind.Signs
+        → IfOk result (IsLeafRead reader.entry.options.now definitions reader.entry.room is_operand before lexeme before) }
+    ensures honest { (all : ℕ) → IfOk result (IsHonest all) }
 {
     let set = line_set(alloc, reader.options)?;
-    let atom = class_atom(reader.options.empty, is_operand, set);
-    Ok(current.followed_by(alloc, reader.room, atom, 1, 0)?)
+    let content = class_content(reader.options.empty, is_operand, set);
+    Value::limited(alloc, reader.room, content, 1, 0, sum(count as u64, 0))
 }
 
-/// Reads a name: a copy of what is kept of its definition.
+/// Reads a name: a copy of what is kept of its definition, whose tags come behind those that were seen before.
 fn read_name(
     alloc: Global,
     reader: Reader<'_>,
-    current: Reading,
+    seen: &mut Vec<ByteText>,
     lexeme: &Lexeme<'_>,
     is_operand: bool,
-) -> Result<Reading, Stop>
-    requires { reader.room ≤ 4096 }
+) -> Result<Value, Stop>
+    requires room { IsRoom reader.room }
+    requires sort { (lexeme_view lexeme.now).kind ≡ kind.Name }
+    requires sound { AreSound reader.definitions.now }
     ensures read { let definitions = definitions_view reader.entry.definitions.now in
-        (meaning : Meaning) → IsReading reader.entry.room meaning current → MatchResult result
-        (IsLeafRead reader.entry.options.now definitions kind.Name reader.entry.room is_operand (lexeme_view lexeme.now) meaning)
-        (StopsLeaf reader.entry.options.now definitions kind.Name is_operand (lexeme_view lexeme.now)) }
-    ensures honest { AreSound reader.entry.definitions.now → IsHonest current → IfOk result (λ after. IsHonest after × (1 ≤ after.size)) }
+        MatchResult result
+        (IsLeafRead reader.entry.options.now definitions reader.entry.room is_operand seen.old.items (lexeme_view lexeme.now) seen.new.items)
+        (StopsAt (LeafChecks reader.entry.options.now definitions (lexeme_view lexeme.now).kind is_operand seen.old.items (lexeme_view lexeme.now))) }
+    ensures honest { IfOk result (IsHonest (length seen.new.items)) }
 {
     let Some(kept) = reader.definitions.get(lexeme.text) else {
         return Err(unknown(alloc, lexeme));
     };
+    if let Some(fault) = repeated_tag(alloc, lexeme.at, kept.tags.as_slice(), seen.as_slice())? {
+        return Err(Stop::Fault(fault));
+    }
+    let by = seen.len();
+    add_copies(alloc, seen, kept.tags.as_slice())?;
+    let content = kept_content(alloc, kept, by)?;
     let nesting = sum(kept.nesting, 1);
-    let is_built = current.has_room(reader.room, kept.size, nesting);
-    let atom = kept_atom(alloc, kept, is_built)?;
-    Ok(current.followed_by(alloc, reader.room, atom, kept.size, nesting)?)
+    let tags = sum(seen.len() as u64, 0);
+    let size = sum(kept.size, 0);
+    Ok(Value::limited(alloc, reader.room, content, size, nesting, tags)?)
 }
 
-/// Reads a token behind what is read. Strings, classes, `.` and names are supported.
+/// A tag behind so many others. One that is past the limit is not built.
+fn tag_content(number: usize) -> Content
+    ensures stands { (is_built : Bool) (name : List ℕ) → (128 + 1 ≤ suc number → is_built ≡ false) → IsContent is_built (tag_meaning number name) result }
+    ensures size { content_size result ≤ 1 }
+    ensures tags { AreTagsBelow (suc number) result }
+{
+    if (number as u64) < MOST_TAGS {
+        Content::One(Expr::STag(number as u32))
+    } else {
+        Content::Past(None, false)
+    }
+}
+
+/// Reads a tag.
+fn read_tag(
+    alloc: Global,
+    reader: Reader<'_>,
+    seen: &mut Vec<ByteText>,
+    lexeme: &Lexeme<'_>,
+    is_operand: bool,
+) -> Result<Value, Stop>
+    requires room { IsRoom reader.room }
+    requires sort { (lexeme_view lexeme.now).kind ≡ kind.STag }
+    ensures read { let definitions = definitions_view reader.entry.definitions.now in
+        MatchResult result
+        (IsLeafRead reader.entry.options.now definitions reader.entry.room is_operand seen.old.items (lexeme_view lexeme.now) seen.new.items)
+        (StopsAt (LeafChecks reader.entry.options.now definitions (lexeme_view lexeme.now).kind is_operand seen.old.items (lexeme_view lexeme.now))) }
+    ensures honest { IfOk result (IsHonest (length seen.new.items)) }
+{
+    if !reader.options.tags {
+        return Err(Stop::Fault(Fault::TagsOff { at: lexeme.at }));
+    }
+    let name = tag_name(lexeme.text);
+    if is_among(name, seen.as_slice()) {
+        let name = text(alloc, name)?;
+        return Err(Stop::Fault(Fault::DuplicateTag {
+            at: lexeme.at,
+            name,
+        }));
+    }
+    let number = seen.len();
+    add_copy(alloc, seen, name)?;
+    let tags = sum(number as u64, 1);
+    let content = tag_content(number);
+    Ok(Value::limited(alloc, reader.room, content, 1, 0, tags)?)
+}
+
+/// Reads a token that is no sign between others, behind the tags that were seen before. M-tags are not supported yet.
 pub(crate) fn read_leaf(
     alloc: Global,
     reader: Reader<'_>,
-    current: Reading,
+    seen: &mut Vec<ByteText>,
     lexeme: &Lexeme<'_>,
     is_operand: bool,
-) -> Result<Reading, Stop>
-    requires { reader.room ≤ 4096 }
+) -> Result<Value, Stop>
+    requires room { IsRoom reader.room }
+    requires sound { AreSound reader.definitions.now }
     ensures read { let definitions = definitions_view reader.entry.definitions.now in
-        (meaning : Meaning) → IsReading reader.entry.room meaning current → MatchResult result
-        (IsLeafRead reader.entry.options.now definitions (lexeme_view lexeme.now).kind reader.entry.room is_operand (lexeme_view lexeme.now) meaning)
-        (StopsLeaf reader.entry.options.now definitions (lexeme_view lexeme.now).kind is_operand (lexeme_view lexeme.now)) }
-    ensures honest { AreSound reader.entry.definitions.now → IsHonest current → IfOk result (λ after. IsHonest after × (1 ≤ after.size)) }
+        MatchResult result
+        (IsLeafRead reader.entry.options.now definitions reader.entry.room is_operand seen.old.items (lexeme_view lexeme.now) seen.new.items)
+        (StopsAt (LeafChecks reader.entry.options.now definitions (lexeme_view lexeme.now).kind is_operand seen.old.items (lexeme_view lexeme.now))) }
+    ensures honest { IfOk result (IsHonest (length seen.new.items)) }
 {
     match lexeme.kind {
-        TokenKind::Str => read_string(alloc, reader, current, lexeme, false),
-        TokenKind::IStr => read_string(alloc, reader, current, lexeme, true),
-        TokenKind::Class => read_class(alloc, reader, current, lexeme, is_operand),
-        TokenKind::Signs => read_line(alloc, reader, current, lexeme, is_operand),
-        TokenKind::Name => read_name(alloc, reader, current, lexeme, is_operand),
+        TokenKind::Str => read_string(alloc, reader, seen.len(), lexeme, false),
+        TokenKind::IStr => read_string(alloc, reader, seen.len(), lexeme, true),
+        TokenKind::Class => read_class(alloc, reader, seen.len(), lexeme, is_operand),
+        TokenKind::Signs => Ok(read_line(alloc, reader, seen.len(), is_operand)?),
+        TokenKind::Name => read_name(alloc, reader, seen, lexeme, is_operand),
+        TokenKind::STag => read_tag(alloc, reader, seen, lexeme, is_operand),
         _ => Err(Stop::Fault(Fault::Unsupported {
             at: Some(lexeme.at),
         })),

@@ -12,11 +12,13 @@ mod items;
 mod leaves;
 mod lexemes;
 mod points;
-mod reading;
 pub mod resolved;
 pub mod resolving;
 mod rules;
 mod sets;
+mod steps;
+mod tags;
+mod values;
 
 pub use definitions::Definitions;
 pub use environment::Env;

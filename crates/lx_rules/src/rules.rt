@@ -1,31 +1,52 @@
 //! Takes the rules of a block.
-ghost use Rattle.std.specs.Prelude.{◌≡◌, [], IfOk, None};
+ghost use Rattle.std.specs.Prelude.{◌≡◌, IfOk, None, false, length, map};
 ghost use Rattle.lx_regex.specs.Expr.{term_of};
 ghost use Rattle.lx_regex.specs.Pattern as regex;
+ghost use Rattle.lx_regex.specs.declared.rules.Tag.{Tag as tag_type};
+ghost use Rattle.lx_rules.specs.Blocks.{given_names};
 ghost use Rattle.lx_rules.specs.Items.{act_of};
 ghost use Rattle.lx_rules.specs.Seen.{lexemes_view};
 
+use crate::expressions::Reading;
 use crate::heads::Head;
-use crate::items::{Block, DefaultRule, Known, text, waits};
-use crate::reading::{Reading, sum};
+use crate::items::{Block, DefaultRule, Known, waits};
 use crate::resolved::Act;
-use lx_base::{Fault, Memory, Pos, Sequence, Stop};
-use lx_regex::{Expr, Kind, Rule};
+use crate::tags::{add_copies, text};
+use crate::values::sum;
+use lx_base::{ByteText, Fault, Memory, Pos, Sequence, Stop};
+use lx_regex::{Expr, Kind, Rule, Tag};
 use std::alloc::Global;
 
-/// A rule without tags, groups and context.
-pub(crate) fn bare_rule(alloc: Global, number: u32, kind: Kind, expr: Expr) -> Rule
+/// A rule with tags, without groups and context.
+pub(crate) fn simple_rule(number: u32, kind: Kind, expr: Expr, tags: Sequence<Tag>) -> Rule
     ensures expr { result.expr ≡ expr }
-    ensures pattern { regex.pattern_of result ≡ record { number = number; kind = kind; term = term_of 0 expr; many = []; slash = None; groups = 0 } }
+    ensures names { given_names result ≡ map (λ (tag : tag_type). tag.name) tags }
+    ensures pattern { regex.pattern_of result ≡ record { number = number; kind = kind; term = term_of (length tags) expr; many = map (λ (tag : tag_type). tag.many) tags; slash = None; groups = 0 } }
 {
     Rule {
         number,
         kind,
         expr,
-        tags: Sequence::new(alloc),
+        tags,
         slash: None,
         groups: 0,
     }
+}
+
+/// S-tags with these names.
+fn tags_with(alloc: Global, names: &[ByteText]) -> Result<Sequence<Tag>, Memory>
+    ensures names { IfOk result (λ tags. map (λ (tag : tag_type). tag.name) tags ≡ names.now) }
+    ensures many { IfOk result (λ tags. map (λ (tag : tag_type). tag.many) tags ≡ map (λ name. false) names.now) }
+    ensures count { IfOk result (λ tags. length tags ≡ length names.now) }
+{
+    let mut tags = Vec::new(alloc);
+    for name in names {
+        tags.push(Tag {
+            name: text(alloc, name.as_slice())?,
+            many: false,
+        })?;
+    }
+    Ok(Sequence::from_vec(tags))
 }
 
 /// What a rule without a target does.
@@ -52,7 +73,7 @@ fn act(alloc: Global, block: Block<'_>, number: u32, code: Option<u32>) -> Resul
 }
 
 impl Known {
-    ghost use Rattle.std.specs.Prelude.{◌≡◌, ◌+◌, ◌<◌, ◌≤◌, ◌^◌, Bool, OnOk, MatchResult, length, max, min, suc};
+    ghost use Rattle.std.specs.Prelude.{◌≡◌, ◌+◌, ◌++◌, ◌<◌, ◌≤◌, ◌^◌, Bool, OnOk, MatchResult, length, max, min, suc};
     ghost use Rattle.lx_parse.specs.Ranges.{HasExpressions};
     ghost use Rattle.lx_parse.specs.declared.items.Item.TheVariants as item;
     ghost use Rattle.lx_base.specs.declared.places.Pos.{Pos};
@@ -62,26 +83,30 @@ impl Known {
     ghost use Rattle.lx_rules.specs.Checks.{StopsAt};
     ghost use Rattle.lx_rules.specs.Lexemes.{sorts_at};
     ghost use Rattle.lx_rules.specs.Seen.{lexemes_view};
-    ghost use Rattle.lx_rules.specs.Soundness.{IsHonest, IsSound};
+    ghost use Rattle.lx_rules.specs.Soundness.{IsSound};
+    ghost use Rattle.lx_rules.specs.Values.{IsHonest};
 
     /// Adds the rule of an expression, where it is built.
     fn push_rule(&mut self, alloc: Global, number: u32, reading: Reading) -> Result<(), Memory>
-        requires { IsHonest reading }
-        ensures size { OnOk result (self.new.size ≡ min (2 ^ 40) (self.old.size + reading.size)) }
-        ensures nesting { OnOk result (self.new.nesting ≡ max self.old.nesting reading.nesting) }
+        requires { IsHonest (length reading.tags.items) reading.value }
+        ensures size { OnOk result (self.new.size ≡ min (2 ^ 40) (self.old.size + reading.value.size)) }
+        ensures nesting { OnOk result (self.new.nesting ≡ max self.old.nesting reading.value.nesting) }
+        ensures tags { OnOk result (self.new.tags.items ≡ self.old.tags.items ++ reading.tags.items) }
         ensures env { self.new.env ≡ self.old.env }
         ensures default { self.new.default ≡ self.old.default }
         ensures acts { self.new.acts ≡ self.old.acts }
-        ensures rules { OnOk result (AddsPlain (room_behind self.old.size self.old.nesting) number reading self.old.rules.items self.new.rules.items) }
+        ensures rules { OnOk result (AddsPlain (room_behind self.old.size self.old.nesting (length self.old.tags.items)) number reading self.old.rules.items self.new.rules.items) }
     {
-        let room = self.room();
-        self.size = sum(self.size, reading.size);
-        self.nesting = self.nesting.max(reading.nesting);
-        match reading.into_expr(alloc, room) {
+        let Reading { value, tags } = reading;
+        self.size = sum(self.size, value.size);
+        self.nesting = self.nesting.max(value.nesting);
+        add_copies(alloc, &mut self.tags, &tags)?;
+        match value.into_expr() {
             None => Ok(()),
             Some(expr) => {
+                let tags = tags_with(alloc, &tags)?;
                 self.rules
-                    .push(bare_rule(alloc, number, Kind::Plain, expr))?;
+                    .push(simple_rule(number, Kind::Plain, expr, tags))?;
                 Ok(())
             }
         }
@@ -104,7 +129,7 @@ impl Known {
 
     /// Adds the rule of an expression.
     fn add_plain(&mut self, alloc: Global, reading: Reading, act: Act) -> Result<(), Memory>
-        requires { IsHonest reading }
+        requires { IsHonest (length reading.tags.items) reading.value }
         ensures few { OnOk result (length self.new.acts.items ≤ suc (length self.old.acts.items)) }
         ensures added { (conds : Bool) (state : State) (at : Pos) (rule : RuleOf) → Holds conds self.old state → IsNew conds self.old (head.Plain reading) at act rule
             → OnOk result (Holds conds self.new (with_rule state rule)) }

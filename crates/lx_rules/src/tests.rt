@@ -1,5 +1,7 @@
 //! Worked blocks: what they resolve to, and where they are refused.
 mod classes;
+mod forms;
+mod samples;
 
 use super::*;
 use lx_base::{BlockKind, EmptyPolicy, Enc, Fault, FileName, Job, Options, Pos, Stop, SurPolicy};
@@ -45,6 +47,9 @@ fn name_of(fault: &Fault) -> &'static str {
         Fault::CodePoint { .. } => "code point",
         Fault::Surrogate { .. } => "surrogate",
         Fault::NotClass { .. } => "not a class",
+        Fault::Bounds { .. } => "bounds",
+        Fault::TagsOff { .. } => "tags off",
+        Fault::DuplicateTag { .. } => "duplicate tag",
         Fault::EmptyClass { .. } => "empty class",
         Fault::UnknownConfig { .. } => "unknown configuration",
         Fault::BadValue { .. } => "bad value",
@@ -157,12 +162,9 @@ fn faults_stand_at_their_tokens(rt: HostRuntime) -> Result<(), Fail> {
         ("re2c:eof = 0;", "unsupported at 1:1"),
         ("re2c:yyfill:enable = 2;", "bad value at 1:22"),
         ("re2c:yyfill:enable = 'x';", "unsupported at 1:22"),
-        ("\"a\" | [b] { }", "unsupported at 1:5"),
-        ("(\"a\") { }", "unsupported at 1:1"),
-        ("[a]+ { }", "unsupported at 1:4"),
+        ("#t { }", "unsupported at 1:1"),
         ("\"ab\" \\ [b] | \"c\" { }", "not a class at 1:6"),
-        ("\"a\"* { }", "unsupported at 1:4"),
-        ("\"a\" / x { }", "unsupported at 1:5"),
+        ("\"a\"* / x { }", "unsupported at 1:6"),
         ("x / \"a\" { }", "unknown name at 1:1"),
         ("$ { }", "unsupported at 1:1"),
         ("<c> \"a\" { }", "unsupported at 1:1"),
@@ -179,8 +181,8 @@ fn the_first_of_two_faults_is_told(rt: HostRuntime) -> Result<(), Fail> {
     let alloc = rt.alloc();
     let options = options(alloc, Enc::Byte, SurPolicy::Ignore)?;
     for (body, want) in [
-        ("x { } [a]* { }", "unknown name at 1:1"),
-        ("[a]* { } x { }", "unsupported at 1:4"),
+        ("x { } [a] / [b] { }", "unknown name at 1:1"),
+        ("[a] / [b] { } x { }", "unsupported at 1:5"),
         ("\"\\u0100\" x { }", "code point at 1:1"),
         ("x \"\\u0100\" { }", "unknown name at 1:1"),
         ("x = \"a\"; x = y;", "redefined at 1:10"),

@@ -24,22 +24,20 @@ or-none true two is = absurd (let h = is in cc)
 or-none false two is = (refl, is)
 
 -- what the flags of a line say where it asks for nothing that waits
-record Waits (conditions states tags captures source compiled shown : Bool) : Type 0 where
+record Waits (conditions states captures source compiled shown : Bool) : Type 0 where
   pub conditions_off : conditions ≡ false
   pub states_off : states ≡ false
-  pub tags_off : tags ≡ false
   pub captures_off : captures ≡ false
   pub source_off : source ≡ false
   pub compiled_shown : (compiled && not shown) ≡ false
 
-none_waits : (conditions states reusable tags captures folder source window piece compiled shown : Bool)
-    → (conditions || (states || (reusable || (tags || (captures || (folder || (source || (window || (piece || (compiled && not shown)))))))))) ≡ false
-    → Waits conditions states tags captures source compiled shown
-none_waits conditions states reusable tags captures folder source window piece compiled shown none =
+none_waits : (conditions states reusable captures folder source window piece compiled shown : Bool)
+    → (conditions || (states || (reusable || (captures || (folder || (source || (window || (piece || (compiled && not shown))))))))) ≡ false
+    → Waits conditions states captures source compiled shown
+none_waits conditions states reusable captures folder source window piece compiled shown none =
     let states_on = or-none conditions _ none in
     let reusable_on = or-none states _ states_on.1 in
-    let tags_on = or-none reusable _ reusable_on.1 in
-    let captures_on = or-none tags _ tags_on.1 in
+    let captures_on = or-none reusable _ reusable_on.1 in
     let folder_on = or-none captures _ captures_on.1 in
     let source_on = or-none folder _ folder_on.1 in
     let window_on = or-none source _ source_on.1 in
@@ -48,7 +46,6 @@ none_waits conditions states reusable tags captures folder source window piece c
     record {
       conditions_off = states_on.0;
       states_off = reusable_on.0;
-      tags_off = captures_on.0;
       captures_off = folder_on.0;
       source_off = window_on.0;
       compiled_shown = last.1;
@@ -59,13 +56,12 @@ plain_compiled : (line : Line) → waits line ≡ false → has_value line (code
 unfolding options_of
 plain_compiled line none no_run =
     let given = none_waits (has_flag line (codes "conditions")) (has_flag line (codes "storable-state")) (has_flag line (codes "reusable"))
-    (has_flag line (codes "tags")) (has_flag line (codes "captures")) (has_value line (codes "include")) (has_value line (codes "x-source"))
+    (has_flag line (codes "captures")) (has_value line (codes "include")) (has_value line (codes "x-source"))
     (has_value line (codes "x-window")) (has_value line (codes "x-piece")) (compiles line) (has_flag line (codes "no-debug-info")) none in
     record {
       lines = shown (has_value line (codes "x-run")) (has_value line (codes "x-source")) (has_flag line (codes "no-debug-info")) no_run given.source_off given.compiled_shown;
       conds = given.conditions_off;
       states = given.states_off;
-      tags = given.tags_off;
       captures = given.captures_off;
       posix = refl;
     }

@@ -106,7 +106,7 @@ fn words_and_files_are_refused_by_name(rt: HostRuntime) -> Result<(), Fail> {
         ("-8 -x a.re", usage),
         ("-i b.re b.re", usage),
         ("b.re", unsupported),
-        ("-i -T b.re", unsupported),
+        ("-i --captures b.re", unsupported),
         ("--x-source 2 -o g.c", unsupported),
         ("--x-run b.re q.c", "q.c:1:1: error: no such file\n"),
         ("--x-run b.re b.re", "b.re:1:1: error: not emitted text\n"),

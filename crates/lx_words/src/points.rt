@@ -157,7 +157,6 @@ pub fn waits(line: &ArgMatches<'_>) -> bool
     has_flag(line, "conditions")
         || has_flag(line, "storable-state")
         || has_flag(line, "reusable")
-        || has_flag(line, "tags")
         || has_flag(line, "captures")
         || has_value(line, "include")
         || has_value(line, "x-source")

@@ -102,7 +102,6 @@ fn lines_for_later_are_refused_as_such(rt: HostRuntime) -> Result<(), Fail> {
         "-i -c a.re",
         "-i -f a.re",
         "-i -r a.re",
-        "-i -T a.re",
         "-i --captures a.re",
         "-i -I dir a.re",
         "--x-source 2 -o g.c",
@@ -237,6 +236,17 @@ fn encodings_and_policies_are_read(rt: HostRuntime) -> Result<(), Fail> {
                 assert_eq!(rt; options.surrogates, surrogates, "{line}");
                 assert_eq!(rt; options.empty, empty, "{line}");
             }
+            Err(_) => assert!(rt; false, "{line}"),
+        }
+    }
+    Ok(())
+}
+
+#[test]
+fn tags_are_asked_for(rt: HostRuntime) -> Result<(), Fail> {
+    for line in ["-i -T a.re", "-i --tags a.re"] {
+        match read(rt.alloc(), line)? {
+            Ok(options) => assert!(rt; options.tags && !options.captures, "{line}"),
             Err(_) => assert!(rt; false, "{line}"),
         }
     }

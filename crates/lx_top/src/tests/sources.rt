@@ -234,6 +234,18 @@ fn items_are_refused(rt: HostRuntime) -> Result<(), Fail> {
             "/*!re2c\nre2c:yyfill:enable = 2;\n*/\n",
             "2:22: error: wrong value",
         ),
+        (
+            "/*!re2c\n\"a\"{3,2} { }\n*/\n",
+            "2:4: error: wrong bounds",
+        ),
+        (
+            "/*!re2c\nre2c:yyfill:enable = 0;\n\"a\"{4096}{2} { }\n*/\n",
+            "1:1: error: scanner too large",
+        ),
+        (
+            "/*!re2c\n@t \"a\" { }\n*/\n",
+            "2:1: error: tags need an option",
+        ),
     ] {
         let is_refused = is_refused(rt.alloc(), source.as_bytes(), message)?;
         assert!(rt; is_refused, "{source} is refused by {message}");
@@ -251,9 +263,7 @@ fn waits(alloc: Global, item: &str, column: u32) -> Result<bool, Fail> {
 #[test]
 fn what_waits_is_refused_at_its_token(rt: HostRuntime) -> Result<(), Fail> {
     for item in [
-        "(\"a\") { }",
         "#m \"a\" { }",
-        "@t \"a\" { }",
         "$ { }",
         "<c> \"a\" { }",
         "re2c:define:YYCTYPE = \"char\";",
@@ -267,13 +277,9 @@ fn what_waits_is_refused_at_its_token(rt: HostRuntime) -> Result<(), Fail> {
 #[test]
 fn what_waits_is_refused_at_its_sign(rt: HostRuntime) -> Result<(), Fail> {
     for item in [
-        "\"a\" * { }",
-        "\"a\" {2} { }",
-        "\"a\" | \"b\" { }",
         "\"a\" / \"b\" { }",
         "\"a\" => c { }",
         "\"a\" :=> c",
-        "x = (\"a\");",
     ] {
         let waits = waits(rt.alloc(), item, 5)?;
         assert!(rt; waits, "{item} waits");
@@ -285,6 +291,7 @@ fn what_waits_is_refused_at_its_sign(rt: HostRuntime) -> Result<(), Fail> {
 fn blocks_wait_at_their_opener(rt: HostRuntime) -> Result<(), Fail> {
     for source in [
         "/*!re2c\n\"a\" { }\n*/\n",
+        "/*!re2c\nre2c:yyfill:enable = 0;\n(\"a\" | \"b\")+ { }\n*/\n",
         "/*!rules:re2c\n\"a\" { }\n*/\n",
         "/*!ignore:re2c */\n",
     ] {
@@ -344,8 +351,8 @@ fn the_first_fault_of_a_block_is_told(rt: HostRuntime) -> Result<(), Fail> {
             "2:1: error: unknown name 'x'",
         ),
         (
-            "/*!re2c\n([a]) { }\nx { }\n*/\n",
-            "2:1: error: not supported yet",
+            "/*!re2c\n[a] / [b] { }\nx { }\n*/\n",
+            "2:5: error: not supported yet",
         ),
     ] {
         let is_refused = is_refused(rt.alloc(), source.as_bytes(), message)?;

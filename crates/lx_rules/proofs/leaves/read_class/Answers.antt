@@ -1,14 +1,25 @@
-use Rattle.std.proofs.Common.{◌∙◌, All, None, ap, map, refl, subst, sym}
+use Rattle.std.proofs.Common.{◌≡◌, ◌∙◌, All, None, Some, [], ap, arith, inr, length, map, refl, subst, sym}
 use Rattle.std.proofs.lemmas.Result.{MatchResult-weaker}
 use Rattle.lx_token.specs.declared.classes.Class.{Class}
 use Rattle.lx_token.specs.declared.kinds.TokenKind.TheVariants as kind
 use Rattle.lx_rules.specs.Checks.{ClassHas, LeafHas, PointsAre, class_ranges, range_of}
+use Rattle.lx_rules.specs.Environments.{kept}
 use Rattle.lx_rules.specs.Meanings.{IsSetOf}
 use Rattle.lx_rules.specs.Points.{points_fault}
 use Rattle.lx_rules.specs.Seen.{IsOrdered, definitions_view, lexeme_view}
-use Rattle.lx_rules.proofs.LeafSteps.{class_read, class_stops}
+use Rattle.lx_rules.proofs.LeafSteps.{class-read, class-stops, kind-stops}
 use Rattle.lx_rules.proofs.PointSets.{class_ordered, points_taken}
 use Rattle.lx_rules.proofs.leaves.read_class.Goals as goal
+
+pub returns-in-Some-clause-read : goal.returns-in-Some-clause-read
+returns-in-Some-clause-read c before count =
+    let options = c.args.reader.options.now in
+    let lexeme = lexeme_view c.args.lexeme.now in
+    let ranges = c.in_ok-ranges.ensures ∙ ap (map range_of) (c.as_slice.ensures ∙ ap (λ (class : Class). class.ranges) c.in_ok-class.ensures) in
+    let found : Some c.in-Some.fault ≡ points_fault options.enc options.surrogates lexeme.at (class_ranges lexeme) =
+    sym c.in-Some.is ∙ c.points_fault.ensures ∙ ap (points_fault options.enc options.surrogates lexeme.at) (c.deref.ensures.value ∙ ranges) in
+    kind-stops options (definitions_view c.args.reader.definitions.now) c.args.reader.room c.args.is_operand before lexeme kind.Class c.requires.sort c.in-Some.fault
+    (inr (c.in-Some.fault, found, refl))
 
 pub class_set-requires-clause-ordered : goal.class_set-requires-clause-ordered
 class_set-requires-clause-ordered c =
@@ -32,9 +43,10 @@ class_set-requires-clause-allowed c =
     (points_taken options.enc options.surrogates c.args.lexeme.now.at c.deref-2.result.now none).1
 
 pub returns-clause-read : goal.returns-clause-read
-returns-clause-read c = λ meaning reading.
-    let options = c.args.reader.options.now in
-    let definitions = definitions_view c.args.reader.definitions.now in
+returns-clause-read c before count =
+    let reader = c.args.reader in
+    let options = reader.options.now in
+    let definitions = definitions_view reader.definitions.now in
     let lexeme = lexeme_view c.args.lexeme.now in
     let ranges = c.in_ok-ranges.ensures ∙ ap (map range_of) (c.as_slice.ensures ∙ ap (λ (class : Class). class.ranges) c.in_ok-class.ensures) in
     let none : PointsAre options definitions lexeme (class_ranges lexeme) None =
@@ -43,6 +55,7 @@ returns-clause-read c = λ meaning reading.
     subst (λ (class : Class). IsSetOf (λ point. ClassHas options definitions class.is_negated (map range_of class.ranges) point) c.in_ok-set.set) c.in_ok-class.ensures
     (subst (λ l. IsSetOf (ClassHas options definitions c.in_ok-class.class.is_negated l) c.in_ok-set.set)
     (c.deref-2.ensures.value ∙ c.in_ok-ranges.ensures ∙ ap (map range_of) c.as_slice.ensures) (c.in_ok-set.ensures definitions)) in
-    MatchResult-weaker c.put_class.result (c.put_class.ensures.read definitions meaning 0 reading refl)
-    (λ after is. class_read options definitions c.args.is_operand lexeme c.in_ok-set.set none has c.args.reader.room meaning after is)
-    (λ stopped is. class_stops options definitions c.args.is_operand lexeme c.in_ok-set.set none has stopped is)
+    let tags : c.sum.result ≡ kept (length before) = omega (arith, c.sum.ensures, count) in
+    MatchResult-weaker c.read_set.result (c.read_set.ensures.read definitions 0 (length before) [] refl tags)
+    (λ value is. class-read options definitions reader.room c.args.is_operand before lexeme c.requires.sort c.in_ok-set.set none has value is)
+    (λ stopped is. class-stops options definitions reader.room c.args.is_operand before lexeme c.requires.sort c.in_ok-set.set none has stopped is)

@@ -1,27 +1,54 @@
-use Rattle.std.proofs.Common.{◌≡◌, ◌∙◌, Some, [], ap, arith, refl, subst, sym}
+use Rattle.std.proofs.Common.{◌≡◌, ◌∙◌, ◌+◌, ◌++◌, None, Some, suc, ap, ap₂, arith, length, refl, subst, sym}
 use Rattle.std.specs.Option.{option_map}
-use Rattle.lx_rules.specs.Checks.{name_fault}
-use Rattle.lx_rules.specs.Content.{IsAtom, IsCounted}
-use Rattle.lx_rules.specs.Environments.{definition_of}
+use Rattle.std.proofs.lemmas.List.{length-append}
+use Rattle.lx_token.specs.declared.kinds.TokenKind.TheVariants as kind
+use Rattle.lx_rules.specs.Checks.{name_fault, repeated_tag}
+use Rattle.lx_rules.specs.Environments.{definition_of, is_built, kept}
 use Rattle.lx_rules.specs.Meanings.{copied}
 use Rattle.lx_rules.specs.Seen.{definition_view, definitions_view, lexeme_view}
-use Rattle.lx_rules.proofs.Readings.{room-built}
+use Rattle.lx_rules.specs.Values.{AreTagsBelow, IsContent, IsCounted}
+use Rattle.lx_rules.proofs.LeafContents.{fits-tagged, size-some}
+use Rattle.lx_rules.proofs.LeafSteps.{kind-read}
 use Rattle.lx_rules.proofs.leaves.read_name.Goals as goal
 
 pub returns-clause-read : goal.returns-clause-read
-returns-clause-read c = λ meaning reading.
-    let name = c.args.lexeme.now.text.now in
-    let kept = c.in-Some.kept.now in
-    let part = copied (definition_view name kept) in
-    let found : definition_of (definitions_view c.args.reader.definitions.now) name ≡ Some (definition_view name kept) =
-    sym c.get.ensures.found ∙ ap (option_map (λ kept. definition_view name kept.now)) c.in-Some.is in
-    let counted : IsCounted part kept.size c.sum-nesting.result = record { size_is = refl; nesting_is = c.sum-nesting.ensures ∙ omega arith; no_tags = refl } in record {
-      checked = sym (ap (λ definition. name_fault c.args.reader.options.now (definitions_view c.args.reader.definitions.now) definition (lexeme_view c.args.lexeme.now) []) found);
-      meaning = part;
-      means = (definition_view name kept, found, refl);
-      stands =
-          c.in_ok-followed_by.ensures.read meaning part reading
-          (subst (λ b. IsAtom b part c.in_ok-atom.atom)
-          (c.has_room-is_built.ensures ∙ room-built c.args.reader.room c.args.current meaning part kept.size c.sum-nesting.result c.requires reading counted) c.in_ok-atom.ensures.atom)
-          counted;
-    }
+returns-clause-read c =
+    let reader = c.args.reader in
+    let definitions = definitions_view reader.definitions.now in
+    let before = c.args.seen.now.items in
+    let lexeme = lexeme_view c.args.lexeme.now in
+    let held = c.in-Some.kept.now in
+    let definition = definition_view lexeme.text held in
+    let meaning = copied (length before) definition in
+    let found : definition_of definitions lexeme.text ≡ Some definition =
+    sym c.get.ensures.found ∙ ap (option_map (λ kept. definition_view lexeme.text kept.now)) c.in-Some.is in
+    let fresh : repeated_tag lexeme.at held.tags before ≡ None =
+    ap₂ (repeated_tag lexeme.at) (sym c.as_slice.ensures) (sym c.as_slice-2.ensures.value) ∙ sym c.in_ok-fault.ensures ∙ c.in_default-2.is in
+    let checked = sym (ap (λ found. name_fault reader.options.now definitions found lexeme before) found ∙ fresh) in
+    let added : c.add_copies.new.names.items ≡ before ++ held.tags = c.in_ok-add_copies.ensures ∙ ap (λ tags. before ++ tags) c.as_slice-3.ensures in
+    let many = ap length added ∙ length-append before held.tags in
+    let by : c.len-by.result ≡ length before = omega (arith, c.len-by.ensures, c.args.seen.now.ok.0) in
+    let tags : c.sum-tags.result ≡ kept (length before + length held.tags) =
+    omega (arith, many, c.sum-tags.ensures, c.len.ensures, c.add_copies.new.names.ok.0) in
+    let content =
+    c.in_ok-content.ensures.stands (is_built reader.room meaning)
+    (λ past. fits-tagged reader.room c.requires.room held.size (suc held.nesting) (length before + length held.tags) (omega (arith, past, by))) in
+    let counted : IsCounted meaning c.sum-size.result c.sum-nesting.result c.sum-tags.result =
+    record { size_is = c.sum-size.ensures ∙ omega arith; nesting_is = c.sum-nesting.ensures ∙ omega arith; tags_is = tags } in
+    kind-read reader.options.now definitions reader.room c.args.is_operand before lexeme kind.Name c.requires.sort checked meaning
+    (definition, found, refl) c.add_copies.new.names.items added c.in_ok-limited.field-0
+    (c.in_ok-limited.ensures.stands meaning counted
+    (subst (λ count. IsContent (is_built reader.room meaning) (copied count definition) c.in_ok-content.content) by content))
+
+pub returns-clause-honest : goal.returns-clause-honest
+returns-clause-honest c =
+    let before = c.args.seen.now.items in
+    let held = c.in-Some.kept.now in
+    let some = size-some held.expr held.size (length held.tags) (c.in-Some.ensures.sound c.requires.sound) in
+    let size = c.in_ok-content.ensures.size in
+    let added : c.add_copies.new.names.items ≡ before ++ held.tags = c.in_ok-add_copies.ensures ∙ ap (λ tags. before ++ tags) c.as_slice-3.ensures in
+    let many : length c.add_copies.new.names.items ≡ c.len-by.result + length held.tags =
+    ap length added ∙ length-append before held.tags ∙ omega (arith, c.len-by.ensures, c.args.seen.now.ok.0) in
+    c.in_ok-limited.ensures.honest (length c.add_copies.new.names.items) (omega (arith, some, c.sum-size.ensures))
+    (λ small. omega (arith, size, small, c.sum-size.ensures))
+    (subst (λ count. AreTagsBelow count c.in_ok-content.content) (sym many) c.in_ok-content.ensures.tags)

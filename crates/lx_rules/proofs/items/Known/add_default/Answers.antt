@@ -16,4 +16,4 @@ returns-clause-added c = λ conds state rule holds is.
     let known = c.args.self.now in
     holds_default conds known _ state rule holds c.args.at (subst (λ act. IsNew conds known head.Default c.args.at act rule) (sym is.act_is) is)
     refl (ap (λ act. Some (default_of act c.args.at)) (sym is.act_is)) refl (c.in_ok-push.ensures.items ∙ ap (λ act. known.acts.items ++ act ∷ []) (sym is.act_is))
-    c.sum-self.ensures refl
+    c.sum-self.ensures refl refl

@@ -1,15 +1,29 @@
-use Rattle.std.proofs.Common.{◌≤◌, subst, sym, ap}
+use Rattle.std.proofs.Common.{◌≤◌, ◌∙◌, false, length, map, None, inl, refl, subst, sym, ap, ap₂}
 use Rattle.lx_regex.specs.Expr.{size_of}
 use Rattle.lx_regex.specs.Pattern.{Pattern}
-use Rattle.lx_rules.specs.Keeping.{AddsPlain}
+use Rattle.lx_regex.specs.declared.rules.Kind.TheVariants as kind
+use Rattle.lx_rules.specs.Keeping.{room_behind}
 use Rattle.lx_rules.proofs.RuleSteps.{adds_built}
 use Rattle.lx_rules.proofs.items.Known.push_rule.Goals as goal
 
-pub returns-in_ok-push-in-Some-clause-rules : goal.returns-in_ok-push-in-Some-clause-rules
-returns-in_ok-push-in-Some-clause-rules c =
-    let size : size_of c.bare_rule.result.expr ≤ c.args.reading.size =
-    subst (λ e. size_of e ≤ c.args.reading.size) (sym c.bare_rule.ensures.expr) (c.in-Some.ensures.size c.requires) in
-    subst (λ room. AddsPlain room c.args.number c.args.reading c.args.self.now.rules.items c.push.new.self.items) c.room-room.ensures
-    (adds_built c.room-room.result c.args.number c.args.reading c.into_expr.result c.args.self.now.rules.items c.push.new.self.items c.bare_rule.result
-    c.into_expr.ensures.term c.in-Some.expr c.in-Some.is c.in_ok-push-in-Some.ensures.items (ap (λ (p : Pattern). p.number) c.bare_rule.ensures.pattern) size
-    c.bare_rule.ensures.pattern)
+pub returns-in-None-clause-rules : goal.returns-in-None-clause-rules
+returns-in-None-clause-rules c =
+    let known = c.args.self.now in
+    inl (refl, λ meaning is. c.in-None.ensures.past (room_behind known.size known.nesting (length known.tags.items)) meaning is.value)
+
+pub returns-clause-rules : goal.returns-clause-rules
+returns-clause-rules c =
+    let known = c.args.self.now in
+    let reading = c.args.reading in
+    let room = room_behind known.size known.nesting (length known.tags.items) in
+    let tags = c.in_ok-tags-in-Some in
+    let kept = c.in-Some.ensures.kept (length reading.tags.items) c.requires in
+    let size : size_of c.simple_rule.result.expr ≤ reading.value.size =
+    subst (λ e. size_of e ≤ reading.value.size) (sym c.simple_rule.ensures.expr) kept.1 in
+    adds_built room c.args.number reading known.rules.items c.push.new.self.items c.simple_rule.result c.in_ok-push-in-Some.ensures.items
+    (ap (λ (p : Pattern). p.number) c.simple_rule.ensures.pattern) size
+    (c.simple_rule.ensures.names ∙ tags.ensures.names ∙ c.deref-in-Some.ensures.value)
+    (λ meaning is.
+    c.simple_rule.ensures.pattern
+    ∙ ap₂ (λ term many. record { number = c.args.number; kind = kind.Plain; term = term; many = many; slash = None; groups = 0 })
+    (c.in-Some.ensures.built room meaning is.value (length tags.tags)) (tags.ensures.many ∙ ap (map (λ name. false)) c.deref-in-Some.ensures.value))

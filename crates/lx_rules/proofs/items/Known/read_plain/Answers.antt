@@ -1,17 +1,22 @@
-use Rattle.std.proofs.Common.{◌∙◌, ◌-◌, ◌<◌, ap, sym, subst, Some, None}
+use Rattle.std.proofs.Common.{◌∙◌, length, ap, sym, subst, Some, None}
 use Rattle.std.specs.Option.{unwrap_or}
 use Rattle.lx_base.specs.declared.faults.Fault.TheVariants.{Unsupported}
 use Rattle.lx_base.specs.declared.faults.Stop.TheVariants as stop
-use Rattle.lx_parse.specs.Ranges.{HasExpressions}
+use Rattle.lx_parse.specs.Expressions.{alt}
+use Rattle.lx_parse.specs.Ranges.{HasExpressions, IsPart}
 use Rattle.lx_parse.specs.declared.items.Item.TheVariants as item
 use Rattle.lx_rules.specs.Lexemes.{Lexeme, sorts_at}
-use Rattle.lx_rules.specs.Keeping.{StopsHead, IsHeadRead, room_behind}
-use Rattle.lx_rules.specs.Reading.{IsRead, lexemes_from}
+use Rattle.lx_rules.specs.Keeping.{IsHeadRead, IsRead, StopsHead, room_behind}
 use Rattle.lx_rules.specs.Seen.{definitions_view, lexemes_view}
 use Rattle.lx_rules.specs.declared.heads.Head.TheVariants as head
-use Rattle.lx_rules.proofs.HeadSteps.{head_refused, plain_read, context_waits, head_some}
-use Rattle.lx_rules.proofs.ItemSteps.{StopsIn}
+use Rattle.lx_rules.proofs.HeadSteps.{StopsIn, context_waits, head_part, head_refused, plain_read}
 use Rattle.lx_rules.proofs.items.Known.read_plain.Goals as goal
+
+pub read_expression-requires-clause-part : goal.read_expression-requires-clause-part
+read_expression-requires-clause-part c =
+    let sorts = sorts_at (lexemes_view c.args.block.lexemes) in
+    subst (IsPart sorts alt c.args.head) (sym c.unwrap_or.ensures)
+    (head_part (lexemes_view c.args.block.lexemes) c.args.head c.args.slash c.args.until c.requires.star c.requires.dollar c.requires.expressions)
 
 pub returns-in-Err-clause-read : goal.returns-in-Err-clause-read
 returns-in-Err-clause-read c = λ state holds.
@@ -26,9 +31,9 @@ returns-in-Some-clause-read c = λ state holds.
     let lexemes = lexemes_view c.args.block.lexemes in
     let definitions = definitions_view c.args.self.now.env.definitions in
     let last = c.unwrap_or.ensures ∙ ap (λ slash. unwrap_or slash c.args.until) c.in-Some.is in
-    let read = subst (λ l. IsRead options definitions (lexemes_from lexemes c.args.head (l - c.args.head)) c.room.result c.in-Ok.reading) last c.in-Ok.ensures.read in
+    let read = subst (λ l. IsRead options lexemes definitions c.room.result c.args.head l c.in-Ok.reading) last c.in-Ok.ensures.read in
     let has = subst (λ slash. HasExpressions (sorts_at lexemes) (item.Rule c.args.head c.args.head slash c.args.until None None)) c.in-Some.is c.requires.expressions in
-    let waiting = context_waits options lexemes c.args.self.now state holds c.args.head c.in-Some.slash c.args.until c.requires.star c.requires.dollar has read.meaning read.goes in
+    let waiting = context_waits options lexemes c.args.self.now state holds c.args.head c.in-Some.slash c.args.until c.requires.star c.requires.dollar has c.room.result c.in-Ok.reading read in
     subst (λ slash. StopsHead options lexemes state c.args.head slash c.args.until c.waits.result) (sym c.in-Some.is)
     (subst (λ stopped. StopsHead options lexemes state c.args.head (Some c.in-Some.slash) c.args.until stopped)
     (ap (λ (l : Lexeme). stop.Fault (Unsupported (Some l.at))) (sym c.at.ensures) ∙ sym c.waits.ensures) waiting)
@@ -37,18 +42,11 @@ pub returns-in-None-clause-read : goal.returns-in-None-clause-read
 returns-in-None-clause-read c = λ state holds.
     let options = c.args.block.options.now in
     let lexemes = lexemes_view c.args.block.lexemes in
-    let definitions = definitions_view c.args.self.now.env.definitions in
+    let known = c.args.self.now in
+    let definitions = definitions_view known.env.definitions in
+    let room = room_behind known.size known.nesting (length known.tags.items) in
     let last = c.unwrap_or.ensures ∙ ap (λ slash. unwrap_or slash c.args.until) c.in-None.is in
-    let read = subst (λ l. IsRead options definitions (lexemes_from lexemes c.args.head (l - c.args.head)) c.room.result c.in-Ok.reading) last c.in-Ok.ensures.read in
-    let has = subst (λ slash. HasExpressions (sorts_at lexemes) (item.Rule c.args.head c.args.head slash c.args.until None None)) c.in-None.is c.requires.expressions in
-    subst (λ slash. IsHeadRead options lexemes state c.args.head slash c.args.until (room_behind c.args.self.now.size c.args.self.now.nesting) (head.Plain c.in-Ok.reading)) (sym c.in-None.is)
-    (plain_read options lexemes c.args.self.now state holds c.args.head c.args.until (room_behind c.args.self.now.size c.args.self.now.nesting) c.in-Ok.reading c.requires.star c.requires.dollar has
-    (subst (λ room. IsRead options definitions (lexemes_from lexemes c.args.head (c.args.until - c.args.head)) room c.in-Ok.reading) c.room.ensures read))
-
-pub returns-in-None-clause-honest : goal.returns-in-None-clause-honest
-returns-in-None-clause-honest c = λ sound.
-    let last = c.unwrap_or.ensures ∙ ap (λ slash. unwrap_or slash c.args.until) c.in-None.is in
-    let has = subst (λ slash. HasExpressions (sorts_at (lexemes_view c.args.block.lexemes)) (item.Rule c.args.head c.args.head slash c.args.until None None)) c.in-None.is c.requires.expressions in
-    let some = head_some c.args.block.options.now (lexemes_view c.args.block.lexemes) c.args.head c.args.until c.requires.star c.requires.dollar has in
-    let honest = c.in-Ok.ensures.honest sound in
-    (honest.0, honest.1 (subst (λ l. c.args.head < l) (sym last) some))
+    let read = subst (λ l. IsRead options lexemes definitions c.room.result c.args.head l c.in-Ok.reading) last c.in-Ok.ensures.read in
+    subst (λ slash. IsHeadRead options lexemes state c.args.head slash c.args.until room (head.Plain c.in-Ok.reading)) (sym c.in-None.is)
+    (plain_read options lexemes known state holds c.args.head c.args.until room c.in-Ok.reading c.requires.star c.requires.dollar
+    (subst (λ room. IsRead options lexemes definitions room c.args.head c.args.until c.in-Ok.reading) c.room.ensures read))
