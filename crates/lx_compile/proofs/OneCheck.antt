@@ -30,7 +30,7 @@ kept_class-one ranges (Some term) None is is_other = absurd (subst (HasClass (So
 kept_class-one None (Some term) (Some other) is is_other = absurd is.1
 kept_class-one (Some ranges) (Some term) (Some other) is is_other =
     let same = same_ranges 0 0 is.0 is_other.0 is.1.0 is_other.1.0
-        (λ point inside. (is_other.1.1 point).1 ((is.1.1 point).0 inside)) (λ point inside. (is.1.1 point).1 ((is_other.1.1 point).0 inside)) in
+    (λ point inside. (is_other.1.1 point).1 ((is.1.1 point).0 inside)) (λ point inside. (is.1.1 point).1 ((is_other.1.1 point).0 inside)) in
     ap Some (is.2 ∙ ap (λ set. class (ranges_of set)) same ∙ sym is_other.2)
 
 kept-one : (built : Bool) (meaning : Meaning) (one two : Option Term) → IsTermKept built meaning one → IsTermKept built meaning two → one ≡ two

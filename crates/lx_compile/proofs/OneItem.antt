@@ -106,7 +106,7 @@ module _ (options : Options) (lexemes : List Lexeme) where
       let lexeme = nth_lexeme lexemes name in
       let same = expression_meaning-one options state.definitions lexemes from until is.0 is_other.0 is.1 is_other.1 is.3 is_other.3 is.4 is_other.4 in
       let defined = definition-one lexeme.text lexeme.at is_other.1 is.2 is_other.2
-          (subst (λ (meaning : Meaning). IsDefined lexeme.text lexeme.at meaning is.2) same is.5) is_other.5 in
+      (subst (λ (meaning : Meaning). IsDefined lexeme.text lexeme.at meaning is.2) same is.5) is_other.5 in
       is.6
       ∙ ap (λ (definition : Definition). record {
         definitions = state.definitions ++ definition ∷ [];

@@ -234,10 +234,7 @@ fn items_are_refused(rt: HostRuntime) -> Result<(), Fail> {
             "/*!re2c\nre2c:yyfill:enable = 2;\n*/\n",
             "2:22: error: wrong value",
         ),
-        (
-            "/*!re2c\n\"a\"{3,2} { }\n*/\n",
-            "2:4: error: wrong bounds",
-        ),
+        ("/*!re2c\n\"a\"{3,2} { }\n*/\n", "2:4: error: wrong bounds"),
         (
             "/*!re2c\nre2c:yyfill:enable = 0;\n\"a\"{4096}{2} { }\n*/\n",
             "1:1: error: scanner too large",
@@ -276,11 +273,7 @@ fn what_waits_is_refused_at_its_token(rt: HostRuntime) -> Result<(), Fail> {
 
 #[test]
 fn what_waits_is_refused_at_its_sign(rt: HostRuntime) -> Result<(), Fail> {
-    for item in [
-        "\"a\" / \"b\" { }",
-        "\"a\" => c { }",
-        "\"a\" :=> c",
-    ] {
+    for item in ["\"a\" / \"b\" { }", "\"a\" => c { }", "\"a\" :=> c"] {
         let waits = waits(rt.alloc(), item, 5)?;
         assert!(rt; waits, "{item} waits");
     }
