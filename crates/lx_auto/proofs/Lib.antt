@@ -1,0 +1,5 @@
+pub mod Banks
+pub mod Edges
+pub mod OneEdge
+pub mod Runs
+pub mod States

@@ -1,0 +1,4 @@
+pub mod Automaton
+pub mod Bank
+pub mod Examples
+pub mod Run

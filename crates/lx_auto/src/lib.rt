@@ -1,0 +1,13 @@
+//! Automata with registers: what an emitted scanner is made from.
+#![tactic(auto)]
+
+mod automaton;
+pub mod examples;
+pub mod laws;
+mod ops;
+
+pub use automaton::{Accept, Auto, Edge, Held, State};
+pub use ops::{Op, Ops};
+
+#[cfg(test)]
+mod tests;
