@@ -10,9 +10,9 @@ use Rattle.lx_tnfa.specs.declared.closure.Stop.TheVariants.{AtState, AtTarget}
 use Rattle.lx_tnfa.specs.declared.closure.Target.{Target}
 use Rattle.lx_tnfa.specs.declared.places.Place.{Place}
 use Rattle.lx_tnfa.specs.declared.states.Event.{Event}
-use Rattle.lx_tnfa.proofs.DepthFirst.{Found, IsIn, successors, visited}
+use Rattle.lx_tnfa.specs.DepthFirst.{Found, IsIn, successors, visited, search_from}
 use Rattle.lx_tnfa.proofs.SearchBasics.{Each}
-use Rattle.lx_tnfa.proofs.SearchBounds.{search_at, search_from, search_from-is_search}
+use Rattle.lx_tnfa.proofs.SearchBounds.{search_at, search_from-is_search}
 use Rattle.lx_tnfa.proofs.SearchPaths.{Each-from_all}
 use Rattle.lx_tnfa.proofs.SearchStack.{after_choices, found_by, found_by-new, found_by-seen, found_by-starts, stacked}
 use Rattle.lx_tnfa.proofs.StopNumbers.{dead_from_listed, dead_stops, dead_to_listed, leads, stop_graph, stop_number, stop_same, stop_successors}

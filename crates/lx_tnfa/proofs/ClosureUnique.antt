@@ -10,7 +10,7 @@ use Rattle.lx_tnfa.specs.declared.closure.Stop.TheVariants.{AtTarget}
 use Rattle.lx_tnfa.specs.declared.closure.Target.{Target}
 use Rattle.lx_tnfa.specs.declared.places.Place.{Place}
 use Rattle.lx_tnfa.specs.declared.states.Event.{Event}
-use Rattle.lx_tnfa.proofs.DepthFirst.{Found}
+use Rattle.lx_tnfa.specs.DepthFirst.{Found}
 use Rattle.lx_tnfa.proofs.LeastWalks.{target_same}
 use Rattle.lx_tnfa.proofs.SearchBasics.{Each}
 use Rattle.lx_tnfa.proofs.SearchLaws.{IsAscending}

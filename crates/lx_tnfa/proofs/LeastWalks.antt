@@ -14,7 +14,7 @@ use Rattle.lx_tnfa.specs.declared.closure.Target.{Target}
 use Rattle.lx_tnfa.specs.declared.closure.Target.TheVariants.{Leaf, End}
 use Rattle.lx_tnfa.specs.declared.places.Place.{Place}
 use Rattle.lx_tnfa.specs.declared.states.Event.{Event}
-use Rattle.lx_tnfa.proofs.DepthFirst.{Found, IsIn}
+use Rattle.lx_tnfa.specs.DepthFirst.{Found, IsIn}
 use Rattle.lx_tnfa.proofs.SearchBasics.{Each}
 use Rattle.lx_tnfa.proofs.SearchPaths.{All-from_each, Avoids, Contains-from_in, Each-from_all, IsIn-from_contains, IsSearchFrom, IsSimple, Path, PathFrom}
 use Rattle.lx_tnfa.proofs.SearchUnique.{IsListed, listed_of}

@@ -5,7 +5,6 @@ pub mod ClassStarts
 pub mod ClosureLoop
 pub mod ClosureUnique
 pub mod CutPlaces
-pub mod DepthFirst
 pub mod FirstStates
 pub mod FormedLeaves
 pub mod FrontLeaves
@@ -35,6 +34,7 @@ pub mod SearchStack
 pub mod SearchTrail
 pub mod SearchUnique
 pub mod ShapeFacts
+pub mod SimplePaths
 pub mod StopNumbers
 pub mod StopSets
 pub mod TableLeaves

@@ -8,7 +8,7 @@ use Rattle.std.specs.Prelude.{◌-◌, All, Contains, cond, replicate, if◌then
 use Rattle.lx_tnfa.specs.Live.{AreLive, ArePredecessors, ReachesEnd, at_end, onward, leads_to, list_at, mark_at, marks_each, put_each, put_one, state_of, waits_each}
 use Rattle.lx_tnfa.specs.declared.classes.ClassGraph.{ClassGraph}
 use Rattle.lx_tnfa.specs.declared.states.State.{State}
-use Rattle.lx_tnfa.proofs.DepthFirst.{IsIn}
+use Rattle.lx_tnfa.specs.DepthFirst.{IsIn}
 use Rattle.lx_tnfa.proofs.Membership.{behind, contains, either_part, in_front, is_in}
 use Rattle.lx_tnfa.proofs.SearchBasics.{Each}
 use native.Mathlib.Decide.{ℕ_discrete}

@@ -2,7 +2,7 @@
 use Rattle.std.proofs.Common.{◌≡◌, ℕ, zero, suc, ◌<◌, ◌⊎◌, inl, inr, arith, List, [], ◌∷◌, ◌++◌, length, get_or, sym, subst}
 use Rattle.std.proofs.lemmas.List.{reverse-append}
 use Rattle.std.specs.Prelude.{Contains, reverse}
-use Rattle.lx_tnfa.proofs.DepthFirst.{IsIn}
+use Rattle.lx_tnfa.specs.DepthFirst.{IsIn}
 
 pub is_in : (xs : List ℕ) (x : ℕ) → Contains xs x → IsIn xs x
 is_in [] x c = absurd (omega (arith, c.1))

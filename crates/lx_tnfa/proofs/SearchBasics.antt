@@ -1,7 +1,8 @@
 -- The lemmas that the laws of the search rest on.
 use Rattle.std.specs.Prelude.{◌≡◌, ℕ, zero, suc, ◌<◌, ◌≤◌, List, [], ◌∷◌, ◌++◌, refl, length}
 use Rattle.std.proofs.Common.{inl, inr, sym, ap, ◌∙◌, subst, arith}
-use Rattle.lx_tnfa.proofs.DepthFirst.{IsIn, decide_in, successors, IsAt, SimplePath, SimplePathFrom, Found, with_choice, all_with_choice, visited, counted, unvisited}
+use Rattle.lx_tnfa.specs.DepthFirst.{IsIn, decide_in, successors, Found, with_choice, all_with_choice, visited}
+use Rattle.lx_tnfa.proofs.SimplePaths.{IsAt, SimplePath, SimplePathFrom, counted, unvisited}
 use native.Mathlib.Decide.{ℕ_discrete}
 
 abbrev pub IsWithin : List ℕ → List ℕ → Type 0

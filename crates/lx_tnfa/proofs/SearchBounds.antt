@@ -1,7 +1,8 @@
 -- The search's result does not depend on its bound, nor on how the set of visited states is listed.
 use Rattle.std.specs.Prelude.{◌≡◌, ℕ, zero, suc, ◌+◌, ◌<◌, ◌≤◌, List, [], ◌∷◌, ◌++◌, refl, length}
 use Rattle.std.proofs.Common.{inl, ap, ap₂, subst, arith}
-use Rattle.lx_tnfa.proofs.DepthFirst.{IsIn, decide_in, successors, IsAt, Found, all_with_choice, visited, search_each, unless_in, search_within, search_each_within, counted, unvisited}
+use Rattle.lx_tnfa.specs.DepthFirst.{IsIn, decide_in, successors, Found, all_with_choice, visited, search_each, unless_in, search_within, search_each_within, search_from}
+use Rattle.lx_tnfa.proofs.SimplePaths.{IsAt, counted, unvisited}
 use Rattle.lx_tnfa.proofs.SearchBasics.{IsWithin, IsWithin-cons, IsWithin-visited, unvisited-fewer}
 use Rattle.lx_tnfa.proofs.SearchLaws.{begun, unvisited-kids}
 use Rattle.lx_tnfa.proofs.SearchPaths.{IsSearch, IsSearchFrom, search_within-is_search, search_each_within-is_search}
@@ -17,9 +18,6 @@ unvisited-le avoided (suc n) = go (decide_in avoided n) (unvisited-le avoided n)
 -- the search with a bound that is enough for any graph of the size
 abbrev pub search_at : List (List ℕ) → List ℕ → ℕ → List Found
 search_at graph avoided s = search_within graph (suc (length graph)) avoided s
-
-abbrev pub search_from : List (List ℕ) → List ℕ → List ℕ → List Found
-search_from graph avoided starts = search_each_within graph (suc (length graph)) avoided starts
 
 pub enough : (graph : List (List ℕ)) (avoided : List ℕ) → unvisited avoided (length graph) < suc (length graph)
 enough graph avoided = let h : unvisited avoided (length graph) ≤ length graph = unvisited-le avoided (length graph) in omega arith

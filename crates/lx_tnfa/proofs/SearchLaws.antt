@@ -2,7 +2,8 @@
 use Rattle.std.specs.Prelude.{ℕ, zero, suc, ◌<◌, ◌≤◌, List, [], ◌∷◌, ◌++◌, refl, length}
 use Rattle.std.proofs.Common.{inl, inr, sym, subst, arith}
 use Rattle.lx_regex.specs.Dictionary.{IsBefore}
-use Rattle.lx_tnfa.proofs.DepthFirst.{IsIn, decide_in, successors, IsAt, SimplePath, SimplePathFrom, Found, with_choice, all_with_choice, visited, search_each, unless_in, search_within, unvisited}
+use Rattle.lx_tnfa.specs.DepthFirst.{IsIn, decide_in, successors, Found, with_choice, all_with_choice, visited, search_each, unless_in, search_within}
+use Rattle.lx_tnfa.proofs.SimplePaths.{IsAt, SimplePath, SimplePathFrom, unvisited}
 use Rattle.lx_tnfa.proofs.SearchBasics.{Each, Each-append, Each-weaker, Each-both, Each-all_with_choice, IsWithin, visited-all_with_choice, visited-child, IsWithin-visited, SimplePath-fewer, SimplePath-end, SimplePathFrom-end, SimplePathFrom-later, SimplePathFrom-step, IsAt-from, HasHead, SimplePathFrom-headed, IsAt-row, IsClosed, IsClosed-self, IsClosed-trans, IsClosed-SimplePath, SimplePath-outside, unvisited-fewer, unvisited-cons}
 
 -- a search's list of what it finds from s

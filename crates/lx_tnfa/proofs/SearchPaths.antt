@@ -3,7 +3,8 @@ use Rattle.std.specs.Prelude.{◌≡◌, ℕ, zero, suc, ◌+◌, ◌<◌, List,
 use Rattle.std.proofs.Common.{inl, inr, sym, ◌∙◌, subst, arith}
 use Rattle.std.proofs.lemmas.List.Kept.{AllPairs-cons}
 use Rattle.lx_regex.specs.Dictionary.{IsBefore}
-use Rattle.lx_tnfa.proofs.DepthFirst.{IsIn, decide_in, successors, IsAt, SimplePath, SimplePathFrom, Found, visited, search_within, search_each_within, unvisited}
+use Rattle.lx_tnfa.specs.DepthFirst.{IsIn, decide_in, successors, Found, visited, search_within, search_each_within}
+use Rattle.lx_tnfa.proofs.SimplePaths.{IsAt, SimplePath, SimplePathFrom, unvisited}
 use Rattle.lx_tnfa.proofs.SearchBasics.{Each, Each-weaker, IsClosed, IsClosed-self}
 use Rattle.lx_tnfa.proofs.SearchLaws.{IsSoundFrom, AreFresh, IsLeastFrom, IsAscending, Covers, search_each-sound, search_each-fresh, search_each-complete, search_each-least, search_each-ascending, search_within-sound, search_within-fresh, search_within-complete, search_within-least, search_within-ascending}
 

@@ -1,10 +1,10 @@
 -- The search by an explicit stack: the three equations that a loop's proof needs.
 use Rattle.std.specs.Prelude.{◌≡◌, ℕ, suc, List, [], ◌∷◌, ◌++◌, refl, length}
 use Rattle.std.proofs.Common.{sym, ap, ap₂, ◌∙◌, append_assoc, append-nil}
-use Rattle.lx_tnfa.proofs.DepthFirst.{IsIn, decide_in, successors, Found, all_with_choice, visited, search_each, unless_in, search_within}
+use Rattle.lx_tnfa.specs.DepthFirst.{IsIn, decide_in, successors, Found, all_with_choice, visited, search_each, unless_in, search_within, search_from}
 use Rattle.lx_tnfa.proofs.SearchBasics.{visited-append}
 use Rattle.lx_tnfa.proofs.SearchLaws.{begun, unvisited-kids}
-use Rattle.lx_tnfa.proofs.SearchBounds.{search_within-agree, search_each-agree, enough, search_at, search_from}
+use Rattle.lx_tnfa.proofs.SearchBounds.{search_within-agree, search_each-agree, enough, search_at}
 
 -- what is found, with the choices p on the way to where the search began
 abbrev pub after_choices : List ℕ → List Found → List Found

@@ -2,7 +2,7 @@
 use Rattle.std.specs.Prelude.{◌≡◌, ℕ, zero, suc, ◌<◌, ◌⊎◌, List, [], ◌∷◌, refl, length, AllPairs, Contains, map, get_or}
 use Rattle.std.proofs.Common.{inl, inr, sym, ap₂, ◌∙◌, subst, arith}
 use Rattle.lx_regex.specs.Dictionary.{IsBefore}
-use Rattle.lx_tnfa.proofs.DepthFirst.{Found}
+use Rattle.lx_tnfa.specs.DepthFirst.{Found}
 use Rattle.lx_tnfa.proofs.SearchBasics.{Each, Each-weaker}
 use Rattle.lx_tnfa.proofs.SearchLaws.{IsAscending}
 use Rattle.lx_tnfa.proofs.SearchPaths.{Each-from_all, Path, PathFrom, IsSimple, Avoids, IsSearch, IsSearchFrom}

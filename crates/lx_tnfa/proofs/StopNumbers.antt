@@ -12,7 +12,7 @@ use Rattle.lx_tnfa.specs.declared.places.Place.{Place}
 use Rattle.lx_tnfa.specs.declared.states.Event.{Event}
 use Rattle.lx_tnfa.specs.declared.states.State.{State}
 use Rattle.lx_tnfa.specs.declared.states.State.TheVariants.{Moves}
-use Rattle.lx_tnfa.proofs.DepthFirst.{IsIn, successors}
+use Rattle.lx_tnfa.specs.DepthFirst.{IsIn, successors}
 use Rattle.lx_tnfa.proofs.SearchPaths.{Path}
 
 -- a number for two numbers

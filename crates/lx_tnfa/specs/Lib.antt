@@ -1,6 +1,7 @@
 pub mod Beginnings
 pub mod Classes
 pub mod Closure
+pub mod DepthFirst
 pub mod Ends
 pub mod LeafReadings
 pub mod Live

@@ -1,5 +1,5 @@
--- Depth-first search in an ordered graph, as definitions: its paths and the search.
-use Rattle.std.specs.Prelude.{◌≡◌, ℕ, zero, suc, ◌+◌, ◌⊎◌, List, [], ◌∷◌, ◌++◌, get_or}
+-- Depth-first search in a graph of numbered nodes, each with the list of its successors in order.
+use Rattle.std.specs.Prelude.{◌≡◌, ℕ, zero, suc, ◌⊎◌, List, [], ◌∷◌, ◌++◌, length, get_or}
 use Rattle.std.proofs.Common.{inl, inr}
 use native.Mathlib.Decide.{ℕ_discrete}
 
@@ -21,22 +21,7 @@ decide_in (y ∷ avoided) x = decide_either (ℕ_discrete y x) (decide_in avoide
 abbrev pub successors : List (List ℕ) → ℕ → List ℕ
 successors graph s = get_or graph s []
 
--- c is at index w of the list, whose first index is i
-abbrev pub IsAt : ℕ → List ℕ → ℕ → ℕ → Type 0
-IsAt i [] w c = ⊥
-IsAt i (x ∷ xs) w c = ((i ≡ w) × (x ≡ c)) ⊎ IsAt (suc i) xs w c
-
--- a path from s to t with choices ws, that visits no state twice and none of `avoided`
-abbrev pub SimplePath : List (List ℕ) → List ℕ → ℕ → List ℕ → ℕ → Type 0
-SimplePath graph avoided s [] t = (IsIn avoided s → ⊥) × (s ≡ t)
-SimplePath graph avoided s (w ∷ ws) t = (IsIn avoided s → ⊥) × ((c : ℕ) × IsAt 0 (successors graph s) w c × SimplePath graph (s ∷ avoided) c ws t)
-
--- such a path from one of the states cs: first the index of the state, counted from i, then the choices
-abbrev pub SimplePathFrom : List (List ℕ) → List ℕ → ℕ → List ℕ → List ℕ → ℕ → Type 0
-SimplePathFrom graph avoided i cs [] t = ⊥
-SimplePathFrom graph avoided i cs (w ∷ ws) t = (c : ℕ) × IsAt i cs w c × SimplePath graph avoided c ws t
-
--- what the search lists
+-- what the search lists: a state, and the indices of the successors that lead to it
 pub record Found : Type 0 where
   pub state : ℕ
   pub choices : List ℕ
@@ -71,11 +56,6 @@ search_within graph (suc k) seen s =
 abbrev pub search_each_within : List (List ℕ) → ℕ → List ℕ → List ℕ → List Found
 search_each_within graph k seen starts = search_each (search_within graph k) seen starts 0
 
--- how many of the states below n are not in `avoided`
-abbrev pub counted : {A : Type 0} → Dec A → ℕ
-counted (yes h) = 0
-counted (no h) = 1
-
-abbrev pub unvisited : List ℕ → ℕ → ℕ
-unvisited avoided zero = 0
-unvisited avoided (suc n) = counted (decide_in avoided n) + unvisited avoided n
+-- the search from some states in order, with a depth that is enough for any graph of this size
+abbrev pub search_from : List (List ℕ) → List ℕ → List ℕ → List Found
+search_from graph avoided starts = search_each_within graph (suc (length graph)) avoided starts

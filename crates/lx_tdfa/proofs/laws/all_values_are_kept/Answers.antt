@@ -1,0 +1,6 @@
+use Rattle.lx_tdfa.proofs.ProgramAccepts.{all_accepted}
+use Rattle.lx_tdfa.proofs.laws.all_values_are_kept.Goals as goal
+
+pub returns : goal.returns
+returns c enc patterns tnfa word tag from way entry of fits nth accepted =
+    all_accepted enc patterns tnfa of fits word tag from way entry nth accepted

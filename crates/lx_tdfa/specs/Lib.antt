@@ -1,0 +1,4 @@
+pub mod Accepts
+pub mod Graph
+pub mod Kernels
+pub mod Values
