@@ -24,6 +24,10 @@ pub record Standing : Type 0 where
 abbrev pub at_start : (offset : ℕ) → Standing
 at_start offset = record { state = 0; offset = offset; bank = empty_bank; left = None }
 
+-- the same, where registers hold what an earlier match left in them
+abbrev pub start_with : (offset : ℕ) → Bank → Standing
+start_with offset bank = record { state = 0; offset = offset; bank = bank; left = None }
+
 -- the accepting state left last, once this state is left too
 abbrev pub left_after : Option Accept → Standing → Option Left
 left_after None standing = standing.left

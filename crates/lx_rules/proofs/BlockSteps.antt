@@ -103,7 +103,7 @@ size_of-in_order rules = size_of-both (not_of_kind is_default rules) (of_kind is
         at true e later = rw (e) (omega (arith, later))
         at false e later = rw (e) (omega (arith, later))
 
-tags_of-in_order : (rules : List RuleOf) → tags_of (in_order rules) ≡ length (names_of rules)
+pub tags_of-in_order : (rules : List RuleOf) → tags_of (in_order rules) ≡ length (names_of rules)
 tags_of-in_order rules = tags_of-both (not_of_kind is_default rules) (of_kind is_default rules) ∙ apart rules
   where
     apart : (rules : List RuleOf) → tags_of (not_of_kind is_default rules) + tags_of (of_kind is_default rules) ≡ length (names_of rules)
@@ -129,7 +129,7 @@ nesting_of-in_order rules = nesting_of-both (not_of_kind is_default rules) (of_k
         at false e later = rw (e) (omega (arith, later))
 
 -- none of the rules is `$`
-no_end : (rule : RuleOf) → IsUsual rule → is_end rule.kind ≡ false
+pub no_end : (rule : RuleOf) → IsUsual rule → is_end rule.kind ≡ false
 no_end rule usual = at rule.kind refl
   where
     at : (k : Kind) → rule.kind ≡ k → is_end rule.kind ≡ false
@@ -202,7 +202,7 @@ module _ (at : Pos) (state : State) (usual : AreUsual state.rules) where
   or_none None = refl
   or_none (Some fault) = refl
 
-  scanners_usual : (rules : List RuleOf) → AreUsual rules → scanners_fault at rules (conditions_of rules) ≡ over rules
+  pub scanners_usual : (rules : List RuleOf) → AreUsual rules → scanners_fault at rules (conditions_of rules) ≡ over rules
   scanners_usual [] are = refl
   scanners_usual (rule ∷ rules) are =
       ap (scanners_fault at (rule ∷ rules)) (conditions_of-usual rule rules are) ∙ or_none (scanner_fault at (rules_of [] (rule ∷ rules)))

@@ -50,12 +50,12 @@ in_both None second point some more = absurd (let h : false ≡ true = some in c
 in_both (Some ranges) None point some more = absurd (let h : false ≡ true = more in cc)
 in_both (Some ranges) (Some others) point some more = in_ranges-append ranges others point
 
-is_some-both : (first second : Option (List (ℕ × ℕ))) → (is_some first && is_some second) ≡ is_some (both_classes first second)
+pub is_some-both : (first second : Option (List (ℕ × ℕ))) → (is_some first && is_some second) ≡ is_some (both_classes first second)
 is_some-both None second = refl
 is_some-both (Some ranges) None = refl
 is_some-both (Some ranges) (Some others) = refl
 
-both_hold : (first second : Bool) → (first && second) ≡ true → (first ≡ true) × (second ≡ true)
+pub both_hold : (first second : Bool) → (first && second) ≡ true → (first ≡ true) × (second ≡ true)
 both_hold true second is = (refl, is)
 both_hold false second is = absurd (let h : false ≡ true = is in cc)
 
@@ -165,11 +165,11 @@ exchanged first second point (inr (inl is)) = inl is
 exchanged first second point (inr (inr is)) = absurd is
 
 -- the cases of a character
-abbrev cases_of : (is_caseless : Bool) → ℕ → List ℕ
+abbrev pub cases_of : (is_caseless : Bool) → ℕ → List ℕ
 cases_of false number = number ∷ []
 cases_of true number = both_cases (number ∷ [])
 
-character_after : (policy : SurPolicy) (is_caseless : Bool) (number point : ℕ)
+pub character_after : (policy : SurPolicy) (is_caseless : Bool) (number point : ℕ)
     → InRanges (character_set policy is_caseless number) point ↔ IsAfter policy (singles (cases_of is_caseless number)) point
 character_after policy false number point = one_after policy number point
 character_after policy true number point = at (is_within 65 90 number) (is_within 97 122 number) refl refl

@@ -22,7 +22,7 @@ then_behind : (First Second Third : Check) (fault : Fault) → Then First Second
 then_behind First Second Third fault (inl found) = inl (found.0, inr (fault, found.1, refl))
 then_behind First Second Third fault (inr found) = inr found
 
-both_true : (a b : Bool) (fault : Fault) → None ≡ (if a && b then None else Some fault) → (a ≡ true) × (b ≡ true)
+pub both_true : (a b : Bool) (fault : Fault) → None ≡ (if a && b then None else Some fault) → (a ≡ true) × (b ≡ true)
 both_true true true fault is = (refl, refl)
 both_true true false fault is = absurd (let h : None ≡ Some fault = is in cc)
 both_true false b fault is = absurd (let h : None ≡ Some fault = is in cc)

@@ -25,3 +25,10 @@ pub mod StepMarks
 pub mod OperandValues
 pub mod ValueContents
 pub mod ValueLimits
+pub mod TagNumbers
+pub mod ClassFits
+pub mod MeaningFits
+pub mod FormFits
+pub mod RuleNumbers
+pub mod ItemFits
+pub mod ScannerFits

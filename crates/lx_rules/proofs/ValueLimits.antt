@@ -10,7 +10,7 @@ use Rattle.lx_rules.specs.Meanings.{alternated, choice_size, enclosed, followed,
 use Rattle.lx_rules.specs.Values.{IsCounted, IsRoom}
 
 -- below the end of what is kept a bound holds of what is kept where it holds of all
-le_kept : (n m : ℕ) → m ≤ 4096 → nat_le (kept n) m ≡ nat_le n m
+pub le_kept : (n m : ℕ) → m ≤ 4096 → nat_le (kept n) m ≡ nat_le n m
 le_kept n m small = at (nat_le n m) refl
   where
     at : (b : Bool) → nat_le n m ≡ b → nat_le (kept n) m ≡ nat_le n m
@@ -29,7 +29,7 @@ pub built_seen : (room : Room) (meaning : Meaning) (size nesting tags : ℕ) →
 built_seen room meaning size nesting tags is counted =
     rw counted.size_is (rw counted.nesting_is (rw counted.tags_is (fits_kept room meaning.size meaning.nesting meaning.count is)))
 
-both_of : (a b : Bool) → (a && b) ≡ true → (a ≡ true) × (b ≡ true)
+pub both_of : (a b : Bool) → (a && b) ≡ true → (a ≡ true) × (b ≡ true)
 both_of true b e = (refl, e)
 both_of false b e = absurd (let h : false ≡ true = e in cc)
 

@@ -16,3 +16,4 @@ pub mod StepRuns
 pub mod StepViews
 pub mod Steps
 pub mod Values
+pub mod Within

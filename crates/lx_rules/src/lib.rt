@@ -24,6 +24,3 @@ pub use definitions::Definitions;
 pub use environment::Env;
 pub use resolved::{Act, Config, Resolved, Scanner};
 pub use resolving::resolve;
-
-#[cfg(test)]
-mod tests;

@@ -1,5 +1,6 @@
 //! Resolves a block.
 ghost use Rattle.std.specs.Prelude.{◌≡◌, ◌≤◌, length, Ok, IfOk, MatchResult};
+ghost use Rattle.std.specs.List.{AllByRecursion};
 ghost use Rattle.lx_base.specs.declared.blocks.BlockKind.TheVariants.{Code};
 ghost use Rattle.lx_base.specs.declared.places.Pos.{Pos};
 ghost use Rattle.lx_parse.specs.Blocks.{IsBody, form_of};
@@ -12,6 +13,7 @@ ghost use Rattle.lx_rules.specs.Keeping.{Holds, StopsGoing};
 ghost use Rattle.lx_rules.specs.Lexemes.{lexemes_of, sorts_at};
 ghost use Rattle.lx_rules.specs.Seen.{environment_view, lexemes_view};
 ghost use Rattle.lx_rules.specs.Soundness.{IsFine, IsSound};
+ghost use Rattle.lx_rules.specs.Within.{AreDefinedWithin, IsScannerWithin};
 
 use crate::environment::Env;
 use crate::items::{Block, Known};
@@ -26,6 +28,8 @@ use std::alloc::Global;
 ///
 /// `at` is the place of the block's opener. It refuses with the first fault of the block: those of its items in their
 /// order, and then those that stand at the opener. `Memory` comes only where memory runs out.
+///
+/// Each scanner is within the limits, and its classes fit the encoding, where the definitions before are ready for copies.
 pub fn resolve(
     alloc: Global,
     body: &[u8],
@@ -40,6 +44,9 @@ pub fn resolve(
     requires tree { IsBody (form_of Code) (sorts_of Code body.now tokens.now) tree.now.items }
     requires sound { IsSound env }
     ensures sound { IfOk result (λ answer. IsSound answer.0 × IsFine answer.1) }
+    ensures within { AreDefinedWithin options.now.enc (environment_view env).definitions
+        → IfOk result (λ answer. AreDefinedWithin options.now.enc (environment_view answer.0).definitions
+        × AllByRecursion (IsScannerWithin options.now.enc) answer.1.scanners) }
     ensures resolves { let lexemes = lexemes_of body.now tokens.now in
         MatchResult result
         (λ answer. Resolves options.now at (environment_view env) lexemes tree.now.items (environment_view answer.0) answer.1)

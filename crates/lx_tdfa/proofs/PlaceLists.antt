@@ -1,5 +1,5 @@
 -- Lists of places tell kernels apart, and a step is one from a list of places to the next.
-use Rattle.std.proofs.Common.{ap, ap₂, ◌∙◌, subst, sym}
+use Rattle.std.proofs.Common.{ap, ap₂}
 use Rattle.std.specs.Prelude.{◌≡◌, ◌↔◌, ℕ, List, [], ◌∷◌, map, refl}
 use Rattle.lx_base.specs.declared.settings.Enc.{Enc}
 use Rattle.lx_regex.specs.Automaton.{automaton}

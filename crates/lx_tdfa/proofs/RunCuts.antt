@@ -18,7 +18,6 @@ use Rattle.lx_regex.proofs.Readings.{code_quiet}
 use Rattle.lx_regex.proofs.Rows.{mark_begins}
 use Rattle.lx_regex.proofs.WholeWalk.{tree_of}
 use Rattle.lx_tnfa.specs.LeafReadings.{HasBegun, IsLeft, IsNth, NumbersLeaves}
-use Rattle.lx_tnfa.specs.DepthFirst.{successors}
 use Rattle.lx_tnfa.proofs.SimplePaths.{SimplePath}
 use Rattle.lx_tdfa.specs.Graph.{graph_of, move_at, path_end, path_symbols, rule_starts}
 use Rattle.lx_tdfa.specs.Kernels.{Key, rule_of, segment_symbols}

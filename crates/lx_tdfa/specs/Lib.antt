@@ -1,4 +1,12 @@
 pub mod Accepts
+pub mod Building
+pub mod Edges
 pub mod Graph
 pub mod Kernels
+pub mod Making
+pub mod Promise
+pub mod Registers
+pub mod RuleNumbers
+pub mod Steps
+pub mod Table
 pub mod Values

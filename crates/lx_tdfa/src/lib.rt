@@ -1,4 +1,15 @@
-//! Determinization of the tagged automaton: the laws on kernels.
+//! Determinization of the tagged automaton of a rule list: an automaton with registers that tells the best values.
 #![tactic(auto)]
 
+mod automata;
+mod cuts;
+mod edges;
+mod kernels;
 pub mod laws;
+mod operations;
+mod seen;
+mod sorts;
+mod states;
+mod steps;
+
+pub use automata::determinize;

@@ -1,7 +1,7 @@
 -- The search's result does not depend on its bound, nor on how the set of visited states is listed.
 use Rattle.std.specs.Prelude.{◌≡◌, ℕ, zero, suc, ◌+◌, ◌<◌, ◌≤◌, List, [], ◌∷◌, ◌++◌, refl, length}
 use Rattle.std.proofs.Common.{inl, ap, ap₂, subst, arith}
-use Rattle.lx_tnfa.specs.DepthFirst.{IsIn, decide_in, successors, Found, all_with_choice, visited, search_each, unless_in, search_within, search_each_within, search_from}
+use Rattle.lx_tnfa.specs.DepthFirst.{IsIn, decide_in, successors, Found, all_with_choice, visited, search_each, unless_in, search_within, search_from}
 use Rattle.lx_tnfa.proofs.SimplePaths.{IsAt, counted, unvisited}
 use Rattle.lx_tnfa.proofs.SearchBasics.{IsWithin, IsWithin-cons, IsWithin-visited, unvisited-fewer}
 use Rattle.lx_tnfa.proofs.SearchLaws.{begun, unvisited-kids}

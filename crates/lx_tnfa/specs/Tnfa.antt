@@ -1,5 +1,5 @@
 -- What contracts see of an automaton, its places, and how a unit moves one on.
-use Rattle.std.specs.Prelude.{◌≡◌, ℕ, ◌+◌, ◌*◌, ◌<◌, ◌≤◌, List, [], ◌∷◌, map, length, Option, Some, None, Bool, slice_index_or, nat_eq, if◌then◌else◌}
+use Rattle.std.specs.Prelude.{◌≡◌, ℕ, ◌+◌, ◌*◌, ◌<◌, ◌≤◌, max, List, [], ◌∷◌, map, length, Option, Some, None, Bool, slice_index_or, nat_eq, if◌then◌else◌}
 use Rattle.std.specs.Option.{option_map}
 use Rattle.lx_base.specs.declared.settings.Enc.{Enc}
 use Rattle.lx_encode.specs.Table.{Rows, Finishes, step_of}
@@ -72,6 +72,11 @@ FinishesPlace tnfa place units = FinishesRest tnfa.classes (state_at tnfa place)
 abbrev pub sorts_for : List (ℕ × List Bool) → (number : ℕ) → Option (List Bool)
 sorts_for [] number = None
 sorts_for (rule ∷ rules) number = if nat_eq rule.0 number then Some rule.1 else sorts_for rules number
+
+-- the most tags that a rule has
+abbrev pub most_tags : List (ℕ × List Bool) → ℕ
+most_tags [] = 0
+most_tags (rule ∷ rules) = max (length rule.1) (most_tags rules)
 
 -- each class that a state names is there
 abbrev pub IsNumbered : (count : ℕ) → State → Type 0

@@ -1,5 +1,6 @@
 //! The automaton of a rule list.
-ghost use Rattle.std.specs.Prelude.{◌≡◌, ◌↔◌, ◌∷◌, ℕ, ◌<◌, List, Some, length, IfOk, IfSome, IsNone, IsSome, slice_index};
+ghost use Rattle.std.specs.Prelude.{◌≡◌, ◌↔◌, [], ◌∷◌, ℕ, List, length, IfOk, IfSome, IsNone, slice_index};
+ghost use Rattle.std.specs.Option.{unwrap_or};
 ghost use Rattle.std.specs.List.Sorted.{IsStrictlyIncreasing};
 ghost use Rattle.lx_base.specs.Spelling.{greatest_unit};
 ghost use Rattle.lx_encode.specs.Graph.{Separates};
@@ -61,7 +62,7 @@ impl Model for Tnfa {
 }
 
 impl Tnfa {
-    ghost use Rattle.lx_tnfa.specs.Tnfa.{AllClassesFit, FinishesPlace, IsPlace, IsTnfaOf, place_after, rest_after, sorts_for, state_at};
+    ghost use Rattle.lx_tnfa.specs.Tnfa.{AllClassesFit, FinishesPlace, IsPlace, IsTnfaOf, most_tags, place_after, rest_after, sorts_for, state_at};
 
     /// The automaton of a rule list within the limits of a scanner, of whose classes the encoding has each point.
     pub fn of(alloc: Global, set: &RuleSet, enc: Enc) -> Result<Tnfa, Memory>
@@ -134,25 +135,45 @@ impl Tnfa {
         }
     }
 
-    /// The number of the rule of a part. It takes no memory.
+    /// The number of the rule of a part; 0 where there is no such part. It takes no memory.
     pub fn rule_of(&self, part: u32) -> u32
-        requires { part < length self.now.owners }
         ensures { result ≡ slice_index self.now.owners part }
     {
-        self.owners[part as usize]
+        match self.owners.get(part as usize) {
+            Some(rule) => *rule,
+            None => 0,
+        }
     }
 
-    /// Of each tag number of a rule, the ends of its groups included, whether it is an m-tag. It takes no memory.
+    /// Of each tag number of a rule, the ends of its groups included, whether it is an m-tag; none where no rule has the number. It
+    /// takes no memory.
     pub fn tags_of(&self, rule: u32) -> &[bool]
-        requires { IsSome (sorts_for self.now.rules rule) }
-        ensures { Some result.now ≡ sorts_for self.now.rules rule }
+        ensures { result.now ≡ unwrap_or (sorts_for self.now.rules rule) [] }
     {
         for known in &self.rules {
             if known.number == rule {
                 return &known.many;
             }
         }
-        unreachable!()
+        &[]
+    }
+
+    /// The most tags that a rule has, the ends of its groups included. It takes no memory.
+    pub fn most_tags(&self) -> usize
+        ensures { result ≡ most_tags self.now.rules }
+    {
+        let mut most = 0;
+        for rule in &self.rules {
+            most = rule.many.len().max(most);
+        }
+        most
+    }
+
+    /// How many parts there are, the rule list among them. It takes no memory.
+    pub fn part_count(&self) -> usize
+        ensures { result ≡ length self.now.owners }
+    {
+        self.owners.len()
     }
 
     /// The greatest code unit of the encoding. It takes no memory.

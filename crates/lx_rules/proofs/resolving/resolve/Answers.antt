@@ -1,4 +1,5 @@
 use Rattle.std.proofs.Common.{◌∙◌, ap, sym, subst, arith, length, Ok}
+use Rattle.std.specs.List.{AllByRecursion}
 use Rattle.lx_base.specs.declared.blocks.BlockKind.TheVariants.{Code}
 use Rattle.lx_parse.specs.Ranges.{EachHasExpressions}
 use Rattle.lx_parse.specs.Sorts.{sorts_of}
@@ -10,6 +11,8 @@ use Rattle.lx_rules.specs.Lexemes.{lexemes_of, sorts_at}
 use Rattle.lx_rules.specs.Items.{Goes, first_state}
 use Rattle.lx_rules.specs.Seen.{environment_view}
 use Rattle.lx_rules.specs.Soundness.{IsFine, IsSound}
+use Rattle.lx_rules.specs.Within.{AreDefinedWithin, IsScannerWithin}
+use Rattle.lx_rules.proofs.ScannerFits.{resolved_within}
 use Rattle.lx_rules.proofs.ItemRuns.{lexemes_few, sorts_of-lexemes, match_so, if_ok_so, stops_behind}
 use Rattle.lx_rules.proofs.resolving.resolve.Goals as goal
 
@@ -33,6 +36,22 @@ returns-clause-sound c =
     let goes = c.in_ok-known.ensures.goes in
     if_ok_so (IsFinished c.args.options.now.conds c.args.at goes.0) (λ answer. IsSound answer.0 × IsFine answer.1) (StopsAt (BlockChecks c.args.at goes.0)) c.finish.result
     (c.finish.ensures c.args.options.now.conds goes.0 goes.2) (λ answer is. (is.2, is.3))
+
+pub returns-clause-within : goal.returns-clause-within
+returns-clause-within c = λ ready.
+    let options = c.args.options.now in
+    let goes = c.in_ok-known.ensures.goes in
+    let environment = environment_view c.args.env in
+    let lexemes = lexemes_of c.args.body.now c.args.tokens.now in
+    let items = c.args.tree.now.items in
+    let gone : Goes options lexemes (first_state environment) items (Ok goes.0) =
+    subst (λ tokens. Goes options (lexemes_of c.args.body.now tokens) (first_state environment) items (Ok goes.0)) c.as_slice.ensures
+    (subst (λ l. Goes options (lexemes_of c.args.body.now c.as_slice.result.now) (first_state environment) l (Ok goes.0)) c.as_slice-2.ensures goes.1) in
+    if_ok_so (IsFinished options.conds c.args.at goes.0)
+    (λ answer. AreDefinedWithin options.enc (environment_view answer.0).definitions × AllByRecursion (IsScannerWithin options.enc) answer.1.scanners)
+    (StopsAt (BlockChecks c.args.at goes.0)) c.finish.result (c.finish.ensures options.conds goes.0 goes.2)
+    (λ answer is.
+    resolved_within options c.args.at environment (environment_view answer.0) lexemes items goes.0 answer.1 gone goes.2.usual is.0 is.1 is.3 ready)
 
 pub returns-clause-resolves : goal.returns-clause-resolves
 returns-clause-resolves c =

@@ -1,0 +1,13 @@
+use Rattle.std.proofs.Common.{refl}
+use Rattle.lx_gen.specs.Starts.{run_with}
+use Rattle.lx_gen.proofs.examples.examples_hold.Goals as goal
+
+pub returns-clause-layouts : goal.returns-clause-layouts
+returns-clause-layouts c = record { dotted = refl; any = refl }
+
+pub returns-clause-runs : goal.returns-clause-runs
+unfolding run_with
+returns-clause-runs c = record { whole = λ names. refl; falls_back = λ names. refl; at_once = λ names. refl; none = λ names. refl }
+
+pub returns-clause-sequences : goal.returns-clause-sequences
+returns-clause-sequences c = record { swap = refl; chain = refl; turned = refl; last_counts = refl }

@@ -1,0 +1,5 @@
+use Rattle.lx_gen.proofs.LayoutLaws.{layout_right}
+use Rattle.lx_gen.proofs.laws.layouts_are_right.Goals as goal
+
+pub returns : goal.returns
+returns c = layout_right

@@ -1,0 +1,5 @@
+use Rattle.lx_gen.proofs.Matches.{served_right}
+use Rattle.lx_gen.proofs.laws.served_pieces_are_right.Goals as goal
+
+pub returns : goal.returns
+returns c = served_right

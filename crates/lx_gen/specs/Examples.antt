@@ -1,0 +1,106 @@
+-- Examples of layouts, of sequences, and of runs.
+use Rattle.std.specs.Prelude.{◌≡◌, ℕ, List, [], ◌∷◌, Some, None, false, true, length, map}
+use Rattle.lx_auto.specs.Examples.{dotted}
+use Rattle.lx_auto.specs.declared.automaton.Auto.{Auto}
+use Rattle.lx_auto.specs.declared.ops.Op.TheVariants as act
+use Rattle.lx_base.specs.Names.{Spellings}
+use Rattle.lx_ccode.specs.declared.piece.Piece.{Piece}
+use Rattle.lx_ccode.specs.declared.piece.Stmt.{Stmt}
+use Rattle.lx_ccode.specs.declared.piece.Stmt.TheVariants.{Accept, Backup, Code, Goto, IfAccept, IfUnit, Leave, Peek, Restore, Set, Skip, Tag}
+use Rattle.lx_ccode.specs.Machine.{by_rule, no_rule, tag_offset}
+use Rattle.lx_ccode.specs.Runs.{Ended}
+use Rattle.lx_gen.specs.Endings.{Ending}
+use Rattle.lx_gen.specs.Layout.{layout}
+use Rattle.lx_gen.specs.Sequences.{one_by_one}
+use Rattle.lx_gen.specs.Starts.{run_with}
+
+-- each rule has the tag `t`, and the action `a`
+abbrev pub tagged : ℕ → Ending
+tagged rule = record { tags = (116 ∷ []) ∷ []; slash = None; groups = 0; goes_to = None; action = Some (97 ∷ []); line = None }
+
+-- The layout of the automaton of `[a-cx-z] ("." [a-cx-z])* @t` for bytes. The two ranges of state 0 are one way. State 1 stands from
+-- block 2 on: a dot, the end in it, and the fallback to it. Then come the fallback, and the last statements of rule 1.
+abbrev pub dotted_blocks : List (List Stmt)
+dotted_blocks =
+    (Peek ∷ IfUnit 96 6 ∷ IfUnit 99 1 ∷ IfUnit 119 6 ∷ IfUnit 122 1 ∷ Goto 6 ∷ [])
+    ∷ (Skip ∷ Goto 2 ∷ [])
+    ∷ (Peek ∷ IfUnit 45 4 ∷ IfUnit 46 3 ∷ Goto 4 ∷ [])
+    ∷ (Backup ∷ Accept 2 ∷ Set 1 ∷ Skip ∷ Goto 0 ∷ [])
+    ∷ (Set 1 ∷ Tag (116 ∷ []) false 1 ∷ Goto 7 ∷ [])
+    ∷ (Restore ∷ Tag (116 ∷ []) false 1 ∷ Goto 7 ∷ [])
+    ∷ (IfAccept 2 5 ∷ Leave ∷ [])
+    ∷ (Code 1 None (97 ∷ []) ∷ [])
+    ∷ []
+
+-- An automaton of `[^] [a-z]*` with the rule 1. On any byte state 0 goes on, so it has no test. The end in state 1 is the rule's
+-- block.
+abbrev pub any_then : Auto
+any_then = record {
+  states = record {
+    edges = record { lo = 0; hi = 255; ops = []; to = 1 } ∷ [];
+    accept = None;
+    leave = [];
+  } ∷ record {
+    edges = record { lo = 97; hi = 122; ops = []; to = 1 } ∷ [];
+    accept = Some (record { rule = 1; ops = []; values = [] });
+    leave = [];
+  } ∷ [];
+  regs = 0;
+  mregs = 0;
+}
+
+abbrev pub any_blocks : List (List Stmt)
+any_blocks =
+    (Skip ∷ Goto 1 ∷ [])
+    ∷ (Peek ∷ IfUnit 96 5 ∷ IfUnit 122 2 ∷ Goto 5 ∷ [])
+    ∷ (Backup ∷ Accept 2 ∷ Skip ∷ Goto 1 ∷ [])
+    ∷ (Restore ∷ Goto 5 ∷ [])
+    ∷ (IfAccept 2 3 ∷ Leave ∷ [])
+    ∷ (Code 1 None (97 ∷ []) ∷ [])
+    ∷ []
+
+abbrev pub untagged : ℕ → Ending
+untagged rule = record { tags = []; slash = None; groups = 0; goes_to = None; action = Some (97 ∷ []); line = None }
+
+pub record LayoutsStand : Type 0 where
+  pub dotted : layout tagged 255 dotted 0 ≡ dotted_blocks
+  pub any : layout untagged 255 any_then 0 ≡ any_blocks
+
+-- two registers are swapped by the spare 3, and one of two writes is left out
+pub record SequencesAreShort : Type 0 where
+  pub swap : one_by_one 3 1 (act.Copy 0 1 ∷ act.Copy 1 0 ∷ []) ≡ act.Copy 3 0 ∷ act.Copy 0 1 ∷ act.Copy 1 3 ∷ []
+  pub chain : one_by_one 3 1 (act.Copy 0 1 ∷ act.Copy 1 2 ∷ []) ≡ act.Copy 0 1 ∷ act.Copy 1 2 ∷ []
+  pub turned : one_by_one 3 1 (act.Copy 1 2 ∷ act.Copy 0 1 ∷ []) ≡ act.Copy 0 1 ∷ act.Copy 1 2 ∷ []
+  pub last_counts : one_by_one 3 1 (act.Here 1 ∷ act.Copy 0 1 ∷ act.Null 1 ∷ []) ≡ act.Copy 0 1 ∷ act.Null 1 ∷ []
+
+-- a piece of these blocks, with the usual spellings
+abbrev pub bytes_piece : Spellings → List (List Stmt) → Piece
+bytes_piece names codes = record {
+  number = 1;
+  names = names;
+  unit = 1;
+  eof = None;
+  declares = true;
+  ctx = false;
+  states = None;
+  conds = [];
+  blocks = map (λ code. record { cond = None; stmts = code }) codes;
+  line = None;
+}
+
+-- what its run tells on a stream from the start of it, where registers hold 7 before
+abbrev pub run_on : Spellings → List ℕ → Ended
+run_on names stream =
+    run_with (bytes_piece names dotted_blocks) stream 0 (λ register. Some 7) (λ history. []) [] (record { first = length stream; answers = [] })
+
+-- On `a.x!` the longest word is matched. On `a.!` the run falls back behind `a`, with the tag's value there. On `a!` it ends at once,
+-- and on `!` no rule is found, with the cursor behind the longest word that begins a match.
+pub record RunsOfDotted : Type 0 where
+  pub whole : (names : Spellings) → run_on names (97 ∷ 46 ∷ 120 ∷ 33 ∷ [])
+      ≡ record { outcome = by_rule 1; cursor = 3; cond = []; values = tag_offset (116 ∷ []) (Some 3) ∷ [] }
+  pub falls_back : (names : Spellings) → run_on names (97 ∷ 46 ∷ 33 ∷ [])
+      ≡ record { outcome = by_rule 1; cursor = 1; cond = []; values = tag_offset (116 ∷ []) (Some 1) ∷ [] }
+  pub at_once : (names : Spellings) → run_on names (97 ∷ 33 ∷ [])
+      ≡ record { outcome = by_rule 1; cursor = 1; cond = []; values = tag_offset (116 ∷ []) (Some 1) ∷ [] }
+  pub none : (names : Spellings) → run_on names (33 ∷ [])
+      ≡ record { outcome = no_rule; cursor = 0; cond = []; values = [] }

@@ -1,0 +1,13 @@
+pub mod Actions
+pub mod Codes
+pub mod Endings
+pub mod Examples
+pub mod Layout
+pub mod Right
+pub mod Sequences
+pub mod Serving
+pub mod Starts
+pub mod Stops
+pub mod Told
+pub mod Turns
+pub mod Ways

@@ -1,0 +1,9 @@
+//! Worked examples of layouts and of sequences of operations.
+ghost use Rattle.lx_gen.specs.Examples.{LayoutsStand, RunsOfDotted, SequencesAreShort};
+
+/// The examples of `specs/Examples.antt` are right.
+pub fn examples_hold()
+    ensures layouts { LayoutsStand }
+    ensures runs { RunsOfDotted }
+    ensures sequences { SequencesAreShort }
+{}

@@ -1,0 +1,2 @@
+pub mod SoundTerms
+pub mod GrowingRules

@@ -1,0 +1,2 @@
+mod automata;
+mod rules;

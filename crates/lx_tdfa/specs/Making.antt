@@ -1,0 +1,52 @@
+-- What the code of determinization holds.
+use Rattle.std.specs.Prelude.{◌≡◌, ◌≢◌, ℕ, ◌<◌, ◌≤◌, ◌⊎◌, max, List, [], ◌∷◌, ◌++◌, map, length, sum_by, Vec, Some, Bool, AllPairs, Contains, slice_get, slice_index}
+use Rattle.lx_base.specs.declared.faults.Fault.TheVariants.{TooManyStates}
+use Rattle.lx_base.specs.declared.faults.Stop.{Stop}
+use Rattle.lx_base.specs.declared.faults.Stop.TheVariants as stop
+use Rattle.lx_base.specs.declared.places.Pos.{Pos}
+use Rattle.lx_tnfa.specs.Tnfa.{Tnfa}
+use Rattle.lx_tnfa.specs.declared.places.Place.{Place}
+use Rattle.lx_tdfa.specs.declared.steps.Ending as held
+use Rattle.lx_tdfa.specs.declared.steps.Step as held_step
+use Rattle.lx_tdfa.specs.Registers.{sorts_of_rule}
+use Rattle.lx_tdfa.specs.Steps.{Ending, Step}
+
+-- the lists that a set holds
+abbrev pub lists_of : {A : Type 0} → List (Vec Place A) → List (List Place)
+lists_of lists = map (λ list. list.items) lists
+
+-- the most places that a list has
+abbrev pub most_places : List (List Place) → ℕ
+most_places [] = 0
+most_places (list ∷ lists) = max (length list) (most_places lists)
+
+-- not more lists, and not more places, than an automaton may have
+pub record IsWithin (lists : List (List Place)) : Type 0 where
+  pub few : length lists ≤ 4096
+  pub few_places : sum_by length lists ≤ 1048576
+
+-- a list came behind the others, or was there
+abbrev pub Adds : (old : List (List Place)) → List Place → (new : List (List Place)) → Type 0
+Adds old list new = ((new ≡ old) × Contains old list) ⊎ ((new ≡ old ++ list ∷ []) × (Contains old list → ⊥))
+
+-- there are too many lists, or too many places in them, and all are different
+pub record AreTooMany (lists : List (List Place)) : Type 0 where
+  pub apart : AllPairs (λ list other. list ≢ other) lists
+  pub many : (4096 < length lists) ⊎ (1048576 < sum_by length lists)
+
+-- it stops where memory runs out, or by the fault of too many states, and then for this reason
+abbrev pub StopsBy : Pos → (reason : Type 0) → Stop → Type 0
+StopsBy at reason stop.Memory = Unit {0}
+StopsBy at reason (stop.Fault fault) = (fault ≡ TooManyStates at) × reason
+
+-- the sorts of tags of each part's rule
+abbrev pub AreSortsOf : Tnfa → List (List Bool) → Type 0
+AreSortsOf tnfa lists = (part : ℕ) (list : List Bool) → slice_get lists part ≡ Some list
+    → list ≡ sorts_of_rule tnfa (slice_index tnfa.owners part)
+
+-- what the definitions see of a step and of an ending
+abbrev pub seen_step : held_step.Step → Step
+seen_step step = record { from = step.reach.now.from; events = step.reach.now.events; to = step.to }
+
+abbrev pub seen_ending : held.Ending → Ending
+seen_ending ending = record { rule = ending.rule; from = ending.reach.now.from; events = ending.reach.now.events }

@@ -1,0 +1,113 @@
+//! Operations that bring the values of tags from place to place.
+ghost use Rattle.std.specs.Prelude.{◌≡◌, ◌+◌, ◌*◌, ◌<◌, ◌≤◌, ◌^◌, ◌∷◌, [], ◌++◌, All, OnOk, None, Some, length, suc, option_map, ℕ};
+ghost use Rattle.lx_tdfa.specs.Registers.{all_tag_ops, copy_ops, first_of, history_copy_ops, history_mark_ops, last_mark, single_ops, tag_ops};
+
+use lx_auto::{Op, Ops};
+use lx_base::Memory;
+use lx_tnfa::Event;
+
+/// From which register to which one values go, where they go anywhere: at first nothing is held.
+#[derive(Clone, Copy)]
+pub(crate) struct Transfer {
+    pub is_first: bool,
+    pub source: u32,
+    pub target: u32,
+}
+
+/// What events do last to a tag: whether they set it, if they do anything.
+fn last_mark(events: &[Event], tag: u32) -> Option<bool>
+    ensures { result ≡ last_mark tag events.now None }
+{
+    let mut mark = None;
+    for event in events {
+        match event {
+            Event::Set(other) if *other == tag => mark = Some(true),
+            Event::Unset(other) if *other == tag => mark = Some(false),
+            Event::Set(_) | Event::Unset(_) => {}
+        }
+    }
+    mark
+}
+
+/// Puts what becomes of a register behind the operations.
+fn push_single(ops: &mut Ops, transfer: Transfer, mark: Option<bool>) -> Result<(), Memory>
+    ensures { OnOk result (ops.new ≡ ops.old ++ single_ops transfer.is_first transfer.source transfer.target mark) }
+{
+    match mark {
+        Some(true) => ops.push(Op::Here(transfer.target)),
+        Some(false) => ops.push(Op::Null(transfer.target)),
+        None if transfer.is_first => ops.push(Op::Null(transfer.target)),
+        None if transfer.source == transfer.target => Ok(()),
+        None => ops.push(Op::Copy(transfer.target, transfer.source)),
+    }
+}
+
+/// Puts the copy of a history behind the operations. M-registers have the numbers behind those of registers.
+fn push_history(ops: &mut Ops, transfer: Transfer) -> Result<(), Memory>
+    requires { (transfer.source + 1 < 2 ^ 32) × (transfer.target + 1 < 2 ^ 32) }
+    ensures { OnOk result (ops.new ≡ ops.old ++ history_copy_ops transfer.is_first transfer.source transfer.target) }
+{
+    if transfer.is_first {
+        ops.push(Op::MCopy(transfer.target + 1, 0))
+    } else if transfer.source == transfer.target {
+        Ok(())
+    } else {
+        ops.push(Op::MCopy(transfer.target + 1, transfer.source + 1))
+    }
+}
+
+/// Puts what events add to a tag's history behind the operations.
+fn push_marks(ops: &mut Ops, target: u32, tag: u32, events: &[Event]) -> Result<(), Memory>
+    requires { target + 1 < 2 ^ 32 }
+    ensures { OnOk result (ops.new ≡ ops.old ++ history_mark_ops target tag events.now) }
+{
+    for event in events {
+        match event {
+            Event::Set(other) if *other == tag => ops.push(Op::MHere(target + 1))?,
+            Event::Unset(other) if *other == tag => ops.push(Op::MNull(target + 1))?,
+            Event::Set(_) | Event::Unset(_) => {}
+        }
+    }
+    Ok(())
+}
+
+/// Puts the operations of one tag behind those that are there.
+fn push_tag(
+    ops: &mut Ops,
+    transfer: Transfer,
+    tag: u32,
+    events: &[Event],
+    many: bool,
+) -> Result<(), Memory>
+    requires { (transfer.source + 1 < 2 ^ 32) × (transfer.target + 1 < 2 ^ 32) }
+    ensures { OnOk result (ops.new ≡ ops.old ++ tag_ops transfer.is_first transfer.source transfer.target tag events.now many) }
+{
+    if many {
+        push_history(ops, transfer)?;
+        push_marks(ops, transfer.target, tag, events)
+    } else {
+        push_single(ops, transfer, last_mark(events, tag))
+    }
+}
+
+/// Puts the operations of all tags of a rule behind those that are there; `transfer` is that of its first tag.
+pub(crate) fn push_tags(
+    ops: &mut Ops,
+    transfer: Transfer,
+    events: &[Event],
+    sorts: &[bool],
+) -> Result<(), Memory>
+    requires { (transfer.source + length sorts.now < 2 ^ 32) × (transfer.target + length sorts.now < 2 ^ 32) }
+    ensures { OnOk result (ops.new ≡ ops.old ++ all_tag_ops transfer.is_first transfer.source transfer.target 0 events.now sorts.now) }
+{
+    for (tag, many) in sorts.iter().enumerate() {
+        let tag = tag as u32;
+        let transfer = Transfer {
+            is_first: transfer.is_first,
+            source: transfer.source + tag,
+            target: transfer.target + tag,
+        };
+        push_tag(ops, transfer, tag, events, *many)?;
+    }
+    Ok(())
+}

@@ -1,0 +1,70 @@
+//! Steps over a unit, and the first ending.
+ghost use Rattle.std.specs.Prelude.{◌≡◌, IfOk, map, option_map};
+ghost use Rattle.lx_tnfa.specs.Closure.{AllPlaces, IsTarget};
+ghost use Rattle.lx_tdfa.specs.Making.{seen_ending, seen_step};
+ghost use Rattle.lx_tdfa.specs.Steps.{first_ending, next_steps, step_on};
+
+use crate::seen::Seen;
+use lx_base::Memory;
+use lx_tnfa::{Place, Reach, Target, Tnfa};
+use std::alloc::Global;
+
+/// A step over a unit: by the walk to a target, and on to a place.
+#[derive(Clone, Copy)]
+pub(crate) struct Step<'a> {
+    pub reach: &'a Reach,
+    pub to: Place,
+}
+
+/// The end of the rule with this number, and the walk there.
+#[derive(Clone, Copy)]
+pub(crate) struct Ending<'a> {
+    pub rule: u32,
+    pub reach: &'a Reach,
+}
+
+/// The place to which a target leads over a unit, if there is one.
+fn place_behind(t: &Tnfa, reach: &Reach, unit: u32) -> Option<Place>
+    requires { IsTarget t.now reach.now.to }
+    ensures { step_on t.now unit reach.now ≡ option_map (λ to. record { from = reach.now.from; events = reach.now.events; to = to }) result }
+{
+    match reach.to {
+        Target::Leaf(place) => t.next(&place, unit),
+        Target::End(_) => None,
+    }
+}
+
+/// The steps over a unit by the targets of a closure: for each place the first one that leads there.
+pub(crate) fn next_steps<'a>(
+    alloc: Global,
+    t: &Tnfa,
+    seen: &mut Seen,
+    reaches: &'a [Reach],
+    unit: u32,
+) -> Result<Vec<Step<'a>>, Memory>
+    requires { AllPlaces t.now reaches.now }
+    ensures { IfOk result (λ steps. map seen_step steps.items ≡ next_steps t.now unit reaches.now) }
+{
+    seen.clear();
+    let mut steps = Vec::new(alloc);
+    for reach in reaches {
+        if let Some(to) = place_behind(t, reach, unit) {
+            if seen.add(to)? {
+                steps.push(Step { reach, to })?;
+            }
+        }
+    }
+    Ok(steps)
+}
+
+/// The first end among the targets of a closure.
+pub(crate) fn first_ending(reaches: &[Reach]) -> Option<Ending<'_>>
+    ensures { option_map seen_ending result ≡ first_ending reaches.now }
+{
+    for reach in reaches {
+        if let Target::End(rule) = reach.to {
+            return Some(Ending { rule, reach });
+        }
+    }
+    None
+}
