@@ -19,9 +19,6 @@ use lx_base::Memory;
 use lx_parse::Sort;
 use std::alloc::Global;
 
-#[cfg(test)]
-mod tests;
-
 /// What is done at a token of an expression.
 #[derive(Clone, Copy, Debug, PartialEq, Eq)]
 pub(crate) enum StepSort {

@@ -4,7 +4,6 @@ ghost use Rattle.lx_auto.specs.Automaton.{IsAuto};
 ghost use Rattle.lx_base.specs.Spelling.{greatest_point};
 
 use super::terms::{Rules, tagged};
-
 use lx_auto::Auto;
 use lx_base::{Enc, Pos, Stop};
 use lx_tdfa::determinize;
