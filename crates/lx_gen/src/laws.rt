@@ -8,25 +8,31 @@ ghost use Rattle.lx_auto.specs.declared.automaton.Auto.{Auto};
 ghost use Rattle.lx_auto.specs.declared.automaton.Edge.{Edge};
 ghost use Rattle.lx_auto.specs.declared.automaton.State.{State};
 ghost use Rattle.lx_auto.specs.declared.ops.Op.{Op};
+ghost use Rattle.lx_base.specs.Names.{AreAllowed, DoNotClash, Spellings};
 ghost use Rattle.lx_base.specs.Spelling.{greatest_unit};
 ghost use Rattle.lx_base.specs.declared.settings.Enc.{Enc};
 ghost use Rattle.lx_ccode.specs.Runs.{entry_block, run_of};
 ghost use Rattle.lx_ccode.specs.Schedules.{Schedule};
-ghost use Rattle.lx_ccode.specs.Statements.{all_statements, code_of, is_refill, is_state};
-ghost use Rattle.lx_ccode.specs.Validity.{JumpsBelow, ends_once};
+ghost use Rattle.lx_ccode.specs.Statements.{all_statements, code_of, is_refill, is_state, statement_count};
+ghost use Rattle.lx_ccode.specs.Validity.{IsShort, IsValid, JumpsBelow, ends_once};
 ghost use Rattle.lx_ccode.specs.declared.piece.CodeBlock.{CodeBlock};
 ghost use Rattle.lx_ccode.specs.declared.piece.Piece.{Piece};
-ghost use Rattle.lx_regex.specs.Pattern.{Pattern};
+ghost use Rattle.lx_regex.specs.Limits.{HaveDifferentNumbers, IsWithinLimits};
+ghost use Rattle.lx_regex.specs.Pattern.{Pattern, end_rule, patterns_of, with_terms};
+ghost use Rattle.lx_regex.specs.declared.rules.Rule.{Rule};
 ghost use Rattle.lx_tdfa.specs.Promise.{IsAutoOf};
 ghost use Rattle.lx_gen.specs.Actions.{IsOwnAction, action_count};
 ghost use Rattle.lx_gen.specs.Endings.{Ending};
 ghost use Rattle.lx_gen.specs.Layout.{StandsFrom, layout};
-ghost use Rattle.lx_gen.specs.Right.{AreEndsOf, IsRightIn};
+ghost use Rattle.lx_gen.specs.Right.{AreEndsOf, IsRightIn, IsSetBy};
+ghost use Rattle.lx_gen.specs.Rules.{AreSimple, endings_of};
+ghost use Rattle.lx_gen.specs.Scanner.{AreNamed, AreShort, IsScannerOf};
 ghost use Rattle.lx_gen.specs.Sequences.{one_by_one};
 ghost use Rattle.lx_gen.specs.Serving.{Serves};
 ghost use Rattle.lx_gen.specs.Starts.{run_with};
 ghost use Rattle.lx_gen.specs.Stops.{Stops, bank_from, last_standing, told_found};
 ghost use Rattle.lx_gen.specs.Turns.{after_ops};
+ghost use Rattle.lx_gen.specs.Written.{AreWritten, IsUnconditional};
 
 /// A piece is right in a condition where the layout of the automaton of its rules stands from the condition's block on, and the
 /// piece asks for no refill.
@@ -102,4 +108,34 @@ pub fn sequences_act_at_once()
         → (after_ops offset (one_by_one regs mregs ops) bank).regs reg ≡ (bank_after offset ops bank).regs reg }
     ensures histories { (regs mregs offset : ℕ) (ops : List Op) (bank : Bank) (mreg : ℕ) → AreOps regs mregs ops → mreg < mregs
         → (after_ops offset (one_by_one regs mregs ops) bank).mregs mreg ≡ (bank_after offset ops bank).mregs mreg }
+{}
+
+/// Rules of which none is `$` have the ends that the law of layouts asks for, whatever their actions are: where none has a trailing
+/// context, and where their numbers differ and each tree of a rule with a trailing context sets its tag.
+pub fn rules_have_ends()
+    ensures simple { (enc : Enc) (rules : List Rule) (texts : List (List ℕ)) → AreSimple rules
+        → AreEndsOf enc (patterns_of rules) (endings_of rules texts) }
+    ensures contexts { (enc : Enc) (rules : List Rule) (texts : List (List ℕ)) → HaveDifferentNumbers rules
+        → All (λ (pattern : Pattern). IsSetBy enc pattern pattern.slash) (with_terms (patterns_of rules))
+        → end_rule (patterns_of rules) ≡ None → AreEndsOf enc (patterns_of rules) (endings_of rules texts) }
+{}
+
+/// A piece without conditions whose blocks are the layout of a well-formed automaton is valid, if the ends of its rules can be written.
+pub fn layouts_are_valid()
+    ensures { (enc : Enc) (counted : ℕ) (spellings : Spellings) (endings : ℕ → Ending) (greatest : ℕ) (auto : Auto) (piece : Piece) → IsAuto auto
+        → All (λ (state : State). All (λ (edge : Edge). edge.hi ≤ greatest) state.edges) auto.states
+        → IsShort greatest → AreWritten spellings endings auto.states
+        → code_of piece.blocks ≡ layout endings greatest auto 0 → IsUnconditional enc counted spellings piece
+        → IsShort counted → AreAllowed spellings → DoNotClash spellings
+        → statement_count piece.blocks ≤ 4_611_686_018_427_387_904 → IsValid piece }
+{}
+
+/// A piece without conditions whose blocks are the layout of the automaton of its rules is a scanner of these rules.
+pub fn layouts_are_scanners()
+    ensures { (enc : Enc) (counted : ℕ) (spellings : Spellings) (rules : List Rule) (texts : List (List ℕ)) (auto : Auto) (piece : Piece)
+        → IsAutoOf enc (patterns_of rules) auto → AreEndsOf enc (patterns_of rules) (endings_of rules texts) → IsWithinLimits rules
+        → AreShort texts → AreNamed spellings texts rules
+        → code_of piece.blocks ≡ layout (endings_of rules texts) (greatest_unit enc) auto 0 → IsUnconditional enc counted spellings piece
+        → IsShort counted → AreAllowed spellings → DoNotClash spellings
+        → statement_count piece.blocks ≤ 4_611_686_018_427_387_904 → IsScannerOf enc counted spellings rules texts piece }
 {}

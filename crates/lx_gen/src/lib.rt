@@ -3,3 +3,7 @@
 
 pub mod examples;
 pub mod laws;
+mod sequences;
+mod statements;
+mod unit_splits;
+mod ways;

@@ -1,0 +1,137 @@
+-- The endings of rules are those of their numbers, and the ends of rules without a trailing context are as the law of layouts asks.
+use Rattle.std.specs.Prelude.{◌≡◌, ℕ, zero, suc, List, [], ◌∷◌, Some, None, All, Bool, true, false, nat_eq, refl, slice_index_or, if◌then◌else◌}
+use Rattle.std.proofs.Common.{sym, ap, ◌∙◌, subst, arith, eqb-true, eq-eqb}
+use Rattle.std.proofs.lemmas.Bool.{ne_eqb}
+use Rattle.std.specs.List.{AllByRecursion}
+use Rattle.lx_base.specs.declared.settings.Enc.{Enc}
+use Rattle.lx_regex.specs.Limits.{HaveDifferentNumbers, NoneHasNumber}
+use Rattle.lx_regex.specs.Pattern.{Pattern, end_rule, is_end, pattern_of, patterns_of, with_terms}
+use Rattle.lx_regex.specs.declared.rules.Rule.{Rule}
+use Rattle.lx_gen.specs.Endings.{Ending}
+use Rattle.lx_gen.specs.Right.{AreEndsOf, IsSetBy}
+use Rattle.lx_gen.specs.Rules.{AreSimple, ending_of, endings_of, text_of}
+
+-- what holds of each element holds at each place
+pub All-each : {A : Type 0} (P : A → Type 0) (xs : List A) → AllByRecursion P xs → All P xs
+All-each P [] h k d lt = absurd (omega (arith, lt))
+All-each P (x ∷ xs) h zero d lt = h.0
+All-each P (x ∷ xs) h (suc k) d lt = All-each P xs h.1 k d (omega (arith, lt))
+
+pub each-All : {A : Type 0} (P : A → Type 0) (xs : List A) → All P xs → AllByRecursion P xs
+each-All P [] h = tt
+each-All P (x ∷ xs) h = (h 0 x (omega arith), each-All P xs (λ k d lt. h (suc k) d (omega (arith, lt))))
+
+-- an ending is that of a rule with its number, or of none
+slash-simple : (rules : List Rule) (texts : List (List ℕ)) (number : ℕ) → AreSimple rules → (endings_of rules texts number).slash ≡ None
+slash-simple [] texts number h = refl
+slash-simple (rule ∷ rules) texts number h = by (nat_eq number rule.number) (slash-simple rules texts number h.1)
+  where
+    by : (t : Bool) → (endings_of rules texts number).slash ≡ None
+        → (if t then ending_of rule texts else endings_of rules texts number).slash ≡ None
+    by true again = h.0.0
+    by false again = again
+
+pub endings-stay : (rules : List Rule) (texts : List (List ℕ)) (number : ℕ) → (endings_of rules texts number).goes_to ≡ None
+endings-stay [] texts number = refl
+endings-stay (rule ∷ rules) texts number = by (nat_eq number rule.number) (endings-stay rules texts number)
+  where
+    by : (t : Bool) → (endings_of rules texts number).goes_to ≡ None
+        → (if t then ending_of rule texts else endings_of rules texts number).goes_to ≡ None
+    by true again = refl
+    by false again = again
+
+pub endings-no_line : (rules : List Rule) (texts : List (List ℕ)) (number : ℕ) → (endings_of rules texts number).line ≡ None
+endings-no_line [] texts number = refl
+endings-no_line (rule ∷ rules) texts number = by (nat_eq number rule.number) (endings-no_line rules texts number)
+  where
+    by : (t : Bool) → (endings_of rules texts number).line ≡ None
+        → (if t then ending_of rule texts else endings_of rules texts number).line ≡ None
+    by true again = refl
+    by false again = again
+
+-- an action is the text of its number
+pub endings-action : (rules : List Rule) (texts : List (List ℕ)) (number : ℕ) (action : List ℕ)
+    → (endings_of rules texts number).action ≡ Some action → text_of texts number ≡ Some action
+endings-action [] texts number action e = absurd (let h = e in cc)
+endings-action (rule ∷ rules) texts number action e = by (nat_eq number rule.number) refl e (endings-action rules texts number action)
+  where
+    by : (t : Bool) → nat_eq number rule.number ≡ t
+        → (if t then ending_of rule texts else endings_of rules texts number).action ≡ Some action
+        → ((endings_of rules texts number).action ≡ Some action → text_of texts number ≡ Some action) → text_of texts number ≡ Some action
+    by true same e again = ap (λ n. text_of texts n) (eqb-true number rule.number same) ∙ e
+    by false same e again = again e
+
+-- the first rule of a list has its own ending
+endings-first : (rule : Rule) (rules : List Rule) (texts : List (List ℕ)) → endings_of (rule ∷ rules) texts rule.number ≡ ending_of rule texts
+endings-first rule rules texts =
+    ap (λ t. if t then ending_of rule texts else endings_of rules texts rule.number) (eq-eqb rule.number rule.number refl)
+
+-- so has each rule, where numbers differ
+abbrev pub HaveEndings : (endings : ℕ → Ending) → (texts : List (List ℕ)) → List Rule → Type 0
+HaveEndings endings texts [] = Unit {0}
+HaveEndings endings texts (rule ∷ rules) = (endings rule.number ≡ ending_of rule texts) × HaveEndings endings texts rules
+
+HaveEndings-later : (first : Rule) (list rules : List Rule) (texts : List (List ℕ)) → NoneHasNumber first.number rules
+    → HaveEndings (endings_of list texts) texts rules → HaveEndings (endings_of (first ∷ list) texts) texts rules
+HaveEndings-later first list [] texts apart h = tt
+HaveEndings-later first list (rule ∷ rules) texts apart h = (
+  ap (λ t. if t then ending_of first texts else endings_of list texts rule.number) (ne_eqb rule.number first.number apart.0) ∙ h.0,
+  HaveEndings-later first list rules texts apart.1 h.1,
+)
+
+pub HaveEndings-apart : (rules : List Rule) (texts : List (List ℕ)) → HaveDifferentNumbers rules → HaveEndings (endings_of rules texts) texts rules
+HaveEndings-apart [] texts h = tt
+HaveEndings-apart (rule ∷ rules) texts h = (
+  endings-first rule rules texts,
+  HaveEndings-later rule rules rules texts h.0 (HaveEndings-apart rules texts h.1),
+)
+
+-- ---- rules without trailing contexts
+
+patterns-simple : (rules : List Rule) → AreSimple rules → AllByRecursion (λ (pattern : Pattern). pattern.slash ≡ None) (with_terms (patterns_of rules))
+patterns-simple [] h = tt
+patterns-simple (rule ∷ rules) h = by (is_end rule.kind) (patterns-simple rules h.1)
+  where
+    by : (t : Bool) → AllByRecursion (λ (pattern : Pattern). pattern.slash ≡ None) (with_terms (patterns_of rules))
+        → AllByRecursion (λ (pattern : Pattern). pattern.slash ≡ None)
+        (if t then with_terms (patterns_of rules) else pattern_of rule ∷ with_terms (patterns_of rules))
+    by true again = again
+    by false again = (h.0.0, again)
+
+no_end-simple : (rules : List Rule) → AreSimple rules → end_rule (patterns_of rules) ≡ None
+no_end-simple [] h = refl
+no_end-simple (rule ∷ rules) h = ap (λ t. if t then Some rule.number else end_rule (patterns_of rules)) h.0.1 ∙ no_end-simple rules h.1
+
+pub simple_ends : (enc : Enc) (rules : List Rule) (texts : List (List ℕ)) → AreSimple rules
+    → AreEndsOf enc (patterns_of rules) (endings_of rules texts)
+simple_ends enc rules texts h =
+    let bare : All (λ (pattern : Pattern). pattern.slash ≡ None) (with_terms (patterns_of rules)) =
+    All-each (λ (pattern : Pattern). pattern.slash ≡ None) (with_terms (patterns_of rules)) (patterns-simple rules h) in
+    record {
+      slashes = λ k d lt. slash-simple rules texts (slice_index_or (with_terms (patterns_of rules)) k d).number h ∙ sym (bare k d lt);
+      set = λ k d lt. subst (λ o. IsSetBy enc (slice_index_or (with_terms (patterns_of rules)) k d) o) (sym (bare k d lt)) tt;
+      no_end = no_end-simple rules h;
+    }
+
+-- ---- rules with them
+
+slashes-own : (endings : ℕ → Ending) (rules : List Rule) (texts : List (List ℕ)) → HaveEndings endings texts rules
+    → AllByRecursion (λ (pattern : Pattern). (endings pattern.number).slash ≡ pattern.slash) (with_terms (patterns_of rules))
+slashes-own endings [] texts have = tt
+slashes-own endings (rule ∷ rules) texts have = by (is_end rule.kind) (slashes-own endings rules texts have.1)
+  where
+    by : (t : Bool) → AllByRecursion (λ (pattern : Pattern). (endings pattern.number).slash ≡ pattern.slash) (with_terms (patterns_of rules))
+        → AllByRecursion (λ (pattern : Pattern). (endings pattern.number).slash ≡ pattern.slash)
+        (if t then with_terms (patterns_of rules) else pattern_of rule ∷ with_terms (patterns_of rules))
+    by true again = again
+    by false again = (ap (λ (ending : Ending). ending.slash) have.0, again)
+
+pub rules_ends : (enc : Enc) (rules : List Rule) (texts : List (List ℕ)) → HaveDifferentNumbers rules
+    → All (λ (pattern : Pattern). IsSetBy enc pattern pattern.slash) (with_terms (patterns_of rules)) → end_rule (patterns_of rules) ≡ None
+    → AreEndsOf enc (patterns_of rules) (endings_of rules texts)
+rules_ends enc rules texts apart set none = record {
+  slashes = All-each (λ (pattern : Pattern). (endings_of rules texts pattern.number).slash ≡ pattern.slash) (with_terms (patterns_of rules))
+      (slashes-own (endings_of rules texts) rules texts (HaveEndings-apart rules texts apart));
+  set = set;
+  no_end = none;
+}

@@ -1,0 +1,5 @@
+use Rattle.lx_gen.proofs.Scanners.{scanner}
+use Rattle.lx_gen.proofs.laws.layouts_are_scanners.Goals as goal
+
+pub returns : goal.returns
+returns c = scanner

@@ -1,0 +1,52 @@
+-- What definitions see of copies in the code.
+use Rattle.std.specs.Prelude.{◌≡◌, ℕ, List, [], ◌∷◌, ◌++◌, map, true, false, nat_eq, ◌&&◌, not, if◌then◌else◌, Option, Some, None}
+use Rattle.lx_gen.specs.Sequences.{Copies, is_in, sources}
+use Rattle.lx_gen.specs.declared.sequences.CopyOp.{CopyOp}
+use Rattle.lx_gen.specs.declared.sequences.Waiting.{Waiting}
+
+-- a copy as its target and its source
+abbrev pub seen_copy : CopyOp → ℕ × ℕ
+seen_copy copy = (copy.target, copy.source)
+
+abbrev pub seen_copies : List CopyOp → Copies
+seen_copies copies = map seen_copy copies
+
+-- the copies of those that wait
+abbrev pub waiting_copies : List Waiting → Copies
+waiting_copies list = map (λ waiting. seen_copy waiting.copy) list
+
+-- a copy that was taken out of copies, and the others
+abbrev pub taken_copy : Option CopyOp → Copies → Option ((ℕ × ℕ) × Copies)
+taken_copy None others = None
+taken_copy (Some copy) others = Some (seen_copy copy, others)
+
+-- the copy between some copies and others, and all the others
+abbrev pub copy_between : (before : Copies) → (here : Copies) → Option ((ℕ × ℕ) × Copies)
+copy_between before [] = None
+copy_between before (copy ∷ behind) = Some (copy, before ++ behind)
+
+-- what is known of a copy that waits: another one of all the copies reads its target
+abbrev pub IsKnown : (all : Copies) → Waiting → Type 0
+IsKnown all waiting =
+    waiting.is_read ≡ true → (nat_eq waiting.copy.target waiting.copy.source ≡ false) × (is_in waiting.copy.target (sources all) ≡ true)
+
+abbrev pub AreKnown : (all : Copies) → List Waiting → Type 0
+AreKnown all [] = Unit {0}
+AreKnown all (waiting ∷ others) = IsKnown all waiting × AreKnown all others
+
+-- a copy of which nothing is known yet
+abbrev pub new_waiting : CopyOp → Waiting
+new_waiting copy = record { copy = copy; is_read = false }
+
+-- nothing is known of a copy into a register
+abbrev pub forgotten : (reg : ℕ) → Waiting → Waiting
+forgotten reg waiting = record { copy = waiting.copy; is_read = waiting.is_read && not (nat_eq waiting.copy.target reg) }
+
+-- a copy, where what was held by one register is now held by another
+abbrev pub renamed : (other old : ℕ) → Waiting → Waiting
+renamed other old waiting =
+    record {
+      copy = record { target = waiting.copy.target; source = if nat_eq waiting.copy.source old then other else waiting.copy.source };
+      is_read = (waiting.is_read && not (nat_eq waiting.copy.target old))
+          && not (nat_eq waiting.copy.target (if nat_eq waiting.copy.source old then other else waiting.copy.source));
+    }

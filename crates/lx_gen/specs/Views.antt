@@ -1,0 +1,19 @@
+-- What the definitions see of what the code holds.
+use Rattle.std.specs.Prelude.{List, map}
+use Rattle.lx_auto.specs.declared.automaton.Edge.{Edge}
+use Rattle.lx_gen.specs.Ways.{Split, Stretch}
+use Rattle.lx_gen.specs.declared.unit_splits.Split as held_split
+use Rattle.lx_gen.specs.declared.unit_splits.Stretch as held_stretch
+use Rattle.lx_gen.specs.declared.ways.Way.{Way}
+
+abbrev pub seen_ways : List Way → List Edge
+seen_ways ways = map (λ way. way.edge.now) ways
+
+abbrev pub seen_stretch : held_stretch.Stretch → Stretch
+seen_stretch stretch = record { greatest = stretch.greatest; way = stretch.way }
+
+abbrev pub seen_stretches : List held_stretch.Stretch → List Stretch
+seen_stretches stretches = map seen_stretch stretches
+
+abbrev pub seen_split : held_split.Split → Split
+seen_split split = record { tests = seen_stretches split.tests.items; last = split.last }
