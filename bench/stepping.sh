@@ -6,13 +6,13 @@ here=$(cd "$(dirname "$0")" && pwd)
 copy=$(mktemp -d) || exit 1
 trap 'rm -rf "$copy"' EXIT
 . "$here/copy_crates.sh"
-copy_crates "$copy" lx_base lx_ccode lx_step
-cd "$copy/crates/lx_step" || exit 1
-sed -i 's/^const COPIES: usize = .*/const COPIES: usize = 14_300_000;/' src/tests.rt
+copy_crates "$copy" lx_base lx_ccode lx_creader lx_step code_samples
+cd "$copy/crates/code_samples" || exit 1
+sed -i 's/^const COPIES: usize = .*/const COPIES: usize = 14_300_000;/' src/tests/stepper.rt
 rt test > "$copy/log" 2>&1 || { tail -5 "$copy/log" >&2; exit 1; }
-python3 - out/lx_step_tests <<'PYTHON'
+python3 - out/code_samples_tests <<'PYTHON'
 import re, resource, subprocess, sys
-tests = subprocess.run([sys.argv[1], 'tests::a_long_stream'], capture_output=True, text=True, check=True)
+tests = subprocess.run([sys.argv[1], 'tests::stepper::a_long_stream'], capture_output=True, text=True, check=True)
 count, micros = map(int, re.search(r'stepping: (\d+) statements in (\d+) us', tests.stdout).groups())
 stream = 7 * 14_300_000
 above = 1024 * resource.getrusage(resource.RUSAGE_CHILDREN).ru_maxrss - stream

@@ -2,11 +2,11 @@
 # Measures automata from their rule lists on, and fails where they take too long: a lexer of 40 rules (50 ms), 2,049 states (1 s), a
 # string of 4,095 letters (1 s) and 1,047,629 places (20 s), and refusals of a little more (as long each); or where the memory taken
 # in all is 2 GiB or more.
-cd "$(dirname "$0")/../crates/lx_samples" || exit 1
+cd "$(dirname "$0")/../crates/tdfa_samples" || exit 1
 log=$(mktemp) || exit 1
 trap 'rm -f "$log"' EXIT
 rt test > "$log" 2>&1 || { tail -5 "$log" >&2; exit 1; }
-python3 - out/lx_samples_tests <<'PYTHON'
+python3 - out/tdfa_samples_tests <<'PYTHON'
 import re, resource, subprocess, sys
 limits = {
     'lexer::time_of_a_lexer': {'lexer': 50_000},
@@ -16,7 +16,7 @@ limits = {
 }
 status = 0
 for test, parts in limits.items():
-    tests = subprocess.run([sys.argv[1], 'tests::automata::' + test], capture_output=True, text=True, check=True)
+    tests = subprocess.run([sys.argv[1], 'tests::' + test], capture_output=True, text=True, check=True)
     for part, limit in parts.items():
         micros = int(re.search(part + r': (\d+) us', tests.stdout).group(1))
         print(f'{part}: {micros} us (limit {limit})')

@@ -28,6 +28,7 @@ prints quoted "2 3 1"
 prints keywords "1 3 2 4 5 d o"
 prints two_scanners "2 2 1 0 2 5 2 2 0 0"
 prints signs "L s s ?"
+prints dates "24.12.2024 31.01.2025" -T
 prints utf_8 "dollar pound . . euro money bag . ." -8
 prints utf_16 "1 0 3 2 0 2" -x
 prints utf_32 "a e e f ? l ? ?" -u

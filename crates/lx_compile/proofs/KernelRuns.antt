@@ -1,11 +1,14 @@
 -- The counts of kernels, block by block.
-use Rattle.std.proofs.Common.{ℕ, List, ◌∷◌, Option, Some, inl, inr, refl}
+use Rattle.std.proofs.Common.{ℕ, List, [], ◌∷◌, Option, Some, None, inl, inr, refl, sym, subst}
 use Rattle.lx_base.specs.declared.faults.Fault.{Fault}
 use Rattle.lx_base.specs.declared.faults.Fault.TheVariants.{TooManyStates}
+use Rattle.lx_base.specs.declared.faults.Stop.{Stop}
+use Rattle.lx_base.specs.declared.faults.Stop.TheVariants as stop
 use Rattle.lx_base.specs.declared.places.Pos.{Pos}
 use Rattle.lx_base.specs.declared.settings.Enc.{Enc}
 use Rattle.lx_rules.specs.declared.resolved.Resolved.{Resolved}
-use Rattle.lx_compile.specs.Parts.{HasTooLarge, IsKernelFault}
+use Rattle.lx_tdfa.specs.Making.{StopsBy}
+use Rattle.lx_compile.specs.Parts.{HasTooLarge, IsKernelFault, StopsByKernels}
 use Rattle.lx_compile.specs.declared.parts.Part.{Part}
 use Rattle.lx_compile.specs.declared.parts.Part.TheVariants.{Outside, Block}
 
@@ -26,3 +29,14 @@ HasNoneBefore-block enc parts rest at resolved none small = record { continues =
 pub IsKernelFault-block : (enc : Enc) (parts rest : List Part) (at : Pos) (resolved : Resolved) → HasNoneBefore enc parts (Block at resolved ∷ rest)
     → HasTooLarge enc resolved.scanners → IsKernelFault enc parts (Some (TooManyStates at))
 IsKernelFault-block enc parts rest at resolved none large = none.continues (Some (TooManyStates at)) (inl (large, refl))
+
+-- a block whose scanner is refused stops with that fault
+pub StopsByKernels-block : (enc : Enc) (parts rest : List Part) (at : Pos) (resolved : Resolved) (stopped : Stop)
+    → HasNoneBefore enc parts (Block at resolved ∷ rest) → StopsBy at (HasTooLarge enc resolved.scanners) stopped → StopsByKernels enc parts stopped
+StopsByKernels-block enc parts rest at resolved stop.Memory none stops = stops
+StopsByKernels-block enc parts rest at resolved (stop.Fault fault) none stops =
+    subst (λ f. IsKernelFault enc parts (Some f)) (sym stops.0) (IsKernelFault-block enc parts rest at resolved none stops.1)
+
+-- behind the last part there is none
+pub IsKernelFault-end : (enc : Enc) (parts : List Part) → HasNoneBefore enc parts [] → IsKernelFault enc parts None
+IsKernelFault-end enc parts none = none.continues None refl

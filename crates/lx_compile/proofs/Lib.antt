@@ -1,9 +1,9 @@
 pub mod ActionTexts
 pub mod BlockStops
 pub mod OneScanner
+pub mod ScannerRules
 pub mod OutsideTexts
 pub mod PiecePlaces
-pub mod StringRules
 pub mod TextRuns
 pub mod CheckPlaces
 pub mod FaultPlaces

@@ -30,7 +30,7 @@ use Rattle.lx_split.specs.declared.pieces.SourcePiece.{SourcePiece}
 use Rattle.lx_split.specs.declared.pieces.SourcePiece.TheVariants as piece
 use Rattle.lx_token.specs.Tokens.{tokens_of}
 use Rattle.lx_token.specs.declared.list.Token.{Token}
-use Rattle.lx_compile.specs.Blocks.{AreSupported, IsBlock, IsFaultOf, IsRead, IsResolvedBody, IsStringList, IsSupported, no_items, no_token, other_kind, refused, unsupported}
+use Rattle.lx_compile.specs.Blocks.{AreSupported, IsBlock, IsFaultOf, IsRead, IsResolvedBody, no_items, no_token, other_kind, refused, unsupported}
 use Rattle.lx_compile.specs.FirstFault.{IsFaultBehind, IsFaultOfBlocks, IsFaultOfPieces, IsFaultOfSource, IsFirstFault}
 use Rattle.lx_compile.specs.Parts.{AreParts, HasTooLarge, IsFaultAmong, IsKernelFault}
 use Rattle.lx_compile.specs.declared.parts.Part.{Part}
@@ -117,19 +117,17 @@ module _ (body : List ℕ) (start : Pos) (tokens : List Token) where
 -- ---- what blocks resolve to
 
 -- what is alike is supported, or is not
-supported-alike : (enc : Enc) (config other_config : Config) (scanners others : List Scanner) → config.fill ≡ other_config.fill → HaveSameRules scanners others
-    → AllByRecursion (IsSupported enc config) scanners → AllByRecursion (IsSupported enc other_config) others
-supported-alike enc config other_config [] [] fill same are = tt
-supported-alike enc config other_config [] (other ∷ others) fill same are = absurd same
-supported-alike enc config other_config (scanner ∷ scanners) [] fill same are = absurd same
-supported-alike enc config other_config (scanner ∷ scanners) (other ∷ others) fill same are = (
-  record { no_refill = sym fill ∙ are.0.no_refill; strings = subst (IsStringList enc) same.0 are.0.strings },
-  supported-alike enc config other_config scanners others fill same.1 are.1,
-)
+supported-alike : (config other_config : Config) (scanners others : List Scanner) → config.fill ≡ other_config.fill → HaveSameRules scanners others
+    → AllByRecursion (λ (scanner : Scanner). config.fill ≡ false) scanners → AllByRecursion (λ (scanner : Scanner). other_config.fill ≡ false) others
+supported-alike config other_config [] [] fill same are = tt
+supported-alike config other_config [] (other ∷ others) fill same are = absurd same
+supported-alike config other_config (scanner ∷ scanners) [] fill same are = absurd same
+supported-alike config other_config (scanner ∷ scanners) (other ∷ others) fill same are =
+    (sym fill ∙ are.0, supported-alike config other_config scanners others fill same.1 are.1)
 
-AreSupported-alike : (enc : Enc) (resolved other : Resolved) → AreAlike resolved other → AreSupported enc resolved → AreSupported enc other
-AreSupported-alike enc resolved other alike are =
-    supported-alike enc resolved.config other.config resolved.scanners other.scanners alike.fill alike.scanners are
+AreSupported-alike : (resolved other : Resolved) → AreAlike resolved other → AreSupported resolved → AreSupported other
+AreSupported-alike resolved other alike are =
+    supported-alike resolved.config other.config resolved.scanners other.scanners alike.fill alike.scanners are
 
 -- what is alike has too many kernels, or has not
 too_large-alike : (enc : Enc) (scanners others : List Scanner) → HaveSameRules scanners others → HasTooLarge enc scanners → HasTooLarge enc others
@@ -199,7 +197,7 @@ module _ (options : Options) where
     block_or_not after resolved fault is (refused tokens items code read found) =
         body_or_not after resolved tokens items fault is.resolves read found
     block_or_not after resolved fault is (unsupported other another code resolves not_supported fault_is) =
-        not_supported (AreSupported-alike options.enc resolved another (body-one after other resolved another is.resolves resolves).1 is.supported)
+        not_supported (AreSupported-alike resolved another (body-one after other resolved another is.resolves resolves).1 is.supported)
 
     -- a block has one fault, if it has one
     fault-one : (fault other : Fault) → IsFaultOf options environment kind body at start fault → IsFaultOf options environment kind body at start other → fault ≡ other

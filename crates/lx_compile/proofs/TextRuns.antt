@@ -1,10 +1,14 @@
 -- The texts of parts, one behind another.
-use Rattle.std.proofs.Common.{◌≡◌, ℕ, suc, ◌<◌, ◌+◌, add-one, List, [], ◌∷◌, ◌++◌, length, drop, get_or, refl, sym, ap, subst, append_assoc, append-nil, ◌∙◌}
+use Rattle.std.proofs.Common.{◌≡◌, ℕ, suc, ◌<◌, ◌≤◌, ◌+◌, add-one, arith, inl, inr, Some, List, [], ◌∷◌, ◌++◌, length, drop, get_or, refl, sym, ap, subst, append_assoc, append-nil, ◌∙◌}
+use Rattle.std.specs.Prelude.{slice_get}
 use Rattle.std.proofs.Math.Seq.{drop-cons}
+use Rattle.lx_rules.specs.declared.resolved.Act.{Act}
 use Rattle.lx_rules.specs.declared.resolved.Resolved.{Resolved}
+use Rattle.lx_rules.specs.declared.resolved.Scanner.{Scanner}
 use Rattle.lx_base.specs.declared.places.Pos.{Pos}
 use Rattle.lx_base.specs.declared.settings.Enc.{Enc}
-use Rattle.lx_compile.specs.Output.{AreTexts, IsTextOf}
+use Rattle.lx_compile.specs.Output.{AreTexts, IsScannerText, IsTextOf, actions_of}
+use Rattle.lx_compile.specs.Parts.{HasTooLarge, IsTooLarge}
 use Rattle.lx_compile.specs.declared.parts.Part.{Part}
 use Rattle.lx_compile.specs.declared.parts.Part.TheVariants.{Outside, Block}
 
@@ -32,3 +36,18 @@ HasTexts-end enc parts number output has = subst (λ l. AreTexts enc 1 parts l) 
 -- the part at a place is the first one of those from there on
 pub parts_from : (parts : List Part) (i : ℕ) (part : Part) → i < length parts → part ≡ get_or parts i part → drop i parts ≡ part ∷ drop (i + 1) parts
 parts_from parts i part lt at = rw add-one (drop-cons parts i part lt ∙ ap (λ (p : Part). p ∷ drop (suc i) parts) (sym at))
+
+-- the text of the one scanner of a block
+pub IsTextOf-one : (enc : Enc) (number : ℕ) (acts : List Act) (scanners : List Scanner) (scanner : Scanner) (text : List ℕ)
+    → Some scanner ≡ slice_get scanners 0 → length scanners ≤ 1 → IsScannerText enc number scanner.set.rules (actions_of acts) text
+    → (IsTooLarge enc scanner → ⊥) → IsTextOf enc number acts scanners text × (HasTooLarge enc scanners → ⊥)
+IsTextOf-one enc number acts [] scanner text first one is small = absurd (let h = first in cc)
+IsTextOf-one enc number acts (only ∷ []) scanner text first one is small =
+    let same : scanner ≡ only = let h = first in cc in (
+      subst (λ (s : Scanner). IsScannerText enc number s.set.rules (actions_of acts) text) same is,
+      λ large. elim large [
+        | inl here ↦ small (subst (IsTooLarge enc) (sym same) here)
+        | inr there ↦ there
+      ],
+    )
+IsTextOf-one enc number acts (only ∷ next ∷ scanners) scanner text first one is small = absurd (omega (arith, one))

@@ -1,6 +1,7 @@
 -- The blocks of a source, one behind another.
 use Rattle.std.proofs.Common.{ℕ, ◌+◌, ◌≤◌, arith, List, [], ◌∷◌, ◌++◌, length, refl, subst, inl, inr, append_assoc, append-nil}
 use Rattle.std.specs.Prelude.{All}
+use Rattle.std.specs.List.{AllByRecursion}
 use Rattle.std.proofs.lemmas.List.Elements.{All-nil, All-push, All-tail}
 use Rattle.std.proofs.lemmas.List.{length_push}
 use Rattle.lx_base.specs.declared.blocks.BlockKind.{BlockKind}
@@ -11,6 +12,7 @@ use Rattle.lx_base.specs.declared.places.Pos.{Pos}
 use Rattle.lx_base.specs.declared.settings.Options.{Options}
 use Rattle.lx_rules.specs.Environments.{Environment, first_environment}
 use Rattle.lx_rules.specs.Soundness.{IsFine}
+use Rattle.lx_rules.specs.Within.{IsScannerWithin}
 use Rattle.lx_rules.specs.declared.resolved.Resolved.{Resolved}
 use Rattle.lx_split.specs.declared.pieces.SourcePiece.{SourcePiece}
 use Rattle.lx_split.specs.declared.pieces.SourcePiece.TheVariants as piece
@@ -20,6 +22,7 @@ use Rattle.lx_compile.specs.Ready.{IsNearPiece, IsReady, IsReadyPart}
 use Rattle.lx_compile.specs.declared.parts.Part.{Part}
 use Rattle.lx_compile.specs.declared.parts.Part.TheVariants.{Outside, Block}
 use Rattle.lx_compile.proofs.OneScanner.{one_scanner}
+use Rattle.lx_compile.proofs.ScannerRules.{can_be_emitted}
 
 -- what holds behind some parts, where this environment holds and these pieces are left
 pub record IsWalked (options : Options) (pieces rest : List SourcePiece) (environment : Environment) (parts : List Part) : Type 0 where
@@ -50,22 +53,24 @@ IsWalked-outside options pieces rest environment parts text walked = record {
 
 -- what a block of a source resolves to can be emitted
 pub IsReady-block : (options : Options) (environment : Environment) (kind : BlockKind) (body : List ℕ) (at start : Pos) (after : Environment) (resolved : Resolved)
-    → IsBlock options environment kind body at start after resolved → IsFine resolved → IsReady options.enc resolved
-IsReady-block options environment kind body at start after resolved block fine =
+    → IsBlock options environment kind body at start after resolved → IsFine resolved
+    → AllByRecursion (IsScannerWithin options.enc) resolved.scanners → IsReady options.enc resolved
+IsReady-block options environment kind body at start after resolved block fine within =
     let resolves = block.resolves.resolves in record {
       fine = fine;
       supported = block.supported;
       names = resolves.3.names;
       one = one_scanner options at environment _ block.resolves.items after resolved resolves;
+      scanners = can_be_emitted options at environment _ block.resolves.items after resolved resolves fine within;
     }
 
 pub IsWalked-block : (options : Options) (pieces rest : List SourcePiece) (environment : Environment) (parts : List Part)
     (kind : BlockKind) (body : List ℕ) (at start : Pos) (end_line : ℕ) (after : Environment) (resolved : Resolved)
     → IsWalked options pieces (piece.Block kind body at start end_line ∷ rest) environment parts
-    → IsBlock options environment kind body at start after resolved → IsFine resolved
+    → IsBlock options environment kind body at start after resolved → IsFine resolved → AllByRecursion (IsScannerWithin options.enc) resolved.scanners
     → IsWalked options pieces rest after (parts ++ Block at resolved ∷ [])
-IsWalked-block options pieces rest environment parts kind body at start end_line after resolved walked block fine = record {
-  ready = All-push (IsReadyPart options.enc) parts (Block at resolved) walked.ready (IsReady-block options environment kind body at start after resolved block fine);
+IsWalked-block options pieces rest environment parts kind body at start end_line after resolved walked block fine within = record {
+  ready = All-push (IsReadyPart options.enc) parts (Block at resolved) walked.ready (IsReady-block options environment kind body at start after resolved block fine within);
   few = omega (arith, walked.few, length_push parts (Block at resolved));
   near = All-tail IsNearPiece (piece.Block kind body at start end_line) rest walked.near;
   continues = λ more are. rw append_assoc (walked.continues (Block at resolved ∷ more) (refl, (after, block, are)));

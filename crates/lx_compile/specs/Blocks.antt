@@ -8,38 +8,21 @@ use Rattle.lx_base.specs.declared.faults.Fault.TheVariants.{Unsupported}
 use Rattle.lx_base.specs.declared.faults.Stop.{Stop}
 use Rattle.lx_base.specs.declared.faults.Stop.TheVariants as stop
 use Rattle.lx_base.specs.declared.places.Pos.{Pos}
-use Rattle.lx_base.specs.declared.settings.Enc.{Enc}
 use Rattle.lx_base.specs.declared.settings.Options.{Options}
 use Rattle.lx_parse.specs.Blocks.{IsBody, IsSyntaxFault, form_of}
 use Rattle.lx_parse.specs.Sorts.{sorts_of}
 use Rattle.lx_parse.specs.declared.items.Item.{Item}
-use Rattle.lx_regex.specs.Pattern.{Pattern, patterns_of}
-use Rattle.lx_regex.specs.Strings.{AreStrings}
-use Rattle.lx_regex.specs.declared.strings.StringRule.{StringRule}
 use Rattle.lx_rules.specs.Blocks.{IsBlockFault, Resolves}
 use Rattle.lx_rules.specs.Environments.{Environment}
 use Rattle.lx_rules.specs.Lexemes.{lexemes_of}
-use Rattle.lx_rules.specs.declared.resolved.Config.{Config}
 use Rattle.lx_rules.specs.declared.resolved.Resolved.{Resolved}
 use Rattle.lx_rules.specs.declared.resolved.Scanner.{Scanner}
 use Rattle.lx_token.specs.Tokens.{tokens_of}
 use Rattle.lx_token.specs.declared.list.Token.{Token}
-use Rattle.lx_trie.specs.Scanner.{AreSpelled}
 
--- the rules are strings of code points that the encoding has, and maybe `*` behind them
-pub record IsStringList (enc : Enc) (patterns : List Pattern) : Type 0 where
-  pub strings : List StringRule
-  pub default : Option ℕ
-  pub are_strings : AreStrings patterns strings default
-  pub spelled : AllByRecursion (λ (rule : StringRule). AreSpelled enc rule.text) strings
-
--- scanners of this kind are emitted so far: no refill is asked for, and the rules are strings
-pub record IsSupported (enc : Enc) (config : Config) (scanner : Scanner) : Type 0 where
-  pub no_refill : config.fill ≡ false
-  pub strings : IsStringList enc (patterns_of scanner.set.rules)
-
-abbrev pub AreSupported : Enc → Resolved → Type 0
-AreSupported enc resolved = AllByRecursion (IsSupported enc resolved.config) resolved.scanners
+-- scanners are emitted so far if they ask for no refill
+abbrev pub AreSupported : Resolved → Type 0
+AreSupported resolved = AllByRecursion (λ (scanner : Scanner). resolved.config.fill ≡ false) resolved.scanners
 
 -- the body of a block of rules that begins at a place has these tokens and items
 pub record IsRead (body : List ℕ) (start : Pos) (tokens : List Token) (items : List Item) : Type 0 where
@@ -57,7 +40,7 @@ pub record IsResolvedBody (options : Options) (environment : Environment) (body 
 pub record IsBlock (options : Options) (environment : Environment) (kind : BlockKind) (body : List ℕ) (at start : Pos) (after : Environment) (resolved : Resolved) : Type 0 where
   pub kind_is : kind ≡ Code
   pub resolves : IsResolvedBody options environment body at start after resolved
-  pub supported : AreSupported options.enc resolved
+  pub supported : AreSupported resolved
 
 -- The fault of the block: it is of another kind; or no token stands somewhere in its body; or the tokens are no items; or the
 -- items have a fault; or a scanner is not supported yet.
@@ -69,7 +52,7 @@ pub data IsFaultOf (options : Options) (environment : Environment) (kind : Block
   refused : (tokens : List Token) (items : List Item) → kind ≡ Code → IsRead body start tokens items
       → IsBlockFault options at environment (lexemes_of body tokens) items fault → IsFaultOf options environment kind body at start fault
   unsupported : (after : Environment) (resolved : Resolved) → kind ≡ Code → IsResolvedBody options environment body at start after resolved
-      → (AreSupported options.enc resolved → ⊥) → fault ≡ Unsupported (Some at) → IsFaultOf options environment kind body at start fault
+      → (AreSupported resolved → ⊥) → fault ≡ Unsupported (Some at) → IsFaultOf options environment kind body at start fault
 
 -- a call that is to resolve the block stops with its fault, or where memory runs out
 abbrev pub StopsAt : Options → Environment → BlockKind → (body : List ℕ) → (at start : Pos) → Stop → Type 0

@@ -6,13 +6,13 @@ use Rattle.lx_base.specs.declared.settings.Options.{Options}
 use Rattle.lx_ccode.specs.Bodies.{body_piece_text, no_body}
 use Rattle.lx_ccode.specs.Text.{piece_text}
 use Rattle.lx_ccode.specs.declared.piece.Piece.{Piece}
-use Rattle.lx_regex.specs.Pattern.{Pattern, patterns_of}
+use Rattle.lx_gen.specs.Scanner.{IsScannerOf}
+use Rattle.lx_regex.specs.declared.rules.Rule.{Rule}
 use Rattle.lx_rules.specs.Environments.{first_environment}
 use Rattle.lx_rules.specs.declared.resolved.Act.{Act}
 use Rattle.lx_rules.specs.declared.resolved.Scanner.{Scanner}
 use Rattle.lx_split.specs.Pieces.{pieces_of}
 use Rattle.lx_split.specs.declared.pieces.SourcePiece.{SourcePiece}
-use Rattle.lx_trie.specs.Scanner.{IsScannerOf}
 use Rattle.lx_compile.specs.Parts.{AreParts}
 use Rattle.lx_compile.specs.declared.parts.Part.{Part}
 use Rattle.lx_compile.specs.declared.parts.Part.TheVariants.{Outside, Block}
@@ -22,15 +22,15 @@ abbrev pub actions_of : List Act → List (List ℕ)
 actions_of acts = map (λ (act : Act). unwrap_or act.code []) acts
 
 -- the text is that of a piece with this number, which is a scanner of the rules in the encoding
-pub record IsScannerText (enc : Enc) (number : ℕ) (patterns : List Pattern) (actions : List (List ℕ)) (text : List ℕ) : Type 0 where
+pub record IsScannerText (enc : Enc) (number : ℕ) (rules : List Rule) (actions : List (List ℕ)) (text : List ℕ) : Type 0 where
   pub piece : Piece
-  pub scanner : IsScannerOf enc number usual_names patterns actions piece
+  pub scanner : IsScannerOf enc number usual_names rules actions piece
   pub text_is : text ≡ piece_text piece
 
 -- the text of the piece in the place of a block; without conditions a block has no scanner, and its piece is empty, or one
 abbrev pub IsTextOf : Enc → (number : ℕ) → List Act → List Scanner → (text : List ℕ) → Type 0
 IsTextOf enc number acts [] text = text ≡ body_piece_text number usual_names no_body None
-IsTextOf enc number acts (scanner ∷ []) text = IsScannerText enc number (patterns_of scanner.set.rules) (actions_of acts) text
+IsTextOf enc number acts (scanner ∷ []) text = IsScannerText enc number scanner.set.rules (actions_of acts) text
 IsTextOf enc number acts (scanner ∷ next ∷ scanners) text = ⊥
 
 -- the parts of a source one behind another, where the pieces in the places of the blocks are numbered from here on

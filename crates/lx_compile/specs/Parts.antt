@@ -62,7 +62,7 @@ IsKernelFault enc (Block at resolved ∷ parts) fault =
     (HasTooLarge enc resolved.scanners × (fault ≡ Some (TooManyStates at)))
     ⊎ ((HasTooLarge enc resolved.scanners → ⊥) × IsKernelFault enc parts fault)
 
--- a call that is to find none stops with that fault, or where memory runs out
+-- a call that is to make the scanners stops with that fault, or where memory runs out
 abbrev pub StopsByKernels : Enc → List Part → Stop → Type 0
 StopsByKernels enc parts stop.Memory = Unit {0}
 StopsByKernels enc parts (stop.Fault fault) = IsKernelFault enc parts (Some fault)

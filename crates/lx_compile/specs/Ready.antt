@@ -1,13 +1,20 @@
 -- What the steps of a compilation know of the parts of a source.
 use Rattle.std.specs.Prelude.{◌≡◌, ℕ, ◌≤◌, List, length}
+use Rattle.std.specs.List.{AllByRecursion}
 use Rattle.lx_base.specs.Names.{usual_names}
 use Rattle.lx_base.specs.declared.places.Pos.{Pos}
 use Rattle.lx_base.specs.declared.settings.Enc.{Enc}
+use Rattle.lx_gen.specs.Rules.{AreSimple}
+use Rattle.lx_gen.specs.Scanner.{AreNamed}
 use Rattle.lx_rules.specs.Soundness.{IsFine}
+use Rattle.lx_rules.specs.Within.{IsScannerWithin}
+use Rattle.lx_rules.specs.declared.resolved.Act.{Act}
 use Rattle.lx_rules.specs.declared.resolved.Resolved.{Resolved}
+use Rattle.lx_rules.specs.declared.resolved.Scanner.{Scanner}
 use Rattle.lx_split.specs.declared.pieces.SourcePiece.{SourcePiece}
 use Rattle.lx_split.specs.declared.pieces.SourcePiece.TheVariants as piece
 use Rattle.lx_compile.specs.Blocks.{AreSupported}
+use Rattle.lx_compile.specs.Output.{actions_of}
 use Rattle.lx_compile.specs.declared.parts.Part.{Part}
 use Rattle.lx_compile.specs.declared.parts.Part.TheVariants.{Outside, Block}
 
@@ -21,12 +28,20 @@ abbrev pub IsNearPiece : SourcePiece → Type 0
 IsNearPiece (piece.Outside text) = Unit {0}
 IsNearPiece (piece.Block kind body at start end_line) = IsNear body start
 
--- what a block resolves to can be emitted: it is within the limits of scanners, and has at most one scanner, of strings
+-- what a scanner has so that it can be emitted beside these actions: it is within the limits, and its classes fit the encoding; no
+-- rule of it is `$` or has a trailing context; and each rule has an action, and tags with names that may stand
+pub record CanBeEmitted (enc : Enc) (acts : List Act) (scanner : Scanner) : Type 0 where
+  pub within : IsScannerWithin enc scanner
+  pub simple : AreSimple scanner.set.rules
+  pub named : AreNamed usual_names (actions_of acts) scanner.set.rules
+
+-- what a block resolves to can be emitted: it is within the limits of scanners, and has at most one scanner
 pub record IsReady (enc : Enc) (resolved : Resolved) : Type 0 where
   pub fine : IsFine resolved
-  pub supported : AreSupported enc resolved
+  pub supported : AreSupported resolved
   pub names : resolved.config.names ≡ usual_names
   pub one : length resolved.scanners ≤ 1
+  pub scanners : AllByRecursion (CanBeEmitted enc resolved.acts) resolved.scanners
 
 abbrev pub IsReadyPart : Enc → Part → Type 0
 IsReadyPart enc (Outside text) = Unit {0}

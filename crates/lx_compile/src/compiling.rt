@@ -6,7 +6,6 @@ ghost use Rattle.lx_compile.specs.Output.{IsOutput};
 ghost use Rattle.lx_compile.specs.Places.{StopsInFirst};
 
 use crate::emission::emit;
-use crate::kernels::count_kernels;
 use crate::walk::resolve_blocks;
 use lx_base::{Fault, Options, Pos, Stop};
 use lx_split::split;
@@ -33,15 +32,14 @@ fn output_of(alloc: Global, source: &[u8], options: &Options) -> Result<Vec<u8>,
     }
     let pieces = split(alloc, source, 0, options)?;
     let parts = resolve_blocks(alloc, pieces, options)?;
-    count_kernels(alloc, options.enc, parts.as_slice())?;
-    Ok(emit(alloc, options.enc, parts.as_slice())?)
+    emit(alloc, options.enc, parts.as_slice())
 }
 
 /// The output of a source: the text outside of its blocks, unchanged, with one emitted piece in the place of each block.
 ///
-/// The source is file 0 of the file names. It refuses with the first fault of the source, before anything is emitted: all blocks
-/// are resolved in order, and then the kernels of their scanners are counted in order. `Memory` comes only where memory runs
-/// out.
+/// The source is file 0 of the file names. It refuses with the first fault of the source: all blocks are resolved in order, and
+/// then their scanners are made in order. `Memory` comes only where memory runs out, or where a piece would have more than 2^62
+/// statements.
 pub fn compile(alloc: Global, source: &[u8], options: &Options) -> Result<Vec<u8>, Stop>
     requires { ArePlain options.now }
     ensures output { MatchResult result

@@ -1,36 +1,34 @@
 //! The texts of the parts of a source.
-ghost use Rattle.std.specs.Prelude.{◌≡◌, ◌≤◌, ◌<◌, ◌^◌, ◌++◌, ℕ, List, [], All, IfOk, OnOk, length, unwrap_or, None};
+ghost use Rattle.std.specs.Prelude.{◌≡◌, ◌≤◌, ◌++◌, ℕ, List, [], All, IfOk, MatchResult, OnOk, length, unwrap_or, None};
 ghost use Rattle.lx_base.specs.Names.{usual_names};
 ghost use Rattle.lx_ccode.specs.Bodies.{body_piece_text, no_body};
-ghost use Rattle.lx_kernels.specs.Count.{IsCountable};
 ghost use Rattle.lx_regex.specs.Pattern.{patterns_of};
-ghost use Rattle.lx_regex.specs.Strings.{AreStrings};
-ghost use Rattle.lx_base.specs.declared.settings.Enc.{Enc};
-ghost use Rattle.lx_rules.specs.Soundness.{IsFit};
-ghost use Rattle.lx_compile.specs.Blocks.{IsStringList};
+ghost use Rattle.lx_rules.specs.Within.{IsScannerWithin};
+ghost use Rattle.lx_tdfa.specs.Making.{StopsBy};
+ghost use Rattle.lx_tdfa.specs.Promise.{IsAutoOf};
 ghost use Rattle.lx_compile.specs.Output.{AreTexts, IsTextOf, IsScannerText, actions_of};
-ghost use Rattle.lx_compile.specs.Ready.{IsReady, IsReadyPart};
+ghost use Rattle.lx_compile.specs.Parts.{HasTooLarge, IsKernelFault, IsTooLarge, StopsByKernels};
+ghost use Rattle.lx_compile.specs.Ready.{CanBeEmitted, IsReady, IsReadyPart};
 
 use crate::parts::Part;
-use lx_base::{ByteText, Enc, Memory, append_parts};
+use lx_auto::Auto;
+use lx_base::{ByteText, Enc, Memory, Pos, Stop, append_parts};
 use lx_ccode::print;
-use lx_regex::{Strings, strings_of};
+use lx_gen::generate;
 use lx_rules::{Act, Resolved, Scanner};
-use lx_trie::string_scanner;
+use lx_tdfa::determinize;
+use lx_tnfa::Tnfa;
 use std::alloc::Global;
 
-/// The strings of a scanner of strings.
-pub(crate) fn strings_in(alloc: Global, scanner: &Scanner) -> Result<Strings, Memory>
-    requires strings { (enc : Enc) × IsStringList enc (patterns_of scanner.now.set.rules) }
-    requires fit { (acts : ℕ) × IsFit acts scanner.now }
-    ensures strings { IfOk result (λ strings. AreStrings (patterns_of scanner.now.set.rules) strings.rules strings.default) }
-    ensures countable { IfOk result (λ strings. (enc : Enc) → IsStringList enc (patterns_of scanner.now.set.rules)
-        → IsCountable enc strings.rules) }
+/// The automaton of a scanner whose block opens at `at`, or the fault of too many kernels.
+fn automaton_of(alloc: Global, enc: Enc, at: Pos, scanner: &Scanner) -> Result<Auto, Stop>
+    requires { IsScannerWithin enc scanner.now }
+    ensures { MatchResult result
+        (λ auto. IsAutoOf enc (patterns_of scanner.now.set.rules) auto × ¬ IsTooLarge enc scanner.now)
+        (StopsBy at (IsTooLarge enc scanner.now)) }
 {
-    match strings_of(alloc, scanner.set.rules.as_slice())? {
-        Some(strings) => Ok(strings),
-        None => unreachable!(),
-    }
+    let automaton = Tnfa::of(alloc, &scanner.set, enc)?;
+    determinize(alloc, &automaton, at)
 }
 
 /// A copy of an action.
@@ -59,25 +57,28 @@ fn scanner_text(
     alloc: Global,
     enc: Enc,
     number: u32,
+    at: Pos,
     scanner: &Scanner,
     resolved: &Resolved,
-) -> Result<ByteText, Memory>
-    requires strings { IsStringList enc (patterns_of scanner.now.set.rules) }
+) -> Result<ByteText, Stop>
     requires ready { IsReady enc resolved.now }
-    requires fit { IsFit (length resolved.now.acts) scanner.now }
-    ensures { IfOk result (IsScannerText enc number (patterns_of scanner.now.set.rules) (actions_of resolved.now.acts)) }
+    requires scanner { CanBeEmitted enc resolved.now.acts scanner.now }
+    ensures { MatchResult result
+        (λ text. IsScannerText enc number scanner.now.set.rules (actions_of resolved.now.acts) text × ¬ IsTooLarge enc scanner.now)
+        (StopsBy at (IsTooLarge enc scanner.now)) }
 {
-    let strings = strings_in(alloc, scanner)?;
+    let auto = automaton_of(alloc, enc, at, scanner)?;
     let actions = actions_of(alloc, resolved.acts.as_slice())?;
-    let piece = string_scanner(
+    let piece = generate(
         alloc,
         enc,
         number,
         &resolved.config.names,
-        &strings,
+        scanner.set.rules.as_slice(),
         &actions,
+        &auto,
     )?;
-    print(alloc, &piece)
+    Ok(print(alloc, &piece)?)
 }
 
 /// Appends the piece of a block without rules. Where memory runs out a part of it may stand there.
@@ -96,22 +97,25 @@ fn append_empty(alloc: Global, output: &mut Vec<u8>, number: u32) -> Result<(), 
     )
 }
 
-/// Appends the piece of a block. Where memory runs out a part of it may stand there.
+/// Appends the piece of a block whose opener stands at `at`. Where it is refused a part of it may stand there.
 fn append_block(
     alloc: Global,
     output: &mut Vec<u8>,
     enc: Enc,
     number: u32,
+    at: Pos,
     resolved: &Resolved,
-) -> Result<(), Memory>
+) -> Result<(), Stop>
     requires { IsReady enc resolved.now }
-    ensures { OnOk result ((text : List ℕ) × IsTextOf enc number resolved.now.acts resolved.now.scanners text
-        × (output.new.items ≡ output.old.items ++ text)) }
+    ensures { MatchResult result
+        (λ _. (text : List ℕ) × IsTextOf enc number resolved.now.acts resolved.now.scanners text
+        × (output.new.items ≡ output.old.items ++ text) × ¬ HasTooLarge enc resolved.now.scanners)
+        (StopsBy at (HasTooLarge enc resolved.now.scanners)) }
 {
     match resolved.scanners.as_slice().first() {
-        None => append_empty(alloc, output, number),
+        None => Ok(append_empty(alloc, output, number)?),
         Some(scanner) => {
-            let text = scanner_text(alloc, enc, number, scanner, resolved)?;
+            let text = scanner_text(alloc, enc, number, at, scanner, resolved)?;
             output.extend_from_slice(text.as_slice())?;
             Ok(())
         }
@@ -119,18 +123,23 @@ fn append_block(
 }
 
 /// The parts of a source one behind another, with a piece in the place of each block.
-pub(crate) fn emit(alloc: Global, enc: Enc, parts: &[Part]) -> Result<Vec<u8>, Memory>
+///
+/// It refuses the first block with a scanner that has too many kernels, with `TooManyStates` at its opener; `Memory` comes only where
+/// memory runs out, or where a piece would have more than 2^62 statements.
+pub(crate) fn emit(alloc: Global, enc: Enc, parts: &[Part]) -> Result<Vec<u8>, Stop>
     requires ready { All (IsReadyPart enc) parts.now }
     requires few { length parts.now ≤ 16777216 }
-    ensures { IfOk result (λ output. AreTexts enc 1 parts.now output.items) }
+    ensures { MatchResult result
+        (λ output. AreTexts enc 1 parts.now output.items × IsKernelFault enc parts.now None)
+        (StopsByKernels enc parts.now) }
 {
     let mut output = Vec::new(alloc);
     let mut number = 1;
     for part in parts {
         match part {
             Part::Outside(text) => output.extend_from_slice(text.as_slice())?,
-            Part::Block { resolved, .. } => {
-                append_block(alloc, &mut output, enc, number, resolved)?;
+            Part::Block { at, resolved } => {
+                append_block(alloc, &mut output, enc, number, *at, resolved)?;
                 number += 1;
             }
         }

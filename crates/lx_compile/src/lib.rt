@@ -4,13 +4,9 @@
 mod blocks;
 mod compiling;
 mod emission;
-mod kernels;
 pub mod laws;
 mod parts;
 mod walk;
 
 pub use compiling::compile;
 pub use parts::Part;
-
-#[cfg(test)]
-mod tests;

@@ -17,6 +17,3 @@ mod words;
 
 pub use find::find_block;
 pub use read::{PieceStop, read_piece};
-
-#[cfg(test)]
-mod tests;

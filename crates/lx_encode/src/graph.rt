@@ -269,6 +269,3 @@ impl UnitGraph {
         self.table.row(residual.0).cuts()
     }
 }
-
-#[cfg(test)]
-mod tests;

@@ -124,6 +124,3 @@ pub fn apply(
         Err(Memory) => Err(PointStop::Memory),
     }
 }
-
-#[cfg(test)]
-mod tests;

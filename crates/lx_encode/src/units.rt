@@ -146,6 +146,3 @@ pub fn units_of(enc: Enc, point: u32) -> Option<Units>
     };
     Some(units)
 }
-
-#[cfg(test)]
-mod tests;

@@ -1,22 +1,21 @@
 -- Each rule's action stands in a layout once, and it is the rule's own.
-use Rattle.std.specs.Prelude.{◌≡◌, ◌≢◌, ℕ, ◌+◌, ◌≤◌, List, [], ◌∷◌, ◌++◌, Option, Some, None, Bool, true, false, nat_eq, refl, if◌then◌else◌}
-use Rattle.std.proofs.Common.{sym, ap, ◌∙◌, subst, arith, eqb-true, eq-eqb, true≢false}
+use Rattle.std.specs.Prelude.{◌≡◌, ◌≢◌, ℕ, suc, ◌+◌, ◌≤◌, List, [], ◌∷◌, ◌++◌, Option, Some, None, Bool, true, false, nat_eq, refl, if◌then◌else◌}
+use Rattle.std.proofs.Common.{sym, ap, ◌∙◌, subst, arith, eqb-true, true≢false}
 use Rattle.std.proofs.lemmas.Bool.{ne_eqb}
 use Rattle.std.specs.List.{AllByRecursion}
 use Rattle.lx_auto.specs.declared.automaton.Accept.{Accept}
 use Rattle.lx_auto.specs.declared.automaton.Auto.{Auto}
-use Rattle.lx_auto.specs.declared.automaton.State.{State}
+use Rattle.lx_auto.specs.declared.automaton.Held.{Held}
 use Rattle.lx_ccode.specs.Statements.{all_statements, code_of}
 use Rattle.lx_ccode.specs.declared.piece.CodeBlock.{CodeBlock}
 use Rattle.lx_ccode.specs.declared.piece.Stmt.{Stmt}
 use Rattle.lx_ccode.specs.declared.piece.Stmt.TheVariants.{Code, Jump}
 use Rattle.lx_gen.specs.Actions.{IsOwnAction, action_count}
 use Rattle.lx_gen.specs.Codes.{Choice, choices_code}
-use Rattle.lx_gen.specs.Endings.{Ending, action_code, cond_code, last_code}
-use Rattle.lx_gen.specs.Layout.{choices_in, fall_block, last_codes, layout, place_of, rule_block, rules_of, rules_onto, states_blocks, with_rule}
-use Rattle.lx_gen.specs.Sequences.{is_in}
-use Rattle.lx_gen.proofs.CopySequences.{AllApart, Fresh}
-use Rattle.lx_gen.proofs.PlainCodes.{Plain, PlainAll, choices_plain, is_plain, states_plain}
+use Rattle.lx_gen.specs.Endings.{Ending, action_code, cond_code, ending_code, last_code}
+use Rattle.lx_gen.specs.Layout.{accepts_of, choices_from, ending_blocks, fall_block, kept_of, layout, place_of, restore_blocks, rule_block, states_blocks}
+use Rattle.lx_gen.proofs.FirstAccepts.{HaveOwnRules, HaveOwnRules-firsts, NoneByRule}
+use Rattle.lx_gen.proofs.PlainCodes.{Plain, PlainAll, choices_plain, is_plain, restores_plain, rule-before, states_plain}
 
 -- the statements of codes, in order
 abbrev pub joined : List (List Stmt) → List Stmt
@@ -55,60 +54,42 @@ count-last_code endings rule other rest = by (endings other).goes_to (endings ot
     by (Some cond) None = refl
     by (Some cond) (Some action) = refl
 
-count-fresh : (endings : ℕ → Ending) (rule : ℕ) (rules : List ℕ) → Fresh rule rules → action_count rule (joined (last_codes endings rules)) ≡ 0
-count-fresh endings rule [] h = refl
-count-fresh endings rule (other ∷ rules) h =
-    let ne : other ≢ rule = λ e. h.0 (sym e) in
-    let again = count-fresh endings rule rules h.1 in
-    count-last_code endings rule other (joined (last_codes endings rules))
-    ∙ ap (λ t. (if t then 1 else 0) + action_count rule (joined (last_codes endings rules))) (ne_eqb other rule ne) ∙ zeros again
+count-ending_code : (endings : ℕ → Ending) (rule other : ℕ) (values : List Held) (rest : List Stmt)
+    → action_count rule (ending_code endings other values ++ rest) ≡ (if nat_eq other rule then 1 else 0) + action_count rule rest
+count-ending_code endings rule other values rest =
+    rule-before (λ code. action_count rule (code ++ rest) ≡ (if nat_eq other rule then 1 else 0) + action_count rule rest)
+    (λ statement code e same. count-plain_one rule statement (code ++ rest) e ∙ same)
+    endings other values (last_code endings other) (count-last_code endings rule other rest)
+
+count-none : (endings : ℕ → Ending) (rule : ℕ) (accepts : List Accept) → NoneByRule rule accepts
+    → action_count rule (joined (ending_blocks endings accepts)) ≡ 0
+count-none endings rule [] h = refl
+count-none endings rule (accept ∷ accepts) h =
+    let ne : accept.rule ≢ rule = λ e. h.0 (sym e) in
+    let again = count-none endings rule accepts h.1 in
+    count-ending_code endings rule accept.rule accept.values (joined (ending_blocks endings accepts))
+    ∙ ap (λ t. (if t then 1 else 0) + action_count rule (joined (ending_blocks endings accepts))) (ne_eqb accept.rule rule ne) ∙ zeros again
   where
-    zeros : action_count rule (joined (last_codes endings rules)) ≡ 0 → 0 + action_count rule (joined (last_codes endings rules)) ≡ 0
+    zeros : action_count rule (joined (ending_blocks endings accepts)) ≡ 0 → 0 + action_count rule (joined (ending_blocks endings accepts)) ≡ 0
     zeros e = omega (arith, e)
 
-count-apart : (endings : ℕ → Ending) (rule : ℕ) (rules : List ℕ) → AllApart rules → action_count rule (joined (last_codes endings rules)) ≤ 1
-count-apart endings rule [] h = omega arith
-count-apart endings rule (other ∷ rules) h = by (nat_eq other rule) refl (count-last_code endings rule other (joined (last_codes endings rules)))
-    (count-apart endings rule rules h.1)
+count-own_rules : (endings : ℕ → Ending) (rule : ℕ) (accepts : List Accept) → HaveOwnRules accepts
+    → action_count rule (joined (ending_blocks endings accepts)) ≤ 1
+count-own_rules endings rule [] h = omega arith
+count-own_rules endings rule (accept ∷ accepts) h =
+    by (nat_eq accept.rule rule) refl
+    (count-ending_code endings rule accept.rule accept.values (joined (ending_blocks endings accepts)))
+    (count-own_rules endings rule accepts h.1)
   where
-    by : (t : Bool) → nat_eq other rule ≡ t → action_count rule (last_code endings other ++ joined (last_codes endings rules)) ≡
-        (if t then 1 else 0) + action_count rule (joined (last_codes endings rules))
-        → action_count rule (joined (last_codes endings rules)) ≤ 1
-        → action_count rule (last_code endings other ++ joined (last_codes endings rules)) ≤ 1
+    by : (t : Bool) → nat_eq accept.rule rule ≡ t
+        → action_count rule (ending_code endings accept.rule accept.values ++ joined (ending_blocks endings accepts)) ≡
+        (if t then 1 else 0) + action_count rule (joined (ending_blocks endings accepts))
+        → action_count rule (joined (ending_blocks endings accepts)) ≤ 1
+        → action_count rule (ending_code endings accept.rule accept.values ++ joined (ending_blocks endings accepts)) ≤ 1
     by true e sum again =
-        let none = count-fresh endings rule rules (subst (λ r. Fresh r rules) (eqb-true other rule e) h.0) in
+        let none = count-none endings rule accepts (subst (λ r. NoneByRule r accepts) (eqb-true accept.rule rule e) h.0) in
         omega (arith, sum, none)
     by false e sum again = omega (arith, sum, again)
-
--- ---- the rules are different
-
-Fresh-more : (x rule : ℕ) (rules : List ℕ) → Fresh x rules → x ≢ rule → Fresh x (rules ++ rule ∷ [])
-Fresh-more x rule [] h ne = (ne, tt)
-Fresh-more x rule (other ∷ rules) h ne = (h.0, Fresh-more x rule rules h.1 ne)
-
-AllApart-more : (rules : List ℕ) (rule : ℕ) → AllApart rules → is_in rule rules ≡ false → AllApart (rules ++ rule ∷ [])
-AllApart-more [] rule h out = (tt, tt)
-AllApart-more (other ∷ rules) rule h out = by (nat_eq rule other) refl out (λ e. AllApart-more rules rule h.1 e)
-  where
-    by : (t : Bool) → nat_eq rule other ≡ t → (if t then true else is_in rule rules) ≡ false
-        → (is_in rule rules ≡ false → AllApart (rules ++ rule ∷ []))
-        → Fresh other (rules ++ rule ∷ []) × AllApart (rules ++ rule ∷ [])
-    by true e out again = absurd (true≢false out)
-    by false e out again =
-        let ne : other ≢ rule = λ z. true≢false (sym (eq-eqb rule other (sym z)) ∙ e) in
-        (Fresh-more other rule rules h.0 ne, again out)
-
-AllApart-with_rule : (found : List ℕ) (accept : Option Accept) → AllApart found → AllApart (with_rule found accept)
-AllApart-with_rule found None h = h
-AllApart-with_rule found (Some accept) h = by (is_in accept.rule found) refl
-  where
-    by : (t : Bool) → is_in accept.rule found ≡ t → AllApart (if t then found else found ++ accept.rule ∷ [])
-    by true e = h
-    by false e = AllApart-more found accept.rule h e
-
-AllApart-onto : (states : List State) (found : List ℕ) → AllApart found → AllApart (rules_onto found states)
-AllApart-onto [] found h = h
-AllApart-onto (state ∷ states) found h = AllApart-onto states (with_rule found state.accept) (AllApart-with_rule found state.accept h)
 
 -- ---- whose actions they are
 
@@ -129,22 +110,29 @@ own-plain_all : (endings : ℕ → Ending) (codes rest : List (List Stmt)) → P
 own-plain_all endings [] rest h g = g
 own-plain_all endings (code ∷ codes) rest h g = own-plain endings code (joined (codes ++ rest)) h.0 (own-plain_all endings codes rest h.1 g)
 
-own-last_codes : (endings : ℕ → Ending) (rules : List ℕ) → AllOwn endings (joined (last_codes endings rules))
-own-last_codes endings [] = tt
-own-last_codes endings (rule ∷ rules) = by (endings rule).goes_to (endings rule).action refl (own-last_codes endings rules)
+own-last_code : (endings : ℕ → Ending) (rule : ℕ) (rest : List Stmt) → AllOwn endings rest → AllOwn endings (last_code endings rule ++ rest)
+own-last_code endings rule rest h = by (endings rule).goes_to (endings rule).action refl
   where
-    by : (cond action : Option (List ℕ)) → (endings rule).action ≡ action → AllOwn endings (joined (last_codes endings rules))
-        → AllOwn endings (cond_code cond (action_code rule (endings rule) action) ++ joined (last_codes endings rules))
-    by None None e again = (e, again)
-    by None (Some action) e again = ((e, refl), again)
-    by (Some cond) None e again = (tt, (e, again))
-    by (Some cond) (Some action) e again = (tt, ((e, refl), again))
+    by : (cond action : Option (List ℕ)) → (endings rule).action ≡ action
+        → AllOwn endings (cond_code cond (action_code rule (endings rule) action) ++ rest)
+    by None None e = (e, h)
+    by None (Some action) e = ((e, refl), h)
+    by (Some cond) None e = (tt, (e, h))
+    by (Some cond) (Some action) e = (tt, ((e, refl), h))
+
+own-endings : (endings : ℕ → Ending) (accepts : List Accept) → AllOwn endings (joined (ending_blocks endings accepts))
+own-endings endings [] = tt
+own-endings endings (accept ∷ accepts) =
+    rule-before (λ code. AllOwn endings (code ++ joined (ending_blocks endings accepts)))
+    (λ statement code e own. (own-plain_one endings statement e, own))
+    endings accept.rule accept.values (last_code endings accept.rule)
+    (own-last_code endings accept.rule (joined (ending_blocks endings accepts)) (own-endings endings accepts))
 
 module _ (endings : ℕ → Ending) (greatest : ℕ) (auto : Auto) (from : ℕ) (blocks : List CodeBlock)
     (same : code_of blocks ≡ layout endings greatest auto from) where
   states_codes : List (List Stmt)
-  states_codes = states_blocks endings greatest auto (rule_block endings greatest auto from) (fall_block endings greatest auto from)
-      (place_of endings greatest auto from) 0 from auto.states
+  states_codes = states_blocks greatest auto (rule_block greatest auto from) (fall_block greatest auto from) (kept_of auto.states)
+      (place_of greatest auto from) 0 from auto.states
 
   all_joined : all_statements blocks ≡ joined (layout endings greatest auto from)
   all_joined = all_statements-joined blocks ∙ ap (λ l. joined l) same
@@ -152,24 +140,29 @@ module _ (endings : ℕ → Ending) (greatest : ℕ) (auto : Auto) (from : ℕ) 
   pub actions_once : (rule : ℕ) → action_count rule (all_statements blocks) ≤ 1
   unfolding states_codes
   actions_once rule =
-      let choices : List Choice = choices_in endings greatest auto 0 from auto.states in
-      let lasts : List (List Stmt) = last_codes endings (rules_of auto.states) in
-      let e : action_count rule (all_statements blocks) ≡ action_count rule (joined lasts) =
+      let choices : List Choice = choices_from 1 (suc (fall_block greatest auto from)) (kept_of auto.states) in
+      let restores : List (List Stmt) = restore_blocks (rule_block greatest auto from) (kept_of auto.states) in
+      let ends : List (List Stmt) = ending_blocks endings (accepts_of auto.states) in
+      let e : action_count rule (all_statements blocks) ≡ action_count rule (joined ends) =
       ap (λ l. action_count rule l) all_joined
-      ∙ count-plain_all rule states_codes (choices_code choices ∷ lasts)
-      (states_plain endings greatest auto (rule_block endings greatest auto from) (fall_block endings greatest auto from)
-      (place_of endings greatest auto from) 0 from auto.states)
-      ∙ count-plain rule (choices_code choices) (joined lasts) (choices_plain choices) in
-      let few = count-apart endings rule (rules_of auto.states) (AllApart-onto auto.states [] tt) in
+      ∙ count-plain_all rule states_codes (choices_code choices ∷ (restores ++ ends))
+      (states_plain greatest auto (rule_block greatest auto from) (fall_block greatest auto from) (kept_of auto.states)
+      (place_of greatest auto from) 0 from auto.states)
+      ∙ count-plain rule (choices_code choices) (joined (restores ++ ends)) (choices_plain choices)
+      ∙ count-plain_all rule restores ends (restores_plain (rule_block greatest auto from) (kept_of auto.states)) in
+      let few = count-own_rules endings rule (accepts_of auto.states) (HaveOwnRules-firsts (λ state. state.accept) [] auto.states tt) in
       omega (arith, e, few)
 
   pub actions_own : AllByRecursion (IsOwnAction endings) (all_statements blocks)
   unfolding states_codes
   actions_own =
-      let choices : List Choice = choices_in endings greatest auto 0 from auto.states in
-      let lasts : List (List Stmt) = last_codes endings (rules_of auto.states) in
+      let choices : List Choice = choices_from 1 (suc (fall_block greatest auto from)) (kept_of auto.states) in
+      let restores : List (List Stmt) = restore_blocks (rule_block greatest auto from) (kept_of auto.states) in
+      let ends : List (List Stmt) = ending_blocks endings (accepts_of auto.states) in
       subst (λ l. AllByRecursion (IsOwnAction endings) l) (sym all_joined)
-      (own-plain_all endings states_codes (choices_code choices ∷ lasts)
-      (states_plain endings greatest auto (rule_block endings greatest auto from) (fall_block endings greatest auto from)
-      (place_of endings greatest auto from) 0 from auto.states)
-      (own-plain endings (choices_code choices) (joined lasts) (choices_plain choices) (own-last_codes endings (rules_of auto.states))))
+      (own-plain_all endings states_codes (choices_code choices ∷ (restores ++ ends))
+      (states_plain greatest auto (rule_block greatest auto from) (fall_block greatest auto from) (kept_of auto.states)
+      (place_of greatest auto from) 0 from auto.states)
+      (own-plain endings (choices_code choices) (joined (restores ++ ends)) (choices_plain choices)
+      (own-plain_all endings restores ends (restores_plain (rule_block greatest auto from) (kept_of auto.states))
+      (own-endings endings (accepts_of auto.states)))))

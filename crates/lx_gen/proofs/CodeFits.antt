@@ -1,8 +1,7 @@
 -- Code whose last statement, and no other, ends it, and whose jumps go to blocks that are there.
-use Rattle.std.specs.Prelude.{◌≡◌, ℕ, zero, suc, ◌<◌, List, [], ◌∷◌, Option, Some, None, Bool, true, false, refl, if◌then◌else◌}
-use Rattle.std.proofs.Common.{sym, ap, ◌∙◌, true≢false}
+use Rattle.std.specs.Prelude.{◌≡◌, ℕ, zero, suc, ◌+◌, ◌<◌, ◌≤◌, List, [], ◌∷◌, Option, Some, None, Bool, true, false, refl, if◌then◌else◌}
+use Rattle.std.proofs.Common.{sym, ap, ◌∙◌, arith, true≢false}
 use Rattle.std.specs.List.{AllByRecursion}
-use Rattle.lx_auto.specs.declared.automaton.Accept.{Accept}
 use Rattle.lx_auto.specs.declared.automaton.Auto.{Auto}
 use Rattle.lx_auto.specs.declared.automaton.Edge.{Edge}
 use Rattle.lx_auto.specs.declared.automaton.Held.{Held}
@@ -14,9 +13,13 @@ use Rattle.lx_ccode.specs.Statements.{is_ending}
 use Rattle.lx_ccode.specs.Validity.{JumpsBelow, ends_once}
 use Rattle.lx_ccode.specs.declared.piece.Stmt.{Stmt}
 use Rattle.lx_ccode.specs.declared.piece.Stmt.TheVariants.{Accept as KeepAccept, Back, Backup, Count, End, Goto, IfAccept, IfUnit, Peek, Restore, Skip}
-use Rattle.lx_gen.specs.Codes.{Choice, Test, accept_code, choices_code, edge_code, keep_code, list_code, op_code, ops_code, restore_code, tests_code}
-use Rattle.lx_gen.specs.Endings.{Ending, action_code, back_code, cond_code, ends_code, groups_code, is_slash, last_code, rule_code, slash_held, tag_code, tags_code, unless}
+use Rattle.lx_gen.specs.Codes.{Choice, accept_code, choices_code, edge_code, keep_code, keeps_on, list_code, op_code, ops_code, restore_code}
+use Rattle.lx_gen.specs.Endings.{Ending, action_code, back_code, cond_code, ending_code, ends_code, groups_code, is_slash, last_code, rule_code, slash_held, tag_code, tags_code, unless}
+use Rattle.lx_gen.specs.Layout.{front_blocks, front_size}
 use Rattle.lx_gen.specs.Sequences.{one_by_one}
+use Rattle.lx_gen.specs.TestTrees.{TestTree}
+use Rattle.lx_gen.proofs.BalancedTrees.{EachTest}
+use Rattle.lx_gen.proofs.TreeCodes.{each-front_blocks}
 
 module _ (n : ℕ) where
   -- the code ends once, and jumps below so many blocks
@@ -50,17 +53,12 @@ module _ (n : ℕ) where
   list_fits : (auto : Auto) (ops : List Op) (rest : List Stmt) → Fits rest → Fits (list_code auto ops rest)
   list_fits auto ops rest h = ops_fits (one_by_one auto.regs auto.mregs ops) rest h
 
-  abbrev pub TestsBelow : List Test → Type 0
-  TestsBelow [] = Unit {0}
-  TestsBelow (test ∷ tests) = (test.block < n) × TestsBelow tests
-
-  pub tests_fit : (tests : List Test) (miss : ℕ) → TestsBelow tests → miss < n → Fits (tests_code tests miss)
-  tests_fit [] miss below last = goto_fits miss last
-  tests_fit (test ∷ tests) miss below last = more (IfUnit test.greatest test.block) (tests_code tests miss) refl below.0
-      (tests_fit tests miss below.1 last)
-
-  pub front_fits : (tests : List Test) (miss : ℕ) → TestsBelow tests → miss < n → Fits (Peek ∷ tests_code tests miss)
-  front_fits tests miss below last = more Peek (tests_code tests miss) refl tt (tests_fit tests miss below last)
+  pub front_fits : (from : ℕ) (tree : TestTree ℕ) → EachTest (λ greatest. Unit {0}) (λ block. block < n) tree → from + front_size tree ≤ n
+      → AllByRecursion Fits (front_blocks from tree)
+  front_fits from tree below fit =
+      each-front_blocks (λ greatest. Unit {0}) (λ block. block < n) Fits goto_fits
+      (λ greatest block code any below h. more (IfUnit greatest block) code refl below h) (λ code h. more Peek code refl tt h) from tree below
+      (λ block lt. omega (arith, lt, fit))
 
   abbrev pub ChoicesBelow : List Choice → Type 0
   ChoicesBelow [] = Unit {0}
@@ -70,13 +68,13 @@ module _ (n : ℕ) where
   choices_fit [] below = record { ends = refl; jumps = (tt, tt) }
   choices_fit (choice ∷ choices) below = more (IfAccept choice.kept choice.block) (choices_code choices) refl below.0 (choices_fit choices below.1)
 
-  keep_fits : (o : Option Accept) (kept : ℕ) (rest : List Stmt) → Fits rest → Fits (keep_code o kept rest)
-  keep_fits None kept rest h = h
-  keep_fits (Some accept) kept rest h = more Backup (KeepAccept kept ∷ rest) refl tt (more (KeepAccept kept) rest refl tt h)
+  keep_fits : (keeps : Bool) (kept : ℕ) (rest : List Stmt) → Fits rest → Fits (keep_code keeps kept rest)
+  keep_fits false kept rest h = h
+  keep_fits true kept rest h = more Backup (KeepAccept kept ∷ rest) refl tt (more (KeepAccept kept) rest refl tt h)
 
   pub edge_fits : (auto : Auto) (state : State) (kept : ℕ) (edge : Edge) (block : ℕ) → block < n → Fits (edge_code auto state kept edge block)
   edge_fits auto state kept edge block below =
-      keep_fits state.accept kept (list_code auto state.leave (list_code auto edge.ops (Skip ∷ Goto block ∷ [])))
+      keep_fits (keeps_on auto.states state edge) kept (list_code auto state.leave (list_code auto edge.ops (Skip ∷ Goto block ∷ [])))
       (list_fits auto state.leave (list_code auto edge.ops (Skip ∷ Goto block ∷ []))
       (list_fits auto edge.ops (Skip ∷ Goto block ∷ []) (more Skip (Goto block ∷ []) refl tt (goto_fits block below))))
 
@@ -114,18 +112,13 @@ module _ (n : ℕ) where
       tags_fit (endings rule) 0 (endings rule).tags values (back_code (slash_held (endings rule).slash values) rest)
       (back_fits (slash_held (endings rule).slash values) rest h)
 
-  pub accept_fits : (endings : ℕ → Ending) (auto : Auto) (accept : Accept) (block : ℕ) → block < n
-      → Fits (accept_code endings auto accept (Goto block ∷ []))
-  accept_fits endings auto accept block below =
-      list_fits auto accept.ops (rule_code endings accept.rule accept.values (Goto block ∷ []))
-      (rule_fits endings accept.rule accept.values (Goto block ∷ []) (goto_fits block below))
+  pub accept_fits : (auto : Auto) (ops : List Op) (block : ℕ) → block < n → Fits (accept_code auto ops block)
+  accept_fits auto ops block below = list_fits auto ops (Goto block ∷ []) (goto_fits block below)
 
-  pub restore_fits : (endings : ℕ → Ending) (accept : Accept) (block : ℕ) → block < n → Fits (restore_code endings accept (Goto block ∷ []))
-  restore_fits endings accept block below =
-      more Restore (rule_code endings accept.rule accept.values (Goto block ∷ [])) refl tt
-      (rule_fits endings accept.rule accept.values (Goto block ∷ []) (goto_fits block below))
+  pub restore_fits : (block : ℕ) → block < n → Fits (restore_code block)
+  restore_fits block below = more Restore (Goto block ∷ []) refl tt (goto_fits block below)
 
-  pub last_fits : (endings : ℕ → Ending) (rule : ℕ) → Fits (last_code endings rule)
+  last_fits : (endings : ℕ → Ending) (rule : ℕ) → Fits (last_code endings rule)
   last_fits endings rule = by (endings rule).goes_to (endings rule).action
     where
       by : (cond action : Option (List ℕ)) → Fits (cond_code cond (action_code rule (endings rule) action))
@@ -133,3 +126,6 @@ module _ (n : ℕ) where
       by None (Some action) = record { ends = refl; jumps = (tt, tt) }
       by (Some cond) None = record { ends = refl; jumps = (tt, (tt, tt)) }
       by (Some cond) (Some action) = record { ends = refl; jumps = (tt, (tt, tt)) }
+
+  pub ending_fits : (endings : ℕ → Ending) (rule : ℕ) (values : List Held) → Fits (ending_code endings rule values)
+  ending_fits endings rule values = rule_fits endings rule values (last_code endings rule) (last_fits endings rule)

@@ -16,11 +16,15 @@ use Rattle.lx_base.specs.Names.{Spellings, IsTagName}
 use Rattle.lx_ccode.specs.Validity.{IsLine, IsRegister, IsShort}
 use Rattle.lx_ccode.specs.declared.piece.Stmt.{Stmt}
 use Rattle.lx_ccode.specs.declared.piece.Stmt.TheVariants.{Accept as KeepAccept, Back, Backup, Code, Copy, Count, End, Goto, IfAccept, IfUnit, Leave, MCopy, MSet, MUnset, Peek, Restore, Set, Skip, Tag, Unset}
-use Rattle.lx_gen.specs.Codes.{Choice, Test, accept_code, choices_code, edge_code, keep_code, list_code, op_code, ops_code, restore_code, tests_code}
-use Rattle.lx_gen.specs.Endings.{Ending, action_code, back_code, cond_code, ends_code, groups_code, is_slash, last_code, rule_code, slash_held, tag_code, tags_code, unless}
+use Rattle.lx_gen.specs.Codes.{Choice, accept_code, choices_code, edge_code, keep_code, keeps_on, list_code, op_code, ops_code}
+use Rattle.lx_gen.specs.Endings.{Ending, action_code, back_code, cond_code, ending_code, ends_code, groups_code, is_slash, last_code, rule_code, slash_held, tag_code, tags_code, unless}
+use Rattle.lx_gen.specs.Layout.{front_blocks}
 use Rattle.lx_gen.specs.Sequences.{one_by_one}
+use Rattle.lx_gen.specs.TestTrees.{TestTree}
 use Rattle.lx_gen.specs.Written.{IsShortAction, IsWritten, IsWrittenAccept, MayStand}
+use Rattle.lx_gen.proofs.BalancedTrees.{EachTest}
 use Rattle.lx_gen.proofs.SmallOps.{AreSmall, AreSmall-ops, IsSmall, one_by_one-small}
+use Rattle.lx_gen.proofs.TreeCodes.{each-front_blocks}
 
 module _ (names : Spellings) where
   -- the statement has a spelling if its block has one, it has few groups, and is none of a refill, a stored state or a condition
@@ -63,13 +67,10 @@ module _ (names : Spellings) where
   ops_fine [] rest small h = h
   ops_fine (op ∷ ops) rest small h = (op_fine op small.0, ops_fine ops rest small.1 h)
 
-  abbrev pub TestsShort : List Test → Type 0
-  TestsShort [] = Unit {0}
-  TestsShort (test ∷ tests) = IsShort test.greatest × TestsShort tests
-
-  pub tests_fine : (tests : List Test) (miss : ℕ) → TestsShort tests → Fine (tests_code tests miss)
-  tests_fine [] miss h = (tt, tt)
-  tests_fine (test ∷ tests) miss h = (h.0, tests_fine tests miss h.1)
+  pub front_fine : (from : ℕ) (tree : TestTree ℕ) → EachTest IsShort (λ block. Unit {0}) tree → AllByRecursion Fine (front_blocks from tree)
+  front_fine from tree short =
+      each-front_blocks IsShort (λ block. Unit {0}) Fine (λ block any. (tt, tt)) (λ greatest block code short any h. (short, h)) (λ code h. (tt, h))
+      from tree short (λ block lt. tt)
 
   abbrev pub ChoicesShort : List Choice → Type 0
   ChoicesShort [] = Unit {0}
@@ -79,11 +80,20 @@ module _ (names : Spellings) where
   choices_fine [] h = (tt, tt)
   choices_fine (choice ∷ choices) h = (h.0, choices_fine choices h.1)
 
-  keep_fine : (o : Option Accept) (kept : ℕ) (rest : List Stmt) → IsShort kept → Fine rest → Fine (keep_code o kept rest)
-  keep_fine None kept rest short h = h
-  keep_fine (Some accept) kept rest short h = (tt, (short, h))
+  keep_fine : (keeps : Bool) (kept : ℕ) (rest : List Stmt) → IsShort kept → Fine rest → Fine (keep_code keeps kept rest)
+  keep_fine false kept rest short h = h
+  keep_fine true kept rest short h = (tt, (short, h))
 
   -- ---- the ends of rules
+
+  last_fine : (endings : ℕ → Ending) (rule : ℕ) → IsShort rule → IsWritten names (endings rule) → Fine (last_code endings rule)
+  last_fine endings rule short written =
+      subst (λ o. Fine (cond_code o (action_code rule (endings rule) (endings rule).action))) (sym written.stays)
+      (by (endings rule).action written.action)
+    where
+      by : (action : Option (List ℕ)) → IsShortAction action → Fine (action_code rule (endings rule) action)
+      by None is = absurd is
+      by (Some action) is = ((short, written.line, is), tt)
 
   -- with few registers
   module _ (regs mregs : ℕ) (few : regs ≤ 1073741824) (few_mregs : mregs ≤ 1073741824) where
@@ -144,9 +154,14 @@ module _ (names : Spellings) where
         written.ending.groups written.ending.tags held (omega (arith, written.values, written.ending.groups))
         (back_fine (slash_held (endings accept.rule).slash accept.values) rest (slash_is_held (endings accept.rule).slash accept.values held) h)
 
+    pub ending_fine : (endings : ℕ → Ending) (accept : Accept) → IsWrittenAccept names endings accept → AreHeld regs mregs accept.values
+        → Fine (ending_code endings accept.rule accept.values)
+    ending_fine endings accept written held =
+        rule_fine endings accept (last_code endings accept.rule) written held (last_fine endings accept.rule written.rule written.ending)
+
   -- ---- edges and ends
 
-  module _ (endings : ℕ → Ending) (auto : Auto) (few : auto.regs ≤ 1073741824) (few_mregs : auto.mregs ≤ 1073741824) where
+  module _ (auto : Auto) (few : auto.regs ≤ 1073741824) (few_mregs : auto.mregs ≤ 1073741824) where
     list_fine : (ops : List Op) (rest : List Stmt) → AreOps auto.regs auto.mregs ops → Fine rest → Fine (list_code auto ops rest)
     list_fine ops rest are h =
         ops_fine (one_by_one auto.regs auto.mregs ops) rest
@@ -157,26 +172,9 @@ module _ (names : Spellings) where
     pub edge_fine : (state : State) (kept : ℕ) (edge : Edge) (block : ℕ) → IsShort kept → AreOps auto.regs auto.mregs state.leave
         → AreOps auto.regs auto.mregs edge.ops → Fine (edge_code auto state kept edge block)
     edge_fine state kept edge block short leave ops =
-        keep_fine state.accept kept (list_code auto state.leave (list_code auto edge.ops (Skip ∷ Goto block ∷ []))) short
+        keep_fine (keeps_on auto.states state edge) kept (list_code auto state.leave (list_code auto edge.ops (Skip ∷ Goto block ∷ []))) short
         (list_fine state.leave (list_code auto edge.ops (Skip ∷ Goto block ∷ [])) leave
         (list_fine edge.ops (Skip ∷ Goto block ∷ []) ops (tt, (tt, tt))))
 
-    pub accept_fine : (accept : Accept) (block : ℕ) → IsWrittenAccept names endings accept → AreOps auto.regs auto.mregs accept.ops
-        → AreHeld auto.regs auto.mregs accept.values → Fine (accept_code endings auto accept (Goto block ∷ []))
-    accept_fine accept block written ops held =
-        list_fine accept.ops (rule_code endings accept.rule accept.values (Goto block ∷ [])) ops
-        (rule_fine auto.regs auto.mregs few few_mregs endings accept (Goto block ∷ []) written held (tt, tt))
-
-    pub restore_fine : (accept : Accept) (block : ℕ) → IsWrittenAccept names endings accept → AreHeld auto.regs auto.mregs accept.values
-        → Fine (restore_code endings accept (Goto block ∷ []))
-    restore_fine accept block written held =
-        (tt, rule_fine auto.regs auto.mregs few few_mregs endings accept (Goto block ∷ []) written held (tt, tt))
-
-  pub last_fine : (endings : ℕ → Ending) (rule : ℕ) → IsShort rule → IsWritten names (endings rule) → Fine (last_code endings rule)
-  last_fine endings rule short written =
-      subst (λ o. Fine (cond_code o (action_code rule (endings rule) (endings rule).action))) (sym written.stays)
-      (by (endings rule).action written.action)
-    where
-      by : (action : Option (List ℕ)) → IsShortAction action → Fine (action_code rule (endings rule) action)
-      by None is = absurd is
-      by (Some action) is = ((short, written.line, is), tt)
+    pub accept_fine : (ops : List Op) (block : ℕ) → AreOps auto.regs auto.mregs ops → Fine (accept_code auto ops block)
+    accept_fine ops block are = list_fine ops (Goto block ∷ []) are (tt, tt)

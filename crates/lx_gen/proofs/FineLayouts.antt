@@ -2,26 +2,26 @@
 use Rattle.std.specs.Prelude.{ℕ, zero, suc, ◌+◌, ◌-◌, ◌<◌, ◌≤◌, List, [], ◌∷◌, ◌++◌, length, Option, Some, None, All, Bool, true, false, nat_le, nat_lt, if◌then◌else◌}
 use Rattle.std.proofs.Common.{arith}
 use Rattle.std.specs.List.{AllByRecursion}
-use Rattle.lx_auto.specs.Automaton.{AreApartFrom, AreOps, AreStates, IsAccept, IsAuto, LeadWithin}
+use Rattle.lx_auto.specs.Automaton.{AreApartFrom, AreHeld, AreOps, AreStates, IsAccept, IsAuto, LeadWithin}
 use Rattle.lx_auto.specs.declared.automaton.Accept.{Accept}
 use Rattle.lx_auto.specs.declared.automaton.Auto.{Auto}
 use Rattle.lx_auto.specs.declared.automaton.Edge.{Edge}
 use Rattle.lx_auto.specs.declared.automaton.State.{State}
+use Rattle.lx_auto.specs.declared.ops.Op.{Op}
 use Rattle.lx_base.specs.Names.{Spellings}
 use Rattle.lx_ccode.specs.Validity.{IsShort}
-use Rattle.lx_ccode.specs.declared.piece.Stmt.TheVariants.{Goto}
-use Rattle.lx_gen.specs.Codes.{Choice, choices_code, restore_code}
+use Rattle.lx_gen.specs.Codes.{choices_code}
 use Rattle.lx_gen.specs.Endings.{Ending}
-use Rattle.lx_gen.specs.Layout.{accept_blocks, blocks_by, choice_by, choices_in, end_block, ends_blocks, fall_block, front_blocks, front_size, is_bare, last_codes, layout, lone_blocks, numbered, place_of, rule_block, rules_of, rules_onto, state_size, states_blocks, way_block, way_blocks, with_rule}
-use Rattle.lx_gen.specs.Sequences.{is_in}
-use Rattle.lx_gen.specs.Ways.{Stretch, before, edge_split, first_way, has_way, same_place, split_of, stretches, way_place, ways_of, ways_onto}
-use Rattle.lx_gen.specs.Written.{AcceptIsWritten, AreWritten, IsWritten, IsWrittenAccept}
-use Rattle.lx_gen.proofs.FineCodes.{ChoicesShort, Fine, TestsShort, accept_fine, choices_fine, edge_fine, last_fine, restore_fine, tests_fine}
+use Rattle.lx_gen.specs.Layout.{accepts_of, blocks_by, choices_from, end_block, end_blocks, ending_blocks, fall_block, front_blocks, front_size, kept_accept, kept_number, kept_of, layout, lone_blocks, numbered, own_blocks, place_of, restore_blocks, rule_block, state_size, states_blocks, way_blocks}
+use Rattle.lx_gen.specs.TestTrees.{TestTree, edge_tree}
+use Rattle.lx_gen.specs.Ways.{Split, Stretch, before, edge_split, first_way, has_way, same_place, split_of, stretches, way_place, ways_of, ways_onto}
+use Rattle.lx_gen.specs.Written.{AcceptIsWritten, AreWritten, IsWrittenAccept}
+use Rattle.lx_gen.proofs.BalancedTrees.{EachTest, each-balanced}
+use Rattle.lx_gen.proofs.EachElement.{each-append, each-map}
+use Rattle.lx_gen.proofs.FineCodes.{ChoicesShort, Fine, accept_fine, choices_fine, edge_fine, ending_fine, front_fine}
+use Rattle.lx_gen.proofs.FirstAccepts.{Chosen, each-firsts, length-firsts, rule_place-within}
 use Rattle.lx_gen.proofs.RuleEndings.{each-All}
-
-pub each-append : {A : Type 0} (P : A → Type 0) (a b : List A) → AllByRecursion P a → AllByRecursion P b → AllByRecursion P (a ++ b)
-each-append P [] b h g = g
-each-append P (x ∷ a) b h g = (h.0, each-append P a b h.1 g)
+use Rattle.lx_gen.proofs.TreeCodes.{each-numbered}
 
 -- ---- tests
 
@@ -37,8 +37,7 @@ EdgesShort-apart greatest low (edge ∷ edges) short apart units =
     ((apart.1, omega (arith, short, units.0)), EdgesShort-apart greatest (edge.hi + 1) edges short apart.2 units.1)
 
 abbrev StretchesShort : List Stretch → Type 0
-StretchesShort [] = Unit {0}
-StretchesShort (stretch ∷ list) = IsShort stretch.greatest × StretchesShort list
+StretchesShort list = AllByRecursion (λ (stretch : Stretch). IsShort stretch.greatest) list
 
 stretches-short : (ways : List Edge) (low : ℕ) (edges : List Edge) → EdgesShort edges → StretchesShort (stretches ways low edges)
 stretches-short ways low [] h = tt
@@ -69,9 +68,13 @@ split-short greatest (stretch ∷ list) h = by (nat_le greatest stretch.greatest
     by true again = tt
     by false again = join (same_place stretch.way (first_way (split_of greatest list).tests (split_of greatest list).last)) again
 
-numbered-short : (names : Spellings) (first end : ℕ) (list : List Stretch) → StretchesShort list → TestsShort names (numbered first end list)
-numbered-short names first end [] h = tt
-numbered-short names first end (stretch ∷ list) h = (h.0, numbered-short names first end list h.1)
+edge_tree-short : (greatest : ℕ) (edges : List Edge) → EdgesShort edges → EachTest IsShort (λ way. Unit {0}) (edge_tree greatest edges)
+edge_tree-short greatest edges units =
+    let split : Split = edge_split greatest edges in
+    each-balanced IsShort (λ way. Unit {0}) split.tests split.last
+    (each-map (λ (stretch : Stretch). IsShort stretch.greatest) (λ (stretch : Stretch). IsShort stretch.greatest × Unit {0})
+    (λ stretch short. (short, tt)) split.tests
+    (split-short greatest (stretches (ways_of edges) 0 edges) (stretches-short (ways_of edges) 0 edges units))) tt
 
 -- ---- ways
 
@@ -98,135 +101,124 @@ HaveOps-onto regs mregs (edge ∷ edges) found h g = by (has_way found edge) (λ
     by true again = again found h
     by false again = again (found ++ edge ∷ []) (HaveOps-append regs mregs found (edge ∷ []) h (g.0, tt))
 
--- ---- the rules by which states accept
+-- ---- the blocks of states
 
-module _ (names : Spellings) (endings : ℕ → Ending) where
-  abbrev RuleIsWritten : ℕ → Type 0
-  RuleIsWritten rule = IsShort rule × IsWritten names (endings rule)
+kept_number-short : (kepts : List Accept) (o : Option Accept) → length kepts < 4294967295 → IsShort (kept_number kepts o)
+kept_number-short kepts None few = omega arith
+kept_number-short kepts (Some accept) few = let h = rule_place-within kepts accept.rule in omega (arith, h, few)
 
-  with_rule-written : (found : List ℕ) (accept : Option Accept) → AcceptIsWritten names endings accept → AllByRecursion RuleIsWritten found
-      → AllByRecursion RuleIsWritten (with_rule found accept)
-  with_rule-written found None written h = h
-  with_rule-written found (Some accept) written h = by (is_in accept.rule found)
-    where
-      by : (t : Bool) → AllByRecursion RuleIsWritten (if t then found else found ++ accept.rule ∷ [])
-      by true = h
-      by false = each-append RuleIsWritten found (accept.rule ∷ []) h ((written.rule, written.ending), tt)
+module _ (names : Spellings) where
+  module _ (greatest : ℕ) (auto : Auto) (rules : ℕ → ℕ) (fall : ℕ) (few : auto.regs ≤ 1073741824) (few_mregs : auto.mregs ≤ 1073741824) where
+    own_blocks-fine : (block : ℕ) (ops : List Op) → AreOps auto.regs auto.mregs ops
+        → AllByRecursion (Fine names) (own_blocks greatest auto rules fall block ops)
+    own_blocks-fine block [] are = tt
+    own_blocks-fine block (op ∷ ops) are = (accept_fine names auto few few_mregs (op ∷ ops) block are, tt)
 
-  rules_onto-written : (found : List ℕ) (states : List State) → AreWritten names endings states → AllByRecursion RuleIsWritten found
-      → AllByRecursion RuleIsWritten (rules_onto found states)
-  rules_onto-written found [] written h = h
-  rules_onto-written found (state ∷ states) written h =
-      rules_onto-written (with_rule found state.accept) states written.1 (with_rule-written found state.accept written.0 h)
+    end_blocks-fine : (o : Option Accept) → IsAccept auto.regs auto.mregs o → AllByRecursion (Fine names) (end_blocks greatest auto rules fall o)
+    end_blocks-fine None is = tt
+    end_blocks-fine (Some accept) is = own_blocks-fine (rules accept.rule) accept.ops is.0
 
-  last_codes-fine : (rules : List ℕ) → AllByRecursion RuleIsWritten rules → AllByRecursion (Fine names) (last_codes endings rules)
-  last_codes-fine [] h = tt
-  last_codes-fine (rule ∷ rules) h = (last_fine names endings rule h.0.0 h.0.1, last_codes-fine rules h.1)
+    lone_blocks-fine : (number : ℕ) (o : Option Accept) → IsAccept auto.regs auto.mregs o
+        → AllByRecursion (Fine names) (lone_blocks greatest auto rules fall number o)
+    lone_blocks-fine zero None is = ((tt, tt), tt)
+    lone_blocks-fine zero (Some accept) is = (accept_fine names auto few few_mregs accept.ops (rules accept.rule) is.0, tt)
+    lone_blocks-fine (suc number) o is = end_blocks-fine o is
 
-  front_blocks-fine : (first end : ℕ) (tests : List Stretch) (last : Option ℕ) → StretchesShort tests
-      → AllByRecursion (Fine names) (front_blocks first end tests last)
-  front_blocks-fine first end [] last h = tt
-  front_blocks-fine first end (stretch ∷ tests) last h =
-      ((tt, tests_fine names (numbered first end (stretch ∷ tests)) (way_block first end last) (numbered-short names first end (stretch ∷ tests) h)), tt)
+    module _ (kepts : List Accept) (place : ℕ → ℕ) (short : IsShort greatest) (few_kepts : length kepts < 4294967295) where
+      way_blocks-fine : (state : State) (ways : List Edge) → AreOps auto.regs auto.mregs state.leave → HaveOps auto.regs auto.mregs ways
+          → AllByRecursion (Fine names) (way_blocks greatest auto rules fall kepts place state ways)
+      way_blocks-fine state [] leave h = tt
+      way_blocks-fine state (way ∷ ways) leave h = (
+        edge_fine names auto few few_mregs state (kept_number kepts state.accept) way (place way.to) (kept_number-short kepts state.accept few_kepts)
+            leave h.0,
+        way_blocks-fine state ways leave h.1,
+      )
 
-  -- ---- the blocks of states
+      state_fine : (number from : ℕ) (state : State) (edges : List Edge) → AreOps auto.regs auto.mregs state.leave
+          → HaveOps auto.regs auto.mregs edges → EdgesShort edges → IsAccept auto.regs auto.mregs state.accept
+          → AllByRecursion (Fine names) (blocks_by greatest auto rules fall kepts place number from state edges)
+      state_fine number from state [] leave ops units is = lone_blocks-fine number state.accept is
+      state_fine number from state (edge ∷ edges) leave ops units is =
+          let ways : List Edge = ways_of (edge ∷ edges) in
+          let first : ℕ = from + front_size (edge_tree greatest (edge ∷ edges)) in
+          let own : ℕ = from + front_size (edge_tree greatest (edge ∷ edges)) + length (ways_of (edge ∷ edges)) in
+          let end : ℕ = end_block greatest auto rules fall own state.accept in
+          let tree : TestTree ℕ = numbered first end (edge_tree greatest (edge ∷ edges)) in
+          each-append (Fine names) (front_blocks from tree)
+          (way_blocks greatest auto rules fall kepts place state ways ++ end_blocks greatest auto rules fall state.accept)
+          (front_fine names from tree (each-numbered first end IsShort (λ way. Unit {0}) (λ block. Unit {0}) (λ way any. tt)
+          (edge_tree greatest (edge ∷ edges)) (edge_tree-short greatest (edge ∷ edges) units)))
+          (each-append (Fine names) (way_blocks greatest auto rules fall kepts place state ways) (end_blocks greatest auto rules fall state.accept)
+          (way_blocks-fine state ways leave (HaveOps-onto auto.regs auto.mregs (edge ∷ edges) [] tt ops)) (end_blocks-fine state.accept is))
 
-  module _ (greatest : ℕ) (auto : Auto) (rules : ℕ → ℕ) (fall : ℕ) (place : ℕ → ℕ) (few : auto.regs ≤ 1073741824)
-      (few_mregs : auto.mregs ≤ 1073741824) (short : IsShort greatest) where
-    way_blocks-fine : (s : ℕ) (state : State) (ways : List Edge) → IsShort (suc s) → AreOps auto.regs auto.mregs state.leave
-        → HaveOps auto.regs auto.mregs ways → AllByRecursion (Fine names) (way_blocks endings greatest auto rules fall place s state ways)
-    way_blocks-fine s state [] kept leave h = tt
-    way_blocks-fine s state (way ∷ ways) kept leave h =
-        (edge_fine names endings auto few few_mregs state (suc s) way (place way.to) kept leave h.0, way_blocks-fine s state ways kept leave h.1)
-
-    accept_blocks-fine : (accept : Accept) (bare : Bool) → IsWrittenAccept names endings accept → IsAccept auto.regs auto.mregs (Some accept)
-        → AllByRecursion (Fine names) (accept_blocks endings greatest auto rules fall accept bare)
-    accept_blocks-fine accept true written is = tt
-    accept_blocks-fine accept false written is =
-        (accept_fine names endings auto few few_mregs accept (rules accept.rule) written is.0 is.1, tt)
-
-    ends_blocks-fine : (o : Option Accept) → AcceptIsWritten names endings o → IsAccept auto.regs auto.mregs o
-        → AllByRecursion (Fine names) (ends_blocks endings greatest auto rules fall o)
-    ends_blocks-fine None written is = tt
-    ends_blocks-fine (Some accept) written is =
-        each-append (Fine names) (accept_blocks endings greatest auto rules fall accept (is_bare endings greatest auto accept))
-        (restore_code endings accept (Goto (rules accept.rule) ∷ []) ∷ [])
-        (accept_blocks-fine accept (is_bare endings greatest auto accept) written is)
-        (restore_fine names endings auto few few_mregs accept (rules accept.rule) written is.1, tt)
-
-    lone_blocks-fine : (s : ℕ) (o : Option Accept) → AcceptIsWritten names endings o → IsAccept auto.regs auto.mregs o
-        → AllByRecursion (Fine names) (lone_blocks endings greatest auto rules fall s o)
-    lone_blocks-fine zero None written is = ((tt, tt), tt)
-    lone_blocks-fine zero (Some accept) written is =
-        (accept_fine names endings auto few few_mregs accept (rules accept.rule) written is.0 is.1, tt)
-    lone_blocks-fine (suc s) None written is = tt
-    lone_blocks-fine (suc s) (Some accept) written is = accept_blocks-fine accept (is_bare endings greatest auto accept) written is
-
-    state_fine : (s from : ℕ) (state : State) (edges : List Edge) → IsShort (suc s) → AreOps auto.regs auto.mregs state.leave
-        → HaveOps auto.regs auto.mregs edges → EdgesShort edges → AcceptIsWritten names endings state.accept
-        → IsAccept auto.regs auto.mregs state.accept
-        → AllByRecursion (Fine names) (blocks_by endings greatest auto rules fall place s from state edges)
-    state_fine s from state [] kept leave ops units written is = lone_blocks-fine s state.accept written is
-    state_fine s from state (edge ∷ edges) kept leave ops units written is =
-        let ways : List Edge = ways_of (edge ∷ edges) in
-        let tests : List Stretch = (edge_split greatest (edge ∷ edges)).tests in
-        let last : Option ℕ = (edge_split greatest (edge ∷ edges)).last in
-        let first : ℕ = from + front_size (edge_split greatest (edge ∷ edges)).tests in
-        let own : ℕ = from + front_size (edge_split greatest (edge ∷ edges)).tests + length (ways_of (edge ∷ edges)) in
-        let end : ℕ = end_block endings greatest auto rules fall own state.accept in
-        each-append (Fine names) (front_blocks first end tests last)
-        (way_blocks endings greatest auto rules fall place s state ways ++ ends_blocks endings greatest auto rules fall state.accept)
-        (front_blocks-fine first end tests last (split-short greatest (stretches (ways_of (edge ∷ edges)) 0 (edge ∷ edges))
-        (stretches-short (ways_of (edge ∷ edges)) 0 (edge ∷ edges) units)))
-        (each-append (Fine names) (way_blocks endings greatest auto rules fall place s state ways)
-        (ends_blocks endings greatest auto rules fall state.accept)
-        (way_blocks-fine s state ways kept leave (HaveOps-onto auto.regs auto.mregs (edge ∷ edges) [] tt ops))
-        (ends_blocks-fine state.accept written is))
-
-    states_fine : (count s from : ℕ) (states : List State) → s + length states < 4294967295 → AreStates auto.regs auto.mregs count states
-        → AllByRecursion (λ (state : State). All (λ (edge : Edge). edge.hi ≤ greatest) state.edges) states → AreWritten names endings states
-        → AllByRecursion (Fine names) (states_blocks endings greatest auto rules fall place s from states)
-    states_fine count s from [] fit are units written = tt
-    states_fine count s from (state ∷ states) fit are units written =
-        each-append (Fine names) (blocks_by endings greatest auto rules fall place s from state state.edges)
-        (states_blocks endings greatest auto rules fall place (suc s) (from + state_size endings greatest auto s state) states)
-        (state_fine s from state state.edges (omega (arith, fit)) are.0.leave (HaveOps-lead auto.regs auto.mregs count state.edges are.0.lead)
-        (EdgesShort-apart greatest 0 state.edges short are.0.apart (each-All (λ (edge : Edge). edge.hi ≤ greatest) state.edges units.0))
-        written.0 are.0.accept)
-        (states_fine count (suc s) (from + state_size endings greatest auto s state) states (omega (arith, fit)) are.1 units.1 written.1)
+      states_fine : (count number from : ℕ) (states : List State) → AreStates auto.regs auto.mregs count states
+          → AllByRecursion (λ (state : State). All (λ (edge : Edge). edge.hi ≤ greatest) state.edges) states
+          → AllByRecursion (Fine names) (states_blocks greatest auto rules fall kepts place number from states)
+      states_fine count number from [] are units = tt
+      states_fine count number from (state ∷ states) are units =
+          each-append (Fine names) (blocks_by greatest auto rules fall kepts place number from state state.edges)
+          (states_blocks greatest auto rules fall kepts place (suc number) (from + state_size greatest number state) states)
+          (state_fine number from state state.edges are.0.leave (HaveOps-lead auto.regs auto.mregs count state.edges are.0.lead)
+          (EdgesShort-apart greatest 0 state.edges short are.0.apart (each-All (λ (edge : Edge). edge.hi ≤ greatest) state.edges units.0))
+          are.0.accept)
+          (states_fine count (suc number) (from + state_size greatest number state) states are.1 units.1)
 
   -- ---- the fallback
 
-  choice_short : (greatest : ℕ) (auto : Auto) (s from : ℕ) (state : State) (edges : List Edge) (accept : Option Accept) (choices : List Choice)
-      → IsShort (suc s) → ChoicesShort names choices → ChoicesShort names (choice_by endings greatest auto s from state edges accept choices)
-  choice_short greatest auto s from state [] accept choices kept h = h
-  choice_short greatest auto s from state (edge ∷ edges) None choices kept h = h
-  choice_short greatest auto s from state (edge ∷ edges) (Some accept) choices kept h = (kept, h)
+  choices-short : (kept block : ℕ) (kepts : List Accept) → kept + length kepts ≤ 4294967295 → ChoicesShort names (choices_from kept block kepts)
+  choices-short kept block [] fit = tt
+  choices-short kept block (accept ∷ kepts) fit =
+      (omega (arith, fit), choices-short (suc kept) (suc block) kepts (omega (arith, fit)))
 
-  choices_short : (greatest : ℕ) (auto : Auto) (s from : ℕ) (states : List State) → s + length states < 4294967295
-      → ChoicesShort names (choices_in endings greatest auto s from states)
-  choices_short greatest auto s from [] fit = tt
-  choices_short greatest auto s from (state ∷ states) fit =
-      choice_short greatest auto s from state state.edges state.accept
-      (choices_in endings greatest auto (suc s) (from + state_size endings greatest auto s state) states) (omega (arith, fit))
-      (choices_short greatest auto (suc s) (from + state_size endings greatest auto s state) states (omega (arith, fit)))
+  restore_blocks-fine : (rules : ℕ → ℕ) (kepts : List Accept) → AllByRecursion (Fine names) (restore_blocks rules kepts)
+  restore_blocks-fine rules [] = tt
+  restore_blocks-fine rules (accept ∷ kepts) = ((tt, (tt, tt)), restore_blocks-fine rules kepts)
+
+  -- ---- the ends of rules
+
+  module _ (endings : ℕ → Ending) (auto : Auto) where
+    -- the end of the accept's rule can be written, with the values of this accept
+    abbrev EndIsWritten : Accept → Type 0
+    EndIsWritten accept = IsWrittenAccept names endings accept × AreHeld auto.regs auto.mregs accept.values
+
+    ends_written : (count : ℕ) (states : List State) → AreWritten names endings states → AreStates auto.regs auto.mregs count states
+        → AllByRecursion (λ (state : State). Chosen EndIsWritten state.accept) states
+    ends_written count [] written are = tt
+    ends_written count (state ∷ states) written are =
+        (by state.accept written.0 are.0.accept, ends_written count states written.1 are.1)
+      where
+        by : (o : Option Accept) → AcceptIsWritten names endings o → IsAccept auto.regs auto.mregs o → Chosen EndIsWritten o
+        by None written is = tt
+        by (Some accept) written is = (written, is.1)
+
+    ending_blocks-fine : (accepts : List Accept) → auto.regs ≤ 1073741824 → auto.mregs ≤ 1073741824 → AllByRecursion EndIsWritten accepts
+        → AllByRecursion (Fine names) (ending_blocks endings accepts)
+    ending_blocks-fine [] few few_mregs h = tt
+    ending_blocks-fine (accept ∷ accepts) few few_mregs h =
+        (ending_fine names auto.regs auto.mregs few few_mregs endings accept h.0.0 h.0.1, ending_blocks-fine accepts few few_mregs h.1)
 
   -- ---- the whole
 
-  pub layout_fine : (greatest : ℕ) (auto : Auto) (from : ℕ) → IsShort greatest → IsAuto auto
+  pub layout_fine : (endings : ℕ → Ending) (greatest : ℕ) (auto : Auto) (from : ℕ) → IsShort greatest → IsAuto auto
       → All (λ (state : State). All (λ (edge : Edge). edge.hi ≤ greatest) state.edges) auto.states → AreWritten names endings auto.states
       → AllByRecursion (Fine names) (layout endings greatest auto from)
-  layout_fine greatest auto from short formed units written =
-      let rules : ℕ → ℕ = rule_block endings greatest auto from in
-      let fall : ℕ = fall_block endings greatest auto from in
-      let place : ℕ → ℕ = place_of endings greatest auto from in
+  layout_fine endings greatest auto from short formed units written =
+      let rules : ℕ → ℕ = rule_block greatest auto from in
+      let fall : ℕ = fall_block greatest auto from in
+      let place : ℕ → ℕ = place_of greatest auto from in
+      let kepts : List Accept = kept_of auto.states in
       let few : length auto.states < 4294967295 = formed.few in
-      each-append (Fine names) (states_blocks endings greatest auto rules fall place 0 from auto.states)
-      (choices_code (choices_in endings greatest auto 0 from auto.states) ∷ last_codes endings (rules_of auto.states))
-      (states_fine greatest auto rules fall place formed.few_regs formed.few_mregs short (length auto.states) 0 from auto.states
-      (omega (arith, few)) formed.states
-      (each-All (λ (state : State). All (λ (edge : Edge). edge.hi ≤ greatest) state.edges) auto.states units) written) (
-        choices_fine names (choices_in endings greatest auto 0 from auto.states)
-            (choices_short greatest auto 0 from auto.states (omega (arith, few))),
-        last_codes-fine (rules_of auto.states) (rules_onto-written [] auto.states written tt),
+      let more : length (kept_of auto.states) ≤ 0 + length auto.states = length-firsts (kept_accept auto.states) [] auto.states in
+      let few_kepts : length (kept_of auto.states) < 4294967295 = omega (arith, few, more) in
+      let ends = each-firsts (EndIsWritten endings auto) (λ state. state.accept) [] auto.states tt
+      (ends_written endings auto (length auto.states) auto.states written formed.states) in
+      each-append (Fine names) (states_blocks greatest auto rules fall kepts place 0 from auto.states)
+      (choices_code (choices_from 1 (suc fall) kepts) ∷ (restore_blocks rules kepts ++ ending_blocks endings (accepts_of auto.states)))
+      (states_fine greatest auto rules fall formed.few_regs formed.few_mregs kepts place short few_kepts (length auto.states) 0 from auto.states
+      formed.states
+      (each-All (λ (state : State). All (λ (edge : Edge). edge.hi ≤ greatest) state.edges) auto.states units)) (
+        choices_fine names (choices_from 1 (suc fall) kepts) (choices-short 1 (suc fall) kepts (omega (arith, few_kepts))),
+        each-append (Fine names) (restore_blocks rules kepts) (ending_blocks endings (accepts_of auto.states))
+            (restore_blocks-fine rules kepts)
+            (ending_blocks-fine endings auto (accepts_of auto.states) formed.few_regs formed.few_mregs ends),
       )

@@ -1,5 +1,5 @@
 -- What follows of the validity of a piece whose numbers and names can be spelled.
-use Rattle.std.specs.Prelude.{◌≡◌, ℕ, suc, ◌<◌, ◌≤◌, List, [], ◌∷◌, ◌++◌, length, None, true, false, refl, ◌||◌, if◌then◌else◌}
+use Rattle.std.specs.Prelude.{◌≡◌, ℕ, suc, ◌<◌, ◌≤◌, List, [], ◌∷◌, length, None, true, false, refl, ◌||◌, if◌then◌else◌}
 use Rattle.std.proofs.Common.{sym, ap, ◌∙◌, subst, arith}
 use Rattle.std.proofs.lemmas.Bool.{false≢true}
 use Rattle.std.specs.List.{AllByRecursion, list_any}
@@ -11,25 +11,8 @@ use Rattle.lx_ccode.specs.declared.piece.CodeBlock.{CodeBlock}
 use Rattle.lx_ccode.specs.declared.piece.StateCase.{StateCase}
 use Rattle.lx_ccode.specs.declared.piece.Stmt.{Stmt}
 use Rattle.lx_ccode.specs.declared.piece.Stmt.TheVariants.{Accept, Back, Backup, Code, Cond, Copy, Count, End, Goto, IfAccept, IfUnit, Jump, Leave, MCopy, MSet, MUnset, Need, Peek, Restore, Set, Skip, State, Tag, Unset}
+use Rattle.lx_gen.proofs.EachElement.{each-append, each-back, each-front}
 use Rattle.lx_gen.proofs.FineCodes.{Fine, IsFine}
-use Rattle.lx_gen.proofs.FineLayouts.{each-append}
-
-pub each-map : {A : Type 0} (P Q : A → Type 0) → ((x : A) → P x → Q x) → (xs : List A) → AllByRecursion P xs → AllByRecursion Q xs
-each-map P Q f [] h = tt
-each-map P Q f (x ∷ xs) h = (f x h.0, each-map P Q f xs h.1)
-
-pub each-both : {A : Type 0} (P Q R : A → Type 0) → ((x : A) → P x → Q x → R x) → (xs : List A) → AllByRecursion P xs → AllByRecursion Q xs
-    → AllByRecursion R xs
-each-both P Q R f [] h g = tt
-each-both P Q R f (x ∷ xs) h g = (f x h.0 g.0, each-both P Q R f xs h.1 g.1)
-
-each-front : {A : Type 0} (P : A → Type 0) (a b : List A) → AllByRecursion P (a ++ b) → AllByRecursion P a
-each-front P [] b h = tt
-each-front P (x ∷ a) b h = (h.0, each-front P a b h.1)
-
-each-back : {A : Type 0} (P : A → Type 0) (a b : List A) → AllByRecursion P (a ++ b) → AllByRecursion P b
-each-back P [] b h = h
-each-back P (x ∷ a) b h = each-back P a b h.1
 
 -- ---- how many blocks there are
 

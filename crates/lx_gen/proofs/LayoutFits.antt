@@ -1,27 +1,29 @@
 -- Each block of a layout ends once, and its jumps go to blocks that are there.
-use Rattle.std.specs.Prelude.{◌≡◌, ℕ, zero, suc, ◌+◌, ◌-◌, ◌<◌, ◌≤◌, List, [], ◌∷◌, ◌++◌, length, Option, Some, None, All, Bool, true, false, nat_le, nat_lt, refl, slice_get, if◌then◌else◌}
-use Rattle.std.proofs.Common.{inl, inr, sym, ap, ◌∙◌, subst, arith}
+use Rattle.std.specs.Prelude.{◌≡◌, ℕ, zero, suc, ◌+◌, ◌-◌, ◌<◌, ◌≤◌, List, [], ◌∷◌, ◌++◌, length, Option, Some, None, Bool, true, false, nat_le, nat_lt, refl, if◌then◌else◌}
+use Rattle.std.proofs.Common.{sym, ap, ◌∙◌, subst, arith}
 use Rattle.std.proofs.lemmas.List.{length-map}
 use Rattle.std.proofs.lemmas.Option.{slice_get_within}
 use Rattle.std.specs.List.{AllByRecursion}
-use Rattle.lx_auto.specs.Automaton.{AreStates, IsAuto, LeadWithin, edge_on, state_of}
 use Rattle.lx_auto.specs.declared.automaton.Accept.{Accept}
 use Rattle.lx_auto.specs.declared.automaton.Auto.{Auto}
 use Rattle.lx_auto.specs.declared.automaton.Edge.{Edge}
 use Rattle.lx_auto.specs.declared.automaton.State.{State}
+use Rattle.lx_auto.specs.declared.ops.Op.{Op}
 use Rattle.lx_ccode.specs.Statements.{all_statements, code_of}
 use Rattle.lx_ccode.specs.Validity.{JumpsBelow, ends_once}
 use Rattle.lx_ccode.specs.declared.piece.CodeBlock.{CodeBlock}
 use Rattle.lx_ccode.specs.declared.piece.Stmt.{Stmt}
-use Rattle.lx_ccode.specs.declared.piece.Stmt.TheVariants.{Goto}
-use Rattle.lx_gen.specs.Codes.{Choice, choices_code, restore_code}
+use Rattle.lx_gen.specs.Codes.{choices_code}
 use Rattle.lx_gen.specs.Endings.{Ending}
-use Rattle.lx_gen.specs.Layout.{accept_blocks, blocks_by, choice_by, choices_in, end_block, end_of, ends_blocks, ends_size, fall_block, front_blocks, front_size, is_bare, last_codes, layout, lone_blocks, numbered, place_of, rule_block, rules_of, size_by, state_size, states_blocks, way_block, way_blocks}
-use Rattle.lx_gen.specs.Serving.{IsEnd, IsTarget, Serves, ServesState, by_jump, by_tests, itself}
-use Rattle.lx_gen.specs.Ways.{Stretch, before, edge_split, first_way, has_way, same_place, split_of, stretches, way_place, ways_of, ways_onto}
-use Rattle.lx_gen.proofs.CodeFits.{ChoicesBelow, Fits, TestsBelow, accept_fits, choices_fit, edge_fits, front_fits, goto_fits, last_fits, restore_fits}
-use Rattle.lx_gen.proofs.LayoutServes.{layout_serves}
-use Rattle.lx_gen.proofs.Standing.{StandsFrom-itself}
+use Rattle.lx_gen.specs.Layout.{accepts_of, blocks_by, choices_from, end_block, end_blocks, end_of, end_size, ending_blocks, fall_block, front_blocks, front_size, kept_accept, kept_number, kept_of, layout, lone_blocks, lone_place, lone_size, numbered, own_block, own_blocks, own_size, place_by, place_in, place_of, restore_blocks, rule_block, size_by, state_size, states_blocks, way_block, way_blocks}
+use Rattle.lx_gen.specs.TestTrees.{TestTree, edge_tree}
+use Rattle.lx_gen.specs.Ways.{Split, Stretch, before, edge_split, first_way, has_way, same_place, split_of, stretches, way_place, ways_of, ways_onto}
+use Rattle.lx_gen.proofs.BalancedTrees.{EachTest, each-balanced}
+use Rattle.lx_gen.proofs.CodeFits.{ChoicesBelow, Fits, accept_fits, choices_fit, edge_fits, ending_fits, front_fits, goto_fits, restore_fits}
+use Rattle.lx_gen.proofs.EachElement.{each-append, each-map}
+use Rattle.lx_gen.proofs.FirstAccepts.{Chosen, HasRule, all-chosen, each-firsts, has_rule-firsts, kept-chosen, rule_place-below}
+use Rattle.lx_gen.proofs.LayoutLengths.{length-layout}
+use Rattle.lx_gen.proofs.TreeCodes.{each-numbered, front_size-numbered}
 use Rattle.lx_gen.proofs.WayLists.{has_way-last, has_way-onto, way_found}
 
 -- ---- ways
@@ -40,36 +42,13 @@ HaveWays-onto (edge ∷ edges) found = by (has_way found edge) refl (λ ways. Ha
     by true e again = (has_way-onto edges found edge e, again found)
     by false e again = (has_way-onto edges (found ++ edge ∷ []) edge (has_way-last found edge), again (found ++ edge ∷ []))
 
--- each edge leads to one of so many states
-abbrev Within : (count : ℕ) → List Edge → Type 0
-Within count [] = Unit {0}
-Within count (edge ∷ edges) = (edge.to < count) × Within count edges
-
-Within-lead : (regs mregs count : ℕ) (edges : List Edge) → LeadWithin regs mregs count edges → Within count edges
-Within-lead regs mregs count [] h = tt
-Within-lead regs mregs count (edge ∷ edges) h = (h.0, Within-lead regs mregs count edges h.2)
-
-Within-append : (count : ℕ) (a b : List Edge) → Within count a → Within count b → Within count (a ++ b)
-Within-append count [] b h g = g
-Within-append count (edge ∷ a) b h g = (h.0, Within-append count a b h.1 g)
-
-Within-onto : (count : ℕ) (edges found : List Edge) → Within count found → Within count edges → Within count (ways_onto found edges)
-Within-onto count [] found h g = h
-Within-onto count (edge ∷ edges) found h g = by (has_way found edge) (λ ways is. Within-onto count edges ways is g.1)
-  where
-    by : (t : Bool) → ((ways : List Edge) → Within count ways → Within count (ways_onto ways edges))
-        → Within count (ways_onto (if t then found else found ++ edge ∷ []) edges)
-    by true again = again found h
-    by false again = again (found ++ edge ∷ []) (Within-append count found (edge ∷ []) h (g.0, tt))
-
 -- a way is one of so many, if there is one
 abbrev IsWay : (count : ℕ) → Option ℕ → Type 0
 IsWay count None = Unit {0}
 IsWay count (Some place) = place < count
 
 abbrev AreWays : (count : ℕ) → List Stretch → Type 0
-AreWays count [] = Unit {0}
-AreWays count (stretch ∷ list) = IsWay count stretch.way × AreWays count list
+AreWays count list = AllByRecursion (λ (stretch : Stretch). IsWay count stretch.way) list
 
 AreWays-stretches : (ways : List Edge) (low : ℕ) (edges : List Edge) → HaveWays ways edges → AreWays (length ways) (stretches ways low edges)
 AreWays-stretches ways low [] h = tt
@@ -111,188 +90,158 @@ way_below : (n first end count : ℕ) (way : Option ℕ) → IsWay count way →
 way_below n first end count None is fit below = below
 way_below n first end count (Some place) is fit below = omega (arith, is)
 
-tests_below : (n first end count : ℕ) (list : List Stretch) → AreWays count list → first + count ≤ n → end < n
-    → TestsBelow n (numbered first end list)
-tests_below n first end count [] are fit below = tt
-tests_below n first end count (stretch ∷ list) are fit below = (way_below n first end count stretch.way are.0 fit below, tests_below n first end count list are.1 fit below)
-
 abbrev pub AllFit : (n : ℕ) → List (List Stmt) → Type 0
-AllFit n [] = Unit {0}
-AllFit n (code ∷ codes) = Fits n code × AllFit n codes
+AllFit n codes = AllByRecursion (Fits n) codes
 
-AllFit-append : (n : ℕ) (a b : List (List Stmt)) → AllFit n a → AllFit n b → AllFit n (a ++ b)
-AllFit-append n [] b h g = g
-AllFit-append n (code ∷ a) b h g = (h.0, AllFit-append n a b h.1 g)
-
-front_blocks-fit : (n first end count : ℕ) (tests : List Stretch) (last : Option ℕ) → AreWays count tests → IsWay count last → first + count ≤ n
-    → end < n
-    → AllFit n (front_blocks first end tests last)
-front_blocks-fit n first end count [] last are is fit below = tt
-front_blocks-fit n first end count (stretch ∷ tests) last are is fit below = (
-  front_fits n (numbered first end (stretch ∷ tests)) (way_block first end last) (tests_below n first end count (stretch ∷ tests) are fit below)
-      (way_below n first end count last is fit below),
-  tt,
-)
-
-last_codes-fit : (n : ℕ) (endings : ℕ → Ending) (rules : List ℕ) → AllFit n (last_codes endings rules)
-last_codes-fit n endings [] = tt
-last_codes-fit n endings (rule ∷ rules) = (last_fits n endings rule, last_codes-fit n endings rules)
+-- the blocks of the tests of a state
+edge_tree-ways : (greatest : ℕ) (edges : List Edge) → EachTest (λ unit. Unit {0}) (IsWay (length (ways_of edges))) (edge_tree greatest edges)
+edge_tree-ways greatest edges =
+    let split : Split = edge_split greatest edges in
+    let count : ℕ = length (ways_of edges) in
+    let are = AreWays-split_of (length (ways_of edges)) greatest (stretches (ways_of edges) 0 edges)
+    (AreWays-stretches (ways_of edges) 0 edges (HaveWays-onto edges [])) in
+    each-balanced (λ unit. Unit {0}) (IsWay count) split.tests split.last
+    (each-map (λ (stretch : Stretch). IsWay count stretch.way) (λ (stretch : Stretch). Unit {0} × IsWay count stretch.way)
+    (λ stretch is. (tt, is)) split.tests are.0) are.1
 
 -- ---- the blocks of states
 
-module _ (endings : ℕ → Ending) (greatest : ℕ) (auto : Auto) (rules : ℕ → ℕ) (fall : ℕ) (place : ℕ → ℕ) (n count : ℕ)
-    (places : (s : ℕ) → s < count → place s < n) (falls : fall < n) where
-  abbrev size : ℕ → State → ℕ
-  size number state = state_size endings greatest auto number state
+-- with so many blocks, among which are that of the fallback and those of the rules
+module _ (greatest : ℕ) (auto : Auto) (rules : ℕ → ℕ) (fall : ℕ) (n : ℕ) (falls : fall < n) where
+  abbrev RuleBelow : Accept → Type 0
+  RuleBelow accept = rules accept.rule < n
 
-  abbrev RuleBelow : Option Accept → Type 0
-  RuleBelow None = Unit {0}
-  RuleBelow (Some accept) = rules accept.rule < n
+  abbrev RulesBelow : List State → Type 0
+  RulesBelow states = AllByRecursion (λ (state : State). Chosen RuleBelow state.accept) states
 
-  way_blocks-fit : (s : ℕ) (state : State) (ways : List Edge) → Within count ways
-      → AllFit n (way_blocks endings greatest auto rules fall place s state ways)
-  way_blocks-fit s state [] h = tt
-  way_blocks-fit s state (way ∷ ways) h = (edge_fits n auto state (suc s) way (place way.to) (places way.to h.0), way_blocks-fit s state ways h.1)
+  own_blocks-fit : (block : ℕ) (ops : List Op) → block < n → AllFit n (own_blocks greatest auto rules fall block ops)
+  own_blocks-fit block [] below = tt
+  own_blocks-fit block (op ∷ ops) below = (accept_fits n auto (op ∷ ops) block below, tt)
 
-  accept_blocks-fit : (accept : Accept) (bare : Bool) → rules accept.rule < n → AllFit n (accept_blocks endings greatest auto rules fall accept bare)
-  accept_blocks-fit accept true below = tt
-  accept_blocks-fit accept false below = (accept_fits n endings auto accept (rules accept.rule) below, tt)
+  end_blocks-fit : (o : Option Accept) → Chosen RuleBelow o → AllFit n (end_blocks greatest auto rules fall o)
+  end_blocks-fit None below = tt
+  end_blocks-fit (Some accept) below = own_blocks-fit (rules accept.rule) accept.ops below
 
-  ends_blocks-fit : (o : Option Accept) → RuleBelow o → AllFit n (ends_blocks endings greatest auto rules fall o)
-  ends_blocks-fit None below = tt
-  ends_blocks-fit (Some accept) below =
-      AllFit-append n (accept_blocks endings greatest auto rules fall accept (is_bare endings greatest auto accept))
-      (restore_code endings accept (Goto (rules accept.rule) ∷ []) ∷ [])
-      (accept_blocks-fit accept (is_bare endings greatest auto accept) below) (restore_fits n endings accept (rules accept.rule) below, tt)
-
-  lone_blocks-fit : (s : ℕ) (o : Option Accept) → RuleBelow o → AllFit n (lone_blocks endings greatest auto rules fall s o)
+  lone_blocks-fit : (number : ℕ) (o : Option Accept) → Chosen RuleBelow o → AllFit n (lone_blocks greatest auto rules fall number o)
   lone_blocks-fit zero None below = (goto_fits n fall falls, tt)
-  lone_blocks-fit zero (Some accept) below = (accept_fits n endings auto accept (rules accept.rule) below, tt)
-  lone_blocks-fit (suc s) None below = tt
-  lone_blocks-fit (suc s) (Some accept) below = accept_blocks-fit accept (is_bare endings greatest auto accept) below
+  lone_blocks-fit zero (Some accept) below = (accept_fits n auto accept.ops (rules accept.rule) below, tt)
+  lone_blocks-fit (suc number) o below = end_blocks-fit o below
 
-  end_below : (own : ℕ) (o : Option Accept) → RuleBelow o → own + ends_size endings greatest auto o ≤ n
-      → end_block endings greatest auto rules fall own o < n
+  own_below : (own rule : ℕ) (ops : List Op) → rule < n → own + own_size ops ≤ n → own_block own rule ops < n
+  own_below own rule [] below fit = below
+  own_below own rule (op ∷ ops) below fit = omega (arith, fit)
+
+  end_below : (own : ℕ) (o : Option Accept) → Chosen RuleBelow o → own + end_size o ≤ n → end_block greatest auto rules fall own o < n
   end_below own None below fit = falls
-  end_below own (Some accept) below fit = by (is_bare endings greatest auto accept) fit
-    where
-      by : (t : Bool) → own + (if t then 1 else 2) ≤ n → (if t then rules accept.rule else own) < n
-      by true fit = below
-      by false fit = omega (arith, fit)
+  end_below own (Some accept) below fit = own_below own (rules accept.rule) accept.ops below fit
 
-  state_fits : (s from : ℕ) (state : State) (edges : List Edge) → Within count edges → RuleBelow state.accept
-      → from + size_by endings greatest auto s edges state.accept ≤ n
-      → AllFit n (blocks_by endings greatest auto rules fall place s from state edges)
-  state_fits s from state [] within below fit = lone_blocks-fit s state.accept below
-  state_fits s from state (edge ∷ edges) within below fit =
-      let ways : List Edge = ways_of (edge ∷ edges) in
-      let tests : List Stretch = (edge_split greatest (edge ∷ edges)).tests in
-      let last : Option ℕ = (edge_split greatest (edge ∷ edges)).last in
-      let first : ℕ = from + front_size (edge_split greatest (edge ∷ edges)).tests in
-      let own : ℕ = from + front_size (edge_split greatest (edge ∷ edges)).tests + length (ways_of (edge ∷ edges)) in
-      let end : ℕ = end_block endings greatest auto rules fall own state.accept in
-      let are = AreWays-split_of (length (ways_of (edge ∷ edges))) greatest (stretches (ways_of (edge ∷ edges)) 0 (edge ∷ edges))
-      (AreWays-stretches (ways_of (edge ∷ edges)) 0 (edge ∷ edges) (HaveWays-onto (edge ∷ edges) [])) in
-      let end_fits = end_below own state.accept below (omega (arith, fit)) in
-      AllFit-append n (front_blocks first end tests last) (way_blocks endings greatest auto rules fall place s state ways ++ ends_blocks endings greatest auto rules fall state.accept)
-      (front_blocks-fit n first end (length (ways_of (edge ∷ edges))) tests last are.0 are.1 (omega (arith, fit)) end_fits)
-      (AllFit-append n (way_blocks endings greatest auto rules fall place s state ways) (ends_blocks endings greatest auto rules fall state.accept)
-      (way_blocks-fit s state ways (Within-onto count (edge ∷ edges) [] tt within)) (ends_blocks-fit state.accept below))
+  end_of-more : (number from : ℕ) (states : List State) → from ≤ end_of greatest number from states
+  end_of-more number from [] = omega arith
+  end_of-more number from (state ∷ states) =
+      let h = end_of-more (suc number) (from + state_size greatest number state) states in omega (arith, h)
 
-  end_of-more : (s from : ℕ) (states : List State) → from ≤ end_of endings greatest auto s from states
-  end_of-more s from [] = omega arith
-  end_of-more s from (state ∷ states) = let h = end_of-more (suc s) (from + size s state) states in omega (arith, h)
+  -- ---- where the code of states stands
 
-  states_fit : (s from : ℕ) (states : List State) → AreStates auto.regs auto.mregs count states
-      → ((i : ℕ) → i < length states → RuleBelow (state_of states i).accept) → end_of endings greatest auto s from states ≤ n
-      → AllFit n (states_blocks endings greatest auto rules fall place s from states)
-  states_fit s from [] are below fit = tt
-  states_fit s from (state ∷ states) are below fit =
-      let grows = end_of-more (suc s) (from + size s state) states in
-      AllFit-append n (blocks_by endings greatest auto rules fall place s from state state.edges)
-      (states_blocks endings greatest auto rules fall place (suc s) (from + size s state) states)
-      (state_fits s from state state.edges (Within-lead auto.regs auto.mregs count state.edges are.0.lead) (below 0 (omega arith))
-      (omega (arith, grows, fit)))
-      (states_fit (suc s) (from + size s state) states are.1 (λ i lt. below (suc i) (omega (arith, lt))) fit)
+  lone_below : (number own : ℕ) (o : Option Accept) → Chosen RuleBelow o → own + lone_size number o ≤ n
+      → lone_place greatest auto rules fall number own o < n
+  lone_below zero own o below fit = omega (arith, fit)
+  lone_below (suc number) own o below fit = end_below own o below fit
 
-  choice_below : (s from : ℕ) (state : State) (edges : List Edge) (accept : Option Accept) (choices : List Choice) → edges ≡ state.edges
-      → accept ≡ state.accept → from + size s state ≤ n
-      → ChoicesBelow n choices → ChoicesBelow n (choice_by endings greatest auto s from state edges accept choices)
-  choice_below s from state [] accept choices e f fit h = h
-  choice_below s from state (edge ∷ edges) None choices e f fit h = h
-  choice_below s from state (edge ∷ edges) (Some accept) choices e f fit h =
-      let some : 1 ≤ size s state = subst (λ l. 1 ≤ size_by endings greatest auto s l state.accept) e
-      (subst (λ o. 1 ≤ size_by endings greatest auto s (edge ∷ edges) o) f (by (is_bare endings greatest auto accept))) in
-      (omega (arith, fit, some), h)
-    where
-      by : (t : Bool) → 1 ≤ front_size (edge_split greatest (edge ∷ edges)).tests + (length (ways_of (edge ∷ edges)) + (if t then 1 else 2))
-      by true = omega arith
-      by false = omega arith
+  place_by-below : (number own : ℕ) (edges : List Edge) (o : Option Accept) → Chosen RuleBelow o → own < n
+      → own + size_by greatest number edges o ≤ n → place_by greatest auto rules fall number own edges o < n
+  place_by-below number own [] o below lt fit = lone_below number own o below fit
+  place_by-below number own (edge ∷ edges) o below lt fit = lt
 
-  choices_below : (s from : ℕ) (states : List State) → end_of endings greatest auto s from states ≤ n
-      → ChoicesBelow n (choices_in endings greatest auto s from states)
-  choices_below s from [] fit = tt
-  choices_below s from (state ∷ states) fit =
-      let grows = end_of-more (suc s) (from + size s state) states in
-      choice_below s from state state.edges state.accept (choices_in endings greatest auto (suc s) (from + size s state) states) refl refl
-      (omega (arith, grows, fit))
-      (choices_below (suc s) (from + size s state) states fit)
+  place_in-below : (number from : ℕ) (states : List State) (s : ℕ) → RulesBelow states → end_of greatest number from states < n
+      → place_in greatest auto rules fall number from states s < n
+  place_in-below number from [] s below fit = fit
+  place_in-below number from (state ∷ states) zero below fit =
+      let grows = end_of-more (suc number) (from + state_size greatest number state) states in
+      place_by-below number from state.edges state.accept below.0 (omega (arith, grows, fit)) (omega (arith, grows, fit))
+  place_in-below number from (state ∷ states) (suc s) below fit =
+      place_in-below (suc number) (from + state_size greatest number state) states s below.1 fit
+
+  -- ---- their blocks
+
+  module _ (kepts : List Accept) (place : ℕ → ℕ) (places : (s : ℕ) → place s < n) where
+    way_blocks-fit : (state : State) (ways : List Edge) → AllFit n (way_blocks greatest auto rules fall kepts place state ways)
+    way_blocks-fit state [] = tt
+    way_blocks-fit state (way ∷ ways) =
+        (edge_fits n auto state (kept_number kepts state.accept) way (place way.to) (places way.to), way_blocks-fit state ways)
+
+    state_fits : (number from : ℕ) (state : State) (edges : List Edge) → Chosen RuleBelow state.accept
+        → from + size_by greatest number edges state.accept ≤ n
+        → AllFit n (blocks_by greatest auto rules fall kepts place number from state edges)
+    state_fits number from state [] below fit = lone_blocks-fit number state.accept below
+    state_fits number from state (edge ∷ edges) below fit =
+        let ways : List Edge = ways_of (edge ∷ edges) in
+        let first : ℕ = from + front_size (edge_tree greatest (edge ∷ edges)) in
+        let own : ℕ = from + front_size (edge_tree greatest (edge ∷ edges)) + length (ways_of (edge ∷ edges)) in
+        let end : ℕ = end_block greatest auto rules fall own state.accept in
+        let tree : TestTree ℕ = numbered first end (edge_tree greatest (edge ∷ edges)) in
+        let size = front_size-numbered first end (edge_tree greatest (edge ∷ edges)) in
+        let end_fits = end_below own state.accept below (omega (arith, fit)) in
+        each-append (Fits n) (front_blocks from tree)
+        (way_blocks greatest auto rules fall kepts place state ways ++ end_blocks greatest auto rules fall state.accept)
+        (front_fits n from tree (each-numbered first end (λ unit. Unit {0}) (IsWay (length (ways_of (edge ∷ edges)))) (λ block. block < n)
+        (λ way is. way_below n first end (length (ways_of (edge ∷ edges))) way is (omega (arith, fit)) end_fits)
+        (edge_tree greatest (edge ∷ edges)) (edge_tree-ways greatest (edge ∷ edges))) (omega (arith, size, fit)))
+        (each-append (Fits n) (way_blocks greatest auto rules fall kepts place state ways) (end_blocks greatest auto rules fall state.accept)
+        (way_blocks-fit state ways) (end_blocks-fit state.accept below))
+
+    states_fit : (number from : ℕ) (states : List State) → RulesBelow states → end_of greatest number from states ≤ n
+        → AllFit n (states_blocks greatest auto rules fall kepts place number from states)
+    states_fit number from [] below fit = tt
+    states_fit number from (state ∷ states) below fit =
+        let grows = end_of-more (suc number) (from + state_size greatest number state) states in
+        each-append (Fits n) (blocks_by greatest auto rules fall kepts place number from state state.edges)
+        (states_blocks greatest auto rules fall kepts place (suc number) (from + state_size greatest number state) states)
+        (state_fits number from state state.edges below.0 (omega (arith, grows, fit)))
+        (states_fit (suc number) (from + state_size greatest number state) states below.1 fit)
+
+-- ---- the fallback and the rules
+
+choices_below : (n kept block : ℕ) (kepts : List Accept) → block + length kepts ≤ n → ChoicesBelow n (choices_from kept block kepts)
+choices_below n kept block [] fit = tt
+choices_below n kept block (accept ∷ kepts) fit = (omega (arith, fit), choices_below n (suc kept) (suc block) kepts (omega (arith, fit)))
+
+restore_blocks-fit : (n : ℕ) (rules : ℕ → ℕ) (kepts : List Accept) → AllByRecursion (λ (accept : Accept). rules accept.rule < n) kepts
+    → AllFit n (restore_blocks rules kepts)
+restore_blocks-fit n rules [] below = tt
+restore_blocks-fit n rules (accept ∷ kepts) below = (restore_fits n (rules accept.rule) below.0, restore_blocks-fit n rules kepts below.1)
+
+ending_blocks-fit : (n : ℕ) (endings : ℕ → Ending) (accepts : List Accept) → AllFit n (ending_blocks endings accepts)
+ending_blocks-fit n endings [] = tt
+ending_blocks-fit n endings (accept ∷ accepts) = (ending_fits n endings accept.rule accept.values, ending_blocks-fit n endings accepts)
 
 -- ---- the whole
 
--- blocks that serve an automaton are there
-module _ (endings : ℕ → Ending) (greatest : ℕ) (auto : Auto) (blocks : List (List Stmt)) (place kept rules : ℕ → ℕ) (fall : ℕ)
-    (serves : Serves endings greatest auto blocks place kept rules fall) where
-  there : (block : ℕ) (code : List Stmt) → slice_get blocks block ≡ Some code → block < length blocks
-  there block code has = slice_get_within blocks block code has
-
-  place_there : (s : ℕ) → s < length auto.states → place s < length blocks
-  place_there s lt = by (serves.states s lt)
-    where
-      ends : (o : Option Accept) → (state_of auto.states s).accept ≡ o → IsEnd endings greatest auto blocks place kept rules fall o (place s)
-          → place s < length blocks
-      ends None e is = subst (λ b. b < length blocks) (sym is) (there fall (choices_code serves.choices) serves.falls)
-      ends (Some accept) e (inl has) = there (place s) _ has
-      ends (Some accept) e (inr is) = subst (λ b. b < length blocks) (sym is.0) (there (rules accept.rule) _ (serves.lasts s accept lt e))
-
-      target : (o : Option Edge) → IsTarget endings greatest auto blocks place kept rules fall s (state_of auto.states s) o (place s)
-          → place s < length blocks
-      target None is = ends (state_of auto.states s).accept refl is
-      target (Some edge) has = there (place s) _ has
-
-      by : ServesState endings greatest auto blocks place kept rules fall s (state_of auto.states s) → place s < length blocks
-      by (by_tests tests miss has leads) = there (place s) _ has
-      by (by_jump block has leads) = there (place s) _ has
-      by (itself leads) = target (edge_on (state_of auto.states s).edges 0) (leads 0 (omega arith))
-
-  abbrev RuleIsThere : Option Accept → Type 0
-  RuleIsThere None = Unit {0}
-  RuleIsThere (Some accept) = rules accept.rule < length blocks
-
-  rule_there : (s : ℕ) → s < length auto.states → (o : Option Accept) → (state_of auto.states s).accept ≡ o → RuleIsThere o
-  rule_there s lt None e = tt
-  rule_there s lt (Some accept) e = there (rules accept.rule) _ (serves.lasts s accept lt e)
-
-layout_fits : (endings : ℕ → Ending) (greatest : ℕ) (auto : Auto) → IsAuto auto
-    → All (λ (state : State). All (λ (edge : Edge). edge.hi ≤ greatest) state.edges) auto.states
-    → AllFit (length (layout endings greatest auto 0)) (layout endings greatest auto 0)
-layout_fits endings greatest auto formed units =
-    let blocks : List (List Stmt) = layout endings greatest auto 0 in
+layout_fits : (endings : ℕ → Ending) (greatest : ℕ) (auto : Auto) → AllFit (length (layout endings greatest auto 0)) (layout endings greatest auto 0)
+layout_fits endings greatest auto =
     let n : ℕ = length (layout endings greatest auto 0) in
-    let rules : ℕ → ℕ = rule_block endings greatest auto 0 in
-    let fall : ℕ = fall_block endings greatest auto 0 in
-    let place : ℕ → ℕ = place_of endings greatest auto 0 in
-    let serves = layout_serves endings greatest auto 0 blocks formed units (StandsFrom-itself blocks) in
-    let falls = there endings greatest auto blocks place suc rules fall serves fall (choices_code serves.choices) serves.falls in
-    let places = place_there endings greatest auto blocks place suc rules fall serves in
-    let count : ℕ = length auto.states in
-    AllFit-append n (states_blocks endings greatest auto rules fall place 0 0 auto.states)
-    (choices_code (choices_in endings greatest auto 0 0 auto.states) ∷ last_codes endings (rules_of auto.states))
-    (states_fit endings greatest auto rules fall place n count places falls 0 0 auto.states formed.states
-    (λ i lt. rule_there endings greatest auto blocks place suc rules fall serves i lt (state_of auto.states i).accept refl) (omega (arith, falls))) (
-      choices_fit n (choices_in endings greatest auto 0 0 auto.states)
-          (choices_below endings greatest auto rules fall place n count places falls 0 0 auto.states (omega (arith, falls))),
-      last_codes-fit n endings (rules_of auto.states),
+    let rules : ℕ → ℕ = rule_block greatest auto 0 in
+    let fall : ℕ = fall_block greatest auto 0 in
+    let place : ℕ → ℕ = place_of greatest auto 0 in
+    let kepts : List Accept = kept_of auto.states in
+    let count = length-layout endings greatest auto in
+    let falls : fall_block greatest auto 0 < length (layout endings greatest auto 0) = omega (arith, count) in
+    let below : AllByRecursion (λ (state : State). Chosen (λ (accept : Accept). rule_block greatest auto 0 accept.rule < length
+    (layout endings greatest auto 0)) state.accept) auto.states =
+    all-chosen (HasRule (accepts_of auto.states)) (λ (accept : Accept). rule_block greatest auto 0 accept.rule < length (layout endings greatest auto 0))
+    (λ accept has. let lt = rule_place-below (accepts_of auto.states) accept.rule has in omega (arith, count, lt)) auto.states
+    (has_rule-firsts (λ state. state.accept) [] auto.states) in
+    let places : (s : ℕ) → place_of greatest auto 0 s < length (layout endings greatest auto 0) =
+    λ s. place_in-below greatest auto rules fall n falls 0 0 auto.states s below falls in
+    each-append (Fits n) (states_blocks greatest auto rules fall kepts place 0 0 auto.states)
+    (choices_code (choices_from 1 (suc fall) kepts) ∷ (restore_blocks rules kepts ++ ending_blocks endings (accepts_of auto.states)))
+    (states_fit greatest auto rules fall n falls kepts place places 0 0 auto.states below (omega (arith, falls))) (
+      choices_fit n (choices_from 1 (suc fall) kepts) (choices_below n 1 (suc fall) kepts (omega (arith, count))),
+      each-append (Fits n) (restore_blocks rules kepts) (ending_blocks endings (accepts_of auto.states))
+          (restore_blocks-fit n rules kepts (each-firsts (λ (accept : Accept). rule_block greatest auto 0 accept.rule < length
+          (layout endings greatest auto 0)) (kept_accept auto.states) [] auto.states tt
+          (kept-chosen (λ (accept : Accept). rule_block greatest auto 0 accept.rule < length (layout endings greatest auto 0)) auto.states
+          auto.states below)))
+          (ending_blocks-fit n endings (accepts_of auto.states)),
     )
 
 -- ---- as the validity of pieces says it
@@ -309,15 +258,13 @@ fit_ends : (n : ℕ) (blocks : List CodeBlock) → AllFit n (code_of blocks) →
 fit_ends n [] h = tt
 fit_ends n (block ∷ blocks) h = (h.0.ends, fit_ends n blocks h.1)
 
-module _ (endings : ℕ → Ending) (greatest : ℕ) (auto : Auto) (blocks : List CodeBlock) (formed : IsAuto auto)
-    (units : All (λ (state : State). All (λ (edge : Edge). edge.hi ≤ greatest) state.edges) auto.states)
-    (same : code_of blocks ≡ layout endings greatest auto 0) where
+module _ (endings : ℕ → Ending) (greatest : ℕ) (auto : Auto) (blocks : List CodeBlock) (same : code_of blocks ≡ layout endings greatest auto 0) where
   fit : AllFit (length blocks) (code_of blocks)
   fit =
       let e : length (layout endings greatest auto 0) ≡ length blocks = ap (λ l. length l) (sym same)
       ∙ length-map blocks (λ (block : CodeBlock). block.stmts) in
       subst (λ n. AllFit n (code_of blocks)) e (subst (λ l. AllFit (length (layout endings greatest auto 0)) l) (sym same)
-      (layout_fits endings greatest auto formed units))
+      (layout_fits endings greatest auto))
 
   pub layout_jumps : AllByRecursion (JumpsBelow (length blocks)) (all_statements blocks)
   layout_jumps = fit_jumps (length blocks) blocks fit

@@ -1,5 +1,5 @@
 -- What follows for a piece in which a layout stands.
-use Rattle.std.specs.Prelude.{◌≡◌, ℕ, suc, ◌<◌, List, [], ◌∷◌, Some, None, false, refl}
+use Rattle.std.specs.Prelude.{◌≡◌, ℕ, ◌<◌, List, [], ◌∷◌, Some, None, false, refl}
 use Rattle.std.proofs.Common.{sym, ap, ◌∙◌}
 use Rattle.std.specs.List.{list_any}
 use Rattle.lx_auto.specs.Automaton.{AreOps}
@@ -23,16 +23,15 @@ use Rattle.lx_gen.specs.Sequences.{one_by_one}
 use Rattle.lx_gen.specs.Starts.{run_with}
 use Rattle.lx_gen.specs.Turns.{after_ops}
 use Rattle.lx_gen.proofs.Agreeing.{Agrees-after}
-use Rattle.lx_gen.proofs.LayoutServes.{layout_serves}
+use Rattle.lx_gen.proofs.LayoutServes.{layout_serves, number_in}
 use Rattle.lx_gen.proofs.Matches.{served_right}
 
 -- the first state stands where the layout begins
-place_of-0 : (endings : ℕ → Ending) (greatest : ℕ) (auto : Auto) (rules : ℕ → ℕ) (fall from : ℕ) (states : List State)
-    → place_in endings greatest auto rules fall 0 from states 0 ≡ from
-place_of-0 endings greatest auto rules fall from [] = refl
-place_of-0 endings greatest auto rules fall from (state ∷ states) = by state.edges
+place_in-0 : (greatest : ℕ) (auto : Auto) (rules : ℕ → ℕ) (fall from : ℕ) (states : List State) → place_in greatest auto rules fall 0 from states 0 ≡ from
+place_in-0 greatest auto rules fall from [] = refl
+place_in-0 greatest auto rules fall from (state ∷ states) = by state.edges
   where
-    by : (edges : List Edge) → place_by endings greatest auto rules fall 0 from edges state.accept ≡ from
+    by : (edges : List Edge) → place_by greatest auto rules fall 0 from edges state.accept ≡ from
     by [] = refl
     by (edge ∷ edges) = refl
 
@@ -43,12 +42,12 @@ pub layout_right : (enc : Enc) (patterns : List Pattern) (auto : Auto) (endings 
     → IsRightIn cond enc patterns endings piece
 layout_right enc patterns auto endings piece from cond is ends stands quiet entry =
     let greatest : ℕ = greatest_unit enc in
-    let rules : ℕ → ℕ = rule_block endings greatest auto from in
-    let fall : ℕ = fall_block endings greatest auto from in
-    let serves = layout_serves endings greatest auto from (code_of piece.blocks) is.formed is.units stands in
-    let first : entry_block piece.conds cond ≡ Some (place_of endings greatest auto from 0) =
-    entry ∙ ap (λ n. Some n) (sym (place_of-0 endings greatest auto rules fall from auto.states)) in
-    served_right enc patterns auto endings piece (place_of endings greatest auto from) suc rules fall cond is ends serves quiet first
+    let rules : ℕ → ℕ = rule_block greatest auto from in
+    let fall : ℕ = fall_block greatest auto from in
+    let serves = layout_serves endings greatest auto from (code_of piece.blocks) stands is.formed is.units is.agreed in
+    let first : entry_block piece.conds cond ≡ Some (place_of greatest auto from 0) =
+    entry ∙ ap (λ n. Some n) (sym (place_in-0 greatest auto rules fall from auto.states)) in
+    served_right enc patterns auto endings piece (place_of greatest auto from) (number_in auto.states) rules fall cond is ends serves quiet first
 
 pub run_of-fresh : (piece : Piece) (stream : List ℕ) (start : ℕ) (cond : List ℕ) (schedule : Schedule)
     → run_of piece stream start cond schedule ≡ run_with piece stream start (λ register. None) (λ history. []) cond schedule

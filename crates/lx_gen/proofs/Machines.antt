@@ -1,9 +1,8 @@
 -- The machine, written by what a run of an automaton knows, and what operations and tests of a unit do to it.
 use Rattle.std.specs.Prelude.{◌≡◌, ◌≢◌, ℕ, zero, suc, ◌+◌, ◌<◌, List, [], ◌∷◌, length, Option, Some, None, Bool, true, false, nat_le, nat_eq, refl, slice_get, if◌then◌else◌}
-use Rattle.std.proofs.Common.{sym, ap, ◌∙◌, arith, eqb-true, eq-eqb, true≢false}
+use Rattle.std.proofs.Common.{sym, ap, ◌∙◌, subst, arith, eqb-true, eq-eqb, true≢false}
 use Rattle.std.proofs.lemmas.Bool.{ne_eqb}
 use Rattle.lx_auto.specs.Bank.{Bank}
-use Rattle.lx_auto.specs.declared.automaton.Accept.{Accept}
 use Rattle.lx_auto.specs.declared.ops.Op.{Op}
 use Rattle.lx_auto.specs.declared.ops.Op.TheVariants.{Here, Null, Copy, MHere, MNull, MCopy}
 use Rattle.lx_ccode.specs.declared.piece.Stmt.{Stmt}
@@ -12,9 +11,13 @@ use Rattle.lx_ccode.specs.declared.piece.Piece.{Piece}
 use Rattle.lx_ccode.specs.Machine.{Machine, Value, Answer, goes_on, no_rule, step, jump, choose, if_unit, updated, code_at}
 use Rattle.lx_ccode.specs.Runs.{ended}
 use Rattle.lx_ccode.specs.Statements.{code_of}
-use Rattle.lx_gen.specs.Codes.{Choice, Test, choices_code, chosen, keep_code, op_code, ops_code, tested, tests_code}
+use Rattle.lx_gen.specs.Codes.{Choice, choices_code, chosen, keep_code, op_code, ops_code}
+use Rattle.lx_gen.specs.Layout.{StandsFrom}
+use Rattle.lx_gen.specs.TestTrees.{TestTree, fork, inner_blocks, inner_size, leaf, picked, test, tree_code}
 use Rattle.lx_gen.specs.Turns.{after_op, after_ops}
+use Rattle.lx_gen.proofs.Standing.{StandsFrom-back, StandsFrom-front, code_length-append}
 use Rattle.lx_gen.proofs.Stretches.{LeadsIn, EndsIn, stays_in, step_in, last_in, then_in, end_in, widen}
+use Rattle.lx_gen.proofs.TreeCodes.{length-inner_blocks, tree_length}
 
 -- registers counted from 1, where register 0 holds this
 abbrev pub raised : Option ℕ → (ℕ → Option ℕ) → ℕ → Option ℕ
@@ -76,13 +79,13 @@ machine_at cur mk lim u ac first k cond values = record {
   values = values;
 }
 
-abbrev pub keep_size : Option Accept → ℕ
-keep_size None = 0
-keep_size (Some accept) = 2
+abbrev pub keep_size : (keeps : Bool) → ℕ
+keep_size false = 0
+keep_size true = 2
 
-pub length-keep_code : (o : Option Accept) (kept : ℕ) (b : List Stmt) → length (keep_code o kept b) ≡ keep_size o + length b
-length-keep_code None kept b = omega arith
-length-keep_code (Some accept) kept b = omega arith
+pub length-keep_code : (keeps : Bool) (kept : ℕ) (b : List Stmt) → length (keep_code keeps kept b) ≡ keep_size keeps + length b
+length-keep_code false kept b = omega arith
+length-keep_code true kept b = omega arith
 
 pub length-ops_code : (ops : List Op) (b : List Stmt) → length (ops_code ops b) ≡ length ops + length b
 length-ops_code [] b = omega arith
@@ -111,29 +114,74 @@ module _ (p : Piece) (x : List ℕ) (start : ℕ) where
         then_in p x start (suc (length ops)) (step_in p x start (op_step op pos.0 (ops_code ops b) k) (omega arith))
         (ops_run ops pos.1 b (after_op cur op k)) (omega arith)
 
-  -- the tests of a unit lead to the block that they choose
-  pub tests_run : (tests : List Test) (miss unit : ℕ) (to : List Stmt) (m : Machine) (q : List Answer) → m.unit ≡ Some unit
-      → slice_get (code_of p.blocks) (tested tests miss unit) ≡ Some to
-      → LeadsIn p x start (length (tests_code tests miss)) (tests_code tests miss) m q to m q
-  tests_run [] miss unit to m q eu et = step_in p x start (ap (λ o. jump o m q) et) (omega arith)
-  tests_run (test ∷ tests) miss unit to m q eu et = by (nat_le unit test.greatest) refl et (λ h. tests_run tests miss unit to m q eu h)
+  -- a test of the unit
+  module _ (greatest block unit : ℕ) (rest : List Stmt) (m : Machine) (q : List Answer) (read : m.unit ≡ Some unit) where
+    holds_in : (to : List Stmt) → nat_le unit greatest ≡ true → slice_get (code_of p.blocks) block ≡ Some to
+        → LeadsIn p x start 1 (IfUnit greatest block ∷ rest) m q to m q
+    holds_in to h et =
+        let s : step p x (IfUnit greatest block) rest m q ≡ goes_on to m q =
+        ap (λ v. if_unit v greatest (code_at p.blocks (Some block)) rest m q) read
+        ∙ ap (λ b. choose b (code_at p.blocks (Some block)) rest m q) h ∙ ap (λ o. jump o m q) et in
+        step_in p x start s (omega arith)
+
+    fails_in : nat_le unit greatest ≡ false → LeadsIn p x start 1 (IfUnit greatest block ∷ rest) m q rest m q
+    fails_in h =
+        let s : step p x (IfUnit greatest block) rest m q ≡ goes_on rest m q =
+        ap (λ v. if_unit v greatest (code_at p.blocks (Some block)) rest m q) read
+        ∙ ap (λ b. choose b (code_at p.blocks (Some block)) rest m q) h in
+        step_in p x start s (omega arith)
+
+  -- the tests of a unit lead to the block that they pick, in no more steps than they have statements
+  pub tree_run : (tree : TestTree ℕ) (next unit : ℕ) (to : List Stmt) (m : Machine) (q : List Answer) → m.unit ≡ Some unit
+      → StandsFrom (code_of p.blocks) next (inner_blocks next tree) → slice_get (code_of p.blocks) (picked tree unit) ≡ Some to
+      → LeadsIn p x start (tree_length next tree) (tree_code next tree) m q to m q
+  tree_run (leaf block) next unit to m q read stands et = step_in p x start (ap (λ o. jump o m q) et) (omega arith)
+  tree_run (test greatest block high) next unit to m q read stands et = by (nat_le unit greatest) refl et (tree_run high next unit to m q read stands)
     where
       rest : List Stmt
-      rest = tests_code tests miss
+      rest = tree_code next high
 
-      by : (b : Bool) → nat_le unit test.greatest ≡ b → slice_get (code_of p.blocks) (if b then test.block else tested tests miss unit) ≡ Some to
-          → (slice_get (code_of p.blocks) (tested tests miss unit) ≡ Some to → LeadsIn p x start (length rest) rest m q to m q)
-          → LeadsIn p x start (suc (length rest)) (IfUnit test.greatest test.block ∷ rest) m q to m q
-      by true h e again =
-          let s : step p x (IfUnit test.greatest test.block) rest m q ≡ goes_on to m q =
-          ap (λ v. if_unit v test.greatest (code_at p.blocks (Some test.block)) rest m q) eu
-          ∙ ap (λ b. choose b (code_at p.blocks (Some test.block)) rest m q) h ∙ ap (λ o. jump o m q) e in
-          widen p x start (suc (length rest)) (step_in p x start s (omega arith)) (omega arith)
+      by : (t : Bool) → nat_le unit greatest ≡ t → slice_get (code_of p.blocks) (if t then block else picked high unit) ≡ Some to
+          → (slice_get (code_of p.blocks) (picked high unit) ≡ Some to → LeadsIn p x start (tree_length next high) rest m q to m q)
+          → LeadsIn p x start (tree_length next (test greatest block high)) (IfUnit greatest block ∷ rest) m q to m q
+      by true h e again = widen p x start (tree_length next (test greatest block high)) (holds_in greatest block unit rest m q read to h e) (omega arith)
       by false h e again =
-          let s : step p x (IfUnit test.greatest test.block) rest m q ≡ goes_on rest m q =
-          ap (λ v. if_unit v test.greatest (code_at p.blocks (Some test.block)) rest m q) eu
-          ∙ ap (λ b. choose b (code_at p.blocks (Some test.block)) rest m q) h in
-          then_in p x start (suc (length rest)) (step_in p x start s (omega arith)) (again e) (omega arith)
+          then_in p x start (tree_length next (test greatest block high)) (fails_in greatest block unit rest m q read h) (again e) (omega arith)
+  tree_run (fork greatest low high) next unit to m q read stands et =
+      by (nat_le unit greatest) refl et (tree_run low (suc next) unit to m q read low_stands)
+      (tree_run high (suc next + inner_size low) unit to m q read high_stands)
+    where
+      behind : ℕ
+      behind = suc next + inner_size low
+
+      below : List (List Stmt)
+      below = inner_blocks (suc next) low
+
+      above : List (List Stmt)
+      above = inner_blocks (suc next + inner_size low) high
+
+      low_stands : StandsFrom (code_of p.blocks) (suc next) (inner_blocks (suc next) low)
+      low_stands = StandsFrom-front (code_of p.blocks) (suc next) below above stands.1
+
+      high_stands : StandsFrom (code_of p.blocks) (suc next + inner_size low) (inner_blocks (suc next + inner_size low) high)
+      high_stands =
+          let e : suc next + length below ≡ suc next + inner_size low = ap (λ n. suc next + n) (length-inner_blocks (suc next) low) in
+          subst (λ n. StandsFrom (code_of p.blocks) n above) e (StandsFrom-back (code_of p.blocks) (suc next) below above stands.1)
+
+      by : (t : Bool) → nat_le unit greatest ≡ t → slice_get (code_of p.blocks) (if t then picked low unit else picked high unit) ≡ Some to
+          → (slice_get (code_of p.blocks) (picked low unit) ≡ Some to
+          → LeadsIn p x start (tree_length (suc next) low) (tree_code (suc next) low) m q to m q)
+          → (slice_get (code_of p.blocks) (picked high unit) ≡ Some to
+          → LeadsIn p x start (tree_length (suc next + inner_size low) high) (tree_code (suc next + inner_size low) high) m q to m q)
+          → LeadsIn p x start (tree_length next (fork greatest low high)) (IfUnit greatest next ∷ tree_code (suc next + inner_size low) high) m q to m q
+      by true h e again_low again_high =
+          let sum = code_length-append below above in
+          then_in p x start (tree_length next (fork greatest low high))
+          (holds_in greatest next unit (tree_code behind high) m q read (tree_code (suc next) low) h stands.0) (again_low e) (omega (arith, sum))
+      by false h e again_low again_high =
+          let sum = code_length-append below above in
+          then_in p x start (tree_length next (fork greatest low high))
+          (fails_in greatest next unit (tree_code behind high) m q read h) (again_high e) (omega (arith, sum))
 
   -- the choices of the fallback lead to the block that they choose
   pub choices_run : (choices : List Choice) (block : ℕ) (to : List Stmt) (m : Machine) (q : List Answer) → chosen choices m.accept ≡ Some block

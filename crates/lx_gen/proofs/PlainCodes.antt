@@ -1,5 +1,7 @@
--- The blocks of the states of a layout have no states, refills, conditions or actions.
+-- The blocks of the states and of the fallback have no states, refills, conditions or actions; nor has a rule's end before its last
+-- statements.
 use Rattle.std.specs.Prelude.{◌≡◌, ℕ, zero, suc, ◌+◌, List, [], ◌∷◌, ◌++◌, length, Option, Some, None, Bool, true, false, refl}
+use Rattle.std.specs.List.{AllByRecursion}
 use Rattle.lx_auto.specs.declared.automaton.Accept.{Accept}
 use Rattle.lx_auto.specs.declared.automaton.Auto.{Auto}
 use Rattle.lx_auto.specs.declared.automaton.Edge.{Edge}
@@ -9,12 +11,16 @@ use Rattle.lx_auto.specs.declared.automaton.State.{State}
 use Rattle.lx_auto.specs.declared.ops.Op.{Op}
 use Rattle.lx_auto.specs.declared.ops.Op.TheVariants.{Here, Null, Copy, MHere, MNull, MCopy}
 use Rattle.lx_ccode.specs.declared.piece.Stmt.{Stmt}
-use Rattle.lx_ccode.specs.declared.piece.Stmt.TheVariants.{Code, Cond, Goto, IfEnd, Jump, Need, Skip, State as StoreState, Try}
-use Rattle.lx_gen.specs.Codes.{Choice, Test, accept_code, choices_code, edge_code, keep_code, list_code, op_code, ops_code, restore_code, tests_code}
+use Rattle.lx_ccode.specs.declared.piece.Stmt.TheVariants.{Back, Code, Cond, Count, End, Goto, IfEnd, Jump, Need, Skip, State as StoreState, Try}
+use Rattle.lx_gen.specs.Codes.{Choice, accept_code, choices_code, edge_code, keep_code, keeps_on, list_code, op_code, ops_code}
 use Rattle.lx_gen.specs.Endings.{Ending, back_code, ends_code, groups_code, is_slash, rule_code, slash_held, tag_code, tags_code, unless}
-use Rattle.lx_gen.specs.Layout.{accept_blocks, blocks_by, end_block, ends_blocks, front_blocks, front_size, is_bare, lone_blocks, numbered, state_size, states_blocks, way_block, way_blocks}
+use Rattle.lx_gen.specs.Layout.{blocks_by, end_block, end_blocks, front_blocks, front_size, kept_number, lone_blocks, numbered, own_blocks, restore_blocks, state_size, states_blocks, way_blocks}
 use Rattle.lx_gen.specs.Sequences.{one_by_one}
-use Rattle.lx_gen.specs.Ways.{Stretch, edge_split, ways_of}
+use Rattle.lx_gen.specs.TestTrees.{TestTree, edge_tree, fork, leaf, test}
+use Rattle.lx_gen.specs.Ways.{ways_of}
+use Rattle.lx_gen.proofs.BalancedTrees.{EachTest}
+use Rattle.lx_gen.proofs.EachElement.{each-append}
+use Rattle.lx_gen.proofs.TreeCodes.{each-front_blocks}
 
 -- a statement of no state, refill, condition or action
 abbrev pub is_plain : Stmt → Bool
@@ -32,8 +38,7 @@ Plain [] = Unit {0}
 Plain (statement ∷ code) = (is_plain statement ≡ true) × Plain code
 
 abbrev pub PlainAll : List (List Stmt) → Type 0
-PlainAll [] = Unit {0}
-PlainAll (code ∷ codes) = Plain code × PlainAll codes
+PlainAll codes = AllByRecursion Plain codes
 
 op_plain : (op : Op) → is_plain (op_code op) ≡ true
 op_plain (Here r) = refl
@@ -50,112 +55,117 @@ ops_plain (op ∷ ops) rest h = (op_plain op, ops_plain ops rest h)
 list_plain : (auto : Auto) (ops : List Op) (rest : List Stmt) → Plain rest → Plain (list_code auto ops rest)
 list_plain auto ops rest h = ops_plain (one_by_one auto.regs auto.mregs ops) rest h
 
-tests_plain : (tests : List Test) (miss : ℕ) → Plain (tests_code tests miss)
-tests_plain [] miss = (refl, tt)
-tests_plain (test ∷ tests) miss = (refl, tests_plain tests miss)
-
 pub choices_plain : (choices : List Choice) → Plain (choices_code choices)
 choices_plain [] = (refl, tt)
 choices_plain (choice ∷ choices) = (refl, choices_plain choices)
 
-keep_plain : (o : Option Accept) (kept : ℕ) (rest : List Stmt) → Plain rest → Plain (keep_code o kept rest)
-keep_plain None kept rest h = h
-keep_plain (Some accept) kept rest h = (refl, (refl, h))
+keep_plain : (keeps : Bool) (kept : ℕ) (rest : List Stmt) → Plain rest → Plain (keep_code keeps kept rest)
+keep_plain false kept rest h = h
+keep_plain true kept rest h = (refl, (refl, h))
 
 edge_plain : (auto : Auto) (state : State) (kept : ℕ) (edge : Edge) (block : ℕ) → Plain (edge_code auto state kept edge block)
 edge_plain auto state kept edge block =
-    keep_plain state.accept kept (list_code auto state.leave (list_code auto edge.ops (Skip ∷ Goto block ∷ [])))
+    keep_plain (keeps_on auto.states state edge) kept (list_code auto state.leave (list_code auto edge.ops (Skip ∷ Goto block ∷ [])))
     (list_plain auto state.leave (list_code auto edge.ops (Skip ∷ Goto block ∷ []))
     (list_plain auto edge.ops (Skip ∷ Goto block ∷ []) (refl, (refl, tt))))
 
-ends_plain : (values : List Held) (place : ℕ) (rest : List Stmt) → Plain rest → Plain (ends_code values place rest)
-ends_plain [] place rest h = h
-ends_plain (Reg r ∷ values) place rest h = (refl, ends_plain values (suc place) rest h)
-ends_plain (MReg r ∷ values) place rest h = ends_plain values (suc place) rest h
+accept_plain : (auto : Auto) (ops : List Op) (block : ℕ) → Plain (accept_code auto ops block)
+accept_plain auto ops block = list_plain auto ops (Goto block ∷ []) (refl, tt)
 
-groups_plain : (groups : ℕ) (values : List Held) (rest : List Stmt) → Plain rest → Plain (groups_code groups values rest)
-groups_plain zero values rest h = h
-groups_plain (suc groups) values rest h = (refl, ends_plain values 0 rest h)
+-- ---- the blocks of the states
 
-tag_plain : (held : Held) (name : List ℕ) → is_plain (tag_code held name) ≡ true
-tag_plain (Reg r) name = refl
-tag_plain (MReg r) name = refl
+-- nothing is asked of its tests
+tree_any : (tree : TestTree ℕ) → EachTest (λ greatest. Unit {0}) (λ block. Unit {0}) tree
+tree_any (leaf block) = tt
+tree_any (test greatest block high) = (tt, tt, tree_any high)
+tree_any (fork greatest low high) = (tt, tree_any low, tree_any high)
 
-tags_plain : (ending : Ending) (number : ℕ) (names : List (List ℕ)) (values : List Held) (rest : List Stmt) → Plain rest
-    → Plain (tags_code ending number names values rest)
-tags_plain ending number [] values rest h = groups_plain ending.groups values rest h
-tags_plain ending number (name ∷ names) [] rest h = h
-tags_plain ending number (name ∷ names) (held ∷ values) rest h = by (is_slash ending.slash number)
-    (tags_plain ending (suc number) names values rest h)
-  where
-    by : (t : Bool) → Plain (tags_code ending (suc number) names values rest)
-        → Plain (unless t (tag_code held name) (tags_code ending (suc number) names values rest))
-    by true again = again
-    by false again = (tag_plain held name, again)
+front_plain : (from : ℕ) (tree : TestTree ℕ) → PlainAll (front_blocks from tree)
+front_plain from tree =
+    each-front_blocks (λ greatest. Unit {0}) (λ block. Unit {0}) Plain (λ block any. (refl, tt)) (λ greatest block code any every h. (refl, h))
+    (λ code h. (refl, h)) from tree (tree_any tree) (λ block lt. tt)
 
-back_plain : (o : Option Held) (rest : List Stmt) → Plain rest → Plain (back_code o rest)
-back_plain None rest h = h
-back_plain (Some (Reg r)) rest h = (refl, h)
-back_plain (Some (MReg r)) rest h = h
+module _ (greatest : ℕ) (auto : Auto) (rules : ℕ → ℕ) (fall : ℕ) where
+  own_plain : (block : ℕ) (ops : List Op) → PlainAll (own_blocks greatest auto rules fall block ops)
+  own_plain block [] = tt
+  own_plain block (op ∷ ops) = (accept_plain auto (op ∷ ops) block, tt)
 
-rule_plain : (endings : ℕ → Ending) (rule : ℕ) (values : List Held) (rest : List Stmt) → Plain rest → Plain (rule_code endings rule values rest)
-rule_plain endings rule values rest h =
-    tags_plain (endings rule) 0 (endings rule).tags values (back_code (slash_held (endings rule).slash values) rest)
-    (back_plain (slash_held (endings rule).slash values) rest h)
+  end_plain : (o : Option Accept) → PlainAll (end_blocks greatest auto rules fall o)
+  end_plain None = tt
+  end_plain (Some accept) = own_plain (rules accept.rule) accept.ops
 
-accept_plain : (endings : ℕ → Ending) (auto : Auto) (accept : Accept) (block : ℕ) → Plain (accept_code endings auto accept (Goto block ∷ []))
-accept_plain endings auto accept block =
-    list_plain auto accept.ops (rule_code endings accept.rule accept.values (Goto block ∷ []))
-    (rule_plain endings accept.rule accept.values (Goto block ∷ []) (refl, tt))
-
-restore_plain : (endings : ℕ → Ending) (accept : Accept) (block : ℕ) → Plain (restore_code endings accept (Goto block ∷ []))
-restore_plain endings accept block = (refl, rule_plain endings accept.rule accept.values (Goto block ∷ []) (refl, tt))
-
-PlainAll-append : (a b : List (List Stmt)) → PlainAll a → PlainAll b → PlainAll (a ++ b)
-PlainAll-append [] b h g = g
-PlainAll-append (code ∷ a) b h g = (h.0, PlainAll-append a b h.1 g)
-
-front_plain : (first end : ℕ) (tests : List Stretch) (last : Option ℕ) → PlainAll (front_blocks first end tests last)
-front_plain first end [] last = tt
-front_plain first end (stretch ∷ tests) last = ((refl, tests_plain (numbered first end (stretch ∷ tests)) (way_block first end last)), tt)
-
-module _ (endings : ℕ → Ending) (greatest : ℕ) (auto : Auto) (rules : ℕ → ℕ) (fall : ℕ) (place : ℕ → ℕ) where
-  ways_plain : (s : ℕ) (state : State) (ways : List Edge) → PlainAll (way_blocks endings greatest auto rules fall place s state ways)
-  ways_plain s state [] = tt
-  ways_plain s state (way ∷ ways) = (edge_plain auto state (suc s) way (place way.to), ways_plain s state ways)
-
-  own_plain : (accept : Accept) (bare : Bool) → PlainAll (accept_blocks endings greatest auto rules fall accept bare)
-  own_plain accept true = tt
-  own_plain accept false = (accept_plain endings auto accept (rules accept.rule), tt)
-
-  ends_blocks_plain : (o : Option Accept) → PlainAll (ends_blocks endings greatest auto rules fall o)
-  ends_blocks_plain None = tt
-  ends_blocks_plain (Some accept) =
-      PlainAll-append (accept_blocks endings greatest auto rules fall accept (is_bare endings greatest auto accept))
-      (restore_code endings accept (Goto (rules accept.rule) ∷ []) ∷ [])
-      (own_plain accept (is_bare endings greatest auto accept)) (restore_plain endings accept (rules accept.rule), tt)
-
-  lone_plain : (s : ℕ) (o : Option Accept) → PlainAll (lone_blocks endings greatest auto rules fall s o)
+  lone_plain : (number : ℕ) (o : Option Accept) → PlainAll (lone_blocks greatest auto rules fall number o)
   lone_plain zero None = ((refl, tt), tt)
-  lone_plain zero (Some accept) = (accept_plain endings auto accept (rules accept.rule), tt)
-  lone_plain (suc s) None = tt
-  lone_plain (suc s) (Some accept) = own_plain accept (is_bare endings greatest auto accept)
+  lone_plain zero (Some accept) = (accept_plain auto accept.ops (rules accept.rule), tt)
+  lone_plain (suc number) o = end_plain o
 
-  state_plain : (s from : ℕ) (state : State) (edges : List Edge) → PlainAll (blocks_by endings greatest auto rules fall place s from state edges)
-  state_plain s from state [] = lone_plain s state.accept
-  state_plain s from state (edge ∷ edges) =
-      let tests : List Stretch = (edge_split greatest (edge ∷ edges)).tests in
-      let first : ℕ = from + front_size (edge_split greatest (edge ∷ edges)).tests in
-      let end : ℕ = end_block endings greatest auto rules fall (first + length (ways_of (edge ∷ edges))) state.accept in
-      let ways : List (List Stmt) = way_blocks endings greatest auto rules fall place s state (ways_of (edge ∷ edges)) in
-      let ends : List (List Stmt) = ends_blocks endings greatest auto rules fall state.accept in
-      PlainAll-append (front_blocks first end tests (edge_split greatest (edge ∷ edges)).last) (ways ++ ends)
-      (front_plain first end tests (edge_split greatest (edge ∷ edges)).last)
-      (PlainAll-append ways ends (ways_plain s state (ways_of (edge ∷ edges))) (ends_blocks_plain state.accept))
+  module _ (kepts : List Accept) (place : ℕ → ℕ) where
+    ways_plain : (state : State) (ways : List Edge) → PlainAll (way_blocks greatest auto rules fall kepts place state ways)
+    ways_plain state [] = tt
+    ways_plain state (way ∷ ways) = (edge_plain auto state (kept_number kepts state.accept) way (place way.to), ways_plain state ways)
 
-  pub states_plain : (s from : ℕ) (states : List State) → PlainAll (states_blocks endings greatest auto rules fall place s from states)
-  states_plain s from [] = tt
-  states_plain s from (state ∷ states) =
-      PlainAll-append (blocks_by endings greatest auto rules fall place s from state state.edges)
-      (states_blocks endings greatest auto rules fall place (suc s) (from + state_size endings greatest auto s state) states)
-      (state_plain s from state state.edges) (states_plain (suc s) (from + state_size endings greatest auto s state) states)
+    state_plain : (number from : ℕ) (state : State) (edges : List Edge)
+        → PlainAll (blocks_by greatest auto rules fall kepts place number from state edges)
+    state_plain number from state [] = lone_plain number state.accept
+    state_plain number from state (edge ∷ edges) =
+        let first : ℕ = from + front_size (edge_tree greatest (edge ∷ edges)) in
+        let end : ℕ = end_block greatest auto rules fall (first + length (ways_of (edge ∷ edges))) state.accept in
+        let tree : TestTree ℕ = numbered first end (edge_tree greatest (edge ∷ edges)) in
+        let ways : List (List Stmt) = way_blocks greatest auto rules fall kepts place state (ways_of (edge ∷ edges)) in
+        let ends : List (List Stmt) = end_blocks greatest auto rules fall state.accept in
+        each-append Plain (front_blocks from tree) (ways ++ ends) (front_plain from tree)
+        (each-append Plain ways ends (ways_plain state (ways_of (edge ∷ edges))) (end_plain state.accept))
+
+    pub states_plain : (number from : ℕ) (states : List State)
+        → PlainAll (states_blocks greatest auto rules fall kepts place number from states)
+    states_plain number from [] = tt
+    states_plain number from (state ∷ states) =
+        each-append Plain (blocks_by greatest auto rules fall kepts place number from state state.edges)
+        (states_blocks greatest auto rules fall kepts place (suc number) (from + state_size greatest number state) states)
+        (state_plain number from state state.edges) (states_plain (suc number) (from + state_size greatest number state) states)
+
+-- ---- the fallback by rule
+
+pub restores_plain : (rules : ℕ → ℕ) (kepts : List Accept) → PlainAll (restore_blocks rules kepts)
+restores_plain rules [] = tt
+restores_plain rules (accept ∷ kepts) = ((refl, (refl, tt)), restores_plain rules kepts)
+
+-- ---- the ends of rules
+
+-- what stays so with a plain statement in front stays so with what a rule gives before its last statements
+module _ (P : List Stmt → Type 0) (more : (statement : Stmt) (code : List Stmt) → is_plain statement ≡ true → P code → P (statement ∷ code)) where
+  ends-before : (values : List Held) (place : ℕ) (rest : List Stmt) → P rest → P (ends_code values place rest)
+  ends-before [] place rest h = h
+  ends-before (Reg r ∷ values) place rest h =
+      more (End place (suc r)) (ends_code values (suc place) rest) refl (ends-before values (suc place) rest h)
+  ends-before (MReg r ∷ values) place rest h = ends-before values (suc place) rest h
+
+  groups-before : (groups : ℕ) (values : List Held) (rest : List Stmt) → P rest → P (groups_code groups values rest)
+  groups-before zero values rest h = h
+  groups-before (suc groups) values rest h = more (Count (suc groups)) (ends_code values 0 rest) refl (ends-before values 0 rest h)
+
+  tag-before : (held : Held) (name : List ℕ) (rest : List Stmt) → P rest → P (tag_code held name ∷ rest)
+  tag-before (Reg r) name rest h = more (tag_code (Reg r) name) rest refl h
+  tag-before (MReg r) name rest h = more (tag_code (MReg r) name) rest refl h
+
+  tags-before : (ending : Ending) (number : ℕ) (names : List (List ℕ)) (values : List Held) (rest : List Stmt) → P rest
+      → P (tags_code ending number names values rest)
+  tags-before ending number [] values rest h = groups-before ending.groups values rest h
+  tags-before ending number (name ∷ names) [] rest h = h
+  tags-before ending number (name ∷ names) (held ∷ values) rest h =
+      by (is_slash ending.slash number) (tags-before ending (suc number) names values rest h)
+    where
+      by : (t : Bool) → P (tags_code ending (suc number) names values rest)
+          → P (unless t (tag_code held name) (tags_code ending (suc number) names values rest))
+      by true again = again
+      by false again = tag-before held name (tags_code ending (suc number) names values rest) again
+
+  back-before : (o : Option Held) (rest : List Stmt) → P rest → P (back_code o rest)
+  back-before None rest h = h
+  back-before (Some (Reg r)) rest h = more (Back (suc r)) rest refl h
+  back-before (Some (MReg r)) rest h = h
+
+  pub rule-before : (endings : ℕ → Ending) (rule : ℕ) (values : List Held) (rest : List Stmt) → P rest → P (rule_code endings rule values rest)
+  rule-before endings rule values rest h =
+      tags-before (endings rule) 0 (endings rule).tags values (back_code (slash_held (endings rule).slash values) rest)
+      (back-before (slash_held (endings rule).slash values) rest h)

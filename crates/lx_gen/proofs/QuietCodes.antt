@@ -1,16 +1,18 @@
 -- The blocks of a layout ask for no refill and store no state.
-use Rattle.std.specs.Prelude.{◌≡◌, ℕ, List, [], ◌∷◌, ◌++◌, Option, Some, None, true, false, refl, ◌||◌}
+use Rattle.std.specs.Prelude.{◌≡◌, ℕ, suc, List, [], ◌∷◌, ◌++◌, Option, Some, None, true, false, refl, ◌||◌}
 use Rattle.std.proofs.Common.{sym, ap, ◌∙◌, subst, true≢false}
 use Rattle.std.specs.List.{list_any}
+use Rattle.lx_auto.specs.declared.automaton.Accept.{Accept}
 use Rattle.lx_auto.specs.declared.automaton.Auto.{Auto}
+use Rattle.lx_auto.specs.declared.automaton.Held.{Held}
 use Rattle.lx_ccode.specs.Statements.{all_statements, code_of, is_refill, is_state}
 use Rattle.lx_ccode.specs.declared.piece.CodeBlock.{CodeBlock}
 use Rattle.lx_ccode.specs.declared.piece.Stmt.{Stmt}
 use Rattle.lx_ccode.specs.declared.piece.Stmt.TheVariants.{Need, State as StoreState, Try}
 use Rattle.lx_gen.specs.Codes.{Choice, choices_code}
-use Rattle.lx_gen.specs.Endings.{Ending, action_code, cond_code, last_code}
-use Rattle.lx_gen.specs.Layout.{choices_in, fall_block, last_codes, layout, place_of, rule_block, rules_of, states_blocks}
-use Rattle.lx_gen.proofs.PlainCodes.{Plain, PlainAll, choices_plain, is_plain, states_plain}
+use Rattle.lx_gen.specs.Endings.{Ending, action_code, cond_code, ending_code, last_code}
+use Rattle.lx_gen.specs.Layout.{accepts_of, choices_from, ending_blocks, fall_block, kept_of, layout, place_of, restore_blocks, rule_block, states_blocks}
+use Rattle.lx_gen.proofs.PlainCodes.{Plain, PlainAll, choices_plain, is_plain, restores_plain, rule-before, states_plain}
 
 -- no statement asks for a refill or stores a state
 abbrev IsQuiet : Stmt → Type 0
@@ -33,9 +35,12 @@ plain-state : (statement : Stmt) → is_plain statement ≡ true → is_state st
 plain-state (StoreState state) e = absurd (true≢false (sym e))
 plain-state _ e = refl
 
+quiet-plain : (statement : Stmt) (code : List Stmt) → is_plain statement ≡ true → Quiet code → Quiet (statement ∷ code)
+quiet-plain statement code e h = ((plain-refill statement e, plain-state statement e), h)
+
 Quiet-plain : (code : List Stmt) → Plain code → Quiet code
 Quiet-plain [] h = tt
-Quiet-plain (statement ∷ code) h = ((plain-refill statement h.0, plain-state statement h.0), Quiet-plain code h.1)
+Quiet-plain (statement ∷ code) h = quiet-plain statement code h.0 (Quiet-plain code h.1)
 
 QuietAll-plain : (codes rest : List (List Stmt)) → PlainAll codes → QuietAll rest → QuietAll (codes ++ rest)
 QuietAll-plain [] rest h g = g
@@ -53,20 +58,27 @@ last_code_quiet : (endings : ℕ → Ending) (rule : ℕ) → Quiet (last_code e
 last_code_quiet endings rule =
     cond_quiet (endings rule).goes_to (action_code rule (endings rule) (endings rule).action) (action_quiet rule (endings rule) (endings rule).action)
 
-lasts_quiet : (endings : ℕ → Ending) (rules : List ℕ) → QuietAll (last_codes endings rules)
-lasts_quiet endings [] = tt
-lasts_quiet endings (rule ∷ rules) = (last_code_quiet endings rule, lasts_quiet endings rules)
+ending_quiet : (endings : ℕ → Ending) (rule : ℕ) (values : List Held) → Quiet (ending_code endings rule values)
+ending_quiet endings rule values = rule-before Quiet quiet-plain endings rule values (last_code endings rule) (last_code_quiet endings rule)
+
+endings_quiet : (endings : ℕ → Ending) (accepts : List Accept) → QuietAll (ending_blocks endings accepts)
+endings_quiet endings [] = tt
+endings_quiet endings (accept ∷ accepts) = (ending_quiet endings accept.rule accept.values, endings_quiet endings accepts)
 
 layout_quiet : (endings : ℕ → Ending) (greatest : ℕ) (auto : Auto) (from : ℕ) → QuietAll (layout endings greatest auto from)
 layout_quiet endings greatest auto from =
-    let rules : ℕ → ℕ = rule_block endings greatest auto from in
-    let fall : ℕ = fall_block endings greatest auto from in
-    let place : ℕ → ℕ = place_of endings greatest auto from in
-    let choices : List Choice = choices_in endings greatest auto 0 from auto.states in
-    QuietAll-plain (states_blocks endings greatest auto rules fall place 0 from auto.states)
-    (choices_code choices ∷ last_codes endings (rules_of auto.states))
-    (states_plain endings greatest auto rules fall place 0 from auto.states)
-    (Quiet-plain (choices_code choices) (choices_plain choices), lasts_quiet endings (rules_of auto.states))
+    let rules : ℕ → ℕ = rule_block greatest auto from in
+    let fall : ℕ = fall_block greatest auto from in
+    let place : ℕ → ℕ = place_of greatest auto from in
+    let kepts : List Accept = kept_of auto.states in
+    let choices : List Choice = choices_from 1 (suc (fall_block greatest auto from)) (kept_of auto.states) in
+    let ends : List (List Stmt) = ending_blocks endings (accepts_of auto.states) in
+    QuietAll-plain (states_blocks greatest auto rules fall kepts place 0 from auto.states)
+    (choices_code choices ∷ (restore_blocks rules kepts ++ ends))
+    (states_plain greatest auto rules fall kepts place 0 from auto.states) (
+      Quiet-plain (choices_code choices) (choices_plain choices),
+      QuietAll-plain (restore_blocks rules kepts) ends (restores_plain rules kepts) (endings_quiet endings (accepts_of auto.states)),
+    )
 
 -- what no statement is, none of the list is
 any_quiet : (code rest : List Stmt) → Quiet code → (list_any is_refill rest ≡ false) × (list_any is_state rest ≡ false)

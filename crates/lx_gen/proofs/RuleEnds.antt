@@ -1,5 +1,5 @@
 -- The statements at a rule's end give what the run tells of the rule.
-use Rattle.std.specs.Prelude.{◌≡◌, ℕ, zero, suc, ◌+◌, List, [], ◌∷◌, ◌++◌, length, map, Option, Some, None, Bool, true, false, refl, slice_get}
+use Rattle.std.specs.Prelude.{◌≡◌, ℕ, zero, suc, ◌+◌, ◌≤◌, List, [], ◌∷◌, ◌++◌, length, map, Option, Some, None, Bool, true, false, refl, slice_get}
 use Rattle.std.proofs.Common.{sym, ap, subst, arith, append_assoc, append-nil}
 use Rattle.lx_auto.specs.Bank.{Bank, read, read_all}
 use Rattle.lx_auto.specs.declared.automaton.Held.{Held}
@@ -13,7 +13,7 @@ use Rattle.lx_ccode.specs.Runs.{Ended}
 use Rattle.lx_ccode.specs.Statements.{code_of}
 use Rattle.lx_regex.specs.Values.{Value}
 use Rattle.lx_tdfa.specs.Promise.{tag_value}
-use Rattle.lx_gen.specs.Endings.{Ending, action_code, back_code, cond_code, ends_code, groups_code, is_slash, last_code, rule_code, slash_held, tag_code, tags_code, unless}
+use Rattle.lx_gen.specs.Endings.{Ending, action_code, back_code, cond_code, ending_code, ends_code, groups_code, is_slash, last_code, rule_code, slash_held, tag_code, tags_code, unless}
 use Rattle.lx_gen.specs.Told.{cond_behind, cond_given, ends_given, groups_given, outcome_by, put_back, slash_value, tag_given, told_at, told_with, values_given}
 use Rattle.lx_gen.proofs.Machines.{machine_at}
 use Rattle.lx_gen.proofs.Stretches.{EndsIn, end_in, last_in, step_in, widen_end}
@@ -38,8 +38,8 @@ slash_value-held k hs (Some j) = slice_get-held_values k hs j
 
 module _ (p : Piece) (x : List ℕ) (start : ℕ) (mk lim : ℕ) (u : Option ℕ) (ac : ℕ) (r0 : Option ℕ) (k : Bank) (q : List Answer) (n0 : ℕ) where
   -- code ends so, from a cursor, a condition and what was given, with so many steps behind it
-  pub record Gives (b : List Stmt) (cur : ℕ) (c : List ℕ) (l : List machine.Value) (e : Ended) : Type 0 where
-    pub gives : EndsIn p x start (length b + n0) b (machine_at cur mk lim u ac r0 k c l) q e
+  record Gives (b : List Stmt) (cur : ℕ) (c : List ℕ) (l : List machine.Value) (e : Ended) : Type 0 where
+    gives : EndsIn p x start (length b + n0) b (machine_at cur mk lim u ac r0 k c l) q e
 
   first : {s : Stmt} {b : List Stmt} {cur cur' : ℕ} {c c' : List ℕ} {l l' : List machine.Value} {e : Ended}
       → step p x s b (machine_at cur mk lim u ac r0 k c l) q ≡ goes_on b (machine_at cur' mk lim u ac r0 k c' l') q → Gives b cur' c' l' e
@@ -106,10 +106,10 @@ module _ (p : Piece) (x : List ℕ) (start : ℕ) (mk lim : ℕ) (u : Option ℕ
   told_on n a c l cur (Some to) = record { outcome = outcome_by n a.action; cursor = to; cond = cond_behind a.goes_to c; values = l ++ cond_given a.goes_to }
 
   -- from this code on the run ends by the rule, from any cursor and with any values given before
-  abbrev pub EndsBy : (rest : List Stmt) → (n : ℕ) → Ending → Type 0
+  abbrev EndsBy : (rest : List Stmt) → (n : ℕ) → Ending → Type 0
   EndsBy rest n a = (cur : ℕ) (c : List ℕ) (l : List machine.Value) → Gives rest cur c l (told_on n a c l cur (Some cur))
 
-  pub last_run : (endings : ℕ → Ending) (n : ℕ) → EndsBy (last_code endings n) n (endings n)
+  last_run : (endings : ℕ → Ending) (n : ℕ) → EndsBy (last_code endings n) n (endings n)
   last_run endings n cur c l = cond_run n (endings n) (endings n).goes_to (endings n).action cur c l
 
   back_run : (n : ℕ) (a : Ending) (rest : List Stmt) (s : Option Held) (cur : ℕ) (c : List ℕ) (l : List machine.Value) → EndsBy rest n a
@@ -130,7 +130,7 @@ module _ (p : Piece) (x : List ℕ) (start : ℕ) (mk lim : ℕ) (u : Option ℕ
   told_on-with endings n vs cur c None = refl
   told_on-with endings n vs cur c (Some to) = refl
 
-  pub rule_run : (endings : ℕ → Ending) (n : ℕ) (hs : List Held) (rest : List Stmt) (cur : ℕ) (c : List ℕ) → EndsBy rest n (endings n)
+  rule_run : (endings : ℕ → Ending) (n : ℕ) (hs : List Held) (rest : List Stmt) (cur : ℕ) (c : List ℕ) → EndsBy rest n (endings n)
       → Gives (rule_code endings n hs rest) cur c [] (told_at endings c n cur (held_values k hs))
   rule_run endings n hs rest cur c by_rest =
       let a : Ending = endings n in
@@ -142,14 +142,23 @@ module _ (p : Piece) (x : List ℕ) (start : ℕ) (mk lim : ℕ) (u : Option ℕ
       (tags_run a 0 a.tags hs tail cur c [] e (subst (λ z. Gives tail cur c vs (told_on n a c vs cur (put_back z cur))) (sym
       (slash_value-held k hs a.slash)) (back_run n a rest (slash_held a.slash hs) cur c vs by_rest)))
 
--- by a jump to the block of the rule's last statements
-pub goto_run : (p : Piece) (x : List ℕ) (start : ℕ) (mk lim : ℕ) (u : Option ℕ) (ac : ℕ) (r0 : Option ℕ) (k : Bank) (q : List Answer)
-    (endings : ℕ → Ending) (n block : ℕ)
-    → slice_get (code_of p.blocks) block ≡ Some (last_code endings n)
-    → EndsBy p x start mk lim u ac r0 k q (length (last_code endings n)) (Goto block ∷ []) n (endings n)
-goto_run p x start mk lim u ac r0 k q endings n block has cur c l =
-    let m : Machine = machine_at cur mk lim u ac r0 k c l in
-    let z : length (last_code endings n) + 0 ≡ length (last_code endings n) = omega arith in
-    let h = (last_run p x start mk lim u ac r0 k q 0 endings n cur c l).gives in
-    let s = step_in p x start {s = Goto block} {b = []} {m = m} {q = q} (ap (λ o. jump o m q) has) (omega arith) in
-    record { gives = end_in p x start (1 + length (last_code endings n)) s h (omega arith) }
+module _ (p : Piece) (x : List ℕ) (start : ℕ) (mk lim : ℕ) (u : Option ℕ) (ac : ℕ) (r0 : Option ℕ) (k : Bank) (q : List Answer)
+    (endings : ℕ → Ending) where
+  -- from the rule's block on, with the values held so
+  pub ending_run : (n : ℕ) (hs : List Held) (cur : ℕ) (c : List ℕ)
+      → EndsIn p x start (length (ending_code endings n hs)) (ending_code endings n hs) (machine_at cur mk lim u ac r0 k c []) q
+      (told_at endings c n cur (held_values k hs))
+  ending_run n hs cur c =
+      let z : length (ending_code endings n hs) + 0 ≤ length (ending_code endings n hs) = omega arith in
+      widen_end p x start (length (ending_code endings n hs)) (rule_run p x start mk lim u ac r0 k q 0 endings n hs (last_code endings n) cur c
+      (last_run p x start mk lim u ac r0 k q 0 endings n)).gives z
+
+  -- by a jump to that block
+  pub goto_run : (n block : ℕ) (hs : List Held) (cur : ℕ) (c : List ℕ)
+      → slice_get (code_of p.blocks) block ≡ Some (ending_code endings n hs)
+      → EndsIn p x start (suc (length (ending_code endings n hs))) (Goto block ∷ []) (machine_at cur mk lim u ac r0 k c []) q
+      (told_at endings c n cur (held_values k hs))
+  goto_run n block hs cur c has =
+      let m : Machine = machine_at cur mk lim u ac r0 k c [] in
+      let s = step_in p x start {s = Goto block} {b = []} {m = m} {q = q} (ap (λ o. jump o m q) has) (omega arith) in
+      end_in p x start (suc (length (ending_code endings n hs))) s (ending_run n hs cur c) (omega arith)

@@ -25,8 +25,9 @@ use Rattle.lx_gen.specs.Rules.{HasAction, endings_of, text_of}
 use Rattle.lx_gen.specs.Scanner.{AreNamed, AreShort, IsScannerOf}
 use Rattle.lx_gen.specs.Written.{AreWritten, IsUnconditional}
 use Rattle.lx_gen.proofs.ActionCounts.{actions_once, actions_own}
+use Rattle.lx_gen.proofs.EachElement.{each-both}
 use Rattle.lx_gen.proofs.FineCodes.{IsFine}
-use Rattle.lx_gen.proofs.FinePieces.{all_fine, each-both}
+use Rattle.lx_gen.proofs.FinePieces.{all_fine}
 use Rattle.lx_gen.proofs.LayoutLaws.{layout_right}
 use Rattle.lx_gen.proofs.QuietCodes.{layout_asks_nothing}
 use Rattle.lx_gen.proofs.RuleEndings.{endings-action, endings-no_line}

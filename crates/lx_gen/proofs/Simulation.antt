@@ -1,8 +1,9 @@
 -- Blocks that serve an automaton run as it does: the run ends with the automaton's match, under every legal schedule.
-use Rattle.std.specs.Prelude.{◌≡◌, ◌≢◌, ℕ, zero, suc, ◌+◌, ◌-◌, ◌*◌, ◌<◌, ◌≤◌, List, [], ◌∷◌, length, drop, Option, Some, None, true, nat_lt, nat_eq, refl, slice_get, if◌then◌else◌}
+use Rattle.std.specs.Prelude.{◌≡◌, ℕ, zero, suc, ◌+◌, ◌-◌, ◌*◌, ◌<◌, ◌≤◌, List, [], ◌∷◌, length, drop, Option, Some, None, Bool, true, false, ◌||◌, nat_lt, nat_eq, refl, slice_get, if◌then◌else◌}
 use Rattle.std.proofs.Common.{inl, inr, sym, ap, ◌∙◌, subst, arith, lt-ltb, length-drop}
-use Rattle.std.specs.List.{AllByRecursion}
-use Rattle.lx_auto.specs.Automaton.{IsAuto, edge_on, state_of}
+use Rattle.std.proofs.Math.Bool.{or-true}
+use Rattle.std.specs.List.{AllByRecursion, list_any}
+use Rattle.lx_auto.specs.Automaton.{IsAuto, edge_on, has_unit, state_of}
 use Rattle.lx_auto.specs.Bank.{Bank}
 use Rattle.lx_auto.specs.Run.{Left, Standing, behind_edge, by_edge, found_behind, left_after, start_with}
 use Rattle.lx_auto.specs.declared.automaton.Accept.{Accept}
@@ -17,15 +18,18 @@ use Rattle.lx_ccode.specs.Machine.{Answer, Machine, code_at, jump, peek, units_o
 use Rattle.lx_ccode.specs.Runs.{entry_block, loop_count, run, run_in}
 use Rattle.lx_ccode.specs.Schedules.{Schedule}
 use Rattle.lx_ccode.specs.Statements.{code_of, statement_count}
-use Rattle.lx_gen.specs.Codes.{Choice, accept_code, choices_code, edge_code, tested, tests_code}
-use Rattle.lx_gen.specs.Endings.{Ending, last_code}
+use Rattle.lx_gen.specs.Codes.{Choice, accept_code, choices_code, edge_code, is_kept, keeps_by, keeps_on}
+use Rattle.lx_gen.specs.Endings.{Ending, ending_code}
 use Rattle.lx_gen.specs.Serving.{IsEnd, Serves, ServesState, by_jump, by_tests, itself}
 use Rattle.lx_gen.specs.Starts.{machine_with, run_with}
 use Rattle.lx_gen.specs.Stops.{Stops, bank_from, last_standing, or_here, or_later, told_found}
+use Rattle.lx_gen.specs.TestTrees.{inner_blocks, picked, tree_code}
 use Rattle.lx_gen.proofs.Agreeing.{Agrees, Agrees-after}
-use Rattle.lx_gen.proofs.BlockRuns.{Has, LeftOk, Target, all, at, behind, edge_run, length-block, stop_run}
-use Rattle.lx_gen.proofs.Machines.{machine_at, raised-shift, tests_run}
+use Rattle.lx_gen.proofs.BlockRuns.{Has, IsHeldWell, Target, all, at, behind, edge_run, held_after, held_behind, stop_run}
+use Rattle.lx_gen.proofs.Machines.{machine_at, raised-shift, tree_run}
+use Rattle.lx_gen.proofs.Standing.{length-block, length-with_row}
 use Rattle.lx_gen.proofs.Stretches.{EndsIn, LeadsIn, end_in, loop_count-mono, stays_in, step_in, then_in, widen}
+use Rattle.lx_gen.proofs.TreeCodes.{inner_blocks-read, tree_length}
 
 -- a unit that is left of a stream is the one at the cursor
 pub left_unit : (pos unit : ℕ) (more stream : List ℕ) → unit ∷ more ≡ drop pos stream
@@ -36,16 +40,32 @@ left_unit zero unit more (other ∷ stream) left =
     let e : unit ≡ other = cc in let f : more ≡ stream = cc in (omega arith, ap Some (sym e), f)
 left_unit (suc pos) unit more (other ∷ stream) left = let rest = left_unit pos unit more stream left in (omega (arith, rest.0), rest.1, rest.2)
 
--- the last accepting state left stays one that is found again
-LeftOk-after : (auto : Auto) (o : Option Accept) (standing : Standing) → standing.state < length auto.states
-    → (state_of auto.states standing.state).edges ≢ []
-    → (state_of auto.states standing.state).accept ≡ o → LeftOk auto standing.left → LeftOk auto (left_after o standing)
-LeftOk-after auto None standing lt some e ok = ok
-LeftOk-after auto (Some accept) standing lt some e ok = (lt, some, e)
+-- the edge on a unit is one of the edges
+list_any-edge_on : (test : Edge → Bool) (edges : List Edge) (unit : ℕ) (edge : Edge) → edge_on edges unit ≡ Some edge → test edge ≡ true
+    → list_any test edges ≡ true
+list_any-edge_on test [] unit edge on passes = absurd (cc)
+list_any-edge_on test (first ∷ edges) unit edge on passes =
+    by (has_unit first unit) on (λ later. list_any-edge_on test edges unit edge later passes)
+  where
+    by : (t : Bool) → (if t then Some first else edge_on edges unit) ≡ Some edge → (edge_on edges unit ≡ Some edge → list_any test edges ≡ true)
+        → test first || list_any test edges ≡ true
+    by true on again = let same : first ≡ edge = cc in ap (λ e. test e || list_any test edges) same ∙ ap (λ t. t || list_any test edges) passes
+    by false on again = ap (λ t. test first || t) (again on) ∙ or-true (test first)
 
-edges-some : (edges : List Edge) (unit : ℕ) (edge : Edge) → edge_on edges unit ≡ Some edge → edges ≢ []
-edges-some [] unit edge on = absurd (cc)
-edges-some (first ∷ edges) unit edge on = λ e. cc
+-- what is kept on an edge is found again, too
+IsHeldWell-after : (auto : Auto) (s pos : ℕ) (o next : Option Accept) (held : Option Left) → s < length auto.states
+    → (keeps_by o next ≡ true → is_kept auto.states (state_of auto.states s) ≡ true) → (state_of auto.states s).accept ≡ o
+    → IsHeldWell auto held → IsHeldWell auto (held_after o next s pos held)
+IsHeldWell-after auto s pos None next held lt keeps e ok = ok
+IsHeldWell-after auto s pos (Some accept) None held lt keeps e ok = (lt, keeps refl, e)
+IsHeldWell-after auto s pos (Some accept) (Some other) held lt keeps e ok = ok
+
+-- before a state that does not accept it is what was left last
+held_after-left : (o next : Option Accept) (held : Option Left) (standing : Standing) → (o ≡ None → held ≡ standing.left) → next ≡ None
+    → held_after o next standing.state standing.offset held ≡ left_after o standing
+held_after-left None next held standing same none = same refl
+held_after-left (Some accept) None held standing same none = refl
+held_after-left (Some accept) (Some other) held standing same none = absurd (cc)
 
 module _ (p : Piece) (x : List ℕ) (start : ℕ) (endings : ℕ → Ending) (greatest : ℕ) (auto : Auto) (place kept rules : ℕ → ℕ) (fall : ℕ)
     (serves : Serves endings greatest auto (code_of p.blocks) place kept rules fall) (formed : IsAuto auto) (first : Option ℕ) (cond : List ℕ) where
@@ -55,21 +75,21 @@ module _ (p : Piece) (x : List ℕ) (start : ℕ) (endings : ℕ → Ending) (gr
   abbrev To : (s : ℕ) → Option Edge → ℕ → Type 0
   To s o block = Target p x start endings greatest auto place kept rules fall serves formed first cond (length x) s o block
 
-  abbrev mach : (pos : ℕ) → Option Left → (u : Option ℕ) → Bank → Machine
-  mach pos left u k = at p x start endings greatest auto place kept rules fall serves formed first cond (length x) pos left u k
+  abbrev mach : (pos : ℕ) → (held : Option Left) → (u : Option ℕ) → Bank → Machine
+  mach pos held u k = at p x start endings greatest auto place kept rules fall serves formed first cond (length x) pos held u k
 
   abbrev size : ℕ
   size = all p x start endings greatest auto place kept rules fall serves formed first cond (length x)
 
   -- what a state's block leads to on a unit
-  record Entered (s : ℕ) (o : Option Edge) (code : List Stmt) (pos : ℕ) (left : Option Left) (u : Option ℕ) (k : Bank)
+  record Entered (s : ℕ) (o : Option Edge) (code : List Stmt) (pos : ℕ) (held : Option Left) (u : Option ℕ) (k : Bank)
       (q : List Answer) : Type 0 where
     block : ℕ
     to : List Stmt
     target : To s o block
     has : Have block to
     unit : Option ℕ
-    leads : LeadsIn p x start size code (mach pos left u k) q to (mach pos left unit k) q
+    leads : LeadsIn p x start size code (mach pos held u k) q to (mach pos held unit k) q
 
   target_code : (s : ℕ) (o : Option Edge) (block : ℕ) → s < length auto.states → To s o block → (to : List Stmt) × Have block to
   target_code s (Some edge) block lt target = (edge_code auto (state_of auto.states s) (kept s) edge (place edge.to), target)
@@ -78,20 +98,21 @@ module _ (p : Piece) (x : List ℕ) (start : ℕ) (endings : ℕ → Ending) (gr
       by : (o : Option Accept) → (state_of auto.states s).accept ≡ o → IsEnd endings greatest auto (code_of p.blocks) place kept rules fall o block
           → (to : List Stmt) × Have block to
       by None e target = (choices_code serves.choices, ap (λ n. slice_get (code_of p.blocks) n) target ∙ serves.falls)
-      by (Some accept) e (inl has) = (accept_code endings auto accept (Goto (rules accept.rule) ∷ []), has)
-      by (Some accept) e (inr is) = (last_code endings accept.rule, ap (λ n. slice_get (code_of p.blocks) n) is.0 ∙ serves.lasts s accept lt e)
+      by (Some accept) e (inl has) = (accept_code auto accept.ops (rules accept.rule), has)
+      by (Some accept) e (inr is) =
+          (ending_code endings accept.rule accept.values, ap (λ n. slice_get (code_of p.blocks) n) is.0 ∙ serves.ends s accept lt e)
 
-  enter : (s pos v : ℕ) (code : List Stmt) (left : Option Left) (u : Option ℕ) (k : Bank) (q : List Answer)
+  enter : (s pos v : ℕ) (code : List Stmt) (held : Option Left) (u : Option ℕ) (k : Bank) (q : List Answer)
       → ServesState endings greatest auto (code_of p.blocks) place kept rules fall s (state_of auto.states s) → Have (place s) code
       → s < length auto.states → slice_get x pos ≡ Some v → pos < length x → v ≤ greatest
-      → Entered s (edge_on (state_of auto.states s).edges v) code pos left u k q
-  enter s pos v code left u k q (itself leads) has known ev lt within =
-      record { block = place s; to = code; target = leads v within; has = has; unit = u; leads = stays_in p x start size code (mach pos left u k) q }
-  enter s pos v code left u k q (by_jump block is leads) has known ev lt within =
+      → Entered s (edge_on (state_of auto.states s).edges v) code pos held u k q
+  enter s pos v code held u k q (itself leads) has known ev lt within =
+      record { block = place s; to = code; target = leads v within; has = has; unit = u; leads = stays_in p x start size code (mach pos held u k) q }
+  enter s pos v code held u k q (by_jump block is leads) has known ev lt within =
       let to = target_code s (edge_on (state_of auto.states s).edges v) block known (leads v within) in
       let c : code ≡ Goto block ∷ [] = cc in
       let n = length-block (code_of p.blocks) (place s) (Goto block ∷ []) is in
-      let h = step_in p x start {s = Goto block} {b = []} {m = mach pos left u k} {q = q} (ap (λ o. jump o (mach pos left u k) q) to.1)
+      let h = step_in p x start {s = Goto block} {b = []} {m = mach pos held u k} {q = q} (ap (λ o. jump o (mach pos held u k) q) to.1)
       (omega arith) in
       record {
         block = block;
@@ -99,27 +120,28 @@ module _ (p : Piece) (x : List ℕ) (start : ℕ) (endings : ℕ → Ending) (gr
         target = leads v within;
         has = to.1;
         unit = u;
-        leads = subst (λ z. LeadsIn p x start size z (mach pos left u k) q to.0 (mach pos left u k) q) (sym c)
+        leads = subst (λ z. LeadsIn p x start size z (mach pos held u k) q to.0 (mach pos held u k) q) (sym c)
             (widen p x start size h (omega (arith, n)));
       }
-  enter s pos v code left u k q (by_tests tests miss is leads) has known ev lt within =
-      let to = target_code s (edge_on (state_of auto.states s).edges v) (tested tests miss v) known (leads v within) in
-      let rest : List Stmt = tests_code tests miss in
-      let c : code ≡ Peek ∷ tests_code tests miss = cc in
-      let n = length-block (code_of p.blocks) (place s) (Peek ∷ tests_code tests miss) is in
+  enter s pos v code held u k q (by_tests tree next is stands leads) has known ev lt within =
+      let to = target_code s (edge_on (state_of auto.states s).edges v) (picked tree v) known (leads v within) in
+      let rest : List Stmt = tree_code next tree in
+      let c : code ≡ Peek ∷ tree_code next tree = cc in
+      let n = length-with_row (code_of p.blocks) (place s) (Peek ∷ tree_code next tree) next (inner_blocks next tree) is stands
+      (inner_blocks-read next tree (tree_code next tree)) in
       let t : nat_lt pos (length x) ≡ true = lt-ltb pos (length x) lt in
-      let h = step_in p x start {s = Peek} {b = tests_code tests miss} {m = mach pos left u k} {m' = mach pos left (Some v) k} {q = q}
-      (ap (λ t. peek (if t then slice_get x pos else (if nat_eq pos (length x) then p.eof else None)) rest (mach pos left u k) q) t
-      ∙ ap (λ o. peek o rest (mach pos left u k) q) ev) (omega arith) in
-      let g = tests_run p x start tests miss v to.0 (mach pos left (Some v) k) q refl to.1 in
+      let h = step_in p x start {s = Peek} {b = tree_code next tree} {m = mach pos held u k} {m' = mach pos held (Some v) k} {q = q}
+      (ap (λ t. peek (if t then slice_get x pos else (if nat_eq pos (length x) then p.eof else None)) rest (mach pos held u k) q) t
+      ∙ ap (λ o. peek o rest (mach pos held u k) q) ev) (omega arith) in
+      let g = tree_run p x start tree next v to.0 (mach pos held (Some v) k) q refl stands to.1 in
       record {
-        block = tested tests miss v;
+        block = picked tree v;
         to = to.0;
         target = leads v within;
         has = to.1;
         unit = Some v;
-        leads = subst (λ z. LeadsIn p x start size z (mach pos left u k) q to.0 (mach pos left (Some v) k) q) (sym c)
-            (widen p x start size (then_in p x start (suc (length rest)) h g (omega arith)) (omega (arith, n)));
+        leads = subst (λ z. LeadsIn p x start size z (mach pos held u k) q to.0 (mach pos held (Some v) k) q) (sym c)
+            (widen p x start size (then_in p x start (suc (tree_length next tree)) h g (omega arith)) (omega (arith, n)));
       }
 
   -- each state has a block
@@ -128,38 +150,38 @@ module _ (p : Piece) (x : List ℕ) (start : ℕ) (endings : ℕ → Ending) (gr
     where
       by : ServesState endings greatest auto (code_of p.blocks) place kept rules fall s (state_of auto.states s)
           → (code : List Stmt) × Have (place s) code
-      by (by_tests tests miss is leads) = (Peek ∷ tests_code tests miss, is)
+      by (by_tests tree next is stands leads) = (Peek ∷ tree_code next tree, is)
       by (by_jump block is leads) = (Goto block ∷ [], is)
       by (itself leads) = target_code s (edge_on (state_of auto.states s).edges 0) (place s) lt (leads 0 (omega arith))
 
   -- the end of the run from a state's block on
   abbrev Simulated : List ℕ → Standing → Type 0
-  Simulated w st = (code : List Stmt) (u : Option ℕ) (k : Bank) (q : List Answer) → Have (place st.state) code → st.state < length auto.states
-      → LeftOk auto st.left → Agrees auto.regs auto.mregs k st.bank → w ≡ drop st.offset x → AllByRecursion (λ unit. unit ≤ greatest) w
-      → Stops auto st w
-      → EndsIn p x start (length w * (2 * size) + 2 * size) code (mach st.offset st.left u k) q
+  Simulated w st = (code : List Stmt) (held : Option Left) (u : Option ℕ) (k : Bank) (q : List Answer) → Have (place st.state) code
+      → st.state < length auto.states → IsHeldWell auto held → ((state_of auto.states st.state).accept ≡ None → held ≡ st.left)
+      → Agrees auto.regs auto.mregs k st.bank → w ≡ drop st.offset x → AllByRecursion (λ unit. unit ≤ greatest) w → Stops auto st w
+      → EndsIn p x start (length w * (2 * size) + 2 * size) code (mach st.offset held u k) q
       (told_found endings cond (found_behind auto (last_standing auto st w)) (last_standing auto st w).offset)
 
   simulation : (w : List ℕ) (st : Standing) → Simulated w st
-  simulation [] st code u k q has lt ok agree left within stops = absurd stops
-  simulation (v ∷ w) st code u k q has lt ok agree left within stops =
+  simulation [] st code held u k q has lt ok same agree left within stops = absurd stops
+  simulation (v ∷ w) st code held u k q has lt ok same agree left within stops =
       by (edge_on (state_of auto.states st.state).edges v) refl entered stops (λ next. simulation w next)
     where
       unit_here : (st.offset < length x) × (slice_get x st.offset ≡ Some v) × (w ≡ drop (suc st.offset) x)
       unit_here = left_unit st.offset v w x left
 
-      entered : Entered st.state (edge_on (state_of auto.states st.state).edges v) code st.offset st.left u k q
-      entered = enter st.state st.offset v code st.left u k q (serves.states st.state lt) has lt unit_here.1 unit_here.0 within.0
+      entered : Entered st.state (edge_on (state_of auto.states st.state).edges v) code st.offset held u k q
+      entered = enter st.state st.offset v code held u k q (serves.states st.state lt) has lt unit_here.1 unit_here.0 within.0
 
-      by : (o : Option Edge) → edge_on (state_of auto.states st.state).edges v ≡ o → Entered st.state o code st.offset st.left u k q
+      by : (o : Option Edge) → edge_on (state_of auto.states st.state).edges v ≡ o → Entered st.state o code st.offset held u k q
           → or_later (by_edge (state_of auto.states st.state) st o) (λ next. Stops auto next w) → ((next : Standing) → Simulated w next)
-          → EndsIn p x start (suc (length w) * (2 * size) + 2 * size) code (mach st.offset st.left u k) q
+          → EndsIn p x start (suc (length w) * (2 * size) + 2 * size) code (mach st.offset held u k) q
           (told_found endings cond (found_behind auto (or_here st (by_edge (state_of auto.states st.state) st o) (λ next. last_standing auto next w)))
           (or_here st (by_edge (state_of auto.states st.state) st o) (λ next. last_standing auto next w)).offset)
       by None on entered stops again =
           let g = stop_run p x start endings greatest auto place kept rules fall serves formed first cond
-          (length x) st.state entered.block st.offset entered.to st.left entered.unit k st.bank q
-          lt entered.target entered.has agree ok in
+          (length x) st.state entered.block st.offset entered.to st.left held entered.unit k st.bank q
+          lt entered.target entered.has agree ok same in
           end_in p x start (suc (length w) * (2 * size) + 2 * size) entered.leads g (omega arith)
       by (Some edge) on entered stops again =
           let state : State = state_of auto.states st.state in
@@ -173,16 +195,21 @@ module _ (p : Piece) (x : List ℕ) (start : ℕ) (endings : ℕ → Ending) (gr
           let c : entered.to ≡ block_code = cc in
           let n = length-block (code_of p.blocks) entered.block block_code is in
           let f = edge_run p x start endings greatest auto place kept rules fall serves formed first cond
-          (length x) edge next_code.0 st.state st.offset st.bank st.left entered.unit k q
+          (length x) edge next_code.0 st.state st.offset held entered.unit k q
           leads.1 next_code.1 unit_here.0 in
-          let l = subst (λ z. LeadsIn p x start size code (mach st.offset st.left u k) q z
-          (mach st.offset st.left entered.unit k) q) c entered.leads in
+          let l = subst (λ z. LeadsIn p x start size code (mach st.offset held u k) q z
+          (mach st.offset held entered.unit k) q) c entered.leads in
           let k1 : Bank = behind p x start endings greatest auto place kept rules fall serves formed first cond
           (length x) st.state st.offset edge k in
-          let ok1 = LeftOk-after auto state.accept st lt (edges-some state.edges v edge on) refl ok in
+          let after : Option Accept = (state_of auto.states edge.to).accept in
+          let held1 : Option Left = held_behind p x start endings greatest auto place kept rules fall serves formed first cond
+          (length x) st.state st.offset edge held in
+          let ok1 = IsHeldWell-after auto st.state st.offset state.accept after held lt
+          (λ keeps. list_any-edge_on (λ edge. keeps_on auto.states state edge) state.edges v edge on keeps) refl ok in
           let agree1 = Agrees-after auto.regs auto.mregs st.offset state.leave k st.bank formed_state.leave agree in
           let agree2 = Agrees-after auto.regs auto.mregs st.offset edge.ops _ _ leads.1 agree1 in
-          let rest = again next next_code.0 entered.unit k1 q next_code.1 leads.0 ok1 agree2 unit_here.2 within.1 stops in
+          let rest = again next next_code.0 held1 entered.unit k1 q next_code.1 leads.0 ok1
+          (held_after-left state.accept after held st same) agree2 unit_here.2 within.1 stops in
           end_in p x start (suc (length w) * (2 * size) + 2 * size) l
           (end_in p x start (size + (length w * (2 * size) + 2 * size)) f rest (omega (arith, n))) (omega arith)
 
@@ -215,7 +242,7 @@ run_found p x start endings greatest auto place kept rules fall serves formed co
     let code = state_code p x start endings greatest auto place kept rules fall serves formed (registers 0) cond 0 formed.start in
     let found : code_at p.blocks (entry_block p.conds cond) ≡ Some code.0 = ap (λ o. code_at p.blocks o) entry ∙ code.1 in
     let h = simulation p x start endings greatest auto place kept rules fall serves formed
-    (registers 0) cond w st code.0 None k q code.1 formed.start tt
+    (registers 0) cond w st code.0 None None k q code.1 formed.start tt (λ none. refl)
     (record { same = λ r lt. refl; alike = λ r lt. refl }) refl within stops in
     let n = length-block (code_of p.blocks) fall (choices_code serves.choices) serves.falls in
     let n1 = choices_code-some serves.choices in

@@ -4,14 +4,9 @@ use Rattle.std.proofs.Common.{sym, ap, ◌∙◌, arith, eqb-true, le-leb, leb-t
 use Rattle.lx_auto.specs.Automaton.{AreApartFrom, edge_on}
 use Rattle.lx_auto.specs.declared.automaton.Edge.{Edge}
 use Rattle.lx_auto.proofs.Edges.{edge_on-before, edge_on-here, edge_on-past}
-use Rattle.lx_gen.specs.Codes.{tested}
-use Rattle.lx_gen.specs.Layout.{numbered, way_block}
+use Rattle.lx_gen.specs.TestTrees.{edge_tree, picked}
 use Rattle.lx_gen.specs.Ways.{Stretch, before, edge_split, first_way, same_place, split_of, stretches, way_place, ways_of}
-
--- how a unit goes
-abbrev pub way_on : List Stretch → (last : Option ℕ) → (unit : ℕ) → Option ℕ
-way_on [] last unit = last
-way_on (stretch ∷ stretches) last unit = if nat_le unit stretch.greatest then stretch.way else way_on stretches last unit
+use Rattle.lx_gen.proofs.BalancedTrees.{Ascend, picked-balanced, way_on}
 
 -- the place of an edge's way, if there is an edge
 abbrev pub edge_way : List Edge → Option Edge → Option ℕ
@@ -62,11 +57,6 @@ way_on-stretches ways low (edge ∷ edges) unit apart from =
 
 -- ---- tests
 
--- each stretch ends no earlier than the one before it
-abbrev Ascend : (low : ℕ) → List Stretch → Type 0
-Ascend low [] = Unit {0}
-Ascend low (stretch ∷ stretches) = (low ≤ stretch.greatest) × Ascend stretch.greatest stretches
-
 Ascend-earlier : (low high : ℕ) (stretches : List Stretch) → low ≤ high → Ascend high stretches → Ascend low stretches
 Ascend-earlier low high [] le h = tt
 Ascend-earlier low high (stretch ∷ stretches) le h = (omega (arith, h.0), h.1)
@@ -94,27 +84,19 @@ Ascend-stretches ways low (edge ∷ edges) apart = by (nat_lt low edge.lo) refl 
           (omega arith) again,
     )
 
--- the first stretch ends no earlier
-abbrev FirstFrom : (low : ℕ) → List Stretch → Type 0
-FirstFrom low [] = Unit {0}
-FirstFrom low (stretch ∷ stretches) = low ≤ stretch.greatest
-
-FirstFrom-earlier : (low high : ℕ) (stretches : List Stretch) → low ≤ high → FirstFrom high stretches → FirstFrom low stretches
-FirstFrom-earlier low high [] le h = tt
-FirstFrom-earlier low high (stretch ∷ stretches) le h = omega (arith, h)
-
-FirstFrom-split_of : (greatest low : ℕ) (list : List Stretch) → Ascend low list → FirstFrom low (split_of greatest list).tests
-FirstFrom-split_of greatest low [] h = tt
-FirstFrom-split_of greatest low (stretch ∷ list) h = by (nat_le greatest stretch.greatest) (FirstFrom-split_of greatest stretch.greatest list h.1)
+-- so do those that are tested
+Ascend-split_of : (greatest low : ℕ) (list : List Stretch) → Ascend low list → Ascend low (split_of greatest list).tests
+Ascend-split_of greatest low [] h = tt
+Ascend-split_of greatest low (stretch ∷ list) h = by (nat_le greatest stretch.greatest) (Ascend-split_of greatest stretch.greatest list h.1)
   where
-    join : (t : Bool) → FirstFrom stretch.greatest (split_of greatest list).tests
-        → FirstFrom low (if t then split_of greatest list else record
+    join : (t : Bool) → Ascend stretch.greatest (split_of greatest list).tests
+        → Ascend low (if t then split_of greatest list else record
         { tests = stretch ∷ (split_of greatest list).tests; last = (split_of greatest list).last }).tests
-    join true again = FirstFrom-earlier low stretch.greatest (split_of greatest list).tests h.0 again
-    join false again = h.0
+    join true again = Ascend-earlier low stretch.greatest (split_of greatest list).tests h.0 again
+    join false again = (h.0, again)
 
-    by : (t : Bool) → FirstFrom stretch.greatest (split_of greatest list).tests
-        → FirstFrom low (if t then record { tests = []; last = stretch.way } else before stretch (split_of greatest list)).tests
+    by : (t : Bool) → Ascend stretch.greatest (split_of greatest list).tests
+        → Ascend low (if t then record { tests = []; last = stretch.way } else before stretch (split_of greatest list)).tests
     by true again = tt
     by false again = join (same_place stretch.way (first_way (split_of greatest list).tests (split_of greatest list).last)) again
 
@@ -124,11 +106,11 @@ same_place-same None (Some y) e = absurd (true≢false (sym e))
 same_place-same (Some x) None e = absurd (true≢false (sym e))
 same_place-same (Some x) (Some y) e = ap Some (eqb-true x y e)
 
-way_on-first : (low unit : ℕ) (tests : List Stretch) (last : Option ℕ) → FirstFrom low tests → unit ≤ low
+way_on-first : (low unit : ℕ) (tests : List Stretch) (last : Option ℕ) → Ascend low tests → unit ≤ low
     → way_on tests last unit ≡ first_way tests last
 way_on-first low unit [] last h le = refl
 way_on-first low unit (stretch ∷ tests) last h le =
-    ap (λ t. if t then stretch.way else way_on tests last unit) (le-leb unit stretch.greatest (omega (arith, h, le)))
+    ap (λ t. if t then stretch.way else way_on tests last unit) (le-leb unit stretch.greatest (omega (arith, h.0, le)))
 
 way_on-split_of : (greatest low : ℕ) (list : List Stretch) (unit : ℕ) → Ascend low list → unit ≤ greatest
     → way_on (split_of greatest list).tests (split_of greatest list).last unit ≡ way_on list None unit
@@ -153,7 +135,7 @@ way_on-split_of greatest low (stretch ∷ list) unit h le =
             (if t then stretch.way else way_on list None unit)
         at true g =
             way_on-first stretch.greatest unit (split_of greatest list).tests (split_of greatest list).last
-            (FirstFrom-split_of greatest stretch.greatest list h.1) (leb-true unit stretch.greatest g)
+            (Ascend-split_of greatest stretch.greatest list h.1) (leb-true unit stretch.greatest g)
             ∙ sym (same_place-same stretch.way (first_way (split_of greatest list).tests (split_of greatest list).last) e)
         at false g = again
 
@@ -167,21 +149,16 @@ way_on-split_of greatest low (stretch ∷ list) unit h le =
         ap (λ t. if t then stretch.way else way_on list None unit) (sym (le-leb unit stretch.greatest (omega arith)))
     by false e again = join (same_place stretch.way (first_way (split_of greatest list).tests (split_of greatest list).last)) refl again
 
--- the tests of a state
-pub way_on-edge_split : (greatest : ℕ) (edges : List Edge) (unit : ℕ) → AreApartFrom 0 edges → unit ≤ greatest
+way_on-edge_split : (greatest : ℕ) (edges : List Edge) (unit : ℕ) → AreApartFrom 0 edges → unit ≤ greatest
     → way_on (edge_split greatest edges).tests (edge_split greatest edges).last unit ≡ edge_way (ways_of edges) (edge_on edges unit)
 way_on-edge_split greatest edges unit apart le =
     way_on-split_of greatest 0 (stretches (ways_of edges) 0 edges) unit (Ascend-stretches (ways_of edges) 0 edges apart) le
     ∙ way_on-stretches (ways_of edges) 0 edges unit apart (omega arith)
 
--- and with the numbers of blocks
-pub tested-numbered : (first end : ℕ) (tests : List Stretch) (last : Option ℕ) (unit : ℕ)
-    → tested (numbered first end tests) (way_block first end last) unit ≡ way_block first end (way_on tests last unit)
-tested-numbered first end [] last unit = refl
-tested-numbered first end (stretch ∷ tests) last unit = by (nat_le unit stretch.greatest) (tested-numbered first end tests last unit)
-  where
-    by : (t : Bool) → tested (numbered first end tests) (way_block first end last) unit ≡ way_block first end (way_on tests last unit)
-        → (if t then way_block first end stretch.way else tested (numbered first end tests) (way_block first end last) unit)
-        ≡ way_block first end (if t then stretch.way else way_on tests last unit)
-    by true again = refl
-    by false again = again
+-- the tests of a state
+pub picked-edge_tree : (greatest : ℕ) (edges : List Edge) (unit : ℕ) → AreApartFrom 0 edges → unit ≤ greatest
+    → picked (edge_tree greatest edges) unit ≡ edge_way (ways_of edges) (edge_on edges unit)
+picked-edge_tree greatest edges unit apart le =
+    picked-balanced 0 (edge_split greatest edges).tests (edge_split greatest edges).last unit
+    (Ascend-split_of greatest 0 (stretches (ways_of edges) 0 edges) (Ascend-stretches (ways_of edges) 0 edges apart))
+    ∙ way_on-edge_split greatest edges unit apart le

@@ -1,6 +1,8 @@
 -- Codes that stand in blocks from a number on.
-use Rattle.std.specs.Prelude.{◌≡◌, ℕ, zero, suc, ◌+◌, List, [], ◌∷◌, ◌++◌, length, Some, slice_get, refl}
-use Rattle.std.proofs.Common.{◌∙◌, subst, arith}
+use Rattle.std.specs.Prelude.{◌≡◌, ◌≢◌, ℕ, zero, suc, ◌+◌, ◌≤◌, List, [], ◌∷◌, ◌++◌, length, Some, slice_get, refl}
+use Rattle.std.proofs.Common.{ap, ◌∙◌, subst, arith}
+use Rattle.std.specs.List.{AllByRecursion}
+use Rattle.lx_ccode.specs.Statements.{code_length}
 use Rattle.lx_ccode.specs.declared.piece.Stmt.{Stmt}
 use Rattle.lx_gen.specs.Layout.{StandsFrom}
 
@@ -31,3 +33,51 @@ under block blocks i (c ∷ a) h = (h.0, under block blocks (suc i) a h.1)
 pub StandsFrom-itself : (blocks : List (List Stmt)) → StandsFrom blocks 0 blocks
 StandsFrom-itself [] = tt
 StandsFrom-itself (block ∷ blocks) = (refl, under block blocks 0 blocks (StandsFrom-itself blocks))
+
+-- ---- how many statements stand
+
+pub code_length-append : (a b : List (List Stmt)) → code_length (a ++ b) ≡ code_length a + code_length b
+code_length-append [] b = omega arith
+code_length-append (code ∷ a) b = let again = code_length-append a b in omega (arith, again)
+
+-- no block is longer than all blocks together
+pub length-block : (codes : List (List Stmt)) (i : ℕ) (b : List Stmt) → slice_get codes i ≡ Some b → length b ≤ code_length codes
+length-block [] i b e = absurd (cc)
+length-block (c ∷ codes) zero b e = let k : c ≡ b = cc in let l : length c ≡ length b = ap length k in omega arith
+length-block (c ∷ codes) (suc i) b e = let k = length-block codes i b e in omega (arith, k)
+
+others : (block : List Stmt) (blocks : List (List Stmt)) (i : ℕ) (a : List (List Stmt)) → StandsFrom (block ∷ blocks) (suc i) a → StandsFrom blocks i a
+others block blocks i [] h = tt
+others block blocks i (c ∷ a) h = (h.0, others block blocks (suc i) a h.1)
+
+-- nor are blocks that stand in a row
+code_length-row : (blocks : List (List Stmt)) (i : ℕ) (row : List (List Stmt)) → StandsFrom blocks i row → code_length row ≤ code_length blocks
+code_length-row blocks i [] h = omega arith
+code_length-row [] i (c ∷ row) h = absurd (let e = h.0 in cc)
+code_length-row (block ∷ blocks) zero (c ∷ row) h =
+    let same : block ≡ c = let e = h.0 in cc in
+    let long : length block ≡ length c = ap length same in
+    let again = code_length-row blocks 0 row (others block blocks 0 row h.1) in
+    omega (arith, long, again)
+code_length-row (block ∷ blocks) (suc i) (c ∷ row) h =
+    let again = code_length-row blocks i (c ∷ row) (others block blocks i (c ∷ row) h) in omega (arith, again)
+
+-- with a block that is none of them
+pub length-with_row : (blocks : List (List Stmt)) (i : ℕ) (code : List Stmt) (j : ℕ) (row : List (List Stmt)) → slice_get blocks i ≡ Some code
+    → StandsFrom blocks j row → AllByRecursion (λ other. other ≢ code) row → length code + code_length row ≤ code_length blocks
+length-with_row [] i code j row e h differ = absurd (cc)
+length-with_row (block ∷ blocks) i code zero [] e h differ = let one = length-block (block ∷ blocks) i code e in omega (arith, one)
+length-with_row (block ∷ blocks) zero code zero (c ∷ row) e h differ =
+    absurd (differ.0 (let same = h.0 in cc))
+length-with_row (block ∷ blocks) (suc i) code zero (c ∷ row) e h differ =
+    let same : block ≡ c = let e = h.0 in cc in
+    let long : length block ≡ length c = ap length same in
+    let again = length-with_row blocks i code 0 row e (others block blocks 0 row h.1) differ.1 in
+    omega (arith, long, again)
+length-with_row (block ∷ blocks) zero code (suc j) row e h differ =
+    let same : block ≡ code = cc in
+    let long : length block ≡ length code = ap length same in
+    let rest = code_length-row blocks j row (others block blocks j row h) in
+    omega (arith, long, rest)
+length-with_row (block ∷ blocks) (suc i) code (suc j) row e h differ =
+    let again = length-with_row blocks i code j row e (others block blocks j row h) differ in omega (arith, again)

@@ -1,5 +1,5 @@
 -- A piece whose blocks are a layout is valid.
-use Rattle.std.specs.Prelude.{◌≡◌, ℕ, ◌*◌, ◌<◌, ◌≤◌, ◌^◌, ◌⊎◌, IfSome, List, [], ◌∷◌, ◌++◌, length, map, Option, Some, All, true, false, refl}
+use Rattle.std.specs.Prelude.{◌≡◌, ℕ, ◌*◌, ◌<◌, ◌≤◌, ◌^◌, ◌⊎◌, IfSome, List, [], length, map, Option, Some, All, true, false, refl}
 use Rattle.std.proofs.Common.{inl, inr, sym, ap, ◌∙◌, subst, arith}
 use Rattle.std.proofs.lemmas.Bool.{false≢true}
 use Rattle.std.proofs.lemmas.List.{length-map}
@@ -18,16 +18,16 @@ use Rattle.lx_ccode.specs.declared.piece.CodeBlock.{CodeBlock}
 use Rattle.lx_ccode.specs.declared.piece.CondCase.{CondCase}
 use Rattle.lx_ccode.specs.declared.piece.Piece.{Piece}
 use Rattle.lx_ccode.specs.declared.piece.StateCase.{StateCase}
-use Rattle.lx_ccode.specs.declared.piece.Stmt.{Stmt}
 use Rattle.lx_encode.specs.Units.{unit_size}
-use Rattle.lx_gen.specs.Codes.{choices_code}
 use Rattle.lx_gen.specs.Endings.{Ending}
-use Rattle.lx_gen.specs.Layout.{choices_in, fall_block, last_codes, layout, place_of, rule_block, rules_of, states_blocks}
+use Rattle.lx_gen.specs.Layout.{layout}
 use Rattle.lx_gen.specs.Written.{AreWritten, IsUnconditional}
+use Rattle.lx_gen.proofs.EachElement.{each-map}
 use Rattle.lx_gen.proofs.FineCodes.{Fine, IsFine}
 use Rattle.lx_gen.proofs.FineLayouts.{layout_fine}
-use Rattle.lx_gen.proofs.FinePieces.{FineBlocks, FineBlocks-codes, HasFewGroups-fine, NamesOneOf-fine, after_states-fine, all_fine, blocks-few, blocks_spelled, each-map, labels-none, last_statements-fine, no_need, states_from-fine}
+use Rattle.lx_gen.proofs.FinePieces.{FineBlocks, FineBlocks-codes, HasFewGroups-fine, NamesOneOf-fine, after_states-fine, all_fine, blocks-few, blocks_spelled, labels-none, last_statements-fine, no_need, states_from-fine}
 use Rattle.lx_gen.proofs.LayoutFits.{layout_ends, layout_jumps}
+use Rattle.lx_gen.proofs.LayoutLengths.{length-layout}
 use Rattle.lx_gen.proofs.QuietCodes.{layout_asks_nothing}
 
 unit_size-is : (enc : Enc) → (unit_size enc ≡ 1) ⊎ ((unit_size enc ≡ 2) ⊎ (unit_size enc ≡ 4))
@@ -36,10 +36,6 @@ unit_size-is Ucs2 = inr (inl refl)
 unit_size-is Utf8 = inl refl
 unit_size-is Utf16 = inr (inl refl)
 unit_size-is Utf32 = inr (inr refl)
-
-length-more : (a b : List (List Stmt)) (code : List Stmt) → 0 < length (a ++ code ∷ b)
-length-more [] b code = omega arith
-length-more (other ∷ a) b code = let h = length-more a b code in omega (arith, h)
 
 module _ (enc : Enc) (counted : ℕ) (spellings : Spellings) (endings : ℕ → Ending) (greatest : ℕ) (auto : Auto) (piece : Piece)
     (formed : IsAuto auto) (units : All (λ (state : State). All (λ (edge : Edge). edge.hi ≤ greatest) state.edges) auto.states)
@@ -52,23 +48,20 @@ module _ (enc : Enc) (counted : ℕ) (spellings : Spellings) (endings : ℕ → 
       (subst (λ l. AllByRecursion (Fine spellings) l) (sym same) (layout_fine spellings endings greatest auto 0 short formed units written))
 
   ends : AllByRecursion (λ (block : CodeBlock). ends_once block.stmts ≡ true) piece.blocks
-  ends = layout_ends endings greatest auto piece.blocks formed units same
+  ends = layout_ends endings greatest auto piece.blocks same
 
   jumps : AllByRecursion (JumpsBelow (length piece.blocks)) (all_statements piece.blocks)
-  jumps = layout_jumps endings greatest auto piece.blocks formed units same
+  jumps = layout_jumps endings greatest auto piece.blocks same
 
   no_state : list_any is_state (all_statements piece.blocks) ≡ false
   no_state = (layout_asks_nothing endings greatest auto 0 piece.blocks same).1
 
   some_block : 0 < length piece.blocks
   some_block =
-      let some : 0 < length (layout endings greatest auto 0) =
-      length-more (states_blocks endings greatest auto (rule_block endings greatest auto 0) (fall_block endings greatest auto 0)
-      (place_of endings greatest auto 0) 0 0 auto.states) (last_codes endings (rules_of auto.states))
-      (choices_code (choices_in endings greatest auto 0 0 auto.states)) in
+      let count = length-layout endings greatest auto in
       let e : length (layout endings greatest auto 0) ≡ length piece.blocks = ap (λ l. length l) (sym same)
       ∙ length-map piece.blocks (λ (block : CodeBlock). block.stmts) in
-      omega (arith, some, e)
+      omega (arith, count, e)
 
   few_blocks : length piece.blocks ≤ 4611686018427387904
   few_blocks = let h : length piece.blocks ≤ statement_count piece.blocks = blocks-few piece.blocks ends in omega (arith, h, few)

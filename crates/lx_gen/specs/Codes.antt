@@ -1,5 +1,7 @@
--- The code of operations, of tests of a unit, of edges, and of the end in a state.
-use Rattle.std.specs.Prelude.{ℕ, suc, List, [], ◌∷◌, Option, Some, None, nat_le, ◌==◌, if◌then◌else◌}
+-- The code of operations, of edges, of the end in a state, and of the fallback.
+use Rattle.std.specs.Prelude.{ℕ, suc, List, [], ◌∷◌, Option, Some, None, Bool, true, false, ◌==◌, if◌then◌else◌}
+use Rattle.std.specs.List.{list_any}
+use Rattle.lx_auto.specs.Automaton.{state_of}
 use Rattle.lx_auto.specs.declared.automaton.Accept.{Accept}
 use Rattle.lx_auto.specs.declared.automaton.Auto.{Auto}
 use Rattle.lx_auto.specs.declared.automaton.Edge.{Edge}
@@ -7,8 +9,7 @@ use Rattle.lx_auto.specs.declared.automaton.State.{State}
 use Rattle.lx_auto.specs.declared.ops.Op.{Op}
 use Rattle.lx_auto.specs.declared.ops.Op.TheVariants as act
 use Rattle.lx_ccode.specs.declared.piece.Stmt.{Stmt}
-use Rattle.lx_ccode.specs.declared.piece.Stmt.TheVariants.{Accept as KeepAccept, Backup, Copy, Goto, IfAccept, IfUnit, Leave, MCopy, MSet, MUnset, Restore, Set, Skip, Unset}
-use Rattle.lx_gen.specs.Endings.{Ending, rule_code}
+use Rattle.lx_ccode.specs.declared.piece.Stmt.TheVariants.{Accept as KeepAccept, Backup, Copy, Goto, IfAccept, Leave, MCopy, MSet, MUnset, Restore, Set, Skip, Unset}
 use Rattle.lx_gen.specs.Sequences.{one_by_one}
 
 -- an operation; the piece counts registers from 1 and histories from 0
@@ -29,23 +30,6 @@ ops_code (op ∷ ops) rest = op_code op ∷ ops_code ops rest
 abbrev pub list_code : Auto → List Op → List Stmt → List Stmt
 list_code auto ops rest = ops_code (one_by_one auto.regs auto.mregs ops) rest
 
--- ---- tests of a unit
-
--- on a unit up to the greatest one the block comes next
-pub record Test : Type 0 where
-  pub greatest : ℕ
-  pub block : ℕ
-
--- the tests one after another, and what comes next where none holds
-abbrev pub tests_code : List Test → (miss : ℕ) → List Stmt
-tests_code [] miss = Goto miss ∷ []
-tests_code (test ∷ tests) miss = IfUnit test.greatest test.block ∷ tests_code tests miss
-
--- the block that tests choose on a unit
-abbrev pub tested : List Test → (miss unit : ℕ) → ℕ
-tested [] miss unit = miss
-tested (test ∷ tests) miss unit = if nat_le unit test.greatest then test.block else tested tests miss unit
-
 -- ---- the fallback
 
 -- where the state with this number was kept last, the block comes next
@@ -65,21 +49,32 @@ chosen (choice ∷ choices) kept = if kept == choice.kept then Some choice.block
 
 -- ---- edges and ends
 
--- an accepting state that is left is kept: the cursor in the marker, and its number
-abbrev pub keep_code : Option Accept → (kept : ℕ) → List Stmt → List Stmt
-keep_code None kept rest = rest
-keep_code (Some accept) kept rest = Backup ∷ KeepAccept kept ∷ rest
+-- an accepting state that is left is kept: the cursor in the marker, and a number
+abbrev pub keep_code : (keeps : Bool) → (kept : ℕ) → List Stmt → List Stmt
+keep_code false kept rest = rest
+keep_code true kept rest = Backup ∷ KeepAccept kept ∷ rest
+
+-- It is kept on the edges to states that do not accept, since only behind these a match can fall back to it.
+abbrev pub keeps_by : Option Accept → (next : Option Accept) → Bool
+keeps_by (Some accept) None = true
+keeps_by _ _ = false
+
+abbrev pub keeps_on : List State → State → Edge → Bool
+keeps_on states state edge = keeps_by state.accept (state_of states edge.to).accept
+
+-- whether a state is kept on some edge
+abbrev pub is_kept : List State → State → Bool
+is_kept states state = list_any (λ edge. keeps_on states state edge) state.edges
 
 -- an edge out of a state, to the block of another one: the operations come before the unit is passed
 abbrev pub edge_code : Auto → State → (kept : ℕ) → Edge → (block : ℕ) → List Stmt
 edge_code auto state kept edge block =
-    keep_code state.accept kept (list_code auto state.leave (list_code auto edge.ops (Skip ∷ Goto block ∷ [])))
+    keep_code (keeps_on auto.states state edge) kept (list_code auto state.leave (list_code auto edge.ops (Skip ∷ Goto block ∷ [])))
 
-module _ (endings : ℕ → Ending) where
-  -- the end of a match in a state that accepts, and then the rest
-  abbrev pub accept_code : Auto → Accept → List Stmt → List Stmt
-  accept_code auto accept rest = list_code auto accept.ops (rule_code endings accept.rule accept.values rest)
+-- the end of a match in a state that accepts: its last operations, and then the rule's block
+abbrev pub accept_code : Auto → List Op → (block : ℕ) → List Stmt
+accept_code auto ops block = list_code auto ops (Goto block ∷ [])
 
-  -- the end of a match by a state that was kept, and then the rest: the values are read as they are
-  abbrev pub restore_code : Accept → List Stmt → List Stmt
-  restore_code accept rest = Restore ∷ rule_code endings accept.rule accept.values rest
+-- the end of a match by a state that was kept
+abbrev pub restore_code : (block : ℕ) → List Stmt
+restore_code block = Restore ∷ Goto block ∷ []

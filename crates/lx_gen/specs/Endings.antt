@@ -78,6 +78,10 @@ abbrev pub rule_code : (endings : ℕ → Ending) → (rule : ℕ) → List Held
 rule_code endings rule values rest =
     tags_code (endings rule) 0 (endings rule).tags values (back_code (slash_held (endings rule).slash values) rest)
 
--- and its last statements, which stand in one block for all states that accept by the rule
+-- and its last statements
 abbrev pub last_code : (endings : ℕ → Ending) → (rule : ℕ) → List Stmt
 last_code endings rule = cond_code (endings rule).goes_to (action_code rule (endings rule) (endings rule).action)
+
+-- the whole, which stands in one block for all states that accept by the rule
+abbrev pub ending_code : (endings : ℕ → Ending) → (rule : ℕ) → List Held → List Stmt
+ending_code endings rule values = rule_code endings rule values (last_code endings rule)

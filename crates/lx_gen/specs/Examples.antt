@@ -10,30 +10,34 @@ use Rattle.lx_ccode.specs.declared.piece.Stmt.TheVariants.{Accept, Backup, Code,
 use Rattle.lx_ccode.specs.Machine.{by_rule, no_rule, tag_offset}
 use Rattle.lx_ccode.specs.Runs.{Ended}
 use Rattle.lx_gen.specs.Endings.{Ending}
-use Rattle.lx_gen.specs.Layout.{layout}
+use Rattle.lx_gen.specs.Layout.{front_blocks, layout, numbered}
 use Rattle.lx_gen.specs.Sequences.{one_by_one}
 use Rattle.lx_gen.specs.Starts.{run_with}
+use Rattle.lx_gen.specs.TestTrees.{balanced}
+use Rattle.lx_gen.specs.Ways.{Stretch}
 
 -- each rule has the tag `t`, and the action `a`
 abbrev pub tagged : ℕ → Ending
 tagged rule = record { tags = (116 ∷ []) ∷ []; slash = None; groups = 0; goes_to = None; action = Some (97 ∷ []); line = None }
 
--- The layout of the automaton of `[a-cx-z] ("." [a-cx-z])* @t` for bytes. The two ranges of state 0 are one way. State 1 stands from
--- block 2 on: a dot, the end in it, and the fallback to it. Then come the fallback, and the last statements of rule 1.
+-- The layout of the automaton of `[a-cx-z] ("." [a-cx-z])* @t` for bytes. The two ranges of state 0 are one way. Of its tests the one in
+-- the middle comes first, and the lower one stands in block 1. State 1 stands from block 3 on: a dot, on which it is kept, and the end in
+-- it. Then come the fallback, what it does for rule 1, and the end of rule 1.
 abbrev pub dotted_blocks : List (List Stmt)
 dotted_blocks =
-    (Peek ∷ IfUnit 96 6 ∷ IfUnit 99 1 ∷ IfUnit 119 6 ∷ IfUnit 122 1 ∷ Goto 6 ∷ [])
-    ∷ (Skip ∷ Goto 2 ∷ [])
-    ∷ (Peek ∷ IfUnit 45 4 ∷ IfUnit 46 3 ∷ Goto 4 ∷ [])
-    ∷ (Backup ∷ Accept 2 ∷ Set 1 ∷ Skip ∷ Goto 0 ∷ [])
-    ∷ (Set 1 ∷ Tag (116 ∷ []) false 1 ∷ Goto 7 ∷ [])
-    ∷ (Restore ∷ Tag (116 ∷ []) false 1 ∷ Goto 7 ∷ [])
-    ∷ (IfAccept 2 5 ∷ Leave ∷ [])
-    ∷ (Code 1 None (97 ∷ []) ∷ [])
+    (Peek ∷ IfUnit 99 1 ∷ IfUnit 119 6 ∷ IfUnit 122 2 ∷ Goto 6 ∷ [])
+    ∷ (IfUnit 96 6 ∷ Goto 2 ∷ [])
+    ∷ (Skip ∷ Goto 3 ∷ [])
+    ∷ (Peek ∷ IfUnit 45 5 ∷ IfUnit 46 4 ∷ Goto 5 ∷ [])
+    ∷ (Backup ∷ Accept 1 ∷ Set 1 ∷ Skip ∷ Goto 0 ∷ [])
+    ∷ (Set 1 ∷ Goto 8 ∷ [])
+    ∷ (IfAccept 1 7 ∷ Leave ∷ [])
+    ∷ (Restore ∷ Goto 8 ∷ [])
+    ∷ (Tag (116 ∷ []) false 1 ∷ Code 1 None (97 ∷ []) ∷ [])
     ∷ []
 
 -- An automaton of `[^] [a-z]*` with the rule 1. On any byte state 0 goes on, so it has no test. The end in state 1 is the rule's
--- block.
+-- block. No state is kept, since each state behind the first one accepts.
 abbrev pub any_then : Auto
 any_then = record {
   states = record {
@@ -52,10 +56,9 @@ any_then = record {
 abbrev pub any_blocks : List (List Stmt)
 any_blocks =
     (Skip ∷ Goto 1 ∷ [])
-    ∷ (Peek ∷ IfUnit 96 5 ∷ IfUnit 122 2 ∷ Goto 5 ∷ [])
-    ∷ (Backup ∷ Accept 2 ∷ Skip ∷ Goto 1 ∷ [])
-    ∷ (Restore ∷ Goto 5 ∷ [])
-    ∷ (IfAccept 2 3 ∷ Leave ∷ [])
+    ∷ (Peek ∷ IfUnit 96 4 ∷ IfUnit 122 2 ∷ Goto 4 ∷ [])
+    ∷ (Skip ∷ Goto 1 ∷ [])
+    ∷ (Leave ∷ [])
     ∷ (Code 1 None (97 ∷ []) ∷ [])
     ∷ []
 
@@ -65,6 +68,23 @@ untagged rule = record { tags = []; slash = None; groups = 0; goes_to = None; ac
 pub record LayoutsStand : Type 0 where
   pub dotted : layout tagged 255 dotted 0 ≡ dotted_blocks
   pub any : layout untagged 255 any_then 0 ≡ any_blocks
+
+-- units go the way 0 up to 10, the way 1 up to 20, and so on; behind the last of seven tests they go the way 7
+abbrev pub seven : List Stretch
+seven =
+    record { greatest = 10; way = Some 0 } ∷ record { greatest = 20; way = Some 1 } ∷ record { greatest = 30; way = Some 2 }
+    ∷ record { greatest = 40; way = Some 3 } ∷ record { greatest = 50; way = Some 4 } ∷ record { greatest = 60; way = Some 5 }
+    ∷ record { greatest = 70; way = Some 6 } ∷ []
+
+-- Of these each unit needs three tests. The block for those below 40 comes behind the first one, then the one for those below 20, and
+-- then the one for those between 40 and 60.
+pub record TestsAreFew : Type 0 where
+  pub seven : front_blocks 0 (numbered 4 12 (balanced seven (Some 7))) ≡
+      (Peek ∷ IfUnit 40 1 ∷ IfUnit 60 3 ∷ IfUnit 70 10 ∷ Goto 11 ∷ [])
+      ∷ (IfUnit 20 2 ∷ IfUnit 30 6 ∷ Goto 7 ∷ [])
+      ∷ (IfUnit 10 4 ∷ Goto 5 ∷ [])
+      ∷ (IfUnit 50 8 ∷ Goto 9 ∷ [])
+      ∷ []
 
 -- two registers are swapped by the spare 3, and one of two writes is left out
 pub record SequencesAreShort : Type 0 where

@@ -1,67 +1,81 @@
 -- The blocks of an automaton, without tests of the end and without refills.
-use Rattle.std.specs.Prelude.{◌≡◌, ℕ, zero, suc, ◌+◌, ◌-◌, Bool, true, false, List, [], ◌∷◌, ◌++◌, length, Option, Some, None, nat_eq, slice_get, if◌then◌else◌}
+use Rattle.std.specs.Prelude.{◌≡◌, ℕ, zero, suc, ◌+◌, Bool, true, false, List, [], ◌∷◌, ◌++◌, length, Option, Some, None, nat_eq, slice_get, if◌then◌else◌}
 use Rattle.lx_auto.specs.declared.automaton.Accept.{Accept}
 use Rattle.lx_auto.specs.declared.automaton.Auto.{Auto}
 use Rattle.lx_auto.specs.declared.automaton.Edge.{Edge}
 use Rattle.lx_auto.specs.declared.automaton.State.{State}
+use Rattle.lx_auto.specs.declared.ops.Op.{Op}
 use Rattle.lx_ccode.specs.declared.piece.Stmt.{Stmt}
 use Rattle.lx_ccode.specs.declared.piece.Stmt.TheVariants.{Goto, Peek}
-use Rattle.lx_gen.specs.Codes.{Choice, Test, accept_code, choices_code, edge_code, restore_code, tests_code}
-use Rattle.lx_gen.specs.Endings.{Ending, last_code}
-use Rattle.lx_gen.specs.Sequences.{is_in}
-use Rattle.lx_gen.specs.Ways.{Stretch, edge_split, ways_of}
+use Rattle.lx_gen.specs.Codes.{Choice, accept_code, choices_code, edge_code, is_kept, restore_code}
+use Rattle.lx_gen.specs.Endings.{Ending, ending_code}
+use Rattle.lx_gen.specs.TestTrees.{TestTree, edge_tree, fork, inner_blocks, inner_size, leaf, test, tree_code}
+use Rattle.lx_gen.specs.Ways.{ways_of}
 
 -- ---- the rules by which states accept
 
-abbrev pub with_rule : List ℕ → Option Accept → List ℕ
-with_rule found None = found
-with_rule found (Some accept) = if is_in accept.rule found then found else found ++ accept.rule ∷ []
-
-abbrev pub rules_onto : (found : List ℕ) → List State → List ℕ
-rules_onto found [] = found
-rules_onto found (state ∷ states) = rules_onto (with_rule found state.accept) states
-
--- each of them once, in the order in which they are found
-abbrev pub rules_of : List State → List ℕ
-rules_of states = rules_onto [] states
-
--- the place of a rule among them
-abbrev pub rule_place : List ℕ → (rule : ℕ) → ℕ
+-- the place of a rule among those of accepts
+abbrev pub rule_place : List Accept → (rule : ℕ) → ℕ
 rule_place [] rule = 0
-rule_place (other ∷ others) rule = if nat_eq rule other then 0 else suc (rule_place others rule)
+rule_place (accept ∷ accepts) rule = if nat_eq rule accept.rule then 0 else suc (rule_place accepts rule)
+
+abbrev pub has_rule : List Accept → (rule : ℕ) → Bool
+has_rule [] rule = false
+has_rule (accept ∷ accepts) rule = if nat_eq rule accept.rule then true else has_rule accepts rule
+
+-- behind others, unless one of these is by the same rule
+abbrev pub with_accept : List Accept → Option Accept → List Accept
+with_accept found None = found
+with_accept found (Some accept) = if has_rule found accept.rule then found else found ++ accept ∷ []
+
+-- of what is chosen of states the first accept of each rule, in the order in which they are found
+abbrev pub firsts_onto : (choose : State → Option Accept) → (found : List Accept) → List State → List Accept
+firsts_onto choose found [] = found
+firsts_onto choose found (state ∷ states) = firsts_onto choose (with_accept found (choose state)) states
+
+-- the first accept of each rule
+abbrev pub accepts_of : List State → List Accept
+accepts_of states = firsts_onto (λ state. state.accept) [] states
+
+abbrev pub kept_accept : (states : List State) → State → Option Accept
+kept_accept states state = if is_kept states state then state.accept else None
+
+-- the first accept of each rule to which a match may fall back
+abbrev pub kept_of : List State → List Accept
+kept_of states = firsts_onto (kept_accept states) [] states
+
+-- States that accept by one rule are kept by one number. The number 0 says that none was kept.
+abbrev pub kept_number : (kepts : List Accept) → Option Accept → ℕ
+kept_number kepts None = 0
+kept_number kepts (Some accept) = suc (rule_place kepts accept.rule)
 
 -- ---- how many blocks there are
 
--- a state with tests has a block for them
-abbrev pub front_size : List Stretch → ℕ
-front_size [] = 0
-front_size (stretch ∷ stretches) = 1
+-- a state with tests has a block for them, and those for its lower tests
+abbrev pub front_size : {A : Type 0} → TestTree A → ℕ
+front_size (leaf way) = 0
+front_size tree = suc (inner_size tree)
 
-abbrev pub is_nothing : List Stmt → Bool
-is_nothing [] = true
-is_nothing (statement ∷ code) = false
+-- the end of a match by an accept has a block of its own, if something is to be done before the rule's block
+abbrev pub own_size : List Op → ℕ
+own_size [] = 0
+own_size (op ∷ ops) = 1
 
-module _ (endings : ℕ → Ending) (greatest : ℕ) (auto : Auto) where
-  -- nothing comes before the rule's last statements where a match ends
-  abbrev pub is_bare : Accept → Bool
-  is_bare accept = is_nothing (accept_code endings auto accept [])
+abbrev pub end_size : Option Accept → ℕ
+end_size None = 0
+end_size (Some accept) = own_size accept.ops
 
-  -- an accepting state has a block for the end of a match in it, unless that is bare, and one for the fallback to it
-  abbrev pub ends_size : Option Accept → ℕ
-  ends_size None = 0
-  ends_size (Some accept) = if is_bare accept then 1 else 2
+-- a state without edges has a block for the end alone; state 0 has one in any case
+abbrev pub lone_size : (number : ℕ) → Option Accept → ℕ
+lone_size zero accept = 1
+lone_size (suc number) accept = end_size accept
 
-  -- a state without edges has one block, but none where this would only jump; state 0 has one in any case
-  abbrev pub lone_size : (number : ℕ) → Option Accept → ℕ
-  lone_size zero accept = 1
-  lone_size (suc number) None = 0
-  lone_size (suc number) (Some accept) = if is_bare accept then 0 else 1
-
-  -- the others have a block for their tests, one for each way out, and their ends
+module _ (greatest : ℕ) where
+  -- the others have blocks for their tests, one for each way out, and one for the end
   abbrev pub size_by : (number : ℕ) → List Edge → Option Accept → ℕ
   size_by number [] accept = lone_size number accept
   size_by number (edge ∷ edges) accept =
-      front_size (edge_split greatest (edge ∷ edges)).tests + (length (ways_of (edge ∷ edges)) + ends_size accept)
+      front_size (edge_tree greatest (edge ∷ edges)) + (length (ways_of (edge ∷ edges)) + end_size accept)
 
   abbrev pub state_size : (number : ℕ) → State → ℕ
   state_size number state = size_by number state.edges state.accept
@@ -78,27 +92,32 @@ abbrev pub way_block : (first end : ℕ) → Option ℕ → ℕ
 way_block first end None = end
 way_block first end (Some place) = first + place
 
-abbrev pub numbered : (first end : ℕ) → List Stretch → List Test
-numbered first end [] = []
-numbered first end (stretch ∷ stretches) =
-    record { greatest = stretch.greatest; block = way_block first end stretch.way } ∷ numbered first end stretches
+-- the blocks of the ways that a tree picks
+abbrev pub numbered : (first end : ℕ) → TestTree (Option ℕ) → TestTree ℕ
+numbered first end (leaf way) = leaf (way_block first end way)
+numbered first end (test greatest way high) = test greatest (way_block first end way) (numbered first end high)
+numbered first end (fork greatest low high) = fork greatest (numbered first end low) (numbered first end high)
 
-abbrev pub front_blocks : (first end : ℕ) → List Stretch → (last : Option ℕ) → List (List Stmt)
-front_blocks first end [] last = []
-front_blocks first end (stretch ∷ stretches) last =
-    (Peek ∷ tests_code (numbered first end (stretch ∷ stretches)) (way_block first end last)) ∷ []
+-- the block that reads the unit stands at `from`, and those for its lower tests come behind it
+abbrev pub tested_blocks : (from : ℕ) → TestTree ℕ → List (List Stmt)
+tested_blocks from tree = (Peek ∷ tree_code (suc from) tree) ∷ inner_blocks (suc from) tree
 
--- the rules' last statements
-abbrev pub last_codes : (endings : ℕ → Ending) → (rules : List ℕ) → List (List Stmt)
-last_codes endings [] = []
-last_codes endings (rule ∷ rules) = last_code endings rule ∷ last_codes endings rules
+-- where all units go one way there are none
+abbrev pub front_blocks : (from : ℕ) → TestTree ℕ → List (List Stmt)
+front_blocks from (leaf block) = []
+front_blocks from tree = tested_blocks from tree
 
--- with the blocks of the rules' last statements and of the fallback
-module _ (endings : ℕ → Ending) (greatest : ℕ) (auto : Auto) (rules : ℕ → ℕ) (fall : ℕ) where
-  -- where a match ends in a state: in its own block, in that of the rule, or in that of the fallback
+-- the block where a match ends by an accept: its own one, or that of the rule
+abbrev pub own_block : (own rule : ℕ) → List Op → ℕ
+own_block own rule [] = rule
+own_block own rule (op ∷ ops) = own
+
+-- with the blocks of the rules' ends and of the fallback
+module _ (greatest : ℕ) (auto : Auto) (rules : ℕ → ℕ) (fall : ℕ) where
+  -- where a match ends in a state
   abbrev pub end_block : (own : ℕ) → Option Accept → ℕ
   end_block own None = fall
-  end_block own (Some accept) = if is_bare endings greatest auto accept then rules accept.rule else own
+  end_block own (Some accept) = own_block own (rules accept.rule) accept.ops
 
   -- where the code of a state without edges stands
   abbrev pub lone_place : (number own : ℕ) → Option Accept → ℕ
@@ -113,42 +132,39 @@ module _ (endings : ℕ → Ending) (greatest : ℕ) (auto : Auto) (rules : ℕ 
   abbrev pub place_in : (number from : ℕ) → List State → (n : ℕ) → ℕ
   place_in number from [] n = from
   place_in number from (state ∷ states) zero = place_by number from state.edges state.accept
-  place_in number from (state ∷ states) (suc n) = place_in (suc number) (from + state_size endings greatest auto number state) states n
+  place_in number from (state ∷ states) (suc n) = place_in (suc number) (from + state_size greatest number state) states n
 
-  abbrev pub accept_blocks : Accept → (bare : Bool) → List (List Stmt)
-  accept_blocks accept true = []
-  accept_blocks accept false = accept_code endings auto accept (Goto (rules accept.rule) ∷ []) ∷ []
+  abbrev pub own_blocks : (block : ℕ) → List Op → List (List Stmt)
+  own_blocks block [] = []
+  own_blocks block (op ∷ ops) = accept_code auto (op ∷ ops) block ∷ []
 
-  abbrev pub ends_blocks : Option Accept → List (List Stmt)
-  ends_blocks None = []
-  ends_blocks (Some accept) =
-      accept_blocks accept (is_bare endings greatest auto accept) ++ restore_code endings accept (Goto (rules accept.rule) ∷ []) ∷ []
+  abbrev pub end_blocks : Option Accept → List (List Stmt)
+  end_blocks None = []
+  end_blocks (Some accept) = own_blocks (rules accept.rule) accept.ops
 
   -- without an edge
   abbrev pub lone_code : Option Accept → List Stmt
   lone_code None = Goto fall ∷ []
-  lone_code (Some accept) = accept_code endings auto accept (Goto (rules accept.rule) ∷ [])
+  lone_code (Some accept) = accept_code auto accept.ops (rules accept.rule)
 
   abbrev pub lone_blocks : (number : ℕ) → Option Accept → List (List Stmt)
   lone_blocks zero accept = lone_code accept ∷ []
-  lone_blocks (suc number) None = []
-  lone_blocks (suc number) (Some accept) = accept_blocks accept (is_bare endings greatest auto accept)
+  lone_blocks (suc number) accept = end_blocks accept
 
-  module _ (place : ℕ → ℕ) where
-    -- a state is kept by its number and one more, since the number 0 says that none was kept
-    abbrev pub way_blocks : (number : ℕ) → State → (ways : List Edge) → List (List Stmt)
-    way_blocks number state [] = []
-    way_blocks number state (way ∷ ways) = edge_code auto state (suc number) way (place way.to) ∷ way_blocks number state ways
+  module _ (kepts : List Accept) (place : ℕ → ℕ) where
+    abbrev pub way_blocks : State → (ways : List Edge) → List (List Stmt)
+    way_blocks state [] = []
+    way_blocks state (way ∷ ways) = edge_code auto state (kept_number kepts state.accept) way (place way.to) ∷ way_blocks state ways
 
     -- the blocks of a state, of which the first one stands at `from`
     abbrev pub blocks_by : (number from : ℕ) → State → List Edge → List (List Stmt)
     blocks_by number from state [] = lone_blocks number state.accept
     blocks_by number from state (edge ∷ edges) =
-        front_blocks
-        (from + front_size (edge_split greatest (edge ∷ edges)).tests)
-        (end_block (from + front_size (edge_split greatest (edge ∷ edges)).tests + length (ways_of (edge ∷ edges))) state.accept)
-        (edge_split greatest (edge ∷ edges)).tests (edge_split greatest (edge ∷ edges)).last
-        ++ (way_blocks number state (ways_of (edge ∷ edges)) ++ ends_blocks state.accept)
+        front_blocks from (numbered
+        (from + front_size (edge_tree greatest (edge ∷ edges)))
+        (end_block (from + front_size (edge_tree greatest (edge ∷ edges)) + length (ways_of (edge ∷ edges))) state.accept)
+        (edge_tree greatest (edge ∷ edges)))
+        ++ (way_blocks state (ways_of (edge ∷ edges)) ++ end_blocks state.accept)
 
     abbrev pub state_blocks : (number from : ℕ) → State → List (List Stmt)
     state_blocks number from state = blocks_by number from state state.edges
@@ -156,39 +172,52 @@ module _ (endings : ℕ → Ending) (greatest : ℕ) (auto : Auto) (rules : ℕ 
     abbrev pub states_blocks : (number from : ℕ) → List State → List (List Stmt)
     states_blocks number from [] = []
     states_blocks number from (state ∷ states) =
-        state_blocks number from state ++ states_blocks (suc number) (from + state_size endings greatest auto number state) states
+        state_blocks number from state ++ states_blocks (suc number) (from + state_size greatest number state) states
+
+-- ---- the fallback and the rules
+
+-- what was kept by a number on is found again in the blocks from one on
+abbrev pub choices_from : (kept block : ℕ) → (kepts : List Accept) → List Choice
+choices_from kept block [] = []
+choices_from kept block (accept ∷ kepts) = record { kept = kept; block = block } ∷ choices_from (suc kept) (suc block) kepts
+
+abbrev pub restore_blocks : (rules : ℕ → ℕ) → (kepts : List Accept) → List (List Stmt)
+restore_blocks rules [] = []
+restore_blocks rules (accept ∷ kepts) = restore_code (rules accept.rule) ∷ restore_blocks rules kepts
+
+-- the ends of the rules
+abbrev pub ending_blocks : (endings : ℕ → Ending) → (accepts : List Accept) → List (List Stmt)
+ending_blocks endings [] = []
+ending_blocks endings (accept ∷ accepts) = ending_code endings accept.rule accept.values ∷ ending_blocks endings accepts
 
 -- ---- the whole
 
-module _ (endings : ℕ → Ending) (greatest : ℕ) (auto : Auto) where
-  -- a state that accepts and may be left is found again by its number; its last block is the one for that
-  abbrev pub choice_by : (number from : ℕ) → State → List Edge → Option Accept → List Choice → List Choice
-  choice_by number from state [] accept choices = choices
-  choice_by number from state (edge ∷ edges) None choices = choices
-  choice_by number from state (edge ∷ edges) (Some accept) choices =
-      record { kept = suc number; block = from + (state_size endings greatest auto number state - 1) } ∷ choices
-
-  abbrev pub choices_in : (number from : ℕ) → List State → List Choice
-  choices_in number from [] = []
-  choices_in number from (state ∷ states) =
-      choice_by number from state state.edges state.accept (choices_in (suc number) (from + state_size endings greatest auto number state) states)
-
-  -- the fallback comes behind the states, and the rules' last statements behind it
+module _ (greatest : ℕ) (auto : Auto) where
+  -- behind the states comes the fallback, then what is done in it by rule, and then the ends of the rules
   abbrev pub fall_block : (from : ℕ) → ℕ
-  fall_block from = end_of endings greatest auto 0 from auto.states
+  fall_block from = end_of greatest 0 from auto.states
 
   abbrev pub rule_block : (from : ℕ) → (rule : ℕ) → ℕ
-  rule_block from rule = suc (fall_block from) + rule_place (rules_of auto.states) rule
+  rule_block from rule = suc (fall_block from) + length (kept_of auto.states) + rule_place (accepts_of auto.states) rule
 
   -- where the code of each state stands
   abbrev pub place_of : (from : ℕ) → (number : ℕ) → ℕ
-  place_of from number = place_in endings greatest auto (rule_block from) (fall_block from) 0 from auto.states number
+  place_of from number = place_in greatest auto (rule_block from) (fall_block from) 0 from auto.states number
 
-  -- the blocks of the automaton, of which the first one stands at `from`
-  abbrev pub layout : (from : ℕ) → List (List Stmt)
-  layout from =
-      states_blocks endings greatest auto (rule_block from) (fall_block from) (place_of from) 0 from auto.states
-      ++ choices_code (choices_in 0 from auto.states) ∷ last_codes endings (rules_of auto.states)
+-- the blocks of the automaton, of which the first one stands at `from`
+abbrev pub layout : (endings : ℕ → Ending) → (greatest : ℕ) → Auto → (from : ℕ) → List (List Stmt)
+layout endings greatest auto from =
+    states_blocks greatest auto (rule_block greatest auto from) (fall_block greatest auto from) (kept_of auto.states)
+    (place_of greatest auto from) 0 from auto.states
+    ++ choices_code (choices_from 1 (suc (fall_block greatest auto from)) (kept_of auto.states))
+    ∷ (restore_blocks (rule_block greatest auto from) (kept_of auto.states) ++ ending_blocks endings (accepts_of auto.states))
+
+-- accepts of one rule hold the values of its tags in the same places
+abbrev pub AreAgreed : List State → Type 0
+AreAgreed states =
+    (number other : ℕ) (first second : State) (accept same : Accept) → slice_get states number ≡ Some first
+    → slice_get states other ≡ Some second → first.accept ≡ Some accept → second.accept ≡ Some same → accept.rule ≡ same.rule
+    → accept.values ≡ same.values
 
 -- these codes stand in blocks from a number on
 abbrev pub StandsFrom : (blocks : List (List Stmt)) → (from : ℕ) → List (List Stmt) → Type 0

@@ -5,6 +5,7 @@ pub mod Endings
 pub mod Examples
 pub mod Layout
 pub mod Numbers
+pub mod Plans
 pub mod Right
 pub mod Rules
 pub mod Scanner
@@ -12,6 +13,7 @@ pub mod Sequences
 pub mod Serving
 pub mod Starts
 pub mod Stops
+pub mod TestTrees
 pub mod Told
 pub mod Turns
 pub mod Views

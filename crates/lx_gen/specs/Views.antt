@@ -1,7 +1,11 @@
 -- What the definitions see of what the code holds.
-use Rattle.std.specs.Prelude.{List, map}
+use Rattle.std.specs.Prelude.{ℕ, List, Option, map}
 use Rattle.lx_auto.specs.declared.automaton.Edge.{Edge}
+use Rattle.lx_gen.specs.TestTrees.{TestTree, fork, leaf, test}
 use Rattle.lx_gen.specs.Ways.{Split, Stretch}
+use Rattle.lx_gen.specs.declared.test_trees.TestTree as held_tree
+use Rattle.lx_gen.specs.declared.test_trees.TestTree.TheOpen.{TestTree-F}
+use Rattle.lx_gen.specs.declared.test_trees.TestTree.TheFolds.{fold-TestTree}
 use Rattle.lx_gen.specs.declared.unit_splits.Split as held_split
 use Rattle.lx_gen.specs.declared.unit_splits.Stretch as held_stretch
 use Rattle.lx_gen.specs.declared.ways.Way.{Way}
@@ -17,3 +21,12 @@ seen_stretches stretches = map seen_stretch stretches
 
 abbrev pub seen_split : held_split.Split → Split
 seen_split split = record { tests = seen_stretches split.tests.items; last = split.last }
+
+-- one test, with the trees behind it
+abbrev pub seen_test : TestTree-F (TestTree (Option ℕ)) → TestTree (Option ℕ)
+seen_test (TestTree-F.Leaf way) = leaf way
+seen_test (TestTree-F.Test greatest way high) = test greatest way high.value
+seen_test (TestTree-F.Fork greatest low high) = fork greatest low.value high.value
+
+abbrev pub seen_tree : held_tree.TestTree → TestTree (Option ℕ)
+seen_tree = fold-TestTree (TestTree (Option ℕ)) seen_test

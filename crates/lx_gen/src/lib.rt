@@ -1,9 +1,23 @@
 //! The emitted piece of an automaton with registers.
 #![tactic(auto)]
 
+mod accepts;
+mod blocks;
+mod endings;
+mod ends;
 pub mod examples;
+mod fallback;
+mod fronts;
 pub mod laws;
+mod layouts;
+mod places;
+mod plans;
+mod scanner;
 mod sequences;
+mod state_blocks;
 mod statements;
+mod test_trees;
 mod unit_splits;
 mod ways;
+
+pub use scanner::generate;

@@ -29,8 +29,6 @@ pub mod RuleCuts
 pub mod RuleParts
 pub mod Scripts
 pub mod ShapeOfScript
-pub mod StringLists
-pub mod StringTrees
 pub mod TreeWalk
 pub mod WalkTree
 pub mod WholeWalk

@@ -15,7 +15,6 @@ pub mod Plain
 pub mod Posix
 pub mod Reading
 pub mod Script
-pub mod Strings
 pub mod Term
 pub mod Tree
 pub mod Values

@@ -1,5 +1,5 @@
 //! What holds of the definitions. Each law is the contract of a function that does nothing.
-ghost use Rattle.std.specs.Prelude.{◌≡◌, ◌≢◌, ◌↔◌, ◌++◌, ◌<◌, ◌*◌, ℕ, List, [], length, Bool, Option, Some, slice_get};
+ghost use Rattle.std.specs.Prelude.{◌≡◌, ◌≢◌, ◌↔◌, ◌++◌, ◌<◌, ◌*◌, ℕ, List, [], length, Bool, Some, slice_get};
 ghost use Rattle.lx_base.specs.declared.settings.Enc.{Enc};
 ghost use Rattle.lx_regex.specs.Automaton.{State, automaton};
 ghost use Rattle.lx_regex.specs.Cut.{BeginsMatch, Cut, Precedes, rule_part};
@@ -10,12 +10,10 @@ ghost use Rattle.lx_regex.specs.Order.{Policy};
 ghost use Rattle.lx_regex.specs.Parts.{IsBeginning, Part, parts_in, parts_of};
 ghost use Rattle.lx_regex.specs.Pattern.{Pattern, terms_of, with_terms};
 ghost use Rattle.lx_regex.specs.Script.{script};
-ghost use Rattle.lx_regex.specs.Strings.{AreStrings};
 ghost use Rattle.lx_regex.specs.Term.{Term, parts};
 ghost use Rattle.lx_regex.specs.Tree.{Tree};
 ghost use Rattle.lx_regex.specs.Values.{value_of};
 ghost use Rattle.lx_regex.specs.Walk.{Walk, symbols};
-ghost use Rattle.lx_regex.specs.declared.strings.StringRule.{StringRule};
 
 /// A term has as many parts in preorder as are counted, a rule's own part stands at its number, and the automaton has the
 /// beginning of part p as its state 2 p.
@@ -80,11 +78,4 @@ pub fn kernel_is_unique()
 pub fn match_is_unique()
     ensures { (policy : Policy) (enc : Enc) (patterns : List Pattern) (stream : List ℕ) (start : ℕ) (outcome other : Outcome)
         → IsMatch policy enc patterns stream start outcome → IsMatch policy enc patterns stream start other → outcome ≡ other }
-{}
-
-/// A rule list is a list of strings in one way at most.
-pub fn strings_are_unique()
-    ensures { (patterns : List Pattern) (strings others : List StringRule) (default other : Option ℕ)
-        → AreStrings patterns strings default → AreStrings patterns others other
-        → (strings ≡ others) × (default ≡ other) }
 {}

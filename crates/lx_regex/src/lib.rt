@@ -6,9 +6,7 @@ pub mod expr;
 pub mod laws;
 pub mod parts;
 pub mod rules;
-pub mod strings;
 
 pub use expr::{Expr, nullable, size};
 pub use parts::{Part, PartSort, Parts};
 pub use rules::{Kind, Rule, RuleSet, Tag};
-pub use strings::{StringRule, Strings, strings_of};

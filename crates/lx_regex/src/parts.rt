@@ -233,6 +233,3 @@ impl Parts {
         Ok(())
     }
 }
-
-#[cfg(test)]
-mod tests;

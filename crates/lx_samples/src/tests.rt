@@ -1,2 +1,3 @@
-mod automata;
+mod encode;
+mod regex;
 mod rules;

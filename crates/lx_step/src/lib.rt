@@ -11,8 +11,6 @@ mod scanner;
 mod sizes;
 mod slots;
 mod step;
-#[cfg(test)]
-mod tests;
 mod units;
 
 pub use answers::{Group, Outcome, StmtAt};

@@ -20,6 +20,3 @@ pub use places::Place;
 pub use search::Search;
 pub use states::{Event, Move};
 pub use tnfa::Tnfa;
-
-#[cfg(test)]
-mod tests;

@@ -4,7 +4,9 @@ use lx_files::{Files, MemFiles, MemSink};
 use std::alloc::Global;
 use std::test::Fail;
 
+mod automata;
 mod classes;
+mod compiled;
 mod encodings;
 mod sources;
 

@@ -4,7 +4,7 @@ use super::{NONE, run};
 use std::test::Fail;
 
 #[test]
-fn classes_of_one_point_are_strings(rt: HostRuntime) -> Result<(), Fail> {
+fn classes_are_matched(rt: HostRuntime) -> Result<(), Fail> {
     for (options, rules, input, lines) in [
         (
             "",
@@ -36,6 +36,18 @@ fn classes_of_one_point_are_strings(rt: HostRuntime) -> Result<(), Fail> {
             b"a".as_slice(),
             "rule 2 0 1\nend 1 1\n",
         ),
+        (
+            "--empty-class match-none",
+            "[a]\\[a] { }\n* { }\n",
+            b"a".as_slice(),
+            "rule 2 0 1\nend 1 1\n",
+        ),
+        (
+            "",
+            "'if' { }\n* { }\n",
+            b"iFx".as_slice(),
+            "rule 1 0 2\nrule 2 2 3\nend 3 3\n",
+        ),
     ] {
         let left = compile_and_run(rt.alloc(), options, rules, input)?;
         assert_eq!(rt; left.err.bytes(), b"".as_slice(), "{rules}");
@@ -52,16 +64,6 @@ fn classes_are_refused_at_their_places(rt: HostRuntime) -> Result<(), Fail> {
             "-i --empty-class error s.re",
             "/*!re2c\n[a]\\[a] { }\n*/\n",
             "s.re:2:4: error: empty class\n",
-        ),
-        (
-            "-i --empty-class match-none s.re",
-            "/*!re2c\nre2c:yyfill:enable = 0;\n[a]\\[a] { }\n*/\n",
-            "s.re:1:1: error: not supported yet\n",
-        ),
-        (
-            "-i s.re",
-            "/*!re2c\nre2c:yyfill:enable = 0;\n'if' { }\n*/\n",
-            "s.re:1:1: error: not supported yet\n",
         ),
         (
             "-i s.re",

@@ -284,7 +284,6 @@ fn what_waits_is_refused_at_its_sign(rt: HostRuntime) -> Result<(), Fail> {
 fn blocks_wait_at_their_opener(rt: HostRuntime) -> Result<(), Fail> {
     for source in [
         "/*!re2c\n\"a\" { }\n*/\n",
-        "/*!re2c\nre2c:yyfill:enable = 0;\n(\"a\" | \"b\")+ { }\n*/\n",
         "/*!rules:re2c\n\"a\" { }\n*/\n",
         "/*!ignore:re2c */\n",
     ] {

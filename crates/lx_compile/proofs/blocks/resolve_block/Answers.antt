@@ -24,9 +24,9 @@ returns-in_err-after-clause-block c =
     (StopsAt-rules c.args.options.now (environment_view c.args.env) c.args.kind c.args.body.now c.args.at c.args.start code
     c.in_ok-tokens.tokens c.in_ok-tree.tree.items c.in_err-after.field-0.0 read c.in_err-after.ensures.resolves)
 
-pub returns-then-not-branch-clause-block : goal.returns-then-not-branch-clause-block
-returns-then-not-branch-clause-block c =
-    let supported = c.in_ok-are_supported.ensures in
+pub returns-then-not-are_supported-clause-block : goal.returns-then-not-are_supported-clause-block
+returns-then-not-are_supported-clause-block c =
+    let supported = c.are_supported.ensures in
     let code : c.args.kind ≡ Code = search rules in
     let read : IsRead c.args.body.now c.args.start c.in_ok-tokens.tokens c.in_ok-tree.tree.items =
     record { tokens_are = c.in_ok-tokens.ensures; items_are = c.in_ok-tree.ensures } in

@@ -13,7 +13,7 @@ emit-requires-clause-few c =
     let source = c.args.source.now in
     omega (
       arith,
-      ap length c.as_slice-2.ensures,
+      ap length c.as_slice.ensures,
       c.in_ok-parts.ensures.few,
       length-cut source c.in_ok-pieces.pieces (pieces_of-cut c.args.options.now 0 source c.in_ok-pieces.pieces c.in_ok-pieces.ensures),
     )

@@ -1,5 +1,6 @@
 use Rattle.std.proofs.Common.{◌+◌, ◌≤◌, length, arith, drop}
 use Rattle.std.proofs.Math.ListN.{drop_of_length-le}
+use Rattle.lx_compile.proofs.KernelRuns.{HasNoneBefore-block, HasNoneBefore-outside, IsKernelFault-end}
 use Rattle.lx_compile.proofs.TextRuns.{HasTexts-block, HasTexts-end, HasTexts-outside, parts_from}
 use Rattle.lx_compile.proofs.emission.emit.Goals as goal
 use Rattle.lx_compile.proofs.emission.emit.Goals.{in-Outside+in_ok-extend_from_slice-in-Outside, in-Block+in_ok-append_block-in-Block}
@@ -13,17 +14,20 @@ loop-part-preserved c =
     let output = c.loop-part.output.items in
     let from = parts_from parts i c.part-item.result (omega arith) c.part-item.is in
     let texts = rw from at c.loop-part.invariant.texts in
+    let none = rw from at c.loop-part.invariant.none in
     elim c.match-part.branch [
       | in-Outside+in_ok-extend_from_slice-in-Outside w ↦ record {
         texts =
             rw (w.number-is, w.output-is, w.in_ok-extend_from_slice-in-Outside.ensures.items, w.as_slice.ensures)
             (HasTexts-outside enc parts (drop (i + 1) parts) number output w.in-Outside.text (rw w.in-Outside.is at texts));
+        none = HasNoneBefore-outside enc parts (drop (i + 1) parts) w.in-Outside.text (rw w.in-Outside.is at none);
         small = omega arith;
       }
       | in-Block+in_ok-append_block-in-Block w ↦ let text = w.in_ok-append_block-in-Block.ensures in record {
         texts =
             rw (w.number-is, w.output-is, text.2)
             (HasTexts-block enc parts (drop (i + 1) parts) number output text.0 w.in-Block.at w.in-Block.resolved (rw w.in-Block.is at texts) text.1);
+        none = HasNoneBefore-block enc parts (drop (i + 1) parts) w.in-Block.at w.in-Block.resolved (rw w.in-Block.is at none) text.3;
         small = omega arith;
       }
     ]
@@ -33,5 +37,7 @@ returns c =
     let enc = c.args.enc in
     let parts = c.args.parts.now in
     let i = c.loop-part.part-index in
-    let ended : length parts ≤ i = omega arith in
-    HasTexts-end enc parts c.loop-part.number c.loop-part.output.items (rw (drop_of_length-le parts ended) at c.loop-part.invariant.texts)
+    let ended : length parts ≤ i = omega arith in (
+      HasTexts-end enc parts c.loop-part.number c.loop-part.output.items (rw (drop_of_length-le parts ended) at c.loop-part.invariant.texts),
+      IsKernelFault-end enc parts (rw (drop_of_length-le parts ended) at c.loop-part.invariant.none),
+    )

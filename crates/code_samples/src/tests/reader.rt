@@ -1,0 +1,238 @@
+//! The example pieces read back, and texts that are none.
+use lx_ccode::print;
+use lx_creader::{PieceStop, find_block, read_piece};
+use memchr::memmem;
+use std::alloc::Global;
+use std::test::Fail;
+use std::time::Instant;
+
+/// With a context marker, tags and `#line`.
+const CONTEXT: &[u8] =
+    b"/*!begin:re2c 1*/\n/*!names:re2c 1 - 7:YYCTYPE 8:YYCURSOR 7:YYLIMIT 8:YYMARKER 11:YYCTXMARKER 6:YYFILL 10:YYGETSTATE 10:YYSETSTATE 14:YYGETCONDITION 14:YYSETCONDITION 7:YYMTAGP 7:YYMTAGN 4:yych 8:yyaccept 3:yyt 4:yyc_ 3:yyc*/\n{\n\tYYCTYPE yych;\n\tunsigned int yyaccept = 0;\nyy1_0:\n\tyych = *YYCURSOR;\n\tif (yych <= 0x60) goto yy1_5;\n\tif (yych <= 0x61) goto yy1_1;\n\tgoto yy1_5;\nyy1_1:\n\t++YYCURSOR;\n\tYYCTXMARKER = YYCURSOR;\n\tyyt2 = NULL;\n\tYYMTAGP(yytm1);\n\tYYMARKER = YYCURSOR;\n\tyyaccept = 1;\n\tyych = *YYCURSOR;\n\tif (yych <= 0x61) goto yy1_3;\n\tif (yych <= 0x62) goto yy1_2;\n\tgoto yy1_3;\nyy1_2:\n\t++YYCURSOR;\n\tyyt2 = YYCTXMARKER;\n\tYYMTAGN(yytm2);\n\tyytm3 = yytm1;\n\ts = yyt2;\n\th = yytm3;\n\tYYCURSOR = YYCTXMARKER;\n#line 3 \"a\\\"b.re\"\n\t/*!code:re2c 1 13*/{ return 1; }\nyy1_3:\n\tif (yyaccept == 1) goto yy1_4;\n\tgoto yy1_5;\nyy1_4:\n\tYYCURSOR = YYMARKER;\n#line 4 \"a\\\"b.re\"\n\t/*!code:re2c 2 13*/{ return 2; }\nyy1_5:\n\tgoto yy1_none;\nyy1_none:;\n}\n#line 5 \"a\\\"b.re\"\n/*!end:re2c*/";
+
+/// With conditions and stored states.
+const STORED: &[u8] =
+    b"/*!begin:re2c 2*/\n/*!names:re2c 1 0 7:YYCTYPE 8:YYCURSOR 7:YYLIMIT 8:YYMARKER 11:YYCTXMARKER 6:YYFILL 10:YYGETSTATE 10:YYSETSTATE 14:YYGETCONDITION 14:YYSETCONDITION 7:YYMTAGP 7:YYMTAGN 4:yych 8:yyaccept 3:yyt 4:yyc_ 3:yyc*/\n{\n\tswitch (YYGETSTATE()) {\n\tcase 0: goto yy2_4;\n\tcase 1: goto yy2_10;\n\tdefault: goto yy2_cond;\n\t}\nyy2_cond:\n\tswitch (YYGETCONDITION()) {\n\tcase yycA: goto yy2_0;\n\tcase yycB: goto yy2_6;\n\t}\nyyc_A:\nyy2_0:\n\tyych = *YYCURSOR;\n\tif (yych <= 0x00) goto yy2_2;\n\tif (yych <= 0x60) goto yy2_5;\n\tif (yych <= 0x61) goto yy2_1;\n\tgoto yy2_5;\nyy2_1:\n\t++YYCURSOR;\n\tYYSETCONDITION(yycB);\n\tgoto yyc_B; /* 1 */\nyy2_2:\n\tif (YYCURSOR >= YYLIMIT) goto yy2_3;\n\tgoto yy2_5;\nyy2_3:\n\tYYSETSTATE(0);\n\tif (YYFILL() == 0) goto yy2_0;\n\tgoto yy2_5;\nyy2_4:\n\tif (YYCURSOR >= YYLIMIT) goto yy2_5;\n\tgoto yy2_0;\nyy2_5:\n\tgoto yy2_none;\nyyc_B:\nyy2_6:\n\tyych = *YYCURSOR;\n\tif (yych <= 0x00) goto yy2_8;\n\tif (yych <= 0x61) goto yy2_11;\n\tif (yych <= 0x62) goto yy2_7;\n\tgoto yy2_11;\nyy2_7:\n\t++YYCURSOR;\n\tYYSETCONDITION(yycA);\n\t/*!code:re2c 2 13*/{ return 2; }\nyy2_8:\n\tif (YYCURSOR >= YYLIMIT) goto yy2_9;\n\tgoto yy2_11;\nyy2_9:\n\tYYSETSTATE(1);\n\tif (YYFILL() == 0) goto yy2_6;\n\tgoto yy2_11;\nyy2_10:\n\tif (YYCURSOR >= YYLIMIT) goto yy2_11;\n\tgoto yy2_6;\nyy2_11:\n\tgoto yy2_none;\nyy2_none:;\n}\n/*!end:re2c*/";
+
+/// With two bytes a unit, checks and groups.
+const CHECKED: &[u8] =
+    b"/*!begin:re2c 3*/\n/*!names:re2c 2 - 7:YYCTYPE 8:YYCURSOR 7:YYLIMIT 8:YYMARKER 11:YYCTXMARKER 6:YYFILL 10:YYGETSTATE 10:YYSETSTATE 14:YYGETCONDITION 14:YYSETCONDITION 7:YYMTAGP 7:YYMTAGN 4:yych 8:yyaccept 3:yyt 4:yyc_ 3:yyc*/\n{\n\tswitch (YYGETSTATE()) {\n\tcase 7: goto yy3_0;\n\tdefault: goto yy3_0;\n\t}\nyy3_0:\n\tYYSETSTATE(7);\n\tif ((YYLIMIT - YYCURSOR) < 2) YYFILL(2);\n\tyyt1 = YYCURSOR;\n\tyych = *YYCURSOR;\n\tif (yych <= 0x60) goto yy3_2;\n\tif (yych <= 0x100A) goto yy3_1;\n\tgoto yy3_2;\nyy3_1:\n\t++YYCURSOR;\n\tyyt2 = YYCURSOR;\n\t++YYCURSOR;\n\tyynmatch = 1;\n\tyypmatch[0] = yyt1;\n\tyypmatch[1] = yyt2;\n\t/*!code:re2c 1 13*/{ return 1; }\nyy3_2:\n\tgoto yy3_none;\nyy3_none:;\n}\n/*!end:re2c*/";
+
+/// Whether a piece stands at the offset, whose text is then found there again.
+fn is_read(alloc: Global, bytes: &[u8], at: usize) -> Result<bool, Fail> {
+    match read_piece(alloc, bytes, at) {
+        Ok(piece) => {
+            let text = print(alloc, &piece)?;
+            Ok(bytes.get(at..).unwrap_or(&[]).starts_with(text.as_slice()))
+        }
+        Err(PieceStop::NotEmitted(_)) => Ok(false),
+        Err(stop) => Err(stop.into()),
+    }
+}
+
+/// The text with the first `old` replaced by `new`.
+fn changed(alloc: Global, text: &[u8], old: &str, new: &str) -> Result<Vec<u8>, Fail> {
+    let place = memmem::find(text, old.as_bytes()).unwrap_or(0);
+    let end = place.saturating_add(old.len());
+    let mut result = Vec::from_slice(alloc, text.get(..place).unwrap_or(&[]))?;
+    result.extend_from_slice(new.as_bytes())?;
+    result.extend_from_slice(text.get(end..).unwrap_or(&[]))?;
+    Ok(result)
+}
+
+#[test]
+fn examples_are_read_back(rt: HostRuntime) -> Result<(), Fail> {
+    let alloc = rt.alloc();
+    for text in [CONTEXT, STORED, CHECKED] {
+        assert!(rt; is_read(alloc, text, 0)?);
+        let mut bytes = Vec::from_slice(alloc, b"int x;\n")?;
+        bytes.extend_from_slice(text)?;
+        bytes.extend_from_slice(b"\nint y;\n")?;
+        assert!(rt; is_read(alloc, &bytes, 7)?);
+        assert!(rt; !is_read(alloc, &bytes, 6)?);
+        assert!(rt; !is_read(alloc, &bytes, 8)?);
+    }
+    assert!(rt; !is_read(alloc, b"int x;", 0)?);
+    assert!(rt; !is_read(alloc, b"", 0)?);
+    assert!(rt; !is_read(alloc, CONTEXT, usize::MAX)?);
+    Ok(())
+}
+
+#[test]
+fn refusals_tell_the_offset(rt: HostRuntime) {
+    let refused = matches!(
+        read_piece(rt.alloc(), b"int x;", 3),
+        Err(PieceStop::NotEmitted(3))
+    );
+    assert!(rt; refused);
+}
+
+#[test]
+fn fronts_are_no_pieces(rt: HostRuntime) -> Result<(), Fail> {
+    let alloc = rt.alloc();
+    for text in [CONTEXT, STORED, CHECKED] {
+        for end in 0..text.len() {
+            assert!(rt; !is_read(alloc, &text[..end], 0)?, "{end}");
+        }
+    }
+    Ok(())
+}
+
+#[test]
+fn each_byte_counts_but_in_actions(rt: HostRuntime) -> Result<(), Fail> {
+    let alloc = rt.alloc();
+    for text in [CONTEXT, STORED, CHECKED] {
+        for place in 0..text.len() {
+            let mut bytes = Vec::from_slice(alloc, text)?;
+            bytes[place] = 0;
+            let read = is_read(alloc, &bytes, 0)?;
+            let in_action = is_in_action(text, place) || is_in_name(text, place);
+            assert!(rt; read == in_action, "{place}");
+        }
+    }
+    Ok(())
+}
+
+/// Whether the place is in one of the actions `{ return N; }`.
+fn is_in_action(text: &[u8], place: usize) -> bool {
+    let first = place.saturating_sub(12);
+    let window = text.get(first..place.saturating_add(13)).unwrap_or(&[]);
+    match memmem::find(window, b"{ return ") {
+        Some(found) => {
+            let start = first.saturating_add(found);
+            start <= place && place < start.saturating_add(13)
+        }
+        None => false,
+    }
+}
+
+/// Whether the place is in the name of a source, at a letter that stands for itself.
+fn is_in_name(text: &[u8], place: usize) -> bool {
+    let first = place.saturating_sub(6);
+    let window = text.get(first..place.saturating_add(7)).unwrap_or(&[]);
+    match memmem::find(window, b"a\\\"b.re") {
+        Some(found) => {
+            let start = first.saturating_add(found);
+            let offset = place.saturating_sub(start);
+            start <= place && offset < 7 && offset != 1 && offset != 2
+        }
+        None => false,
+    }
+}
+
+#[test]
+fn other_spellings_are_no_pieces(rt: HostRuntime) -> Result<(), Fail> {
+    let alloc = rt.alloc();
+    let table = [
+        (CONTEXT, "goto", "got"),
+        (CONTEXT, "yyaccept = 1;", "yyaccept = 01;"),
+        (CONTEXT, "begin:re2c 1", "begin:re2c 01"),
+        (CONTEXT, "begin:re2c 1", "begin:re2c 4294967297"),
+        (CONTEXT, "<= 0x60", "<= 0x060"),
+        (CONTEXT, "<= 0x60", "<=0x60"),
+        (CONTEXT, "<= 0x60", "<=  0x60"),
+        (CONTEXT, "YYMARKER = YYCURSOR", "YYMARKER =YYCURSOR"),
+        (CONTEXT, "YYMARKER = YYCURSOR", "YYMARKER= YYCURSOR"),
+        (CHECKED, "0x100A", "0x100a"),
+        (CONTEXT, "re2c 1 13*/", "re2c 1 12*/"),
+        (CONTEXT, "re2c 1 13*/", "re2c 1 14*/"),
+        (CONTEXT, "re2c 1 13*/", "re2c 1 18446744073709551616*/"),
+        (CONTEXT, ") goto yy1_5;", ") goto yy1_6;"),
+        (CONTEXT, ") goto yy1_5;", ") goto yy1_18446744073709551621;"),
+        (CONTEXT, "YYCTXMARKER = YYCURSOR", "yyt1 = YYCURSOR"),
+        (CONTEXT, "8:YYCURSOR", "7:YYLIMIT"),
+        (CONTEXT, "8:yyaccept", "4:yyt3"),
+        (CONTEXT, "names:re2c 1 ", "names:re2c 3 "),
+        (CONTEXT, "re2c 1 -", "re2c 1 256"),
+        (STORED, "YYSETSTATE(1)", "YYSETSTATE(0)"),
+        (STORED, "case 0: goto yy2_4", "case 0: goto yy2_5"),
+        (STORED, "YYSETCONDITION(yycB)", "YYSETCONDITION(yycC)"),
+        (CHECKED, "yynmatch = 1;", "yynmatch = 66;"),
+        (CHECKED, "yyt1 = YYCURSOR", "yyt0 = YYCURSOR"),
+    ];
+    for (text, old, new) in table {
+        let bytes = changed(alloc, text, old, new)?;
+        assert!(rt; !is_read(alloc, &bytes, 0)?, "{new}");
+    }
+    Ok(())
+}
+
+#[test]
+fn other_pieces_are_read(rt: HostRuntime) -> Result<(), Fail> {
+    let alloc = rt.alloc();
+    let table = [
+        (CONTEXT, "yyaccept = 1;", "yyaccept = 10;"),
+        (CONTEXT, "<= 0x60", "<= 0xFF"),
+        (CONTEXT, "re2c 1 -", "re2c 1 255"),
+        (CONTEXT, ") goto yy1_5;", ") goto yy1_4;"),
+        (CHECKED, "yynmatch = 1;", "yynmatch = 65;"),
+    ];
+    for (text, old, new) in table {
+        let bytes = changed(alloc, text, old, new)?;
+        assert!(rt; is_read(alloc, &bytes, 0)?, "{new}");
+    }
+    Ok(())
+}
+
+/// The piece with stored states, with this letter for the name of its second condition.
+fn with_condition(alloc: Global, letter: u8) -> Result<Vec<u8>, Fail> {
+    let mut bytes = Vec::from_slice(alloc, STORED)?;
+    for byte in bytes.iter_mut() {
+        if *byte == b'B' {
+            *byte = letter;
+        }
+    }
+    Ok(bytes)
+}
+
+#[test]
+fn equal_conditions_are_no_piece(rt: HostRuntime) -> Result<(), Fail> {
+    let alloc = rt.alloc();
+    assert!(rt; is_read(alloc, &with_condition(alloc, b'C')?, 0)?);
+    assert!(rt; !is_read(alloc, &with_condition(alloc, b'A')?, 0)?);
+    Ok(())
+}
+
+#[test]
+fn blocks_are_found(rt: HostRuntime) -> Result<(), Fail> {
+    let mut bytes = Vec::from_slice(rt.alloc(), b"a /*!begin:re2c 01*/\n/*!names:re2c ")?;
+    bytes.extend_from_slice(b"/*!begin:re2c 3*/\n/*!end:re2c*/")?;
+    bytes.extend_from_slice(b"/*!begin:re2c 4294967296*/\n/*!names:re2c ")?;
+    let first = bytes.len();
+    bytes.extend_from_slice(STORED)?;
+    let second = bytes.len();
+    bytes.extend_from_slice(CONTEXT)?;
+    bytes.extend_from_slice(CHECKED)?;
+    assert_eq!(rt; find_block(&bytes, None), Some(first));
+    assert_eq!(rt; find_block(&bytes, Some(2)), Some(first));
+    assert_eq!(rt; find_block(&bytes, Some(1)), Some(second));
+    assert_eq!(rt; find_block(&bytes, Some(3)), Some(35));
+    assert_eq!(rt; find_block(&bytes, Some(0)), None);
+    assert_eq!(rt; find_block(b"int x;", None), None);
+    Ok(())
+}
+
+/// So many copies of the middle of the text: its blocks and actions.
+fn repeated(alloc: Global, count: u32) -> Result<Vec<u8>, Fail> {
+    let head = memmem::find(CONTEXT, b"yy1_0:").unwrap_or(0);
+    let mut bytes = Vec::from_slice(alloc, CONTEXT.get(..head).unwrap_or(&[]))?;
+    for block in 0..count {
+        let body = format!(in alloc;
+            "yy1_{block}:\n\tyych = *YYCURSOR;\n\tif (yych <= 0x60) goto yy1_{block};\n\tYYCTXMARKER = YYCURSOR;\n\tgoto yy1_{block};\n"
+        )?;
+        bytes.extend_from_slice(body.as_bytes())?;
+    }
+    bytes.extend_from_slice(b"yy1_none:;\n}\n/*!end:re2c*/")?;
+    Ok(bytes)
+}
+
+#[test]
+fn time_of_a_large_piece(rt: HostRuntime) -> Result<(), Fail> {
+    let bytes = repeated(rt.alloc(), 100_000)?;
+    let start = Instant::now(&rt)?;
+    let read = matches!(read_piece(rt.alloc(), &bytes, 0), Ok(_));
+    let micros = start.elapsed(&rt)?.as_micros();
+    assert!(rt; read);
+    println!(rt; "reading: {} bytes in {micros} us", bytes.len())?;
+    Ok(())
+}

@@ -1,0 +1,190 @@
+-- What the scanners of a block have so that they can be emitted.
+use Rattle.std.proofs.Common.{◌≡◌, ℕ, suc, ◌<◌, ◌≤◌, inl, inr, arith, Bool, false, List, [], ◌∷◌, ◌++◌, map, length, Option, Some, None, Result, Ok, refl, sym, ap, ◌∙◌, subst}
+use Rattle.std.specs.Prelude.{◌==◌}
+use Rattle.std.specs.List.{AllByRecursion}
+use Rattle.std.proofs.lemmas.Bool.{OnFalse_from}
+use Rattle.std.proofs.lemmas.List.Elements.{recursion_from_All}
+use Rattle.lx_base.specs.Names.{Spellings, IsTagName, usual_names}
+use Rattle.lx_base.specs.declared.faults.Fault.{Fault}
+use Rattle.lx_base.specs.declared.places.Pos.{Pos}
+use Rattle.lx_base.specs.declared.settings.Enc.{Enc}
+use Rattle.lx_base.specs.declared.settings.Options.{Options}
+use Rattle.lx_gen.specs.Endings.{is_slash}
+use Rattle.lx_gen.specs.Rules.{AreSimple}
+use Rattle.lx_gen.specs.Scanner.{AreNamed}
+use Rattle.lx_gen.specs.Written.{MayStand}
+use Rattle.lx_parse.specs.declared.items.Item.{Item}
+use Rattle.lx_parse.specs.declared.items.Item.TheVariants.{Define, Configure, Rule as RuleItem, Text}
+use Rattle.lx_regex.specs.Pattern as regex
+use Rattle.lx_regex.specs.Pattern.{Pattern}
+use Rattle.lx_regex.specs.declared.rules.Kind.{Kind}
+use Rattle.lx_regex.specs.declared.rules.Kind.TheVariants as kind
+use Rattle.lx_regex.specs.declared.rules.Rule.{Rule}
+use Rattle.lx_rules.specs.Blocks.{AreScanners, BlockChecks, ClashCheck, IsScanner, NoClash, Resolves, conditions_of, given_names, lonely_fault, pattern_of, rules_of, scanners_fault, targets_fault}
+use Rattle.lx_rules.specs.Checks.{Check, Finds, Then}
+use Rattle.lx_rules.specs.Environments.{Definition, Environment, Meaning}
+use Rattle.lx_rules.specs.Items.{Goes, HeadChecks, HeadSort, IsAfter, IsHead, ItemChecks, ListChecks, RuleOf, State, TargetChecks, act_of, any, conds_of, end, ends, expression, head_sort, next, refused}
+use Rattle.lx_rules.specs.Keeping.{IsUsual}
+use Rattle.lx_rules.specs.Lexemes.{Lexeme, nth_lexeme, sort_at}
+use Rattle.lx_rules.specs.Soundness.{IsFine, IsFit}
+use Rattle.lx_rules.specs.Within.{IsScannerWithin}
+use Rattle.lx_rules.specs.declared.resolved.Act.{Act}
+use Rattle.lx_rules.specs.declared.resolved.Resolved.{Resolved}
+use Rattle.lx_rules.specs.declared.resolved.Scanner.{Scanner}
+use Rattle.lx_rules.proofs.BlockSteps.{AreUsual, conditions_of-usual, in_order, rules_of-usual}
+use Rattle.lx_rules.proofs.ClassForms.{then-none}
+use Rattle.lx_rules.proofs.RuleNumbers.{all_in_order}
+use Rattle.lx_compile.specs.Output.{actions_of}
+use Rattle.lx_compile.specs.Ready.{CanBeEmitted}
+
+-- ---- the rules of a block
+
+AreUsual-append : (rules : List RuleOf) (rule : RuleOf) → AreUsual rules → IsUsual rule → AreUsual (rules ++ rule ∷ [])
+AreUsual-append [] rule usual is = (is, tt)
+AreUsual-append (first ∷ rules) rule usual is = (usual.0, AreUsual-append rules rule usual.1 is)
+
+module _ (options : Options) (lexemes : List Lexeme) where
+  not_end : (definitions : List Definition) (sort : HeadSort) (head : ℕ) (slash : Option ℕ) (until : ℕ) (k : Kind) (meaning : Meaning)
+      → IsHead options lexemes definitions sort head slash until k meaning → k ≡ kind.Eof → ⊥
+  not_end definitions any head slash until k meaning is same = absurd (let h : kind.Default ≡ kind.Eof = sym is.0 ∙ same in cc)
+  not_end definitions end head slash until k meaning is same = is
+  not_end definitions expression head None until k meaning is same = absurd (let h : kind.Plain ≡ kind.Eof = sym is.0 ∙ same in cc)
+  not_end definitions expression head (Some slash) until k meaning is same = is
+
+  no_target : (number : ℕ) (goes code : Option ℕ) → TargetChecks options lexemes goes None → (act_of options lexemes number goes code).goes ≡ None
+  no_target number None None checks = refl
+  no_target number None (Some code) checks = refl
+  no_target number (Some goes) code checks =
+      absurd (elim checks [
+        | inl found ↦ let h = found.0 in cc
+        | inr found ↦ let h = found.2 in cc
+      ])
+
+  AreUsual-after : (state : State) (item : Item) (after : State) → ItemChecks options lexemes state item None → IsAfter options lexemes state item after
+      → AreUsual state.rules → AreUsual after.rules
+  AreUsual-after state (Define name from until) after checks is usual = subst (λ (s : State). AreUsual s.rules) (sym is.6) usual
+  AreUsual-after state (Configure name value) after checks is usual = subst (λ (s : State). AreUsual s.rules) (sym is.2) usual
+  AreUsual-after state (RuleItem first head slash until goes code) after checks is usual =
+      let sort = head_sort (sort_at (nth_lexeme lexemes head)) in
+      let Heads : Check = HeadChecks options lexemes state sort (conds_of options lexemes first head) head slash until in
+      let Lists : Check = ListChecks options lexemes (first == head) (nth_lexeme lexemes first).at in
+      let checked = then-none Lists (Then Heads (TargetChecks options lexemes goes)) checks in
+      let last = then-none Heads (TargetChecks options lexemes goes) checked.1 in
+      subst (λ (s : State). AreUsual s.rules) (sym is.3)
+      (AreUsual-append state.rules _ usual (record {
+        conds = refl;
+        no_end = not_end state.definitions sort head slash until is.0 is.1 is.2;
+        no_target = no_target (suc (length state.rules)) goes code last.1;
+      }))
+  AreUsual-after state (Text value) after checks is usual = subst (λ (s : State). AreUsual s.rules) (sym is) usual
+
+  AreUsual-goes : {state : State} {items : List Item} {result : Result State Fault} → Goes options lexemes state items result
+      → (last : State) → result ≡ Ok last → AreUsual state.rules → AreUsual last.rules
+  AreUsual-goes (ends {state = state}) last is usual = let same : state ≡ last = cc in subst (λ (s : State). AreUsual s.rules) same usual
+  AreUsual-goes (refused fault checks) last is usual = absurd cc
+  AreUsual-goes (next {state = state} {item = item} after checks becomes goes) last is usual =
+      AreUsual-goes goes last is (AreUsual-after state item after checks becomes usual)
+
+-- ---- the rules of a scanner
+
+not_end_kind : (k : Kind) → (k ≡ kind.Eof → ⊥) → regex.is_end k ≡ false
+not_end_kind kind.Plain other = refl
+not_end_kind kind.Default other = refl
+not_end_kind kind.Eof other = absurd (other refl)
+
+AreSimple-of : (built : List Rule) (rules : List RuleOf) → map regex.pattern_of built ≡ map pattern_of rules → AreUsual rules → AreSimple built
+AreSimple-of [] rules same usual = tt
+AreSimple-of (one ∷ built) [] same usual = absurd (let h = same in cc)
+AreSimple-of (one ∷ built) (rule ∷ rules) same usual =
+    let first : regex.pattern_of one ≡ pattern_of rule = let h = same in cc in
+    let rest : map regex.pattern_of built ≡ map pattern_of rules = let h = same in cc in (
+      (ap (λ (p : Pattern). p.slash) first, ap (λ (p : Pattern). regex.is_end p.kind) first ∙ not_end_kind rule.kind usual.0.no_end),
+      AreSimple-of built rules rest usual.1,
+    )
+
+MayStand-of : (names : Spellings) (slash : Option ℕ) (number : ℕ) (tags : List (List ℕ)) → AllByRecursion (IsTagName names) tags
+    → MayStand names slash number tags
+MayStand-of names slash number [] are = tt
+MayStand-of names slash number (tag ∷ tags) are =
+    (OnFalse_from (is_slash slash number) (IsTagName names tag) (λ _. are.0), MayStand-of names slash (suc number) tags are.1)
+
+AreNamed-of : (names : Spellings) (texts : List (List ℕ)) (built : List Rule) (rules : List RuleOf)
+    → map given_names built ≡ map (λ (rule : RuleOf). rule.meaning.tags) rules
+    → AllByRecursion (λ (rule : RuleOf). AllByRecursion (IsTagName names) rule.meaning.tags) rules
+    → AllByRecursion (λ (rule : Rule). (0 < rule.number) × (rule.number ≤ length texts)) built → AreNamed names texts built
+AreNamed-of names texts [] rules same are numbers = tt
+AreNamed-of names texts (one ∷ built) [] same are numbers = absurd (let h = same in cc)
+AreNamed-of names texts (one ∷ built) (rule ∷ rules) same are numbers =
+    let first : given_names one ≡ rule.meaning.tags = let h = same in cc in
+    let rest : map given_names built ≡ map (λ (rule : RuleOf). rule.meaning.tags) rules = let h = same in cc in (
+      (
+        numbers.0.0,
+        numbers.0.1,
+        MayStand-of names one.slash 0 (given_names one) (subst (λ l. AllByRecursion (IsTagName names) l) (sym first) are.0),
+      ),
+      AreNamed-of names texts built rules rest are.1 numbers.1,
+    )
+
+pub length-actions_of : (acts : List Act) → length (actions_of acts) ≡ length acts
+length-actions_of [] = refl
+length-actions_of (act ∷ acts) = omega (arith, length-actions_of acts)
+
+-- ---- the scanners of a block
+
+-- no name clashes
+no_clash : (at : Pos) (state : State) → BlockChecks at state None → NoClash usual_names state.rules
+no_clash at state checked =
+    let Scanners : Check = Finds (scanners_fault at state.rules (conditions_of state.rules)) in
+    let Targets : Check = Finds (targets_fault state.rules (conditions_of state.rules)) in
+    let Lonely : Check = Finds (lonely_fault at state.rules (conditions_of state.rules)) in
+    elim (then-none (ClashCheck at usual_names state.rules) (Then Lonely (Then Targets Scanners)) checked).0 [
+      | inl free ↦ free.0
+      | inr clash ↦ absurd (let h = clash.1 in cc)
+    ]
+
+module _ (enc : Enc) (at : Pos) (state : State) (usual : AreUsual state.rules) (checked : BlockChecks at state None) (named : Bool) (acts : List Act) where
+  emitted : (scanner : Scanner) → IsScanner named state.rules [] scanner → IsFit (length acts) scanner → IsScannerWithin enc scanner
+      → CanBeEmitted enc acts scanner
+  emitted scanner is fit within =
+      let tags = (no_clash at state checked).1 in
+      let same = is.patterns ∙ ap (map pattern_of) (rules_of-usual state.rules usual) in
+      let names = is.names ∙ ap (map (λ (rule : RuleOf). rule.meaning.tags)) (rules_of-usual state.rules usual) in
+      let numbers = recursion_from_All (λ (rule : Rule). (0 < rule.number) × (rule.number ≤ length acts)) scanner.set.rules fit.numbers in record {
+        within = within;
+        simple = AreSimple-of scanner.set.rules (in_order state.rules) same (all_in_order IsUsual state.rules usual);
+        named =
+            AreNamed-of usual_names (actions_of acts) scanner.set.rules (in_order state.rules) names
+            (all_in_order (λ (rule : RuleOf). AllByRecursion (IsTagName usual_names) rule.meaning.tags) state.rules tags)
+            (subst (λ n. AllByRecursion (λ (rule : Rule). (0 < rule.number) × (rule.number ≤ n)) scanner.set.rules)
+            (sym (length-actions_of acts)) numbers);
+      }
+
+  all_emitted : (scanners : List Scanner) → AreScanners named state.rules (conditions_of state.rules) scanners
+      → AllByRecursion (IsFit (length acts)) scanners → AllByRecursion (IsScannerWithin enc) scanners → AllByRecursion (CanBeEmitted enc acts) scanners
+  all_emitted scanners are fit within = of state.rules refl
+    where
+      none : (found : List Scanner) → AreScanners named state.rules [] found → AllByRecursion (CanBeEmitted enc acts) found
+      none [] is = tt
+      none (scanner ∷ found) is = absurd is
+
+      one : (found : List Scanner) → AreScanners named state.rules ([] ∷ []) found → AllByRecursion (IsFit (length acts)) found
+          → AllByRecursion (IsScannerWithin enc) found → AllByRecursion (CanBeEmitted enc acts) found
+      one [] is each each_within = absurd is
+      one (scanner ∷ found) is each each_within = (emitted scanner is.0 each.0 each_within.0, none found is.1)
+
+      of : (rules : List RuleOf) → state.rules ≡ rules → AllByRecursion (CanBeEmitted enc acts) scanners
+      of [] same = none scanners (subst (λ conds. AreScanners named state.rules conds scanners) (ap conditions_of same) are)
+      of (rule ∷ rules) same =
+          one scanners
+          (subst (λ conds. AreScanners named state.rules conds scanners)
+          (ap conditions_of same ∙ conditions_of-usual rule rules (subst AreUsual same usual)) are) fit within
+
+-- each scanner of a block can be emitted
+pub can_be_emitted : (options : Options) (at : Pos) (environment : Environment) (lexemes : List Lexeme) (items : List Item) (after : Environment)
+    (resolved : Resolved) → Resolves options at environment lexemes items after resolved → IsFine resolved
+    → AllByRecursion (IsScannerWithin options.enc) resolved.scanners → AllByRecursion (CanBeEmitted options.enc resolved.acts) resolved.scanners
+can_be_emitted options at environment lexemes items after resolved is fine within =
+    let state = is.0 in
+    let usual = AreUsual-goes options lexemes is.1 state refl tt in
+    all_emitted options.enc at state usual is.2 options.conds resolved.acts resolved.scanners is.3.scanners
+    (recursion_from_All (IsFit (length resolved.acts)) resolved.scanners fine.scanners) within

@@ -1,0 +1,35 @@
+use Rattle.std.proofs.Common.{◌≡◌, ℕ, ◌++◌, List, Option, ap, ap₂, subst, sym, ◌∙◌, ◌+◌}
+use Rattle.std.specs.Result.{OnOk}
+use Rattle.lx_ccode.specs.declared.piece.CodeBlock.{CodeBlock}
+use Rattle.lx_gen.specs.Layout.{numbered}
+use Rattle.lx_gen.specs.Plans.{unlabelled}
+use Rattle.lx_gen.specs.TestTrees.{TestTree, fork, inner_blocks, inner_size, tree_code}
+use Rattle.lx_gen.specs.Views.{seen_tree}
+use Rattle.lx_gen.proofs.TreeLoops.{lower-more, seen_tree-fork}
+use Rattle.lx_gen.proofs.fronts.+push_lower.Goals as goal
+
+pub returns-in_ok-behind-in-Fork : goal.returns-in_ok-behind-in-Fork
+returns-in_ok-behind-in-Fork t c =
+    let first = c.args.exits.first in
+    let end = c.args.exits.end in
+    let next = c.args.next in
+    let front = c.args.blocks.now.items in
+    let inside : ℕ = c.in_ok-inside-in-Fork.inside in
+    let last : ℕ = c.in_ok-behind-in-Fork.behind in
+    let low = c.in-Fork.low.value in
+    let high = c.deref-in-Fork-4.result.now in
+    let size : c.in_ok-inner_size-in-Fork.field-0 ≡ inner_size (seen_tree low) =
+    c.in_ok-inner_size-in-Fork.ensures ∙ ap (λ tree. inner_size (seen_tree tree)) c.deref-in-Fork-3.ensures in
+    let behind : last ≡ (1 + next) + inner_size (seen_tree low) =
+    c.in_ok-behind-in-Fork.ensures ∙ ap₂ (λ n k. n + k) c.in_ok-inside-in-Fork.ensures size in
+    let code = c.in_ok-push_tests-in-Fork.ensures
+    ∙ ap₂ (λ l tree. l ++ tree_code inside (numbered first end (seen_tree tree))) c.new-stmts.ensures.items c.deref-in-Fork.ensures in
+    let lower = c.in_ok-push_lower-in-Fork.ensures
+    ∙ ap (λ tree. c.push_block.new.blocks.items ++ unlabelled (inner_blocks inside (numbered first end (seen_tree tree)))) c.deref-in-Fork-2.ensures in
+    let more = lower-more first end next last (seen_tree low) (seen_tree high) behind c.in-Fork.greatest inside front
+    c.push_block.new.blocks.items c.push_lower-in-Fork.new.blocks.items c.push_tests.new.stmts.items c.in_ok-inside-in-Fork.ensures
+    code c.in_ok-push_block-in-Fork.ensures lower in
+    let written : TestTree (Option ℕ) → List CodeBlock = λ tree. front ++ unlabelled (inner_blocks next (numbered first end tree)) in
+    let whole = more ∙ ap (λ tree. written (fork c.in-Fork.greatest (seen_tree low) (seen_tree tree))) c.deref-in-Fork-4.ensures
+    ∙ ap written (sym (seen_tree-fork c.in-Fork.greatest c.in-Fork.low c.in-Fork.high)) ∙ ap (λ tree. written (seen_tree tree)) (sym c.in-Fork.is) in
+    subst (λ l. OnOk c.push_lower-in-Fork-2.result (c.push_lower-in-Fork-2.new.blocks.items ≡ l)) whole c.push_lower-in-Fork-2.ensures

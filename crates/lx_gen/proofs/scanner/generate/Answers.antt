@@ -1,0 +1,48 @@
+use Rattle.std.proofs.Common.{◌≡◌, ℕ, ◌+◌, ◌≤◌, ◌^◌, List, None, arith, ap, refl, subst, sym, ◌∙◌}
+use Rattle.std.specs.List.{AllByRecursion}
+use Rattle.lx_base.specs.Spelling.{greatest_unit}
+use Rattle.lx_base.specs.declared.settings.Enc.{Enc}
+use Rattle.lx_base.specs.declared.settings.Enc.TheVariants.{Byte, Ucs2, Utf8, Utf16, Utf32}
+use Rattle.lx_ccode.specs.Statements.{code_of, statement_count}
+use Rattle.lx_ccode.specs.declared.piece.CodeBlock.{CodeBlock}
+use Rattle.lx_encode.specs.Units.{unit_size}
+use Rattle.lx_gen.specs.Layout.{layout}
+use Rattle.lx_gen.specs.Rules.{endings_of}
+use Rattle.lx_gen.proofs.RuleTold.{rules_told}
+use Rattle.lx_gen.proofs.Scanners.{scanner}
+use Rattle.lx_gen.proofs.scanner.generate.Goals as goal
+
+greatest_is : (enc : Enc) (unit : ℕ) → unit + 1 ≡ 256 ^ unit_size enc → unit ≡ greatest_unit enc
+greatest_is Byte unit e = omega (arith, e)
+greatest_is Ucs2 unit e = omega (arith, e)
+greatest_is Utf8 unit e = omega (arith, e)
+greatest_is Utf16 unit e = omega (arith, e)
+greatest_is Utf32 unit e = omega (arith, e)
+
+pub blocks_of-requires-clause-told : goal.blocks_of-requires-clause-told
+blocks_of-requires-clause-told c =
+    rules_told c.args.names.now c.args.enc c.args.rules.now c.args.texts.now c.args.auto.now.states
+    c.requires.limits c.requires.named c.requires.auto.rules
+
+pub returns : goal.returns
+returns c =
+    let endings = endings_of c.args.rules.now c.args.texts.now in
+    let units = greatest_is c.args.enc c.greatest_unit.result c.greatest_unit.ensures in
+    let blocks = c.from_vec.ensures in
+    let code = ap (λ l. code_of l) blocks ∙ c.in_ok-blocks.ensures.code ∙ ap (λ n. layout endings n c.args.auto.now 0) units in
+    scanner c.args.enc c.args.number c.args.names.now c.args.rules.now c.args.texts.now c.args.auto.now _
+    c.requires.auto c.requires.ends c.requires.limits c.requires.short c.requires.named code
+    (record {
+      number = refl;
+      names = c.in_ok-names.ensures ∙ c.as_slice.ensures;
+      unit = c.unit_bytes.ensures;
+      eof = refl;
+      declares = refl;
+      ctx = refl;
+      states = refl;
+      conds = c.new.ensures;
+      line = refl;
+      labels = subst (λ (l : List CodeBlock). AllByRecursion (λ (block : CodeBlock). block.cond ≡ None) l) (sym blocks) c.in_ok-blocks.ensures.labels;
+    })
+    (omega (arith, c.ranges.number)) c.requires.allowed c.requires.differ
+    (subst (λ l. statement_count l ≤ 4611686018427387904) (sym blocks) c.in_ok-blocks.ensures.few)

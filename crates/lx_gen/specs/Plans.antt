@@ -1,0 +1,124 @@
+-- What is known before blocks are made: the ways and the tests of each state, the rules by which states accept, and where blocks stand.
+use Rattle.std.specs.Prelude.{◌≡◌, ℕ, suc, ◌+◌, ◌*◌, ◌<◌, ◌≤◌, List, [], ◌∷◌, map, length, Option, Some, None, IsSome, nat_eq, option_map, slice_index_or, if◌then◌else◌}
+use Rattle.std.specs.List.{AllByRecursion}
+use Rattle.lx_auto.specs.Automaton.{IsAuto}
+use Rattle.lx_auto.specs.declared.automaton.Accept.{Accept}
+use Rattle.lx_auto.specs.declared.automaton.Edge.{Edge}
+use Rattle.lx_auto.specs.declared.automaton.State.{State}
+use Rattle.lx_ccode.specs.declared.piece.CodeBlock.{CodeBlock}
+use Rattle.lx_ccode.specs.declared.piece.Stmt.{Stmt}
+use Rattle.lx_regex.specs.declared.rules.Rule.{Rule}
+use Rattle.lx_gen.specs.Endings.{Ending}
+use Rattle.lx_gen.specs.Layout.{accepts_of, end_block, fall_block, kept_of, place_by, place_of, rule_block, state_blocks, state_size, states_blocks, way_blocks}
+use Rattle.lx_gen.specs.Rules.{ending_of, no_ending}
+use Rattle.lx_gen.specs.TestTrees.{edge_tree}
+use Rattle.lx_gen.specs.Views.{seen_tree, seen_ways}
+use Rattle.lx_gen.specs.Ways.{ways_of}
+use Rattle.lx_gen.specs.declared.accepts.First.{First}
+use Rattle.lx_gen.specs.declared.accepts.Firsts.{Firsts}
+use Rattle.lx_gen.specs.declared.ends.Ends.{Ends}
+use Rattle.lx_gen.specs.declared.places.Places.{Places}
+use Rattle.lx_gen.specs.declared.plans.Plan.{Plan}
+
+abbrev pub seen_accepts : List First → List Accept
+seen_accepts firsts = map (λ first. first.accept.now) firsts
+
+abbrev pub seen_states : List Plan → List State
+seen_states plans = map (λ plan. plan.state.now) plans
+
+-- the place of a rule among those of accepts, if it is there
+abbrev pub rule_index : List Accept → (rule : ℕ) → Option ℕ
+rule_index [] rule = None
+rule_index (accept ∷ accepts) rule = if nat_eq rule accept.rule then Some 0 else option_map suc (rule_index accepts rule)
+
+-- the table has the places of the rules
+abbrev pub AreIndexed : Firsts → Type 0
+AreIndexed firsts = (rule : ℕ) → slice_index_or firsts.places.items rule None ≡ rule_index (seen_accepts firsts.list.items) rule
+
+-- blocks of these statements, of which none begins a condition's scanner
+abbrev pub unlabelled : List (List Stmt) → List CodeBlock
+unlabelled codes = map (λ code. record { cond = None; stmts = code }) codes
+
+-- the ways and the tests are those of the state
+pub record IsPlanned (greatest : ℕ) (plan : Plan) : Type 0 where
+  pub ways : seen_ways plan.ways.items ≡ ways_of plan.state.now.edges
+  pub tests : seen_tree plan.tests ≡ edge_tree greatest plan.state.now.edges
+
+abbrev pub ArePlanned : (greatest : ℕ) → List Plan → Type 0
+ArePlanned greatest plans = AllByRecursion (IsPlanned greatest) plans
+
+-- where the end of a rule stands
+abbrev pub rule_at : Ends → (rule : ℕ) → ℕ
+rule_at ends rule = rule_block ends.greatest ends.auto.now 0 rule
+
+-- where a match ends in a state
+abbrev pub end_at : Ends → (own : ℕ) → Option Accept → ℕ
+end_at ends own accept =
+    end_block ends.greatest ends.auto.now (rule_at ends) (fall_block ends.greatest ends.auto.now 0) own accept
+
+-- the blocks where matches end are found
+pub record AreEnds (ends : Ends) : Type 0 where
+  pub formed : IsAuto ends.auto.now
+  pub states : seen_states ends.plans.items ≡ ends.auto.now.states
+  pub planned : ArePlanned ends.greatest ends.plans.items
+  pub accepts : seen_accepts ends.accepts.list.items ≡ accepts_of ends.auto.now.states
+  pub accept_places : AreIndexed ends.accepts
+  pub kepts : seen_accepts ends.kepts.list.items ≡ kept_of ends.auto.now.states
+  pub kept_places : AreIndexed ends.kepts
+  pub few_kepts : length ends.kepts.list.items < 4294967295
+  pub fall : ends.fall ≡ fall_block ends.greatest ends.auto.now 0
+  pub rules : ends.rules ≡ suc (fall_block ends.greatest ends.auto.now 0) + length (kept_of ends.auto.now.states)
+
+-- where the code of a state stands, whose blocks begin at `own`
+abbrev pub place_at : Ends → (number own : ℕ) → State → ℕ
+place_at ends number own state =
+    place_by ends.greatest ends.auto.now (rule_at ends) (fall_block ends.greatest ends.auto.now 0) number own state.edges state.accept
+
+-- the same of all states of a list
+abbrev pub places_from : Ends → (number from : ℕ) → List State → List ℕ
+places_from ends number from [] = []
+places_from ends number from (state ∷ states) =
+    place_at ends number from state ∷ places_from ends (suc number) (from + state_size ends.greatest number state) states
+
+-- so is the code of each state
+pub record ArePlaced (places : Places) : Type 0 where
+  pub ends : AreEnds places.ends
+  pub states : places.states.items ≡ places_from places.ends 0 0 places.ends.auto.now.states
+
+-- ---- the blocks, by where these stand
+
+abbrev pub blocks_of_ways : Ends → State → List Edge → List (List Stmt)
+blocks_of_ways ends state ways =
+    way_blocks ends.greatest ends.auto.now (rule_at ends) (fall_block ends.greatest ends.auto.now 0) (kept_of ends.auto.now.states)
+    (place_of ends.greatest ends.auto.now 0) state ways
+
+abbrev pub blocks_of_state : Ends → (number from : ℕ) → State → List (List Stmt)
+blocks_of_state ends number from state =
+    state_blocks ends.greatest ends.auto.now (rule_at ends) (fall_block ends.greatest ends.auto.now 0) (kept_of ends.auto.now.states)
+    (place_of ends.greatest ends.auto.now 0) number from state
+
+abbrev pub blocks_of_states : Ends → (number from : ℕ) → List State → List (List Stmt)
+blocks_of_states ends number from states =
+    states_blocks ends.greatest ends.auto.now (rule_at ends) (fall_block ends.greatest ends.auto.now 0) (kept_of ends.auto.now.states)
+    (place_of ends.greatest ends.auto.now 0) number from states
+
+-- ---- the ends of rules
+
+-- the end of an accept's rule is told: it has an action, and each of its tags and groups has a value
+pub record IsTold (endings : ℕ → Ending) (accept : Accept) : Type 0 where
+  pub action : IsSome (endings accept.rule).action
+  pub groups : (endings accept.rule).groups ≤ 65
+  pub values : length accept.values ≡ length (endings accept.rule).tags + 2 * (endings accept.rule).groups
+
+abbrev pub AcceptIsTold : (endings : ℕ → Ending) → Option Accept → Type 0
+AcceptIsTold endings None = Unit {0}
+AcceptIsTold endings (Some accept) = IsTold endings accept
+
+-- the ends of all rules by which states accept are told
+abbrev pub AreTold : (endings : ℕ → Ending) → List State → Type 0
+AreTold endings states = AllByRecursion (λ (state : State). AcceptIsTold endings state.accept) states
+
+-- the ending of a rule that was looked for
+abbrev pub ending_found : Option Rule → (texts : List (List ℕ)) → Ending
+ending_found None texts = no_ending
+ending_found (Some rule) texts = ending_of rule texts

@@ -1,0 +1,67 @@
+-- Tests of a unit as a tree, and the blocks in which they stand.
+use Rattle.std.specs.Prelude.{ℕ, zero, suc, ◌+◌, ◌-◌, ◌/◌, List, [], ◌∷◌, ◌++◌, length, take, drop, Option, nat_le, if◌then◌else◌}
+use Rattle.lx_auto.specs.declared.automaton.Edge.{Edge}
+use Rattle.lx_ccode.specs.declared.piece.Stmt.{Stmt}
+use Rattle.lx_ccode.specs.declared.piece.Stmt.TheVariants.{Goto, IfUnit}
+use Rattle.lx_gen.specs.Ways.{Split, Stretch, edge_split}
+
+-- How units go: all of them one way, or those up to a greatest one by a way or by a tree of lower tests, and others by another tree.
+pub data TestTree (A : Type 0) : Type 0 where
+  leaf : (way : A) → TestTree A
+  test : (greatest : ℕ) → (way : A) → (high : TestTree A) → TestTree A
+  fork : (greatest : ℕ) → (low high : TestTree A) → TestTree A
+
+-- how a unit goes
+abbrev pub picked : {A : Type 0} → TestTree A → (unit : ℕ) → A
+picked (leaf way) unit = way
+picked (test greatest way high) unit = if nat_le unit greatest then way else picked high unit
+picked (fork greatest low high) unit = if nat_le unit greatest then picked low unit else picked high unit
+
+-- ---- few tests for each unit
+
+-- the test of a stretch comes before those of the lower and the higher ones, which are built by themselves
+abbrev pub halved : (build : List Stretch → Option ℕ → TestTree (Option ℕ)) → (low high : List Stretch) → (last : Option ℕ) → TestTree (Option ℕ)
+halved build low [] last = leaf last
+halved build [] (middle ∷ high) last = test middle.greatest middle.way (build high last)
+halved build (stretch ∷ low) (middle ∷ high) last = fork middle.greatest (build (stretch ∷ low) middle.way) (build high last)
+
+-- the place of the one in the middle of so many
+abbrev pub middle_place : (count : ℕ) → ℕ
+middle_place count = (count - 1) / 2
+
+-- a tree of at most so many stretches, with the one in the middle first
+abbrev pub balanced_in : (count : ℕ) → List Stretch → (last : Option ℕ) → TestTree (Option ℕ)
+balanced_in zero stretches last = leaf last
+balanced_in (suc count) stretches last =
+    halved (λ part way. balanced_in count part way) (take (middle_place (length stretches)) stretches) (drop (middle_place (length stretches)) stretches) last
+
+abbrev pub balanced : List Stretch → (last : Option ℕ) → TestTree (Option ℕ)
+balanced stretches last = balanced_in (length stretches) stretches last
+
+abbrev pub split_tree : Split → TestTree (Option ℕ)
+split_tree split = balanced split.tests split.last
+
+-- the tests of a state for units up to a greatest one
+abbrev pub edge_tree : (greatest : ℕ) → List Edge → TestTree (Option ℕ)
+edge_tree greatest edges = split_tree (edge_split greatest edges)
+
+-- ---- code
+
+-- how many blocks a tree needs for its lower tests
+abbrev pub inner_size : {A : Type 0} → TestTree A → ℕ
+inner_size (leaf way) = 0
+inner_size (test greatest way high) = inner_size high
+inner_size (fork greatest low high) = suc (inner_size low) + inner_size high
+
+-- the code of a tree of blocks, if those for its lower tests begin at `next`
+abbrev pub tree_code : (next : ℕ) → TestTree ℕ → List Stmt
+tree_code next (leaf block) = Goto block ∷ []
+tree_code next (test greatest block high) = IfUnit greatest block ∷ tree_code next high
+tree_code next (fork greatest low high) = IfUnit greatest next ∷ tree_code (suc next + inner_size low) high
+
+-- the blocks for its lower tests: behind the block of a low side come those for the lower tests in it, and then those of the high side
+abbrev pub inner_blocks : (next : ℕ) → TestTree ℕ → List (List Stmt)
+inner_blocks next (leaf block) = []
+inner_blocks next (test greatest block high) = inner_blocks next high
+inner_blocks next (fork greatest low high) =
+    tree_code (suc next) low ∷ (inner_blocks (suc next) low ++ inner_blocks (suc next + inner_size low) high)

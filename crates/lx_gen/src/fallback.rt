@@ -1,0 +1,65 @@
+//! The blocks behind those of the states: the fallback, and the ends of rules.
+ghost use Rattle.std.specs.Prelude.{◌≡◌, ◌∷◌, ◌++◌, suc, IfOk, OnOk};
+ghost use Rattle.lx_gen.specs.Codes.{choices_code, restore_code};
+ghost use Rattle.lx_gen.specs.Layout.{choices_from, fall_block, kept_of, restore_blocks};
+ghost use Rattle.lx_gen.specs.Plans.{AreEnds, rule_at, unlabelled};
+
+use crate::blocks::{push_block, sum};
+use crate::ends::Ends;
+use lx_base::Memory;
+use lx_ccode::{CodeBlock, Stmt};
+use std::alloc::Global;
+
+/// The statements of the fallback.
+fn choices_code(alloc: Global, ends: &Ends<'_>) -> Result<Vec<Stmt>, Memory>
+    requires { AreEnds ends.now }
+    ensures { IfOk result (λ stmts. stmts.items
+        ≡ choices_code (choices_from 1 (suc (fall_block ends.now.greatest ends.now.auto.now 0)) (kept_of ends.now.auto.now.states))) }
+{
+    let mut stmts = Vec::new(alloc);
+    let mut kept = 1;
+    let mut block = sum(ends.fall, 1)?;
+    for _first in &ends.kepts.list {
+        stmts.push(Stmt::IfAccept(kept, block))?;
+        kept += 1;
+        block = sum(block, 1)?;
+    }
+    stmts.push(Stmt::Leave)?;
+    Ok(stmts)
+}
+
+/// The statements of the end of a match by a state that was kept.
+fn restore_code(alloc: Global, block: u64) -> Result<Vec<Stmt>, Memory>
+    ensures { IfOk result (λ stmts. stmts.items ≡ restore_code block) }
+{
+    let stmts = vec![in alloc; Stmt::Restore, Stmt::Goto(block)]?;
+    Ok(stmts)
+}
+
+/// Puts the blocks of what the fallback does by rule behind others.
+fn push_restores(alloc: Global, blocks: &mut Vec<CodeBlock>, ends: &Ends<'_>) -> Result<(), Memory>
+    requires { AreEnds ends.now }
+    ensures { OnOk result (blocks.new.items
+        ≡ blocks.old.items ++ unlabelled (restore_blocks (rule_at ends.now) (kept_of ends.now.auto.now.states))) }
+{
+    for first in &ends.kepts.list {
+        let block = ends.rule_block(first.accept.rule)?;
+        push_block(blocks, restore_code(alloc, block)?)?;
+    }
+    Ok(())
+}
+
+/// Puts the blocks of the fallback behind others.
+pub(crate) fn push_fallback(
+    alloc: Global,
+    blocks: &mut Vec<CodeBlock>,
+    ends: &Ends<'_>,
+) -> Result<(), Memory>
+    requires { AreEnds ends.now }
+    ensures { OnOk result (blocks.new.items ≡ blocks.old.items ++ unlabelled
+        (choices_code (choices_from 1 (suc (fall_block ends.now.greatest ends.now.auto.now 0)) (kept_of ends.now.auto.now.states))
+        ∷ restore_blocks (rule_at ends.now) (kept_of ends.now.auto.now.states))) }
+{
+    push_block(blocks, choices_code(alloc, ends)?)?;
+    push_restores(alloc, blocks, ends)
+}

@@ -1,0 +1,124 @@
+//! The blocks of the tests of a state.
+ghost use Rattle.std.specs.Prelude.{◌≡◌, ◌++◌, IfOk, OnOk};
+ghost use Rattle.lx_gen.specs.Layout.{front_blocks, numbered, tested_blocks, way_block};
+ghost use Rattle.lx_gen.specs.Plans.{unlabelled};
+ghost use Rattle.lx_gen.specs.TestTrees.{inner_blocks, tree_code};
+ghost use Rattle.lx_gen.specs.Views.{seen_tree};
+
+use crate::blocks::{push_block, sum};
+use crate::test_trees::{TestTree, inner_size};
+use lx_base::Memory;
+use lx_ccode::{CodeBlock, Stmt};
+use std::alloc::Global;
+
+/// Where the tests of a state lead.
+#[derive(Clone, Copy)]
+pub(crate) struct Exits {
+    /// The block of the first way. Those of the others follow it.
+    pub first: u64,
+    /// The block where the match ends.
+    pub end: u64,
+}
+
+/// The block of the way at a place. Without a way the match ends.
+fn way_block(exits: Exits, way: Option<usize>) -> Result<u64, Memory>
+    ensures { IfOk result (λ block. block ≡ way_block exits.first exits.end way) }
+{
+    match way {
+        None => Ok(exits.end),
+        Some(place) => sum(exits.first, place as u64),
+    }
+}
+
+/// Puts the statements of tests behind others. The blocks of the lower tests begin at `next`.
+fn push_tests(stmts: &mut Vec<Stmt>, exits: Exits, next: u64, tree: &TestTree) -> Result<(), Memory>
+    ensures { OnOk result (stmts.new.items
+        ≡ stmts.old.items ++ tree_code next (numbered exits.first exits.end (seen_tree tree.now))) }
+{
+    match tree {
+        TestTree::Leaf(way) => {
+            stmts.push(Stmt::Goto(way_block(exits, *way)?))?;
+            Ok(())
+        }
+        TestTree::Test {
+            greatest,
+            way,
+            high,
+        } => {
+            stmts.push(Stmt::IfUnit(*greatest, way_block(exits, *way)?))?;
+            push_tests(stmts, exits, next, high)
+        }
+        TestTree::Fork {
+            greatest,
+            low,
+            high,
+        } => {
+            stmts.push(Stmt::IfUnit(*greatest, next))?;
+            let behind = sum(sum(1, next)?, inner_size(low)?)?;
+            push_tests(stmts, exits, behind, high)
+        }
+    }
+}
+
+/// Puts the blocks of the lower tests behind others. The first of them has the number `next`.
+fn push_lower(
+    alloc: Global,
+    blocks: &mut Vec<CodeBlock>,
+    exits: Exits,
+    next: u64,
+    tree: &TestTree,
+) -> Result<(), Memory>
+    ensures { OnOk result (blocks.new.items
+        ≡ blocks.old.items ++ unlabelled (inner_blocks next (numbered exits.first exits.end (seen_tree tree.now)))) }
+{
+    match tree {
+        TestTree::Leaf(_) => Ok(()),
+        TestTree::Test { high, .. } => push_lower(alloc, blocks, exits, next, high),
+        TestTree::Fork { low, high, .. } => {
+            let inside = sum(1, next)?;
+            let mut stmts = Vec::new(alloc);
+            push_tests(&mut stmts, exits, inside, low)?;
+            push_block(blocks, stmts)?;
+            push_lower(alloc, blocks, exits, inside, low)?;
+            let behind = sum(inside, inner_size(low)?)?;
+            push_lower(alloc, blocks, exits, behind, high)
+        }
+    }
+}
+
+/// Puts the block that reads the unit and tests it, which has the number `from`, and those of the lower tests behind others.
+fn push_tested(
+    alloc: Global,
+    blocks: &mut Vec<CodeBlock>,
+    exits: Exits,
+    from: u64,
+    tree: &TestTree,
+) -> Result<(), Memory>
+    ensures { OnOk result (blocks.new.items
+        ≡ blocks.old.items ++ unlabelled (tested_blocks from (numbered exits.first exits.end (seen_tree tree.now)))) }
+{
+    let next = sum(1, from)?;
+    let mut stmts = vec![in alloc; Stmt::Peek]?;
+    push_tests(&mut stmts, exits, next, tree)?;
+    push_block(blocks, stmts)?;
+    push_lower(alloc, blocks, exits, next, tree)
+}
+
+/// Puts the blocks of the tests of a state behind others, if there are tests. The first of them has the number `from`.
+pub(crate) fn push_front(
+    alloc: Global,
+    blocks: &mut Vec<CodeBlock>,
+    exits: Exits,
+    from: u64,
+    tree: &TestTree,
+) -> Result<(), Memory>
+    ensures { OnOk result (blocks.new.items
+        ≡ blocks.old.items ++ unlabelled (front_blocks from (numbered exits.first exits.end (seen_tree tree.now)))) }
+{
+    match tree {
+        TestTree::Leaf(_) => Ok(()),
+        TestTree::Test { .. } | TestTree::Fork { .. } => {
+            push_tested(alloc, blocks, exits, from, tree)
+        }
+    }
+}

@@ -1,0 +1,88 @@
+//! The ways and the tests of all states, and how many blocks these need.
+ghost use Rattle.std.specs.Prelude.{◌≡◌, ℕ, IfOk};
+ghost use Rattle.lx_gen.specs.Layout.{end_of, end_size, lone_size, state_size};
+ghost use Rattle.lx_gen.specs.Plans.{ArePlanned, IsPlanned, seen_states};
+
+use crate::blocks::sum;
+use crate::test_trees::{TestTree, front_size, split_tree};
+use crate::unit_splits::edge_split;
+use crate::ways::{Way, ways_of};
+use lx_auto::{Accept, State};
+use lx_base::Memory;
+use std::alloc::Global;
+
+/// The ways out of a state, and its tests.
+#[derive(Drop)]
+pub(crate) struct Plan<'a> {
+    pub state: &'a State,
+    pub ways: Vec<Way<'a>>,
+    pub tests: TestTree,
+}
+
+/// The ways and the tests of a state for units up to a greatest one.
+fn plan_of<'a>(alloc: Global, greatest: u32, state: &'a State) -> Result<Plan<'a>, Memory>
+    ensures state { IfOk result (λ plan. plan.state.now ≡ state.now) }
+    ensures planned { IfOk result (λ plan. IsPlanned greatest plan) }
+{
+    let edges = state.edges.as_slice();
+    let ways = ways_of(alloc, edges)?;
+    let split = edge_split(alloc, greatest, ways.as_slice(), edges)?;
+    let tests = split_tree(alloc, &split)?;
+    Ok(Plan { state, ways, tests })
+}
+
+/// The ways and the tests of states for units up to a greatest one.
+pub(crate) fn plans_of<'a>(
+    alloc: Global,
+    greatest: u32,
+    states: &'a [State],
+) -> Result<Vec<Plan<'a>>, Memory>
+    ensures states { IfOk result (λ plans. seen_states plans.items ≡ states.now) }
+    ensures planned { IfOk result (λ plans. ArePlanned greatest plans.items) }
+{
+    let mut plans = Vec::new(alloc);
+    for state in states {
+        plans.push(plan_of(alloc, greatest, state)?)?;
+    }
+    Ok(plans)
+}
+
+/// How many blocks of its own the end of a match has.
+fn end_size(accept: &Option<Accept>) -> u64
+    ensures { result ≡ end_size accept.now }
+{
+    match accept {
+        Some(accept) if !accept.ops.as_slice().is_empty() => 1,
+        _ => 0,
+    }
+}
+
+/// How many blocks a state without edges has.
+fn lone_size(number: usize, accept: &Option<Accept>) -> u64
+    ensures { result ≡ lone_size number accept.now }
+{
+    if number == 0 { 1 } else { end_size(accept) }
+}
+
+/// How many blocks the state with this number has.
+pub(crate) fn state_size(number: usize, plan: &Plan<'_>) -> Result<u64, Memory>
+    ensures { (greatest : ℕ) → IsPlanned greatest plan.now → IfOk result (λ size. size ≡ state_size greatest number plan.now.state.now) }
+{
+    let state = plan.state;
+    if state.edges.as_slice().is_empty() {
+        return Ok(lone_size(number, &state.accept));
+    }
+    let ways = plan.ways.len() as u64;
+    sum(front_size(&plan.tests)?, ways + end_size(&state.accept))
+}
+
+/// Where the blocks of states end, which begin with block 0.
+pub(crate) fn end_of(plans: &[Plan<'_>]) -> Result<u64, Memory>
+    ensures { (greatest : ℕ) → ArePlanned greatest plans.now → IfOk result (λ end. end ≡ end_of greatest 0 0 (seen_states plans.now)) }
+{
+    let mut end = 0;
+    for (number, plan) in plans.iter().enumerate() {
+        end = sum(end, state_size(number, plan)?)?;
+    }
+    Ok(end)
+}

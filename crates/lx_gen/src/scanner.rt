@@ -1,0 +1,68 @@
+//! The scanner of an automaton.
+ghost use Rattle.std.specs.Prelude.{◌≡◌, IfOk};
+ghost use Rattle.lx_base.specs.Names.{AreAllowed, DoNotClash};
+ghost use Rattle.lx_regex.specs.Limits.{IsWithinLimits};
+ghost use Rattle.lx_regex.specs.Pattern.{patterns_of};
+ghost use Rattle.lx_tdfa.specs.Promise.{IsAutoOf};
+ghost use Rattle.lx_gen.specs.Right.{AreEndsOf};
+ghost use Rattle.lx_gen.specs.Rules.{endings_of};
+ghost use Rattle.lx_gen.specs.Scanner.{AreNamed, AreShort, IsScannerOf};
+
+use crate::endings::copied_text;
+use crate::layouts::blocks_of;
+use lx_auto::Auto;
+use lx_base::{ByteText, Enc, Memory, Names, Sequence};
+use lx_ccode::Piece;
+use lx_encode::{greatest_unit, unit_bytes};
+use lx_regex::Rule;
+use std::alloc::Global;
+
+/// A copy of the spellings.
+fn copied_names(alloc: Global, names: &[ByteText]) -> Result<Names, Memory>
+    ensures { IfOk result (λ copy. copy ≡ names.now) }
+{
+    let mut copies = Vec::new(alloc);
+    for name in names {
+        copies.push(copied_text(alloc, name)?)?;
+    }
+    Ok(Names::from_vec(copies))
+}
+
+/// The piece of a scanner of rules, from their automaton, without `#line`, tests of the end, refills and stored states.
+///
+/// The number is the piece's in its output, counted from 1. The first text is the action of rule 1. Where no rule matches the
+/// scanner is left, with the cursor behind the longest word that begins a match. Only want of memory refuses, and a piece that
+/// would have more than 2^62 statements counts as that.
+pub fn generate(
+    alloc: Global,
+    enc: Enc,
+    number: u32,
+    names: &Names,
+    rules: &[Rule],
+    texts: &[ByteText],
+    auto: &Auto,
+) -> Result<Piece, Memory>
+    requires auto { IsAutoOf enc (patterns_of rules.now) auto.now }
+    requires ends { AreEndsOf enc (patterns_of rules.now) (endings_of rules.now texts.now) }
+    requires limits { IsWithinLimits rules.now }
+    requires short { AreShort texts.now }
+    requires named { AreNamed names.now texts.now rules.now }
+    requires allowed { AreAllowed names.now }
+    requires differ { DoNotClash names.now }
+    ensures { IfOk result (λ piece. IsScannerOf enc number names.now rules.now texts.now piece) }
+{
+    let blocks = blocks_of(alloc, greatest_unit(enc), rules, texts, auto)?;
+    let names = copied_names(alloc, names.as_slice())?;
+    Ok(Piece {
+        number,
+        names,
+        unit: unit_bytes(enc),
+        eof: None,
+        declares: true,
+        ctx: false,
+        states: None,
+        conds: Sequence::new(alloc),
+        blocks: Sequence::from_vec(blocks),
+        line: None,
+    })
+}

@@ -1,0 +1,202 @@
+//! The blocks of states.
+ghost use Rattle.std.specs.Prelude.{◌≡◌, ℕ, ◌<◌, ◌≤◌, [], ◌++◌, IfOk, OnOk, length};
+ghost use Rattle.lx_auto.specs.Automaton.{AreOps, IsAccept, IsState, LeadWithin};
+ghost use Rattle.lx_gen.specs.Codes.{edge_code, keep_code};
+ghost use Rattle.lx_gen.specs.Layout.{end_blocks, fall_block, lone_blocks, lone_code};
+ghost use Rattle.lx_gen.specs.Plans.{AreEnds, ArePlaced, IsPlanned, blocks_of_state, blocks_of_states, blocks_of_ways, rule_at, unlabelled};
+ghost use Rattle.lx_gen.specs.Views.{seen_ways};
+
+use crate::accepts::keeps_on;
+use crate::blocks::{push_block, sum};
+use crate::ends::Ends;
+use crate::fronts::{Exits, push_front};
+use crate::places::Places;
+use crate::plans::{Plan, state_size};
+use crate::statements::push_list;
+use crate::test_trees::front_size;
+use crate::ways::Way;
+use lx_auto::{Accept, Auto, Edge, State};
+use lx_base::Memory;
+use lx_ccode::{CodeBlock, Stmt};
+use std::alloc::Global;
+
+/// Puts what keeps a state behind statements, if it is kept.
+fn push_keep(stmts: &mut Vec<Stmt>, keeps: bool, kept: u32) -> Result<(), Memory>
+    ensures { OnOk result (stmts.new.items ≡ stmts.old.items ++ keep_code keeps kept []) }
+{
+    if keeps {
+        stmts.push(Stmt::Backup)?;
+        stmts.push(Stmt::Accept(kept))?;
+    }
+    Ok(())
+}
+
+/// The statements of an edge to a block.
+fn edge_code(
+    alloc: Global,
+    auto: &Auto,
+    state: &State,
+    kept: u32,
+    edge: &Edge,
+    block: u64,
+) -> Result<Vec<Stmt>, Memory>
+    requires few { auto.now.regs ≤ 1073741824 }
+    requires to { edge.now.to < length auto.now.states }
+    requires leave { AreOps auto.now.regs auto.now.mregs state.now.leave }
+    requires ops { AreOps auto.now.regs auto.now.mregs edge.now.ops }
+    ensures { IfOk result (λ stmts. stmts.items ≡ edge_code auto.now state.now kept edge.now block) }
+{
+    let mut stmts = Vec::new(alloc);
+    let keeps = keeps_on(auto.states.as_slice(), state, edge);
+    push_keep(&mut stmts, keeps, kept)?;
+    push_list(alloc, &mut stmts, auto, state.leave.as_slice())?;
+    push_list(alloc, &mut stmts, auto, edge.ops.as_slice())?;
+    stmts.push(Stmt::Skip)?;
+    stmts.push(Stmt::Goto(block))?;
+    Ok(stmts)
+}
+
+/// Puts the blocks of the ways out of a state behind others.
+fn push_ways(
+    alloc: Global,
+    blocks: &mut Vec<CodeBlock>,
+    places: &Places<'_>,
+    state: &State,
+    ways: &[Way<'_>],
+) -> Result<(), Memory>
+    requires placed { ArePlaced places.now }
+    requires leave { AreOps places.now.ends.auto.now.regs places.now.ends.auto.now.mregs state.now.leave }
+    requires lead { LeadWithin places.now.ends.auto.now.regs places.now.ends.auto.now.mregs (length places.now.ends.auto.now.states) (seen_ways ways.now) }
+    ensures { OnOk result (blocks.new.items
+        ≡ blocks.old.items ++ unlabelled (blocks_of_ways places.now.ends state.now (seen_ways ways.now))) }
+{
+    let auto = places.ends.auto;
+    let kept = places.ends.kept_number(&state.accept);
+    for way in ways {
+        let block = places.states[way.edge.to as usize];
+        push_block(
+            blocks,
+            edge_code(alloc, auto, state, kept, way.edge, block)?,
+        )?;
+    }
+    Ok(())
+}
+
+/// Puts the block where a match ends in a state behind others, if it has one of its own.
+fn push_end(
+    alloc: Global,
+    blocks: &mut Vec<CodeBlock>,
+    ends: &Ends<'_>,
+    accept: &Option<Accept>,
+) -> Result<(), Memory>
+    requires ends { AreEnds ends.now }
+    requires there { IsAccept ends.now.auto.now.regs ends.now.auto.now.mregs accept.now }
+    ensures { OnOk result (blocks.new.items
+        ≡ blocks.old.items ++ unlabelled (end_blocks ends.now.greatest ends.now.auto.now (rule_at ends.now) (fall_block ends.now.greatest ends.now.auto.now 0) accept.now)) }
+{
+    match accept {
+        Some(accept) if !accept.ops.as_slice().is_empty() => {
+            push_block(blocks, ends.accept_code(alloc, accept)?)
+        }
+        _ => Ok(()),
+    }
+}
+
+/// The statements of state 0 where it has no edge.
+fn lone_code(alloc: Global, ends: &Ends<'_>, accept: &Option<Accept>) -> Result<Vec<Stmt>, Memory>
+    requires ends { AreEnds ends.now }
+    requires there { IsAccept ends.now.auto.now.regs ends.now.auto.now.mregs accept.now }
+    ensures { IfOk result (λ stmts. stmts.items
+        ≡ lone_code ends.now.greatest ends.now.auto.now (rule_at ends.now) (fall_block ends.now.greatest ends.now.auto.now 0) accept.now) }
+{
+    match accept {
+        None => {
+            let stmts = vec![in alloc; Stmt::Goto(ends.fall)]?;
+            Ok(stmts)
+        }
+        Some(accept) => ends.accept_code(alloc, accept),
+    }
+}
+
+/// Puts the blocks of a state without edges behind others.
+fn push_lone(
+    alloc: Global,
+    blocks: &mut Vec<CodeBlock>,
+    ends: &Ends<'_>,
+    number: usize,
+    accept: &Option<Accept>,
+) -> Result<(), Memory>
+    requires ends { AreEnds ends.now }
+    requires there { IsAccept ends.now.auto.now.regs ends.now.auto.now.mregs accept.now }
+    ensures { OnOk result (blocks.new.items
+        ≡ blocks.old.items ++ unlabelled (lone_blocks ends.now.greatest ends.now.auto.now (rule_at ends.now) (fall_block ends.now.greatest ends.now.auto.now 0) number accept.now)) }
+{
+    if number == 0 {
+        return push_block(blocks, lone_code(alloc, ends, accept)?);
+    }
+    push_end(alloc, blocks, ends, accept)
+}
+
+/// Puts the blocks of a state with edges behind others. The first of them has the number `from`.
+fn push_branches(
+    alloc: Global,
+    blocks: &mut Vec<CodeBlock>,
+    places: &Places<'_>,
+    from: u64,
+    plan: &Plan<'_>,
+) -> Result<(), Memory>
+    requires placed { ArePlaced places.now }
+    requires planned { IsPlanned places.now.ends.greatest plan.now }
+    requires state { IsState places.now.ends.auto.now.regs places.now.ends.auto.now.mregs (length places.now.ends.auto.now.states) plan.now.state.now }
+    requires some { 0 < length plan.now.state.now.edges }
+    ensures { OnOk result ((number : ℕ) → blocks.new.items
+        ≡ blocks.old.items ++ unlabelled (blocks_of_state places.now.ends number from plan.now.state.now)) }
+{
+    let state = plan.state;
+    let first = sum(from, front_size(&plan.tests)?)?;
+    let own = sum(first, plan.ways.len() as u64)?;
+    let end = places.ends.end_block(own, &state.accept)?;
+    push_front(alloc, blocks, Exits { first, end }, from, &plan.tests)?;
+    push_ways(alloc, blocks, places, state, plan.ways.as_slice())?;
+    push_end(alloc, blocks, &places.ends, &state.accept)
+}
+
+/// Puts the blocks of the state with this number behind others. The first of them has the number `from`.
+fn push_state(
+    alloc: Global,
+    blocks: &mut Vec<CodeBlock>,
+    places: &Places<'_>,
+    number: usize,
+    from: u64,
+    plan: &Plan<'_>,
+) -> Result<(), Memory>
+    requires placed { ArePlaced places.now }
+    requires planned { IsPlanned places.now.ends.greatest plan.now }
+    requires state { IsState places.now.ends.auto.now.regs places.now.ends.auto.now.mregs (length places.now.ends.auto.now.states) plan.now.state.now }
+    ensures { OnOk result (blocks.new.items
+        ≡ blocks.old.items ++ unlabelled (blocks_of_state places.now.ends number from plan.now.state.now)) }
+{
+    let state = plan.state;
+    if state.edges.as_slice().is_empty() {
+        return push_lone(alloc, blocks, &places.ends, number, &state.accept);
+    }
+    push_branches(alloc, blocks, places, from, plan)
+}
+
+/// Puts the blocks of all states behind others.
+pub(crate) fn push_states(
+    alloc: Global,
+    blocks: &mut Vec<CodeBlock>,
+    places: &Places<'_>,
+) -> Result<(), Memory>
+    requires { ArePlaced places.now }
+    ensures { OnOk result (blocks.new.items
+        ≡ blocks.old.items ++ unlabelled (blocks_of_states places.now.ends 0 0 places.now.ends.auto.now.states)) }
+{
+    let mut from = 0;
+    for (number, plan) in places.ends.plans.iter().enumerate() {
+        push_state(alloc, blocks, places, number, from, plan)?;
+        from = sum(from, state_size(number, plan)?)?;
+    }
+    Ok(())
+}

@@ -1,7 +1,0 @@
-use Rattle.lx_samples.proofs.tests.automata.SoundTerms.{ok_of}
-use Rattle.lx_samples.proofs.tests.automata.rules.auto_of.Goals as goal
-
-pub returns : goal.returns
-returns c =
-    let (enc, rules, within, fits, is) = c.in_ok-t.ensures in
-    ok_of _ _ _ c.determinize.result (c.determinize.ensures.automaton enc _ is fits) (λ auto auto_is. auto_is.0.formed)

@@ -1,7 +1,0 @@
-use Rattle.std.proofs.Common.{ℕ, map}
-use Rattle.lx_regex.specs.Expr.{term_of}
-use Rattle.lx_samples.proofs.tests.automata.SoundTerms.{EachSound}
-use Rattle.lx_samples.proofs.tests.automata.terms.letters.Given as goal
-
-abbrev pub invariant-loop-byte : goal.invariant-loop-byte
-invariant-loop-byte l = (tags : ℕ) → EachSound (map (term_of tags) l.list.items)

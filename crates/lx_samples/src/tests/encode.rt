@@ -1,0 +1,5 @@
+//! Graphs of units, policies and spellings.
+
+mod graph;
+mod policies;
+mod units;

@@ -1,0 +1,5 @@
+//! Expressions, rule lists and their parts.
+
+mod exprs;
+mod lists;
+mod parts;

@@ -1,0 +1,87 @@
+#!/bin/sh
+# Compiles scanners with classes, repetitions and tags as C, and runs each beside the program's own run of the emitted text: both
+# print the same lines.
+#
+# Usage: tests/c/rows.sh, from anywhere; CC names the compiler (cc where it is unset).
+set -eu
+
+root=$(cd "$(dirname "$0")/../.." && pwd)
+compiler=${CC:-cc}
+work=$(mktemp -d)
+trap 'rm -rf "$work"' EXIT
+
+# A piece has a label for each block and for its end, and declares its variables whether it needs them or not.
+options="-std=c99 -Wall -Wextra -Werror -Wno-unused-label -Wno-unused-variable -Wno-unused-but-set-variable"
+
+# same NAME UNIT RULE TAGS INPUT [OPTION ..]: the rules stand in the file NAME.rules, each with an action that returns its number;
+# UNIT is the type of a code unit, RULE the one rule with tags, or 0, TAGS are the tags' names, and INPUT is a format of printf.
+same() {
+	name=$1 unit=$2 rule=$3 tags=$4 input=$5
+	shift 5
+	{
+		printf '#define YYCTYPE %s\n#define RULE %s\n#define TAGS %s\n' "$unit" "$rule" "$(for tag in $tags; do printf 'TAG(%s) ' "$tag"; done)"
+		for tag in $tags; do printf 'static const YYCTYPE *%s;\n' "$tag"; done
+		printf '#include "run.h"\nstatic int match(void)\n{\n\tconst YYCTYPE *YYMARKER = YYCURSOR;\n#include "registers.h"\n'
+		printf '/*!re2c\nre2c:yyfill:enable = 0;\n'
+		cat "$work/$name.rules"
+		printf '*/\n\treturn 0;\n}\n#include "main.h"\n'
+	} > "$work/$name.re"
+	"$root/bin/re2c" -i "$@" -o "$work/$name.c" "$work/$name.re"
+	grep -o 'yyt[0-9][0-9]*' "$work/$name.c" | sort -u | sed 's/.*/static const YYCTYPE *&;/' > "$work/registers.h" || true
+	cp "$root/tests/c/run.h" "$root/tests/c/main.h" "$work"
+	# shellcheck disable=SC2059
+	printf "$input" > "$work/$name.in"
+	# shellcheck disable=SC2086
+	"$compiler" $options "$work/$name.c" -o "$work/$name"
+	"$work/$name" "$work/$name.in" > "$work/$name.found"
+	"$root/bin/re2c" --x-run "$work/$name.in" "$work/$name.c" > "$work/$name.wanted"
+	diff "$work/$name.wanted" "$work/$name.found"
+	echo "$name: $(wc -l < "$work/$name.wanted") lines"
+}
+
+# rules NAME: the rules of a scanner, from the standard input
+rules() {
+	cat > "$work/$1.rules"
+}
+
+rules longest <<'RULES'
+"a" { return 1; }
+[a-z]{2,4}"!" { return 2; }
+* { return 3; }
+RULES
+same longest 'unsigned char' 0 '' 'abcd'
+same longest 'unsigned char' 0 '' 'abcd!'
+
+rules offsets <<'RULES'
+@p "a"* @q "b"? { return 1; }
+RULES
+same offsets 'unsigned char' 1 'p q' 'aabc' -T
+
+rules unset <<'RULES'
+("a" @t | "b")* { return 1; }
+RULES
+same unset 'unsigned char' 1 't' 'ab' -T
+same unset 'unsigned char' 1 't' 'ba' -T
+same unset 'unsigned char' 1 't' 'c' -T
+
+rules empty <<'RULES'
+(@t "x"?)* { return 1; }
+RULES
+same empty 'unsigned char' 1 't' 'x' -T
+same empty 'unsigned char' 1 't' 'y' -T
+
+rules points <<'RULES'
+[^] { return 1; }
+* { return 2; }
+RULES
+same points 'unsigned char' 0 '' '\364\217\277\277\364\217' -8
+
+rules pairs <<'RULES'
+[^\x00] @t [^\x00]? { return 1; }
+* { return 2; }
+RULES
+same pairs 'unsigned short' 1 't' '\000\330\000\334' -x -T
+
+rules lexer < "$root/tests/c/lexer.rules"
+same lexer 'unsigned char' 17 'whole dot' 'if (x1 <= 0x1F) y = 3.14; // ok' -T
+same lexer 'unsigned char' 17 'whole dot' 'while (a[10] >>= 1.5) { /* x ** */ s = "a\\"b"; } else .5 007 0x 1. \\"' -T

@@ -1,0 +1,5 @@
+/* What a scanner reads, and where it stands in it. */
+#include <stdio.h>
+#include <stdlib.h>
+
+static const YYCTYPE *stream, *YYCURSOR;
