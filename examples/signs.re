@@ -4,7 +4,7 @@
 #define YYCTYPE unsigned char
 #define SCANNER(NAME) static char NAME(const unsigned char **at) { const unsigned char *YYCURSOR = *at, *YYMARKER;
 #define FOUND(SIGN) do { *at = YYCURSOR; return SIGN; } while (0)
-#define SCANNER_END }
+#define SCANNER_END return '?'; }
 
 SCANNER(sign) /*!re2c
 	re2c:yyfill:enable = 0;
