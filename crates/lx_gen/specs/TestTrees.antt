@@ -25,9 +25,9 @@ halved build low [] last = leaf last
 halved build [] (middle ∷ high) last = test middle.greatest middle.way (build high last)
 halved build (stretch ∷ low) (middle ∷ high) last = fork middle.greatest (build (stretch ∷ low) middle.way) (build high last)
 
--- the place of the one in the middle of so many
+-- the place of the one that comes first of so many: of up to four the first, of more about the one in the middle
 abbrev pub middle_place : (count : ℕ) → ℕ
-middle_place count = (count - 1) / 2
+middle_place count = (count - 3) / 2
 
 -- a tree of at most so many stretches, with the one in the middle first
 abbrev pub balanced_in : (count : ℕ) → List Stretch → (last : Option ℕ) → TestTree (Option ℕ)

@@ -28,14 +28,14 @@ pub(crate) enum TestTree {
     },
 }
 
-/// A tree of tests, with the one in the middle first.
+/// A tree of tests: up to four one after another, and more with about the one in the middle first.
 fn balanced(alloc: Global, tests: &[Stretch], last: Option<usize>) -> Result<TestTree, Memory>
     ensures { IfOk result (λ tree. seen_tree tree ≡ balanced (seen_stretches tests.now) last) }
 {
     if tests.is_empty() {
         return Ok(TestTree::Leaf(last));
     }
-    let place = (tests.len() - 1) / 2;
+    let place = tests.len().saturating_sub(3) / 2;
     let Stretch { greatest, way } = tests[place];
     let high = Box::new(alloc, balanced(alloc, &tests[place + 1..], last)?)?;
     if place == 0 {

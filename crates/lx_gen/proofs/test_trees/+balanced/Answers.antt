@@ -10,11 +10,14 @@ pub returns : goal.returns
 returns t c =
     let tests = c.args.tests.now in
     let place : ℕ = middle_place (length tests) in
+    let third = c.saturating_sub-place.ensures in
+    let some = rw third at c.if-place-eq0.false in
     let middle : Stretch = get_or tests place (record { greatest = 0; way = None }) in
     let behind = length-drop (place + 1) tests in
     let all = take_all (length tests - (place + 1)) (drop (place + 1) tests) (omega (arith, behind)) in
     let below = ap seen_tree c.in_ok-low.ensures.ok ∙ c.in_ok-balanced-2.ensures in
-    let above = ap seen_tree c.in_ok-high.ensures.ok ∙ c.in_ok-balanced.ensures ∙ ap (λ list. balanced (seen_stretches list) c.args.last) all in
-    seen_tree-fork middle.greatest c.in_ok-low.low c.in_ok-high.high
-    ∙ ap₂ (λ low high. fork middle.greatest low high) below above
-    ∙ sym (balanced-both tests (record { greatest = 0; way = None }) c.args.last (omega (arith, c.if-place-eq0.false)) (omega (arith, c.if-place-eq0.false)))
+    let above = ap seen_tree c.in_ok-high.ensures.ok ∙ (rw third at c.in_ok-balanced.ensures) ∙ ap (λ list. balanced (seen_stretches list) c.args.last) all in
+    rw third
+    (seen_tree-fork middle.greatest c.in_ok-low.low c.in_ok-high.high
+    ∙ ap₂ (λ low high. fork middle.greatest low high) (rw third at below) above
+    ∙ sym (balanced-both tests (record { greatest = 0; way = None }) c.args.last (omega (arith, some)) (omega (arith, some))))
