@@ -6,7 +6,7 @@ root=$(cd "$(dirname "$0")/.." && pwd)
 work=$(mktemp -d)
 trap 'rm -rf "$work"' EXIT
 
-# lexer NAME REGISTERS: a C file with the rules, and their tags as the original or this program writes them
+# source_of NAME: a source with the rules, which declares the registers in NAME.registers.h
 source_of() {
     printf '#include "lexing.h"\nint lex(void)\n{\n\tconst YYCTYPE *YYMARKER = YYCURSOR, *whole, *dot;\n#include "%s.registers.h"\n' "$1"
     printf '/*!re2c\nre2c:yyfill:enable = 0;\n'

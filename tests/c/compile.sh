@@ -3,18 +3,10 @@
 # compares with what the program prints. Each piece goes into a function, behind a user's declarations.
 #
 # Usage: tests/c/compile.sh, from anywhere; CC names the compiler (cc where it is unset).
-set -eu
+. "$(dirname "$0")/setup.sh"
 
-here=$(cd "$(dirname "$0")" && pwd)
-pieces=$here/../../crates/piece_samples/stdout
-compiler=${CC:-cc}
-
-# Labels that no jump reaches, and variables that are only set, are a matter of the rules and of the
-# user's actions: a piece has a label for each block and for its end.
-options="-std=c99 -Wall -Wextra -Werror -Wno-unused-label -Wno-unused-variable -Wno-unused-but-set-variable"
-
-work=$(mktemp -d)
-trap 'rm -rf "$work"' EXIT
+here=$root/tests/c
+pieces=$root/crates/piece_samples/stdout
 
 awk -v work="$work" '
     /^\/\*!begin:re2c / { split($2, part, "*"); file = work "/piece" part[1] ".inc" }

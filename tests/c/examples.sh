@@ -2,15 +2,7 @@
 # Compiles the scanners of the examples as C, and runs each: it prints the numbers of the actions that it should enter.
 #
 # Usage: tests/c/examples.sh, from anywhere; CC names the compiler (cc where it is unset).
-set -eu
-
-root=$(cd "$(dirname "$0")/../.." && pwd)
-compiler=${CC:-cc}
-work=$(mktemp -d)
-trap 'rm -rf "$work"' EXIT
-
-# The end's label is one that no jump need reach, and the piece declares its variables whether it needs them or not.
-options="-std=c99 -Wall -Wextra -Werror -Wno-unused-label -Wno-unused-variable"
+. "$(dirname "$0")/setup.sh"
 
 # prints NAME EXPECTED [OPTION ..]: what the example prints, with blanks for line feeds, where it is compiled with these options
 prints() {

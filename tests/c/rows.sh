@@ -3,15 +3,7 @@
 # print the same lines.
 #
 # Usage: tests/c/rows.sh, from anywhere; CC names the compiler (cc where it is unset).
-set -eu
-
-root=$(cd "$(dirname "$0")/../.." && pwd)
-compiler=${CC:-cc}
-work=$(mktemp -d)
-trap 'rm -rf "$work"' EXIT
-
-# A piece has a label for each block and for its end, and declares its variables whether it needs them or not.
-options="-std=c99 -Wall -Wextra -Werror -Wno-unused-label -Wno-unused-variable -Wno-unused-but-set-variable"
+. "$(dirname "$0")/setup.sh"
 
 # same NAME UNIT RULE TAGS INPUT [OPTION ..]: the rules stand in the file NAME.rules, each with an action that returns its number;
 # UNIT is the type of a code unit, RULE the one rule with tags, or 0, TAGS are the tags' names, and INPUT is a format of printf.
