@@ -1,10 +1,24 @@
 #!/bin/sh
-# Measures the lexer of 40 rules (tests/c/lexer.rules) on 64 MiB of C-like text, compiled by `cc -O2`, beside a scanner of the same
-# rules by the original re2c where that is installed, and fails where it has less than 0.9 of that one's speed.
+# Measures the lexer of 40 rules (tests/c/lexer.rules) on 64 MiB of C text, compiled by `cc -O2`, beside a scanner of the same rules by
+# the original re2c where that is installed, and fails where it has less than 0.9 of that one's speed. The text is that of the
+# headers of this machine, or of the file that is named, over and over; a few lines over and over would be learned by heart by a
+# processor's branch predictor.
+#
+# Usage: bench/lexing.sh [FILE]
 set -eu
 root=$(cd "$(dirname "$0")/.." && pwd)
 work=$(mktemp -d)
 trap 'rm -rf "$work"' EXIT
+
+if [ $# -gt 0 ]; then
+    cat "$1"
+else
+    find /usr/include /usr/lib/gcc -name '*.h' 2> /dev/null | LC_ALL=C sort | tr '\n' '\0' | xargs -0 cat 2> /dev/null
+fi | tr -d '\000' | head -c 67108864 > "$work/text"
+if [ ! -s "$work/text" ]; then
+    echo "there is no text to measure on" >&2
+    exit 1
+fi
 
 # source_of NAME: a source with the rules, which declares the registers in NAME.registers.h
 source_of() {
@@ -23,26 +37,22 @@ C
 cat > "$work/main.c" <<'C'
 #include <stdio.h>
 #include <stdlib.h>
-#include <string.h>
 #include <time.h>
 #include "lexing.h"
 const YYCTYPE *YYCURSOR;
 
-static const char line[] =
-    "static int count_words(const char *text, int most) { /* one ** word */\n"
-    "\tint found = 0x1F; struct state *s = table[12]; while (text[found] != '\\0' && found <= most) { if (s->next == 0) break;\n"
-    "\telse found += s->size >> 2; total = total * 3.14 + found--; } // the last one\n"
-    "\treturn found; puts(\"a line of \\\"text\\\"\\n\"); for (;;) continue; }\n";
-
-int main(void)
+int main(int count, char **words)
 {
-    size_t size = (size_t)64 << 20, length = sizeof line - 1, at;
+    size_t size = (size_t)64 << 20, length, at;
     YYCTYPE *text = malloc(size + 1);
+    FILE *file = fopen(words[count - 1], "rb");
     double best = 1e9;
     unsigned long sum = 0;
 
-    for (at = 0; at < size; ++at)
-        text[at] = (YYCTYPE)line[at % length];
+    if (text == NULL || file == NULL || (length = fread(text, 1, size, file)) == 0)
+        return 1;
+    for (at = length; at < size; ++at)
+        text[at] = text[at - length];
     text[size] = 0;
     for (int turn = 0; turn < 5; ++turn) {
         clock_t begun = clock();
@@ -70,7 +80,7 @@ measured() {
     "$@" -o "$work/$name.c" "$work/$name.re"
     grep -o 'yyt[0-9][0-9]*' "$work/$name.c" | sort -u | sed 's/.*/const YYCTYPE *&;/' > "$work/$name.registers.h" || true
     cc -O2 -w "$work/$name.c" "$work/main.c" -o "$work/$name"
-    "$work/$name"
+    "$work/$name" "$work/text"
 }
 
 ours=$(measured ours "$root/bin/re2c" -i -T)

@@ -78,7 +78,7 @@ module _ (options : Options) (lexemes : List Lexeme) where
       }))
   AreUsual-after state (Text value) after checks is usual = subst (λ (s : State). AreUsual s.rules) (sym is) usual
 
-  AreUsual-goes : {state : State} {items : List Item} {result : Result State Fault} → Goes options lexemes state items result
+  pub AreUsual-goes : {state : State} {items : List Item} {result : Result State Fault} → Goes options lexemes state items result
       → (last : State) → result ≡ Ok last → AreUsual state.rules → AreUsual last.rules
   AreUsual-goes (ends {state = state}) last is usual = let same : state ≡ last = cc in subst (λ (s : State). AreUsual s.rules) same usual
   AreUsual-goes (refused fault checks) last is usual = absurd cc

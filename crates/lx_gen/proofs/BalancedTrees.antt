@@ -3,9 +3,10 @@ use Rattle.std.specs.Prelude.{◌≡◌, ℕ, zero, suc, ◌-◌, ◌<◌, ◌�
 use Rattle.std.proofs.Common.{sym, ap, ap₂, ◌∙◌, subst, arith, leb-false, length-append, length-drop, take-append-drop}
 use Rattle.std.proofs.lemmas.Bool.{lt-leb}
 use Rattle.std.specs.List.{AllByRecursion}
-use Rattle.lx_gen.specs.TestTrees.{TestTree, balanced, balanced_in, fork, halved, leaf, middle_place, picked, test}
+use Rattle.lx_gen.specs.TestTrees.{TestTree, balanced, balanced_in, first_place, fork, halved, leaf, picked, test}
 use Rattle.lx_gen.specs.Ways.{Stretch}
 use Rattle.lx_gen.proofs.EachElement.{each-back, each-front}
+use Rattle.lx_gen.proofs.FirstPlaces.{first_place-in}
 
 -- how a unit goes by stretches one after another
 abbrev pub way_on : List Stretch → (last : Option ℕ) → (unit : ℕ) → Option ℕ
@@ -29,7 +30,7 @@ module _ (P : List Stretch → (last : Option ℕ) → TestTree (Option ℕ) →
       (λ part way few. by_halves count part way few)
     where
       half : ℕ
-      half = middle_place (length (stretch ∷ list))
+      half = first_place (stretch ∷ list)
 
       build : List Stretch → Option ℕ → TestTree (Option ℕ)
       build part way = balanced_in count part way
@@ -37,7 +38,7 @@ module _ (P : List Stretch → (last : Option ℕ) → TestTree (Option ℕ) →
       at : (low high : List Stretch) → low ++ high ≡ stretch ∷ list → length high ≡ length (stretch ∷ list) - half
           → ((part : List Stretch) (way : Option ℕ) → length part ≤ count → P part way (build part way))
           → P (stretch ∷ list) last (halved build low high last)
-      at low [] e some again = absurd (omega (arith, some))
+      at low [] e some again = let inside = first_place-in (stretch ∷ list) (omega arith) in absurd (omega (arith, some, inside))
       at [] (middle ∷ high) e some again =
           let few = ap (λ l. length l) e in
           subst (λ l. P l last (test middle.greatest middle.way (build high last))) e

@@ -13,6 +13,7 @@ pub mod FineCodes
 pub mod FineLayouts
 pub mod FinePieces
 pub mod FirstAccepts
+pub mod FirstPlaces
 pub mod LayoutFits
 pub mod LayoutLaws
 pub mod LayoutLengths

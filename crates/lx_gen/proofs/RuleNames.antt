@@ -35,7 +35,7 @@ group_ends-length : (groups : ℕ) → length (group_ends groups) ≡ 2 * groups
 group_ends-length zero = omega arith
 group_ends-length (suc groups) = let h : length (group_ends groups) ≡ 2 * groups = group_ends-length groups in omega (arith, h)
 
-sorts-length : (rule : Rule) → length (sorts_of (pattern_of rule)) ≡ length (names_of rule.tags) + 2 * rule.groups
+pub sorts-length : (rule : Rule) → length (sorts_of (pattern_of rule)) ≡ length (names_of rule.tags) + 2 * rule.groups
 sorts-length rule =
     let both : length (map (λ (tag : Tag). tag.many) rule.tags ++ group_ends rule.groups)
     ≡ length (map (λ (tag : Tag). tag.many) rule.tags) + length (group_ends rule.groups) =

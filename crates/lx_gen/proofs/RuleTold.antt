@@ -1,6 +1,6 @@
 -- The ends of a scanner's rules are told: each accept is by a rule that has an action, and has a value for each tag and each end of a group.
-use Rattle.std.specs.Prelude.{◌≡◌, ℕ, zero, suc, ◌+◌, ◌*◌, ◌<◌, ◌≤◌, List, [], ◌∷◌, ◌++◌, length, map, Option, Some, None, IsSome, All, Bool, true, false, slice_get, if◌then◌else◌}
-use Rattle.std.proofs.Common.{refl, sym, ap, ◌∙◌, subst, arith, length-append}
+use Rattle.std.specs.Prelude.{◌≡◌, ℕ, zero, suc, ◌+◌, ◌*◌, ◌<◌, ◌≤◌, List, [], ◌∷◌, length, map, Option, Some, None, IsSome, All, Bool, true, false, slice_get, if◌then◌else◌}
+use Rattle.std.proofs.Common.{refl, sym, ap, ◌∙◌, subst, arith}
 use Rattle.std.proofs.lemmas.List.{length-map}
 use Rattle.std.proofs.lemmas.List.Elements.{All-contains}
 use Rattle.std.specs.List.{AllByRecursion}
@@ -10,15 +10,14 @@ use Rattle.lx_base.specs.Names.{Spellings}
 use Rattle.lx_base.specs.declared.settings.Enc.{Enc}
 use Rattle.lx_regex.specs.Limits.{IsWithinLimits, tags_of}
 use Rattle.lx_regex.specs.Pattern.{Pattern, is_end, pattern_of, patterns_of, sorts_of, with_terms}
-use Rattle.lx_regex.specs.Values.{group_ends}
 use Rattle.lx_regex.specs.declared.rules.Rule.{Rule}
-use Rattle.lx_regex.specs.declared.rules.Tag.{Tag}
 use Rattle.lx_tdfa.specs.Promise.{IsByRule, is_history}
 use Rattle.lx_gen.specs.Endings.{Ending}
 use Rattle.lx_gen.specs.Plans.{AcceptIsTold, AreTold}
-use Rattle.lx_gen.specs.Rules.{ending_of, endings_of, names_of, text_of}
+use Rattle.lx_gen.specs.Rules.{ending_of, endings_of, text_of}
 use Rattle.lx_gen.specs.Scanner.{AreNamed}
 use Rattle.lx_gen.proofs.RuleEndings.{All-each, HaveEndings, HaveEndings-apart, each-All}
+use Rattle.lx_gen.proofs.RuleNames.{sorts-length}
 
 text_there : (texts : List (List ℕ)) (place : ℕ) → place < length texts → IsSome (slice_get texts place)
 text_there [] place lt = absurd (omega (arith, lt))
@@ -28,20 +27,6 @@ text_there (text ∷ texts) (suc place) lt = text_there texts place (omega (arit
 action_there : (texts : List (List ℕ)) (number : ℕ) → 0 < number → number ≤ length texts → IsSome (text_of texts number)
 action_there texts zero some lt = absurd (omega (arith, some))
 action_there texts (suc place) some lt = text_there texts place (omega (arith, lt))
-
-group_ends-length : (groups : ℕ) → length (group_ends groups) ≡ 2 * groups
-group_ends-length zero = omega arith
-group_ends-length (suc groups) = let h : length (group_ends groups) ≡ 2 * groups = group_ends-length groups in omega (arith, h)
-
-sorts-length : (rule : Rule) → length (sorts_of (pattern_of rule)) ≡ length (names_of rule.tags) + 2 * rule.groups
-sorts-length rule =
-    let both : length (map (λ (tag : Tag). tag.many) rule.tags ++ group_ends rule.groups)
-    ≡ length (map (λ (tag : Tag). tag.many) rule.tags) + length (group_ends rule.groups) =
-    length-append (map (λ (tag : Tag). tag.many) rule.tags) (group_ends rule.groups) in
-    let tags : length (map (λ (tag : Tag). tag.many) rule.tags) ≡ length rule.tags = length-map rule.tags (λ (tag : Tag). tag.many) in
-    let named : length (names_of rule.tags) ≡ length rule.tags = length-map rule.tags (λ (tag : Tag). tag.name) in
-    let ends : length (group_ends rule.groups) ≡ 2 * rule.groups = group_ends-length rule.groups in
-    omega (arith, both, tags, named, ends)
 
 -- the end of an accept by a pattern is told
 record PatternIsTold (endings : ℕ → Ending) (pattern : Pattern) : Type 0 where

@@ -1,22 +1,19 @@
--- A balanced tree of tests by the one in the middle.
+-- A tree of tests by the one that comes first.
 use Rattle.std.specs.Prelude.{◌≡◌, ℕ, zero, suc, ◌+◌, ◌-◌, ◌<◌, ◌≤◌, List, [], ◌∷◌, length, take, drop, Option, refl}
 use Rattle.std.proofs.Common.{ap, ap₂, arith, length-drop}
 use Rattle.std.proofs.lemmas.List.{length-take-le}
-use Rattle.lx_gen.specs.TestTrees.{TestTree, balanced, balanced_in, fork, halved, middle_place, test}
+use Rattle.lx_gen.specs.TestTrees.{TestTree, balanced, balanced_in, first_place, fork, halved, test}
 use Rattle.lx_gen.specs.Ways.{Stretch}
+use Rattle.lx_gen.proofs.FirstPlaces.{first_place-within}
 
 abbrev Build : Type 0
 Build = List Stretch → Option ℕ → TestTree (Option ℕ)
 
--- where the test in the middle stands
-abbrev half : List Stretch → ℕ
-half list = middle_place (length list)
+length-low : (list : List Stretch) → length (take (first_place list) list) ≡ first_place list
+length-low list = length-take-le (first_place list) list (first_place-within list)
 
-length-low : (list : List Stretch) → length (take (half list) list) ≡ half list
-length-low list = length-take-le (half list) list (omega arith)
-
-length-high : (list : List Stretch) → length (drop (half list) list) ≡ length list - half list
-length-high list = length-drop (half list) list
+length-high : (list : List Stretch) → length (drop (first_place list) list) ≡ length list - first_place list
+length-high list = length-drop (first_place list) list
 
 halved-same : (build other : Build) (low high : List Stretch) (last : Option ℕ)
     → ((part : List Stretch) (way : Option ℕ) → length part < length low + length high → build part way ≡ other part way)
@@ -34,19 +31,21 @@ balanced_in-enough zero (suc more) (stretch ∷ list) last le le_more = absurd (
 balanced_in-enough (suc count) zero [] last le le_more = refl
 balanced_in-enough (suc count) zero (stretch ∷ list) last le le_more = absurd (omega arith)
 balanced_in-enough (suc count) (suc more) list last le le_more =
-    halved-same (λ part way. balanced_in count part way) (λ part way. balanced_in more part way) (take (half list) list) (drop (half list) list) last
+    halved-same (λ part way. balanced_in count part way) (λ part way. balanced_in more part way) (take (first_place list) list) (drop (first_place list) list) last
     (λ part way lt.
     let low = length-low list in
     let high = length-high list in
-    balanced_in-enough count more part way (omega (arith, lt, low, high, le)) (omega (arith, lt, low, high, le_more)))
+    let within = first_place-within list in
+    balanced_in-enough count more part way (omega (arith, lt, low, high, within, le)) (omega (arith, lt, low, high, within, le_more)))
 
 pub balanced-halved : (list : List Stretch) (last : Option ℕ)
     → balanced list last
-    ≡ halved (λ part way. balanced part way) (take (middle_place (length list)) list) (drop (middle_place (length list)) list) last
+    ≡ halved (λ part way. balanced part way) (take (first_place list) list) (drop (first_place list) list) last
 balanced-halved [] last = refl
 balanced-halved (stretch ∷ others) last =
     let list : List Stretch = stretch ∷ others in
     let low = length-low list in
     let high = length-high list in
-    halved-same (λ part way. balanced_in (length others) part way) (λ part way. balanced part way) (take (half list) list) (drop (half list) list) last
-    (λ part way lt. balanced_in-enough (length others) (length part) part way (omega (arith, lt, low, high)) (omega arith))
+    let within = first_place-within list in
+    halved-same (λ part way. balanced_in (length others) part way) (λ part way. balanced part way) (take (first_place list) list) (drop (first_place list) list) last
+    (λ part way lt. balanced_in-enough (length others) (length part) part way (omega (arith, lt, low, high, within)) (omega arith))

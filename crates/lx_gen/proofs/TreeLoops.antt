@@ -7,7 +7,7 @@ use Rattle.lx_ccode.specs.declared.piece.Stmt.{Stmt}
 use Rattle.lx_ccode.specs.declared.piece.Stmt.TheVariants.{IfUnit}
 use Rattle.lx_gen.specs.Layout.{numbered}
 use Rattle.lx_gen.specs.Plans.{unlabelled}
-use Rattle.lx_gen.specs.TestTrees.{TestTree, balanced, fork, halved, inner_blocks, inner_size, middle_place, tree_code}
+use Rattle.lx_gen.specs.TestTrees.{TestTree, balanced, first_place, fork, halved, inner_blocks, inner_size, tree_code}
 use Rattle.lx_gen.specs.Views.{seen_stretch, seen_stretches, seen_test, seen_tree}
 use Rattle.lx_gen.specs.Ways.{Stretch}
 use Rattle.lx_gen.specs.declared.test_trees.TestTree as held_tree
@@ -16,6 +16,7 @@ use Rattle.lx_gen.specs.declared.test_trees.TestTree.TheVariants.{Fork, rolls-Fo
 use Rattle.lx_gen.specs.declared.test_trees.TestTree.TheFolds.{fold-roll-TestTree}
 use Rattle.lx_gen.specs.declared.unit_splits.Stretch as held
 use Rattle.lx_gen.proofs.BlockLoops.{unlabelled-append}
+use Rattle.lx_gen.proofs.FirstPlaces.{first_place-in}
 use Rattle.lx_gen.proofs.TreeCodes.{inner_size-numbered}
 use Rattle.lx_gen.proofs.TreeHalves.{balanced-halved}
 
@@ -24,11 +25,17 @@ pub seen_tree-fork : (greatest : ℕ) (low high : Box held_tree.TestTree Global)
 seen_tree-fork greatest low high =
     ap seen_tree (sym (rolls-Fork greatest low high)) ∙ fold-roll-TestTree (TestTree (Option ℕ)) seen_test (TestTree-F.Fork greatest low high)
 
--- ---- by the test in the middle
+-- ---- by the test that comes first
 
 module _ (list : List held.Stretch) (none : held.Stretch) (last : Option ℕ) (some : 0 < length list) where
   abbrev place : ℕ
-  place = middle_place (length list)
+  place = first_place (seen_stretches list)
+
+  pub place-in : place < length list
+  place-in =
+      let many = length-map list seen_stretch in
+      let inside = first_place-in (seen_stretches list) (omega (arith, many, some)) in
+      omega (arith, many, inside)
 
   abbrev middle : held.Stretch
   middle = get_or list place none
@@ -45,9 +52,8 @@ module _ (list : List held.Stretch) (none : held.Stretch) (last : Option ℕ) (s
   parts : balanced (seen_stretches list) last ≡ halved (λ part way. balanced part way) low (seen_stretch middle ∷ high) last
   parts =
       balanced-halved (seen_stretches list) last
-      ∙ ap (λ n. halved built (take (middle_place n) (seen_stretches list)) (drop (middle_place n) (seen_stretches list)) last) (length-map list seen_stretch)
       ∙ ap₂ (λ below above. halved built below above last) (take-map seen_stretch place list)
-      (drop-map seen_stretch place list ∙ ap seen_stretches (drop_more list place none (omega (arith, some))))
+      (drop-map seen_stretch place list ∙ ap seen_stretches (drop_more list place none place-in))
 
   halved-some : (part : List Stretch) → 0 < length part
       → halved built part (seen_stretch middle ∷ high) last ≡ fork middle.greatest (balanced part middle.way) (balanced high last)
@@ -57,7 +63,7 @@ module _ (list : List held.Stretch) (none : held.Stretch) (last : Option ℕ) (s
   pub balanced-both : 0 < place
       → balanced (seen_stretches list) last ≡ fork middle.greatest (balanced low middle.way) (balanced high last)
   balanced-both lt =
-      let many = length-map (take place list) seen_stretch ∙ length-take-le place list (omega arith) in
+      let many = length-map (take place list) seen_stretch ∙ length-take-le place list (let inside = place-in in omega (arith, inside)) in
       parts ∙ halved-some low (omega (arith, many, lt))
 
 -- ---- one after another

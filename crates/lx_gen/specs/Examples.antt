@@ -20,17 +20,19 @@ use Rattle.lx_gen.specs.Ways.{Stretch}
 abbrev pub tagged : ℕ → Ending
 tagged rule = record { tags = (116 ∷ []) ∷ []; slash = None; groups = 0; goes_to = None; action = Some (97 ∷ []); line = None }
 
--- The layout of the automaton of `[a-cx-z] ("." [a-cx-z])* @t` for bytes. The two ranges of state 0 are one way. State 1 stands from
--- block 2 on: a dot, on which it is kept, and the end in it. Then come the fallback, what it does for rule 1, and the end of rule 1.
+-- The layout of the automaton of `[a-cx-z] ("." [a-cx-z])* @t` for bytes. The two ranges of state 0 are one way; units behind the
+-- small letters are tested first, and others in block 1. State 1 stands from block 3 on: a dot, on which it is kept, and the end in it.
+-- Then come the fallback, what it does for rule 1, and the end of rule 1.
 abbrev pub dotted_blocks : List (List Stmt)
 dotted_blocks =
-    (Peek ∷ IfUnit 96 5 ∷ IfUnit 99 1 ∷ IfUnit 119 5 ∷ IfUnit 122 1 ∷ Goto 5 ∷ [])
-    ∷ (Skip ∷ Goto 2 ∷ [])
-    ∷ (Peek ∷ IfUnit 45 4 ∷ IfUnit 46 3 ∷ Goto 4 ∷ [])
+    (Peek ∷ IfUnit 122 1 ∷ Goto 6 ∷ [])
+    ∷ (IfUnit 96 6 ∷ IfUnit 99 2 ∷ IfUnit 119 6 ∷ Goto 2 ∷ [])
+    ∷ (Skip ∷ Goto 3 ∷ [])
+    ∷ (Peek ∷ IfUnit 45 5 ∷ IfUnit 46 4 ∷ Goto 5 ∷ [])
     ∷ (Backup ∷ Accept 1 ∷ Set 1 ∷ Skip ∷ Goto 0 ∷ [])
-    ∷ (Set 1 ∷ Goto 7 ∷ [])
-    ∷ (IfAccept 1 6 ∷ Leave ∷ [])
-    ∷ (Restore ∷ Goto 7 ∷ [])
+    ∷ (Set 1 ∷ Goto 8 ∷ [])
+    ∷ (IfAccept 1 7 ∷ Leave ∷ [])
+    ∷ (Restore ∷ Goto 8 ∷ [])
     ∷ (Tag (116 ∷ []) false 1 ∷ Code 1 None (97 ∷ []) ∷ [])
     ∷ []
 
@@ -74,11 +76,25 @@ seven =
     ∷ record { greatest = 40; way = Some 3 } ∷ record { greatest = 50; way = Some 4 } ∷ record { greatest = 60; way = Some 5 }
     ∷ record { greatest = 70; way = Some 6 } ∷ []
 
--- Of these each unit needs five tests at most. The block for those up to 30 comes behind the first one.
+-- letters, digits and `_` go the way 0, and others none
+abbrev pub letters : List Stretch
+letters =
+    record { greatest = 47; way = None } ∷ record { greatest = 57; way = Some 0 } ∷ record { greatest = 64; way = None }
+    ∷ record { greatest = 90; way = Some 0 } ∷ record { greatest = 94; way = None } ∷ record { greatest = 95; way = Some 0 }
+    ∷ record { greatest = 96; way = None } ∷ record { greatest = 122; way = Some 0 } ∷ []
+
+-- Of the seven each unit needs five tests at most, and the block for those up to 30 comes behind the first one. A small letter needs
+-- three of the eight, and what stands before the letters at most three.
 pub record TestsAreFew : Type 0 where
   pub seven : front_blocks 0 (numbered 2 10 (balanced seven (Some 7))) ≡
       (Peek ∷ IfUnit 30 1 ∷ IfUnit 40 5 ∷ IfUnit 50 6 ∷ IfUnit 60 7 ∷ IfUnit 70 8 ∷ Goto 9 ∷ [])
       ∷ (IfUnit 10 2 ∷ IfUnit 20 3 ∷ Goto 4 ∷ [])
+      ∷ []
+  pub letters : front_blocks 0 (numbered 4 5 (balanced letters None)) ≡
+      (Peek ∷ IfUnit 64 1 ∷ IfUnit 122 2 ∷ Goto 5 ∷ [])
+      ∷ (IfUnit 47 5 ∷ IfUnit 57 4 ∷ Goto 5 ∷ [])
+      ∷ (IfUnit 96 3 ∷ Goto 4 ∷ [])
+      ∷ (IfUnit 90 4 ∷ IfUnit 94 5 ∷ IfUnit 95 4 ∷ Goto 5 ∷ [])
       ∷ []
 
 -- two registers are swapped by the spare 3, and one of two writes is left out

@@ -1,5 +1,6 @@
 -- Tests of a unit as a tree, and the blocks in which they stand.
-use Rattle.std.specs.Prelude.{ℕ, zero, suc, ◌+◌, ◌-◌, ◌/◌, List, [], ◌∷◌, ◌++◌, length, take, drop, Option, nat_le, if◌then◌else◌}
+use Rattle.std.specs.Prelude.{ℕ, zero, suc, ◌+◌, ◌-◌, ◌/◌, List, [], ◌∷◌, ◌++◌, length, take, drop, position, Option, unwrap_or, nat_eq, nat_le, if◌then◌else◌}
+use Rattle.std.specs.Option.{option_or}
 use Rattle.lx_auto.specs.declared.automaton.Edge.{Edge}
 use Rattle.lx_ccode.specs.declared.piece.Stmt.{Stmt}
 use Rattle.lx_ccode.specs.declared.piece.Stmt.TheVariants.{Goto, IfUnit}
@@ -25,15 +26,30 @@ halved build low [] last = leaf last
 halved build [] (middle ∷ high) last = test middle.greatest middle.way (build high last)
 halved build (stretch ∷ low) (middle ∷ high) last = fork middle.greatest (build (stretch ∷ low) middle.way) (build high last)
 
--- the place of the one that comes first of so many: of up to four the first, of more about the one in the middle
+-- the place of the stretch that ends with a unit
+abbrev pub end_place : List Stretch → (unit : ℕ) → Option ℕ
+end_place stretches unit = position (λ (stretch : Stretch). nat_eq stretch.greatest unit) stretches
+
+-- Where a test parts the groups of ASCII of which texts are made: behind the space, before the letters, behind the small ones, and before
+-- these. In a text the units of one group go much the same way.
+abbrev pub group_place : List Stretch → Option ℕ
+group_place stretches =
+    option_or (option_or (option_or (end_place stretches 32) (end_place stretches 64)) (end_place stretches 122)) (end_place stretches 96)
+
+-- of up to four the first, of more about the one in the middle
 abbrev pub middle_place : (count : ℕ) → ℕ
 middle_place count = (count - 3) / 2
 
--- a tree of at most so many stretches, with the one in the middle first
+-- the place of the stretch whose test comes first: up to three are tested one after another, of more the groups are parted before halves
+abbrev pub first_place : List Stretch → ℕ
+first_place stretches =
+    if nat_le (length stretches) 3 then 0 else unwrap_or (group_place stretches) (middle_place (length stretches))
+
+-- a tree of at most so many stretches
 abbrev pub balanced_in : (count : ℕ) → List Stretch → (last : Option ℕ) → TestTree (Option ℕ)
 balanced_in zero stretches last = leaf last
 balanced_in (suc count) stretches last =
-    halved (λ part way. balanced_in count part way) (take (middle_place (length stretches)) stretches) (drop (middle_place (length stretches)) stretches) last
+    halved (λ part way. balanced_in count part way) (take (first_place stretches) stretches) (drop (first_place stretches) stretches) last
 
 abbrev pub balanced : List Stretch → (last : Option ℕ) → TestTree (Option ℕ)
 balanced stretches last = balanced_in (length stretches) stretches last

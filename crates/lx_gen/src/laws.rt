@@ -82,14 +82,12 @@ pub fn layouts_ask_for_nothing()
         → (list_any is_refill (all_statements blocks) ≡ false) × (list_any is_state (all_statements blocks) ≡ false) }
 {}
 
-/// In a piece whose blocks are the layout of a well-formed automaton each block has one ending statement, which is its last, and
-/// each jump goes to a block that is there.
+/// In a piece whose blocks are the layout of an automaton each block has one ending statement, which is its last, and each jump goes
+/// to a block that is there.
 pub fn layouts_are_closed()
-    ensures jumps { (endings : ℕ → Ending) (greatest : ℕ) (auto : Auto) (blocks : List CodeBlock) → IsAuto auto
-        → All (λ (state : State). All (λ (edge : Edge). edge.hi ≤ greatest) state.edges) auto.states
+    ensures jumps { (endings : ℕ → Ending) (greatest : ℕ) (auto : Auto) (blocks : List CodeBlock)
         → code_of blocks ≡ layout endings greatest auto 0 → AllByRecursion (JumpsBelow (length blocks)) (all_statements blocks) }
-    ensures ends { (endings : ℕ → Ending) (greatest : ℕ) (auto : Auto) (blocks : List CodeBlock) → IsAuto auto
-        → All (λ (state : State). All (λ (edge : Edge). edge.hi ≤ greatest) state.edges) auto.states
+    ensures ends { (endings : ℕ → Ending) (greatest : ℕ) (auto : Auto) (blocks : List CodeBlock)
         → code_of blocks ≡ layout endings greatest auto 0
         → AllByRecursion (λ (block : CodeBlock). ends_once block.stmts ≡ true) blocks }
 {}

@@ -1,8 +1,9 @@
-//! Tests of a unit as a balanced tree.
-ghost use Rattle.std.specs.Prelude.{◌≡◌, IfOk};
+//! Tests of a unit as a tree.
+ghost use Rattle.std.specs.Prelude.{◌≡◌, position, nat_eq, IfOk};
 ghost use Rattle.lx_gen.specs.Layout.{front_size};
-ghost use Rattle.lx_gen.specs.TestTrees.{balanced, inner_size, split_tree};
+ghost use Rattle.lx_gen.specs.TestTrees.{balanced, first_place, group_place, inner_size, split_tree};
 ghost use Rattle.lx_gen.specs.Views.{seen_split, seen_stretches, seen_tree};
+ghost use Rattle.lx_gen.specs.declared.unit_splits.Stretch.{Stretch};
 
 use crate::blocks::sum;
 use crate::unit_splits::{Split, Stretch};
@@ -28,14 +29,42 @@ pub(crate) enum TestTree {
     },
 }
 
-/// A tree of tests: up to four one after another, and more with about the one in the middle first.
+/// The place of the stretch that ends with a unit.
+fn end_place(tests: &[Stretch], unit: u32) -> Option<usize>
+    ensures { result ≡ position (λ (test : Stretch). nat_eq test.greatest unit) tests.now }
+{
+    tests.iter().position(|test| test.greatest == unit)
+}
+
+/// The place of the first test that parts two groups of ASCII: behind the space, before the letters, behind the small letters, or
+/// before these. Texts are made of few groups, whose units go much the same way, so that such a test spares others.
+fn group_place(tests: &[Stretch]) -> Option<usize>
+    ensures { result ≡ group_place (seen_stretches tests.now) }
+{
+    end_place(tests, 0x20)
+        .or(end_place(tests, 0x40))
+        .or(end_place(tests, 0x7A))
+        .or(end_place(tests, 0x60))
+}
+
+/// The place of the test that comes first: up to three come one after another, and of more the groups are parted before halves.
+fn first_place(tests: &[Stretch]) -> usize
+    ensures { result ≡ first_place (seen_stretches tests.now) }
+{
+    if tests.len() <= 3 {
+        return 0;
+    }
+    group_place(tests).unwrap_or((tests.len() - 3) / 2)
+}
+
+/// A tree of tests.
 fn balanced(alloc: Global, tests: &[Stretch], last: Option<usize>) -> Result<TestTree, Memory>
     ensures { IfOk result (λ tree. seen_tree tree ≡ balanced (seen_stretches tests.now) last) }
 {
     if tests.is_empty() {
         return Ok(TestTree::Leaf(last));
     }
-    let place = tests.len().saturating_sub(3) / 2;
+    let place = first_place(tests);
     let Stretch { greatest, way } = tests[place];
     let high = Box::new(alloc, balanced(alloc, &tests[place + 1..], last)?)?;
     if place == 0 {

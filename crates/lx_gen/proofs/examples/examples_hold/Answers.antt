@@ -13,4 +13,4 @@ pub returns-clause-sequences : goal.returns-clause-sequences
 returns-clause-sequences c = record { swap = refl; chain = refl; turned = refl; last_counts = refl }
 
 pub returns-clause-tests : goal.returns-clause-tests
-returns-clause-tests c = record { seven = refl }
+returns-clause-tests c = record { seven = refl; letters = refl }
