@@ -1,5 +1,5 @@
 -- The test that comes first stands among the tests, and what the code holds tells its place.
-use Rattle.std.specs.Prelude.{◌≡◌, ℕ, suc, ◌+◌, ◌<◌, ◌≤◌, Bool, true, false, List, [], ◌∷◌, length, map, position, Option, Some, None, unwrap_or, nat_eq, nat_le, nat_lt, not, refl, if◌then◌else◌}
+use Rattle.std.specs.Prelude.{◌≡◌, ℕ, ◌+◌, ◌<◌, ◌≤◌, Bool, true, false, List, [], ◌∷◌, length, map, position, Option, Some, None, unwrap_or, nat_eq, nat_le, nat_lt, not, refl, if◌then◌else◌}
 use Rattle.std.specs.List.{prefix_len}
 use Rattle.std.specs.Option.{option_or}
 use Rattle.std.proofs.Common.{sym, ap, ap₂, arith}
