@@ -1,4 +1,7 @@
 pub mod Assignments
+pub mod BeginLines
+pub mod BeginMarks
+pub mod BeginSections
 pub mod Behind
 pub mod Bounds
 pub mod Lengths

@@ -90,7 +90,7 @@ statement_count-all (b ∷ blocks) =
     omega arith
 
 -- each block has a statement
-statement_count-blocks : (names : Spellings) (blocks : List CodeBlock) → EachBlockHasSpelling names blocks → length blocks ≤ statement_count blocks
+pub statement_count-blocks : (names : Spellings) (blocks : List CodeBlock) → EachBlockHasSpelling names blocks → length blocks ≤ statement_count blocks
 statement_count-blocks names [] spelled = omega arith
 statement_count-blocks names (b ∷ blocks) spelled =
     let rest : length blocks ≤ statement_count blocks = statement_count-blocks names blocks spelled.1 in

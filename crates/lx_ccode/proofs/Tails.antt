@@ -17,11 +17,11 @@ use Rattle.lx_ccode.specs.Text.{block_then, blocks_then, code_block_then, cond_c
 
 -- ---- a text and what stands behind it
 
-joined-append : (words : List (List ℕ)) (tail rest : List ℕ) → joined words tail ++ rest ≡ joined words (tail ++ rest)
+pub joined-append : (words : List (List ℕ)) (tail rest : List ℕ) → joined words tail ++ rest ≡ joined words (tail ++ rest)
 joined-append [] tail rest = refl
 joined-append (word ∷ words) tail rest = append_assoc word (joined words tail) rest ∙ ap (λ (l : List ℕ). word ++ l) (joined-append words tail rest)
 
-line_then-append : (line : Option LineMark) (tail rest : List ℕ) → line_then line tail ++ rest ≡ line_then line (tail ++ rest)
+pub line_then-append : (line : Option LineMark) (tail rest : List ℕ) → line_then line tail ++ rest ≡ line_then line (tail ++ rest)
 line_then-append None tail rest = refl
 line_then-append (Some line) tail rest = simp append_assoc
 

@@ -3,6 +3,7 @@ pub mod Effects
 pub mod Examples
 pub mod Front
 pub mod Machine
+pub mod Marks
 pub mod Parts
 pub mod Reading
 pub mod Registers

@@ -1,6 +1,10 @@
 //! What holds of all pieces and of all runs: each law is the contract of a function with an empty body.
-ghost use Rattle.std.specs.Prelude.{◌≡◌, ◌↔◌, ◌≤◌, ◌+◌, ℕ, List, [], ◌++◌, length, Some, None, false, true};
-ghost use Rattle.std.specs.List.{list_any};
+ghost use Rattle.std.specs.Prelude.{◌≡◌, ◌↔◌, ◌≤◌, ◌+◌, ℕ, List, [], ◌∷◌, ◌++◌, drop, length, Option, Some, None, false, true};
+ghost use Rattle.std.specs.List.{AllByRecursion, list_any};
+ghost use Rattle.lx_base.specs.Names.{Spellings};
+ghost use Rattle.lx_ccode.specs.declared.piece.LineMark.{LineMark};
+ghost use Rattle.lx_ccode.specs.Bodies.{body_piece_text, no_body};
+ghost use Rattle.lx_ccode.specs.Marks.{EndsMarks, HasNoBegin, IsUnmarked, IsUnmarkedLine, begins_piece};
 ghost use Rattle.lx_ccode.specs.declared.piece.Stmt.{Stmt};
 ghost use Rattle.lx_ccode.specs.declared.piece.Piece.{Piece};
 ghost use Rattle.lx_ccode.specs.Effects.{ChangesOnly, answers_after, machine_after};
@@ -13,7 +17,7 @@ ghost use Rattle.lx_ccode.specs.States.{stores};
 ghost use Rattle.lx_ccode.specs.Statements.{all_statements, is_refill};
 ghost use Rattle.lx_ccode.specs.Stuck.{CannotDo, HasWayBack, IsStuck};
 ghost use Rattle.lx_ccode.specs.Text.{piece_text};
-ghost use Rattle.lx_ccode.specs.Validity.{IsValid, JumpsBelow};
+ghost use Rattle.lx_ccode.specs.Validity.{IsLine, IsShort, IsValid, JumpsBelow};
 
 /// A text has one reading: no text is that of two valid pieces, and none is a proper front of another's.
 pub fn texts_have_one_reading()
@@ -32,6 +36,18 @@ pub fn reading_gives_the_piece()
 /// not stand there, no piece's text does.
 pub fn reading_finds_the_piece()
     ensures { (bytes : List ℕ) (piece : Piece) → BeginsWithPiece bytes piece → BeginsWithPiece bytes (piece_at bytes).0 }
+{}
+
+/// In the text of a valid piece whose actions hold no begin mark, none stands but the piece's own: not across its end either,
+/// where what stands behind completes none. The same holds of a piece without a scanner.
+pub fn begin_marks_stand_at_the_front()
+    ensures scanner { (piece : Piece) (behind : List ℕ) → IsValid piece → AllByRecursion IsUnmarked (all_statements piece.blocks) → IsUnmarkedLine piece.line → begins_piece (47 ∷ behind) ≡ false → HasNoBegin (drop 1 (piece_text piece)) behind }
+    ensures empty { (number : ℕ) (names : Spellings) (line : Option LineMark) (behind : List ℕ) → IsShort number → IsLine line → IsUnmarkedLine line → begins_piece (47 ∷ behind) ≡ false → HasNoBegin (drop 1 (body_piece_text number names no_body line)) behind }
+{}
+
+/// Where no begin mark begins in a text before some bytes, none begins in it before bytes into which no mark goes on.
+pub fn marks_end_before_other_bytes()
+    ensures { (text behind bytes : List ℕ) → EndsMarks bytes → HasNoBegin text behind → HasNoBegin text bytes }
 {}
 
 /// A step changes only what its statement is for, and only a refill takes answers from the schedule.
