@@ -1,3 +1,4 @@
+pub mod Cut
 pub mod Fine
 pub mod Fitted
 pub mod Marks
