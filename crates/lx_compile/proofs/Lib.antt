@@ -1,7 +1,9 @@
+pub mod ActionSlices
 pub mod ActionTexts
 pub mod BlockStops
 pub mod OneScanner
 pub mod ScannerRules
+pub mod OutputCuts
 pub mod OutsideTexts
 pub mod PiecePlaces
 pub mod TextRuns

@@ -20,7 +20,7 @@ use Rattle.lx_regex.specs.Pattern.{Pattern}
 use Rattle.lx_regex.specs.declared.rules.Kind.{Kind}
 use Rattle.lx_regex.specs.declared.rules.Kind.TheVariants as kind
 use Rattle.lx_regex.specs.declared.rules.Rule.{Rule}
-use Rattle.lx_rules.specs.Blocks.{AreScanners, BlockChecks, ClashCheck, IsScanner, NoClash, Resolves, conditions_of, given_names, lonely_fault, pattern_of, rules_of, scanners_fault, targets_fault}
+use Rattle.lx_rules.specs.Blocks.{AreScanners, BlockChecks, ClashCheck, IsScanner, NoClash, Resolves, conditions_of, given_names, lonely_fault, pattern_of, scanners_fault, targets_fault}
 use Rattle.lx_rules.specs.Checks.{Check, Finds, Then}
 use Rattle.lx_rules.specs.Environments.{Definition, Environment, Meaning}
 use Rattle.lx_rules.specs.Items.{Goes, HeadChecks, HeadSort, IsAfter, IsHead, ItemChecks, ListChecks, RuleOf, State, TargetChecks, act_of, any, conds_of, end, ends, expression, head_sort, next, refused}

@@ -1,3 +1,4 @@
+pub mod Cut
 pub mod Blocks
 pub mod FirstFault
 pub mod Options

@@ -1,8 +1,10 @@
 //! What holds of the faults and the outputs of all sources: each law is the contract of a function with an empty body.
-ghost use Rattle.std.specs.Prelude.{◌≡◌, ℕ, List, [], Option, Some};
+ghost use Rattle.std.specs.Prelude.{◌≡◌, ℕ, ◌≤◌, List, [], length, Option, Some};
 ghost use Rattle.lx_base.specs.declared.faults.Fault.{Fault};
 ghost use Rattle.lx_base.specs.declared.settings.Options.{Options};
 ghost use Rattle.lx_split.specs.Openers.{from_opener};
+ghost use Rattle.lx_creader.specs.Cut.{AreCut, OutputPart, parts_text};
+ghost use Rattle.lx_compile.specs.Cut.{AreOutputParts};
 ghost use Rattle.lx_compile.specs.FirstFault.{IsFirstFault};
 ghost use Rattle.lx_compile.specs.Output.{IsOutput};
 ghost use Rattle.lx_compile.specs.Places.{StandsInFirst};
@@ -23,4 +25,12 @@ pub fn outside_text_stays()
 pub fn sources_have_one_first_fault()
     ensures { (options : Options) (source : List ℕ) (fault other : Option Fault) →
         IsFirstFault options source fault → IsFirstFault options source other → fault ≡ other }
+{}
+
+/// The output of a source is cut at its marks into the source's texts outside of blocks and one piece for each block, in order,
+/// where no begin mark stands but at the front of a piece. So what is read back at a mark is what was emitted there: by the
+/// laws of `lx_creader` there is no other cut, and the first begin mark that is asked for is that of the first such piece.
+pub fn outputs_are_cut_as_their_sources()
+    ensures { (options : Options) (source output : List ℕ) → length source ≤ 16777216 → (is : IsOutput options source output) →
+        (cut : List OutputPart) × AreCut cut × (output ≡ parts_text cut) × AreOutputParts options.enc 1 is.parts cut }
 {}

@@ -1,0 +1,25 @@
+-- How the output of a source is cut: a text for each text outside of blocks, and a piece for each block.
+use Rattle.std.specs.Prelude.{◌≡◌, ℕ, suc, List, [], ◌∷◌}
+use Rattle.lx_base.specs.Names.{usual_names}
+use Rattle.lx_base.specs.declared.settings.Enc.{Enc}
+use Rattle.lx_creader.specs.Cut.{OutputPart, outside, scanner, empty}
+use Rattle.lx_gen.specs.Scanner.{IsScannerOf}
+use Rattle.lx_rules.specs.declared.resolved.Act.{Act}
+use Rattle.lx_rules.specs.declared.resolved.Scanner.{Scanner}
+use Rattle.lx_compile.specs.Output.{actions_of}
+use Rattle.lx_compile.specs.declared.parts.Part.{Part}
+use Rattle.lx_compile.specs.declared.parts.Part.TheVariants.{Outside, Block}
+
+-- the part of an output in the place of a block: the piece of its scanner, or of none
+abbrev pub IsPieceOf : Enc → (number : ℕ) → List Act → List Scanner → OutputPart → Type 0
+IsPieceOf enc number acts [] (empty other) = other ≡ number
+IsPieceOf enc number acts (one ∷ []) (scanner piece) = IsScannerOf enc number usual_names one.set.rules (actions_of acts) piece
+IsPieceOf enc number acts scanners part = ⊥
+
+-- the parts of an output are those of a source, where the pieces in the places of the blocks are numbered from here on
+abbrev pub AreOutputParts : Enc → (number : ℕ) → List Part → List OutputPart → Type 0
+AreOutputParts enc number [] [] = Unit {0}
+AreOutputParts enc number (Outside text ∷ parts) (outside other ∷ cut) = (other ≡ text) × AreOutputParts enc number parts cut
+AreOutputParts enc number (Block at resolved ∷ parts) (part ∷ cut) =
+    IsPieceOf enc number resolved.acts resolved.scanners part × AreOutputParts enc (suc number) parts cut
+AreOutputParts enc number parts cut = ⊥
