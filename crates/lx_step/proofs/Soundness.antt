@@ -1,7 +1,6 @@
 -- What holds of lexers, at first and after each match.
 use Rattle.std.proofs.Common.{◌≡◌, ◌∙◌, ap, subst, refl, ℕ, ◌≤◌, ◌^◌, ◌⊎◌, Bool, true, List, [], length, is_some, Result, Ok, Err, IfOk, OnErr, arith}
 use Rattle.std.proofs.lemmas.List.{length-replicate}
-use Rattle.std.specs.List.{list_any}
 use Rattle.lx_base.specs.declared.lists.Memory.{Memory}
 use Rattle.lx_ccode.specs.declared.piece.Piece.{Piece}
 use Rattle.lx_ccode.specs.Runs.{Ended}
@@ -17,6 +16,7 @@ use Rattle.lx_step.specs.Given.{Given, after_values, nothing_given, offset_in, h
 use Rattle.lx_step.specs.Held.{Held, IsMatch, after_match, Tells, is_last, is_on_histories}
 use Rattle.lx_step.specs.Matches.{HasEnded, IsAfterValues}
 use Rattle.lx_step.specs.Places.{AreRoomy}
+use Rattle.lx_step.specs.Reached.{reaches}
 use Rattle.lx_step.specs.Sizes.{sizes_of_all}
 use Rattle.lx_step.specs.Sound.{IsSound, told}
 use Rattle.lx_step.specs.Steps.{HasRoom}
@@ -86,10 +86,16 @@ IsMatch-told old stream start _ new h = h
 pub IsMatch-run : (old : Held) (width : ℕ) (bytes : List ℕ) (start : ℕ) (first scanner : Scanner) (run : Result Outcome Memory) (given : Given) (assigned : List StmtAt)
     → width ≡ old.piece.unit → first.cursor ≡ start → first.cond.now ≡ old.cond
     → IfOk run (λ outcome. HasEnded old.piece (stream_units width bytes) first old.given outcome scanner given assigned)
-    → OnErr run (list_any is_on_histories (all_statements old.piece.blocks) ≡ true)
+    → OnErr run (reaches old.piece (stream_units width bytes) is_on_histories first.cursor first.cond.now ≡ true)
     → IsMatch old (stream_units old.piece.unit bytes) start (told run) (held_of old.piece (is_last (told run)) start scanner given assigned)
 IsMatch-run old width bytes start first scanner (Ok outcome) given assigned w c d ended memory =
     IsMatch-told old (stream_units old.piece.unit bytes) start outcome (held_of old.piece (is_last outcome) start scanner given assigned)
     (ended_match old (stream_units old.piece.unit bytes) start first scanner outcome given assigned c d
     (subst (λ n. HasEnded old.piece (stream_units n bytes) first old.given outcome scanner given assigned) w ended))
-IsMatch-run old width bytes start first scanner (Err error) given assigned w c d ended memory = (memory, refl, refl)
+IsMatch-run old width bytes start first scanner (Err error) given assigned w c d ended memory = (
+  subst (λ n. reaches old.piece (stream_units n bytes) is_on_histories start old.cond ≡ true) w
+      (subst (λ at. reaches old.piece (stream_units width bytes) is_on_histories at old.cond ≡ true) c
+      (subst (λ cond. reaches old.piece (stream_units width bytes) is_on_histories first.cursor cond ≡ true) d memory)),
+  refl,
+  refl,
+)

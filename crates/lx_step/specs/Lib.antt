@@ -4,6 +4,7 @@ pub mod Held
 pub mod Matches
 pub mod Nodes
 pub mod Places
+pub mod Reached
 pub mod Sizes
 pub mod Sound
 pub mod Steps

@@ -94,7 +94,7 @@ impl<'p> Lexer<'p> {
     ///
     /// It is the run of the piece from there, with every refill that is asked answered by "no more". After
     /// `Stuck`, `Loop` or `Memory` the lexer is spent, and each further call answers `Spent` and changes
-    /// nothing. `Memory` comes only on a piece with a statement on histories.
+    /// nothing. `Memory` comes only where that run makes a statement on a history.
     pub fn advance_whole(&mut self, stream: &[u8], start: u64) -> Outcome
         requires whole { length stream.now % self.old.piece.unit ≡ 0 }
         requires start { start ≤ length (stream_units self.old.piece.unit stream.now) }
