@@ -6,6 +6,7 @@ mod conds;
 pub mod find;
 mod lines;
 mod marks;
+mod names;
 pub mod read;
 mod reading;
 mod rules;
