@@ -1,5 +1,5 @@
 -- What holds of lexers, at first and after each match.
-use Rattle.std.proofs.Common.{◌≡◌, ◌∙◌, ap, subst, refl, ℕ, ◌≤◌, ◌^◌, ◌⊎◌, Bool, true, List, [], length, is_some, Result, Ok, Err, IfOk, OnErr, arith}
+use Rattle.std.proofs.Common.{◌≡◌, ◌∙◌, sym, ap, subst, refl, ℕ, ◌≤◌, ◌^◌, ◌⊎◌, Bool, true, List, [], length, is_some, Result, Ok, Err, IfOk, OnErr, arith}
 use Rattle.std.proofs.lemmas.List.{length-replicate}
 use Rattle.lx_base.specs.declared.lists.Memory.{Memory}
 use Rattle.lx_ccode.specs.declared.piece.Piece.{Piece}
@@ -15,6 +15,7 @@ use Rattle.lx_step.specs.Assigned.{assigned_of}
 use Rattle.lx_step.specs.Given.{Given, after_values, nothing_given, offset_in, history_in}
 use Rattle.lx_step.specs.Held.{Held, IsMatch, after_match, Tells, is_last, is_on_histories}
 use Rattle.lx_step.specs.Matches.{HasEnded, IsAfterValues}
+use Rattle.lx_step.specs.Numbers.{Numbering}
 use Rattle.lx_step.specs.Places.{AreRoomy}
 use Rattle.lx_step.specs.Reached.{reaches}
 use Rattle.lx_step.specs.Sizes.{sizes_of_all}
@@ -25,24 +26,24 @@ use Rattle.lx_step.specs.WholeRuns.{whole_run}
 use Rattle.lx_step.proofs.Places.{length-places_from}
 use Rattle.lx_step.proofs.SlotLists.{offset_slots-in, history_slots-in, after_values-offset_in, after_values-history_in}
 
-pub IsSound-fresh : (program : Program) (scanner : Scanner) (given : Given) (room : ℕ) (sizes : Sizes) → program.statements ≡ statement_count program.piece.now.blocks
+pub IsSound-fresh : (program : Program) (scanner : Scanner) (given : Given) (room : ℕ) (sizes : Sizes) (numbering : Numbering) → program.statements ≡ statement_count program.piece.now.blocks
     → statement_count program.piece.now.blocks ≤ 2 ^ 62 → (program.piece.now.unit ≡ 1) ⊎ ((program.piece.now.unit ≡ 2) ⊎ (program.piece.now.unit ≡ 4))
-    → sizes ≡ sizes_of_all (all_statements program.piece.now.blocks) → length scanner.registers.items ≡ sizes.registers → length scanner.histories ≡ sizes.histories
+    → sizes ≡ sizes_of_all numbering (all_statements program.piece.now.blocks) → scanner.numbering ≡ numbering → length scanner.registers.items ≡ sizes.registers → length scanner.histories ≡ sizes.histories
     → given ≡ nothing_given (all_statements program.piece.now.blocks) sizes.groups → room ≡ program.statements → IsSound program scanner given room
-IsSound-fresh program scanner given room sizes count few unit s registers histories g r =
+IsSound-fresh program scanner given room sizes numbering count few unit s same registers histories g r =
     let entries : length given.entries ≡ sizes.groups = ap (λ (one : Given). length one.entries) g ∙ length-replicate sizes.groups _ in
     record {
       statements = count;
       few = omega (arith, count, few);
       unit = unit;
-      tables = subst (λ (one : Sizes). HasRoom one scanner given) s (record { registers = omega (arith, registers); histories = omega (arith, histories); groups = omega (arith, entries) });
+      tables = subst (λ (one : Sizes). HasRoom one scanner given) (s ∙ ap (λ (one : Numbering). sizes_of_all one (all_statements program.piece.now.blocks)) (sym same)) (record { registers = omega (arith, registers); histories = omega (arith, histories); groups = omega (arith, entries) });
       places = omega (arith, length-places_from 0 program.piece.now.blocks, count, r);
       offsets = λ tag. ap (λ (one : Given). is_some (offset_in one.offsets tag)) g ∙ offset_slots-in (all_statements program.piece.now.blocks) [] tag;
       histories = λ tag. ap (λ (one : Given). is_some (history_in one.histories tag)) g ∙ history_slots-in (all_statements program.piece.now.blocks) [] tag;
     }
 
 pub IsSound-kept : (program : Program) (old new : Scanner) (given more : Given) (room other : ℕ) → IsSound program old given room
-    → HasRoom (sizes_of_all (all_statements program.piece.now.blocks)) new more → AreRoomy program.piece.now.blocks other → IsAfterValues given more → IsSound program new more other
+    → HasRoom (sizes_of_all new.numbering (all_statements program.piece.now.blocks)) new more → AreRoomy program.piece.now.blocks other → IsAfterValues given more → IsSound program new more other
 IsSound-kept program old new given more room other sound tables places after = record {
   statements = sound.statements;
   few = sound.few;

@@ -13,7 +13,7 @@ use Rattle.lx_step.specs.declared.answers.StmtAt.{StmtAt}
 use Rattle.lx_step.specs.Assigned.{assigned_of}
 use Rattle.lx_step.specs.Given.{Given, after_values, nothing_given}
 use Rattle.lx_step.specs.Reached.{reaches}
-use Rattle.lx_step.specs.Sizes.{sizes_of_all}
+use Rattle.lx_step.specs.Sizes.{groups_of_all}
 use Rattle.lx_step.specs.WholeRuns.{whole_run}
 
 pub record Held : Type 0 where
@@ -42,7 +42,7 @@ fresh piece = record {
   start = 0;
   cursor = 0;
   cond = first_cond piece.conds;
-  given = nothing_given (all_statements piece.blocks) (sizes_of_all (all_statements piece.blocks)).groups;
+  given = nothing_given (all_statements piece.blocks) (groups_of_all (all_statements piece.blocks));
   assigned = [];
 }
 

@@ -3,6 +3,7 @@ pub mod Given
 pub mod Held
 pub mod Matches
 pub mod Nodes
+pub mod Numbers
 pub mod Places
 pub mod Reached
 pub mod Sizes

@@ -10,6 +10,7 @@ ghost use Rattle.lx_step.specs.Streams.{stream_units};
 
 use crate::answers::{Group, Outcome, StmtAt};
 use crate::matches::Program;
+use crate::numbers::Numbering;
 use crate::scanner::Scanner;
 use crate::sizes::sizes_of_blocks;
 use crate::slots::Slots;
@@ -73,7 +74,8 @@ impl<'p> Lexer<'p> {
         ensures { IfOk result (λ lexer. lexer ≡ fresh piece.now) }
     {
         let blocks = piece.blocks.as_slice();
-        let sizes = sizes_of_blocks(blocks);
+        let numbering = Numbering::of_blocks(alloc, blocks)?;
+        let sizes = sizes_of_blocks(&numbering, blocks);
         let program = Program {
             alloc,
             piece,
@@ -83,7 +85,7 @@ impl<'p> Lexer<'p> {
             program,
             spent: false,
             start: 0,
-            scanner: Scanner::new(alloc, sizes, first_cond(piece.conds.as_slice()))?,
+            scanner: Scanner::new(alloc, sizes, numbering, first_cond(piece.conds.as_slice()))?,
             slots: Slots::new(alloc, blocks, sizes.groups)?,
             assigned: Vec::with_capacity(alloc, program.statements as usize)?,
         })

@@ -49,12 +49,12 @@ impl<'p> Program<'p> {
         requires few { self.now.statements ≤ 2 ^ 62 }
         requires fresh { machine_of scanner.old [] ≡ fresh_machine scanner.old.cursor (length (U.stream units.now)) scanner.old.cond.now }
         requires start { scanner.old.cursor ≤ scanner.old.limit }
-        requires room { HasRoom (sizes_of_all (all_statements self.now.piece.now.blocks)) scanner.old slots.old }
+        requires room { HasRoom (sizes_of_all scanner.old.numbering (all_statements self.now.piece.now.blocks)) scanner.old slots.old }
         requires assigned { assigned.old.items ≡ [] }
         requires places { AreRoomy self.now.piece.now.blocks (vec_capacity assigned.old) }
         ensures ended { IfOk result (λ outcome. HasEnded self.now.piece.now (U.stream units.now) scanner.old slots.old outcome scanner.new slots.new assigned.new.items) }
         ensures memory { OnErr result (reaches self.now.piece.now (U.stream units.now) is_on_histories scanner.old.cursor scanner.old.cond.now ≡ true) }
-        ensures room { HasRoom (sizes_of_all (all_statements self.now.piece.now.blocks)) scanner.new slots.new }
+        ensures room { HasRoom (sizes_of_all scanner.new.numbering (all_statements self.now.piece.now.blocks)) scanner.new slots.new }
         ensures kept { IsAfterValues slots.old slots.new }
         ensures places { AreRoomy self.now.piece.now.blocks (vec_capacity assigned.new) }
     {

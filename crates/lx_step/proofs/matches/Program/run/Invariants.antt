@@ -18,7 +18,7 @@ invariant-loop-steps g l = record {
       (reaches l.self.piece.now (g.U.Units.stream l.units) is_on_histories l.fn.scanner.cursor l.fn.scanner.cond.now);
   block : code_at l.self.piece.now.blocks (Some l.at.block) ≡ Some l.at.code.now;
   limit : l.scanner.limit ≡ length (g.U.Units.stream l.units);
-  room : HasRoom (sizes_of_all (all_statements l.self.piece.now.blocks)) l.scanner l.slots;
+  room : HasRoom (sizes_of_all l.scanner.numbering (all_statements l.self.piece.now.blocks)) l.scanner l.slots;
   places : AreRoomy l.self.piece.now.blocks (vec_capacity l.assigned);
   within : StaysIn l.self.piece.now.blocks l.assigned.items;
 }
