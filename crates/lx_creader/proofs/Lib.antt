@@ -2,6 +2,7 @@ pub mod FittedPieces
 pub mod Fronts
 pub mod BeginMarks
 pub mod Cuts
+pub mod NameLists
 pub mod StateLists
 pub mod Searches
 pub mod Steps

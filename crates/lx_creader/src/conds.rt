@@ -1,14 +1,17 @@
 //! Decides which conditions a valid piece may have.
-ghost use Rattle.std.specs.Prelude.{◌≡◌, ◌↔◌, Some, IsTrue, map};
+ghost use Rattle.std.specs.Prelude.{◌≡◌, ◌↔◌, Some, IfOk, IsTrue, MatchOption, map};
 ghost use Rattle.std.specs.List.{AllByRecursion};
-ghost use Rattle.lx_base.specs.Names.{AreDistinct, IsNoneOf};
+ghost use Rattle.lx_base.specs.Names.{AreDistinct};
 ghost use Rattle.lx_ccode.specs.Validity.{label_of, labels};
 ghost use Rattle.lx_creader.specs.Fine.{IsFineCond, KeepCondRules};
 
+use crate::names::NameSet;
 use crate::statements::is_long;
 use crate::words::is_word;
+use lx_base::Memory;
 use lx_base::spellings::is_identifier;
 use lx_ccode::{CodeBlock, CondCase};
+use std::alloc::Global;
 
 /// Whether the cases have the conditions of the blocks, in order.
 fn are_labels(conds: &[CondCase], blocks: &[CodeBlock]) -> bool
@@ -26,26 +29,19 @@ fn are_labels(conds: &[CondCase], blocks: &[CodeBlock]) -> bool
     place == conds.len()
 }
 
-fn is_none_of(cond: &[u8], cases: &[CondCase]) -> bool
-    ensures { IsTrue result ↔ IsNoneOf cond.now (map (λ case. case.cond) cases.now) }
+/// The conditions of the cases, if no two are the same.
+pub(crate) fn distinct_conds(alloc: Global, cases: &[CondCase]) -> Result<Option<NameSet>, Memory>
+    ensures { IfOk result (λ found. MatchOption found (AreDistinct (map (λ case. case.cond) cases.now) → ⊥)
+        (λ names. AreDistinct (map (λ case. case.cond) cases.now) × (names ≡ map (λ case. case.cond) cases.now))) }
 {
+    let mut names = NameSet::new(alloc);
     for case in cases {
-        if is_word(cond, case.cond.as_slice()) {
-            return false;
+        let new = names.add(alloc, case.cond.as_slice())?;
+        if !new {
+            return Ok(None);
         }
     }
-    true
-}
-
-fn are_distinct(cases: &[CondCase]) -> bool
-    ensures { IsTrue result ↔ AreDistinct (map (λ case. case.cond) cases.now) }
-{
-    for (place, case) in cases.iter().enumerate() {
-        if !is_none_of(case.cond.as_slice(), &cases[place + 1..]) {
-            return false;
-        }
-    }
-    true
+    Ok(Some(names))
 }
 
 /// Whether the block at this place is the start of the condition.
@@ -82,12 +78,12 @@ fn are_fine_conds(blocks: &[CodeBlock], conds: &[CondCase]) -> bool
     true
 }
 
-/// Whether the conditions keep their rules.
+/// Whether conditions of which no two are the same keep their rules.
 pub(crate) fn keep_cond_rules(blocks: &[CodeBlock], conds: &[CondCase]) -> bool
+    requires { AreDistinct (map (λ case. case.cond) conds.now) }
     ensures { IsTrue result ↔ KeepCondRules blocks.now conds.now }
 {
     let labels = are_labels(conds, blocks);
-    let distinct = are_distinct(conds);
     let fine = are_fine_conds(blocks, conds);
-    labels && distinct && fine
+    labels && fine
 }

@@ -15,7 +15,7 @@ use thiserror::Error;
 /// Why no piece was read.
 #[derive(Debug, Drop, Error)]
 pub enum PieceStop {
-    /// Memory ran out.
+    /// Memory ran out. No clause ties this to a cause.
     #[error("out of memory")]
     Memory,
     /// At this offset, counted in bytes, stands the text of no piece.

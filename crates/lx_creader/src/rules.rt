@@ -1,31 +1,32 @@
 //! Decides which lists of statements and of blocks a valid piece may have.
-ghost use Rattle.std.specs.Prelude.{◌≡◌, ◌≤◌, ◌↔◌, ◌||◌, IsTrue, false, true, length, map};
+ghost use Rattle.std.specs.Prelude.{◌≡◌, ◌≤◌, ◌↔◌, ◌||◌, IsTrue, false, true, length};
 ghost use Rattle.std.specs.List.{AllByRecursion, list_any};
 ghost use Rattle.lx_ccode.specs.States.{try_first};
 ghost use Rattle.lx_ccode.specs.Statements.{all_statements, has_register_one, is_need, is_state, is_try, statement_count};
 ghost use Rattle.lx_ccode.specs.Validity.{IsLabel, ends_once, last_statements, refill_first, refills_after_states, states_before_refills, tries_after_state};
 ghost use Rattle.lx_creader.specs.Fine.{IsFineBlock, IsFineStatement};
 
+use crate::names::NameSet;
 use crate::statements::{
     has_few_groups, has_register_one, has_spelling, is_ending, is_need, is_refill, is_state,
     is_try, jumps_below, names_one_of,
 };
 use lx_base::spellings::is_identifier;
 use lx_base::{ByteText, Names};
-use lx_ccode::{CodeBlock, CondCase, Stmt};
+use lx_ccode::{CodeBlock, Stmt};
 
 /// What the rules of statements and blocks depend on.
 #[derive(Clone, Copy)]
 pub(crate) struct Rules<'a> {
     pub names: &'a Names,
-    pub conds: &'a [CondCase],
+    pub conds: &'a NameSet,
     /// How many blocks the piece has.
     pub blocks: usize,
 }
 
 impl Rules<'_> {
     fn is_fine_statement(&self, statement: &Stmt) -> bool
-        ensures { IsTrue result ↔ IsFineStatement self.now.names.now (map (λ case. case.cond) self.now.conds.now) self.now.blocks statement.now }
+        ensures { IsTrue result ↔ IsFineStatement self.now.names.now self.now.conds.now self.now.blocks statement.now }
     {
         let jumps = jumps_below(self.blocks, statement);
         let conds = names_one_of(self.conds, statement);
@@ -35,7 +36,7 @@ impl Rules<'_> {
     }
 
     fn are_fine_statements(&self, statements: &[Stmt]) -> bool
-        ensures { IsTrue result ↔ AllByRecursion (IsFineStatement self.now.names.now (map (λ case. case.cond) self.now.conds.now) self.now.blocks) statements.now }
+        ensures { IsTrue result ↔ AllByRecursion (IsFineStatement self.now.names.now self.now.conds.now self.now.blocks) statements.now }
     {
         for statement in statements {
             if !self.is_fine_statement(statement) {
@@ -46,7 +47,7 @@ impl Rules<'_> {
     }
 
     fn is_fine_block(&self, block: &CodeBlock) -> bool
-        ensures { IsTrue result ↔ IsFineBlock self.now.names.now (map (λ case. case.cond) self.now.conds.now) self.now.blocks block.now }
+        ensures { IsTrue result ↔ IsFineBlock self.now.names.now self.now.conds.now self.now.blocks block.now }
     {
         let statements = block.stmts.as_slice();
         let some = !statements.is_empty();
@@ -59,7 +60,7 @@ impl Rules<'_> {
 
     /// Whether each block keeps the rules that speak of one block or of its statements.
     pub(crate) fn are_fine_blocks(&self, blocks: &[CodeBlock]) -> bool
-        ensures { IsTrue result ↔ AllByRecursion (IsFineBlock self.now.names.now (map (λ case. case.cond) self.now.conds.now) self.now.blocks) blocks.now }
+        ensures { IsTrue result ↔ AllByRecursion (IsFineBlock self.now.names.now self.now.conds.now self.now.blocks) blocks.now }
     {
         for block in blocks {
             if !self.is_fine_block(block) {

@@ -1,14 +1,12 @@
 //! Decides which statements a valid piece may have.
-ghost use Rattle.std.specs.Prelude.{◌≡◌, ◌↔◌, IsTrue, map};
-ghost use Rattle.std.specs.List.{list_any};
+ghost use Rattle.std.specs.Prelude.{◌≡◌, ◌↔◌, IsTrue};
 ghost use Rattle.lx_ccode.specs.Statements.{has_register_one, is_ending, is_need, is_refill, is_state, is_try};
 ghost use Rattle.lx_ccode.specs.Validity.{HasFewGroups, HasSpelling, IsLine, IsLong, IsRegister, IsShort, JumpsBelow, NamesOneOf};
-ghost use Rattle.lx_ccode.specs.Words.{equal_words};
 
-use crate::words::equal_words;
+use crate::names::NameSet;
 use lx_base::Names;
 use lx_base::spellings::{is_identifier, is_tag_name};
-use lx_ccode::{CondCase, LineMark, Stmt};
+use lx_ccode::{LineMark, Stmt};
 
 /// Whether the number has at most 32 bits, as each has that a piece can hold.
 pub(crate) fn is_short(number: u32) -> bool
@@ -102,24 +100,12 @@ pub(crate) fn has_few_groups(statement: &Stmt) -> bool
     }
 }
 
-/// Whether one of the cases has this condition.
-fn has_cond(conds: &[CondCase], cond: &[u8]) -> bool
-    ensures { result ≡ list_any (equal_words cond.now) (map (λ case. case.cond) conds.now) }
-{
-    for case in conds {
-        if equal_words(cond, case.cond.as_slice()) {
-            return true;
-        }
-    }
-    false
-}
-
-/// Whether a condition that the statement sets or goes to is one of the cases.
-pub(crate) fn names_one_of(conds: &[CondCase], statement: &Stmt) -> bool
-    ensures { IsTrue result ↔ NamesOneOf (map (λ case. case.cond) conds.now) statement.now }
+/// Whether a condition that the statement sets or goes to is one of these.
+pub(crate) fn names_one_of(conds: &NameSet, statement: &Stmt) -> bool
+    ensures { IsTrue result ↔ NamesOneOf conds.now statement.now }
 {
     match statement {
-        Stmt::Cond(cond) | Stmt::Jump(cond, _) => has_cond(conds, cond.as_slice()),
+        Stmt::Cond(cond) | Stmt::Jump(cond, _) => conds.contains(cond.as_slice()),
         _ => true,
     }
 }

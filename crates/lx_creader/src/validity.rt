@@ -1,16 +1,17 @@
 //! Decides which pieces are valid: a test for each rule.
-ghost use Rattle.std.specs.Prelude.{◌≡◌, ◌<◌, ◌^◌, ◌*◌, ◌↔◌, ◌⊎◌, IsTrue, IfOk, IfSome, map};
+ghost use Rattle.std.specs.Prelude.{◌≡◌, ◌<◌, ◌^◌, ◌*◌, ◌↔◌, ◌⊎◌, IsTrue, IfOk, IfSome};
 ghost use Rattle.std.specs.List.{AllByRecursion};
 ghost use Rattle.lx_ccode.specs.Validity.{IsLong, IsValid};
 ghost use Rattle.lx_creader.specs.Fine.{HasUnit, KeepsBlockRules, KeepsHeadRules, KeepsKindRules};
 
-use crate::conds::keep_cond_rules;
+use crate::conds::{distinct_conds, keep_cond_rules};
+use crate::names::NameSet;
 use crate::rules::{Rules, are_countable, blocks_store_states, kinds_in, last_tries_after_state};
 use crate::statements::{is_line, is_long, is_short};
 use crate::states::keep_state_rules;
 use lx_base::spellings::{are_allowed, do_not_clash};
 use lx_base::{Memory, Names, Sequence};
-use lx_ccode::{CodeBlock, CondCase, Piece, StateCase};
+use lx_ccode::{CodeBlock, Piece, StateCase};
 use std::alloc::Global;
 
 /// Whether a unit has one, two or four bytes, and the unit at the buffer's end is one.
@@ -60,8 +61,8 @@ fn keeps_head_rules(piece: &Piece) -> bool
     number && line && states && unit && names && names_differ
 }
 
-fn keep_block_rules(names: &Names, conds: &[CondCase], blocks: &[CodeBlock]) -> bool
-    ensures { IsTrue result ↔ KeepsBlockRules names.now (map (λ case. case.cond) conds.now) blocks.now }
+fn keep_block_rules(names: &Names, conds: &NameSet, blocks: &[CodeBlock]) -> bool
+    ensures { IsTrue result ↔ KeepsBlockRules names.now conds.now blocks.now }
 {
     let rules = Rules {
         names,
@@ -96,9 +97,12 @@ pub(crate) fn is_valid(alloc: Global, piece: &Piece) -> Result<bool, Memory>
     if !states {
         return Ok(false);
     }
+    let Some(names) = distinct_conds(alloc, conds)? else {
+        return Ok(false);
+    };
     let head = keeps_head_rules(piece);
     let named = keep_cond_rules(blocks, conds);
-    let fine = keep_block_rules(&piece.names, conds, blocks);
+    let fine = keep_block_rules(&piece.names, &names, blocks);
     let kinds = keep_kind_rules(piece.ctx, blocks);
     Ok(keep_all(head, named, fine, kinds))
 }

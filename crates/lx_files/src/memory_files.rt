@@ -68,7 +68,8 @@ impl Bindings {
     }
 }
 
-/// Files in memory of which chosen calls fail.
+/// Files in memory of which chosen calls fail, and no others. Reads and writes are counted together from 0, whatever they answer; the
+/// number of the next call stays at its last value once it is there.
 #[derive(Debug, Drop)]
 pub struct MemFiles {
     bindings: Bindings,
@@ -136,6 +137,7 @@ impl Files for MemFiles {
         ensures held_stays { Some self.new.held ≡ Some self.old.held }
         ensures write_faults_stay { self.new.write_faults ≡ self.old.write_faults }
         ensures fails { IsErrOf result ReadAnswer.Failed ↔ Contains self.old.calls.failing self.old.calls.next }
+        ensures counted { self.new.calls ≡ record { failing = self.old.calls.failing; next = min (self.old.calls.next + 1) 18446744073709551615 } }
     {
         if self.calls.begin() {
             self.faults = one_more(self.faults);
@@ -151,6 +153,7 @@ impl Files for MemFiles {
         ensures never_falls { self.old.write_faults ≤ self.new.write_faults }
         ensures faults_stay { self.new.faults ≡ self.old.faults }
         ensures fails { IsErrOf result WriteAnswer.Failed ↔ Contains self.old.calls.failing self.old.calls.next }
+        ensures counted { self.new.calls ≡ record { failing = self.old.calls.failing; next = min (self.old.calls.next + 1) 18446744073709551615 } }
     {
         if self.calls.begin() {
             self.write_faults = one_more(self.write_faults);

@@ -20,7 +20,8 @@ fn take_all(given: &mut Vec<u8>, bytes: &[u8]) -> Result<usize, PutAnswer>
     }
 }
 
-/// A list of bytes that takes what is put to it, and of which chosen calls fail.
+/// A list of bytes that takes what is put to it, and of which chosen calls fail, and no others. Puts are counted from 0, whatever they
+/// answer; the number of the next one stays at its last value once it is there.
 #[derive(Debug, Drop)]
 pub struct MemSink {
     given: Vec<u8>,
@@ -80,6 +81,7 @@ impl Sink for MemSink {
         ensures kept { OnErr result (Some self.new.given ≡ Some self.old.given) }
         ensures never_falls { self.old.faults ≤ self.new.faults }
         ensures fails { IsErrOf result PutAnswer.Failed ↔ Contains self.old.calls.failing self.old.calls.next }
+        ensures counted { self.new.calls ≡ record { failing = self.old.calls.failing; next = min (self.old.calls.next + 1) 18446744073709551615 } }
     {
         if self.calls.begin() {
             self.faults = one_more(self.faults);

@@ -3,6 +3,7 @@ pub mod LastGiven
 pub mod Lists
 pub mod Nodes
 pub mod Places
+pub mod Reaching
 pub mod GreaterSizes
 pub mod SlotLists
 pub mod Soundness

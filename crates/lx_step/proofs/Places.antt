@@ -10,8 +10,8 @@ use Rattle.lx_step.specs.declared.answers.StmtAt.{StmtAt}
 use Rattle.lx_step.specs.declared.matches.Position.{Position}
 use Rattle.lx_step.specs.Assigned.{is_assignment, same_place}
 use Rattle.lx_step.specs.declared.scanner.Scanner.{Scanner}
-use Rattle.lx_step.specs.declared.sizes.Sizes.{Sizes}
 use Rattle.lx_step.specs.Given.{Given}
+use Rattle.lx_step.specs.Numbers.{Numbering}
 use Rattle.lx_step.specs.Sizes.{sizes_of, sizes_of_all, AreWithin}
 use Rattle.lx_step.specs.Steps.{HasRoom, KeepsTables}
 use Rattle.lx_step.proofs.GreaterSizes.{AreWithin-all}
@@ -213,13 +213,15 @@ any-stands test blocks block stmt code statement b s e =
 
 -- ---- room
 
-pub HasRoom-statement : (blocks : List CodeBlock) (at : Position) (statement : Stmt) (scanner : Scanner) (given : Given) → HasRoom (sizes_of_all (all_statements blocks)) scanner given
-    → StandsAt blocks at statement → HasRoom (sizes_of statement) scanner given
+pub HasRoom-statement : (blocks : List CodeBlock) (at : Position) (statement : Stmt) (scanner : Scanner) (given : Given) → HasRoom (sizes_of_all scanner.numbering (all_statements blocks)) scanner given
+    → StandsAt blocks at statement → HasRoom (sizes_of scanner.numbering statement) scanner given
 HasRoom-statement blocks at statement scanner given room stands =
-    let within : AreWithin (sizes_of statement) (sizes_of_all (all_statements blocks)) =
-    all-stands (λ one. AreWithin (sizes_of one) (sizes_of_all (all_statements blocks))) blocks at.block at.stmt at.code.now statement (AreWithin-all (all_statements blocks)) stands.block stands.stmt in
+    let within : AreWithin (sizes_of scanner.numbering statement) (sizes_of_all scanner.numbering (all_statements blocks)) =
+    all-stands (λ one. AreWithin (sizes_of scanner.numbering one) (sizes_of_all scanner.numbering (all_statements blocks))) blocks at.block at.stmt at.code.now statement (AreWithin-all scanner.numbering (all_statements blocks)) stands.block stands.stmt in
     record { registers = omega (arith, within.registers, room.registers); histories = omega (arith, within.histories, room.histories); groups = omega (arith, within.groups, room.groups) }
 
-pub HasRoom-kept : (sizes : Sizes) (old new : Scanner) (given more : Given) → HasRoom sizes old given → KeepsTables old new → length more.entries ≡ length given.entries → HasRoom sizes new more
-HasRoom-kept sizes old new given more room kept entries =
-    record { registers = omega (arith, room.registers, kept.registers); histories = omega (arith, room.histories, kept.histories); groups = omega (arith, room.groups, entries) }
+pub HasRoom-kept : (statements : List Stmt) (old new : Scanner) (given more : Given) → HasRoom (sizes_of_all old.numbering statements) old given → KeepsTables old new
+    → length more.entries ≡ length given.entries → HasRoom (sizes_of_all new.numbering statements) new more
+HasRoom-kept statements old new given more room kept entries =
+    subst (λ (numbering : Numbering). HasRoom (sizes_of_all numbering statements) new more) (sym kept.numbering)
+    (record { registers = omega (arith, room.registers, kept.registers); histories = omega (arith, room.histories, kept.histories); groups = omega (arith, room.groups, entries) })

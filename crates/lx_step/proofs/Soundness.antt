@@ -1,7 +1,6 @@
 -- What holds of lexers, at first and after each match.
-use Rattle.std.proofs.Common.{◌≡◌, ◌∙◌, ap, subst, refl, ℕ, ◌≤◌, ◌^◌, ◌⊎◌, Bool, true, List, [], length, is_some, Result, Ok, Err, IfOk, OnErr, arith}
+use Rattle.std.proofs.Common.{◌≡◌, ◌∙◌, sym, ap, subst, refl, ℕ, ◌≤◌, ◌^◌, ◌⊎◌, Bool, true, List, [], length, is_some, Result, Ok, Err, IfOk, OnErr, arith}
 use Rattle.std.proofs.lemmas.List.{length-replicate}
-use Rattle.std.specs.List.{list_any}
 use Rattle.lx_base.specs.declared.lists.Memory.{Memory}
 use Rattle.lx_ccode.specs.declared.piece.Piece.{Piece}
 use Rattle.lx_ccode.specs.Runs.{Ended}
@@ -16,7 +15,9 @@ use Rattle.lx_step.specs.Assigned.{assigned_of}
 use Rattle.lx_step.specs.Given.{Given, after_values, nothing_given, offset_in, history_in}
 use Rattle.lx_step.specs.Held.{Held, IsMatch, after_match, Tells, is_last, is_on_histories}
 use Rattle.lx_step.specs.Matches.{HasEnded, IsAfterValues}
+use Rattle.lx_step.specs.Numbers.{Numbering}
 use Rattle.lx_step.specs.Places.{AreRoomy}
+use Rattle.lx_step.specs.Reached.{reaches}
 use Rattle.lx_step.specs.Sizes.{sizes_of_all}
 use Rattle.lx_step.specs.Sound.{IsSound, told}
 use Rattle.lx_step.specs.Steps.{HasRoom}
@@ -25,24 +26,24 @@ use Rattle.lx_step.specs.WholeRuns.{whole_run}
 use Rattle.lx_step.proofs.Places.{length-places_from}
 use Rattle.lx_step.proofs.SlotLists.{offset_slots-in, history_slots-in, after_values-offset_in, after_values-history_in}
 
-pub IsSound-fresh : (program : Program) (scanner : Scanner) (given : Given) (room : ℕ) (sizes : Sizes) → program.statements ≡ statement_count program.piece.now.blocks
+pub IsSound-fresh : (program : Program) (scanner : Scanner) (given : Given) (room : ℕ) (sizes : Sizes) (numbering : Numbering) → program.statements ≡ statement_count program.piece.now.blocks
     → statement_count program.piece.now.blocks ≤ 2 ^ 62 → (program.piece.now.unit ≡ 1) ⊎ ((program.piece.now.unit ≡ 2) ⊎ (program.piece.now.unit ≡ 4))
-    → sizes ≡ sizes_of_all (all_statements program.piece.now.blocks) → length scanner.registers.items ≡ sizes.registers → length scanner.histories ≡ sizes.histories
+    → sizes ≡ sizes_of_all numbering (all_statements program.piece.now.blocks) → scanner.numbering ≡ numbering → length scanner.registers.items ≡ sizes.registers → length scanner.histories ≡ sizes.histories
     → given ≡ nothing_given (all_statements program.piece.now.blocks) sizes.groups → room ≡ program.statements → IsSound program scanner given room
-IsSound-fresh program scanner given room sizes count few unit s registers histories g r =
+IsSound-fresh program scanner given room sizes numbering count few unit s same registers histories g r =
     let entries : length given.entries ≡ sizes.groups = ap (λ (one : Given). length one.entries) g ∙ length-replicate sizes.groups _ in
     record {
       statements = count;
       few = omega (arith, count, few);
       unit = unit;
-      tables = subst (λ (one : Sizes). HasRoom one scanner given) s (record { registers = omega (arith, registers); histories = omega (arith, histories); groups = omega (arith, entries) });
+      tables = subst (λ (one : Sizes). HasRoom one scanner given) (s ∙ ap (λ (one : Numbering). sizes_of_all one (all_statements program.piece.now.blocks)) (sym same)) (record { registers = omega (arith, registers); histories = omega (arith, histories); groups = omega (arith, entries) });
       places = omega (arith, length-places_from 0 program.piece.now.blocks, count, r);
       offsets = λ tag. ap (λ (one : Given). is_some (offset_in one.offsets tag)) g ∙ offset_slots-in (all_statements program.piece.now.blocks) [] tag;
       histories = λ tag. ap (λ (one : Given). is_some (history_in one.histories tag)) g ∙ history_slots-in (all_statements program.piece.now.blocks) [] tag;
     }
 
 pub IsSound-kept : (program : Program) (old new : Scanner) (given more : Given) (room other : ℕ) → IsSound program old given room
-    → HasRoom (sizes_of_all (all_statements program.piece.now.blocks)) new more → AreRoomy program.piece.now.blocks other → IsAfterValues given more → IsSound program new more other
+    → HasRoom (sizes_of_all new.numbering (all_statements program.piece.now.blocks)) new more → AreRoomy program.piece.now.blocks other → IsAfterValues given more → IsSound program new more other
 IsSound-kept program old new given more room other sound tables places after = record {
   statements = sound.statements;
   few = sound.few;
@@ -86,10 +87,16 @@ IsMatch-told old stream start _ new h = h
 pub IsMatch-run : (old : Held) (width : ℕ) (bytes : List ℕ) (start : ℕ) (first scanner : Scanner) (run : Result Outcome Memory) (given : Given) (assigned : List StmtAt)
     → width ≡ old.piece.unit → first.cursor ≡ start → first.cond.now ≡ old.cond
     → IfOk run (λ outcome. HasEnded old.piece (stream_units width bytes) first old.given outcome scanner given assigned)
-    → OnErr run (list_any is_on_histories (all_statements old.piece.blocks) ≡ true)
+    → OnErr run (reaches old.piece (stream_units width bytes) is_on_histories first.cursor first.cond.now ≡ true)
     → IsMatch old (stream_units old.piece.unit bytes) start (told run) (held_of old.piece (is_last (told run)) start scanner given assigned)
 IsMatch-run old width bytes start first scanner (Ok outcome) given assigned w c d ended memory =
     IsMatch-told old (stream_units old.piece.unit bytes) start outcome (held_of old.piece (is_last outcome) start scanner given assigned)
     (ended_match old (stream_units old.piece.unit bytes) start first scanner outcome given assigned c d
     (subst (λ n. HasEnded old.piece (stream_units n bytes) first old.given outcome scanner given assigned) w ended))
-IsMatch-run old width bytes start first scanner (Err error) given assigned w c d ended memory = (memory, refl, refl)
+IsMatch-run old width bytes start first scanner (Err error) given assigned w c d ended memory = (
+  subst (λ n. reaches old.piece (stream_units n bytes) is_on_histories start old.cond ≡ true) w
+      (subst (λ at. reaches old.piece (stream_units width bytes) is_on_histories at old.cond ≡ true) c
+      (subst (λ cond. reaches old.piece (stream_units width bytes) is_on_histories first.cursor cond ≡ true) d memory)),
+  refl,
+  refl,
+)

@@ -1,6 +1,5 @@
 -- What a lexer holds, and what a match does to it.
 use Rattle.std.specs.Prelude.{◌≡◌, ℕ, Bool, true, false, List, [], ◌∷◌, Option, Some, None}
-use Rattle.std.specs.List.{list_any}
 use Rattle.lx_ccode.specs.declared.piece.Stmt.{Stmt}
 use Rattle.lx_ccode.specs.declared.piece.Stmt.TheVariants.{MSet, MUnset, MCopy, Tag}
 use Rattle.lx_ccode.specs.declared.piece.CondCase.{CondCase}
@@ -13,7 +12,8 @@ use Rattle.lx_step.specs.declared.answers.Outcome.TheVariants.{Rule, Jump, NoRul
 use Rattle.lx_step.specs.declared.answers.StmtAt.{StmtAt}
 use Rattle.lx_step.specs.Assigned.{assigned_of}
 use Rattle.lx_step.specs.Given.{Given, after_values, nothing_given}
-use Rattle.lx_step.specs.Sizes.{sizes_of_all}
+use Rattle.lx_step.specs.Reached.{reaches}
+use Rattle.lx_step.specs.Sizes.{groups_of_all}
 use Rattle.lx_step.specs.WholeRuns.{whole_run}
 
 pub record Held : Type 0 where
@@ -42,7 +42,7 @@ fresh piece = record {
   start = 0;
   cursor = 0;
   cond = first_cond piece.conds;
-  given = nothing_given (all_statements piece.blocks) (sizes_of_all (all_statements piece.blocks)).groups;
+  given = nothing_given (all_statements piece.blocks) (groups_of_all (all_statements piece.blocks));
   assigned = [];
 }
 
@@ -87,10 +87,10 @@ after_match held start spent end assigned = record held {
   assigned = assigned;
 }
 
--- a match from a start on: it is the run from there, or memory ran out at a statement on histories
+-- a match from a start on: it is the run from there, or memory ran out at a statement on histories that the run makes
 abbrev pub IsMatch : Held → (stream : List ℕ) → (start : ℕ) → Outcome → Held → Type 0
 IsMatch old stream start Memory new =
-    (list_any is_on_histories (all_statements old.piece.blocks) ≡ true) × (new.spent ≡ true) × (new.piece ≡ old.piece)
+    (reaches old.piece stream is_on_histories start old.cond ≡ true) × (new.spent ≡ true) × (new.piece ≡ old.piece)
 IsMatch old stream start outcome new =
     Tells outcome (whole_run old.piece stream start old.cond).outcome
     × (new ≡ after_match old start (is_last outcome) (whole_run old.piece stream start old.cond) (assigned_of old.piece stream start old.cond))

@@ -3,7 +3,9 @@ pub mod Given
 pub mod Held
 pub mod Matches
 pub mod Nodes
+pub mod Numbers
 pub mod Places
+pub mod Reached
 pub mod Sizes
 pub mod Sound
 pub mod Steps

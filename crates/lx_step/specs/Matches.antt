@@ -1,5 +1,5 @@
 -- How a match goes on, step by step, and what holds when it has ended.
-use Rattle.std.specs.Prelude.{◌≡◌, ℕ, zero, suc, ◌+◌, List, [], ◌∷◌, drop, Option, Some, None, Ok, Err, Result}
+use Rattle.std.specs.Prelude.{◌≡◌, ℕ, zero, suc, ◌+◌, Bool, true, List, [], ◌∷◌, drop, Option, Some, None, Ok, Err, Result}
 use Rattle.lx_ccode.specs.declared.piece.Stmt.{Stmt}
 use Rattle.lx_ccode.specs.declared.piece.CodeBlock.{CodeBlock}
 use Rattle.lx_ccode.specs.declared.piece.Piece.{Piece}
@@ -12,8 +12,9 @@ use Rattle.lx_step.specs.declared.scanner.Going.{Going}
 use Rattle.lx_step.specs.declared.scanner.Scanner.{Scanner}
 use Rattle.lx_step.specs.Assigned.{assigned_from, assigned_of, place_after}
 use Rattle.lx_step.specs.Given.{Given, after_values}
-use Rattle.lx_step.specs.Held.{Tells}
+use Rattle.lx_step.specs.Held.{Tells, is_on_histories}
 use Rattle.lx_step.specs.Places.{place_of}
+use Rattle.lx_step.specs.Reached.{reaches_from}
 use Rattle.lx_step.specs.Steps.{machine_of, next_of, outcome_of, Leads, IsTold}
 use Rattle.lx_step.specs.WholeRuns.{whole_run, whole_step}
 
@@ -38,12 +39,15 @@ StartsIn piece cond None = code_at piece.blocks (entry_block piece.conds cond) �
 StartsIn piece cond (Some at) =
     (entry_block piece.conds cond ≡ Some at.block) × (code_at piece.blocks (Some at.block) ≡ Some at.code.now) × (at.stmt ≡ 0)
 
--- a match that has made some steps: with so many further ones it comes to this end, and assigns at these places
-pub record IsUnderway (piece : Piece) (stream : List ℕ) (fuel : ℕ) (at : Position) (scanner : Scanner) (given_before given : Given) (assigned : List StmtAt) (end : Ended) (all : List StmtAt) : Type 0 where
+-- a match that has made some steps: with so many further ones it comes to this end, assigns at these places, and the
+-- whole match reaches a statement on histories or not
+pub record IsUnderway (piece : Piece) (stream : List ℕ) (fuel : ℕ) (at : Position) (scanner : Scanner) (given_before given : Given) (assigned : List StmtAt) (end : Ended) (all : List StmtAt) (reached : Bool) : Type 0 where
   pub values : List Value
   pub run : whole_from piece stream fuel (code_of at) (machine_of scanner values) ≡ end
   pub places : assigned_from piece stream fuel (place_of at) (code_of at) (machine_of scanner values) assigned ≡ all
   pub kept : given ≡ after_values values given_before
+  -- if it still makes a statement on histories, the whole match does
+  pub history : reaches_from piece stream is_on_histories fuel (code_of at) (machine_of scanner values) ≡ true → reached ≡ true
 
 -- where a step goes on, or how it ends the match
 abbrev pub GoesTo : List CodeBlock → Position → Going → Result Position Outcome → Type 0

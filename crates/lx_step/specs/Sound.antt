@@ -18,7 +18,7 @@ pub record IsSound (program : Program) (scanner : Scanner) (given : Given) (room
   pub few : program.statements ≤ 2 ^ 62
   pub unit : (program.piece.now.unit ≡ 1) ⊎ ((program.piece.now.unit ≡ 2) ⊎ (program.piece.now.unit ≡ 4))
   -- the tables have room for what the statements name
-  pub tables : HasRoom (sizes_of_all (all_statements program.piece.now.blocks)) scanner given
+  pub tables : HasRoom (sizes_of_all scanner.numbering (all_statements program.piece.now.blocks)) scanner given
   -- there is room for the places of all statements that assign something
   pub places : AreRoomy program.piece.now.blocks room
   -- exactly the tags that get an offset, or a history, have one

@@ -14,15 +14,24 @@ use Rattle.lx_step.specs.declared.scanner.Scanner.{Scanner}
 use Rattle.lx_step.specs.declared.sizes.Sizes.{Sizes}
 use Rattle.lx_step.specs.Assigned.{target}
 use Rattle.lx_step.specs.Given.{Given, after_value}
+use Rattle.lx_step.specs.Numbers.{place_of}
 use Rattle.lx_step.specs.WholeRuns.{whole_step}
 
--- a register's content; nothing where there is no such register
+-- the content of a register by its place; nothing where there is no such place
 abbrev pub register_in : List (Option ℕ) → ℕ → Option ℕ
 register_in registers register = slice_index_or registers register None
 
--- a history's content; the empty one where there is no such history
+-- the content of a history by its place; the empty one where there is no such place
 abbrev pub history_of : List (List (Option ℕ)) → ℕ → List (Option ℕ)
 history_of histories history = slice_index_or histories history []
+
+-- the content of a register, by its number
+abbrev pub content_of : Scanner → (register : ℕ) → Option ℕ
+content_of scanner register = register_in scanner.registers.items (place_of scanner.numbering.registers register)
+
+-- the content of a history, by its number
+abbrev pub history_at : Scanner → (history : ℕ) → List (Option ℕ)
+history_at scanner history = history_of scanner.histories (place_of scanner.numbering.histories history)
 
 -- the machine, with the values that it gave in this match
 abbrev pub machine_of : Scanner → List Value → Machine
@@ -32,8 +41,8 @@ machine_of scanner values = record {
   limit = scanner.limit;
   unit = scanner.unit;
   accept = scanner.accept;
-  registers = register_in scanner.registers.items;
-  histories = history_of scanner.histories;
+  registers = content_of scanner;
+  histories = history_at scanner;
   cond = scanner.cond.now;
   state = scanner.state;
   values = values;
@@ -84,14 +93,15 @@ given_after (Count groups) machine given = after_value (group_count groups) give
 given_after (End place register) machine given = after_value (group_end place (machine.registers register)) given
 given_after _ machine given = given
 
--- as many registers and histories as before
+-- the same registers and histories as before
 pub record KeepsTables (old new : Scanner) : Type 0 where
+  pub numbering : new.numbering ≡ old.numbering
   pub registers : length new.registers.items ≡ length old.registers.items
   pub histories : length new.histories ≡ length old.histories
 
 -- only a register gets another content
 pub record SetsRegister (old new : Scanner) (register : ℕ) (value : Option ℕ) : Type 0 where
-  pub machine : (values : List Value) → machine_of new values ≡ record (machine_of old values) { registers = updated register value (register_in old.registers.items) }
+  pub machine : (values : List Value) → machine_of new values ≡ record (machine_of old values) { registers = updated register value (content_of old) }
   pub tables : KeepsTables old new
 
 -- from the old to the new scanner the machine made the statement, on any piece with this unit at the buffer's end

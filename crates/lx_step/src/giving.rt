@@ -1,6 +1,7 @@
 //! The statements that give a value to something of the user's.
 ghost use Rattle.std.specs.Prelude.{◌≡◌, ◌<◌, ◌≤◌, ◌/◌, ℕ, List, Option, [], length, IfOk, OnErr, true, false};
 ghost use Rattle.lx_ccode.specs.declared.piece.Stmt.TheVariants as stmt;
+ghost use Rattle.lx_step.specs.Numbers.{place_of};
 ghost use Rattle.lx_step.specs.Steps.{IsStep, KeepsTables, given_after, machine_of};
 
 use crate::scanner::{Going, Scanner};
@@ -19,11 +20,11 @@ impl<'p> Scanner<'p> {
 
     /// Gives a tag the content of a register.
     pub(crate) fn give_offset(&self, slots: &mut Slots, name: &ByteText, register: u32) -> Going
-        requires { register < length self.now.registers.items }
+        requires { place_of self.now.numbering.registers register < length self.now.registers.items }
         ensures step { (stream : List ℕ) (eof : Option ℕ) → IsStep stream eof (stmt.Tag name.now false register) self.now self.now result }
         ensures given { slots.new ≡ given_after (stmt.Tag name.now false register) (machine_of self.now []) slots.old }
     {
-        slots.give_offset(name.as_slice(), self.registers[register as usize]);
+        slots.give_offset(name.as_slice(), self.content(register));
         Going::Next
     }
 
@@ -35,12 +36,14 @@ impl<'p> Scanner<'p> {
         name: &ByteText,
         history: u32,
     ) -> Result<Going, Memory>
-        requires { history < length self.now.histories }
+        requires { place_of self.now.numbering.histories history < length self.now.histories }
         ensures step { IfOk result (λ going. (stream : List ℕ) (eof : Option ℕ) → IsStep stream eof (stmt.Tag name.now true history) self.now self.now going) }
         ensures given { IfOk result (λ going. slots.new ≡ given_after (stmt.Tag name.now true history) (machine_of self.now []) slots.old) }
         ensures kept { OnErr result (slots.new ≡ slots.old) }
     {
-        let entries = self.histories.entries(alloc, history as usize)?;
+        let entries = self
+            .histories
+            .entries(alloc, self.place_of_history(history))?;
         slots.give_history(name.as_slice(), entries);
         Ok(Going::Next)
     }
@@ -57,12 +60,12 @@ impl<'p> Scanner<'p> {
 
     /// Sets the end of a group.
     pub(crate) fn set_end(&self, slots: &mut Slots, place: u32, register: u32) -> Going
-        requires register { register < length self.now.registers.items }
+        requires register { place_of self.now.numbering.registers register < length self.now.registers.items }
         requires place { place / 2 < length slots.old.entries }
         ensures step { (stream : List ℕ) (eof : Option ℕ) → IsStep stream eof (stmt.End place register) self.now self.now result }
         ensures given { slots.new ≡ given_after (stmt.End place register) (machine_of self.now []) slots.old }
     {
-        slots.set_end(place, self.registers[register as usize]);
+        slots.set_end(place, self.content(register));
         Going::Next
     }
 }

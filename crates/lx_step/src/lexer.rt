@@ -10,6 +10,7 @@ ghost use Rattle.lx_step.specs.Streams.{stream_units};
 
 use crate::answers::{Group, Outcome, StmtAt};
 use crate::matches::Program;
+use crate::numbers::Numbering;
 use crate::scanner::Scanner;
 use crate::sizes::sizes_of_blocks;
 use crate::slots::Slots;
@@ -73,7 +74,8 @@ impl<'p> Lexer<'p> {
         ensures { IfOk result (λ lexer. lexer ≡ fresh piece.now) }
     {
         let blocks = piece.blocks.as_slice();
-        let sizes = sizes_of_blocks(blocks);
+        let numbering = Numbering::of_blocks(alloc, blocks)?;
+        let sizes = sizes_of_blocks(&numbering, blocks);
         let program = Program {
             alloc,
             piece,
@@ -83,7 +85,7 @@ impl<'p> Lexer<'p> {
             program,
             spent: false,
             start: 0,
-            scanner: Scanner::new(alloc, sizes, first_cond(piece.conds.as_slice()))?,
+            scanner: Scanner::new(alloc, sizes, numbering, first_cond(piece.conds.as_slice()))?,
             slots: Slots::new(alloc, blocks, sizes.groups)?,
             assigned: Vec::with_capacity(alloc, program.statements as usize)?,
         })
@@ -94,7 +96,7 @@ impl<'p> Lexer<'p> {
     ///
     /// It is the run of the piece from there, with every refill that is asked answered by "no more". After
     /// `Stuck`, `Loop` or `Memory` the lexer is spent, and each further call answers `Spent` and changes
-    /// nothing. `Memory` comes only on a piece with a statement on histories.
+    /// nothing. `Memory` comes only where that run makes a statement on a history.
     pub fn advance_whole(&mut self, stream: &[u8], start: u64) -> Outcome
         requires whole { length stream.now % self.old.piece.unit ≡ 0 }
         requires start { start ≤ length (stream_units self.old.piece.unit stream.now) }

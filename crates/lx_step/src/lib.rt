@@ -7,6 +7,7 @@ mod histories;
 pub mod laws;
 mod lexer;
 mod matches;
+mod numbers;
 mod scanner;
 mod sizes;
 mod slots;

@@ -1,6 +1,5 @@
 //! A match: steps from the start to an outcome.
 ghost use Rattle.std.specs.Prelude.{◌≡◌, ◌≤◌, ◌<◌, ◌+◌, ◌*◌, ◌^◌, Some, [], length, true, option_map, vec_capacity, slice_get, IfOk, OnErr};
-ghost use Rattle.std.specs.List.{list_any};
 ghost use Rattle.lx_ccode.specs.Machine.{code_at};
 ghost use Rattle.lx_ccode.specs.Runs.{cond_block, entry_block, fresh_machine};
 ghost use Rattle.lx_ccode.specs.Statements.{all_statements, statement_count};
@@ -8,6 +7,7 @@ ghost use Rattle.lx_step.specs.Assigned.{is_assignment, with_statement};
 ghost use Rattle.lx_step.specs.Held.{is_on_histories};
 ghost use Rattle.lx_step.specs.Matches.{GoesTo, HasEnded, IsAfterValues, StartsIn};
 ghost use Rattle.lx_step.specs.Places.{AreRoomy, StandsAt, StaysIn, place_of};
+ghost use Rattle.lx_step.specs.Reached.{reaches};
 ghost use Rattle.lx_step.specs.Sizes.{sizes_of_all};
 ghost use Rattle.lx_step.specs.Steps.{HasRoom, machine_of};
 
@@ -49,12 +49,12 @@ impl<'p> Program<'p> {
         requires few { self.now.statements ≤ 2 ^ 62 }
         requires fresh { machine_of scanner.old [] ≡ fresh_machine scanner.old.cursor (length (U.stream units.now)) scanner.old.cond.now }
         requires start { scanner.old.cursor ≤ scanner.old.limit }
-        requires room { HasRoom (sizes_of_all (all_statements self.now.piece.now.blocks)) scanner.old slots.old }
+        requires room { HasRoom (sizes_of_all scanner.old.numbering (all_statements self.now.piece.now.blocks)) scanner.old slots.old }
         requires assigned { assigned.old.items ≡ [] }
         requires places { AreRoomy self.now.piece.now.blocks (vec_capacity assigned.old) }
         ensures ended { IfOk result (λ outcome. HasEnded self.now.piece.now (U.stream units.now) scanner.old slots.old outcome scanner.new slots.new assigned.new.items) }
-        ensures memory { OnErr result (list_any is_on_histories (all_statements self.now.piece.now.blocks) ≡ true) }
-        ensures room { HasRoom (sizes_of_all (all_statements self.now.piece.now.blocks)) scanner.new slots.new }
+        ensures memory { OnErr result (reaches self.now.piece.now (U.stream units.now) is_on_histories scanner.old.cursor scanner.old.cond.now ≡ true) }
+        ensures room { HasRoom (sizes_of_all scanner.new.numbering (all_statements self.now.piece.now.blocks)) scanner.new slots.new }
         ensures kept { IsAfterValues slots.old slots.new }
         ensures places { AreRoomy self.now.piece.now.blocks (vec_capacity assigned.new) }
     {

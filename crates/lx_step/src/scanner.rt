@@ -2,10 +2,12 @@
 ghost use Rattle.std.specs.Prelude.{◌≡◌, ℕ, ◌+◌, ◌<◌, ◌≤◌, List, [], Option, length, IfOk, if◌then◌else◌};
 ghost use Rattle.lx_ccode.specs.declared.piece.Stmt.TheVariants as stmt;
 ghost use Rattle.lx_ccode.specs.Runs.{fresh_machine};
-ghost use Rattle.lx_step.specs.Steps.{IsStep, KeepsTables, SetsRegister, machine_of};
+ghost use Rattle.lx_step.specs.Numbers.{place_of};
+ghost use Rattle.lx_step.specs.Steps.{IsStep, KeepsTables, SetsRegister, content_of, machine_of};
 
 use crate::answers::Outcome;
 use crate::histories::Histories;
+use crate::numbers::Numbering;
 use crate::sizes::Sizes;
 use crate::units::Units;
 use lx_base::Memory;
@@ -19,7 +21,8 @@ pub(crate) enum Going {
     Ends(Outcome),
 }
 
-/// What the machine holds. Offsets count units from the stream's beginning.
+/// What the machine holds, the registers and histories by their places. Offsets count units from the stream's
+/// beginning.
 #[derive(Debug, Drop)]
 pub(crate) struct Scanner<'p> {
     pub(crate) cursor: u64,
@@ -27,6 +30,7 @@ pub(crate) struct Scanner<'p> {
     pub(crate) limit: u64,
     pub(crate) unit: Option<u32>,
     pub(crate) accept: u32,
+    pub(crate) numbering: Numbering,
     pub(crate) registers: Vec<Option<u64>>,
     pub(crate) histories: Histories,
     pub(crate) cond: &'p [u8],
@@ -34,8 +38,14 @@ pub(crate) struct Scanner<'p> {
 }
 
 impl<'p> Scanner<'p> {
-    /// One with room for these sizes, in a condition.
-    pub(crate) fn new(alloc: Global, sizes: Sizes, cond: &'p [u8]) -> Result<Scanner<'p>, Memory>
+    /// One with room for these sizes, by a numbering, in a condition.
+    pub(crate) fn new(
+        alloc: Global,
+        sizes: Sizes,
+        numbering: Numbering,
+        cond: &'p [u8],
+    ) -> Result<Scanner<'p>, Memory>
+        ensures numbering { IfOk result (λ scanner. scanner.numbering ≡ numbering) }
         ensures registers { IfOk result (λ scanner. length scanner.registers.items ≡ sizes.registers) }
         ensures histories { IfOk result (λ scanner. length scanner.histories ≡ sizes.histories) }
         ensures cond { IfOk result (λ scanner. scanner.cond.now ≡ cond.now) }
@@ -47,6 +57,7 @@ impl<'p> Scanner<'p> {
             limit: 0,
             unit: None,
             accept: 0,
+            numbering,
             registers: vec![in alloc; None; sizes.registers as usize]?,
             histories: Histories::new(alloc, sizes.histories as usize)?,
             cond,
@@ -130,15 +141,38 @@ impl<'p> Scanner<'p> {
 
     /// Puts an offset, or nothing, into a register.
     fn set_register(&mut self, register: u32, value: Option<u64>)
-        requires { register < length self.old.registers.items }
+        requires { place_of self.old.numbering.registers register < length self.old.registers.items }
         ensures { SetsRegister self.old self.new register value }
     {
-        self.registers[register as usize] = value;
+        let place = self.place_of_register(register);
+        self.registers[place] = value;
+    }
+
+    /// The content of a register.
+    pub(crate) fn content(&self, register: u32) -> Option<u64>
+        requires { place_of self.now.numbering.registers register < length self.now.registers.items }
+        ensures { result ≡ content_of self.now register }
+    {
+        self.registers[self.place_of_register(register)]
+    }
+
+    /// The place of a register.
+    fn place_of_register(&self, register: u32) -> usize
+        ensures { result ≡ place_of self.now.numbering.registers register }
+    {
+        self.numbering.registers.place_of(register) as usize
+    }
+
+    /// The place of a history.
+    pub(crate) fn place_of_history(&self, history: u32) -> usize
+        ensures { result ≡ place_of self.now.numbering.histories history }
+    {
+        self.numbering.histories.place_of(history) as usize
     }
 
     /// Puts the cursor into a register.
     pub(crate) fn set(&mut self, register: u32) -> Going
-        requires { register < length self.old.registers.items }
+        requires { place_of self.old.numbering.registers register < length self.old.registers.items }
         ensures { (stream : List ℕ) (eof : Option ℕ) → IsStep stream eof (stmt.Set register) self.old self.new result }
     {
         self.set_register(register, Some(self.cursor));
@@ -147,7 +181,7 @@ impl<'p> Scanner<'p> {
 
     /// Empties a register.
     pub(crate) fn unset(&mut self, register: u32) -> Going
-        requires { register < length self.old.registers.items }
+        requires { place_of self.old.numbering.registers register < length self.old.registers.items }
         ensures { (stream : List ℕ) (eof : Option ℕ) → IsStep stream eof (stmt.Unset register) self.old self.new result }
     {
         self.set_register(register, None);
@@ -156,21 +190,21 @@ impl<'p> Scanner<'p> {
 
     /// Puts one register's content into another.
     pub(crate) fn copy(&mut self, register: u32, source: u32) -> Going
-        requires register { register < length self.old.registers.items }
-        requires source { source < length self.old.registers.items }
+        requires register { place_of self.old.numbering.registers register < length self.old.registers.items }
+        requires source { place_of self.old.numbering.registers source < length self.old.registers.items }
         ensures { (stream : List ℕ) (eof : Option ℕ) → IsStep stream eof (stmt.Copy register source) self.old self.new result }
     {
-        let value = self.registers[source as usize];
+        let value = self.content(source);
         self.set_register(register, value);
         Going::Next
     }
 
     /// Moves the cursor back to a register.
     pub(crate) fn back(&mut self, register: u32) -> Going
-        requires { register < length self.old.registers.items }
+        requires { place_of self.old.numbering.registers register < length self.old.registers.items }
         ensures { (stream : List ℕ) (eof : Option ℕ) → IsStep stream eof (stmt.Back register) self.old self.new result }
     {
-        match self.registers[register as usize] {
+        match self.content(register) {
             None => Going::Ends(Outcome::Stuck),
             Some(offset) => {
                 self.cursor = offset;
@@ -181,40 +215,44 @@ impl<'p> Scanner<'p> {
 
     /// Appends the cursor to a history.
     pub(crate) fn append(&mut self, history: u32) -> Result<Going, Memory>
-        requires { history < length self.old.histories }
+        requires { place_of self.old.numbering.histories history < length self.old.histories }
         ensures step { IfOk result (λ going. (stream : List ℕ) (eof : Option ℕ) → IsStep stream eof (stmt.MSet history) self.old self.new going) }
         ensures tables { KeepsTables self.old self.new }
     {
         if history == 0 {
             return Ok(Going::Ends(Outcome::Stuck));
         }
-        self.histories.append(history as usize, Some(self.cursor))?;
+        let place = self.place_of_history(history);
+        self.histories.append(place, Some(self.cursor))?;
         Ok(Going::Next)
     }
 
     /// Appends a negative event to a history.
     pub(crate) fn append_none(&mut self, history: u32) -> Result<Going, Memory>
-        requires { history < length self.old.histories }
+        requires { place_of self.old.numbering.histories history < length self.old.histories }
         ensures step { IfOk result (λ going. (stream : List ℕ) (eof : Option ℕ) → IsStep stream eof (stmt.MUnset history) self.old self.new going) }
         ensures tables { KeepsTables self.old self.new }
     {
         if history == 0 {
             return Ok(Going::Ends(Outcome::Stuck));
         }
-        self.histories.append(history as usize, None)?;
+        let place = self.place_of_history(history);
+        self.histories.append(place, None)?;
         Ok(Going::Next)
     }
 
     /// Puts one history into another.
     pub(crate) fn copy_history(&mut self, history: u32, source: u32) -> Going
-        requires history { history < length self.old.histories }
-        requires source { source < length self.old.histories }
+        requires history { place_of self.old.numbering.histories history < length self.old.histories }
+        requires source { place_of self.old.numbering.histories source < length self.old.histories }
         ensures { (stream : List ℕ) (eof : Option ℕ) → IsStep stream eof (stmt.MCopy history source) self.old self.new result }
     {
         if history == 0 {
             return Going::Ends(Outcome::Stuck);
         }
-        self.histories.copy(history as usize, source as usize);
+        let place = self.place_of_history(history);
+        let source = self.place_of_history(source);
+        self.histories.copy(place, source);
         Going::Next
     }
 

@@ -1,11 +1,12 @@
-//! How many registers, histories and groups a piece names.
+//! How much room the registers, histories and groups of a piece take.
 ghost use Rattle.std.specs.Prelude.{◌≡◌, ℕ, ◌+◌, ◌/◌, ◌<◌, ◌≤◌, max};
 ghost use Rattle.lx_ccode.specs.Statements.{all_statements};
-ghost use Rattle.lx_step.specs.Sizes.{greater_sizes, sizes_of, sizes_of_all};
+ghost use Rattle.lx_step.specs.Sizes.{greater_sizes, groups_of_all, sizes_of, sizes_of_all};
 
+use crate::numbers::Numbering;
 use lx_ccode::{CodeBlock, Stmt};
 
-/// One more than the greatest number of a register and of a history, and the most groups of a rule.
+/// One more than the greatest place of a register and of a history, and the most groups of a rule.
 #[derive(Clone, Copy, Debug)]
 pub(crate) struct Sizes {
     pub(crate) registers: u64,
@@ -33,62 +34,82 @@ impl Sizes {
 }
 
 /// Those of the statements of all blocks.
-pub(crate) fn sizes_of_blocks(blocks: &[CodeBlock]) -> Sizes
-    ensures { result ≡ sizes_of_all (all_statements blocks.now) }
+pub(crate) fn sizes_of_blocks(numbering: &Numbering, blocks: &[CodeBlock]) -> Sizes
+    ensures sizes { result ≡ sizes_of_all numbering.now (all_statements blocks.now) }
+    ensures groups { result.groups ≡ groups_of_all (all_statements blocks.now) }
+{
+    let sizes = sum_of_blocks(numbering, blocks);
+    sizes
+}
+
+fn sum_of_blocks(numbering: &Numbering, blocks: &[CodeBlock]) -> Sizes
+    ensures { result ≡ sizes_of_all numbering.now (all_statements blocks.now) }
 {
     let mut sizes = NO_SIZES;
     for block in blocks {
-        sizes = sizes.greater(sizes_of_statements(block.stmts.as_slice()));
+        sizes = sizes.greater(sizes_of_statements(numbering, block.stmts.as_slice()));
     }
     sizes
 }
 
-fn sizes_of_statements(statements: &[Stmt]) -> Sizes
-    ensures { result ≡ sizes_of_all statements.now }
+fn sizes_of_statements(numbering: &Numbering, statements: &[Stmt]) -> Sizes
+    ensures { result ≡ sizes_of_all numbering.now statements.now }
 {
     let mut sizes = NO_SIZES;
     for statement in statements {
-        sizes = sizes.greater(sizes_of_statement(statement));
+        sizes = sizes.greater(sizes_of_statement(numbering, statement));
     }
     sizes
 }
 
-fn sizes_of_statement(statement: &Stmt) -> Sizes
-    ensures { result ≡ sizes_of statement.now }
+fn sizes_of_statement(numbering: &Numbering, statement: &Stmt) -> Sizes
+    ensures { result ≡ sizes_of numbering.now statement.now }
 {
+    let registers = &numbering.registers;
+    let histories = &numbering.histories;
     match statement {
         Stmt::Set(register) | Stmt::Unset(register) | Stmt::Back(register) => with_register(
-            *register,
+            registers.place_of(*register),
         ),
-        Stmt::Copy(register, source) => with_register(*register.max(source)),
-        Stmt::MSet(history) | Stmt::MUnset(history) => with_history(*history),
-        Stmt::MCopy(history, source) => with_history(*history.max(source)),
-        Stmt::Tag(_, false, register) => with_register(*register),
-        Stmt::Tag(_, true, history) => with_history(*history),
+        Stmt::Copy(register, source) => with_register(
+            registers
+                .place_of(*register)
+                .max(registers.place_of(*source)),
+        ),
+        Stmt::MSet(history) | Stmt::MUnset(history) => with_history(histories.place_of(*history)),
+        Stmt::MCopy(history, source) => with_history(
+            histories
+                .place_of(*history)
+                .max(histories.place_of(*source)),
+        ),
+        Stmt::Tag(_, false, register) => with_register(registers.place_of(*register)),
+        Stmt::Tag(_, true, history) => with_history(histories.place_of(*history)),
         Stmt::Count(groups) => with_groups(u64::from(*groups)),
-        Stmt::End(place, register) => with_register(*register).greater(with_groups(
-            u64::from(*place / 2) + 1,
-        )),
+        Stmt::End(place, register) => with_register(registers.place_of(*register)).greater(
+            with_groups(u64::from(*place / 2) + 1),
+        ),
         _ => NO_SIZES,
     }
 }
 
-fn with_register(register: u32) -> Sizes
-    ensures { result ≡ record { registers = register + 1; histories = 0; groups = 0 } }
+fn with_register(place: u64) -> Sizes
+    requires { place < 18446744073709551615 }
+    ensures { result ≡ record { registers = place + 1; histories = 0; groups = 0 } }
 {
     Sizes {
-        registers: u64::from(register) + 1,
+        registers: place + 1,
         histories: 0,
         groups: 0,
     }
 }
 
-fn with_history(history: u32) -> Sizes
-    ensures { result ≡ record { registers = 0; histories = history + 1; groups = 0 } }
+fn with_history(place: u64) -> Sizes
+    requires { place < 18446744073709551615 }
+    ensures { result ≡ record { registers = 0; histories = place + 1; groups = 0 } }
 {
     Sizes {
         registers: 0,
-        histories: u64::from(history) + 1,
+        histories: place + 1,
         groups: 0,
     }
 }

@@ -21,7 +21,7 @@ pub(crate) fn step<'p, U: Units>(
     scanner: &mut Scanner<'p>,
     slots: &mut Slots,
 ) -> Result<Going, Memory>
-    requires room { HasRoom (sizes_of stmt.now) scanner.old slots.old }
+    requires room { HasRoom (sizes_of scanner.old.numbering stmt.now) scanner.old slots.old }
     requires limit { scanner.old.limit ≤ length (U.stream units.now) }
     ensures step { IfOk result (λ going. IsStep (U.stream units.now) eof stmt.now scanner.old scanner.new going) }
     ensures given { IfOk result (λ going. slots.new ≡ given_after stmt.now (machine_of scanner.old []) slots.old) }

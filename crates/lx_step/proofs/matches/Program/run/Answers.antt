@@ -1,9 +1,8 @@
 use Rattle.std.proofs.Common.{◌∙◌, sym, ap, refl}
 use Rattle.lx_ccode.specs.Machine.{Machine}
-use Rattle.lx_step.specs.Held.{is_on_histories}
 use Rattle.lx_step.specs.WholeRuns.{whole_run}
-use Rattle.lx_step.proofs.Places.{HasRoom-kept, HasRoom-statement, StaysIn-none, any-stands}
-use Rattle.lx_step.proofs.Underway.{begins_with, ends_at_once, ends_by_step, ends_in_loop, ends_without_code, goes_further, none_more, one_more, OnErr-always}
+use Rattle.lx_step.proofs.Places.{HasRoom-kept, HasRoom-statement, StaysIn-none}
+use Rattle.lx_step.proofs.Underway.{begins_with, ends_at_once, ends_by_step, ends_in_loop, ends_without_code, goes_further, none_more, one_more, reaches_here, OnErr-always}
 use Rattle.lx_step.proofs.matches.Program.run.Goals as goal
 
 pub returns-in_default-clause-ended : goal.returns-in_default-clause-ended
@@ -21,7 +20,7 @@ loop-steps-init g c = record {
 
 pub returns-in_default-statement_at-clause-ended : goal.returns-in_default-statement_at-clause-ended
 returns-in_default-statement_at-clause-ended g c =
-    ends_without_code _ _ _ _ _ _ _ _ _ (one_more _ _ _ _ _ _ _ _ _ _ _ c.loop-steps-test.true c.loop-steps.invariant.underway) (sym c.in_default-statement_at.ensures)
+    ends_without_code _ _ _ _ _ _ _ _ _ (one_more _ _ _ _ _ _ _ _ _ _ _ _ c.loop-steps-test.true c.loop-steps.invariant.underway) (sym c.in_default-statement_at.ensures)
 
 pub note-requires-clause-stands : goal.note-requires-clause-stands
 note-requires-clause-stands g c = record { block = c.loop-steps.invariant.block; stmt = sym c.in-Some-statement_at.ensures }
@@ -30,14 +29,15 @@ pub step-requires-clause-room : goal.step-requires-clause-room
 step-requires-clause-room g c = HasRoom-statement _ c.loop-steps.at _ _ _ c.loop-steps.invariant.room (record { block = c.loop-steps.invariant.block; stmt = sym c.in-Some-statement_at.ensures })
 
 pub returns-in_err-going-clause-memory : goal.returns-in_err-going-clause-memory
-returns-in_err-going-clause-memory g c = OnErr-always _ _ (any-stands is_on_histories _ c.loop-steps.at.block c.loop-steps.at.stmt c.loop-steps.at.code.now c.in-Some-statement_at.stmt.now c.loop-steps.invariant.block (sym c.in-Some-statement_at.ensures) c.in_err-going.ensures.memory)
+returns-in_err-going-clause-memory g c = OnErr-always _ _ (reaches_here _ _ _ _ _ _ _ _ _ _ _ _ (one_more _ _ _ _ _ _ _ _ _ _ _ _ c.loop-steps-test.true c.loop-steps.invariant.underway)
+    (record { block = c.loop-steps.invariant.block; stmt = sym c.in-Some-statement_at.ensures }) c.in_err-going.ensures.memory)
 
 pub returns-in_err-going-clause-kept : goal.returns-in_err-going-clause-kept
 returns-in_err-going-clause-kept g c = (c.loop-steps.invariant.underway.values, c.in_err-going.ensures.kept ∙ c.loop-steps.invariant.underway.kept)
 
 pub returns-in-Err-clause-ended : goal.returns-in-Err-clause-ended
 returns-in-Err-clause-ended g c =
-    ends_by_step _ _ _ _ _ _ _ _ _ _ _ _ _ _ _ _ (one_more _ _ _ _ _ _ _ _ _ _ _ c.loop-steps-test.true c.loop-steps.invariant.underway)
+    ends_by_step _ _ _ _ _ _ _ _ _ _ _ _ _ _ _ _ (one_more _ _ _ _ _ _ _ _ _ _ _ _ c.loop-steps-test.true c.loop-steps.invariant.underway)
     (record { block = c.loop-steps.invariant.block; stmt = sym c.in-Some-statement_at.ensures }) refl c.in_ok-going.ensures.step c.in_ok-going.ensures.given c.note.ensures.noted c.in-Err.ensures
 
 pub returns-in-Err-clause-kept : goal.returns-in-Err-clause-kept
@@ -46,7 +46,7 @@ returns-in-Err-clause-kept g c = let ended = returns-in-Err-clause-ended g c in
 
 pub loop-steps-preserved : goal.loop-steps-preserved
 loop-steps-preserved g c = record {
-  underway = goes_further _ _ _ _ _ _ _ _ _ _ _ _ _ _ _ _ _ (one_more _ _ _ _ _ _ _ _ _ _ _ c.loop-steps-test.true c.loop-steps.invariant.underway)
+  underway = goes_further _ _ _ _ _ _ _ _ _ _ _ _ _ _ _ _ _ _ (one_more _ _ _ _ _ _ _ _ _ _ _ _ c.loop-steps-test.true c.loop-steps.invariant.underway)
       (record { block = c.loop-steps.invariant.block; stmt = sym c.in-Some-statement_at.ensures }) refl c.in_ok-going.ensures.step c.in_ok-going.ensures.given c.note.ensures.noted c.in-Ok.ensures;
   block = c.in-Ok.ensures.1 c.loop-steps.invariant.block;
   limit = c.in_ok-going.ensures.step.limit ∙ c.loop-steps.invariant.limit;
@@ -56,4 +56,4 @@ loop-steps-preserved g c = record {
 }
 
 pub returns-clause-ended : goal.returns-clause-ended
-returns-clause-ended g c = ends_in_loop _ _ _ _ _ _ _ _ (none_more _ _ _ _ _ _ _ _ _ _ _ c.loop-steps-test.false c.loop-steps.invariant.underway)
+returns-clause-ended g c = ends_in_loop _ _ _ _ _ _ _ _ (none_more _ _ _ _ _ _ _ _ _ _ _ _ c.loop-steps-test.false c.loop-steps.invariant.underway)
