@@ -1,5 +1,5 @@
 -- Openers stand where blocks begin.
-use Rattle.std.proofs.Common.{◌≡◌, ℕ, ◌-◌, ◌<◌, Bool, true, false, cond, List, [], ◌∷◌, ◌++◌, length, drop, refl, sym, ◌∙◌, ap, subst, arith, length-append, append-nil}
+use Rattle.std.proofs.Common.{◌≡◌, ℕ, ◌-◌, ◌<◌, Bool, true, false, cond, List, [], ◌∷◌, ◌++◌, length, drop, refl, sym, ◌∙◌, ap, subst, arith, length-append}
 use Rattle.lx_base.specs.declared.settings.Options.{Options}
 use Rattle.lx_split.specs.declared.openers.Opener.{Opener}
 use Rattle.lx_split.specs.declared.openers.Opener.TheVariants.{Absent, Refused, Opens}
