@@ -38,24 +38,14 @@ unless-in_first : (holds : Bool) (at : Pos) → at.file ≡ 0 → AreInFirst (un
 unless-in_first true at is = tt
 unless-in_first false at is = is
 
-switch-in_first : (given : TokenKind) (value : Lexeme) → value.at.file ≡ 0 → AreInFirst (switch_fault given value)
-switch-in_first kind.IStr value is = is
-switch-in_first kind.Name value is = if-in_first (is_some (switch_of kind.Name value.text)) None (Some (BadValue value.at)) tt is
-switch-in_first kind.Config value is = if-in_first (is_some (switch_of kind.Config value.text)) None (Some (BadValue value.at)) tt is
-switch-in_first kind.Number value is = if-in_first (is_some (switch_of kind.Number value.text)) None (Some (BadValue value.at)) tt is
-switch-in_first kind.Str value is = if-in_first (is_some (switch_of kind.Str value.text)) None (Some (BadValue value.at)) tt is
-switch-in_first kind.Class value is = if-in_first (is_some (switch_of kind.Class value.text)) None (Some (BadValue value.at)) tt is
-switch-in_first kind.STag value is = if-in_first (is_some (switch_of kind.STag value.text)) None (Some (BadValue value.at)) tt is
-switch-in_first kind.MTag value is = if-in_first (is_some (switch_of kind.MTag value.text)) None (Some (BadValue value.at)) tt is
-switch-in_first kind.Bounds value is = if-in_first (is_some (switch_of kind.Bounds value.text)) None (Some (BadValue value.at)) tt is
-switch-in_first kind.Code value is = if-in_first (is_some (switch_of kind.Code value.text)) None (Some (BadValue value.at)) tt is
-switch-in_first kind.Signs value is = if-in_first (is_some (switch_of kind.Signs value.text)) None (Some (BadValue value.at)) tt is
+switch-in_first : (value : Lexeme) → value.at.file ≡ 0 → AreInFirst (switch_fault value)
+switch-in_first value is = if-in_first (is_some (switch_of value.kind value.text)) None (Some (BadValue value.at)) tt is
 
 config-in_first : (name value : Lexeme) → name.at.file ≡ 0 → value.at.file ≡ 0 → AreInFirst (config_fault name value)
 config-in_first name value name_is value_is =
     let known = is_among name.text define_words || is_among name.text other_words in
     let other = if◌then◌else◌ {A = Option Fault} known (waits name) (Some (UnknownConfig name.at name.text)) in
-    if-in_first (bytes_eq name.text fill_word) (switch_fault value.kind value) other (switch-in_first value.kind value value_is)
+    if-in_first (bytes_eq name.text fill_word) (switch_fault value) other (switch-in_first value value_is)
     (if-in_first known (waits name) (Some (UnknownConfig name.at name.text)) name_is name_is)
 
 module _ (options : Options) (lexemes : List Lexeme) (are : AreTokensInFirst lexemes) where

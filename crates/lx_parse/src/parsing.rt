@@ -26,7 +26,8 @@ fn may_end(state: State) -> bool
 /// The items of a block, by the tokens of its body, which begins at the place `at`.
 ///
 /// It refuses with `Syntax` exactly at the first token with which no well-formed block goes on; the block's end counts as
-/// a token, and its place is that behind the last byte of the body. `Memory` comes only where memory runs out.
+/// a token, and its place is that behind the last byte of the body. `Memory` says that memory is
+/// wanting; it may be answered at each body, and no clause ties it to a cause.
 pub fn parse(
     alloc: Global,
     body: &[u8],

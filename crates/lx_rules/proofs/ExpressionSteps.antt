@@ -58,10 +58,10 @@ module _ (options : Options) (definitions : List Definition) where
   -- a leaf is read
   pub leaf_taken : (room : Room) (operands : Operands) (old new : Held) (is_operand : Bool) (lexeme : Lexeme) (value : Value)
       → AreOperands room operands old → new.values.items ≡ old.values.items ++ value ∷ []
-      → IsLeafRead options definitions room is_operand old.seen.items lexeme new.seen.items value
+      → IsLeafRead options definitions room is_operand old.seen lexeme new.seen value
       → IsStepTaken options definitions room operands (reads is_operand lexeme) new
   leaf_taken room operands old new is_operand lexeme value are values read =
-      let here = subst (λ before. IsLeafRead options definitions room is_operand before lexeme new.seen.items value) are.seen read in
+      let here = subst (λ before. IsLeafRead options definitions room is_operand before lexeme new.seen value) are.seen read in
       record {
         checked = here.checked;
         after = with_more operands here.meaning;
@@ -129,7 +129,7 @@ module _ (options : Options) (definitions : List Definition) where
   -- a difference is put in the place of its sides
   pub subtract_taken : (room : Room) (operands : Operands) (old new : Held) (operand : Bool) (sign : Lexeme) (front : List Value) (left right value : Value)
       → AreOperands room operands old → (two : HasTwo room operands.meanings front left right) → new.values.items ≡ front ++ value ∷ []
-      → new.seen.items ≡ old.seen.items
+      → new.seen ≡ old.seen
       → DifferenceChecks options definitions operand two.first two.second sign None
       × ((meaning : Meaning) × IsDifference options definitions operand two.first two.second meaning × IsValue room meaning value)
       → IsStepTaken options definitions room operands (subtracts operand sign) new

@@ -7,6 +7,7 @@ pub mod StepOrder
 pub mod TermTags
 pub mod LeafContents
 pub mod LeafSteps
+pub mod TagIndexes
 pub mod TagNames
 pub mod FormReading
 pub mod ExpressionSteps

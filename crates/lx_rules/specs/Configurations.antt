@@ -39,13 +39,12 @@ switch_of kind.Number text = number_switch (number_of text)
 switch_of kind text = None
 
 -- the value of refills must be 0 or 1
-abbrev pub switch_fault : TokenKind → Lexeme → Option Fault
-switch_fault kind.IStr value = waits value
-switch_fault kind value = if is_some (switch_of kind value.text) then None else Some (BadValue value.at)
+abbrev pub switch_fault : Lexeme → Option Fault
+switch_fault value = if is_some (switch_of value.kind value.text) then None else Some (BadValue value.at)
 
 -- A configuration is one that there is, and has a value that is allowed. All but the one that enables refills are not
 -- supported yet.
 abbrev pub config_fault : (name value : Lexeme) → Option Fault
 config_fault name value =
-    if bytes_eq name.text fill_word then switch_fault value.kind value
+    if bytes_eq name.text fill_word then switch_fault value
     else (if is_among name.text define_words || is_among name.text other_words then waits name else Some (UnknownConfig name.at name.text))

@@ -146,7 +146,7 @@ AreHonest count (value ∷ values) = IsHonest count value × AreHonest count val
 -- what is held stands for what is read
 pub record AreOperands (room : Room) (operands : Operands) (held : Held) : Type 0 where
   pub values : AreValues room operands.meanings (reverse held.values.items)
-  pub seen : held.seen.items ≡ operands.seen
+  pub seen : held.seen ≡ operands.seen
 
 -- a step is taken: its checks find nothing, and what is held stands for what is read behind it
 pub record IsStepTaken (options : Options) (definitions : List Definition) (room : Room) (operands : Operands) (step : Step) (held : Held) : Type 0 where

@@ -114,9 +114,6 @@ pub(crate) fn read_config(
         }
         return Err(Stop::Fault(Fault::Unsupported { at: Some(name.at) }));
     }
-    if value.kind == TokenKind::IStr {
-        return Err(Stop::Fault(Fault::Unsupported { at: Some(value.at) }));
-    }
     match switch_of(value.kind, value.text) {
         Some(fill) => Ok(fill),
         None => Err(Stop::Fault(Fault::BadValue { at: value.at })),

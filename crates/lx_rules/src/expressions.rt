@@ -19,6 +19,7 @@ use crate::items::waits;
 use crate::leaves::{Reader, read_leaf, read_set};
 use crate::lexemes::{Lexeme, Lexemes};
 use crate::steps::{Step, StepSort, expression_steps};
+use crate::tags::TagNames;
 use crate::values::{Room, Value};
 use lx_base::{ByteText, Fault, Memory, Options, Pos, Stop};
 use lx_parse::Sort;
@@ -29,10 +30,10 @@ use std::alloc::Global;
 const MOST_BOUND: u64 = 4096;
 
 /// What is read of an expression so far: values that are not yet put together, in order, and the names of all tags.
-#[derive(Debug, Drop)]
+#[derive(Drop)]
 pub(crate) struct Operands {
     values: Vec<Value>,
-    seen: Vec<ByteText>,
+    seen: TagNames,
 }
 
 /// What is read of a whole expression, with the names of its tags, in order.
@@ -140,7 +141,7 @@ impl Operands {
     {
         Operands {
             values: Vec::new(alloc),
-            seen: Vec::new(alloc),
+            seen: TagNames::new(alloc),
         }
     }
 
@@ -179,7 +180,7 @@ impl Operands {
             (operands : reading.Operands) → AreOperands reader.entry.room operands self.old → MatchResult result
             (λ _. IsStepTaken reader.entry.options.now definitions reader.entry.room operands (reads is_operand (lexeme_view lexeme.now)) self.new)
             (StopsAt (StepChecks reader.entry.options.now definitions operands (reads is_operand (lexeme_view lexeme.now)))) }
-        ensures honest { AreHonest (length self.old.seen.items) self.old.values.items → OnOk result (AreHonest (length self.new.seen.items) self.new.values.items) }
+        ensures honest { AreHonest (length self.old.seen) self.old.values.items → OnOk result (AreHonest (length self.new.seen) self.new.values.items) }
         ensures depth { OnOk result (length self.new.values.items ≡ suc (length self.old.values.items)) }
     {
         let value = match read_leaf(alloc, reader, &mut self.seen, lexeme, is_operand) {
@@ -196,7 +197,7 @@ impl Operands {
         requires depth { 1 ≤ length self.old.values.items }
         ensures stands { (operands : reading.Operands) → AreOperands room operands self.old
             → OnOk result (AreOperands room (in_place operands (with_last enclosed operands.meanings)) self.new) }
-        ensures honest { AreHonest (length self.old.seen.items) self.old.values.items → OnOk result (AreHonest (length self.new.seen.items) self.new.values.items) }
+        ensures honest { AreHonest (length self.old.seen) self.old.values.items → OnOk result (AreHonest (length self.new.seen) self.new.values.items) }
         ensures depth { OnOk result (length self.new.values.items ≡ length self.old.values.items) }
     {
         let value = self.pop().enclosed(alloc, room)?;
@@ -211,7 +212,7 @@ impl Operands {
         ensures stands { (options : Options) (definitions : List Definition) (operands : reading.Operands) → AreOperands room operands self.old → MatchResult result
             (λ _. IsStepTaken options definitions room operands (repeats (lexeme_view sign.now)) self.new)
             (StopsAt (StepChecks options definitions operands (repeats (lexeme_view sign.now)))) }
-        ensures honest { AreHonest (length self.old.seen.items) self.old.values.items → OnOk result (AreHonest (length self.new.seen.items) self.new.values.items) }
+        ensures honest { AreHonest (length self.old.seen) self.old.values.items → OnOk result (AreHonest (length self.new.seen) self.new.values.items) }
         ensures depth { OnOk result (length self.new.values.items ≡ length self.old.values.items) }
     {
         let bounds = match checked_bounds(sign) {
@@ -229,7 +230,7 @@ impl Operands {
         requires depth { 2 ≤ length self.old.values.items }
         ensures stands { (operands : reading.Operands) → AreOperands room operands self.old
             → OnOk result (AreOperands room (in_place operands (with_both followed operands.meanings)) self.new) }
-        ensures honest { AreHonest (length self.old.seen.items) self.old.values.items → OnOk result (AreHonest (length self.new.seen.items) self.new.values.items) }
+        ensures honest { AreHonest (length self.old.seen) self.old.values.items → OnOk result (AreHonest (length self.new.seen) self.new.values.items) }
         ensures depth { OnOk result (suc (length self.new.values.items) ≡ length self.old.values.items) }
     {
         let back = self.pop();
@@ -244,7 +245,7 @@ impl Operands {
         requires depth { 2 ≤ length self.old.values.items }
         ensures stands { (operands : reading.Operands) → AreOperands room operands self.old
             → OnOk result (AreOperands room (in_place operands (with_both alternated operands.meanings)) self.new) }
-        ensures honest { AreHonest (length self.old.seen.items) self.old.values.items → OnOk result (AreHonest (length self.new.seen.items) self.new.values.items) }
+        ensures honest { AreHonest (length self.old.seen) self.old.values.items → OnOk result (AreHonest (length self.new.seen) self.new.values.items) }
         ensures depth { OnOk result (suc (length self.new.values.items) ≡ length self.old.values.items) }
     {
         let right = self.pop();
@@ -267,7 +268,7 @@ impl Operands {
             (operands : reading.Operands) → AreOperands reader.entry.room operands self.old → MatchResult result
             (λ _. IsStepTaken reader.entry.options.now definitions reader.entry.room operands (subtracts is_operand (lexeme_view sign.now)) self.new)
             (StopsAt (StepChecks reader.entry.options.now definitions operands (subtracts is_operand (lexeme_view sign.now)))) }
-        ensures honest { AreHonest (length self.old.seen.items) self.old.values.items → OnOk result (AreHonest (length self.new.seen.items) self.new.values.items) }
+        ensures honest { AreHonest (length self.old.seen) self.old.values.items → OnOk result (AreHonest (length self.new.seen) self.new.values.items) }
         ensures depth { OnOk result (suc (length self.new.values.items) ≡ length self.old.values.items) }
     {
         let right = self.pop();
@@ -295,7 +296,7 @@ impl Operands {
             (operands : reading.Operands) → AreOperands reader.entry.room operands self.old → MatchResult result
             (λ _. IsStepTaken reader.entry.options.now definitions reader.entry.room operands (step_view (lexemes_view lexemes.entry) step) self.new)
             (StopsAt (StepChecks reader.entry.options.now definitions operands (step_view (lexemes_view lexemes.entry) step))) }
-        ensures honest { AreHonest (length self.old.seen.items) self.old.values.items → OnOk result (AreHonest (length self.new.seen.items) self.new.values.items) }
+        ensures honest { AreHonest (length self.old.seen) self.old.values.items → OnOk result (AreHonest (length self.new.seen) self.new.values.items) }
         ensures depth { OnOk result (length self.new.values.items ≡ depth_behind (step_view (lexemes_view lexemes.entry) step) (length self.old.values.items)) }
     {
         let lexeme = lexemes.at(step.place as usize);
@@ -337,7 +338,7 @@ fn take_steps(
         MatchResult result
         (AreTaken reader.entry.options.now definitions reader.entry.room no_operands (map (step_view (lexemes_view lexemes.entry)) steps.now))
         (StopsReading reader.entry.options.now definitions no_operands (map (step_view (lexemes_view lexemes.entry)) steps.now)) }
-    ensures honest { IfOk result (λ operands. AreHonest (length operands.seen.items) operands.values.items) }
+    ensures honest { IfOk result (λ operands. AreHonest (length operands.seen) operands.values.items) }
     ensures one { IfOk result (λ operands. length operands.values.items ≡ 1) }
 {
     let mut operands = Operands::new(alloc);
@@ -374,6 +375,6 @@ pub(crate) fn read_expression(
     };
     let mut operands = operands;
     let value = operands.pop();
-    let tags = operands.seen;
+    let tags = operands.seen.into_names();
     Ok(Reading { value, tags })
 }

@@ -23,9 +23,9 @@ use crate::definitions::{Definitions, Kept};
 use crate::lexemes::Lexeme;
 use crate::points::points_fault;
 use crate::sets::{character_set, class_set, line_set, ranges_of, single_ranges};
-use crate::tags::{add_copies, add_copy, is_among, repeated_tag, tag_name, text};
+use crate::tags::{TagNames, repeated_tag, tag_name, text};
 use crate::values::{Content, MOST_SIZE, MOST_TAGS, Room, Value, class_of, sum};
-use lx_base::{ByteText, EmptyPolicy, Fault, Memory, Options, Pos, Stop, SurPolicy};
+use lx_base::{EmptyPolicy, Fault, Memory, Options, Pos, Stop, SurPolicy};
 use lx_class::ClassSet;
 use lx_regex::Expr;
 use lx_token::{Character, TokenKind, characters_of, class_of as written_class};
@@ -247,7 +247,7 @@ fn read_line(
 fn read_name(
     alloc: Global,
     reader: Reader<'_>,
-    seen: &mut Vec<ByteText>,
+    seen: &mut TagNames,
     lexeme: &Lexeme<'_>,
     is_operand: bool,
 ) -> Result<Value, Stop>
@@ -256,18 +256,18 @@ fn read_name(
     requires sound { AreSound reader.definitions.now }
     ensures read { let definitions = definitions_view reader.entry.definitions.now in
         MatchResult result
-        (IsLeafRead reader.entry.options.now definitions reader.entry.room is_operand seen.old.items (lexeme_view lexeme.now) seen.new.items)
-        (StopsAt (LeafChecks reader.entry.options.now definitions (lexeme_view lexeme.now).kind is_operand seen.old.items (lexeme_view lexeme.now))) }
-    ensures honest { IfOk result (IsHonest (length seen.new.items)) }
+        (IsLeafRead reader.entry.options.now definitions reader.entry.room is_operand seen.old (lexeme_view lexeme.now) seen.new)
+        (StopsAt (LeafChecks reader.entry.options.now definitions (lexeme_view lexeme.now).kind is_operand seen.old (lexeme_view lexeme.now))) }
+    ensures honest { IfOk result (IsHonest (length seen.new)) }
 {
     let Some(kept) = reader.definitions.get(lexeme.text) else {
         return Err(unknown(alloc, lexeme));
     };
-    if let Some(fault) = repeated_tag(alloc, lexeme.at, kept.tags.as_slice(), seen.as_slice())? {
+    if let Some(fault) = repeated_tag(alloc, lexeme.at, kept.tags.as_slice(), seen)? {
         return Err(Stop::Fault(fault));
     }
     let by = seen.len();
-    add_copies(alloc, seen, kept.tags.as_slice())?;
+    seen.push_all(alloc, kept.tags.as_slice())?;
     let content = kept_content(alloc, kept, by)?;
     let nesting = sum(kept.nesting, 1);
     let tags = sum(seen.len() as u64, 0);
@@ -292,7 +292,7 @@ fn tag_content(number: usize) -> Content
 fn read_tag(
     alloc: Global,
     reader: Reader<'_>,
-    seen: &mut Vec<ByteText>,
+    seen: &mut TagNames,
     lexeme: &Lexeme<'_>,
     is_operand: bool,
 ) -> Result<Value, Stop>
@@ -300,15 +300,15 @@ fn read_tag(
     requires sort { (lexeme_view lexeme.now).kind ≡ kind.STag }
     ensures read { let definitions = definitions_view reader.entry.definitions.now in
         MatchResult result
-        (IsLeafRead reader.entry.options.now definitions reader.entry.room is_operand seen.old.items (lexeme_view lexeme.now) seen.new.items)
-        (StopsAt (LeafChecks reader.entry.options.now definitions (lexeme_view lexeme.now).kind is_operand seen.old.items (lexeme_view lexeme.now))) }
-    ensures honest { IfOk result (IsHonest (length seen.new.items)) }
+        (IsLeafRead reader.entry.options.now definitions reader.entry.room is_operand seen.old (lexeme_view lexeme.now) seen.new)
+        (StopsAt (LeafChecks reader.entry.options.now definitions (lexeme_view lexeme.now).kind is_operand seen.old (lexeme_view lexeme.now))) }
+    ensures honest { IfOk result (IsHonest (length seen.new)) }
 {
     if !reader.options.tags {
         return Err(Stop::Fault(Fault::TagsOff { at: lexeme.at }));
     }
     let name = tag_name(lexeme.text);
-    if is_among(name, seen.as_slice()) {
+    if seen.contains(name) {
         let name = text(alloc, name)?;
         return Err(Stop::Fault(Fault::DuplicateTag {
             at: lexeme.at,
@@ -316,7 +316,7 @@ fn read_tag(
         }));
     }
     let number = seen.len();
-    add_copy(alloc, seen, name)?;
+    seen.push(alloc, name)?;
     let tags = sum(number as u64, 1);
     let content = tag_content(number);
     Ok(Value::limited(alloc, reader.room, content, 1, 0, tags)?)
@@ -326,7 +326,7 @@ fn read_tag(
 pub(crate) fn read_leaf(
     alloc: Global,
     reader: Reader<'_>,
-    seen: &mut Vec<ByteText>,
+    seen: &mut TagNames,
     lexeme: &Lexeme<'_>,
     is_operand: bool,
 ) -> Result<Value, Stop>
@@ -334,9 +334,9 @@ pub(crate) fn read_leaf(
     requires sound { AreSound reader.definitions.now }
     ensures read { let definitions = definitions_view reader.entry.definitions.now in
         MatchResult result
-        (IsLeafRead reader.entry.options.now definitions reader.entry.room is_operand seen.old.items (lexeme_view lexeme.now) seen.new.items)
-        (StopsAt (LeafChecks reader.entry.options.now definitions (lexeme_view lexeme.now).kind is_operand seen.old.items (lexeme_view lexeme.now))) }
-    ensures honest { IfOk result (IsHonest (length seen.new.items)) }
+        (IsLeafRead reader.entry.options.now definitions reader.entry.room is_operand seen.old (lexeme_view lexeme.now) seen.new)
+        (StopsAt (LeafChecks reader.entry.options.now definitions (lexeme_view lexeme.now).kind is_operand seen.old (lexeme_view lexeme.now))) }
+    ensures honest { IfOk result (IsHonest (length seen.new)) }
 {
     match lexeme.kind {
         TokenKind::Str => read_string(alloc, reader, seen.len(), lexeme, false),

@@ -27,7 +27,8 @@ use std::alloc::Global;
 /// What a block with this body, these tokens and these items resolves to, and what holds behind it.
 ///
 /// `at` is the place of the block's opener. It refuses with the first fault of the block: those of its items in their
-/// order, and then those that stand at the opener. `Memory` comes only where memory runs out.
+/// order, and then those that stand at the opener. `Memory` says that memory is
+/// wanting; it may be answered at each block, and no clause ties it to a cause.
 ///
 /// Each scanner is within the limits, and its classes fit the encoding, where the definitions before are ready for copies.
 pub fn resolve(

@@ -1,20 +1,84 @@
 //! Names of tags.
-ghost use Rattle.std.specs.Prelude.{◌≡◌, ◌++◌, ◌∷◌, [], IfOk, OnOk, drop};
+ghost use Rattle.std.specs.Prelude.{◌≡◌, ◌++◌, ◌∷◌, [], ℕ, List, IfOk, OnOk, drop, is_some, length};
+ghost use Rattle.std.specs.Map.{lookup};
+ghost use Rattle.std.specs.Str.{bytes_eq};
 ghost use Rattle.lx_rules.specs.Checks.{is_among, repeated_tag};
 
+use indexmap::IndexMap;
 use lx_base::{ByteText, Fault, Memory, Pos};
 use std::alloc::Global;
+use std::marker::Model;
 
-/// Whether a name is one of some.
-pub(crate) fn is_among(name: &[u8], names: &[ByteText]) -> bool
-    ensures { result ≡ is_among name.now names.now }
-{
-    for other in names {
-        if name == other.as_slice() {
-            return true;
+/// Names of tags, in order, and an index of them. Contracts see the names.
+#[derive(Drop)]
+pub(crate) struct TagNames {
+    names: Vec<ByteText>,
+    index: IndexMap<Vec<u8>, ()>,
+}
+
+impl Model for TagNames {
+    ghost Value = { List (List ℕ) };
+
+    ghost view = { λ tags. tags.names.items };
+
+    ghost invariant = { λ tags. (name : List ℕ) → is_some (lookup (λ key. bytes_eq name key.items) tags.index.entries) ≡ is_among name tags.names.items };
+}
+
+impl TagNames {
+    /// No names. It takes no memory.
+    pub fn new(alloc: Global) -> TagNames
+        ensures { result ≡ [] }
+    {
+        TagNames {
+            names: Vec::new(alloc),
+            index: IndexMap::new(alloc),
         }
     }
-    false
+
+    /// How many names there are.
+    pub fn len(&self) -> usize
+        ensures { result ≡ length self.now }
+    {
+        self.names.len()
+    }
+
+    /// Whether a name is one of them.
+    pub fn contains(&self, name: &[u8]) -> bool
+        ensures { result ≡ is_among name.now self.now }
+    {
+        self.index.get(name).is_some()
+    }
+
+    /// Puts a copy of a name behind the others.
+    pub fn push(&mut self, alloc: Global, name: &[u8]) -> Result<(), Memory>
+        ensures { OnOk result (self.new ≡ self.old ++ name.now ∷ []) }
+    {
+        let key = Vec::from_slice(alloc, name)?;
+        let name = text(alloc, name)?;
+        self.names.push(name)?;
+        if self.index.insert(key, ()).is_err() {
+            let _last = self.names.pop();
+            return Err(Memory);
+        }
+        Ok(())
+    }
+
+    /// Puts copies of names behind the others.
+    pub fn push_all(&mut self, alloc: Global, more: &[ByteText]) -> Result<(), Memory>
+        ensures { OnOk result (self.new ≡ self.old ++ more.now) }
+    {
+        for name in more {
+            self.push(alloc, name.as_slice())?;
+        }
+        Ok(())
+    }
+
+    /// The names alone.
+    pub fn into_names(self) -> Vec<ByteText>
+        ensures { result.items ≡ self }
+    {
+        self.names
+    }
 }
 
 /// The name of a tag, behind its mark.
@@ -40,12 +104,12 @@ pub(crate) fn repeated_tag(
     alloc: Global,
     at: Pos,
     tags: &[ByteText],
-    seen: &[ByteText],
+    seen: &TagNames,
 ) -> Result<Option<Fault>, Memory>
     ensures { IfOk result (λ found. found ≡ repeated_tag at tags.now seen.now) }
 {
     for tag in tags {
-        if is_among(tag.as_slice(), seen) {
+        if seen.contains(tag.as_slice()) {
             let name = text(alloc, tag.as_slice())?;
             return Ok(Some(Fault::DuplicateTag { at, name }));
         }

@@ -16,10 +16,11 @@ use Rattle.lx_split.specs.Marks.{begins_mark, mark_place, place_if_any}
 use Rattle.lx_split.specs.Openers.{from_opener, is_present, opener_at, word_of}
 use Rattle.lx_split.specs.Bodies.{after_block}
 use Rattle.lx_split.specs.Pieces.{Split, at_end, at_opener, before, block, body_before, file_start, opener_size, outside, pieces_from, pieces_of, pieces_without_marks, unless_marked}
-use Rattle.lx_split.specs.Cuts.{AreApart, AreAtPlaces, AreCut, HasNoMark, piece_text, source_text}
+use Rattle.lx_split.specs.Cuts.{AreApart, AreAtPlaces, AreCut, AreOpened, HasNoMark, piece_text, source_text}
 use Rattle.lx_split.proofs.BlockEnds.{IsEnd-split, after_block-closes}
 use Rattle.lx_split.proofs.Needles.{from_first-end}
 use Rattle.lx_split.proofs.OpenerTexts.{opener-text}
+use Rattle.lx_split.proofs.Openings.{AreOpened-last, AreOpened-outside, drop-behind}
 
 from_first-holds : (test : List ℕ → Bool) (text : List ℕ) → test (from_first test text) ≡ false → from_first test text ≡ []
 from_first-holds test [] fails = refl
@@ -125,13 +126,22 @@ module _ (options : Options) (kind : BlockKind) (rest tail : List ℕ) (opener :
     subst (λ (l : List ℕ). AreAtPlaces (place_after at l) pieces) (block-before at) places,
   )
 
+  pub AreOpened-block : (at : Pos) (pieces : List SourcePiece) → AreOpened options tail pieces → AreOpened options rest (block kind at rest tail ∷ pieces)
+  AreOpened-block at pieces opened =
+      let same = drop-behind (piece_text (block kind at rest tail)) tail rest (block-text at) in (
+        opener,
+        closed ∙ ap Some (sym same),
+        subst (λ (l : List ℕ). AreOpened options l pieces) (sym same) opened,
+      )
+
 -- what is true of the pieces that are found behind others
-record Behind (done : List SourcePiece) (at : Pos) (text : List ℕ) (pieces : List SourcePiece) : Type 0 where
+record Behind (options : Options) (done : List SourcePiece) (at : Pos) (text : List ℕ) (pieces : List SourcePiece) : Type 0 where
   more : List SourcePiece
   pieces_are : pieces ≡ done ++ more
   text_is : source_text more ≡ text
   places : AreAtPlaces at more
   apart : AreApart more
+  opened : AreOpened options text more
 
 -- pieces, and no fault
 abbrev all_pieces : List SourcePiece → Split
@@ -146,7 +156,7 @@ regrouped a b c d = simp append_assoc
 -- one step, where what is found behind the block is as said
 module _ (options : Options) (steps : ℕ) (done : List SourcePiece) (at : Pos) (text : List ℕ) (pieces : List SourcePiece)
     (enough : length text ≤ steps)
-    (later : (done : List SourcePiece) (at : Pos) (text : List ℕ) → length text < steps → pieces_from steps options done at text ≡ Ok pieces → Behind done at text pieces) where
+    (later : (done : List SourcePiece) (at : Pos) (text : List ℕ) → length text < steps → pieces_from steps options done at text ≡ Ok pieces → Behind options done at text pieces) where
   abbrev rest : List ℕ
   rest = from_opener options text
 
@@ -159,7 +169,7 @@ module _ (options : Options) (steps : ℕ) (done : List SourcePiece) (at : Pos) 
   text-split : text ≡ passed ++ rest
   text-split = IsEnd-split text rest rest-end
 
-  behind-nothing : opener_at options rest ≡ Absent → all_pieces (done ++ outside passed) ≡ Ok pieces → Behind done at text pieces
+  behind-nothing : opener_at options rest ≡ Absent → all_pieces (done ++ outside passed) ≡ Ok pieces → Behind options done at text pieces
   behind-nothing opener is =
       let none = from_first-holds (λ rest. is_present (opener_at options rest)) text (ap is_present opener) in
       let whole = text-split ∙ ap (λ (l : List ℕ). passed ++ l) none ∙ append-nil passed in record {
@@ -168,10 +178,11 @@ module _ (options : Options) (steps : ℕ) (done : List SourcePiece) (at : Pos) 
         text_is = outside-text passed ∙ sym whole;
         places = AreAtPlaces-last at passed;
         apart = AreApart-last passed;
+        opened = AreOpened-last options text passed text-split;
       }
 
   behind-block : (kind : BlockKind) (end : Option (List ℕ)) → opener_at options rest ≡ Opens kind → after_block kind (drop (opener_size kind) rest) ≡ end →
-      at_end (pieces_from steps options) (done ++ outside passed) kind (place_of_rest at text rest) rest end ≡ Ok pieces → Behind done at text pieces
+      at_end (pieces_from steps options) (done ++ outside passed) kind (place_of_rest at text rest) rest end ≡ Ok pieces → Behind options done at text pieces
   behind-block kind None opener closed is = absurd (cc)
   behind-block kind (Some tail) opener closed is =
       let own = place_of_rest at text rest in
@@ -186,16 +197,19 @@ module _ (options : Options) (steps : ℕ) (done : List SourcePiece) (at : Pos) 
             ∙ ap (λ (l : List ℕ). passed ++ l) (sym (block-text options kind rest tail opener closed own)) ∙ sym text-split;
         places = AreAtPlaces-outside at passed (item ∷ found.more) (AreAtPlaces-block options kind rest tail opener closed own found.more found.places);
         apart = AreApart-outside passed kind own rest tail found.more found.apart;
+        opened =
+            AreOpened-outside options text passed (item ∷ found.more) text-split
+            (AreOpened-block options kind rest tail opener closed own found.more found.opened);
       }
 
   behind-opener : (opener : Opener) → opener_at options rest ≡ opener →
-      at_opener (pieces_from steps options) (done ++ outside passed) (place_of_rest at text rest) rest opener ≡ Ok pieces → Behind done at text pieces
+      at_opener (pieces_from steps options) (done ++ outside passed) (place_of_rest at text rest) rest opener ≡ Ok pieces → Behind options done at text pieces
   behind-opener Absent opener is = behind-nothing opener is
   behind-opener Refused opener is = absurd (cc)
   behind-opener (Opens kind) opener is = behind-block kind (after_block kind (drop (opener_size kind) rest)) opener refl is
 
 cut_from : (options : Options) (steps : ℕ) (done : List SourcePiece) (at : Pos) (text : List ℕ) (pieces : List SourcePiece) → length text < steps →
-    pieces_from steps options done at text ≡ Ok pieces → Behind done at text pieces
+    pieces_from steps options done at text ≡ Ok pieces → Behind options done at text pieces
 cut_from options zero done at text pieces enough is = absurd (omega arith)
 cut_from options (suc steps) done at text pieces enough is =
     behind-opener options steps done at text pieces (omega arith)
@@ -247,3 +261,12 @@ pieces_of-cut options file bytes pieces is = at (mark_place (file_start file) by
           no_mark = none.no_mark;
           completes_no_mark = none.completes_no_mark;
         }
+
+pub pieces_of-opened : (options : Options) (file : ℕ) (bytes : List ℕ) (pieces : List SourcePiece) → pieces_of options file bytes ≡ Ok pieces →
+    AreOpened options bytes pieces
+pieces_of-opened options file bytes pieces is = at (mark_place (file_start file) bytes) is
+  where
+    at : (mark : Option Pos) → unless_marked mark (pieces_without_marks options file bytes) ≡ Ok pieces → AreOpened options bytes pieces
+    at (Some place) is = absurd (cc)
+    at None is =
+        let behind = cut_from options (suc (length bytes)) [] (file_start file) bytes pieces (omega arith) is in rw behind.pieces_are behind.opened

@@ -21,7 +21,8 @@ use Rattle.lx_split.specs.Pieces.{Split, at_end, at_opener, before, block, file_
 use Rattle.lx_split.specs.Cuts.{IsFaultOf, IsFaultBehind, IsOpenerFault, completed, faulty, marked, refused, unclosed, piece_text, source_text}
 use Rattle.lx_split.proofs.BlockEnds.{IsEnd-split}
 use Rattle.lx_split.proofs.Needles.{from_first-end}
-use Rattle.lx_split.proofs.Cutting.{AreAtPlaces-block, AreAtPlaces-last, AreAtPlaces-outside, block-before, block-shorter, block-text, outside-before, outside-text, unmarked}
+use Rattle.lx_split.proofs.Openings.{AreOpened-last, AreOpened-outside, from_first-before}
+use Rattle.lx_split.proofs.Cutting.{AreAtPlaces-block, AreAtPlaces-last, AreAtPlaces-outside, AreOpened-block, block-before, block-shorter, block-text, outside-before, outside-text, unmarked}
 
 -- a fault, and no pieces
 abbrev only_fault : Fault → Split
@@ -52,6 +53,7 @@ module _ (options : Options) (steps : ℕ) (done : List SourcePiece) (at : Pos) 
     rest = rest;
     text = rw (outside-text passed) (IsEnd-split text rest rest-end);
     at_places = AreAtPlaces-last at passed;
+    opened = AreOpened-last options text passed (IsEnd-split text rest rest-end);
     is_fault = rw (outside-text passed) is_fault;
   }
 
@@ -73,6 +75,9 @@ module _ (options : Options) (steps : ℕ) (done : List SourcePiece) (at : Pos) 
         rest = found.rest;
         text = rw bytes (whole ∙ regrouped passed (piece_text item) (source_text found.done) found.rest);
         at_places = AreAtPlaces-outside at passed (item ∷ found.done) (AreAtPlaces-block options kind rest tail opener closed own found.done found.at_places);
+        opened =
+            AreOpened-outside options text passed (item ∷ found.done) (IsEnd-split text rest rest-end)
+            (AreOpened-block options kind rest tail opener closed own found.done found.opened);
         is_fault = subst (λ (p : Pos). IsOpenerFault options p found.rest fault) (sym place) found.is_fault;
       }
 
@@ -110,20 +115,6 @@ from_first-test test (other ∷ text) letter found is = at (test (other ∷ text
         cond b (other ∷ text) (from_first test text) ≡ letter ∷ found → test (letter ∷ found) ≡ true
     at true holds later is = subst (λ l. test l ≡ true) is holds
     at false holds later is = later is
-
-from_first-before : (test : List ℕ → Bool) (text inner rest : List ℕ) → text ≡ inner ++ rest → length inner < length text - length (from_first test text) →
-    test rest ≡ false
-from_first-before test [] inner rest is less = absurd (omega arith)
-from_first-before test (letter ∷ text) inner rest is less =
-    at (test (letter ∷ text)) refl (from_first-before test text) inner is less
-  where
-    at : (b : Bool) → test (letter ∷ text) ≡ b →
-        ((inner rest : List ℕ) → text ≡ inner ++ rest → length inner < length text - length (from_first test text) → test rest ≡ false) →
-        (inner : List ℕ) → letter ∷ text ≡ inner ++ rest → length inner < length (letter ∷ text) - length (cond b (letter ∷ text) (from_first test text)) →
-        test rest ≡ false
-    at true holds later inner is less = absurd (omega arith)
-    at false holds later [] is less = subst (λ l. test l ≡ false) is holds
-    at false holds later (other ∷ inner) is less = later inner rest (cc) (omega arith)
 
 place_value : (given place : Pos) → Some given ≡ Some place → place ≡ given
 place_value given place is = cc

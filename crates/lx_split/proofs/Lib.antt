@@ -5,6 +5,7 @@ pub mod FirstMark
 pub mod Known
 pub mod Needles
 pub mod OpenerTexts
+pub mod Openings
 pub mod Passing
 pub mod Unclosed
 pub mod Walking

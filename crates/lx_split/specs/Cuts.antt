@@ -1,5 +1,5 @@
 -- What is true of the pieces of a source.
-use Rattle.std.specs.Prelude.{◌≡◌, ◌≢◌, ℕ, ◌<◌, Bool, true, false, List, [], ◌∷◌, ◌++◌, length, drop, codes, None}
+use Rattle.std.specs.Prelude.{◌≡◌, ◌≢◌, ℕ, ◌<◌, Bool, true, false, List, [], ◌∷◌, ◌++◌, length, drop, codes, Some, None}
 use Rattle.lx_base.specs.declared.blocks.BlockKind.{BlockKind}
 use Rattle.lx_base.specs.declared.places.Pos.{Pos}
 use Rattle.lx_base.specs.declared.settings.Options.{Options}
@@ -9,7 +9,7 @@ use Rattle.lx_token.specs.Places.{place_after}
 use Rattle.lx_split.specs.declared.pieces.SourcePiece.{SourcePiece}
 use Rattle.lx_split.specs.declared.pieces.SourcePiece.TheVariants.{Outside, Block}
 use Rattle.lx_split.specs.Marks.{begins_mark}
-use Rattle.lx_split.specs.declared.openers.Opener.TheVariants.{Refused, Opens}
+use Rattle.lx_split.specs.declared.openers.Opener.TheVariants.{Absent, Refused, Opens}
 use Rattle.lx_split.specs.Openers.{word_of, opener_at}
 use Rattle.lx_split.specs.Bodies.{after_block}
 use Rattle.lx_split.specs.Pieces.{opener_size}
@@ -47,6 +47,25 @@ AreApart (Block kind body at body_at end_line ∷ pieces) = AreApart pieces
 abbrev pub HasNoMark : List ℕ → Type 0
 HasNoMark bytes = (front tail : List ℕ) → bytes ≡ front ++ tail → begins_mark tail ≡ false
 
+-- at none of so many places from the front of a text on does an opener begin
+abbrev pub HasNoOpener : Options → (count : ℕ) → List ℕ → Type 0
+HasNoOpener options count bytes = (front tail : List ℕ) → bytes ≡ front ++ tail → length front < count → opener_at options tail ≡ Absent
+
+-- what follows a piece in a text that begins with it
+abbrev pub behind_piece : SourcePiece → List ℕ → List ℕ
+behind_piece piece bytes = drop (length (piece_text piece)) bytes
+
+-- in pieces at the front of a text, no opener begins in an outside text, also across its end; each block has its opener at
+-- its front, and ends where its body does
+abbrev pub AreOpened : Options → (bytes : List ℕ) → List SourcePiece → Type 0
+AreOpened options bytes [] = Unit {0}
+AreOpened options bytes (Outside text ∷ pieces) =
+    HasNoOpener options (length text) bytes × AreOpened options (behind_piece (Outside text) bytes) pieces
+AreOpened options bytes (Block kind body at body_at end_line ∷ pieces) =
+    (opener_at options bytes ≡ Opens kind)
+    × (after_block kind (drop (opener_size kind) bytes) ≡ Some (behind_piece (Block kind body at body_at end_line) bytes))
+    × AreOpened options (behind_piece (Block kind body at body_at end_line) bytes) pieces
+
 -- what is true of the pieces of a source that begins at a place
 pub record AreCut (start : Pos) (bytes : List ℕ) (pieces : List SourcePiece) : Type 0 where
   pub text : source_text pieces ≡ bytes
@@ -61,12 +80,14 @@ pub data IsOpenerFault (options : Options) (at : Pos) (text : List ℕ) (fault :
   unclosed : (kind : BlockKind) → opener_at options text ≡ Opens kind → after_block kind (drop (opener_size kind) text) ≡ None →
       fault ≡ Unclosed at → IsOpenerFault options at text fault
 
--- the fault of a source that begins at a place: behind some pieces of it stands an opener with this fault
+-- the fault of a source that begins at a place: behind some pieces of it stands an opener with this fault, and it is the first
+-- one, since all openers before it are those of pieces
 pub record IsFaultBehind (options : Options) (start : Pos) (bytes : List ℕ) (fault : Fault) : Type 0 where
   pub done : List SourcePiece
   pub rest : List ℕ
   pub text : bytes ≡ source_text done ++ rest
   pub at_places : AreAtPlaces start done
+  pub opened : AreOpened options bytes done
   pub is_fault : IsOpenerFault options (place_after start (source_text done)) rest fault
 
 -- the fault of a source with a mark: behind some bytes of it stands a mark, and none stands before

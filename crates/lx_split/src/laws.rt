@@ -3,7 +3,7 @@ ghost use Rattle.std.specs.Prelude.{◌≡◌, ℕ, List, Ok, Err};
 ghost use Rattle.lx_base.specs.declared.faults.Fault.{Fault};
 ghost use Rattle.lx_base.specs.declared.settings.Options.{Options};
 ghost use Rattle.lx_split.specs.declared.pieces.SourcePiece.{SourcePiece};
-ghost use Rattle.lx_split.specs.Cuts.{AreCut, IsFaultOf};
+ghost use Rattle.lx_split.specs.Cuts.{AreCut, AreOpened, IsFaultOf};
 ghost use Rattle.lx_split.specs.Pieces.{file_start, pieces_of};
 
 /// The pieces of a source put together give the source, each block has the places of its opener and its end, and no mark
@@ -13,8 +13,15 @@ pub fn pieces_are_the_source()
         pieces_of options file bytes ≡ Ok pieces → AreCut (file_start file) bytes pieces }
 {}
 
-/// The fault of a source is that of the first mark of emitted text in it, or else that of an opener that stands behind
-/// pieces of it.
+/// In the pieces of a source, no opener of a block begins in an outside text, also across its end; each block has its opener at
+/// its front, and ends where its body does.
+pub fn openers_begin_blocks()
+    ensures { (options : Options) (file : ℕ) (bytes : List ℕ) (pieces : List SourcePiece) →
+        pieces_of options file bytes ≡ Ok pieces → AreOpened options bytes pieces }
+{}
+
+/// The fault of a source is that of the first mark of emitted text in it, or else that of the first faulty opener, before
+/// which all openers are those of pieces.
 pub fn faults_stand_in_the_source()
     ensures { (options : Options) (file : ℕ) (bytes : List ℕ) (fault : Fault) →
         pieces_of options file bytes ≡ Err fault → IsFaultOf options (file_start file) bytes fault }

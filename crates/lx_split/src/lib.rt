@@ -8,7 +8,7 @@ mod openers;
 mod pieces;
 mod searches;
 
-pub use laws::{faults_stand_in_the_source, pieces_are_the_source};
+pub use laws::{faults_stand_in_the_source, openers_begin_blocks, pieces_are_the_source};
 pub use pieces::{Pieces, SourcePiece, split};
 
 #[cfg(test)]

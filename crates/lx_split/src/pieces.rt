@@ -131,7 +131,8 @@ fn cut(alloc: Global, bytes: &[u8], file: u32, opts: &Options) -> Result<Pieces,
 /// It refuses with `MarkInSource` exactly where a mark of emitted text stands in the file, at the first one; the last `/`
 /// before an output counts as one before the file. Else it refuses at the first opener from the left that is faulty: with
 /// `Directive` where its word holds `re2c` and opens no block, or none under these options, and with `Unclosed` where its
-/// block, or a comment or an action in it, is not closed. `Memory` comes only where memory runs out.
+/// block, or a comment or an action in it, is not closed. `Memory` says that memory is wanting; it may be answered at each
+/// source, and no clause ties it to a cause.
 pub fn split(alloc: Global, bytes: &[u8], file: u32, opts: &Options) -> Result<Pieces, Stop>
     requires { length bytes.now ≤ 16777216 }
     ensures { MatchResult result (λ pieces. pieces_of opts.now file bytes.now ≡ Ok pieces) (StopsWith (pieces_of opts.now file bytes.now)) }

@@ -1,3 +1,4 @@
+pub mod ClassParts
 pub mod Digits
 pub mod Ends
 pub mod Escapes

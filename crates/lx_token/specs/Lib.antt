@@ -1,6 +1,7 @@
 pub mod Blanks
 pub mod Braces
 pub mod Characters
+pub mod ClassParts
 pub mod Classes
 pub mod Items
 pub mod Numbers

@@ -117,7 +117,8 @@ fn after_escape(text: &[u8]) -> &[u8]
 
 /// The characters of a token of kind `Str`, `IStr` or `Class`, by its text.
 ///
-/// An escape is one character, and so is any other byte. `Memory` comes only where memory runs out.
+/// An escape is one character, and so is any other byte. `Memory` says that memory is
+/// wanting; it may be answered at each text, and no clause ties it to a cause.
 pub fn characters_of(alloc: Global, text: &[u8]) -> Result<Sequence<Character>, Memory>
     ensures { IfOk result (λ characters. characters ≡ characters_of text.now) }
 {

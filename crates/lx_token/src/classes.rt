@@ -1,5 +1,7 @@
 //! The ranges of classes.
-ghost use Rattle.std.specs.Prelude.{◌≡◌, false, None, OnOk, IfOk, IfErr, ◌++◌};
+ghost use Rattle.std.specs.Prelude.{◌≡◌, false, true, List, None, OnOk, IfOk, IfErr, ◌++◌, map};
+ghost use Rattle.lx_token.specs.ClassParts.{AreParts, ClassPart, IsParted, characters_in, part_range};
+ghost use Rattle.lx_token.specs.declared.characters.Character.{Character};
 ghost use Rattle.lx_token.specs.Classes.{between, class_of, is_plain, ranges_behind};
 
 use crate::characters::{Character, characters_of};
@@ -77,7 +79,8 @@ fn ranges_of(alloc: Global, characters: &[Character]) -> Result<Sequence<PointRa
 /// The class of a token of kind `Class`, by its text.
 ///
 /// `a-b` is a range, with its bounds exchanged where they are swapped. A `-` that stands first, last or directly behind a
-/// range is a point, and so are a `-` or a `^` that are escaped. `Memory` comes only where memory runs out.
+/// range is a point, and so are a `-` or a `^` that are escaped. `Memory` says that
+/// memory is wanting; it may be answered at each text, and no clause ties it to a cause.
 pub fn class_of(alloc: Global, text: &[u8]) -> Result<Class, Memory>
     ensures { IfOk result (λ class. class ≡ class_of text.now) }
 {
@@ -89,3 +92,11 @@ pub fn class_of(alloc: Global, text: &[u8]) -> Result<Class, Memory>
     let ranges = ranges_of(alloc, items)?;
     Ok(Class { is_negated, ranges })
 }
+
+/// Where a `-` in a class is a point, and where it makes a range: the characters of a class, behind a leading `^`, are parts,
+/// each of which is a point or a range; and whatever parts they are, the class has the ranges of these, in this order. It does
+/// nothing, and its contract is the law.
+pub fn classes_have_the_ranges_of_their_parts()
+    ensures parts { (characters : List Character) → IsParted true characters }
+    ensures ranges { (parts : List ClassPart) → AreParts true parts → ranges_behind None false (characters_in parts) ≡ map part_range parts }
+{}

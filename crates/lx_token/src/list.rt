@@ -32,7 +32,8 @@ pub type TokenList = Sequence<Token>;
 /// Blanks and comments are passed over, and then the longest token of all kinds is taken. A comment or an action that is
 /// not closed begins no token.
 ///
-/// It refuses with `BadToken` exactly at the first byte where no token begins; `Memory` comes only where memory runs out.
+/// It refuses with `BadToken` exactly at the first byte where no token begins. `Memory` says that memory is
+/// wanting; it may be answered at each body, and no clause ties it to a cause.
 pub fn tokens(alloc: Global, body: &[u8], at: Pos) -> Result<TokenList, Stop>
     requires size { length body.now ≤ 16777216 }
     requires line { at.line ≤ 16777217 }

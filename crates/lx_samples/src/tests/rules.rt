@@ -161,7 +161,7 @@ fn faults_stand_at_their_tokens(rt: HostRuntime) -> Result<(), Fail> {
         ("re2c:yyfill = 0;", "unknown configuration at 1:1"),
         ("re2c:eof = 0;", "unsupported at 1:1"),
         ("re2c:yyfill:enable = 2;", "bad value at 1:22"),
-        ("re2c:yyfill:enable = 'x';", "unsupported at 1:22"),
+        ("re2c:yyfill:enable = 'x';", "bad value at 1:22"),
         ("#t { }", "unsupported at 1:1"),
         ("\"ab\" \\ [b] | \"c\" { }", "not a class at 1:6"),
         ("\"a\"* / x { }", "unsupported at 1:6"),

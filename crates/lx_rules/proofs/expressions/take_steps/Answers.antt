@@ -12,7 +12,7 @@ loop-step-init c =
     let none = ap length c.new-operands.ensures.none in record {
       taken = record { after = no_operands; goes = ends; stands = c.new-operands.ensures.stands c.args.reader.room };
       order = subst (λ n. AreInOrder n (map (step_view (lexemes_view c.args.lexemes)) c.args.steps.now)) (sym none) c.requires.order;
-      honest = c.new-operands.ensures.honest (length c.new-operands.result.seen.items);
+      honest = c.new-operands.ensures.honest (length c.new-operands.result.seen);
     }
 
 pub take-requires-clause-needs : goal.take-requires-clause-needs

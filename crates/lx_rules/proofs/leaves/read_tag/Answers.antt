@@ -13,26 +13,26 @@ use Rattle.lx_rules.proofs.leaves.read_tag.Goals as goal
 pub returns-clause-read : goal.returns-clause-read
 returns-clause-read c =
     let reader = c.args.reader in
-    let before = c.args.seen.now.items in
+    let before = c.args.seen.now in
     let lexeme = lexeme_view c.args.lexeme.now in
     let number = length before in
-    let count : c.len-number.result ≡ number = omega (arith, c.len-number.ensures, c.args.seen.now.ok.0) in
+    let count : c.len-number.result ≡ number = c.len-number.ensures in
     let meaning = tag_meaning number (tag_name lexeme) in
     let tags : c.sum-tags.result ≡ kept (suc number) = omega (arith, c.sum-tags.ensures, count) in
     let content =
     c.tag_content-content.ensures.stands (is_built reader.room meaning) (tag_name lexeme)
     (λ past. fits-tagged reader.room c.requires.room 1 0 (suc number) (omega (arith, past, count))) in
-    let among = ap₂ is_among (sym c.tag_name-name.ensures) (sym c.as_slice.ensures.value) ∙ sym c.if-is_among.ensures in
+    let among = ap (λ name. is_among name before) (sym c.tag_name-name.ensures) ∙ sym c.if-contains.ensures in
     kind-read reader.options.now (definitions_view reader.definitions.now) reader.room c.args.is_operand before lexeme kind.STag c.requires.sort
-    (tag_fault-none reader.options.now (definitions_view reader.definitions.now) reader.room c.args.is_operand before lexeme c.if-not-reader.false among) meaning refl c.add_copy.new.names.items
-    (c.in_ok-add_copy.ensures ∙ ap (λ name. before ++ name ∷ []) c.tag_name-name.ensures) c.in_ok-limited.field-0
+    (tag_fault-none reader.options.now (definitions_view reader.definitions.now) reader.room c.args.is_operand before lexeme c.if-not-reader.false among) meaning refl c.push.new.self
+    (c.in_ok-push.ensures ∙ ap (λ name. before ++ name ∷ []) c.tag_name-name.ensures) c.in_ok-limited.field-0
     (c.in_ok-limited.ensures.stands meaning (record { size_is = refl; nesting_is = refl; tags_is = tags })
     (subst (λ k. IsContent (is_built reader.room meaning) (tag_meaning k (tag_name lexeme)) c.tag_content-content.result) count content))
 
 pub returns-clause-honest : goal.returns-clause-honest
 returns-clause-honest c =
     let size = c.tag_content-content.ensures.size in
-    let more : length c.add_copy.new.names.items ≡ suc c.len-number.result =
-    ap length c.in_ok-add_copy.ensures ∙ length-append c.args.seen.now.items (c.tag_name-name.result.now ∷ []) ∙ omega (arith, c.len-number.ensures, c.args.seen.now.ok.0) in
-    c.in_ok-limited.ensures.honest (length c.add_copy.new.names.items) (omega arith) (λ small. omega (arith, size))
+    let more : length c.push.new.self ≡ suc c.len-number.result =
+    ap length c.in_ok-push.ensures ∙ length-append c.args.seen.now (c.tag_name-name.result.now ∷ []) ∙ omega (arith, c.len-number.ensures) in
+    c.in_ok-limited.ensures.honest (length c.push.new.self) (omega arith) (λ small. omega (arith, size))
     (subst (λ count. AreTagsBelow count c.tag_content-content.result) (sym more) c.tag_content-content.ensures.tags)

@@ -4,7 +4,7 @@ use Rattle.lx_rules.proofs.expressions.Operands.join.Goals as goal
 
 pub returns-clause-honest : goal.returns-clause-honest
 returns-clause-honest c honest =
-    let count = length c.args.self.now.seen.items in
+    let count = length c.args.self.now.seen in
     let middle = c.pop-back.new.self.values.items in
     let front = c.pop.new.self.values.items in
     let rest = honest_front count middle c.args.self.now.values.items c.pop-back.result c.pop-back.ensures.values honest in

@@ -13,8 +13,8 @@ returns-clause-stands c operands are =
 pub returns-clause-honest : goal.returns-clause-honest
 returns-clause-honest c honest =
     let read = c.in-Ok.ensures.read in
-    let all = ap length read.seen ∙ length-append c.args.self.now.seen.items read.meaning.tags in
+    let all = ap length read.seen ∙ length-append c.args.self.now.seen read.meaning.tags in
     rw c.in_ok-push.ensures.seen
-    (honest_all (length c.read_leaf.new.seen.items) c.args.self.now.values.items c.push.new.self.values.items c.in-Ok.value c.in_ok-push.ensures.values
-    (honest_more (length c.args.self.now.seen.items) (length c.read_leaf.new.seen.items) (omega (arith, all)) c.args.self.now.values.items honest)
+    (honest_all (length c.read_leaf.new.seen) c.args.self.now.values.items c.push.new.self.values.items c.in-Ok.value c.in_ok-push.ensures.values
+    (honest_more (length c.args.self.now.seen) (length c.read_leaf.new.seen) (omega (arith, all)) c.args.self.now.values.items honest)
     c.in-Ok.ensures.honest)

@@ -4,7 +4,7 @@ use Rattle.lx_rules.proofs.expressions.Operands.repeat.Goals as goal
 
 pub returns-clause-honest : goal.returns-clause-honest
 returns-clause-honest c honest =
-    let count = length c.args.self.now.seen.items in
+    let count = length c.args.self.now.seen in
     let front = c.pop.new.self.values.items in
     rw c.in_ok-push.ensures.seen (rw c.pop.ensures.seen
     (honest_all count front c.push.new.self.values.items c.in_ok-value.value c.in_ok-push.ensures.values

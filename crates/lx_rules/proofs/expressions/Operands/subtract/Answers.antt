@@ -23,7 +23,7 @@ returns-clause-stands c operands are =
 
 pub returns-clause-honest : goal.returns-clause-honest
 returns-clause-honest c honest =
-    let count = length c.args.self.now.seen.items in
+    let count = length c.args.self.now.seen in
     let middle = c.pop-right.new.self.values.items in
     let front = c.pop-left.new.self.values.items in
     let rest = honest_front count middle c.args.self.now.values.items c.pop-right.result c.pop-right.ensures.values honest in
