@@ -2,3 +2,4 @@ pub mod Automaton
 pub mod Bank
 pub mod Examples
 pub mod Run
+pub mod SameRun

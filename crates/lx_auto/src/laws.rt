@@ -3,6 +3,7 @@ ghost use Rattle.std.specs.Prelude.{◌≡◌, ◌↔◌, ℕ, ◌<◌, ◌≤�
 ghost use Rattle.lx_auto.specs.Automaton.{IsAuto, edge_on, state_of};
 ghost use Rattle.lx_auto.specs.Bank.{Bank, bank_after, history_added};
 ghost use Rattle.lx_auto.specs.Run.{Standing, and_then, at_start, run, step};
+ghost use Rattle.lx_auto.specs.SameRun.{HasSameRun};
 ghost use Rattle.lx_auto.specs.declared.automaton.Auto.{Auto};
 ghost use Rattle.lx_auto.specs.declared.automaton.Edge.{Edge};
 ghost use Rattle.lx_auto.specs.declared.ops.Op.{Op};
@@ -25,6 +26,12 @@ pub fn runs_go_on_by_steps()
 pub fn runs_stay_within_the_automaton()
     ensures { (auto : Auto) (offset : ℕ) (word : List ℕ) (behind : Standing) → IsAuto auto
         → run auto (at_start offset) word ≡ Some behind → (behind.state < length auto.states) × (behind.bank.mregs 0 ≡ []) }
+{}
+
+/// An automaton runs as itself; and where it runs as another, it runs as all that the other runs as.
+pub fn same_runs_go_through()
+    ensures reflexive { (auto : Auto) → HasSameRun auto auto }
+    ensures transitive { (auto middle given : Auto) → HasSameRun auto middle → HasSameRun middle given → HasSameRun auto given }
 {}
 
 /// A copy at the end of a list gives what was held before the list acts; into an m-register it comes before all that the list

@@ -9,8 +9,9 @@ use Rattle.lx_auto.specs.declared.automaton.Edge.{Edge}
 use Rattle.lx_auto.proofs.Runs.{run-one_more}
 use Rattle.lx_base.specs.declared.settings.Enc.{Enc}
 use Rattle.lx_regex.specs.Match.{Takes}
+use Rattle.lx_regex.specs.Order.{Policy}
 use Rattle.lx_regex.specs.Pattern.{Pattern}
-use Rattle.lx_tdfa.specs.Promise.{FindsBest, IsAutoOf, IsBest}
+use Rattle.lx_tdfa.specs.Promise.{FindsBest, IsAutoUnder, IsBest}
 use Rattle.lx_gen.specs.Stops.{Stops, last_standing, or_here, or_later}
 
 same_cons : (letter unit : ℕ) (text other : List ℕ) → letter ≡ unit → text ≡ other → letter ∷ text ≡ unit ∷ other
@@ -51,13 +52,13 @@ front_or_whole word other more unit same = by (fronts word (unit ∷ []) other m
         let none : length more ≡ 0 = omega (arith, e, l, both) in
         inr (same ∙ ap (λ l. other ++ l) (nothing_left more none) ∙ append-nil other)
 
-module _ (enc : Enc) (patterns : List Pattern) (start : ℕ) where
+module _ (policy : Policy) (enc : Enc) (patterns : List Pattern) (start : ℕ) where
   -- the longest front of a word that some rule takes, and what is found there
   pub record IsBestFront (word : List ℕ) (found : Found) : Type 0 where
     pub front : List ℕ
     pub back : List ℕ
     pub splits : word ≡ front ++ back
-    pub best : IsBest enc patterns start front found
+    pub best : IsBest policy enc patterns start front found
     pub longest : (other more : List ℕ) (place : ℕ) → word ≡ other ++ more → Takes enc patterns place other → length other ≤ length front
 
   -- or no front is taken
@@ -65,7 +66,7 @@ module _ (enc : Enc) (patterns : List Pattern) (start : ℕ) where
   BestFront word None = (other more : List ℕ) (place : ℕ) → word ≡ other ++ more → Takes enc patterns place other → ⊥
   BestFront word (Some found) = IsBestFront word found
 
-  whole_best : (word : List ℕ) (found : Found) → IsBest enc patterns start word found → IsBestFront word found
+  whole_best : (word : List ℕ) (found : Found) → IsBest policy enc patterns start word found → IsBestFront word found
   whole_best word found best = record {
     front = word;
     back = [];
@@ -74,7 +75,7 @@ module _ (enc : Enc) (patterns : List Pattern) (start : ℕ) where
     longest = λ other more place same takes. let l = length-append other more in let e = ap length same in omega (arith, e, l);
   }
 
-  BestFront-start : (here : Option Found) → FindsBest enc patterns start [] here → BestFront [] (or_else here None)
+  BestFront-start : (here : Option Found) → FindsBest policy enc patterns start [] here → BestFront [] (or_else here None)
   BestFront-start (Some found) best = whole_best [] found best
   BestFront-start None none = λ other more place same takes. by other more place same takes
     where
@@ -82,7 +83,7 @@ module _ (enc : Enc) (patterns : List Pattern) (start : ℕ) where
       by [] more place same takes = none place takes
       by (unit ∷ other) more place same takes = absurd (cc)
 
-  BestFront-more : (word : List ℕ) (unit : ℕ) (here last : Option Found) → FindsBest enc patterns start (word ++ unit ∷ []) here → BestFront word last
+  BestFront-more : (word : List ℕ) (unit : ℕ) (here last : Option Found) → FindsBest policy enc patterns start (word ++ unit ∷ []) here → BestFront word last
       → BestFront (word ++ unit ∷ []) (or_else here last)
   BestFront-more word unit (Some found) last best before = whole_best (word ++ unit ∷ []) found best
   BestFront-more word unit None None none before = λ other more place same takes. by other place takes (front_or_whole word other more unit same)
@@ -104,7 +105,7 @@ module _ (enc : Enc) (patterns : List Pattern) (start : ℕ) where
       by other place takes (inl within) = before.longest other within.0 place within.1 takes
       by other place takes (inr e) = absurd (none place (subst (λ l. Takes enc patterns place l) (sym e) takes))
 
-module _ (enc : Enc) (patterns : List Pattern) (auto : Auto) (is : IsAutoOf enc patterns auto) (start : ℕ) (bank : Bank)
+module _ (policy : Policy) (enc : Enc) (patterns : List Pattern) (auto : Auto) (is : IsAutoUnder policy enc patterns auto) (start : ℕ) (bank : Bank)
     (empty : bank.mregs 0 ≡ []) where
   abbrev pub RunsTo : List ℕ → Standing → Type 0
   RunsTo word standing = run auto (start_with start bank) word ≡ Some standing
@@ -117,7 +118,7 @@ module _ (enc : Enc) (patterns : List Pattern) (auto : Auto) (is : IsAutoOf enc 
     pub splits : stream ≡ passed ++ unit ∷ left
     pub runs : RunsTo passed last
     pub no_edge : step auto last unit ≡ None
-    pub best : BestFront enc patterns start passed (found_behind auto last)
+    pub best : BestFront policy enc patterns start passed (found_behind auto last)
     pub offset : last.offset ≡ start + length passed
 
   step-offset : (standing next : Standing) (unit : ℕ) → step auto standing unit ≡ Some next → next.offset ≡ suc standing.offset
@@ -127,14 +128,14 @@ module _ (enc : Enc) (patterns : List Pattern) (auto : Auto) (is : IsAutoOf enc 
       by None e = absurd (cc)
       by (Some edge) e = let same : behind_edge (state_of auto.states standing.state) standing edge ≡ next = cc in ap (λ s. s.offset) (sym same)
 
-  stopped_from : (w passed : List ℕ) (standing : Standing) → RunsTo passed standing → BestFront enc patterns start passed (found_behind auto standing)
+  stopped_from : (w passed : List ℕ) (standing : Standing) → RunsTo passed standing → BestFront policy enc patterns start passed (found_behind auto standing)
       → standing.offset ≡ start + length passed → Stops auto standing w → IsStopped (passed ++ w) (last_standing auto standing w)
   stopped_from [] passed standing runs best offset stops = absurd stops
   stopped_from (v ∷ w) passed standing runs best offset stops =
       by (step auto standing v) refl stops (λ next. stopped_from w (passed ++ v ∷ []) next)
     where
       by : (o : Option Standing) → step auto standing v ≡ o → or_later o (λ next. Stops auto next w)
-          → ((next : Standing) → RunsTo (passed ++ v ∷ []) next → BestFront enc patterns start (passed ++ v ∷ []) (found_behind auto next)
+          → ((next : Standing) → RunsTo (passed ++ v ∷ []) next → BestFront policy enc patterns start (passed ++ v ∷ []) (found_behind auto next)
           → next.offset ≡ start + length (passed ++ v ∷ []) → Stops auto next w → IsStopped ((passed ++ v ∷ []) ++ w) (last_standing auto next w))
           → IsStopped (passed ++ v ∷ w) (or_here standing o (λ next. last_standing auto next w))
       by None stepped stops again = record {
@@ -152,8 +153,8 @@ module _ (enc : Enc) (patterns : List Pattern) (auto : Auto) (is : IsAutoOf enc 
           ∙ ap (λ o. and_then o (λ last. step auto last v)) runs ∙ stepped in
           let kept = is.kept start bank passed standing next v empty runs stepped in
           let here = is.best start bank (passed ++ v ∷ []) next empty ran in
-          let more = BestFront-more enc patterns start passed v (found_at auto next) (found_behind auto standing) here best in
-          let more' = subst (λ o. BestFront enc patterns start (passed ++ v ∷ []) (or_else (found_at auto next) o)) (sym kept) more in
+          let more = BestFront-more policy enc patterns start passed v (found_at auto next) (found_behind auto standing) here best in
+          let more' = subst (BestFront policy enc patterns start (passed ++ v ∷ [])) (sym kept) more in
           let l : length (passed ++ v ∷ []) ≡ length passed + 1 = length-append passed (v ∷ []) in
           let off = step-offset standing next v stepped in
           subst (λ s. IsStopped s (last_standing auto next w)) (append_assoc passed (v ∷ []) w)
@@ -162,5 +163,5 @@ module _ (enc : Enc) (patterns : List Pattern) (auto : Auto) (is : IsAutoOf enc 
   pub stopped : (stream : List ℕ) → Stops auto (start_with start bank) stream → IsStopped stream (last_standing auto (start_with start bank) stream)
   stopped stream stops =
       let here = is.best start bank [] (start_with start bank) empty refl in
-      stopped_from stream [] (start_with start bank) refl (BestFront-start enc patterns start (found_at auto (start_with start bank)) here)
+      stopped_from stream [] (start_with start bank) refl (BestFront-start policy enc patterns start (found_at auto (start_with start bank)) here)
       (omega arith) stops

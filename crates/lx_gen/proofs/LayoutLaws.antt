@@ -14,11 +14,12 @@ use Rattle.lx_ccode.specs.Runs.{entry_block, run_of}
 use Rattle.lx_ccode.specs.Schedules.{Schedule}
 use Rattle.lx_ccode.specs.Statements.{all_statements, code_of, is_refill}
 use Rattle.lx_ccode.specs.declared.piece.Piece.{Piece}
+use Rattle.lx_regex.specs.Order.{Policy}
 use Rattle.lx_regex.specs.Pattern.{Pattern}
-use Rattle.lx_tdfa.specs.Promise.{IsAutoOf}
+use Rattle.lx_tdfa.specs.Promise.{IsAutoUnder}
 use Rattle.lx_gen.specs.Endings.{Ending}
 use Rattle.lx_gen.specs.Layout.{StandsFrom, fall_block, layout, place_by, place_in, place_of, rule_block}
-use Rattle.lx_gen.specs.Right.{AreEndsOf, IsRightIn}
+use Rattle.lx_gen.specs.Right.{AreEndsOf, IsRightUnder}
 use Rattle.lx_gen.specs.Sequences.{one_by_one}
 use Rattle.lx_gen.specs.Starts.{run_with}
 use Rattle.lx_gen.specs.Turns.{after_ops}
@@ -35,19 +36,19 @@ place_in-0 greatest auto rules fall from (state ∷ states) = by state.edges
     by [] = refl
     by (edge ∷ edges) = refl
 
-pub layout_right : (enc : Enc) (patterns : List Pattern) (auto : Auto) (endings : ℕ → Ending) (piece : Piece) (from : ℕ) (cond : List ℕ)
-    → IsAutoOf enc patterns auto → AreEndsOf enc patterns endings
+pub layout_right : (policy : Policy) (enc : Enc) (patterns : List Pattern) (auto : Auto) (endings : ℕ → Ending) (piece : Piece) (from : ℕ) (cond : List ℕ)
+    → IsAutoUnder policy enc patterns auto → AreEndsOf enc patterns endings
     → StandsFrom (code_of piece.blocks) from (layout endings (greatest_unit enc) auto from)
     → list_any is_refill (all_statements piece.blocks) ≡ false → entry_block piece.conds cond ≡ Some from
-    → IsRightIn cond enc patterns endings piece
-layout_right enc patterns auto endings piece from cond is ends stands quiet entry =
+    → IsRightUnder policy cond enc patterns endings piece
+layout_right policy enc patterns auto endings piece from cond is ends stands quiet entry =
     let greatest : ℕ = greatest_unit enc in
     let rules : ℕ → ℕ = rule_block greatest auto from in
     let fall : ℕ = fall_block greatest auto from in
-    let serves = layout_serves endings greatest auto from (code_of piece.blocks) stands is.formed is.units is.agreed in
+    let serves = layout_serves endings greatest auto from (code_of piece.blocks) stands is.fits.formed is.fits.units is.fits.agreed in
     let first : entry_block piece.conds cond ≡ Some (place_of greatest auto from 0) =
     entry ∙ ap (λ n. Some n) (sym (place_in-0 greatest auto rules fall from auto.states)) in
-    served_right enc patterns auto endings piece (place_of greatest auto from) (number_in auto.states) rules fall cond is ends serves quiet first
+    served_right policy enc patterns auto endings piece (place_of greatest auto from) (number_in auto.states) rules fall cond is ends serves quiet first
 
 pub run_of-fresh : (piece : Piece) (stream : List ℕ) (start : ℕ) (cond : List ℕ) (schedule : Schedule)
     → run_of piece stream start cond schedule ≡ run_with piece stream start (λ register. None) (λ history. []) cond schedule

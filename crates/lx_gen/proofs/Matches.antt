@@ -16,12 +16,12 @@ use Rattle.lx_ccode.specs.Statements.{all_statements, code_of, is_refill}
 use Rattle.lx_regex.specs.Cut.{BeginsMatch}
 use Rattle.lx_regex.specs.Kernel.{IsWord}
 use Rattle.lx_regex.specs.Match.{IsEnd, IsMatch, IsWordAt, Outcome, Takes, by_none, by_rule, matched, part_at, unmatched}
-use Rattle.lx_regex.specs.Order.{greedy}
+use Rattle.lx_regex.specs.Order.{Policy}
 use Rattle.lx_regex.specs.Pattern.{Pattern, terms_of, with_terms}
 use Rattle.lx_regex.proofs.Beginnings.{front_begins, taken_begins}
-use Rattle.lx_tdfa.specs.Promise.{IsAutoOf, tag_value}
+use Rattle.lx_tdfa.specs.Promise.{IsAutoUnder, tag_value}
 use Rattle.lx_gen.specs.Endings.{Ending}
-use Rattle.lx_gen.specs.Right.{AreEndsOf, IsRightIn, IsSetBy}
+use Rattle.lx_gen.specs.Right.{AreEndsOf, IsRightUnder, IsSetBy}
 use Rattle.lx_gen.specs.Serving.{Serves}
 use Rattle.lx_gen.specs.Stops.{Stops, bank_from, last_standing, or_later, told_found}
 use Rattle.lx_gen.specs.Told.{put_back, slash_value, told_at, told_by, told_of, told_with}
@@ -57,7 +57,7 @@ same_behind (unit ∷ front) a b e = let h : front ++ a ≡ front ++ b = cc in s
 All-at : {A : Type 0} (P : A → Type 0) (xs : List A) (i : ℕ) (x : A) → slice_get xs i ≡ Some x → All P xs → P x
 All-at P xs i x e h = subst (λ y. P y) (get_or_from_slice_get xs i x x e) (All-get_or P xs i x (slice_get_within xs i x e) h)
 
-module _ (enc : Enc) (patterns : List Pattern) (auto : Auto) (is : IsAutoOf enc patterns auto) (endings : ℕ → Ending)
+module _ (policy : Policy) (enc : Enc) (patterns : List Pattern) (auto : Auto) (is : IsAutoUnder policy enc patterns auto) (endings : ℕ → Ending)
     (ends : AreEndsOf enc patterns endings)
     (stream : List ℕ) (start : ℕ) (bank : Bank) (empty : bank.mregs 0 ≡ []) (units : IsWord enc (terms_of patterns) (drop start stream)) where
   abbrev Begins : List ℕ → Type 0
@@ -82,7 +82,7 @@ module _ (enc : Enc) (patterns : List Pattern) (auto : Auto) (is : IsAutoOf enc 
       ∙ ap (option_map (λ (pattern : Pattern). pattern.term)) takes.1 in
       taken_begins enc (terms_of patterns) place takes.0.term word at takes.2
 
-  module _ (last : Standing) (stop : IsStopped enc patterns auto is start bank empty (drop start stream) last) where
+  module _ (last : Standing) (stop : IsStopped policy enc patterns auto is start bank empty (drop start stream) last) where
     passed_at : IsWordAt stream start stop.passed
     passed_at = (stop.unit ∷ stop.left, stop.splits)
 
@@ -125,15 +125,15 @@ module _ (enc : Enc) (patterns : List Pattern) (auto : Auto) (is : IsAutoOf enc 
         by (inr longer) =
             absurd (ends_there longer.0 longer.1 (subst (λ l. IsWordAt stream start l) longer.2 at) (subst (λ l. Begins l) longer.2 begun))
 
-    no_end : (rule : ℕ) → IsEnd greedy enc patterns stream start rule → ⊥
+    no_end : (rule : ℕ) → IsEnd policy enc patterns stream start rule → ⊥
     no_end rule end = let e = sym ends.no_end ∙ end.1 in cc
 
     -- the match, and what is told of it
     Told : Option Found → Type 0
-    Told found = (cond : List ℕ) → (outcome : Outcome) × IsMatch greedy enc patterns stream start outcome
+    Told found = (cond : List ℕ) → (outcome : Outcome) × IsMatch policy enc patterns stream start outcome
         × (told_found endings cond found last.offset ≡ told_of endings cond outcome)
 
-    match_told : (found : Option Found) → BestFront enc patterns start stop.passed found → Told found
+    match_told : (found : Option Found) → BestFront policy enc patterns start stop.passed found → Told found
     unfolding Told
     match_told None none cond =
         let longest : (other : List ℕ) → IsWordAt stream start other → Begins other
@@ -181,7 +181,7 @@ module _ (enc : Enc) (patterns : List Pattern) (auto : Auto) (is : IsAutoOf enc 
 
   pub outcome_told : (word : List ℕ) → IsWordAt stream start word → (Begins word → ⊥) → (cond : List ℕ)
       → Stops auto (start_with start bank) (drop start stream)
-      × ((outcome : Outcome) × IsMatch greedy enc patterns stream start outcome
+      × ((outcome : Outcome) × IsMatch policy enc patterns stream start outcome
       × (told_found endings cond (found_behind auto (last_standing auto (start_with start bank) (drop start stream)))
       (last_standing auto (start_with start bank) (drop start stream)).offset
       ≡ told_of endings cond outcome))
@@ -189,22 +189,22 @@ module _ (enc : Enc) (patterns : List Pattern) (auto : Auto) (is : IsAutoOf enc 
   outcome_told word at none cond =
       let stops = stops_there word at none in
       let last : Standing = last_standing auto (start_with start bank) (drop start stream) in
-      let stop = stopped enc patterns auto is start bank empty (drop start stream) stops in (
+      let stop = stopped policy enc patterns auto is start bank empty (drop start stream) stops in (
         stops,
         match_told (last_standing auto (start_with start bank) (drop start stream)) stop
             (found_behind auto (last_standing auto (start_with start bank) (drop start stream))) stop.best cond,
       )
 
 -- a piece that asks for no refill, in a condition whose block is that of state 0
-pub served_right : (enc : Enc) (patterns : List Pattern) (auto : Auto) (endings : ℕ → Ending) (piece : Piece) (place kept rules : ℕ → ℕ) (fall : ℕ)
+pub served_right : (policy : Policy) (enc : Enc) (patterns : List Pattern) (auto : Auto) (endings : ℕ → Ending) (piece : Piece) (place kept rules : ℕ → ℕ) (fall : ℕ)
     (cond : List ℕ)
-    → IsAutoOf enc patterns auto → AreEndsOf enc patterns endings
+    → IsAutoUnder policy enc patterns auto → AreEndsOf enc patterns endings
     → Serves endings (greatest_unit enc) auto (code_of piece.blocks) place kept rules fall
     → list_any is_refill (all_statements piece.blocks) ≡ false → entry_block piece.conds cond ≡ Some (place 0)
-    → IsRightIn cond enc patterns endings piece
-served_right enc patterns auto endings piece place kept rules fall cond is ends serves quiet entry stream start schedule word registers histories le units legal at none empty =
+    → IsRightUnder policy cond enc patterns endings piece
+served_right policy enc patterns auto endings piece place kept rules fall cond is ends serves quiet entry stream start schedule word registers histories le units legal at none empty =
     let bank : Bank = bank_from registers histories in
-    let told = outcome_told enc patterns auto is endings ends stream start (bank_from registers histories) empty units word at none cond in
-    let ran = run_found piece stream start endings (greatest_unit enc) auto place kept rules fall serves is.formed cond entry le
+    let told = outcome_told policy enc patterns auto is endings ends stream start (bank_from registers histories) empty units word at none cond in
+    let ran = run_found piece stream start endings (greatest_unit enc) auto place kept rules fall serves is.fits.formed cond entry le
     (IsWord-units enc patterns (drop start stream) units) registers histories told.0 schedule (legal.whole quiet) in
     (told.1.0, told.1.1, ran ∙ told.1.2)

@@ -1,12 +1,14 @@
 -- The endings of rules are those of their numbers, and the ends of rules without a trailing context are as the law of layouts asks.
-use Rattle.std.specs.Prelude.{◌≡◌, ℕ, zero, suc, List, [], ◌∷◌, Some, None, All, Bool, true, false, nat_eq, refl, slice_index_or, if◌then◌else◌}
+use Rattle.std.specs.Prelude.{◌≡◌, ℕ, zero, suc, List, [], ◌∷◌, ◌++◌, Option, Some, None, All, Bool, true, false, nat_eq, refl, slice_get, slice_index_or, if◌then◌else◌}
 use Rattle.std.proofs.Common.{sym, ap, ◌∙◌, subst, arith, eqb-true, eq-eqb}
-use Rattle.std.proofs.lemmas.Bool.{ne_eqb}
+use Rattle.std.proofs.lemmas.Bool.{OnFalse_at, ne_eqb}
 use Rattle.std.specs.List.{AllByRecursion}
 use Rattle.lx_base.specs.declared.settings.Enc.{Enc}
-use Rattle.lx_regex.specs.Limits.{HaveDifferentNumbers, NoneHasNumber}
-use Rattle.lx_regex.specs.Pattern.{Pattern, end_rule, is_end, pattern_of, patterns_of, with_terms}
+use Rattle.lx_regex.specs.Limits.{AreRegular, HaveDifferentNumbers, IsRegular, IsSlashOf, IsWithinLimits, NoneHasNumber}
+use Rattle.lx_regex.specs.Pattern.{Pattern, end_rule, is_end, pattern_of, patterns_of, sorts_of, with_terms}
+use Rattle.lx_regex.specs.Values.{group_ends}
 use Rattle.lx_regex.specs.declared.rules.Rule.{Rule}
+use Rattle.lx_regex.proofs.SlashEvents.{slash_set}
 use Rattle.lx_gen.specs.Endings.{Ending}
 use Rattle.lx_gen.specs.Right.{AreEndsOf, IsSetBy}
 use Rattle.lx_gen.specs.Rules.{AreSimple, ending_of, endings_of, text_of}
@@ -98,7 +100,7 @@ patterns-simple (rule ∷ rules) h = by (is_end rule.kind) (patterns-simple rule
     by true again = again
     by false again = (h.0.0, again)
 
-no_end-simple : (rules : List Rule) → AreSimple rules → end_rule (patterns_of rules) ≡ None
+pub no_end-simple : (rules : List Rule) → AreSimple rules → end_rule (patterns_of rules) ≡ None
 no_end-simple [] h = refl
 no_end-simple (rule ∷ rules) h = ap (λ t. if t then Some rule.number else end_rule (patterns_of rules)) h.0.1 ∙ no_end-simple rules h.1
 
@@ -135,3 +137,39 @@ rules_ends enc rules texts apart set none = record {
   set = set;
   no_end = none;
 }
+
+-- ---- rules within the limits of a scanner
+
+slice_get-front : {A : Type 0} (xs ys : List A) (i : ℕ) (x : A) → slice_get xs i ≡ Some x → slice_get (xs ++ ys) i ≡ Some x
+slice_get-front [] ys i x e = absurd (let h = e in cc)
+slice_get-front (y ∷ xs) ys zero x e = e
+slice_get-front (y ∷ xs) ys (suc i) x e = slice_get-front xs ys i x e
+
+set_by-regular : (enc : Enc) (pattern : Pattern) → IsRegular pattern → IsSetBy enc pattern pattern.slash
+set_by-regular enc pattern regular = by pattern.slash refl regular.slash
+  where
+    by : (slash : Option ℕ) → pattern.slash ≡ slash → IsSlashOf pattern slash → IsSetBy enc pattern slash
+    by None is stands = tt
+    by (Some slash) is stands = (
+      slice_get-front pattern.many (group_ends pattern.groups) slash false stands.0,
+      λ start part tree. slash_set enc pattern slash start part tree regular is,
+    )
+
+sets-regular : (enc : Enc) (rules : List Rule) → AreRegular rules
+    → AllByRecursion (λ (pattern : Pattern). IsSetBy enc pattern pattern.slash) (with_terms (patterns_of rules))
+sets-regular enc [] are = tt
+sets-regular enc (rule ∷ rules) are = by (is_end rule.kind) refl (sets-regular enc rules are.1)
+  where
+    by : (t : Bool) → is_end rule.kind ≡ t
+        → AllByRecursion (λ (pattern : Pattern). IsSetBy enc pattern pattern.slash) (with_terms (patterns_of rules))
+        → AllByRecursion (λ (pattern : Pattern). IsSetBy enc pattern pattern.slash)
+        (if t then with_terms (patterns_of rules) else pattern_of rule ∷ with_terms (patterns_of rules))
+    by true is again = again
+    by false is again = (set_by-regular enc (pattern_of rule) (OnFalse_at is are.0), again)
+
+pub limited_ends : (enc : Enc) (rules : List Rule) (texts : List (List ℕ)) → IsWithinLimits rules → end_rule (patterns_of rules) ≡ None
+    → AreEndsOf enc (patterns_of rules) (endings_of rules texts)
+limited_ends enc rules texts limits none =
+    rules_ends enc rules texts limits.numbers
+    (All-each (λ (pattern : Pattern). IsSetBy enc pattern pattern.slash) (with_terms (patterns_of rules)) (sets-regular enc rules limits.regular))
+    none

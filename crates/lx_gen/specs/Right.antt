@@ -6,7 +6,7 @@ use Rattle.lx_ccode.specs.Schedules.{IsLegal, Schedule}
 use Rattle.lx_regex.specs.Cut.{BeginsMatch}
 use Rattle.lx_regex.specs.Kernel.{IsWord}
 use Rattle.lx_regex.specs.Match.{IsMatch, IsWordAt, Outcome}
-use Rattle.lx_regex.specs.Order.{greedy}
+use Rattle.lx_regex.specs.Order.{Policy, greedy}
 use Rattle.lx_regex.specs.Pattern.{Pattern, end_rule, sorts_of, terms_of, with_terms}
 use Rattle.lx_regex.specs.Script.{script}
 use Rattle.lx_regex.specs.Tree.{Tree}
@@ -29,13 +29,17 @@ pub record AreEndsOf (enc : Enc) (patterns : List Pattern) (endings : ℕ → En
   pub no_end : end_rule patterns ≡ None
 
 -- On every stream, from every start from which all units are of the encoding and some word begins no match, and under every legal
--- schedule, the run in this condition tells the match of the rules; and so whatever registers hold where the match begins, if
--- only history 0 is empty.
-abbrev pub IsRightIn : (cond : List ℕ) → Enc → List Pattern → (endings : ℕ → Ending) → Piece → Type 0
-IsRightIn cond enc patterns endings piece =
+-- schedule, the run in this condition tells the match of the rules by the trees that the policy means; and so whatever registers hold
+-- where the match begins, if only history 0 is empty.
+abbrev pub IsRightUnder : Policy → (cond : List ℕ) → Enc → List Pattern → (endings : ℕ → Ending) → Piece → Type 0
+IsRightUnder policy cond enc patterns endings piece =
     (stream : List ℕ) (start : ℕ) (schedule : Schedule) (word : List ℕ) (registers : ℕ → Option ℕ) (histories : ℕ → List (Option ℕ))
     → start ≤ length stream → IsWord enc (terms_of patterns) (drop start stream)
     → IsLegal piece (length stream) start schedule → IsWordAt stream start word → (BeginsMatch enc (terms_of patterns) word → ⊥)
     → histories 0 ≡ []
-    → (outcome : Outcome) × IsMatch greedy enc patterns stream start outcome
+    → (outcome : Outcome) × IsMatch policy enc patterns stream start outcome
     × (run_with piece stream start registers histories cond schedule ≡ told_of endings cond outcome)
+
+-- the same where the trees that are meant are leftmost greedy
+abbrev pub IsRightIn : (cond : List ℕ) → Enc → List Pattern → (endings : ℕ → Ending) → Piece → Type 0
+IsRightIn cond enc patterns endings piece = IsRightUnder greedy cond enc patterns endings piece

@@ -6,10 +6,11 @@ use Rattle.lx_base.specs.declared.settings.Enc.{Enc}
 use Rattle.lx_ccode.specs.Statements.{all_statements, is_refill, is_state}
 use Rattle.lx_ccode.specs.Validity.{IsValid}
 use Rattle.lx_ccode.specs.declared.piece.Piece.{Piece}
+use Rattle.lx_regex.specs.Order.{Policy, greedy}
 use Rattle.lx_regex.specs.Pattern.{patterns_of}
 use Rattle.lx_regex.specs.declared.rules.Rule.{Rule}
 use Rattle.lx_gen.specs.Actions.{action_count}
-use Rattle.lx_gen.specs.Right.{IsRightIn}
+use Rattle.lx_gen.specs.Right.{IsRightUnder}
 use Rattle.lx_gen.specs.Rules.{HasAction, endings_of, names_of}
 use Rattle.lx_gen.specs.Written.{IsUnconditional, MayStand}
 
@@ -24,8 +25,9 @@ AreNamed spellings texts [] = Unit {0}
 AreNamed spellings texts (rule ∷ rules) =
     ((0 < rule.number) × (rule.number ≤ length texts) × MayStand spellings rule.slash 0 (names_of rule.tags)) × AreNamed spellings texts rules
 
--- the piece with this number and these spellings of a scanner with these rules, where the first text is the action of rule 1
-pub record IsScannerOf (enc : Enc) (counted : ℕ) (spellings : Spellings) (rules : List Rule) (texts : List (List ℕ)) (piece : Piece) : Type 0 where
+-- the piece with this number and these spellings of a scanner with these rules, where the first text is the action of rule 1, and the
+-- trees that are meant are those of the policy
+pub record IsScannerUnder (policy : Policy) (enc : Enc) (counted : ℕ) (spellings : Spellings) (rules : List Rule) (texts : List (List ℕ)) (piece : Piece) : Type 0 where
   pub valid : IsValid piece
   pub fields : IsUnconditional enc counted spellings piece
   -- it asks for no refill, and stores no state
@@ -34,4 +36,8 @@ pub record IsScannerOf (enc : Enc) (counted : ℕ) (spellings : Spellings) (rule
   pub actions : AllByRecursion (HasAction texts) (all_statements piece.blocks)
   pub one_action : (number : ℕ) → action_count number (all_statements piece.blocks) ≤ 1
   -- it is right, whatever the condition is called
-  pub right : (cond : List ℕ) → IsRightIn cond enc (patterns_of rules) (endings_of rules texts) piece
+  pub right : (cond : List ℕ) → IsRightUnder policy cond enc (patterns_of rules) (endings_of rules texts) piece
+
+-- the same where the trees that are meant are leftmost greedy
+abbrev pub IsScannerOf : Enc → (counted : ℕ) → Spellings → List Rule → (texts : List (List ℕ)) → Piece → Type 0
+IsScannerOf enc counted spellings rules texts piece = IsScannerUnder greedy enc counted spellings rules texts piece

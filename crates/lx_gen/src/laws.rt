@@ -18,15 +18,16 @@ ghost use Rattle.lx_ccode.specs.Validity.{IsShort, IsValid, JumpsBelow, ends_onc
 ghost use Rattle.lx_ccode.specs.declared.piece.CodeBlock.{CodeBlock};
 ghost use Rattle.lx_ccode.specs.declared.piece.Piece.{Piece};
 ghost use Rattle.lx_regex.specs.Limits.{HaveDifferentNumbers, IsWithinLimits};
+ghost use Rattle.lx_regex.specs.Order.{Policy};
 ghost use Rattle.lx_regex.specs.Pattern.{Pattern, end_rule, patterns_of, with_terms};
 ghost use Rattle.lx_regex.specs.declared.rules.Rule.{Rule};
-ghost use Rattle.lx_tdfa.specs.Promise.{IsAutoOf};
+ghost use Rattle.lx_tdfa.specs.Promise.{IsAutoUnder};
 ghost use Rattle.lx_gen.specs.Actions.{IsOwnAction, action_count};
 ghost use Rattle.lx_gen.specs.Endings.{Ending};
 ghost use Rattle.lx_gen.specs.Layout.{StandsFrom, layout};
-ghost use Rattle.lx_gen.specs.Right.{AreEndsOf, IsRightIn, IsSetBy};
+ghost use Rattle.lx_gen.specs.Right.{AreEndsOf, IsRightUnder, IsSetBy};
 ghost use Rattle.lx_gen.specs.Rules.{AreSimple, endings_of};
-ghost use Rattle.lx_gen.specs.Scanner.{AreNamed, AreShort, IsScannerOf};
+ghost use Rattle.lx_gen.specs.Scanner.{AreNamed, AreShort, IsScannerUnder};
 ghost use Rattle.lx_gen.specs.Sequences.{one_by_one};
 ghost use Rattle.lx_gen.specs.Serving.{Serves};
 ghost use Rattle.lx_gen.specs.Starts.{run_with};
@@ -37,20 +38,20 @@ ghost use Rattle.lx_gen.specs.Written.{AreWritten, IsUnconditional};
 /// A piece is right in a condition where the layout of the automaton of its rules stands from the condition's block on, and the
 /// piece asks for no refill.
 pub fn layouts_are_right()
-    ensures { (enc : Enc) (patterns : List Pattern) (auto : Auto) (endings : ℕ → Ending) (piece : Piece) (from : ℕ) (cond : List ℕ)
-        → IsAutoOf enc patterns auto → AreEndsOf enc patterns endings
+    ensures { (policy : Policy) (enc : Enc) (patterns : List Pattern) (auto : Auto) (endings : ℕ → Ending) (piece : Piece) (from : ℕ) (cond : List ℕ)
+        → IsAutoUnder policy enc patterns auto → AreEndsOf enc patterns endings
         → StandsFrom (code_of piece.blocks) from (layout endings (greatest_unit enc) auto from)
         → list_any is_refill (all_statements piece.blocks) ≡ false → entry_block piece.conds cond ≡ Some from
-        → IsRightIn cond enc patterns endings piece }
+        → IsRightUnder policy cond enc patterns endings piece }
 {}
 
 /// So is a piece whose blocks serve the automaton in some other order, with blocks shared or tests in another form.
 pub fn served_pieces_are_right()
-    ensures { (enc : Enc) (patterns : List Pattern) (auto : Auto) (endings : ℕ → Ending) (piece : Piece) (place kept rules : ℕ → ℕ) (fall : ℕ)
-        (cond : List ℕ) → IsAutoOf enc patterns auto → AreEndsOf enc patterns endings
+    ensures { (policy : Policy) (enc : Enc) (patterns : List Pattern) (auto : Auto) (endings : ℕ → Ending) (piece : Piece) (place kept rules : ℕ → ℕ) (fall : ℕ)
+        (cond : List ℕ) → IsAutoUnder policy enc patterns auto → AreEndsOf enc patterns endings
         → Serves endings (greatest_unit enc) auto (code_of piece.blocks) place kept rules fall
         → list_any is_refill (all_statements piece.blocks) ≡ false → entry_block piece.conds cond ≡ Some (place 0)
-        → IsRightIn cond enc patterns endings piece }
+        → IsRightUnder policy cond enc patterns endings piece }
 {}
 
 /// The run of a piece whose blocks serve an automaton tells the automaton's match, whatever registers and histories hold before,
@@ -108,9 +109,12 @@ pub fn sequences_act_at_once()
         → (after_ops offset (one_by_one regs mregs ops) bank).mregs mreg ≡ (bank_after offset ops bank).mregs mreg }
 {}
 
-/// Rules of which none is `$` have the ends that the law of layouts asks for, whatever their actions are: where none has a trailing
-/// context, and where their numbers differ and each tree of a rule with a trailing context sets its tag.
+/// Rules of which none is `$` have the ends that the law of layouts asks for, whatever their actions are: where they are within the
+/// limits of a scanner, where none has a trailing context, and where their numbers differ and each tree of a rule with a trailing
+/// context sets its tag.
 pub fn rules_have_ends()
+    ensures limited { (enc : Enc) (rules : List Rule) (texts : List (List ℕ)) → IsWithinLimits rules
+        → end_rule (patterns_of rules) ≡ None → AreEndsOf enc (patterns_of rules) (endings_of rules texts) }
     ensures simple { (enc : Enc) (rules : List Rule) (texts : List (List ℕ)) → AreSimple rules
         → AreEndsOf enc (patterns_of rules) (endings_of rules texts) }
     ensures contexts { (enc : Enc) (rules : List Rule) (texts : List (List ℕ)) → HaveDifferentNumbers rules
@@ -128,12 +132,12 @@ pub fn layouts_are_valid()
         → statement_count piece.blocks ≤ 4_611_686_018_427_387_904 → IsValid piece }
 {}
 
-/// A piece without conditions whose blocks are the layout of the automaton of its rules is a scanner of these rules.
+/// A piece without conditions whose blocks are the layout of the automaton of its rules is a scanner of these rules, if none is `$`.
 pub fn layouts_are_scanners()
-    ensures { (enc : Enc) (counted : ℕ) (spellings : Spellings) (rules : List Rule) (texts : List (List ℕ)) (auto : Auto) (piece : Piece)
-        → IsAutoOf enc (patterns_of rules) auto → AreEndsOf enc (patterns_of rules) (endings_of rules texts) → IsWithinLimits rules
+    ensures { (policy : Policy) (enc : Enc) (counted : ℕ) (spellings : Spellings) (rules : List Rule) (texts : List (List ℕ)) (auto : Auto) (piece : Piece)
+        → IsAutoUnder policy enc (patterns_of rules) auto → end_rule (patterns_of rules) ≡ None → IsWithinLimits rules
         → AreShort texts → AreNamed spellings texts rules
         → code_of piece.blocks ≡ layout (endings_of rules texts) (greatest_unit enc) auto 0 → IsUnconditional enc counted spellings piece
         → IsShort counted → AreAllowed spellings → DoNotClash spellings
-        → statement_count piece.blocks ≤ 4_611_686_018_427_387_904 → IsScannerOf enc counted spellings rules texts piece }
+        → statement_count piece.blocks ≤ 4_611_686_018_427_387_904 → IsScannerUnder policy enc counted spellings rules texts piece }
 {}

@@ -1,11 +1,9 @@
 //! The scanner of an automaton.
-ghost use Rattle.std.specs.Prelude.{◌≡◌, IfOk};
+ghost use Rattle.std.specs.Prelude.{◌≡◌, IfOk, None};
 ghost use Rattle.lx_base.specs.Names.{AreAllowed, DoNotClash};
 ghost use Rattle.lx_regex.specs.Limits.{IsWithinLimits};
-ghost use Rattle.lx_regex.specs.Pattern.{patterns_of};
+ghost use Rattle.lx_regex.specs.Pattern.{end_rule, patterns_of};
 ghost use Rattle.lx_tdfa.specs.Promise.{IsAutoOf};
-ghost use Rattle.lx_gen.specs.Right.{AreEndsOf};
-ghost use Rattle.lx_gen.specs.Rules.{endings_of};
 ghost use Rattle.lx_gen.specs.Scanner.{AreNamed, AreShort, IsScannerOf};
 
 use crate::endings::copied_text;
@@ -31,8 +29,8 @@ fn copied_names(alloc: Global, names: &[ByteText]) -> Result<Names, Memory>
 /// The piece of a scanner of rules, from their automaton, without `#line`, tests of the end, refills and stored states.
 ///
 /// The number is the piece's in its output, counted from 1. The first text is the action of rule 1. Where no rule matches the
-/// scanner is left, with the cursor behind the longest word that begins a match. Only want of memory refuses, and a piece that
-/// would have more than 2^62 statements counts as that.
+/// scanner is left, with the cursor behind the longest word that begins a match. It may answer want of memory,
+/// which no clause ties to a cause; a piece that would have more than 2^62 statements counts as that.
 pub fn generate(
     alloc: Global,
     enc: Enc,
@@ -43,7 +41,7 @@ pub fn generate(
     auto: &Auto,
 ) -> Result<Piece, Memory>
     requires auto { IsAutoOf enc (patterns_of rules.now) auto.now }
-    requires ends { AreEndsOf enc (patterns_of rules.now) (endings_of rules.now texts.now) }
+    requires no_end { end_rule (patterns_of rules.now) ≡ None }
     requires limits { IsWithinLimits rules.now }
     requires short { AreShort texts.now }
     requires named { AreNamed names.now texts.now rules.now }

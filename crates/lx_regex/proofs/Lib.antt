@@ -29,6 +29,7 @@ pub mod RuleCuts
 pub mod RuleParts
 pub mod Scripts
 pub mod ShapeOfScript
+pub mod SlashEvents
 pub mod TreeWalk
 pub mod WalkTree
 pub mod WholeWalk

@@ -6,7 +6,7 @@ use Rattle.lx_regex.specs.declared.rules.Kind.TheVariants.{Plain}
 use Rattle.lx_regex.specs.declared.rules.Rule.{Rule}
 use Rattle.lx_regex.specs.declared.rules.Tag.{Tag}
 use Rattle.lx_regex.specs.Expr.{size_of, term_of}
-use Rattle.lx_regex.specs.Limits.{HasLongSequences, IsWithinLimits, numbers_from}
+use Rattle.lx_regex.specs.Limits.{HasLongSequences, IsSlashOf, IsWithinLimits, numbers_from}
 use Rattle.lx_regex.specs.Pattern.{pattern_of, sorts_of}
 use Rattle.lx_regex.specs.Script.{tags_in}
 use Rattle.lx_regex.specs.Values.{group_ends}
@@ -28,8 +28,9 @@ count_of_sorts rule =
 pub limits_of_one : (number : ℕ) (expr : Expr) (tags : List Tag) (slash : Option ℕ) (groups : ℕ)
     → size_of expr ≤ 4096 → length tags + 2 * (groups - 1) ≤ 128 → HasLongSequences (term_of (length tags) expr)
     → tags_in (term_of (length tags) expr) ≡ numbers_from 0 (length tags + 2 * groups)
+    → IsSlashOf (pattern_of (plain number expr tags slash groups)) slash
     → IsWithinLimits (plain number expr tags slash groups ∷ [])
-limits_of_one number expr tags slash groups size few sequences told = record {
+limits_of_one number expr tags slash groups size few sequences told stands = record {
   size = omega (arith, size);
   tags = omega (arith, few);
   ends = omega arith;
@@ -38,6 +39,7 @@ limits_of_one number expr tags slash groups size few sequences told = record {
     record {
       sequences = sequences;
       tags = told ∙ ap (numbers_from 0) (sym (count_of_sorts (plain number expr tags slash groups)));
+      slash = stands;
     },
     tt,
   );

@@ -1,5 +1,5 @@
 -- What is asked of the rule lists that scanners are built from.
-use Rattle.std.specs.Prelude.{◌≡◌, ◌≢◌, ℕ, zero, suc, ◌+◌, ◌-◌, ◌*◌, ◌≤◌, List, [], ◌∷◌, length, if◌then◌else◌}
+use Rattle.std.specs.Prelude.{◌≡◌, ◌≢◌, ℕ, zero, suc, ◌+◌, ◌-◌, ◌*◌, ◌≤◌, ◌⊎◌, List, [], ◌∷◌, length, Option, Some, None, false, slice_get, if◌then◌else◌}
 use Rattle.std.specs.Bool.{OnFalse}
 use Rattle.lx_regex.specs.Term.{Term, empty, class, any_unit, cat, alt, repeat, tag, group, Terms, nil, cons}
 use Rattle.lx_regex.specs.Script.{tags_in}
@@ -33,10 +33,26 @@ abbrev pub numbers_from : (number count : ℕ) → List ℕ
 numbers_from number zero = []
 numbers_from number (suc count) = number ∷ numbers_from (suc number) count
 
--- a rule's sequences are long, and each of its tags and group ends stands in its term once
+-- the tag with this number is one of the members
+abbrev pub StandsAmong : (number : ℕ) → Terms → Type 0
+StandsAmong number nil = ⊥
+StandsAmong number (cons member members) = (member ≡ tag number) ⊎ StandsAmong number members
+
+-- the term is a sequence, and the tag with this number is one of its members
+abbrev pub StandsIn : (number : ℕ) → Term → Type 0
+StandsIn number (cat members) = StandsAmong number members
+StandsIn number _ = ⊥
+
+-- a trailing context begins at one of the rule's s-tags, and that stands in the rule's own sequence
+abbrev pub IsSlashOf : Pattern → (slash : Option ℕ) → Type 0
+IsSlashOf pattern None = Unit {0}
+IsSlashOf pattern (Some slash) = (slice_get pattern.many slash ≡ Some false) × StandsIn slash pattern.term
+
+-- a rule's sequences are long, each of its tags and group ends stands in its term once, and its slash is one of its s-tags
 pub record IsRegular (pattern : Pattern) : Type 0 where
   pub sequences : HasLongSequences pattern.term
   pub tags : tags_in pattern.term ≡ numbers_from 0 (length (sorts_of pattern))
+  pub slash : IsSlashOf pattern pattern.slash
 
 -- all rules with an expression are so
 abbrev pub AreRegular : List Rule → Type 0

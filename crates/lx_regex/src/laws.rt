@@ -1,18 +1,20 @@
 //! What holds of the definitions. Each law is the contract of a function that does nothing.
-ghost use Rattle.std.specs.Prelude.{◌≡◌, ◌≢◌, ◌↔◌, ◌++◌, ◌<◌, ◌*◌, ℕ, List, [], length, Bool, Some, slice_get};
+ghost use Rattle.std.specs.Prelude.{◌≡◌, ◌≢◌, ◌↔◌, ◌++◌, ◌<◌, ◌*◌, ℕ, List, [], length, Bool, Some, None, IsSome, slice_get};
 ghost use Rattle.lx_base.specs.declared.settings.Enc.{Enc};
 ghost use Rattle.lx_regex.specs.Automaton.{State, automaton};
-ghost use Rattle.lx_regex.specs.Cut.{BeginsMatch, Cut, Precedes, rule_part};
+ghost use Rattle.lx_regex.specs.Cut.{BeginsMatch, Cut, GoesOn, IsCut, Precedes, SamePlace, rule_part};
+ghost use Rattle.lx_regex.specs.Dictionary.{IsBefore};
 ghost use Rattle.lx_regex.specs.Kernel.{IsKernel};
 ghost use Rattle.lx_regex.specs.Least.{HasTree, HasPlainTree, IsLeast};
+ghost use Rattle.lx_regex.specs.Limits.{IsRegular};
 ghost use Rattle.lx_regex.specs.Match.{IsMatch, Outcome, part_at};
 ghost use Rattle.lx_regex.specs.Order.{Policy};
 ghost use Rattle.lx_regex.specs.Parts.{IsBeginning, Part, parts_in, parts_of};
 ghost use Rattle.lx_regex.specs.Pattern.{Pattern, terms_of, with_terms};
-ghost use Rattle.lx_regex.specs.Script.{script};
+ghost use Rattle.lx_regex.specs.Script.{Symbol, choices, script};
 ghost use Rattle.lx_regex.specs.Term.{Term, parts};
 ghost use Rattle.lx_regex.specs.Tree.{Tree};
-ghost use Rattle.lx_regex.specs.Values.{value_of};
+ghost use Rattle.lx_regex.specs.Values.{last_event, value_of};
 ghost use Rattle.lx_regex.specs.Walk.{Walk, symbols};
 
 /// A term has as many parts in preorder as are counted, a rule's own part stands at its number, and the automaton has the
@@ -48,6 +50,12 @@ pub fn least_script_is_unique()
         → value_of start (script enc part tree) number many ≡ value_of start (script enc part other) number many }
 {}
 
+/// Each tree of a rule within the limits of a scanner gives the tag of the rule's trailing context an offset.
+pub fn slashes_are_set()
+    ensures { (enc : Enc) (pattern : Pattern) (slash start part : ℕ) (tree : Tree pattern.term) → IsRegular pattern → pattern.slash ≡ Some slash
+        → IsSome (last_event slash start None (script enc part tree)) }
+{}
+
 /// The walks of an automaton from the beginning of a rule to state 0 are the scripts of the rule's trees.
 pub fn walks_are_scripts()
     ensures walk { (enc : Enc) (rules : List Term) (place : ℕ) (e : Term) (tree : Tree e) → slice_get rules place ≡ Some e
@@ -64,6 +72,18 @@ pub fn fronts_begin_matches()
         → HasTree enc (rule_part rules place) e word → BeginsMatch enc rules word }
     ensures front { (enc : Enc) (rules : List Term) (word more : List ℕ)
         → BeginsMatch enc rules (word ++ more) → BeginsMatch enc rules word }
+{}
+
+/// What goes on from one cut at a word goes on from each at its place; and of two cuts of one rule the one with the lesser choices
+/// keeps the lesser choices, whatever goes on from them.
+pub fn lesser_choices_are_kept()
+    ensures goes_on { (enc : Enc) (rules : List Term) (word : List ℕ) (cut other : Cut) (rest : List Symbol)
+        → IsCut enc rules word cut → IsCut enc rules word other → SamePlace enc rules cut other
+        → GoesOn enc rules cut rest → GoesOn enc rules other rest }
+    ensures lesser { (enc : Enc) (rules : List Term) (word : List ℕ) (cut other : Cut) (rest more : List Symbol)
+        → IsCut enc rules word cut → IsCut enc rules word other → cut.rule ≡ other.rule → IsBefore (choices cut.front) (choices other.front)
+        → GoesOn enc rules cut rest → GoesOn enc rules other more
+        → IsBefore (choices (cut.front ++ rest)) (choices (other.front ++ more)) }
 {}
 
 /// A word has at most one leftmost greedy kernel, and it is not empty exactly where the word begins a match.

@@ -160,7 +160,7 @@ module _ (enc : Enc) where
         record {
           no_end = λ same. usual.0.no_end same;
           plain = meant.0.plain;
-          regular = record { sequences = numbered.0; tags = numbered.1 ∙ ap (limits.numbers_from 0) (sorts_many rule) };
+          regular = record { sequences = numbered.0; tags = numbered.1 ∙ ap (limits.numbers_from 0) (sorts_many rule); slash = tt };
         },
         rules_within rules usual.1 meant.1 (omega (arith, size)) (omega (arith, nesting)) (omega (arith, names, tags)),
       )

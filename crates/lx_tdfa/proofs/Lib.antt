@@ -45,6 +45,7 @@ pub mod RunCuts
 pub mod RunOrder
 pub mod RunSegments
 pub mod RunSteps
+pub mod SameAutomata
 pub mod Searches
 pub mod SegmentOrder
 pub mod SetMembers

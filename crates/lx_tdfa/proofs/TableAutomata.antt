@@ -74,15 +74,17 @@ module _ (enc : Enc) (patterns : List Pattern) (tnfa : Tnfa) (kernels : List (Li
 
   table_auto_of : IsAutoOf enc patterns auto
   table_auto_of = record {
-    formed = given.table.formed;
-    units = λ number other within. (each_state number other within).1.units;
-    rules = λ number other within.
-        let state = each_state number other within in
-        subst (λ (accept : Option Accept). IsByRule enc patterns accept) (sym state.1.accept)
-        (accept_by state.0 state.1.reaches (is_first number) state.1.closure (first_ending state.1.reaches) refl);
-    agreed = λ number other first second accept same there here accepts also rule.
-        state_values number first accept there accepts ∙ ap (λ r. held_from 0 (sorts_of_rule tnfa r)) rule
-        ∙ sym (state_values other second same here also);
+    fits = record {
+      formed = given.table.formed;
+      units = λ number other within. (each_state number other within).1.units;
+      rules = λ number other within.
+          let state = each_state number other within in
+          subst (λ (accept : Option Accept). IsByRule enc patterns accept) (sym state.1.accept)
+          (accept_by state.0 state.1.reaches (is_first number) state.1.closure (first_ending state.1.reaches) refl);
+      agreed = λ number other first second accept same there here accepts also rule.
+          state_values number first accept there accepts ∙ ap (λ r. held_from 0 (sorts_of_rule tnfa r)) rule
+          ∙ sym (state_values other second same here also);
+    };
     begins = table-begins enc patterns tnfa kernels auto given;
     best = table-best enc patterns tnfa kernels auto given;
     kept = table-kept enc patterns tnfa kernels auto given;

@@ -179,11 +179,11 @@ module _ (enc : Enc) (patterns : List Pattern) (tnfa : Tnfa) (kernels : List (Li
     best_by : (term : Term) → (of_rule.0).term ≡ term → (tree : Tree term)
         → IsLeast greedy enc (rule_part rules (rule_of entry.keys)) term word tree
         → map tag_value match.values ≡ values_of start (script enc (rule_part rules (rule_of entry.keys)) tree) 0 (sorts_of of_rule.0)
-        → IsBest enc patterns start word match
+        → IsBest greedy enc patterns start word match
     best_by term is =
         subst (λ (x : Term). (tree : Tree x) → IsLeast greedy enc (rule_part rules (rule_of entry.keys)) x word tree
         → map tag_value match.values ≡ values_of start (script enc (rule_part rules (rule_of entry.keys)) tree) 0 (sorts_of of_rule.0)
-        → IsBest enc patterns start word match) is
+        → IsBest greedy enc patterns start word match) is
         (λ tree least values. record {
           place = rule_of entry.keys;
           pattern = of_rule.0;
@@ -200,7 +200,7 @@ module _ (enc : Enc) (patterns : List Pattern) (tnfa : Tnfa) (kernels : List (Li
         term_at place pattern at =
             slice_get-map (λ (pattern : Pattern). pattern.term) (with_terms patterns) place ∙ ap (option_map (λ (pattern : Pattern). pattern.term)) at
 
-    is_best : IsBest enc patterns start word match
+    is_best : IsBest greedy enc patterns start word match
     is_best = best_by accepted.term term_is accepted.tree accepted.least values_are
 
   none_taken : ((rule : ℕ) (e : Term) → slice_get rules rule ≡ Some e → (tree : Tree e) × (units (script enc (rule_part rules rule) tree) ≡ word) → ⊥)
@@ -213,28 +213,28 @@ module _ (enc : Enc) (patterns : List Pattern) (tnfa : Tnfa) (kernels : List (Li
   best_of : (ending : Option Ending) (found : Option Found)
       → ((e : Ending) → ending ≡ Some e → IsHeldAt tnfa stands.first stands.kernel e.from e.rule)
       → AreEndsAlike tnfa rules stands.first numbers found ending → Accepts enc rules word (kernel_after tnfa rules word) found
-      → FindsBest enc patterns start word (found_by (accept_of tnfa stands.first ending) behind)
+      → FindsBest greedy enc patterns start word (found_by (accept_of tnfa stands.first ending) behind)
   best_of None None held alike (none not) = none_taken not
   best_of None (Some found) held alike accepts = absurd alike
   best_of (Some ending) None held alike accepts = absurd alike
   best_of (Some ending) (Some found) held alike (some other from way entry choices nth accepted) =
       is_best ending (held ending refl) found alike from way entry choices nth accepted
 
-  stands-best : FindsBest enc patterns start word (found_at auto behind)
+  stands-best : FindsBest greedy enc patterns start word (found_at auto behind)
   stands-best =
       let is : IsStateOf tnfa (greatest_unit enc) kernels stands.first stands.kernel (state_of auto.states behind.state) =
       state_at enc patterns tnfa kernels auto given start word behind stands in
       let alike : AreEndsAlike tnfa rules stands.first numbers (accept_after tnfa rules word) (first_ending is.reaches) =
       subst (λ ns. AreEndsAlike tnfa rules stands.first ns (end_from rules ns) (first_ending is.reaches)) stands.numbers
       (ends_alike enc patterns tnfa kernels auto given stands.first behind.state stands.kernel is.reaches stands.is stands.at is.closure) in
-      subst (λ a. FindsBest enc patterns start word (found_by a behind)) (sym is.accept)
+      subst (λ a. FindsBest greedy enc patterns start word (found_by a behind)) (sym is.accept)
       (best_of (first_ending is.reaches) (accept_after tnfa rules word)
       (λ e same. ending_held enc patterns tnfa kernels auto given stands.first behind.state stands.kernel is.reaches e stands.is stands.at is.closure same)
       alike (accept_after-accepts enc patterns tnfa given.of given.fits word))
 
 pub table-best : (enc : Enc) (patterns : List Pattern) (tnfa : Tnfa) (kernels : List (List Place)) (auto : Auto) (given : IsGiven enc patterns tnfa kernels auto)
     (start : ℕ) (bank : Bank) (word : List ℕ) (behind : Standing) → bank.mregs 0 ≡ [] → run auto (start_with start bank) word ≡ Some behind
-    → FindsBest enc patterns start word (found_at auto behind)
+    → FindsBest greedy enc patterns start word (found_at auto behind)
 table-best enc patterns tnfa kernels auto given start bank word behind empty ran =
     stands-best enc patterns tnfa kernels auto given start word behind
     (stands-run enc patterns tnfa kernels auto given start word [] (start_with start bank) behind

@@ -2,7 +2,7 @@
 use Rattle.std.proofs.Common.{◌≡◌, ℕ, ◌+◌, ◌<◌, ◌≤◌, List, [], length, Option, Some, None, Bool, refl, ap, ◌∙◌, sym, subst, subst₂, arith}
 use Rattle.lx_auto.specs.Automaton.{edge_on, state_of}
 use Rattle.lx_auto.specs.Bank.{Bank, bank_after}
-use Rattle.lx_auto.specs.Run.{Standing, behind_edge, by_edge, found_at, found_by, found_left, left_after, or_else, run, start_with, step}
+use Rattle.lx_auto.specs.Run.{Standing, behind_edge, by_edge, found_at, found_behind, found_by, found_left, left_after, or_else, run, start_with, step}
 use Rattle.lx_auto.specs.declared.automaton.Accept.{Accept}
 use Rattle.lx_auto.specs.declared.automaton.Auto.{Auto}
 use Rattle.lx_auto.specs.declared.automaton.Edge.{Edge}
@@ -71,8 +71,9 @@ module _ (enc : Enc) (patterns : List Pattern) (tnfa : Tnfa) (kernels : List (Li
 
   pub table-kept : (start : ℕ) (bank : Bank) (word : List ℕ) (behind next : Standing) (unit : ℕ) → bank.mregs 0 ≡ []
       → run auto (start_with start bank) word ≡ Some behind → step auto behind unit ≡ Some next
-      → found_left next.bank next.left ≡ or_else (found_at auto behind) (found_left behind.bank behind.left)
+      → found_behind auto next ≡ or_else (found_at auto next) (found_behind auto behind)
   table-kept start bank word behind next unit empty ran stepped =
-      stands-kept start word behind
+      ap (or_else (found_at auto next))
+      (stands-kept start word behind
       (stands-run enc patterns tnfa kernels auto given start word [] (start_with start bank) behind
-      (stands-start enc patterns tnfa kernels auto given start bank empty) ran) unit next stepped
+      (stands-start enc patterns tnfa kernels auto given start bank empty) ran) unit next stepped)

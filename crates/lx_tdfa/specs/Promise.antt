@@ -5,7 +5,7 @@ use Rattle.lx_base.specs.declared.settings.Enc.{Enc}
 use Rattle.lx_auto.specs.Automaton.{IsAuto}
 use Rattle.lx_auto.specs.Bank as bank
 use Rattle.lx_auto.specs.Bank.{Bank}
-use Rattle.lx_auto.specs.Run.{Found, Standing, found_at, found_left, or_else, run, start_with, step}
+use Rattle.lx_auto.specs.Run.{Found, Standing, found_at, found_behind, or_else, run, start_with, step}
 use Rattle.lx_auto.specs.declared.automaton.Accept.{Accept}
 use Rattle.lx_auto.specs.declared.automaton.Auto.{Auto}
 use Rattle.lx_auto.specs.declared.automaton.Edge.{Edge}
@@ -16,7 +16,7 @@ use Rattle.lx_regex.specs.Cut.{BeginsMatch}
 use Rattle.lx_regex.specs.Kernel.{IsWord}
 use Rattle.lx_regex.specs.Least.{IsLeast}
 use Rattle.lx_regex.specs.Match.{Takes, part_at}
-use Rattle.lx_regex.specs.Order.{greedy}
+use Rattle.lx_regex.specs.Order.{Policy, greedy}
 use Rattle.lx_regex.specs.Pattern.{Pattern, sorts_of, terms_of, with_terms}
 use Rattle.lx_regex.specs.Script.{script}
 use Rattle.lx_regex.specs.Tree.{Tree}
@@ -33,8 +33,29 @@ is_history (Reg number) = false
 is_history (MReg number) = true
 
 module _ (enc : Enc) (patterns : List Pattern) where
+  -- a state accepts by a rule of the list, with a value of its sort for each tag
+  abbrev pub IsByRule : Option Accept → Type 0
+  IsByRule None = Unit {0}
+  IsByRule (Some accept) =
+      (pattern : Pattern) × Contains (with_terms patterns) pattern × (accept.rule ≡ pattern.number)
+      × (map is_history accept.values ≡ sorts_of pattern)
+
+  -- an automaton fits a rule list: what is asked of its states, also of those that no word reaches
+  pub record FitsRules (auto : Auto) : Type 0 where
+    pub formed : IsAuto auto
+    -- no edge has a unit over the encoding's greatest
+    pub units : All (λ (state : State). All (λ (edge : Edge). edge.hi ≤ greatest_unit enc) state.edges) auto.states
+    -- what is accepted is a rule of the list
+    pub rules : All (λ (state : State). IsByRule state.accept) auto.states
+    -- accepts of one rule hold the values of its tags in the same places
+    pub agreed : (number other : ℕ) (first second : State) (accept same : Accept) → slice_get auto.states number ≡ Some first
+        → slice_get auto.states other ≡ Some second → first.accept ≡ Some accept → second.accept ≡ Some same → accept.rule ≡ same.rule
+        → accept.values ≡ same.values
+
+-- the trees that are meant are those of a policy
+module _ (policy : Policy) (enc : Enc) (patterns : List Pattern) where
   -- what is found behind a word that is read from a start on: the first rule that takes the word, with its number and the values of
-  -- its leftmost greedy least tree
+  -- its least tree
   pub record IsBest (start : ℕ) (word : List ℕ) (found : Found) : Type 0 where
     pub place : ℕ
     pub pattern : Pattern
@@ -43,7 +64,7 @@ module _ (enc : Enc) (patterns : List Pattern) where
     pub rule : found.rule ≡ pattern.number
     pub offset : found.offset ≡ start + length word
     pub tree : Tree pattern.term
-    pub least : IsLeast greedy enc (part_at patterns place) pattern.term word tree
+    pub least : IsLeast policy enc (part_at patterns place) pattern.term word tree
     pub values : map tag_value found.values ≡ values_of start (script enc (part_at patterns place) tree) 0 (sorts_of pattern)
 
   -- nothing is found exactly where no rule takes the word
@@ -51,31 +72,20 @@ module _ (enc : Enc) (patterns : List Pattern) where
   FindsBest start word None = (place : ℕ) → Takes enc patterns place word → ⊥
   FindsBest start word (Some found) = IsBest start word found
 
-  -- a state accepts by a rule of the list, with a value of its sort for each tag
-  abbrev pub IsByRule : Option Accept → Type 0
-  IsByRule None = Unit {0}
-  IsByRule (Some accept) =
-      (pattern : Pattern) × Contains (with_terms patterns) pattern × (accept.rule ≡ pattern.number)
-      × (map is_history accept.values ≡ sorts_of pattern)
-
   -- The automaton of a rule list. What registers hold where a match begins is all one, but that the history of m-register 0 is empty.
-  pub record IsAutoOf (auto : Auto) : Type 0 where
-    pub formed : IsAuto auto
-    -- no edge, also of a state that no word reaches, has a unit over the encoding's greatest
-    pub units : All (λ (state : State). All (λ (edge : Edge). edge.hi ≤ greatest_unit enc) state.edges) auto.states
-    -- the same of what is accepted
-    pub rules : All (λ (state : State). IsByRule state.accept) auto.states
-    -- accepts of one rule hold the values of its tags in the same places
-    pub agreed : (number other : ℕ) (first second : State) (accept same : Accept) → slice_get auto.states number ≡ Some first
-        → slice_get auto.states other ≡ Some second → first.accept ≡ Some accept → second.accept ≡ Some same → accept.rule ≡ same.rule
-        → accept.values ≡ same.values
+  pub record IsAutoUnder (auto : Auto) : Type 0 where
+    pub fits : FitsRules enc patterns auto
     -- there is a run exactly on the words that begin a match
     pub begins : (start : ℕ) (bank : Bank) (word : List ℕ) → bank.mregs 0 ≡ [] → IsWord enc (terms_of patterns) word
         → IsSome (run auto (start_with start bank) word) ↔ BeginsMatch enc (terms_of patterns) word
     -- where it stands, the first rule that takes the word is found, with the values of its best tree
     pub best : (start : ℕ) (bank : Bank) (word : List ℕ) (behind : Standing) → bank.mregs 0 ≡ []
         → run auto (start_with start bank) word ≡ Some behind → FindsBest start word (found_at auto behind)
-    -- what was found in the accepting state that was left last is read from the registers later too
+    -- with one more unit, if nothing is found there, what was found before it is read from the registers still
     pub kept : (start : ℕ) (bank : Bank) (word : List ℕ) (behind next : Standing) (unit : ℕ) → bank.mregs 0 ≡ []
         → run auto (start_with start bank) word ≡ Some behind → step auto behind unit ≡ Some next
-        → found_left next.bank next.left ≡ or_else (found_at auto behind) (found_left behind.bank behind.left)
+        → found_behind auto next ≡ or_else (found_at auto next) (found_behind auto behind)
+
+-- the automaton of a rule list where the trees that are meant are leftmost greedy
+abbrev pub IsAutoOf : Enc → List Pattern → Auto → Type 0
+IsAutoOf enc patterns auto = IsAutoUnder greedy enc patterns auto

@@ -1,9 +1,13 @@
-//! What holds of the lists of places that are computed for words. Each law is the contract of a function that does nothing.
+//! What holds of the lists of places that are computed for words, and of automata of rule lists. Each law is the contract of a
+//! function that does nothing.
 ghost use Rattle.std.specs.Prelude.{◌≡◌, ◌≢◌, ◌++◌, ◌↔◌, ℕ, List, [], ◌∷◌, None, length, map};
+ghost use Rattle.lx_auto.specs.SameRun.{HasSameRun};
+ghost use Rattle.lx_auto.specs.declared.automaton.Auto.{Auto};
 ghost use Rattle.lx_base.specs.declared.settings.Enc.{Enc};
 ghost use Rattle.lx_regex.specs.Automaton.{automaton};
 ghost use Rattle.lx_regex.specs.Cut.{BeginsMatch, Precedes, rule_part};
 ghost use Rattle.lx_regex.specs.Kernel.{IsKernel, SamePlaces};
+ghost use Rattle.lx_regex.specs.Order.{Policy};
 ghost use Rattle.lx_regex.specs.Pattern.{Pattern, terms_of};
 ghost use Rattle.lx_regex.specs.Script.{script};
 ghost use Rattle.lx_regex.specs.Term.{Term};
@@ -13,6 +17,7 @@ ghost use Rattle.lx_tnfa.specs.Tnfa.{AllClassesFit, IsTnfaOf, Tnfa};
 ghost use Rattle.lx_tdfa.specs.Accepts.{Accepts, IsAccepted, accept_after};
 ghost use Rattle.lx_tdfa.specs.Graph.{path_symbols};
 ghost use Rattle.lx_tdfa.specs.Kernels.{Entry, cut_of, kernel_after, places, places_step, rule_of};
+ghost use Rattle.lx_tdfa.specs.Promise.{FitsRules, IsAutoUnder};
 ghost use Rattle.lx_tdfa.specs.Values.{all_values_after, last_values_after, value_at};
 
 /// The list after a word is the kernel of the word: for each place of its cuts, once, the first cut there, in their order.
@@ -74,4 +79,10 @@ pub fn all_values_are_kept()
         → all_events tag 0 (script enc (rule_part (terms_of patterns) (rule_of entry.keys)) accepted.tree)
         ≡ value_at [] (all_values_after tnfa (terms_of patterns) word tag) from
         ++ all_events tag (length word) (path_symbols (automaton (terms_of patterns)) entry.place way []) }
+{}
+
+/// An automaton that runs as one of a rule list is one of this rule list too, if its states fit the rules.
+pub fn same_runs_are_of_one_list()
+    ensures { (policy : Policy) (enc : Enc) (patterns : List Pattern) (auto given : Auto) → IsAutoUnder policy enc patterns given
+        → HasSameRun auto given → FitsRules enc patterns auto → IsAutoUnder policy enc patterns auto }
 {}

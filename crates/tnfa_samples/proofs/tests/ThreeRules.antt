@@ -30,8 +30,8 @@ limits_of_three letter other any first second third is is' is'' = record {
   ends = omega arith;
   numbers = ((λ e. omega (arith, e), (λ e. omega (arith, e), tt)), ((λ e. omega (arith, e), tt), (tt, tt)));
   regular = (
-    record { sequences = rw is tt; tags = rw is refl },
-    (record { sequences = rw is' tt; tags = rw is' refl }, (record { sequences = rw is'' tt; tags = rw is'' refl }, tt)),
+    record { sequences = rw is tt; tags = rw is refl; slash = tt },
+    (record { sequences = rw is' tt; tags = rw is' refl; slash = tt }, (record { sequences = rw is'' tt; tags = rw is'' refl; slash = tt }, tt)),
   );
 }
 

@@ -6,6 +6,7 @@ use Rattle.lx_base.specs.declared.settings.Enc.TheVariants.{Byte, Ucs2, Utf8, Ut
 use Rattle.lx_ccode.specs.Statements.{code_of, statement_count}
 use Rattle.lx_ccode.specs.declared.piece.CodeBlock.{CodeBlock}
 use Rattle.lx_encode.specs.Units.{unit_size}
+use Rattle.lx_regex.specs.Order.{greedy}
 use Rattle.lx_gen.specs.Layout.{layout}
 use Rattle.lx_gen.specs.Rules.{endings_of}
 use Rattle.lx_gen.proofs.RuleTold.{rules_told}
@@ -22,7 +23,7 @@ greatest_is Utf32 unit e = omega (arith, e)
 pub blocks_of-requires-clause-told : goal.blocks_of-requires-clause-told
 blocks_of-requires-clause-told c =
     rules_told c.args.names.now c.args.enc c.args.rules.now c.args.texts.now c.args.auto.now.states
-    c.requires.limits c.requires.named c.requires.auto.rules
+    c.requires.limits c.requires.named c.requires.auto.fits.rules
 
 pub returns : goal.returns
 returns c =
@@ -30,8 +31,8 @@ returns c =
     let units = greatest_is c.args.enc c.greatest_unit.result c.greatest_unit.ensures in
     let blocks = c.from_vec.ensures in
     let code = ap (λ l. code_of l) blocks ∙ c.in_ok-blocks.ensures.code ∙ ap (λ n. layout endings n c.args.auto.now 0) units in
-    scanner c.args.enc c.args.number c.args.names.now c.args.rules.now c.args.texts.now c.args.auto.now _
-    c.requires.auto c.requires.ends c.requires.limits c.requires.short c.requires.named code
+    scanner greedy c.args.enc c.args.number c.args.names.now c.args.rules.now c.args.texts.now c.args.auto.now _
+    c.requires.auto c.requires.no_end c.requires.limits c.requires.short c.requires.named code
     (record {
       number = refl;
       names = c.in_ok-names.ensures ∙ c.as_slice.ensures;

@@ -14,7 +14,7 @@ returns-clause-limits c =
     subst (λ (n : ℕ). tags_in (term_of n c.args.expr) ≡ numbers_from 0 (n + 2 * c.args.groups)) (sym count) c.requires.told in
     let size = c.requires.size in let few = c.requires.few in
     rw c.in_ok-push.ensures.pushed (rw c.new-rules.ensures
-    (limits_of_one 1 c.args.expr c.in_ok-list.list None c.args.groups (omega (arith, size)) (omega (arith, few, count)) sequences told))
+    (limits_of_one 1 c.args.expr c.in_ok-list.list None c.args.groups (omega (arith, size)) (omega (arith, few, count)) sequences told tt))
 
 pub returns-clause-classes : goal.returns-clause-classes
 returns-clause-classes c =

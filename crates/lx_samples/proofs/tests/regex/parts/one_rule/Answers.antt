@@ -6,4 +6,4 @@ pub returns : goal.returns
 returns c =
     let size = c.requires.size in
     rw c.in_ok-push-2.ensures.pushed (rw c.new-rules.ensures (rw c.in_ok-push.ensures.pushed (rw c.new-tags.ensures
-    (limits_of_one 7 c.args.expr _ None 0 (omega (arith, size)) (omega arith) c.requires.sequences c.requires.told))))
+    (limits_of_one 7 c.args.expr _ None 0 (omega (arith, size)) (omega arith) c.requires.sequences c.requires.told tt))))
