@@ -9,6 +9,7 @@ pub mod PiecePlaces
 pub mod TextRuns
 pub mod CheckPlaces
 pub mod FaultPlaces
+pub mod FoundPieces
 pub mod ItemPlaces
 pub mod KernelRuns
 pub mod WalkRuns

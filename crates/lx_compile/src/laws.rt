@@ -1,10 +1,14 @@
 //! What holds of the faults and the outputs of all sources: each law is the contract of a function with an empty body.
-ghost use Rattle.std.specs.Prelude.{◌≡◌, ℕ, ◌≤◌, List, [], length, Option, Some};
+ghost use Rattle.std.specs.Prelude.{◌≡◌, ℕ, ◌≤◌, List, [], ◌∷◌, ◌++◌, length, Option, Some};
 ghost use Rattle.lx_base.specs.declared.faults.Fault.{Fault};
 ghost use Rattle.lx_base.specs.declared.settings.Options.{Options};
 ghost use Rattle.lx_split.specs.Openers.{from_opener};
 ghost use Rattle.lx_creader.specs.Cut.{AreCut, OutputPart, parts_text};
-ghost use Rattle.lx_compile.specs.Cut.{AreOutputParts};
+ghost use Rattle.lx_compile.specs.Cut.{AreOutputParts, IsFound};
+ghost use Rattle.lx_compile.specs.declared.parts.Part.{Part};
+ghost use Rattle.lx_compile.specs.declared.parts.Part.TheVariants.{Block};
+ghost use Rattle.lx_base.specs.declared.places.Pos.{Pos};
+ghost use Rattle.lx_rules.specs.declared.resolved.Resolved.{Resolved};
 ghost use Rattle.lx_compile.specs.FirstFault.{IsFirstFault};
 ghost use Rattle.lx_compile.specs.Output.{IsOutput};
 ghost use Rattle.lx_compile.specs.Places.{StandsInFirst};
@@ -33,4 +37,12 @@ pub fn sources_have_one_first_fault()
 pub fn outputs_are_cut_as_their_sources()
     ensures { (options : Options) (source output : List ℕ) → length source ≤ 16777216 → (is : IsOutput options source output) →
         (cut : List OutputPart) × AreCut cut × (output ≡ parts_text cut) × AreOutputParts options.enc 1 is.parts cut }
+{}
+
+/// The piece of each block is found in an output by its number: its text stands where the first begin mark of that number does.
+/// Without a number the piece of the first scanner is found.
+pub fn emitted_pieces_are_found()
+    ensures { (options : Options) (source output : List ℕ) → length source ≤ 16777216 → (is : IsOutput options source output) →
+        (earlier : List Part) (at : Pos) (resolved : Resolved) (more : List Part) → is.parts ≡ earlier ++ Block at resolved ∷ more →
+        IsFound options.enc earlier resolved output }
 {}

@@ -202,7 +202,7 @@ before-one block (part ∷ parts) rest short cut none place within begins = elim
         (subst (BeginsBlock block) (drop-behind (part_text part) (parts_text (parts ++ rest)) place past) begins)
   ]
 
-parts_text-append : (parts rest : List OutputPart) → parts_text (parts ++ rest) ≡ parts_text parts ++ parts_text rest
+pub parts_text-append : (parts rest : List OutputPart) → parts_text (parts ++ rest) ≡ parts_text parts ++ parts_text rest
 parts_text-append [] rest = refl
 parts_text-append (part ∷ parts) rest =
     ap (λ (l : List ℕ). part_text part ++ l) (parts_text-append parts rest) ∙ sym (append_assoc (part_text part) (parts_text parts) (parts_text rest))
@@ -221,6 +221,10 @@ answers-begin (Some number) (empty other) parts cut is =
     subst (λ (n : ℕ). BeginsBlock (Some n) (part_text (empty other) ++ parts_text parts)) is
     (codes "\n/*!end:re2c*/" ++ parts_text parts, empty-then other (parts_text parts) ∙ mark-then other (codes "\n/*!end:re2c*/" ++ parts_text parts))
 
+pub cut_from : (first rest : List OutputPart) → AreCut (first ++ rest) → AreCut rest
+cut_from [] rest is = is
+cut_from (one ∷ first) rest is = cut_from first rest (cut-behind one (first ++ rest) is)
+
 pub first_begin : (block : Option ℕ) (parts : List OutputPart) (part : OutputPart) (more : List OutputPart) → IfSome block IsShort → AreCut (parts ++ part ∷ more)
     → AllByRecursion (λ (earlier : OutputPart). Answers block earlier → ⊥) parts → Answers block part
     → IsFirstBegin block (parts_text (parts ++ part ∷ more)) (length (parts_text parts))
@@ -231,7 +235,3 @@ first_begin block parts part more short cut none is = record {
   where
     here : drop (length (parts_text parts)) (parts_text (parts ++ part ∷ more)) ≡ part_text part ++ parts_text more
     here = ap (λ (l : List ℕ). drop (length (parts_text parts)) l) (parts_text-append parts (part ∷ more)) ∙ drop-append_seam (parts_text parts) (parts_text (part ∷ more))
-
-    cut_from : (first rest : List OutputPart) → AreCut (first ++ rest) → AreCut rest
-    cut_from [] rest is = is
-    cut_from (one ∷ first) rest is = cut_from first rest (cut-behind one (first ++ rest) is)

@@ -14,7 +14,7 @@ use Rattle.lx_words.specs.Line.{is_refused, line_of}
 use Rattle.lx_words.specs.Options.{StopsBy, words_fault}
 use Rattle.lx_words.specs.Points.{is_wrong}
 use Rattle.lx_words.specs.Waiting.{waits}
-use Rattle.lx_top.specs.Delivery.{GivesOut, BreaksOff, DeliversNothing}
+use Rattle.lx_top.specs.Delivery.{GivesOut, GivesUp, BreaksOff, DeliversNothing}
 use Rattle.lx_top.specs.FirstFault.{IsFaultBehind, IsFirstFault, IsJobFault}
 use Rattle.lx_top.specs.Jobs.{file_names, job_of, names_behind, names_of, options_for, target_of}
 use Rattle.lx_top.specs.Outside.{FilesView, SinkView, files_view}
@@ -62,9 +62,12 @@ module _ (IsFault : Option Fault → Type 0) (target : Option (List ℕ)) (IsRig
     GivesOut-among : GivesOut IsFault target IsRight files files' out out' → GivesOut IsFault' target IsRight' files files' out out'
     GivesOut-among gives = record { no_fault = faults None gives.no_fault; text = gives.text; right = rights gives.text gives.right; delivers = gives.delivers }
 
+    GivesUp-among : GivesUp IsFault target IsRight files files' out out' → GivesUp IsFault' target IsRight' files files' out out'
+    GivesUp-among gives = record { no_fault = faults None gives.no_fault; text = gives.text; right = rights gives.text gives.right; delivers = gives.delivers }
+
     BreaksOff-among : BreaksOff IsFault target IsRight files files' out out' → BreaksOff IsFault' target IsRight' files files' out out'
     BreaksOff-among (inl nothing) = inl nothing
-    BreaksOff-among (inr gives) = inr (GivesOut-among gives)
+    BreaksOff-among (inr gives) = inr (GivesUp-among gives)
 
     pub JobEnds-among : {T : Type 0} (ended : Result T Halt) → JobEnds IsFault target IsRight files files' out out' ended → JobEnds IsFault' target IsRight' files files' out out' ended
     JobEnds-among (Ok value) ends =

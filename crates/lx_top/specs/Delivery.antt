@@ -3,6 +3,7 @@ use Rattle.std.specs.Prelude.{◌≡◌, ◌⊎◌, ℕ, List, Option, Some, Non
 use Rattle.lx_base.specs.declared.faults.Fault.{Fault}
 use Rattle.lx_files.specs.Counts.{Rose}
 use Rattle.lx_files.specs.Held.{Binds, MayBindFront, WhereTold}
+use Rattle.lx_files.specs.declared.files.HeldFile.{HeldFile}
 use Rattle.lx_files.specs.Taking.{GivesFront, given_then}
 use Rattle.lx_top.specs.Outside.{FilesView, SinkView}
 
@@ -20,6 +21,16 @@ abbrev pub DeliversFront : (target : Option (List ℕ)) → (text : List ℕ) �
 DeliversFront None text files files' out out' = GivesFront out.given out'.given text × (files'.held ≡ files.held)
 DeliversFront (Some name) text files files' out out' =
     (out'.given ≡ out.given) × WhereTold files.held files'.held (λ before after. MayBindFront before after name text)
+
+-- afterwards all is as before, or the name has these bytes and every other name what it had
+abbrev pub MayBind : List HeldFile → List HeldFile → (name bytes : List ℕ) → Type 0
+MayBind before after name bytes = (after ≡ before) ⊎ Binds before after name bytes
+
+-- the same where memory ran out: the standard output was given a front of the text, but a file is as before or has the whole of it
+abbrev pub DeliversOrStays : (target : Option (List ℕ)) → (text : List ℕ) → (files files' : FilesView) → (out out' : SinkView) → Type 0
+DeliversOrStays None text files files' out out' = GivesFront out.given out'.given text × (files'.held ≡ files.held)
+DeliversOrStays (Some name) text files files' out out' =
+    (out'.given ≡ out.given) × WhereTold files.held files'.held (λ before after. MayBind before after name text)
 
 -- nothing was given
 abbrev pub DeliversNothing : (files files' : FilesView) → (out out' : SinkView) → Type 0
@@ -46,7 +57,14 @@ pub record GivesOut (IsFault : Option Fault → Type 0) (target : Option (List �
   pub right : IsRight text
   pub delivers : DeliversFront target text files files' out out'
 
--- nothing was given; or there is no fault, and a front of a right text was given
+-- there is no fault, and memory ran out while a right text was given
+pub record GivesUp (IsFault : Option Fault → Type 0) (target : Option (List ℕ)) (IsRight : List ℕ → Type 0) (files files' : FilesView) (out out' : SinkView) : Type 0 where
+  pub no_fault : IsFault None
+  pub text : List ℕ
+  pub right : IsRight text
+  pub delivers : DeliversOrStays target text files files' out out'
+
+-- nothing was given; or there is no fault, and memory ran out while a right text was given
 abbrev pub BreaksOff : (IsFault : Option Fault → Type 0) (target : Option (List ℕ)) (IsRight : List ℕ → Type 0) (files files' : FilesView) (out out' : SinkView) → Type 0
 BreaksOff IsFault target IsRight files files' out out' =
-    DeliversNothing files files' out out' ⊎ GivesOut IsFault target IsRight files files' out out'
+    DeliversNothing files files' out out' ⊎ GivesUp IsFault target IsRight files files' out out'

@@ -2,6 +2,7 @@
 use Rattle.std.specs.Prelude.{◌≡◌, ◌⊎◌, ℕ, List, [], codes, Option, Some, MatchOption}
 use Rattle.lx_base.specs.Message.{message_text}
 use Rattle.lx_base.specs.declared.faults.Fault.{Fault}
+use Rattle.lx_base.specs.declared.faults.Fault.TheVariants.{Usage}
 use Rattle.lx_files.specs.Counts.{Rose}
 use Rattle.lx_files.specs.Held.{IsFront}
 use Rattle.lx_files.specs.Taking.{GivesFront, given_then}
@@ -42,6 +43,11 @@ TellsMessage message err err' Refused = err'.given ≡ given_then err.given mess
 TellsMessage message err err' ReadFailed = ⊥
 TellsMessage message err err' PutFailed = Rose err.faults err'.faults × TellsFront message PutFailed err err'
 TellsMessage message err err' OutOfMemory = TellsFront message OutOfMemory err err'
+
+-- words that are no text are refused as any faulty command line is, with nothing read and nothing given
+abbrev pub RefusesWords : SinkView → SinkView → (status : ℕ) → Type 0
+RefusesWords err err' status =
+    (ending : Ending) × (status ≡ status_of ending) × TellsMessage (message_text [] Usage) err err' ending
 
 module _ (IsFault : Option Fault → Type 0) (names : List (List ℕ)) (target : Option (List ℕ)) (IsRight : List ℕ → Type 0) (before after : Outside) where
   abbrev GivesNothing : Type 0

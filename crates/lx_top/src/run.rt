@@ -1,12 +1,12 @@
 //! The program as one call.
 ghost use Rattle.std.specs.Prelude.{◌≡◌, map, string_bytes};
-ghost use Rattle.lx_top.specs.Endings.{Ends, EndsSo};
+ghost use Rattle.lx_top.specs.Endings.{Ends, EndsSo, RefusesWords};
 ghost use Rattle.lx_top.specs.Outside.{files_view, outside, sink_view};
 
-use crate::endings::Ending;
+use crate::endings::{Ending, Halt};
 use crate::jobs::perform;
 use crate::report::report;
-use lx_base::FileNames;
+use lx_base::{Fault, FileNames};
 use lx_files::{Files, Sink};
 use std::alloc::Global;
 
@@ -31,6 +31,16 @@ pub fn re2c<F: Files, O: Sink, E: Sink>(
         Ends (map string_bytes words.now) (outside files_before out_before err_before) (outside files_after out_after err_after) result }
 {
     run(alloc, words, files, out, err).status()
+}
+
+/// Refuses a command line of which a word is no UTF-8, as any faulty one, by `re2c: error: usage` at the standard error.
+///
+/// The exit status is 1; or 3 where the put failed, or 4 where memory ran out on the way to say so.
+pub fn refuse_words<E: Sink>(alloc: Global, err: &mut E) -> u8
+    ensures refuses { RefusesWords (sink_view (E.given err.old) (E.faults err.old)) (sink_view (E.given err.new) (E.faults err.new)) result }
+{
+    let names = FileNames::new(alloc);
+    report(alloc, &names, Halt::Fault(Fault::Usage), err).status()
 }
 
 fn run<F: Files, O: Sink, E: Sink>(

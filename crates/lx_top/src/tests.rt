@@ -1,6 +1,8 @@
 //! Runs of the whole program over files and sinks in memory.
+ghost use Rattle.std.specs.Prelude.{None};
 use crate::run::re2c;
-use lx_files::{Files, MemFiles, MemSink};
+use crate::run::refuse_words;
+use lx_files::{Files, MemFiles, MemSink, PutAnswer, Sink};
 use std::alloc::Global;
 use std::test::Fail;
 
@@ -162,6 +164,64 @@ const STORED: &str =
 /// An emitted scanner of two bytes a unit, which checks for two units and counts groups.
 const CHECKED: &str =
     "/*!begin:re2c 3*/\n/*!names:re2c 2 - 7:YYCTYPE 8:YYCURSOR 7:YYLIMIT 8:YYMARKER 11:YYCTXMARKER 6:YYFILL 10:YYGETSTATE 10:YYSETSTATE 14:YYGETCONDITION 14:YYSETCONDITION 7:YYMTAGP 7:YYMTAGN 4:yych 8:yyaccept 3:yyt 4:yyc_ 3:yyc*/\n{\n\tswitch (YYGETSTATE()) {\n\tcase 7: goto yy3_0;\n\tdefault: goto yy3_0;\n\t}\nyy3_0:\n\tYYSETSTATE(7);\n\tif ((YYLIMIT - YYCURSOR) < 2) YYFILL(2);\n\tyyt1 = YYCURSOR;\n\tyych = *YYCURSOR;\n\tif (yych <= 0x60) goto yy3_2;\n\tif (yych <= 0x100A) goto yy3_1;\n\tgoto yy3_2;\nyy3_1:\n\t++YYCURSOR;\n\tyyt2 = YYCURSOR;\n\t++YYCURSOR;\n\tyynmatch = 1;\n\tyypmatch[0] = yyt1;\n\tyypmatch[1] = yyt2;\n\t/*!code:re2c 1 13*/{ return 1; }\nyy3_2:\n\tgoto yy3_none;\nyy3_none:;\n}\n/*!end:re2c*/";
+
+/// A sink for which memory always runs out.
+#[derive(Drop)]
+struct FullSink;
+
+impl Sink for FullSink {
+    ghost given = { λ _. None };
+
+    ghost faults = { λ _. 0 };
+
+    fn put(&mut self, _bytes: &[u8]) -> Result<usize, PutAnswer> {
+        Err(PutAnswer::Memory)
+    }
+}
+
+#[test]
+fn want_of_memory_is_told(rt: HostRuntime) -> Result<(), Fail> {
+    let mut files = MemFiles::new(rt.alloc());
+    files.add("a.c", b"int x;\n")?;
+    let mut words = Vec::new(rt.alloc());
+    for word in ["-i", "a.c"] {
+        words.push(String::from_str(rt.alloc(), word)?)?;
+    }
+    let mut err = MemSink::new(rt.alloc());
+    let status = re2c(rt.alloc(), &words, &mut files, &mut FullSink, &mut err);
+    assert_eq!(rt; status, 4);
+    assert_eq!(rt; err.bytes(), b"re2c: error: out of memory\n".as_slice());
+    Ok(())
+}
+
+#[test]
+fn words_that_are_no_text_are_refused(rt: HostRuntime) -> Result<(), Fail> {
+    let mut err = MemSink::new(rt.alloc());
+    assert_eq!(rt; refuse_words(rt.alloc(), &mut err), 1);
+    assert_eq!(rt; err.bytes(), b"re2c: error: usage\n".as_slice());
+    Ok(())
+}
+
+/// An output whose first jump is misspelled is no emitted text: the place is that of its begin mark.
+#[test]
+fn a_misspelled_jump_is_no_emitted_text(rt: HostRuntime) -> Result<(), Fail> {
+    let source = b"int x;\n\t/*!re2c re2c:yyfill:enable = 0; \"a\" { return 1; } */\n";
+    let made = run(rt.alloc(), "-i a.re", "a.re", source, "", b"", NONE)?;
+    let mut bytes = Vec::new(rt.alloc());
+    let at = made.out.bytes().windows(4).position(|word| word == b"goto".as_slice());
+    assert_eq!(rt; at.is_some(), true);
+    for (place, byte) in made.out.bytes().iter().enumerate() {
+        if Some(place) != at.map(|at| at + 3) {
+            bytes.push(*byte)?;
+        }
+    }
+    let line = "--x-run in.txt q.c";
+    let left = run(rt.alloc(), line, "q.c", &bytes, "in.txt", b"a", NONE)?;
+    assert_eq!(rt; left.status, 1);
+    assert_eq!(rt; left.out.bytes(), b"".as_slice());
+    assert_eq!(rt; left.err.bytes(), b"q.c:2:2: error: not emitted text\n".as_slice());
+    Ok(())
+}
 
 #[test]
 fn emitted_scanners_are_run(rt: HostRuntime) -> Result<(), Fail> {
