@@ -15,5 +15,7 @@ pub mod Shifts
 pub mod Spellings
 pub mod StartRows
 pub mod Starts
+pub mod TableEntries
+pub mod TableRows
 pub mod Targets
 pub mod Utf8Starts

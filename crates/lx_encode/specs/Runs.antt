@@ -1,5 +1,5 @@
 -- Numbers that lead to residuals, as lists of runs.
-use Rattle.std.specs.Prelude.{◌≡◌, ℕ, ◌+◌, ◌*◌, ◌%◌, ◌<◌, ◌≤◌, ◌⊎◌, List, [], ◌∷◌, Option, Some, None, ◌==◌, nat_le, if◌then◌else◌}
+use Rattle.std.specs.Prelude.{◌≡◌, ℕ, ◌+◌, ◌<◌, ◌≤◌, ◌⊎◌, List, [], ◌∷◌, Option, Some, None, ◌==◌, nat_le, if◌then◌else◌}
 use Rattle.lx_encode.specs.declared.runs.Run.{Run}
 
 -- the number lies in the run
@@ -58,12 +58,3 @@ cuts_of runs = cuts_from 0 runs
 abbrev pub LeadsShifted : List Run → (from to unit : ℕ) → ℕ → ℕ → Type 0
 LeadsShifted runs from to unit number target =
     (old : ℕ) × (from ≤ old) × (old ≤ to) × (number + from ≡ unit + old) × LeadsTo runs old target
-
--- a number made of the runs, from the one made of the runs before
-abbrev pub digest_from : ℕ → List Run → ℕ
-digest_from digest [] = digest
-digest_from digest (run ∷ runs) = digest_from ((digest * 4093 + run.lo * 331 + run.hi * 37 + run.to) % 1073741789) runs
-
--- a number made of the runs
-abbrev pub digest_of : List Run → ℕ
-digest_of runs = digest_from 0 runs

@@ -1,11 +1,19 @@
 -- The rows of a unit graph, and the unit lists that finish its residuals.
-use Rattle.std.specs.Prelude.{◌≡◌, ℕ, ◌+◌, ◌<◌, ◌≤◌, List, [], ◌∷◌, length, slice_index_or, Option, IsSomeAnd}
+use Rattle.std.specs.Prelude.{◌≡◌, ℕ, ◌+◌, ◌<◌, ◌≤◌, List, [], ◌∷◌, length, map, slice_index_or, Option, IsSomeAnd, Vec}
 use Rattle.lx_encode.specs.declared.runs.Run.{Run}
-use Rattle.lx_encode.specs.Runs.{IsRow, LeadBelow, target_of}
+use Rattle.lx_encode.specs.Runs.{IsRow, LeadBelow, cuts_of, target_of}
 
 -- the rows of a graph, by residual
 abbrev pub Rows : Type 0
 Rows = List (List Run)
+
+-- the rows of a map from runs to the units at which their targets may change
+abbrev pub rows_in : {A : Type 0} → List (Vec Run A × Vec ℕ A) → Rows
+rows_in entries = map (λ entry. entry.0.items) entries
+
+-- the units that stand beside the runs are those at which their targets may change
+abbrev pub HasItsCuts : {A : Type 0} → Vec Run A × Vec ℕ A → Type 0
+HasItsCuts entry = entry.1.items ≡ cuts_of entry.0.items
 
 -- where the units of a residual lead
 abbrev pub row_of : Rows → ℕ → List Run

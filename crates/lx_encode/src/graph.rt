@@ -12,7 +12,7 @@ ghost use Rattle.lx_encode.specs.Graph.{AreStarts, IsGraphOf, Separates, numbere
 ghost use Rattle.lx_encode.specs.Starts.{AreEnded, StartsWith};
 
 use crate::layers::{Layer, blocks_of};
-use crate::runs::{Run, append_shifted, point_runs};
+use crate::runs::{Run, append_shifted, point_runs, target_at};
 use crate::table::Table;
 use crate::units::greatest;
 use lx_base::{Enc, Memory};
@@ -245,7 +245,7 @@ impl UnitGraph {
         ensures within { IfSome result (λ next. next.0 < length self.now.rows) }
         ensures none { IsNone result ↔ ((units : List ℕ) → ¬ Finishes self.now.rows residual.0 (unit ∷ units)) }
     {
-        match self.table.row(residual.0).target(unit) {
+        match target_at(self.table.row(residual.0), unit) {
             Some(next) => Some(Residual(next)),
             None => None,
         }
@@ -266,6 +266,6 @@ impl UnitGraph {
         ensures sorted { IsStrictlyIncreasing result.now }
         ensures separating { Separates result.now (step_of self.now.rows residual.0) }
     {
-        self.table.row(residual.0).cuts()
+        self.table.cuts(residual.0)
     }
 }

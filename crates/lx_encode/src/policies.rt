@@ -20,7 +20,7 @@ const REPLACEMENT: u32 = 0xFFFD;
 /// Why a class is refused.
 #[derive(Clone, Copy, Debug, PartialEq, Eq, Error)]
 pub enum PointStop {
-    /// Memory ran out.
+    /// Want of memory. No clause ties it to a cause.
     #[error("out of memory")]
     Memory,
     /// The least point of the class that the encoding does not have.
@@ -105,8 +105,8 @@ fn refusal(enc: Enc, policy: SurPolicy, set: &[Range]) -> Option<PointStop>
 /// The set that a policy makes of a set: the same one, or the one with U+FFFD in the place of its surrogates.
 ///
 /// `TooLarge` names the least point that the encoding does not have, and comes before `Surrogate`, which
-/// names the least surrogate and comes only where surrogates are refused. `Memory` comes where memory runs
-/// out.
+/// names the least surrogate and comes only where surrogates are refused. `Memory` may be answered in place
+/// of a set, and no clause ties it to a cause.
 pub fn apply(
     alloc: Global,
     enc: Enc,

@@ -1,12 +1,16 @@
 //! Runs of numbers that lead to one residual each: what stands for the edges of a residual, and for a
 //! class whose points have been spelled in part.
-ghost use Rattle.std.specs.Prelude.{◌≡◌, ℕ, ◌+◌, ◌<◌, ◌≤◌, ◌⊎◌, ◌↔◌, [], ◌∷◌, IfOk, OnOk};
+ghost use Rattle.std.proofs.Common.{rules};
+ghost use Rattle.std.specs.Cmp.Rules.{hashing};
+ghost use Rattle.std.specs.Hash as fed;
+ghost use Rattle.std.specs.Prelude.{◌≡◌, ℕ, ◌+◌, ◌<◌, ◌≤◌, ◌⊎◌, ◌↔◌, [], ◌∷◌, ◌++◌, IfOk, OnOk};
 ghost use Rattle.lx_class.specs.Ranges.{InRanges, IsCanonical};
-ghost use Rattle.lx_encode.specs.Runs.{AreSorted, IsRow, LeadsShifted, LeadsTo, cuts_of, digest_of, target_of};
+ghost use Rattle.lx_encode.specs.Runs.{AreSorted, IsRow, LeadsShifted, LeadsTo, cuts_of, target_of};
 
 use lx_base::Memory;
 use lx_class::Range;
 use std::alloc::Global;
+use std::hash::{Hash, Hasher};
 
 /// The numbers from `lo` to `hi`, both among them, and where they lead.
 #[derive(Clone, Copy, Debug, PartialEq, Eq)]
@@ -14,6 +18,18 @@ pub struct Run {
     pub lo: u32,
     pub hi: u32,
     pub to: u32,
+}
+
+impl Hash for Run {
+    ghost hash_input = { λ run. fed.u32 run.lo ++ fed.u32 run.hi ++ fed.u32 run.to };
+
+    ghost respects_eq = { Prim.search (hashing, rules) };
+
+    fn hash<H: Hasher>(&self, state: &mut H) {
+        self.lo.hash(state);
+        self.hi.hash(state);
+        self.to.hash(state);
+    }
 }
 
 /// Puts a run at the end, which begins behind those that are there. One that touches the last run and
@@ -126,16 +142,4 @@ pub(crate) fn cuts(alloc: Global, runs: &[Run]) -> Result<Vec<u32>, Memory>
         cuts.push(next)?;
     }
     Ok(cuts)
-}
-
-/// A number that equal rows share and that few others have, by which rows are looked up.
-pub(crate) fn digest(runs: &[Run]) -> u64
-    ensures { result ≡ digest_of runs.now }
-{
-    let mut digest: u64 = 0;
-    for run in runs {
-        let (lo, hi, to) = (u64::from(run.lo), u64::from(run.hi), u64::from(run.to));
-        digest = (digest * 4093 + lo * 331 + hi * 37 + to) % 1_073_741_789;
-    }
-    digest
 }

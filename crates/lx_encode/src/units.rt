@@ -1,5 +1,5 @@
 //! Code units, and the spelling of one code point.
-ghost use Rattle.std.specs.Prelude.{◌≡◌, ℕ, ◌+◌, ◌<◌, ◌≤◌, ◌^◌, ◌↔◌, [], ◌∷◌, All, IsNone, IfSome};
+ghost use Rattle.std.specs.Prelude.{◌≡◌, ℕ, ◌+◌, ◌<◌, ◌≤◌, ◌^◌, ◌↔◌, [], ◌∷◌, length, All, IsNone, IfSome};
 ghost use Rattle.lx_base.specs.Spelling.{greatest_point, spell};
 ghost use Rattle.lx_base.specs.Spelling as Spelling;
 ghost use Rattle.lx_encode.specs.Units.{unit_list, unit_size, unused};
@@ -60,6 +60,7 @@ fn continuation(number: u32) -> u32
 fn utf8_units(point: u32) -> Units
     requires { point ≤ 0x10FFFF }
     ensures spelled { unit_list result ≡ Spelling.utf8 point }
+    ensures count { result.len ≡ length (Spelling.utf8 point) }
     ensures unused { All (λ unit. unit ≡ 0) (unused result) }
 {
     if point < 0x80 {
@@ -100,6 +101,7 @@ fn utf8_units(point: u32) -> Units
 /// The spelling in UTF-16 (Unicode 15, table 3-5).
 fn utf16_units(point: u32) -> Units
     ensures spelled { unit_list result ≡ Spelling.utf16 point }
+    ensures count { result.len ≡ length (Spelling.utf16 point) }
     ensures unused { All (λ unit. unit ≡ 0) (unused result) }
 {
     if point < 0x1_0000 {
@@ -118,6 +120,7 @@ fn utf16_units(point: u32) -> Units
 /// The spelling by one unit.
 fn one_unit(point: u32) -> Units
     ensures spelled { unit_list result ≡ point ∷ [] }
+    ensures count { result.len ≡ length (point ∷ []) }
     ensures unused { All (λ unit. unit ≡ 0) (unused result) }
 {
     Units {
@@ -134,6 +137,7 @@ fn one_unit(point: u32) -> Units
 pub fn units_of(enc: Enc, point: u32) -> Option<Units>
     ensures none { IsNone result ↔ (greatest_point enc < point) }
     ensures spelled { IfSome result (λ units. unit_list units ≡ spell enc point) }
+    ensures count { IfSome result (λ units. units.len ≡ length (spell enc point)) }
     ensures unused { IfSome result (λ units. All (λ unit. unit ≡ 0) (unused units)) }
 {
     if point > greatest(enc) {
