@@ -88,8 +88,8 @@ fits_back size more nesting other count own e =
 -- a rule with the term, the names and the size of what was read is added
 pub adds_built : (room : Room) (number : ℕ) (reading : Reading) (before after : List Rule) (rule : Rule)
     → after ≡ before ++ rule ∷ [] → rule.number ≡ number → regex_size.size_of rule.expr ≤ reading.value.size
-    → given_names rule ≡ reading.tags.items
-    → ((meaning : Meaning) → IsReadAs room meaning reading → regex.pattern_of rule ≡ plain_pattern number (term_of_meaning meaning) reading.tags.items)
+    → given_names rule ≡ reading.tags.value
+    → ((meaning : Meaning) → IsReadAs room meaning reading → regex.pattern_of rule ≡ plain_pattern number (term_of_meaning meaning) reading.tags.value)
     → AddsPlain room number reading before after
 adds_built room number reading before after rule added numbered size named pattern =
     inr (
@@ -123,7 +123,7 @@ module _ (conds : Bool) (known after : Known) (state : State) (rule : RuleOf) (h
   pub holds_plain :
       (at : Pos) (reading : Reading) → IsNew conds known (head.Plain reading) at rule.act rule → after.env ≡ known.env → after.default ≡ known.default
       → after.acts.items ≡ known.acts.items ++ rule.act ∷ [] → after.size ≡ min (2 ^ 40) (known.size + reading.value.size)
-      → after.nesting ≡ max known.nesting reading.value.nesting → after.tags.items ≡ known.tags.items ++ reading.tags.items
+      → after.nesting ≡ max known.nesting reading.value.nesting → after.tags.items ≡ known.tags.items ++ reading.tags.value
       → Adds reading → Holds conds after (with_rule state rule)
   holds_plain at reading is env default acts size nesting tags adds = record {
     without_conds = λ yes. let h : true ≡ false = sym yes ∙ is.without_conds in cc;

@@ -67,3 +67,23 @@ module _ {K V : Type 0} (items : K → List ℕ) where
           here (bytes_eq name (items entry.0))
           ∙ ap (λ text. has name (entry ∷ entries) || bytes_eq name text) (sym ((bytes_eq-Decides (items key) (items entry.0)).0 is))
       by false is later = there (bytes_eq name (items entry.0)) later
+
+-- a name among names in two parts
+is_among-append : (name : List ℕ) (front back : List (List ℕ)) → is_among name (front ++ back) ≡ (is_among name front || is_among name back)
+is_among-append name [] back = refl
+is_among-append name (other ∷ front) back = at (bytes_eq name other) (is_among-append name front back)
+  where
+    at : (test : Bool) → is_among name (front ++ back) ≡ (is_among name front || is_among name back)
+        → (test || is_among name (front ++ back)) ≡ ((test || is_among name front) || is_among name back)
+    at true later = refl
+    at false later = later
+
+module _ (name : List ℕ) (front back all : List (List ℕ)) (parts : front ++ back ≡ all) (first : Bool) (first_is : first ≡ is_among name front) where
+  whole-is : is_among name all ≡ (first || is_among name back)
+  whole-is = ap (is_among name) (sym parts) ∙ is_among-append name front back ∙ ap (λ test. test || is_among name back) (sym first_is)
+
+  pub among-front : first ≡ true → first ≡ is_among name all
+  among-front found = found ∙ sym (whole-is ∙ ap (λ test. test || is_among name back) found)
+
+  pub among-back : first ≡ false → (second : Bool) → second ≡ is_among name back → second ≡ is_among name all
+  among-back none second second_is = second_is ∙ sym (whole-is ∙ ap (λ test. test || is_among name back) none)

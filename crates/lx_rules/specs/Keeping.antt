@@ -50,7 +50,7 @@ names_of (rule ∷ rules) = rule.meaning.tags ++ names_of rules
 -- what is read stands for a meaning, whose item has no tags but its own
 pub record IsReadAs (room : Room) (meaning : Meaning) (reading : Reading) : Type 0 where
   pub value : IsValue room meaning reading.value
-  pub tags : reading.tags.items ≡ meaning.tags
+  pub tags : reading.tags.value ≡ meaning.tags
   pub count : meaning.count ≡ length meaning.tags
 
 -- an expression is read: its checks find nothing, and what is read stands for its meaning
@@ -135,7 +135,7 @@ IsFresh default (head.Plain reading) = Unit {0}
 -- an expression that was read has the size and the tags of what is kept of it
 abbrev pub IsSoundHead : Head → Type 0
 IsSoundHead head.Default = Unit {0}
-IsSoundHead (head.Plain reading) = IsHonest (length reading.tags.items) reading.value
+IsSoundHead (head.Plain reading) = IsHonest (length reading.tags.value) reading.value
 
 -- what is known behind one rule more
 abbrev pub with_rule : State → RuleOf → State

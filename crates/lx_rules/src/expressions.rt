@@ -19,12 +19,13 @@ use crate::items::waits;
 use crate::leaves::{Reader, read_leaf, read_set};
 use crate::lexemes::{Lexeme, Lexemes};
 use crate::steps::{Step, StepSort, expression_steps};
-use crate::tags::TagNames;
+use crate::tags::{SeenTags, TagNames};
 use crate::values::{Room, Value};
-use lx_base::{ByteText, Fault, Memory, Options, Pos, Stop};
+use lx_base::{Fault, Memory, Options, Pos, Stop};
 use lx_parse::Sort;
 use lx_token::{Repeat, repeat_of};
 use std::alloc::Global;
+use std::rc::Rc;
 
 /// The greatest number of a repetition.
 const MOST_BOUND: u64 = 4096;
@@ -33,14 +34,14 @@ const MOST_BOUND: u64 = 4096;
 #[derive(Drop)]
 pub(crate) struct Operands {
     values: Vec<Value>,
-    seen: TagNames,
+    seen: SeenTags,
 }
 
 /// What is read of a whole expression, with the names of its tags, in order.
-#[derive(Debug, Drop)]
+#[derive(Drop)]
 pub(crate) struct Reading {
     pub value: Value,
-    pub tags: Vec<ByteText>,
+    pub tags: Rc<TagNames>,
 }
 
 /// How often a sign repeats what stands before it.
@@ -141,7 +142,7 @@ impl Operands {
     {
         Operands {
             values: Vec::new(alloc),
-            seen: TagNames::new(alloc),
+            seen: SeenTags::new(alloc),
         }
     }
 
@@ -363,7 +364,7 @@ pub(crate) fn read_expression(
     requires sound { AreSound reader.definitions.now }
     requires part { IsPart (sorts_at (lexemes_view lexemes)) alt from until }
     requires few { until < 2 ^ 32 }
-    ensures honest { IfOk result (λ reading. IsHonest (length reading.tags.items) reading.value) }
+    ensures honest { IfOk result (λ reading. IsHonest (length reading.tags.value) reading.value) }
     ensures read { let definitions = definitions_view reader.entry.definitions.now in
         MatchResult result (IsRead reader.entry.options.now (lexemes_view lexemes.entry) definitions reader.entry.room from until)
         (StopsAt (ExpressionChecks reader.entry.options.now (lexemes_view lexemes.entry) definitions from until)) }
@@ -375,6 +376,6 @@ pub(crate) fn read_expression(
     };
     let mut operands = operands;
     let value = operands.pop();
-    let tags = operands.seen.into_names();
+    let tags = operands.seen.into_shared(alloc)?;
     Ok(Reading { value, tags })
 }

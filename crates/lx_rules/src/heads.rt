@@ -7,7 +7,7 @@ use lx_parse::Sort;
 use std::alloc::Global;
 
 /// The head of a rule.
-#[derive(Debug, Drop)]
+#[derive(Drop)]
 pub(crate) enum Head {
     /// `*`
     Default,

@@ -11,7 +11,7 @@ use crate::leaves::Reader;
 use crate::lexemes::Lexemes;
 use crate::resolved::Act;
 use crate::values::{MOST_NESTING, MOST_SIZE, MOST_TAGS, Room};
-use lx_base::{ByteText, Fault, Options, Pos, Sequence, Stop};
+use lx_base::{ByteText, Fault, Options, Pos, Stop};
 use lx_regex::Rule;
 use std::alloc::Global;
 
@@ -143,7 +143,7 @@ impl Known {
             at: name.at,
             size: value.size,
             nesting: value.nesting,
-            tags: Sequence::from_vec(tags),
+            tags,
             expr: value.into_kept(),
         };
         self.env.definitions.add(alloc, name.text, kept)?;

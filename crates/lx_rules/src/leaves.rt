@@ -23,7 +23,7 @@ use crate::definitions::{Definitions, Kept};
 use crate::lexemes::Lexeme;
 use crate::points::points_fault;
 use crate::sets::{character_set, class_set, line_set, ranges_of, single_ranges};
-use crate::tags::{TagNames, repeated_tag, tag_name, text};
+use crate::tags::{SeenTags, repeated_tag, tag_name, text};
 use crate::values::{Content, MOST_SIZE, MOST_TAGS, Room, Value, class_of, sum};
 use lx_base::{EmptyPolicy, Fault, Memory, Options, Pos, Stop, SurPolicy};
 use lx_class::ClassSet;
@@ -100,16 +100,16 @@ fn class_content(policy: EmptyPolicy, is_operand: bool, set: ClassSet) -> Conten
 
 /// A copy of the expression of a definition, behind so many tags. One that was not built is missed nowhere.
 fn kept_content(alloc: Global, kept: &Kept, by: usize) -> Result<Content, Memory>
-    requires { FitsKept kept.now.expr kept.now.size (length kept.now.tags) }
-    ensures stands { (is_built : Bool) → (128 + 1 ≤ by + length kept.now.tags → is_built ≡ false)
+    requires { FitsKept kept.now.expr kept.now.size (length kept.now.tags.value) }
+    ensures stands { (is_built : Bool) → (128 + 1 ≤ by + length kept.now.tags.value → is_built ≡ false)
         → IfOk result (IsContent is_built (copied by (definition_view [] kept.now))) }
     ensures size { IfOk result (λ content. content_size content ≤ kept.now.size) }
-    ensures tags { IfOk result (AreTagsBelow (by + length kept.now.tags)) }
+    ensures tags { IfOk result (AreTagsBelow (by + length kept.now.tags.value)) }
 {
     let Some(expr) = &kept.expr else {
         return Ok(Content::One(Expr::Empty));
     };
-    if sum(by as u64, kept.tags.as_slice().len() as u64) > MOST_TAGS {
+    if sum(by as u64, kept.tags.len() as u64) > MOST_TAGS {
         let class = class_of(alloc, expr)?;
         return Ok(Content::Past(class, false));
     }
@@ -247,7 +247,7 @@ fn read_line(
 fn read_name(
     alloc: Global,
     reader: Reader<'_>,
-    seen: &mut TagNames,
+    seen: &mut SeenTags,
     lexeme: &Lexeme<'_>,
     is_operand: bool,
 ) -> Result<Value, Stop>
@@ -263,11 +263,11 @@ fn read_name(
     let Some(kept) = reader.definitions.get(lexeme.text) else {
         return Err(unknown(alloc, lexeme));
     };
-    if let Some(fault) = repeated_tag(alloc, lexeme.at, kept.tags.as_slice(), seen)? {
+    if let Some(fault) = repeated_tag(alloc, lexeme.at, kept.tags.names(), seen)? {
         return Err(Stop::Fault(fault));
     }
     let by = seen.len();
-    seen.push_all(alloc, kept.tags.as_slice())?;
+    seen.add(alloc, &kept.tags)?;
     let content = kept_content(alloc, kept, by)?;
     let nesting = sum(kept.nesting, 1);
     let tags = sum(seen.len() as u64, 0);
@@ -292,7 +292,7 @@ fn tag_content(number: usize) -> Content
 fn read_tag(
     alloc: Global,
     reader: Reader<'_>,
-    seen: &mut TagNames,
+    seen: &mut SeenTags,
     lexeme: &Lexeme<'_>,
     is_operand: bool,
 ) -> Result<Value, Stop>
@@ -326,7 +326,7 @@ fn read_tag(
 pub(crate) fn read_leaf(
     alloc: Global,
     reader: Reader<'_>,
-    seen: &mut TagNames,
+    seen: &mut SeenTags,
     lexeme: &Lexeme<'_>,
     is_operand: bool,
 ) -> Result<Value, Stop>

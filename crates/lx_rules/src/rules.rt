@@ -88,10 +88,10 @@ impl Known {
 
     /// Adds the rule of an expression, where it is built.
     fn push_rule(&mut self, alloc: Global, number: u32, reading: Reading) -> Result<(), Memory>
-        requires { IsHonest (length reading.tags.items) reading.value }
+        requires { IsHonest (length reading.tags.value) reading.value }
         ensures size { OnOk result (self.new.size ≡ min (2 ^ 40) (self.old.size + reading.value.size)) }
         ensures nesting { OnOk result (self.new.nesting ≡ max self.old.nesting reading.value.nesting) }
-        ensures tags { OnOk result (self.new.tags.items ≡ self.old.tags.items ++ reading.tags.items) }
+        ensures tags { OnOk result (self.new.tags.items ≡ self.old.tags.items ++ reading.tags.value) }
         ensures env { self.new.env ≡ self.old.env }
         ensures default { self.new.default ≡ self.old.default }
         ensures acts { self.new.acts ≡ self.old.acts }
@@ -100,11 +100,11 @@ impl Known {
         let Reading { value, tags } = reading;
         self.size = sum(self.size, value.size);
         self.nesting = self.nesting.max(value.nesting);
-        add_copies(alloc, &mut self.tags, &tags)?;
+        add_copies(alloc, &mut self.tags, tags.names())?;
         match value.into_expr() {
             None => Ok(()),
             Some(expr) => {
-                let tags = tags_with(alloc, &tags)?;
+                let tags = tags_with(alloc, tags.names())?;
                 self.rules
                     .push(simple_rule(number, Kind::Plain, expr, tags))?;
                 Ok(())
@@ -129,7 +129,7 @@ impl Known {
 
     /// Adds the rule of an expression.
     fn add_plain(&mut self, alloc: Global, reading: Reading, act: Act) -> Result<(), Memory>
-        requires { IsHonest (length reading.tags.items) reading.value }
+        requires { IsHonest (length reading.tags.value) reading.value }
         ensures few { OnOk result (length self.new.acts.items ≤ suc (length self.old.acts.items)) }
         ensures added { (conds : Bool) (state : State) (at : Pos) (rule : RuleOf) → Holds conds self.old state → IsNew conds self.old (head.Plain reading) at act rule
             → OnOk result (Holds conds self.new (with_rule state rule)) }

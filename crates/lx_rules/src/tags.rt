@@ -1,5 +1,6 @@
 //! Names of tags.
-ghost use Rattle.std.specs.Prelude.{◌≡◌, ◌++◌, ◌∷◌, [], ℕ, List, IfOk, OnOk, drop, is_some, length};
+ghost use Rattle.std.specs.Prelude.{◌≡◌, ◌<◌, ◌^◌, ◌++◌, ◌∷◌, [], ℕ, List, IfOk, OnOk, drop, is_some, length, unwrap_or};
+ghost use Rattle.std.specs.Option.{option_map};
 ghost use Rattle.std.specs.Map.{lookup};
 ghost use Rattle.std.specs.Str.{bytes_eq};
 ghost use Rattle.lx_rules.specs.Checks.{is_among, repeated_tag};
@@ -8,10 +9,11 @@ use indexmap::IndexMap;
 use lx_base::{ByteText, Fault, Memory, Pos};
 use std::alloc::Global;
 use std::marker::Model;
+use std::rc::Rc;
 
 /// Names of tags, in order, and an index of them. Contracts see the names.
 #[derive(Drop)]
-pub(crate) struct TagNames {
+pub struct TagNames {
     names: Vec<ByteText>,
     index: IndexMap<Vec<u8>, ()>,
 }
@@ -37,7 +39,8 @@ impl TagNames {
 
     /// How many names there are.
     pub fn len(&self) -> usize
-        ensures { result ≡ length self.now }
+        ensures count { result ≡ length self.now }
+        ensures few { result < 2 ^ 63 }
     {
         self.names.len()
     }
@@ -73,11 +76,92 @@ impl TagNames {
         Ok(())
     }
 
-    /// The names alone.
-    pub fn into_names(self) -> Vec<ByteText>
-        ensures { result.items ≡ self }
+    /// The names.
+    pub fn names(&self) -> &[ByteText]
+        ensures { result.now ≡ self.now }
     {
-        self.names
+        self.names.as_slice()
+    }
+}
+
+/// Names of tags, of which the first ones may be those of a definition, and are shared with it. Contracts see all of them, in
+/// order.
+#[derive(Drop)]
+pub(crate) struct SeenTags {
+    front: Option<Rc<TagNames>>,
+    own: TagNames,
+}
+
+impl Model for SeenTags {
+    ghost Value = { List (List ℕ) };
+
+    ghost view = { λ seen. unwrap_or (option_map (λ names. names.value) seen.front) [] ++ seen.own };
+}
+
+impl SeenTags {
+    /// No names. It takes no memory.
+    pub fn new(alloc: Global) -> SeenTags
+        ensures { result ≡ [] }
+    {
+        SeenTags {
+            front: None,
+            own: TagNames::new(alloc),
+        }
+    }
+
+    /// How many names there are.
+    pub fn len(&self) -> usize
+        ensures { result ≡ length self.now }
+    {
+        match &self.front {
+            Some(front) => front.len() + self.own.len(),
+            None => self.own.len(),
+        }
+    }
+
+    /// Whether a name is one of them.
+    pub fn contains(&self, name: &[u8]) -> bool
+        ensures { result ≡ is_among name.now self.now }
+    {
+        match &self.front {
+            Some(front) => front.contains(name) || self.own.contains(name),
+            None => self.own.contains(name),
+        }
+    }
+
+    /// Puts a copy of a name behind the others.
+    pub fn push(&mut self, alloc: Global, name: &[u8]) -> Result<(), Memory>
+        ensures { OnOk result (self.new ≡ self.old ++ name.now ∷ []) }
+    {
+        self.own.push(alloc, name)
+    }
+
+    /// Puts the names of a definition behind the others. They are shared where there are no others.
+    pub fn add(&mut self, alloc: Global, more: &Rc<TagNames>) -> Result<(), Memory>
+        ensures { OnOk result (self.new ≡ self.old ++ more.now.value) }
+    {
+        if self.len() == 0 {
+            self.front = Some(more.clone()?);
+            return Ok(());
+        }
+        self.own.push_all(alloc, more.names())
+    }
+
+    /// The same names, to be shared.
+    pub fn into_shared(self, alloc: Global) -> Result<Rc<TagNames>, Memory>
+        ensures { IfOk result (λ names. names.value ≡ self) }
+    {
+        let SeenTags { front, own } = self;
+        let Some(front) = front else {
+            return Ok(Rc::new(alloc, own)?);
+        };
+        if own.len() == 0 {
+            return Ok(front);
+        }
+        let mut all = TagNames::new(alloc);
+        all.push_all(alloc, front.names())?;
+        all.push_all(alloc, own.names())?;
+        Ok(Rc::new(alloc, all)?)
     }
 }
 
@@ -104,7 +188,7 @@ pub(crate) fn repeated_tag(
     alloc: Global,
     at: Pos,
     tags: &[ByteText],
-    seen: &TagNames,
+    seen: &SeenTags,
 ) -> Result<Option<Fault>, Memory>
     ensures { IfOk result (λ found. found ≡ repeated_tag at tags.now seen.now) }
 {

@@ -27,6 +27,6 @@ returns-clause-read c =
     let view = step_view (lexemes_view c.args.lexemes) in
     part_read options definitions (lexemes_view c.args.lexemes) c.args.from c.args.until c.requires.part
     (map view c.in_ok-steps.steps.items) c.in_ok-steps.ensures c.args.reader.room c.in-Ok.operands c.pop-value.new.self.values.items
-    (record { value = c.pop-value.result; tags = c.into_names-tags.result })
+    (record { value = c.pop-value.result; tags = c.in_ok-tags.tags })
     (subst (λ l. AreTaken options definitions c.args.reader.room no_operands (map view l) c.in-Ok.operands) c.deref.ensures.value c.in-Ok.ensures.taken)
-    c.pop-value.ensures.values (c.into_names-tags.ensures ∙ c.pop-value.ensures.seen)
+    c.pop-value.ensures.values (c.in_ok-tags.ensures ∙ c.pop-value.ensures.seen)

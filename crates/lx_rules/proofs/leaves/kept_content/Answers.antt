@@ -1,4 +1,4 @@
-use Rattle.std.proofs.Common.{◌∙◌, ap, arith, length, refl, subst, sym}
+use Rattle.std.proofs.Common.{◌≡◌, ◌∙◌, ap, arith, length, refl, subst, sym}
 use Rattle.std.specs.Option.{option_map}
 use Rattle.lx_regex.specs.Expr.{term_of}
 use Rattle.lx_rules.specs.Environments.{HasClass, class_in, one}
@@ -10,16 +10,16 @@ use Rattle.lx_rules.proofs.leaves.kept_content.Goals as goal
 
 pub returns-then-sum-gt-MOST_TAGS-clause-stands : goal.returns-then-sum-gt-MOST_TAGS-clause-stands
 returns-then-sum-gt-MOST_TAGS-clause-stands c built past =
-    let count = ap length c.as_slice.ensures in
+    let count : c.len.result ≡ length c.args.kept.now.tags.value = c.len.ensures.count ∙ ap length c.deref.ensures in
     let is = ap (λ expr. class_in (shifted c.args.by (term_or_empty (option_map (term_of 0) expr)))) c.in-Some.is in
     let class = sym (is ∙ class_in-shifted c.args.by (term_of 0 c.in-Some.expr)) in
     (past (omega (arith, count, c.sum.ensures, c.if-sum-gt-MOST_TAGS.true)), subst (HasClass c.in_ok-class.class) class c.in_ok-class.ensures, refl)
 
 pub copy-requires-clause-tags : goal.copy-requires-clause-tags
 copy-requires-clause-tags c =
-    let tags = c.args.kept.now.tags in
+    let tags = c.args.kept.now.tags.value in
     let fits = subst (λ expr. FitsKept expr c.args.kept.now.size (length tags)) c.in-Some.is c.requires in
-    let count = ap length c.as_slice.ensures in
+    let count : c.len.result ≡ length c.args.kept.now.tags.value = c.len.ensures.count ∙ ap length c.deref.ensures in
     HasTagsBelow-greater (length tags) 128 (term_of 0 c.in-Some.expr) (omega (arith, count, c.sum.ensures, c.if-sum-gt-MOST_TAGS.false)) fits.2
 
 pub returns-clause-stands : goal.returns-clause-stands
@@ -28,6 +28,6 @@ returns-clause-stands c built past tags =
 
 pub returns-clause-tags : goal.returns-clause-tags
 returns-clause-tags c =
-    let tags = c.args.kept.now.tags in
+    let tags = c.args.kept.now.tags.value in
     let fits = subst (λ expr. FitsKept expr c.args.kept.now.size (length tags)) c.in-Some.is c.requires in
     subst (HasTagsBelow _) (sym (c.in_ok-copy.ensures.term 0)) (HasTagsBelow-shifted c.args.by (length tags) (term_of 0 c.in-Some.expr) fits.2)

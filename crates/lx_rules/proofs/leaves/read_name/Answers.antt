@@ -22,21 +22,22 @@ returns-clause-read c =
     let meaning = copied (length before) definition in
     let found : definition_of definitions lexeme.text ≡ Some definition =
     sym c.get.ensures.found ∙ ap (option_map (λ kept. definition_view lexeme.text kept.now)) c.in-Some.is in
-    let fresh : repeated_tag lexeme.at held.tags before ≡ None =
-    ap (λ tags. repeated_tag lexeme.at tags before) (sym c.as_slice.ensures) ∙ sym c.in_ok-fault.ensures ∙ c.in_default-2.is in
+    let names : c.names.result.now ≡ held.tags.value = c.names.ensures ∙ c.deref.ensures in
+    let fresh : repeated_tag lexeme.at held.tags.value before ≡ None =
+    ap (λ tags. repeated_tag lexeme.at tags before) (sym names) ∙ sym c.in_ok-fault.ensures ∙ c.in_default-2.is in
     let checked = sym (ap (λ found. name_fault reader.options.now definitions found lexeme before) found ∙ fresh) in
-    let added : c.push_all.new.self ≡ before ++ held.tags = c.in_ok-push_all.ensures ∙ ap (λ tags. before ++ tags) c.as_slice-2.ensures in
-    let many = ap length added ∙ length-append before held.tags in
+    let added : c.add.new.self ≡ before ++ held.tags.value = c.in_ok-add.ensures in
+    let many = ap length added ∙ length-append before held.tags.value in
     let by : c.len-by.result ≡ length before = c.len-by.ensures in
-    let tags : c.sum-tags.result ≡ kept (length before + length held.tags) =
+    let tags : c.sum-tags.result ≡ kept (length before + length held.tags.value) =
     omega (arith, many, c.sum-tags.ensures, c.len.ensures) in
     let content =
     c.in_ok-content.ensures.stands (is_built reader.room meaning)
-    (λ past. fits-tagged reader.room c.requires.room held.size (suc held.nesting) (length before + length held.tags) (omega (arith, past, by))) in
+    (λ past. fits-tagged reader.room c.requires.room held.size (suc held.nesting) (length before + length held.tags.value) (omega (arith, past, by))) in
     let counted : IsCounted meaning c.sum-size.result c.sum-nesting.result c.sum-tags.result =
     record { size_is = c.sum-size.ensures ∙ omega arith; nesting_is = c.sum-nesting.ensures ∙ omega arith; tags_is = tags } in
     kind-read reader.options.now definitions reader.room c.args.is_operand before lexeme kind.Name c.requires.sort checked meaning
-    (definition, found, refl) c.push_all.new.self added c.in_ok-limited.field-0
+    (definition, found, refl) c.add.new.self added c.in_ok-limited.field-0
     (c.in_ok-limited.ensures.stands meaning counted
     (subst (λ count. IsContent (is_built reader.room meaning) (copied count definition) c.in_ok-content.content) by content))
 
@@ -44,11 +45,11 @@ pub returns-clause-honest : goal.returns-clause-honest
 returns-clause-honest c =
     let before = c.args.seen.now in
     let held = c.in-Some.kept.now in
-    let some = size-some held.expr held.size (length held.tags) (c.in-Some.ensures.sound c.requires.sound) in
+    let some = size-some held.expr held.size (length held.tags.value) (c.in-Some.ensures.sound c.requires.sound) in
     let size = c.in_ok-content.ensures.size in
-    let added : c.push_all.new.self ≡ before ++ held.tags = c.in_ok-push_all.ensures ∙ ap (λ tags. before ++ tags) c.as_slice-2.ensures in
-    let many : length c.push_all.new.self ≡ c.len-by.result + length held.tags =
-    ap length added ∙ length-append before held.tags ∙ omega (arith, c.len-by.ensures) in
-    c.in_ok-limited.ensures.honest (length c.push_all.new.self) (omega (arith, some, c.sum-size.ensures))
+    let added : c.add.new.self ≡ before ++ held.tags.value = c.in_ok-add.ensures in
+    let many : length c.add.new.self ≡ c.len-by.result + length held.tags.value =
+    ap length added ∙ length-append before held.tags.value ∙ omega (arith, c.len-by.ensures) in
+    c.in_ok-limited.ensures.honest (length c.add.new.self) (omega (arith, some, c.sum-size.ensures))
     (λ small. omega (arith, size, small, c.sum-size.ensures))
     (subst (λ count. AreTagsBelow count c.in_ok-content.content) (sym many) c.in_ok-content.ensures.tags)

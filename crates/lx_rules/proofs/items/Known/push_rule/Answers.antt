@@ -1,4 +1,4 @@
-use Rattle.std.proofs.Common.{◌≤◌, ◌∙◌, false, length, map, None, inl, refl, subst, sym, ap, ap₂}
+use Rattle.std.proofs.Common.{◌≡◌, ◌≤◌, ◌∙◌, false, length, map, None, inl, refl, subst, sym, ap, ap₂}
 use Rattle.lx_regex.specs.Expr.{size_of}
 use Rattle.lx_regex.specs.Pattern.{Pattern}
 use Rattle.lx_regex.specs.declared.rules.Kind.TheVariants as kind
@@ -17,13 +17,14 @@ returns-clause-rules c =
     let reading = c.args.reading in
     let room = room_behind known.size known.nesting (length known.tags.items) in
     let tags = c.in_ok-tags-in-Some in
-    let kept = c.in-Some.ensures.kept (length reading.tags.items) c.requires in
+    let kept = c.in-Some.ensures.kept (length reading.tags.value) c.requires in
+    let named : c.names-in-Some.result.now ≡ reading.tags.value = c.names-in-Some.ensures ∙ c.deref-in-Some.ensures in
     let size : size_of c.simple_rule.result.expr ≤ reading.value.size =
     subst (λ e. size_of e ≤ reading.value.size) (sym c.simple_rule.ensures.expr) kept.1 in
     adds_built room c.args.number reading known.rules.items c.push.new.self.items c.simple_rule.result c.in_ok-push-in-Some.ensures.items
     (ap (λ (p : Pattern). p.number) c.simple_rule.ensures.pattern) size
-    (c.simple_rule.ensures.names ∙ tags.ensures.names ∙ c.deref-in-Some.ensures.value)
+    (c.simple_rule.ensures.names ∙ tags.ensures.names ∙ named)
     (λ meaning is.
     c.simple_rule.ensures.pattern
     ∙ ap₂ (λ term many. record { number = c.args.number; kind = kind.Plain; term = term; many = many; slash = None; groups = 0 })
-    (c.in-Some.ensures.built room meaning is.value (length tags.tags)) (tags.ensures.many ∙ ap (map (λ name. false)) c.deref-in-Some.ensures.value))
+    (c.in-Some.ensures.built room meaning is.value (length tags.tags)) (tags.ensures.many ∙ ap (map (λ name. false)) named))
