@@ -5,7 +5,7 @@ use Rattle.std.proofs.lemmas.Bool.{OnFalse_at, ne_eqb}
 use Rattle.std.specs.List.{AllByRecursion}
 use Rattle.lx_base.specs.declared.settings.Enc.{Enc}
 use Rattle.lx_regex.specs.Limits.{AreRegular, HaveDifferentNumbers, IsRegular, IsSlashOf, IsWithinLimits, NoneHasNumber}
-use Rattle.lx_regex.specs.Pattern.{Pattern, end_rule, is_end, pattern_of, patterns_of, sorts_of, with_terms}
+use Rattle.lx_regex.specs.Pattern.{Pattern, end_rule, is_end, pattern_of, patterns_of, with_terms}
 use Rattle.lx_regex.specs.Values.{group_ends}
 use Rattle.lx_regex.specs.declared.rules.Rule.{Rule}
 use Rattle.lx_regex.proofs.SlashEvents.{slash_set}
