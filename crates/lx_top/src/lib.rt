@@ -7,6 +7,7 @@ mod emitted;
 pub mod endings;
 mod files;
 mod jobs;
+pub mod laws;
 mod report;
 pub mod run;
 

@@ -1,0 +1,11 @@
+//! What holds of all runs: each law is the contract of a function with an empty body.
+ghost use Rattle.std.specs.Prelude.{◌≡◌, ℕ, List, Option};
+ghost use Rattle.lx_base.specs.declared.faults.Fault.{Fault};
+ghost use Rattle.lx_files.specs.declared.files.HeldFile.{HeldFile};
+ghost use Rattle.lx_top.specs.FirstFault.{IsFirstFault};
+
+/// At most one fault is the first one of words and files, and none is where they have none.
+pub fn runs_have_one_first_fault()
+    ensures { (words : List (List ℕ)) (seen : List HeldFile) (fault other : Option Fault) →
+        IsFirstFault words seen fault → IsFirstFault words seen other → fault ≡ other }
+{}
