@@ -1,13 +1,12 @@
 -- A walk is plain exactly where it visits no state twice between two units.
-use Rattle.std.proofs.Common.{◌≡◌, ◌≢◌, ◌↔◌, ℕ, suc, List, [], ◌∷◌, ◌++◌, map, ap, arith}
+use Rattle.std.proofs.Common.{◌≢◌, ◌↔◌, ℕ, suc, List, [], ◌∷◌, ◌++◌, map, ap, arith}
 use Rattle.std.specs.Prelude.{AllPairs}
 use Rattle.std.proofs.lemmas.List.Kept.{AllPairs-cons}
 use Rattle.lx_base.specs.declared.settings.Enc.{Enc}
 use Rattle.lx_base.specs.Spelling.{spell}
-use Rattle.lx_regex.specs.Automaton.{State, automaton, label}
+use Rattle.lx_regex.specs.Automaton.{State, label}
 use Rattle.lx_regex.specs.Plain.{IsPlain}
-use Rattle.lx_regex.specs.Script.{Symbol, leaf_choice, reads}
-use Rattle.lx_regex.specs.Term.{Term}
+use Rattle.lx_regex.specs.Script.{leaf_choice, reads}
 use Rattle.lx_regex.specs.Walk.{Walk, stay, moved, at_point, at_unit, mark, symbols}
 use Rattle.lx_regex.proofs.Candidates.{plain_mark_back, plain_tail, unseen_label_back, unseen_mark_back}
 use Rattle.lx_regex.proofs.Exchange.{plain_from}
