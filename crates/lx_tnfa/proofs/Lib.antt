@@ -23,6 +23,7 @@ pub mod Membership
 pub mod NthLists
 pub mod OnePlace
 pub mod PlaceSteps
+pub mod PlainWalks
 pub mod RestPlaces
 pub mod RuleLists
 pub mod RuleTagLists

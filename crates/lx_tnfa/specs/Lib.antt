@@ -8,6 +8,7 @@ pub mod Live
 pub mod Making
 pub mod Moves
 pub mod PlaceNumbers
+pub mod PlainWalks
 pub mod Rows
 pub mod Search
 pub mod Shapes

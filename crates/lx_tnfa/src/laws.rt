@@ -1,16 +1,19 @@
 //! What holds of places. Each law is the contract of a function that does nothing.
-ghost use Rattle.std.specs.Prelude.{◌≡◌, ◌↔◌, ℕ, List, Some, map, slice_get};
+ghost use Rattle.std.specs.Prelude.{◌≡◌, ◌↔◌, ℕ, List, [], Some, map, slice_get};
 ghost use Rattle.lx_base.specs.declared.settings.Enc.{Enc};
 ghost use Rattle.lx_regex.specs.Automaton as spec;
 ghost use Rattle.lx_regex.specs.Automaton.{automaton, moves};
 ghost use Rattle.lx_regex.specs.Cut.{Cut, EndsInUnit, GoesOn, IsCut, SamePlace};
 ghost use Rattle.lx_regex.specs.Pattern.{Pattern, terms_of};
+ghost use Rattle.lx_regex.specs.Plain.{IsPlain};
 ghost use Rattle.lx_regex.specs.Script.{Symbol};
 ghost use Rattle.lx_regex.specs.Term.{Term};
+ghost use Rattle.lx_regex.specs.Walk.{Walk, symbols};
 ghost use Rattle.lx_tnfa.specs.Closure.{IsClosureOf};
 ghost use Rattle.lx_tnfa.specs.LeafReadings.{NumbersLeaves};
 ghost use Rattle.lx_tnfa.specs.Live.{state_of};
 ghost use Rattle.lx_tnfa.specs.Moves.{shown_move};
+ghost use Rattle.lx_tnfa.specs.PlainWalks.{VisitsOnce};
 ghost use Rattle.lx_tnfa.specs.PlaceNumbers.{number_behind, numbers_after, symbols_added};
 ghost use Rattle.lx_tnfa.specs.Standing.{StandsAt};
 ghost use Rattle.lx_tnfa.specs.Tnfa.{AllClassesFit, IsTnfaOf, Tnfa};
@@ -59,4 +62,11 @@ pub fn cuts_stand_at_places()
     ensures { (enc : Enc) (patterns : List Pattern) (tnfa : Tnfa) (word : List ℕ) (cut : Cut) → IsTnfaOf enc patterns tnfa
         → AllClassesFit enc (terms_of patterns) → IsCut enc (terms_of patterns) word cut
         → (place : Place) × StandsAt enc (terms_of patterns) tnfa cut place }
+{}
+
+/// A walk over the automaton of a rule list is plain exactly where it visits no state twice between two units: what the
+/// closures ask of the walks that the program looks at is what trees with plain scripts have.
+pub fn plain_walks_visit_no_state_twice()
+    ensures { (enc : Enc) (rules : List Term) (state : ℕ) (walk : Walk (automaton rules) 0 state)
+        → IsPlain (symbols enc walk []) ↔ VisitsOnce walk }
 {}

@@ -65,6 +65,7 @@ impl Tnfa {
     ghost use Rattle.lx_tnfa.specs.Tnfa.{AllClassesFit, FinishesPlace, IsPlace, IsTnfaOf, most_tags, place_after, rest_after, sorts_for, state_at};
 
     /// The automaton of a rule list within the limits of a scanner, of whose classes the encoding has each point.
+    /// Want of memory may be answered in its place, and no clause ties it to a cause.
     pub fn of(alloc: Global, set: &RuleSet, enc: Enc) -> Result<Tnfa, Memory>
         requires limits { IsWithinLimits set.now.rules }
         requires classes { AllClassesFit enc (terms_of (patterns_of set.now.rules)) }
