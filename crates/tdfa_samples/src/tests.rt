@@ -9,7 +9,9 @@ mod terms;
 
 use self::machine::matches;
 use self::rules::auto_of;
-use self::terms::{both, either, letter, mark, no_rules, one, points, repeated, unit, with, word};
+use self::terms::{
+    both, captured, either, letter, mark, no_rules, one, points, repeated, unit, with, word,
+};
 use lx_base::Enc;
 use std::test::Fail;
 
@@ -158,6 +160,28 @@ fn values_move_from_place_to_place(rt: HostRuntime) -> Result<(), Fail> {
         let rules = one(alloc, both(alloc, first, behind)?, many)?;
         let auto = auto_of(alloc, &rules, Enc::Utf8)?;
         let found = matches(alloc, &auto, &[97, 98, 98, 97, 98, 97], &["t"])?;
+        assert_eq!(rt; found.as_str(), want);
+    }
+    Ok(())
+}
+
+/// `([ab])* / [bc]` with captures: the groups are what stands before the slash, and its last iteration, which may be none.
+#[test]
+fn groups_and_the_slash_have_values(rt: HostRuntime) -> Result<(), Fail> {
+    let alloc = rt.alloc();
+    let rules = captured(alloc, points(alloc, 97, 98)?, points(alloc, 98, 99)?)?;
+    let auto = auto_of(alloc, &rules, Enc::Utf8)?;
+    let names = ["slash", "from", "to", "from", "to"];
+    let cases: [(&[u32], &str); 3] = [
+        (&[97, 98, 98], "1 3 slash=2 from=0 to=2 from=1 to=2"),
+        (&[99], "1 1 slash=0 from=0 to=0 from=- to=-"),
+        (
+            &[97, 98, 97, 100],
+            "1 2 slash=1 from=0 to=1 from=0 to=1; none",
+        ),
+    ];
+    for (input, want) in cases {
+        let found = matches(alloc, &auto, input, &names)?;
         assert_eq!(rt; found.as_str(), want);
     }
     Ok(())

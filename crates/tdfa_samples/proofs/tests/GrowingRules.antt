@@ -1,11 +1,13 @@
 -- A rule list within the limits, and one rule more.
-use Rattle.std.proofs.Common.{◌≡◌, ℕ, zero, suc, ◌+◌, ◌*◌, ◌≤◌, ◌<◌, List, [], ◌∷◌, ◌++◌, map, length, arith, refl, ap, ap₂, ◌∙◌, Bool, true, false, None}
+use Rattle.std.proofs.Common.{◌≡◌, ℕ, zero, suc, ◌+◌, ◌*◌, ◌≤◌, ◌<◌, List, [], ◌∷◌, ◌++◌, map, length, arith, refl, ap, ap₂, ◌∙◌, Bool, true, false, None, Some, inl, inr}
 use Rattle.std.specs.Prelude.{◌≢◌, if◌then◌else◌}
 use Rattle.lx_base.specs.Spelling.{greatest_point}
 use Rattle.lx_base.specs.declared.settings.Enc.{Enc}
 use Rattle.lx_regex.specs.Expr.{size_of, term_of}
-use Rattle.lx_regex.specs.Limits.{AreRegular, HaveDifferentNumbers, IsWithinLimits, NoneHasNumber, end_count, numbers_from, sizes_of, tags_of}
+use Rattle.lx_regex.specs.Limits.{AreRegular, HasLongSequences, HaveDifferentNumbers, IsSlashOf, IsWithinLimits, NoneHasNumber, end_count, numbers_from, sizes_of, tags_of}
 use Rattle.lx_regex.specs.Pattern.{Pattern, is_end, pattern_of, patterns_of, terms_of, with_terms}
+use Rattle.lx_regex.specs.Script.{merge_tags, put_tag, tags_in}
+use Rattle.lx_regex.specs.Term.{Term, cat, cons, group, nil, repeat, tag}
 use Rattle.lx_regex.specs.declared.expr.Expr.{Expr}
 use Rattle.lx_regex.specs.declared.rules.Rule.{Rule}
 use Rattle.lx_regex.specs.declared.rules.Tag.{Tag}
@@ -96,7 +98,7 @@ within_more rules size tags number expr list first count more (within, sizes, co
     let (sequences, told, here) = sound (length list) in
     let one : IsWithinLimits (plain number expr list None 0 ∷ []) =
     limits_of_one number expr list None 0 (omega (arith, this, few)) (omega (arith, few_tags, length_is)) sequences
-    (told ∙ from_zero first count zero_first ∙ ap (numbers_from 0) sum) in
+    (told ∙ from_zero first count zero_first ∙ ap (numbers_from 0) sum) tt in
     let last : number ≡ 1 + length rules = omega (arith, next) in (
       record {
         size = omega (arith, all_sizes, sizes, this, few);
@@ -109,4 +111,25 @@ within_more rules size tags number expr list first count more (within, sizes, co
       omega (arith, all_tags, counts, length_is),
       numbers_more 1 rules (plain number expr list None 0) numbers last,
       λ enc wide. fits_more enc rules number expr list (here enc wide) (fits enc wide),
+    )
+
+-- the term of `(body)* / behind` with captures
+abbrev captured_term : Term → Term → Term
+captured_term body behind = cat (cons (group 1 2 (repeat (group 3 4 body) 0 None)) (cons (tag 0) (cons behind nil)))
+
+-- the rule list of such a rule
+pub within_captured : (expr : Expr) (slash : Tag) (body behind : Term) (size : ℕ) → slash.many ≡ false → term_of 1 expr ≡ captured_term body behind
+    → size_of expr ≡ size → size ≤ 4096 → IsSound body [] → IsSound behind [] → AreWithin (plain 1 expr (slash ∷ []) (Some 0) 2 ∷ []) size 3
+within_captured expr slash body behind size many is sizes few (sequences, tags, fits) (sequences', tags', fits') =
+    let long : HasLongSequences (term_of 1 expr) = rw is (omega arith, (sequences, (tt, (sequences', tt)))) in
+    let told : tags_in (term_of 1 expr) ≡ numbers_from 0 5 =
+    ap tags_in is
+    ∙ ap₂ (λ a b. merge_tags (put_tag 1 (put_tag 2 (put_tag 3 (put_tag 4 a)))) (merge_tags (0 ∷ []) (merge_tags b []))) tags tags' in
+    let stands : IsSlashOf (pattern_of (plain 1 expr (slash ∷ []) (Some 0) 2)) (Some 0) =
+    (ap (λ (b : Bool). Some b) many, rw is (inr (inl refl))) in (
+      limits_of_one 1 expr (slash ∷ []) (Some 0) 2 (omega (arith, sizes, few)) (omega arith) long told stands,
+      omega (arith, sizes),
+      omega arith,
+      refl,
+      λ enc wide. rw is ((fits enc wide, (tt, (fits' enc wide, tt))), tt),
     )

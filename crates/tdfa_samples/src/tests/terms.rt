@@ -1,11 +1,11 @@
 //! Expressions, and rule lists within the limits of a scanner.
-ghost use Rattle.std.specs.Prelude.{◌≡◌, ℕ, ◌≤◌, [], ◌∷◌, IfOk, IfSome, length, map};
+ghost use Rattle.std.specs.Prelude.{◌≡◌, ℕ, ◌≤◌, [], ◌∷◌, IfOk, IfSome, None, length, map};
 ghost use Rattle.lx_base.specs.Spelling.{greatest_point};
 ghost use Rattle.lx_base.specs.declared.settings.Enc.{Enc};
 ghost use Rattle.lx_regex.specs.Expr.{members_of, term_of};
 ghost use Rattle.lx_regex.specs.Limits.{HaveLongSequences, numbers_from};
 ghost use Rattle.lx_regex.specs.Script.{merge_tags, tags_among};
-ghost use Rattle.lx_regex.specs.Term.{alt, cat, class, repeat};
+ghost use Rattle.lx_regex.specs.Term.{alt, cat, class, cons, group, nil, repeat, tag};
 ghost use Rattle.lx_tnfa.specs.Rows.{ClassesFitAmong};
 ghost use Rattle.lx_tdfa.specs.Building.{IsBuilt};
 
@@ -299,6 +299,55 @@ pub(super) fn with(alloc: Global, rules: Rules, term: Term, many: bool) -> Resul
 /// A rule list of one rule.
 pub(super) fn one(alloc: Global, term: Term, many: bool) -> Result<Rules, Fail> {
     with(alloc, no_rules(alloc), term, many)
+}
+
+/// The expression of `(body)* / behind` with captures, of a rule with no other tag than that of the slash.
+fn context(alloc: Global, body: Expr, behind: Expr) -> Result<Expr, Memory>
+    ensures { IfOk result (λ e. term_of 1 e ≡ cat (cons (group 1 2 (repeat (group 3 4 (term_of 1 body)) 0 None))
+        (cons (tag 0) (cons (term_of 1 behind) nil)))) }
+{
+    let first = Expr::Group(1, Box::new(alloc, body)?);
+    let repeated = Expr::Rep(Box::new(alloc, first)?, 0, None);
+    let whole = Expr::Group(0, Box::new(alloc, repeated)?);
+    let mut members = Vec::new(alloc);
+    members.push(whole)?;
+    members.push(Expr::STag(0))?;
+    members.push(behind)?;
+    Ok(Expr::Cat(members))
+}
+
+/// The rule list of `(body)* / behind` with captures, where neither has tags.
+pub(super) fn captured(alloc: Global, body: Term, behind: Term) -> Result<Rules, Fail> {
+    if body.count > 0 {
+        return Err("there are tags before the slash")?;
+    }
+    if behind.count > 0 {
+        return Err("there are tags behind the slash")?;
+    }
+    let expr = context(alloc, body.expr, behind.expr)?;
+    let more = size(&expr);
+    if more > 4096 {
+        return Err("the rule is past a limit")?;
+    }
+    let mut tags = Sequence::new(alloc);
+    tags.push(Tag {
+        name: Sequence::new(alloc),
+        many: false,
+    })?;
+    let mut rules = Sequence::new(alloc);
+    rules.push(Rule {
+        number: 1,
+        kind: Kind::Plain,
+        expr,
+        tags,
+        slash: Some(0),
+        groups: 2,
+    })?;
+    Ok(Rules {
+        set: RuleSet { rules },
+        size: more,
+        tags: 3,
+    })
 }
 
 /// The tagged automaton of rules.
