@@ -5,8 +5,8 @@ ghost use Rattle.lx_rules.specs.Environments.{definition_of};
 ghost use Rattle.lx_rules.specs.Seen.{definition_view, definitions_view};
 ghost use Rattle.lx_rules.specs.Soundness.{AreSound, FitsKept};
 
-use indexmap::IndexMap;
 use crate::tags::TagNames;
+use indexmap::IndexMap;
 use lx_base::{Memory, Pos};
 use lx_regex::Expr;
 use std::alloc::Global;

@@ -192,6 +192,9 @@ pub(crate) fn repeated_tag(
 ) -> Result<Option<Fault>, Memory>
     ensures { IfOk result (λ found. found ≡ repeated_tag at tags.now seen.now) }
 {
+    if seen.len() == 0 {
+        return Ok(None);
+    }
     for tag in tags {
         if seen.contains(tag.as_slice()) {
             let name = text(alloc, tag.as_slice())?;

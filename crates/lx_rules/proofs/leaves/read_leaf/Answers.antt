@@ -1,4 +1,4 @@
-use Rattle.std.proofs.Common.{◌≡◌, arith, length, subst, true, false}
+use Rattle.std.proofs.Common.{◌≡◌, length, subst, true, false}
 use Rattle.lx_rules.specs.Seen.{definitions_view, lexeme_view}
 use Rattle.lx_rules.proofs.LeafSteps.{ReadsString, caseless-reads, string-reads}
 use Rattle.lx_rules.proofs.leaves.read_leaf.Goals as goal

@@ -1,9 +1,9 @@
-use Rattle.std.proofs.Common.{◌∙◌, ◌+◌, ap, drop, sym, Some}
+use Rattle.std.proofs.Common.{◌≡◌, ◌∙◌, ◌+◌, ap, arith, drop, length, sym, Some}
 use Rattle.std.specs.Prelude.{if◌then◌else◌}
 use Rattle.std.proofs.lemmas.List.{at_drop_all}
 use Rattle.lx_base.specs.declared.faults.Fault.TheVariants.{DuplicateTag}
 use Rattle.lx_rules.specs.Checks.{is_among, repeated_tag}
-use Rattle.lx_rules.proofs.TagNames.{repeated_tag-drop}
+use Rattle.lx_rules.proofs.TagNames.{repeated_tag-drop, repeated_tag-first}
 use Rattle.lx_rules.proofs.tags.repeated_tag.Goals as goal
 
 pub returns-then-contains : goal.returns-then-contains
@@ -29,3 +29,8 @@ loop-tag-preserved c =
 pub returns : goal.returns
 returns c =
     sym (c.loop-tag.invariant ∙ at_drop_all (λ tags. repeated_tag c.args.at tags c.args.seen.now) c.args.tags.now c.loop-tag.tag-index c.loop-tag-test.false)
+
+pub returns-then-len-eq0 : goal.returns-then-len-eq0
+returns-then-len-eq0 c =
+    let none : length c.args.seen.now ≡ 0 = omega (arith, c.len.ensures, c.if-len-eq0.true) in
+    sym (repeated_tag-first c.args.at c.args.tags.now c.args.seen.now none)
