@@ -11,8 +11,8 @@ use std::marker::Model;
 /// A set of code points, which contracts see as the list of its ranges.
 ///
 /// The ranges are sorted, and between two neighbours at least one point is missing, so sets with the
-/// same points have the same ranges (`same_points_same_ranges`). A call that answers `Memory` does so
-/// where memory runs out, and changes neither of its sets.
+/// same points have the same ranges (`same_points_same_ranges`). A call that may answer `Memory`
+/// changes neither of its sets where it does; no clause ties that to a cause.
 #[derive(Debug, Drop)]
 pub struct ClassSet {
     ranges: Vec<Range>,

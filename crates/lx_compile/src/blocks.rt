@@ -22,8 +22,8 @@ fn are_supported(resolved: &Resolved) -> bool
 
 /// What a block resolves to, and what holds behind it.
 ///
-/// Its opener stands at `at`, and its body begins at `start`. It refuses with the first fault of the block; `Memory` comes only
-/// where memory runs out.
+/// Its opener stands at `at`, and its body begins at `start`. It refuses with the first fault of the block; `Memory` may be
+/// answered, and no clause ties it to a cause.
 pub(crate) fn resolve_block(
     alloc: Global,
     kind: BlockKind,

@@ -38,8 +38,8 @@ fn output_of(alloc: Global, source: &[u8], options: &Options) -> Result<Vec<u8>,
 /// The output of a source: the text outside of its blocks, unchanged, with one emitted piece in the place of each block.
 ///
 /// The source is file 0 of the file names. It refuses with the first fault of the source: all blocks are resolved in order, and
-/// then their scanners are made in order. `Memory` comes only where memory runs out, or where a piece would have more than 2^62
-/// statements.
+/// then their scanners are made in order. `Memory` may be answered, also for a piece that would have more than 2^62
+/// statements; no clause ties it to a cause.
 pub fn compile(alloc: Global, source: &[u8], options: &Options) -> Result<Vec<u8>, Stop>
     requires { ArePlain options.now }
     ensures output { MatchResult result

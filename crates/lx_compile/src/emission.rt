@@ -124,8 +124,8 @@ fn append_block(
 
 /// The parts of a source one behind another, with a piece in the place of each block.
 ///
-/// It refuses the first block with a scanner that has too many kernels, with `TooManyStates` at its opener; `Memory` comes only where
-/// memory runs out, or where a piece would have more than 2^62 statements.
+/// It refuses the first block with a scanner that has too many kernels, with `TooManyStates` at its opener; `Memory` may be
+/// answered, also for a piece that would have more than 2^62 statements; no clause ties it to a cause.
 pub(crate) fn emit(alloc: Global, enc: Enc, parts: &[Part]) -> Result<Vec<u8>, Stop>
     requires ready { All (IsReadyPart enc) parts.now }
     requires few { length parts.now ≤ 16777216 }

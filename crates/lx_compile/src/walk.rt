@@ -14,7 +14,8 @@ use std::alloc::Global;
 
 /// The parts of a source: each block resolves in the environment that the blocks before it left.
 ///
-/// It refuses with the first fault of the first block that has one; `Memory` comes only where memory runs out.
+/// It refuses with the first fault of the first block that has one; `Memory` may be answered, and no clause
+/// ties it to a cause.
 pub(crate) fn resolve_blocks(
     alloc: Global,
     pieces: Pieces,

@@ -64,8 +64,8 @@ pub fn cuts_stand_at_places()
         → (place : Place) × StandsAt enc (terms_of patterns) tnfa cut place }
 {}
 
-/// A walk over the automaton of a rule list is plain exactly where it visits no state twice between two units: what the
-/// closures ask of the walks that the program looks at is what trees with plain scripts have.
+/// A walk over the automaton of a rule list is plain exactly where it visits no state twice between two units: the
+/// trees with plain scripts are those whose walks do so.
 pub fn plain_walks_visit_no_state_twice()
     ensures { (enc : Enc) (rules : List Term) (state : ℕ) (walk : Walk (automaton rules) 0 state)
         → IsPlain (symbols enc walk []) ↔ VisitsOnce walk }
