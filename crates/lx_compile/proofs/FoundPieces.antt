@@ -56,16 +56,22 @@ cut_at : (enc : Enc) (number : ℕ) (earlier : List Part) (at : Pos) (resolved :
     → AreOutputParts enc number (earlier ++ Block at resolved ∷ more) cut → IsCutAt enc number earlier resolved cut
 cut_at enc number [] at resolved more [] are = absurd are
 cut_at enc number [] at resolved more (part ∷ cut) are = record {
-    front = []; part = part; rest = cut; is = refl;
-    piece = subst (λ (n : ℕ). IsPieceOf enc n resolved.acts resolved.scanners part) (omega arith) are.0;
-    others = tt; no_scanner = λ none. tt;
-  }
+  front = [];
+  part = part;
+  rest = cut;
+  is = refl;
+  piece = subst (λ (n : ℕ). IsPieceOf enc n resolved.acts resolved.scanners part) (omega arith) are.0;
+  others = tt;
+  no_scanner = λ none. tt;
+}
 cut_at enc number (Outside text ∷ earlier) at resolved more [] are = absurd are
 cut_at enc number (Outside text ∷ earlier) at resolved more (scanner piece ∷ cut) are = absurd are
 cut_at enc number (Outside text ∷ earlier) at resolved more (empty other ∷ cut) are = absurd are
 cut_at enc number (Outside text ∷ earlier) at resolved more (outside other ∷ cut) are =
     let found = cut_at enc number earlier at resolved more cut are.1 in record {
-      front = outside other ∷ found.front; part = found.part; rest = found.rest;
+      front = outside other ∷ found.front;
+      part = found.part;
+      rest = found.rest;
       is = ap (λ (l : List OutputPart). outside other ∷ l) found.is;
       piece = found.piece;
       others = (λ is. is, found.others);
@@ -75,7 +81,9 @@ cut_at enc number (Block place before ∷ earlier) at resolved more [] are = abs
 cut_at enc number (Block place before ∷ earlier) at resolved more (first ∷ cut) are =
     let found = cut_at enc (suc number) earlier at resolved more cut are.1 in
     let same : suc number + block_count earlier ≡ number + suc (block_count earlier) = omega arith in record {
-      front = first ∷ found.front; part = found.part; rest = found.rest;
+      front = first ∷ found.front;
+      part = found.part;
+      rest = found.rest;
       is = ap (λ (l : List OutputPart). first ∷ l) found.is;
       piece = subst (λ (n : ℕ). IsPieceOf enc n resolved.acts resolved.scanners found.part) same found.piece;
       others = (
@@ -132,9 +140,9 @@ is_found options source output small is earlier at resolved more parts =
     let cut : AreCut (found.front ++ found.part ∷ found.rest) = subst AreCut found.is whole.1 in
     let text : output ≡ parts_text (found.front ++ found.part ∷ found.rest) = whole.2 ∙ ap parts_text found.is in
     let piece : IsPieceOf options.enc (suc (block_count earlier)) resolved.acts resolved.scanners found.part =
-        subst (λ (n : ℕ). IsPieceOf options.enc n resolved.acts resolved.scanners found.part) number found.piece in
+    subst (λ (n : ℕ). IsPieceOf options.enc n resolved.acts resolved.scanners found.part) number found.piece in
     let short : IsShort (suc (block_count earlier)) =
-        short_number options.enc (suc (block_count earlier)) resolved.acts resolved.scanners found.part found.rest piece (cut_from found.front (found.part ∷ found.rest) cut) in
+    short_number options.enc (suc (block_count earlier)) resolved.acts resolved.scanners found.part found.rest piece (cut_from found.front (found.part ∷ found.rest) cut) in
     record {
       offset = length (parts_text found.front);
       text = part_text found.part;

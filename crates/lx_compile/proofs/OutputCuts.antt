@@ -129,11 +129,11 @@ cut_block enc number acts [] body before after (empty other) cut none have is sh
 cut_block enc number acts [] body before after (outside text) cut none have is short slash rest = absurd is
 cut_block enc number acts [] body before after (scanner piece) cut none have is short slash rest = absurd is
 cut_block enc number acts (one ∷ []) body before after (scanner piece) cut none have is short slash rest = (
-    is.valid,
-    HasNoBegin-piece piece (parts_text cut) is.valid (all_unmarked body before after none acts have (all_statements piece.blocks) is.actions)
-        (subst IsUnmarkedLine (sym is.fields.line) tt) slash,
-    rest,
-  )
+  is.valid,
+  HasNoBegin-piece piece (parts_text cut) is.valid (all_unmarked body before after none acts have (all_statements piece.blocks) is.actions)
+      (subst IsUnmarkedLine (sym is.fields.line) tt) slash,
+  rest,
+)
 cut_block enc number acts (one ∷ []) body before after (outside text) cut none have is short slash rest = absurd is
 cut_block enc number acts (one ∷ []) body before after (empty other) cut none have is short slash rest = absurd is
 cut_block enc number acts (one ∷ next ∷ scanners) body before after part cut none have is short slash rest = absurd is
@@ -216,7 +216,7 @@ cut_from options environment number (piece.Block kind body at start end_line ∷
     let opener : List ℕ = codes "/*!" ++ word_of kind in
     let source : List ℕ = source_text pieces in
     let within : HasNoMark (opener ++ (body ++ (codes "*/" ++ source))) =
-        subst HasNoMark (append_assoc (opener ++ body) (codes "*/") source ∙ append_assoc opener body (codes "*/" ++ source)) none in
+    subst HasNoMark (append_assoc (opener ++ body) (codes "*/") source ∙ append_assoc opener body (codes "*/" ++ source)) none in
     let behind : HasNoMark source = HasNoMark-behind (opener ++ body ++ codes "*/") source none in
     let last : begins_mark (47 ∷ source) ≡ false = none (opener ++ body ++ codes "*") (47 ∷ source) (block_end kind body source) in
     let rest = cut_from options are.1.0 (suc number) pieces parts texts.1 are.1.2 texts.4 apart behind last (omega (arith, few)) in
@@ -237,6 +237,6 @@ pub cut-output : (options : Options) (source output : List ℕ) → length sourc
 cut-output options source output small is =
     let cut = pieces_of-cut options 0 source is.pieces is.pieces_are in
     let found = cut_from options first_environment 1 is.pieces is.parts output is.parts_are is.texts cut.apart
-        (subst HasNoMark (sym cut.text) cut.no_mark) (subst (λ (l : List ℕ). begins_mark (47 ∷ l) ≡ false) (sym cut.text) cut.completes_no_mark)
-        (omega (arith, small, length-cut source is.pieces cut)) in
+    (subst HasNoMark (sym cut.text) cut.no_mark) (subst (λ (l : List ℕ). begins_mark (47 ∷ l) ≡ false) (sym cut.text) cut.completes_no_mark)
+    (omega (arith, small, length-cut source is.pieces cut)) in
     (found.cut, found.is_cut, found.text, found.are)

@@ -35,9 +35,9 @@ decimal-one number other h k same =
 numbers-one : (number other : ℕ) (tail rest : List ℕ) → IsShort number → IsShort other → decimal number ++ 42 ∷ tail ≡ decimal other ++ 42 ∷ rest
     → (number ≡ other) × (tail ≡ rest)
 numbers-one number other tail rest h k same = (
-    decimal-one number other h k (sym (digits-star number tail h) ∙ ap (front is_digit) same ∙ digits-star other rest k),
-    (let both : 42 ∷ tail ≡ 42 ∷ rest = sym (behind-star number tail h) ∙ ap (behind is_digit) same ∙ behind-star other rest k in cc),
-  )
+  decimal-one number other h k (sym (digits-star number tail h) ∙ ap (front is_digit) same ∙ digits-star other rest k),
+  (let both : 42 ∷ tail ≡ 42 ∷ rest = sym (behind-star number tail h) ∙ ap (behind is_digit) same ∙ behind-star other rest k in cc),
+)
 
 -- ---- what begins at a place
 
@@ -84,7 +84,7 @@ empty-then number tail = ap (λ (l : List ℕ). codes "/*!begin:re2c " ++ l) (ap
 scanner-empty : (piece : Piece) (number : ℕ) (tail rest : List ℕ) → IsShort piece.number → IsShort number → piece_text piece ++ tail ≡ part_text (empty number) ++ rest → ⊥
 scanner-empty piece number tail rest h k same =
     let whole : piece_then piece tail ≡ codes "/*!begin:re2c " ++ (decimal number ++ 42 ∷ (codes "/\n/*!end:re2c*/" ++ rest)) =
-        sym (piece_text-append piece tail) ∙ same ∙ empty-then number rest in
+    sym (piece_text-append piece tail) ∙ same ∙ empty-then number rest in
     let both = numbers-one piece.number number _ (codes "/\n/*!end:re2c*/" ++ rest) h k (ap (λ (l : List ℕ). drop 14 l) whole) in
     false≢true (ap (begins_with (codes "/\n/*!e")) both.1)
 
@@ -196,11 +196,11 @@ before-one : (block : Option ℕ) (parts rest : List OutputPart) → IfSome bloc
     → (place : ℕ) → place < length (parts_text parts) → BeginsBlock block (drop place (parts_text (parts ++ rest))) → ⊥
 before-one block [] rest short cut none place within begins = omega (arith, within)
 before-one block (part ∷ parts) rest short cut none place within begins = elim (cases_lt place (length (part_text part))) [
-    inl inside ↦ within-one block part (parts ++ rest) short cut none.0 place inside begins
+  | inl inside ↦ within-one block part (parts ++ rest) short cut none.0 place inside begins
   | inr past ↦ before-one block parts rest short (cut-behind part (parts ++ rest) cut) none.1 (place - length (part_text part))
-        (omega (arith, within, past, length-append (part_text part) (parts_text parts)))
-        (subst (BeginsBlock block) (drop-behind (part_text part) (parts_text (parts ++ rest)) place past) begins)
-  ]
+      (omega (arith, within, past, length-append (part_text part) (parts_text parts)))
+      (subst (BeginsBlock block) (drop-behind (part_text part) (parts_text (parts ++ rest)) place past) begins)
+]
 
 pub parts_text-append : (parts rest : List OutputPart) → parts_text (parts ++ rest) ≡ parts_text parts ++ parts_text rest
 parts_text-append [] rest = refl
@@ -229,9 +229,9 @@ pub first_begin : (block : Option ℕ) (parts : List OutputPart) (part : OutputP
     → AllByRecursion (λ (earlier : OutputPart). Answers block earlier → ⊥) parts → Answers block part
     → IsFirstBegin block (parts_text (parts ++ part ∷ more)) (length (parts_text parts))
 first_begin block parts part more short cut none is = record {
-    begins = subst (BeginsBlock block) (sym here) (answers-begin block part more (cut_from parts (part ∷ more) cut) is);
-    none_before = before-one block parts (part ∷ more) short cut none;
-  }
+  begins = subst (BeginsBlock block) (sym here) (answers-begin block part more (cut_from parts (part ∷ more) cut) is);
+  none_before = before-one block parts (part ∷ more) short cut none;
+}
   where
     here : drop (length (parts_text parts)) (parts_text (parts ++ part ∷ more)) ≡ part_text part ++ parts_text more
     here = ap (λ (l : List ℕ). drop (length (parts_text parts)) l) (parts_text-append parts (part ∷ more)) ∙ drop-append_seam (parts_text parts) (parts_text (part ∷ more))

@@ -1,7 +1,7 @@
 //! Runs of the whole program over files and sinks in memory.
 ghost use Rattle.std.specs.Prelude.{None};
-use crate::run::re2c;
-use crate::run::refuse_words;
+
+use crate::run::{re2c, refuse_words};
 use lx_files::{Files, MemFiles, MemSink, PutAnswer, Sink};
 use std::alloc::Global;
 use std::test::Fail;
@@ -208,7 +208,11 @@ fn a_misspelled_jump_is_no_emitted_text(rt: HostRuntime) -> Result<(), Fail> {
     let source = b"int x;\n\t/*!re2c re2c:yyfill:enable = 0; \"a\" { return 1; } */\n";
     let made = run(rt.alloc(), "-i a.re", "a.re", source, "", b"", NONE)?;
     let mut bytes = Vec::new(rt.alloc());
-    let at = made.out.bytes().windows(4).position(|word| word == b"goto".as_slice());
+    let at = made
+        .out
+        .bytes()
+        .windows(4)
+        .position(|word| word == b"goto".as_slice());
     assert_eq!(rt; at.is_some(), true);
     for (place, byte) in made.out.bytes().iter().enumerate() {
         if Some(place) != at.map(|at| at + 3) {
@@ -219,7 +223,10 @@ fn a_misspelled_jump_is_no_emitted_text(rt: HostRuntime) -> Result<(), Fail> {
     let left = run(rt.alloc(), line, "q.c", &bytes, "in.txt", b"a", NONE)?;
     assert_eq!(rt; left.status, 1);
     assert_eq!(rt; left.out.bytes(), b"".as_slice());
-    assert_eq!(rt; left.err.bytes(), b"q.c:2:2: error: not emitted text\n".as_slice());
+    assert_eq!(rt;
+        left.err.bytes(),
+        b"q.c:2:2: error: not emitted text\n".as_slice()
+    );
     Ok(())
 }
 
