@@ -1,3 +1,3 @@
 mod Appending
 mod RunLemmas
-mod Tags
+mod GivenTags

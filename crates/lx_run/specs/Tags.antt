@@ -1,10 +1,15 @@
 -- The tags that statements give values.
-use Rattle.std.specs.Prelude.{◌≡◌, ℕ, false, true, List}
+use Rattle.std.specs.Prelude.{◌≡◌, ℕ, Bool, false, true, List, Option, Some, None}
 use Rattle.std.specs.List.{list_any}
 use Rattle.std.specs.Str.{bytes_eq}
 use Rattle.lx_ccode.specs.declared.piece.Stmt.{Stmt}
 use Rattle.lx_ccode.specs.declared.piece.Stmt.TheVariants.{Tag}
 use Rattle.lx_run.specs.Values.{gives_same}
+
+-- the name of the tag that a statement gives a value, and whether that is a history
+abbrev pub given_tag : Stmt → Option (List ℕ × Bool)
+given_tag (Tag name is_history register) = Some (name, is_history)
+given_tag _ = None
 
 -- the names are those of the tags that the statements give offsets, and of those that they give histories
 pub record AreTagsOf (statements : List Stmt) (offsets histories : List (List ℕ)) : Type 0 where

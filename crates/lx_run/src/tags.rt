@@ -1,10 +1,10 @@
 //! The tags that statements gave values.
-ghost use Rattle.std.specs.Prelude.{◌≡◌, [], ◌∷◌, ◌++◌, not, true, false, List, IfOk};
+ghost use Rattle.std.specs.Prelude.{◌≡◌, [], ◌∷◌, ◌++◌, not, true, false, List, option_map, IfOk};
 ghost use Rattle.std.specs.Bool.{MatchBool};
 ghost use Rattle.std.specs.List.{list_any};
 ghost use Rattle.std.specs.Str.{bytes_eq};
 ghost use Rattle.lx_ccode.specs.declared.piece.Stmt.{Stmt};
-ghost use Rattle.lx_run.specs.Tags.{AreTagsOf};
+ghost use Rattle.lx_run.specs.Tags.{AreTagsOf, given_tag};
 ghost use Rattle.lx_run.specs.Values.{gives_same};
 
 use indexmap::IndexSet;
@@ -28,6 +28,7 @@ impl Model for NameSet {
 }
 
 impl NameSet {
+    /// No names. It takes no memory.
     fn new(alloc: Global) -> NameSet
         ensures { result ≡ [] }
     {
@@ -72,10 +73,23 @@ impl GivenTags {
         ensures { (before : List Stmt) → AreTagsOf before self.old.offsets self.old.histories
             → IfOk result (λ new. (new ≡ not (list_any (gives_same statement.now) before)) × AreTagsOf (before ++ statement.now ∷ []) self.new.offsets self.new.histories) }
     {
-        match statement {
-            Stmt::Tag(name, false, _) => self.offsets.add(alloc, name.as_slice()),
-            Stmt::Tag(name, true, _) => self.histories.add(alloc, name.as_slice()),
-            _ => Ok(true),
+        let Some((name, is_history)) = given_tag(statement) else {
+            return Ok(true);
+        };
+        if is_history {
+            self.histories.add(alloc, name)
+        } else {
+            self.offsets.add(alloc, name)
         }
+    }
+}
+
+/// The name of the tag that a statement gives a value, and whether that is a history.
+fn given_tag(statement: &Stmt) -> Option<(&[u8], bool)>
+    ensures { option_map (λ tag. (tag.0.now, tag.1)) result ≡ given_tag statement.now }
+{
+    match statement {
+        Stmt::Tag(name, is_history, _) => Some((name.as_slice(), *is_history)),
+        _ => None,
     }
 }

@@ -2,7 +2,7 @@ use Rattle.std.proofs.Common.{◌∙◌, ap, map, refl, sym, take}
 use Rattle.std.proofs.lemmas.List.{length-map}
 use Rattle.std.proofs.Math.ListN.{get_or-map}
 use Rattle.lx_run.proofs.Appending.{tags_text-next}
-use Rattle.lx_run.proofs.Tags.{AreTagsOf-next}
+use Rattle.lx_run.proofs.GivenTags.{AreTagsOf-next}
 use Rattle.lx_run.proofs.assignments.append_tags.Goals as goal
 
 pub loop-place-preserved : goal.loop-place-preserved

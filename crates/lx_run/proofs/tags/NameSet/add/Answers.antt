@@ -1,4 +1,4 @@
-use Rattle.lx_run.proofs.Tags.{name_added}
+use Rattle.lx_run.proofs.GivenTags.{name_added}
 use Rattle.lx_run.proofs.tags.NameSet.add.Goals as goal
 
 pub returns : goal.returns

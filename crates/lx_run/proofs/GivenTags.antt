@@ -1,5 +1,5 @@
 -- Names of tags that are put to others.
-use Rattle.std.proofs.Common.{◌≡◌, ◌∙◌, sym, ap, ap₂, refl, subst, ℕ, Bool, true, false, ◌||◌, List, [], ◌∷◌, ◌++◌, map, not, if◌then◌else◌, ◌+◌, ◌<◌, suc, length, take, get_or, arith, Result, Ok, Err, IfOk}
+use Rattle.std.proofs.Common.{◌≡◌, ◌∙◌, sym, ap, refl, subst, ℕ, Bool, true, false, ◌||◌, List, [], ◌∷◌, ◌++◌, map, not, if◌then◌else◌, ◌+◌, ◌<◌, suc, length, take, get_or, arith, Some, None, Result, Ok, Err, IfOk}
 use Rattle.std.specs.Bool.{MatchBool}
 use Rattle.std.specs.List.{list_any}
 use Rattle.std.specs.Str.{bytes_eq}
@@ -9,7 +9,7 @@ use Rattle.std.proofs.lemmas.List.Folds.{list_any-append}
 use Rattle.std.proofs.lemmas.Slice.Eq.{bytes_eq-Decides}
 use Rattle.lx_ccode.specs.declared.piece.Stmt.{Stmt}
 use Rattle.lx_ccode.specs.declared.piece.Stmt.TheVariants.{Tag}
-use Rattle.lx_run.specs.Tags.{AreTagsOf}
+use Rattle.lx_run.specs.Tags.{AreTagsOf, given_tag}
 use Rattle.lx_run.specs.Values.{gives_same}
 
 list_any-map : {K : Type 0} (items : K → List ℕ) (word : List ℕ) (keys : List K) → list_any (λ key. bytes_eq word (items key)) keys ≡ list_any (bytes_eq word) (map items keys)
@@ -68,7 +68,7 @@ new-not names after name false added = rw added.0 refl
 
 -- ---- the tag of a statement was put to those before
 
-pub AreTagsOf-offset : (before : List Stmt) (offsets after histories : List (List ℕ)) (name : List ℕ) (register : ℕ) (new : Bool) → AreTagsOf before offsets histories
+AreTagsOf-offset : (before : List Stmt) (offsets after histories : List (List ℕ)) (name : List ℕ) (register : ℕ) (new : Bool) → AreTagsOf before offsets histories
     → WasAdded offsets after name new
     → (new ≡ not (list_any (gives_same (Tag name false register)) before)) × AreTagsOf (before ++ Tag name false register ∷ []) after histories
 AreTagsOf-offset before offsets after histories name register new tags added = (
@@ -81,7 +81,7 @@ AreTagsOf-offset before offsets after histories name register new tags added = (
   },
 )
 
-pub AreTagsOf-history : (before : List Stmt) (offsets histories after : List (List ℕ)) (name : List ℕ) (history : ℕ) (new : Bool) → AreTagsOf before offsets histories
+AreTagsOf-history : (before : List Stmt) (offsets histories after : List (List ℕ)) (name : List ℕ) (history : ℕ) (new : Bool) → AreTagsOf before offsets histories
     → WasAdded histories after name new
     → (new ≡ not (list_any (gives_same (Tag name true history)) before)) × AreTagsOf (before ++ Tag name true history ∷ []) offsets after
 AreTagsOf-history before offsets histories after name history new tags added = (
@@ -94,30 +94,55 @@ AreTagsOf-history before offsets histories after name history new tags added = (
   },
 )
 
+-- what is put to those before, where that succeeds
+abbrev pub IsPut : (before : List Stmt) → (offsets histories : List (List ℕ)) → Stmt → (new : Bool) → Type 0
+IsPut before offsets histories statement new = (new ≡ not (list_any (gives_same statement) before)) × AreTagsOf (before ++ statement ∷ []) offsets histories
+
+pub IsPut-offset : {E : Type 0} (answer : Result Bool E) (before : List Stmt) (offsets after histories : List (List ℕ)) (statement : Stmt) (name : List ℕ)
+    → Some (name, false) ≡ given_tag statement → IfOk answer (WasAdded offsets after name) → AreTagsOf before offsets histories → IfOk answer (IsPut before after histories statement)
+IsPut-offset (Ok new) before offsets after histories (Tag other sort register) name is added tags =
+    let both : (name, false) ≡ (other, sort) = cc in
+    let names : name ≡ other = ap (λ (tag : List ℕ × Bool). tag.0) both in
+    let sorts : sort ≡ false = sym (ap (λ (tag : List ℕ × Bool). tag.1) both) in
+    let same : Tag name false register ≡ Tag other sort register = ap (λ (one : List ℕ). Tag one false register) names ∙ ap (λ (one : Bool). Tag other one register) (sym sorts) in
+    subst (λ (one : Stmt). IsPut before after histories one new) same (AreTagsOf-offset before offsets after histories name register new tags added)
+IsPut-offset (Ok new) before offsets after histories _ name is added tags = absurd cc
+IsPut-offset (Err error) before offsets after histories statement name is added tags = added
+
+pub IsPut-history : {E : Type 0} (answer : Result Bool E) (before : List Stmt) (offsets histories after : List (List ℕ)) (statement : Stmt) (name : List ℕ)
+    → Some (name, true) ≡ given_tag statement → IfOk answer (WasAdded histories after name) → AreTagsOf before offsets histories → IfOk answer (IsPut before offsets after statement)
+IsPut-history (Ok new) before offsets histories after (Tag other sort history) name is added tags =
+    let both : (name, true) ≡ (other, sort) = cc in
+    let names : name ≡ other = ap (λ (tag : List ℕ × Bool). tag.0) both in
+    let sorts : sort ≡ true = sym (ap (λ (tag : List ℕ × Bool). tag.1) both) in
+    let same : Tag name true history ≡ Tag other sort history = ap (λ (one : List ℕ). Tag one true history) names ∙ ap (λ (one : Bool). Tag other one history) (sym sorts) in
+    subst (λ (one : Stmt). IsPut before offsets after one new) same (AreTagsOf-history before offsets histories after name history new tags added)
+IsPut-history (Ok new) before offsets histories after _ name is added tags = absurd cc
+IsPut-history (Err error) before offsets histories after statement name is added tags = added
+
 -- ---- other statements
 
-gives-none : (statement other : Stmt) → ((name : List ℕ) (sort : Bool) (register : ℕ) → statement ≡ Tag name sort register → ⊥) → gives_same statement other ≡ false
-gives-none (Tag name sort register) other no = absurd (no name sort register refl)
-gives-none _ other no = refl
+gives-none : (statement other : Stmt) → None ≡ given_tag statement → gives_same statement other ≡ false
+gives-none (Tag name sort register) other none = absurd cc
+gives-none _ other none = refl
 
-given-none : (name : List ℕ) (sort : Bool) (register : ℕ) (statement : Stmt) → ((name : List ℕ) (sort : Bool) (register : ℕ) → statement ≡ Tag name sort register → ⊥)
-    → gives_same (Tag name sort register) statement ≡ false
-given-none name sort register (Tag other sort' register') no = absurd (no other sort' register' refl)
-given-none name sort register _ no = refl
+given-none : (name : List ℕ) (sort : Bool) (register : ℕ) (statement : Stmt) → None ≡ given_tag statement → gives_same (Tag name sort register) statement ≡ false
+given-none name sort register (Tag other other_sort other_register) none = absurd cc
+given-none name sort register _ none = refl
 
 list_any-none : (test : Stmt → Bool) (statements : List Stmt) → ((statement : Stmt) → test statement ≡ false) → list_any test statements ≡ false
 list_any-none test [] none = refl
 list_any-none test (statement ∷ statements) none = rw (none statement) (list_any-none test statements none)
 
-pub AreTagsOf-other : (before : List Stmt) (offsets histories : List (List ℕ)) (statement : Stmt) → ((name : List ℕ) (sort : Bool) (register : ℕ) → statement ≡ Tag name sort register → ⊥)
-    → AreTagsOf before offsets histories → (true ≡ not (list_any (gives_same statement) before)) × AreTagsOf (before ++ statement ∷ []) offsets histories
-AreTagsOf-other before offsets histories statement no tags = (
-  rw (list_any-none (gives_same statement) before (λ other. gives-none statement other no)) refl,
+pub IsPut-other : (before : List Stmt) (offsets histories : List (List ℕ)) (statement : Stmt) → None ≡ given_tag statement → AreTagsOf before offsets histories
+    → IsPut before offsets histories statement true
+IsPut-other before offsets histories statement none tags = (
+  rw (list_any-none (gives_same statement) before (λ other. gives-none statement other none)) refl,
   record {
     offsets_are = λ other at. tags.offsets_are other at ∙ sym (or-false (list_any (gives_same (Tag other false at)) before))
-        ∙ sym (list_any-more (gives_same (Tag other false at)) before statement false (given-none other false at statement no));
+        ∙ sym (list_any-more (gives_same (Tag other false at)) before statement false (given-none other false at statement none));
     histories_are = λ other at. tags.histories_are other at ∙ sym (or-false (list_any (gives_same (Tag other true at)) before))
-        ∙ sym (list_any-more (gives_same (Tag other true at)) before statement false (given-none other true at statement no));
+        ∙ sym (list_any-more (gives_same (Tag other true at)) before statement false (given-none other true at statement none));
   },
 )
 
