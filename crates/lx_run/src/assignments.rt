@@ -1,8 +1,11 @@
 //! The statements by which a match gave values, and how these are printed.
-ghost use Rattle.std.specs.Prelude.{◌≡◌, ◌++◌, if◌then◌else◌, List, [], map, option_map, IfOk, OnOk};
+ghost use Rattle.std.specs.Prelude.{◌≡◌, ◌++◌, if◌then◌else◌, List, [], ◌∷◌, map, option_map, IfOk, OnOk};
 ghost use Rattle.std.specs.List.{list_any};
+ghost use Rattle.lx_ccode.specs.declared.piece.Stmt.{Stmt};
+ghost use Rattle.lx_run.specs.Tags.{AreTagsOf};
 ghost use Rattle.lx_run.specs.Values.{assignments, gives_same, is_cond, is_count, statement_at, tag_text, tags_text, values_text};
 
+use crate::tags::GivenTags;
 use crate::values::{append_groups, append_tag};
 use lx_base::{Memory, append_parts};
 use lx_ccode::{Piece, Stmt};
@@ -35,42 +38,20 @@ fn assignments<'p>(
     Ok(statements)
 }
 
-/// Whether both statements give the same tag a value of the same sort.
-fn gives_same(statement: &Stmt, other: &Stmt) -> bool
-    ensures { result ≡ gives_same statement.now other.now }
-{
-    match (statement, other) {
-        (Stmt::Tag(name, sort, _), Stmt::Tag(other_name, other_sort, _)) => {
-            name.as_slice() == other_name.as_slice()
-                && (if *sort { *other_sort } else { !*other_sort })
-        }
-        _ => false,
-    }
-}
-
-/// Whether one of the statements before gives the tag of this one a value of the same sort.
-fn is_given_before(before: &[&Stmt], statement: &Stmt) -> bool
-    ensures { result ≡ list_any (gives_same statement.now) (map (λ other. other.now) before.now) }
-{
-    for other in before {
-        if gives_same(statement, other) {
-            return true;
-        }
-    }
-    false
-}
-
-/// Puts what a statement gave a tag at the end of the text, unless a statement before it gave the tag a value too.
+/// Puts what a statement gave a tag at the end of the text, unless one of those before it gave the tag a value of the same sort.
 fn append_new_tag(
     alloc: Global,
     text: &mut Vec<u8>,
     lexer: &Lexer<'_>,
-    before: &[&Stmt],
+    before: &mut GivenTags,
     statement: &Stmt,
 ) -> Result<(), Memory>
-    ensures { OnOk result (text.new.items ≡ text.old.items ++ (if list_any (gives_same statement.now) (map (λ other. other.now) before.now) then [] else tag_text lexer.now statement.now)) }
+    ensures { (others : List Stmt) → AreTagsOf others before.old.offsets before.old.histories
+        → OnOk result ((text.new.items ≡ text.old.items ++ (if list_any (gives_same statement.now) others then [] else tag_text lexer.now statement.now))
+        × AreTagsOf (others ++ statement.now ∷ []) before.new.offsets before.new.histories) }
 {
-    if is_given_before(before, statement) {
+    let new = before.add(alloc, statement)?;
+    if !new {
         return Ok(());
     }
     append_tag(alloc, text, lexer, statement)
@@ -85,8 +66,9 @@ fn append_tags(
 ) -> Result<(), Memory>
     ensures { OnOk result (text.new.items ≡ text.old.items ++ tags_text lexer.now [] (map (λ statement. statement.now) statements.now)) }
 {
+    let mut before = GivenTags::new(alloc);
     for place in 0..statements.len() {
-        append_new_tag(alloc, text, lexer, &statements[..place], statements[place])?;
+        append_new_tag(alloc, text, lexer, &mut before, statements[place])?;
     }
     Ok(())
 }

@@ -7,6 +7,7 @@ mod lines;
 mod matches;
 mod runs;
 mod streams;
+mod tags;
 mod values;
 
 pub use runs::run_whole;

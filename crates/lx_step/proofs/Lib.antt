@@ -6,6 +6,7 @@ pub mod Places
 pub mod Reaching
 pub mod GreaterSizes
 pub mod SlotLists
+pub mod SlotPlaces
 pub mod Soundness
 pub mod Streams
 pub mod Tables

@@ -1,5 +1,5 @@
 -- Places of statements: how many there may be.
-use Rattle.std.proofs.Common.{◌≡◌, ◌∙◌, sym, ap, subst, refl, ℕ, zero, suc, ◌+◌, ◌<◌, ◌≤◌, ◌⊎◌, inl, inr, Bool, true, false, ◌||◌, ◌&&◌, ◌==◌, if◌then◌else◌, List, [], ◌∷◌, ◌++◌, length, Some, slice_get, arith, eqb-true, eq-eqb, length-append}
+use Rattle.std.proofs.Common.{◌≡◌, ◌∙◌, sym, ap, subst, refl, ℕ, zero, suc, ◌+◌, ◌<◌, ◌≤◌, ◌⊎◌, inl, inr, Bool, true, false, ◌||◌, ◌&&◌, ◌==◌, if◌then◌else◌, List, [], ◌∷◌, ◌++◌, length, Some, slice_get, Result, Ok, Err, IfOk, arith, eqb-true, eq-eqb, length-append}
 use Rattle.std.specs.List.{list_any, IsDistinct, AllByRecursion}
 use Rattle.std.specs.Cmp.{IsEquivalence}
 use Rattle.std.proofs.lemmas.Map.Made.{length-le_from_is_member}
@@ -150,12 +150,11 @@ room_left blocks at statement places room stands t new within roomy =
     length-le_from_is_member same_place-laws (places ++ place_of at ∷ []) (places_from 0 blocks) more.distinct more.among in
     omega (arith, few, roomy, length-append places (place_of at ∷ []))
 
-pub any-turned : (place : StmtAt) (places : List StmtAt) → list_any (same_place place) places ≡ list_any (λ other. same_place other place) places
-any-turned place [] = refl
-any-turned place (first ∷ places) =
-    let one : same_place place first ≡ same_place first place = same_place-symm place first in
-    let others : list_any (same_place place) places ≡ list_any (λ other. same_place other place) places = any-turned place places in
-    rw (one, others) refl
+-- a place that was none of the others was put behind them
+pub place_put : {E : Type 0} (answer : Result Bool E) (added : Bool) (places after : List StmtAt) (place : StmtAt) → answer ≡ Ok added
+    → IfOk answer (λ one. after ≡ (if list_any (same_place place) places then places else places ++ place ∷ [])) → list_any (same_place place) places ≡ false → after ≡ places ++ place ∷ []
+place_put (Ok one) added places after place is put new = put ∙ ap (λ (test : Bool). if test then places else places ++ place ∷ []) new
+place_put (Err error) added places after place is put new = absurd cc
 
 pub StaysIn-none : (blocks : List CodeBlock) (places : List StmtAt) → places ≡ [] → StaysIn blocks places
 unfolding IsDistinct

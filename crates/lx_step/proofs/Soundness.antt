@@ -29,7 +29,7 @@ use Rattle.lx_step.proofs.SlotLists.{offset_slots-in, history_slots-in, after_va
 pub IsSound-fresh : (program : Program) (scanner : Scanner) (given : Given) (room : ℕ) (sizes : Sizes) (numbering : Numbering) → program.statements ≡ statement_count program.piece.now.blocks
     → statement_count program.piece.now.blocks ≤ 2 ^ 62 → (program.piece.now.unit ≡ 1) ⊎ ((program.piece.now.unit ≡ 2) ⊎ (program.piece.now.unit ≡ 4))
     → sizes ≡ sizes_of_all numbering (all_statements program.piece.now.blocks) → scanner.numbering ≡ numbering → length scanner.registers.items ≡ sizes.registers → length scanner.histories ≡ sizes.histories
-    → given ≡ nothing_given (all_statements program.piece.now.blocks) sizes.groups → room ≡ program.statements → IsSound program scanner given room
+    → given ≡ nothing_given (all_statements program.piece.now.blocks) sizes.groups → program.statements ≤ room → IsSound program scanner given room
 IsSound-fresh program scanner given room sizes numbering count few unit s same registers histories g r =
     let entries : length given.entries ≡ sizes.groups = ap (λ (one : Given). length one.entries) g ∙ length-replicate sizes.groups _ in
     record {

@@ -10,5 +10,6 @@ pub mod Sizes
 pub mod Sound
 pub mod Steps
 pub mod Streams
+pub mod TagNames
 pub mod WholeRuns
 pub mod Widths

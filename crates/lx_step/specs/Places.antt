@@ -1,6 +1,7 @@
 -- The places of a piece's statements that assign something of the user's.
-use Rattle.std.specs.Prelude.{◌≡◌, ℕ, suc, ◌≤◌, true, List, [], ◌∷◌, length, Some, slice_get, if◌then◌else◌}
+use Rattle.std.specs.Prelude.{◌≡◌, ℕ, suc, ◌+◌, ◌≤◌, true, List, [], ◌∷◌, length, Some, slice_get, if◌then◌else◌}
 use Rattle.std.specs.List.{list_any, IsDistinct}
+use Rattle.indexmap.specs.IndexSet.{IndexSet, index_set_len, spare}
 use Rattle.lx_ccode.specs.declared.piece.Stmt.{Stmt}
 use Rattle.lx_ccode.specs.declared.piece.CodeBlock.{CodeBlock}
 use Rattle.lx_ccode.specs.Machine.{code_at}
@@ -27,6 +28,10 @@ places_in block stmt (statement ∷ statements) others =
 abbrev pub places_from : (block : ℕ) → List CodeBlock → List StmtAt
 places_from block [] = []
 places_from block (code ∷ blocks) = places_in block 0 code.stmts (places_from (suc block) blocks)
+
+-- for how many places there is room, those that are noted among them
+abbrev pub room_of : {S : Type 0} → IndexSet StmtAt S → ℕ
+room_of noted = index_set_len noted + spare noted
 
 -- there is room for all of them
 abbrev pub AreRoomy : List CodeBlock → (room : ℕ) → Type 0

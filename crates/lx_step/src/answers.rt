@@ -34,7 +34,7 @@ impl Outcome {
 }
 
 /// The place of a statement: its block, and its place in that block, both counted from 0.
-#[derive(Clone, Copy, Debug, PartialEq, Eq)]
+#[derive(Clone, Copy, Debug, PartialEq, Eq, Hash)]
 pub struct StmtAt {
     pub block: u64,
     pub stmt: u64,

@@ -15,6 +15,7 @@ use crate::scanner::Scanner;
 use crate::sizes::sizes_of_blocks;
 use crate::slots::Slots;
 use crate::units::{WholeStream, Width};
+use indexmap::IndexSet;
 use lx_base::Memory;
 use lx_ccode::{CondCase, Piece, statements};
 use std::alloc::Global;
@@ -32,12 +33,12 @@ pub struct Lexer<'p> {
     start: u64,
     scanner: Scanner<'p>,
     slots: Slots,
-    assigned: Vec<StmtAt>,
+    assigned: IndexSet<StmtAt>,
 }
 
 impl<'p> Model for Lexer<'p> {
-    ghost use Rattle.std.specs.Prelude.{vec_capacity};
     ghost use Rattle.lx_step.specs.Held.{Held};
+    ghost use Rattle.lx_step.specs.Places.{room_of};
 
     ghost Value = { Held };
 
@@ -50,10 +51,10 @@ impl<'p> Model for Lexer<'p> {
       cursor = lexer.scanner.cursor;
       cond = lexer.scanner.cond.now;
       given = lexer.slots;
-      assigned = lexer.assigned.items;
+      assigned = lexer.assigned.keys;
     } };
 
-    ghost invariant = { λ lexer. IsSound lexer.program lexer.scanner lexer.slots (vec_capacity lexer.assigned) };
+    ghost invariant = { λ lexer. IsSound lexer.program lexer.scanner lexer.slots (room_of lexer.assigned) };
 }
 
 impl<'p> Lexer<'p> {
@@ -87,7 +88,7 @@ impl<'p> Lexer<'p> {
             start: 0,
             scanner: Scanner::new(alloc, sizes, numbering, first_cond(piece.conds.as_slice()))?,
             slots: Slots::new(alloc, blocks, sizes.groups)?,
-            assigned: Vec::with_capacity(alloc, program.statements as usize)?,
+            assigned: IndexSet::with_capacity(alloc, program.statements as usize)?,
         })
     }
 
@@ -113,7 +114,7 @@ impl<'p> Lexer<'p> {
         };
         self.start = start;
         self.scanner.begin(start, units.len());
-        self.assigned.clear();
+        self.assigned.truncate(0);
         let outcome = told(
             self.program.run(
                 &units,

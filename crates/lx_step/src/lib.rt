@@ -12,6 +12,7 @@ mod scanner;
 mod sizes;
 mod slots;
 mod step;
+mod tag_names;
 mod units;
 
 pub use answers::{Group, Outcome, StmtAt};

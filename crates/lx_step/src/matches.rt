@@ -1,12 +1,12 @@
 //! A match: steps from the start to an outcome.
-ghost use Rattle.std.specs.Prelude.{◌≡◌, ◌≤◌, ◌<◌, ◌+◌, ◌*◌, ◌^◌, Some, [], length, true, option_map, vec_capacity, slice_get, IfOk, OnErr};
+ghost use Rattle.std.specs.Prelude.{◌≡◌, ◌≤◌, ◌<◌, ◌+◌, ◌*◌, ◌^◌, Some, [], length, true, option_map, slice_get, IfOk, OnErr};
 ghost use Rattle.lx_ccode.specs.Machine.{code_at};
 ghost use Rattle.lx_ccode.specs.Runs.{cond_block, entry_block, fresh_machine};
 ghost use Rattle.lx_ccode.specs.Statements.{all_statements, statement_count};
 ghost use Rattle.lx_step.specs.Assigned.{is_assignment, with_statement};
 ghost use Rattle.lx_step.specs.Held.{is_on_histories};
 ghost use Rattle.lx_step.specs.Matches.{GoesTo, HasEnded, IsAfterValues, StartsIn};
-ghost use Rattle.lx_step.specs.Places.{AreRoomy, StandsAt, StaysIn, place_of};
+ghost use Rattle.lx_step.specs.Places.{AreRoomy, StandsAt, StaysIn, place_of, room_of};
 ghost use Rattle.lx_step.specs.Reached.{reaches};
 ghost use Rattle.lx_step.specs.Sizes.{sizes_of_all};
 ghost use Rattle.lx_step.specs.Steps.{HasRoom, machine_of};
@@ -16,6 +16,7 @@ use crate::scanner::{Going, Scanner};
 use crate::slots::{Slots, same_words};
 use crate::step::step;
 use crate::units::Units;
+use indexmap::IndexSet;
 use lx_base::Memory;
 use lx_ccode::{CodeBlock, CondCase, Piece, Stmt};
 use std::alloc::Global;
@@ -43,20 +44,20 @@ impl<'p> Program<'p> {
         units: &U,
         scanner: &mut Scanner<'p>,
         slots: &mut Slots,
-        assigned: &mut Vec<StmtAt>,
+        assigned: &mut IndexSet<StmtAt>,
     ) -> Result<Outcome, Memory>
         requires statements { self.now.statements ≡ statement_count self.now.piece.now.blocks }
         requires few { self.now.statements ≤ 2 ^ 62 }
         requires fresh { machine_of scanner.old [] ≡ fresh_machine scanner.old.cursor (length (U.stream units.now)) scanner.old.cond.now }
         requires start { scanner.old.cursor ≤ scanner.old.limit }
         requires room { HasRoom (sizes_of_all scanner.old.numbering (all_statements self.now.piece.now.blocks)) scanner.old slots.old }
-        requires assigned { assigned.old.items ≡ [] }
-        requires places { AreRoomy self.now.piece.now.blocks (vec_capacity assigned.old) }
-        ensures ended { IfOk result (λ outcome. HasEnded self.now.piece.now (U.stream units.now) scanner.old slots.old outcome scanner.new slots.new assigned.new.items) }
+        requires assigned { assigned.old.keys ≡ [] }
+        requires places { AreRoomy self.now.piece.now.blocks (room_of assigned.old) }
+        ensures ended { IfOk result (λ outcome. HasEnded self.now.piece.now (U.stream units.now) scanner.old slots.old outcome scanner.new slots.new assigned.new.keys) }
         ensures memory { OnErr result (reaches self.now.piece.now (U.stream units.now) is_on_histories scanner.old.cursor scanner.old.cond.now ≡ true) }
         ensures room { HasRoom (sizes_of_all scanner.new.numbering (all_statements self.now.piece.now.blocks)) scanner.new slots.new }
         ensures kept { IsAfterValues slots.old slots.new }
-        ensures places { AreRoomy self.now.piece.now.blocks (vec_capacity assigned.new) }
+        ensures places { AreRoomy self.now.piece.now.blocks (room_of assigned.new) }
     {
         let Some(mut at) = entry(self.piece, scanner.cond) else {
             return Ok(Outcome::Stuck);
@@ -138,13 +139,13 @@ fn statement_at(code: &[Stmt], place: usize) -> Option<&Stmt>
 }
 
 /// The place of a statement that assigns something is put to the others, unless it is there.
-fn note(piece: &Piece, assigned: &mut Vec<StmtAt>, at: Position<'_>, stmt: &Stmt)
+fn note(piece: &Piece, assigned: &mut IndexSet<StmtAt>, at: Position<'_>, stmt: &Stmt)
     requires stands { StandsAt piece.now.blocks at stmt.now }
-    requires places { AreRoomy piece.now.blocks (vec_capacity assigned.old) }
-    requires within { StaysIn piece.now.blocks assigned.old.items }
-    ensures noted { assigned.new.items ≡ with_statement (place_of at.entry) stmt.now assigned.old.items }
-    ensures places { AreRoomy piece.now.blocks (vec_capacity assigned.new) }
-    ensures within { StaysIn piece.now.blocks assigned.new.items }
+    requires places { AreRoomy piece.now.blocks (room_of assigned.old) }
+    requires within { StaysIn piece.now.blocks assigned.old.keys }
+    ensures noted { assigned.new.keys ≡ with_statement (place_of at.entry) stmt.now assigned.old.keys }
+    ensures places { AreRoomy piece.now.blocks (room_of assigned.new) }
+    ensures within { StaysIn piece.now.blocks assigned.new.keys }
 {
     let place = StmtAt {
         block: at.block,
@@ -153,7 +154,7 @@ fn note(piece: &Piece, assigned: &mut Vec<StmtAt>, at: Position<'_>, stmt: &Stmt
     if !is_assignment(stmt) || assigned.contains(&place) {
         return;
     }
-    assigned.push_reserved(place);
+    assigned.insert(place).unwrap();
 }
 
 /// Whether a statement assigns something of the user's.

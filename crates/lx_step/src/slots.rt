@@ -5,6 +5,7 @@ ghost use Rattle.lx_ccode.specs.Words.{equal_words};
 ghost use Rattle.lx_step.specs.Given.{Given, with_offset, with_history, with_end, offset_in, history_in, onto_offsets, onto_histories, offset_slots, history_slots, nothing_given};
 
 use crate::answers::Group;
+use crate::tag_names::TagNames;
 use lx_base::{ByteText, Memory, Sequence};
 use lx_ccode::{CodeBlock, Stmt};
 use std::alloc::Global;
@@ -27,8 +28,8 @@ pub struct HistorySlot {
 /// What is kept of the values that were given.
 #[derive(Debug, Drop)]
 pub(crate) struct Slots {
-    offsets: Vec<OffsetSlot>,
-    histories: Vec<HistorySlot>,
+    offsets: OffsetSlots,
+    histories: HistorySlots,
     entries: Vec<Group>,
     groups: u64,
 }
@@ -40,8 +41,8 @@ impl Model for Slots {
     ghost Value = { Given };
 
     ghost view = { λ slots. record {
-      offsets = slots.offsets.items;
-      histories = slots.histories.items;
+      offsets = slots.offsets;
+      histories = slots.histories;
       entries = slots.entries.items;
       groups = slots.groups;
     } };
@@ -69,14 +70,14 @@ impl Slots {
     pub(crate) fn offset(&self, name: &[u8]) -> Option<Option<u64>>
         ensures { result ≡ offset_in self.now.offsets name.now }
     {
-        offset_of(&self.offsets, name)
+        self.offsets.get(name)
     }
 
     /// The last history of a tag, if it gets one.
     pub(crate) fn history(&self, name: &[u8]) -> Option<&[Option<u64>]>
         ensures { option_map (λ entries. entries.now) result ≡ history_in self.now.histories name.now }
     {
-        history_of(&self.histories, name)
+        self.histories.get(name)
     }
 
     /// The groups of the rule that was matched last.
@@ -91,14 +92,14 @@ impl Slots {
     pub(crate) fn give_offset(&mut self, name: &[u8], value: Option<u64>)
         ensures { self.new ≡ record self.old { offsets = with_offset name.now value self.old.offsets } }
     {
-        put_offset(&mut self.offsets, name, value);
+        self.offsets.put(name, value);
     }
 
     /// Gives a tag a history.
     pub(crate) fn give_history(&mut self, name: &[u8], value: Sequence<Option<u64>>)
         ensures { self.new ≡ record self.old { histories = with_history name.now value self.old.histories } }
     {
-        put_history(&mut self.histories, name, value);
+        self.histories.put(name, value);
     }
 
     /// Sets the count of groups.
@@ -130,10 +131,74 @@ pub(crate) fn same_words(word: &[u8], other: &[u8]) -> bool
     word == other
 }
 
-fn slots_of_offsets(alloc: Global, blocks: &[CodeBlock]) -> Result<Vec<OffsetSlot>, Memory>
-    ensures { IfOk result (λ slots. slots.items ≡ offset_slots (all_statements blocks.now) []) }
+/// The slots of tags that get an offset, each found without a look at all others. Contracts see them as a list.
+#[derive(Debug, Drop)]
+pub(crate) struct OffsetSlots {
+    names: TagNames,
+    slots: Vec<OffsetSlot>,
+}
+
+impl Model for OffsetSlots {
+    ghost use Rattle.std.specs.Prelude.{◌≡◌, List, map};
+    ghost use Rattle.lx_step.specs.declared.slots.OffsetSlot.{OffsetSlot};
+
+    ghost Value = { List OffsetSlot };
+
+    ghost view = { λ slots. slots.slots.items };
+
+    ghost invariant = { λ slots. slots.names ≡ map (λ slot. slot.name) slots.slots.items };
+}
+
+impl OffsetSlots {
+    /// No slots. It takes no memory.
+    fn new(alloc: Global) -> OffsetSlots
+        ensures { result ≡ [] }
+    {
+        OffsetSlots {
+            names: TagNames::new(alloc),
+            slots: Vec::new(alloc),
+        }
+    }
+
+    /// The last offset of a tag, if it gets one.
+    fn get(&self, name: &[u8]) -> Option<Option<u64>>
+        ensures { result ≡ offset_in self.now name.now }
+    {
+        let place = self.names.place_of(name)?;
+        Some(self.slots[place].value)
+    }
+
+    /// Gives a tag an offset, if it gets one.
+    fn put(&mut self, name: &[u8], value: Option<u64>)
+        ensures { self.new ≡ with_offset name.now value self.old }
+    {
+        if let Some(place) = self.names.place_of(name) {
+            self.slots[place].value = value;
+        }
+    }
+
+    /// Puts a slot for a tag behind the others, unless it has one.
+    fn add(&mut self, alloc: Global, name: &[u8]) -> Result<(), Memory>
+        ensures { OnOk result (self.new ≡ onto_offsets name.now self.old) }
+    {
+        if self.names.place_of(name).is_some() {
+            return Ok(());
+        }
+        let word = ByteText::from_vec(Vec::from_slice(alloc, name)?);
+        self.slots.reserve(1)?;
+        self.names.add(alloc, name)?;
+        self.slots.push_reserved(OffsetSlot {
+            name: word,
+            value: None,
+        });
+        Ok(())
+    }
+}
+
+fn slots_of_offsets(alloc: Global, blocks: &[CodeBlock]) -> Result<OffsetSlots, Memory>
+    ensures { IfOk result (λ slots. slots ≡ offset_slots (all_statements blocks.now) []) }
 {
-    let mut slots = Vec::new(alloc);
+    let mut slots = OffsetSlots::new(alloc);
     for block in blocks {
         append_offset_slots(alloc, &mut slots, block.stmts.as_slice())?;
     }
@@ -142,34 +207,87 @@ fn slots_of_offsets(alloc: Global, blocks: &[CodeBlock]) -> Result<Vec<OffsetSlo
 
 fn append_offset_slots(
     alloc: Global,
-    slots: &mut Vec<OffsetSlot>,
+    slots: &mut OffsetSlots,
     statements: &[Stmt],
 ) -> Result<(), Memory>
-    ensures { OnOk result (slots.new.items ≡ offset_slots statements.now slots.old.items) }
+    ensures { OnOk result (slots.new ≡ offset_slots statements.now slots.old) }
 {
     for statement in statements {
         if let Stmt::Tag(name, false, _) = statement {
-            append_offset_slot(alloc, slots, name.as_slice())?;
+            slots.add(alloc, name.as_slice())?;
         }
     }
     Ok(())
 }
 
-fn append_offset_slot(alloc: Global, slots: &mut Vec<OffsetSlot>, name: &[u8]) -> Result<(), Memory>
-    ensures { OnOk result (slots.new.items ≡ onto_offsets name.now slots.old.items) }
-{
-    if offset_of(slots, name).is_some() {
-        return Ok(());
-    }
-    let name = ByteText::from_vec(Vec::from_slice(alloc, name)?);
-    slots.push(OffsetSlot { name, value: None })?;
-    Ok(())
+/// The slots of tags that get a history, each found without a look at all others. Contracts see them as a list.
+#[derive(Debug, Drop)]
+pub(crate) struct HistorySlots {
+    names: TagNames,
+    slots: Vec<HistorySlot>,
 }
 
-fn slots_of_histories(alloc: Global, blocks: &[CodeBlock]) -> Result<Vec<HistorySlot>, Memory>
-    ensures { IfOk result (λ slots. slots.items ≡ history_slots (all_statements blocks.now) []) }
+impl Model for HistorySlots {
+    ghost use Rattle.std.specs.Prelude.{◌≡◌, List, map};
+    ghost use Rattle.lx_step.specs.declared.slots.HistorySlot.{HistorySlot};
+
+    ghost Value = { List HistorySlot };
+
+    ghost view = { λ slots. slots.slots.items };
+
+    ghost invariant = { λ slots. slots.names ≡ map (λ slot. slot.name) slots.slots.items };
+}
+
+impl HistorySlots {
+    /// No slots. It takes no memory.
+    fn new(alloc: Global) -> HistorySlots
+        ensures { result ≡ [] }
+    {
+        HistorySlots {
+            names: TagNames::new(alloc),
+            slots: Vec::new(alloc),
+        }
+    }
+
+    /// The last history of a tag, if it gets one.
+    fn get(&self, name: &[u8]) -> Option<&[Option<u64>]>
+        ensures { option_map (λ entries. entries.now) result ≡ history_in self.now name.now }
+    {
+        let place = self.names.place_of(name)?;
+        Some(self.slots[place].value.as_slice())
+    }
+
+    /// Gives a tag a history, if it gets one.
+    fn put(&mut self, name: &[u8], value: Sequence<Option<u64>>)
+        ensures { self.new ≡ with_history name.now value self.old }
+    {
+        if let Some(place) = self.names.place_of(name) {
+            self.slots[place].value = value;
+        }
+    }
+
+    /// Puts a slot for a tag behind the others, unless it has one.
+    fn add(&mut self, alloc: Global, name: &[u8]) -> Result<(), Memory>
+        ensures { OnOk result (self.new ≡ onto_histories name.now self.old) }
+    {
+        if self.names.place_of(name).is_some() {
+            return Ok(());
+        }
+        let word = ByteText::from_vec(Vec::from_slice(alloc, name)?);
+        self.slots.reserve(1)?;
+        self.names.add(alloc, name)?;
+        self.slots.push_reserved(HistorySlot {
+            name: word,
+            value: Sequence::new(alloc),
+        });
+        Ok(())
+    }
+}
+
+fn slots_of_histories(alloc: Global, blocks: &[CodeBlock]) -> Result<HistorySlots, Memory>
+    ensures { IfOk result (λ slots. slots ≡ history_slots (all_statements blocks.now) []) }
 {
-    let mut slots = Vec::new(alloc);
+    let mut slots = HistorySlots::new(alloc);
     for block in blocks {
         append_history_slots(alloc, &mut slots, block.stmts.as_slice())?;
     }
@@ -178,75 +296,15 @@ fn slots_of_histories(alloc: Global, blocks: &[CodeBlock]) -> Result<Vec<History
 
 fn append_history_slots(
     alloc: Global,
-    slots: &mut Vec<HistorySlot>,
+    slots: &mut HistorySlots,
     statements: &[Stmt],
 ) -> Result<(), Memory>
-    ensures { OnOk result (slots.new.items ≡ history_slots statements.now slots.old.items) }
+    ensures { OnOk result (slots.new ≡ history_slots statements.now slots.old) }
 {
     for statement in statements {
         if let Stmt::Tag(name, true, _) = statement {
-            append_history_slot(alloc, slots, name.as_slice())?;
+            slots.add(alloc, name.as_slice())?;
         }
     }
     Ok(())
-}
-
-fn append_history_slot(
-    alloc: Global,
-    slots: &mut Vec<HistorySlot>,
-    name: &[u8],
-) -> Result<(), Memory>
-    ensures { OnOk result (slots.new.items ≡ onto_histories name.now slots.old.items) }
-{
-    if history_of(slots, name).is_some() {
-        return Ok(());
-    }
-    let name = ByteText::from_vec(Vec::from_slice(alloc, name)?);
-    let value = Sequence::new(alloc);
-    slots.push(HistorySlot { name, value })?;
-    Ok(())
-}
-
-fn put_offset(slots: &mut [OffsetSlot], name: &[u8], value: Option<u64>)
-    ensures { slots.new ≡ with_offset name.now value slots.old }
-{
-    for slot in slots.iter_mut() {
-        if same_words(slot.name.as_slice(), name) {
-            slot.value = value;
-            return;
-        }
-    }
-}
-
-fn put_history(slots: &mut [HistorySlot], name: &[u8], value: Sequence<Option<u64>>)
-    ensures { slots.new ≡ with_history name.now value slots.old }
-{
-    for slot in slots.iter_mut() {
-        if same_words(slot.name.as_slice(), name) {
-            slot.value = value;
-            return;
-        }
-    }
-}
-
-fn offset_of(slots: &[OffsetSlot], name: &[u8]) -> Option<Option<u64>>
-    ensures { result ≡ offset_in slots.now name.now }
-{
-    for slot in slots {
-        if same_words(slot.name.as_slice(), name) {
-            return Some(slot.value);
-        }
-    }
-    None
-}
-
-fn history_of<'s>(slots: &'s [HistorySlot], name: &[u8]) -> Option<&'s [Option<u64>]>
-    ensures { option_map (λ entries. entries.now) result ≡ history_in slots.now name.now }
-{
-    for slot in slots {
-        if same_words(slot.name.as_slice(), name) {
-            return Some(slot.value.as_slice());
-        }
-    }
-    None
 }

@@ -11,4 +11,4 @@ invariant_of-result c =
     (c.sizes_of_blocks-sizes.ensures.sizes ∙ ap (λ blocks. sizes_of_all c.in_ok-numbering.numbering (all_statements blocks)) c.as_slice-blocks.ensures) c.in_ok-new.ensures.numbering
     c.in_ok-new.ensures.registers c.in_ok-new.ensures.histories
     (c.in_ok-new-2.ensures ∙ ap (λ blocks. nothing_given (all_statements blocks) c.sizes_of_blocks-sizes.result.groups) c.as_slice-blocks.ensures)
-    c.in_ok-with_capacity.ensures.exact
+    (omega (arith, c.in_ok-with_capacity.ensures.spare))

@@ -1,0 +1,13 @@
+use Rattle.std.proofs.Common.{◌∙◌, sym, None, refl}
+use Rattle.lx_step.proofs.SlotPlaces.{onto_offsets-new, onto_offsets-there, pushed_offset}
+use Rattle.lx_step.proofs.slots.OffsetSlots.add.Goals as goal
+
+pub returns-then-is_some : goal.returns-then-is_some
+returns-then-is_some c = rw (← c.self.view_is) (onto_offsets-there c.self.inside.slots.items c.args.name.now c.self.inside.names c.place_of.result c.self.invariant c.place_of.ensures.place (sym c.is_some.ensures ∙ c.if-is_some.true))
+
+pub returns : goal.returns
+returns c =
+    let new = onto_offsets-new c.self.inside.slots.items c.args.name.now c.self.inside.names c.place_of.result c.self.invariant c.place_of.ensures.place (sym c.is_some.ensures ∙ c.if-is_some.false) in
+    rw (← c.self.view_is)
+    (pushed_offset c.self.inside.slots.items c.reserve.new.self.items c.push_reserved.new.self.items c.from_vec-word.result c.args.name.now None c.push_reserved.ensures.items
+    c.in_ok-reserve.ensures.items (c.from_vec-word.ensures ∙ c.in_ok-from_slice.ensures.items) refl ∙ new)
