@@ -1,5 +1,5 @@
 -- A source has a first fault, or it has none: one of both is there, under two negations.
-use Rattle.std.proofs.Common.{◌≡◌, ℕ, ◌⊎◌, Bool, true, false, List, [], ◌∷◌, length, Option, Some, None, Result, Ok, Err, refl, inl, inr}
+use Rattle.std.proofs.Common.{◌≡◌, ℕ, Bool, true, false, List, [], ◌∷◌, length, Option, Some, None, Result, Ok, Err, refl, inl, inr}
 use Rattle.std.specs.Prelude.{nat_lt}
 use Rattle.lx_base.specs.declared.blocks.BlockKind.{BlockKind}
 use Rattle.lx_base.specs.declared.blocks.BlockKind.TheVariants.{Code}
@@ -8,43 +8,23 @@ use Rattle.lx_base.specs.declared.faults.Fault.TheVariants.{TooLong, TooManyStat
 use Rattle.lx_base.specs.declared.places.Pos.{Pos}
 use Rattle.lx_base.specs.declared.settings.Enc.{Enc}
 use Rattle.lx_base.specs.declared.settings.Options.{Options}
-use Rattle.lx_parse.specs.Blocks.{IsBody, IsSyntaxFault, form_of}
-use Rattle.lx_parse.specs.Sorts.{sorts_of}
 use Rattle.lx_parse.specs.declared.items.Item.{Item}
-use Rattle.lx_rules.specs.Blocks.{IsBlockFault, Resolves}
+use Rattle.lx_parse.proofs.Verdicts.{read_or_refused}
+use Rattle.lx_rules.specs.Buildable.{IsReady}
 use Rattle.lx_rules.specs.Environments.{Environment, first_environment}
 use Rattle.lx_rules.specs.Lexemes.{lexemes_of}
 use Rattle.lx_rules.specs.declared.resolved.Resolved.{Resolved}
+use Rattle.lx_rules.proofs.BlockVerdicts.{body_expressions, first_ready, ready_after, verdict_among}
 use Rattle.lx_split.specs.Pieces.{Split, file_start, pieces_of}
 use Rattle.lx_split.specs.declared.pieces.SourcePiece.{SourcePiece}
 use Rattle.lx_split.specs.declared.pieces.SourcePiece.TheVariants as piece
 use Rattle.lx_token.specs.Tokens.{tokens_of}
 use Rattle.lx_token.specs.declared.list.Token.{Token}
 use Rattle.lx_compile.specs.Blocks.{AreSupported, IsBlock, IsFaultOf, IsRead, IsResolvedBody, no_items, no_token, other_kind, refused, unsupported}
-use Rattle.lx_compile.specs.FirstFault.{IsFaultBehind, IsFaultOfBlocks, IsFaultOfPieces, IsFaultOfSource, IsFirstFault}
+use Rattle.lx_compile.specs.FirstFault.{IsFaultOfBlocks, IsFaultOfPieces, IsFaultOfSource, IsFirstFault}
 use Rattle.lx_compile.specs.Parts.{AreParts, HasTooLarge, IsFaultAmong, IsKernelFault}
 use Rattle.lx_compile.specs.declared.parts.Part.{Part}
 use Rattle.lx_compile.specs.declared.parts.Part.TheVariants.{Outside, Block}
-
--- ---- what the layers below hold
-
--- tokens are the items of a body, or there is a fault of syntax
-abbrev pub HasSyntax : Type 0
-HasSyntax = (body : List ℕ) (start : Pos) (tokens : List Token)
-    → ((items : List Item) × IsBody (form_of Code) (sorts_of Code body tokens) items) ⊎ ((fault : Fault) × IsSyntaxFault Code body start tokens fault)
-
--- items resolve, or have a fault, in an environment that has what is kept
-abbrev pub HasMeaning : Options → (Environment → Type 0) → Type 0
-HasMeaning options Kept = (at : Pos) (environment : Environment) (body : List ℕ) (tokens : List Token) (items : List Item)
-    → Kept environment → IsBody (form_of Code) (sorts_of Code body tokens) items
-    → ((after : Environment) (resolved : Resolved) → Resolves options at environment (lexemes_of body tokens) items after resolved → ⊥)
-    → ((fault : Fault) → IsBlockFault options at environment (lexemes_of body tokens) items fault → ⊥) → ⊥
-
--- a block that resolves keeps it
-abbrev pub BlocksKeep : Options → (Environment → Type 0) → Type 0
-BlocksKeep options Kept = (at : Pos) (environment : Environment) (body : List ℕ) (tokens : List Token) (items : List Item) (after : Environment) (resolved : Resolved)
-    → Kept environment → IsBody (form_of Code) (sorts_of Code body tokens) items
-    → Resolves options at environment (lexemes_of body tokens) items after resolved → Kept after
 
 -- ---- kernels
 
@@ -57,11 +37,10 @@ kernel_fault enc (Block at resolved ∷ parts) none = kernel_fault enc parts (λ
     small : HasTooLarge enc resolved.scanners → ⊥
     small large = none (Some (TooManyStates at)) (inl (large, refl))
 
-module _ (options : Options) (Kept : Environment → Type 0) (kept_first : Kept first_environment) (syntax : HasSyntax)
-    (meaning : HasMeaning options Kept) (keeps : BlocksKeep options Kept) where
+module _ (options : Options) where
   -- ---- blocks
 
-  module _ (environment : Environment) (kind : BlockKind) (body : List ℕ) (at start : Pos) (kept : Kept environment)
+  module _ (environment : Environment) (kind : BlockKind) (body : List ℕ) (at start : Pos) (ready : IsReady options.enc environment)
       (no_block : (after : Environment) (resolved : Resolved) → IsBlock options environment kind body at start after resolved → ⊥)
       (no_fault : (fault : Fault) → IsFaultOf options environment kind body at start fault → ⊥) where
     -- what a body resolves to is supported, or that it is not is its fault
@@ -73,7 +52,8 @@ module _ (options : Options) (Kept : Environment → Type 0) (kept_first : Kept 
 
     -- items resolve, or have a fault
     items_or_fault : (tokens : List Token) (items : List Item) → kind ≡ Code → IsRead body start tokens items → ⊥
-    items_or_fault tokens items code read = meaning at environment body tokens items kept read.items_are
+    items_or_fault tokens items code read =
+        verdict_among options at environment (lexemes_of body tokens) items ready (body_expressions body tokens items read.items_are)
         (λ after resolved resolves. body_or_fault after resolved code
         (record { tokens = tokens; items = items; read = read; resolves = resolves }))
         (λ fault found. no_fault fault (refused tokens items code read found))
@@ -81,7 +61,7 @@ module _ (options : Options) (Kept : Environment → Type 0) (kept_first : Kept 
     -- a body of rules resolves, or has a fault
     tokens_or_fault : (found : Result (List Token) Fault) → tokens_of body start ≡ found → kind ≡ Code → ⊥
     tokens_or_fault (Err fault) is code = no_fault fault (no_token code is)
-    tokens_or_fault (Ok tokens) is code = elim (syntax body start tokens) [
+    tokens_or_fault (Ok tokens) is code = elim (read_or_refused Code body start tokens) [
       | inl read ↦ items_or_fault tokens read.0 code (record { tokens_are = is; items_are = read.1 })
       | inr stops ↦ no_fault stops.0 (no_items tokens code is stops.1)
     ]
@@ -93,24 +73,24 @@ module _ (options : Options) (Kept : Environment → Type 0) (kept_first : Kept 
   -- ---- sources
 
   -- the pieces of a source all resolve, or one has a fault
-  parts_or_fault : (environment : Environment) (pieces : List SourcePiece) → Kept environment
+  parts_or_fault : (environment : Environment) (pieces : List SourcePiece) → IsReady options.enc environment
       → ((parts : List Part) → AreParts options environment pieces parts → ⊥)
       → ((fault : Fault) → IsFaultAmong options environment pieces fault → ⊥) → ⊥
-  parts_or_fault environment [] kept no_parts no_fault = no_parts [] tt
-  parts_or_fault environment (piece.Outside text ∷ pieces) kept no_parts no_fault =
-      parts_or_fault environment pieces kept (λ parts are. no_parts (Outside text ∷ parts) (refl, are)) no_fault
-  parts_or_fault environment (piece.Block kind body at start end_line ∷ pieces) kept no_parts no_fault =
-      block_or_fault environment kind body at start kept
+  parts_or_fault environment [] ready no_parts no_fault = no_parts [] tt
+  parts_or_fault environment (piece.Outside text ∷ pieces) ready no_parts no_fault =
+      parts_or_fault environment pieces ready (λ parts are. no_parts (Outside text ∷ parts) (refl, are)) no_fault
+  parts_or_fault environment (piece.Block kind body at start end_line ∷ pieces) ready no_parts no_fault =
+      block_or_fault environment kind body at start ready
       (λ after resolved is.
       let body_is = is.resolves in
-      parts_or_fault after pieces (keeps at environment body body_is.tokens body_is.items after resolved kept body_is.read.items_are body_is.resolves)
+      parts_or_fault after pieces (ready_after options at environment (lexemes_of body body_is.tokens) body_is.items ready after resolved body_is.resolves)
       (λ parts are. no_parts (Block at resolved ∷ parts) (refl, (after, is, are)))
       (λ fault among. no_fault fault (inr (after, resolved, is, among))))
       (λ fault is. no_fault fault (inl is))
 
   -- the blocks of a source have a fault, or none
   blocks_fault : (pieces : List SourcePiece) → ((fault : Option Fault) → IsFaultOfBlocks options pieces fault → ⊥) → ⊥
-  blocks_fault pieces none = parts_or_fault first_environment pieces kept_first
+  blocks_fault pieces none = parts_or_fault first_environment pieces (first_ready options.enc)
       (λ parts are. kernel_fault options.enc parts (λ fault is. behind parts are fault is))
       (λ fault among. none (Some fault) (inl among))
     where

@@ -11,7 +11,7 @@ use Rattle.lx_words.specs.Options.{words_fault}
 use Rattle.lx_ccode.specs.declared.piece.Piece.{Piece}
 use Rattle.lx_ccode.specs.Front.{BeginsWithPiece}
 use Rattle.lx_creader.specs.Marks.{BeginsBlock, IsFirstBegin}
-use Rattle.lx_compile.specs.FirstFault as source
+use Rattle.lx_compile.proofs.SomeFault as sources
 use Rattle.lx_top.specs.Emitted.{IsEmittedFault, IsRunFault, input_fault, place_in}
 use Rattle.lx_top.specs.FirstFault.{IsFaultBehind, IsFaultOf, IsFileFault, IsFirstFault}
 use Rattle.lx_top.specs.Jobs.{options_for}
@@ -48,24 +48,19 @@ run_fault block name given emitted (Some bytes) none = emitted_fault block name 
 
 -- ---- jobs
 
--- each source has a first fault, or none
-abbrev pub SourcesHaveFaults : Type 0
-SourcesHaveFaults = (options : Options) (bytes : List ℕ) → ((fault : Option Fault) → source.IsFirstFault options bytes fault → ⊥) → ⊥
+file_fault : (options : Options) (name : List ℕ) (given : Option (List ℕ)) → ((fault : Option Fault) → IsFileFault options name given fault → ⊥) → ⊥
+file_fault options name None none = none (Some (NoFile (start_of 0) name)) refl
+file_fault options name (Some bytes) none = sources.IsFirstFault-some options bytes none
 
-module _ (sources : SourcesHaveFaults) where
-  file_fault : (options : Options) (name : List ℕ) (given : Option (List ℕ)) → ((fault : Option Fault) → IsFileFault options name given fault → ⊥) → ⊥
-  file_fault options name None none = none (Some (NoFile (start_of 0) name)) refl
-  file_fault options name (Some bytes) none = sources options bytes none
+job_fault : (options : Options) (job : Job) (files : List HeldFile) → ((fault : Option Fault) → IsFaultOf options job files fault → ⊥) → ⊥
+job_fault options (Compile file to) files none = file_fault options file (bytes_of files file) none
+job_fault options (Run input emitted block window piece) files none = run_fault block input (bytes_of files input) emitted (bytes_of files emitted) none
+job_fault options (Source rules to) files none = none (Some (Unsupported None)) refl
 
-  job_fault : (options : Options) (job : Job) (files : List HeldFile) → ((fault : Option Fault) → IsFaultOf options job files fault → ⊥) → ⊥
-  job_fault options (Compile file to) files none = file_fault options file (bytes_of files file) none
-  job_fault options (Run input emitted block window piece) files none = run_fault block input (bytes_of files input) emitted (bytes_of files emitted) none
-  job_fault options (Source rules to) files none = none (Some (Unsupported None)) refl
+fault_behind : (of_words : Option Fault) (options : Options) (files : List HeldFile) → ((fault : Option Fault) → IsFaultBehind of_words options files fault → ⊥) → ⊥
+fault_behind None options files none = job_fault options options.job files none
+fault_behind (Some first) options files none = none (Some first) refl
 
-  fault_behind : (of_words : Option Fault) (options : Options) (files : List HeldFile) → ((fault : Option Fault) → IsFaultBehind of_words options files fault → ⊥) → ⊥
-  fault_behind None options files none = job_fault options options.job files none
-  fault_behind (Some first) options files none = none (Some first) refl
-
-  -- a command line has a first fault, or none
-  pub IsFirstFault-some : (words : List (List ℕ)) (files : List HeldFile) → ((fault : Option Fault) → IsFirstFault words files fault → ⊥) → ⊥
-  IsFirstFault-some words files none = fault_behind (words_fault words) (options_for words) files none
+-- a command line has a first fault, or none
+pub IsFirstFault-some : (words : List (List ℕ)) (files : List HeldFile) → ((fault : Option Fault) → IsFirstFault words files fault → ⊥) → ⊥
+IsFirstFault-some words files none = fault_behind (words_fault words) (options_for words) files none
