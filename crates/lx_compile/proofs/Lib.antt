@@ -16,3 +16,4 @@ pub mod WalkRuns
 pub mod OneCheck
 pub mod OneFault
 pub mod OneItem
+pub mod SomeFault

@@ -46,3 +46,8 @@ pub fn emitted_pieces_are_found()
         (earlier : List Part) (at : Pos) (resolved : Resolved) (more : List Part) → is.parts ≡ earlier ++ Block at resolved ∷ more →
         IsFound options.enc earlier resolved output }
 {}
+
+/// A source has a first fault, or it has none: that neither holds cannot be.
+pub fn sources_have_a_first_fault_or_none()
+    ensures { (options : Options) (source : List ℕ) → ((fault : Option Fault) → IsFirstFault options source fault → ⊥) → ⊥ }
+{}

@@ -7,3 +7,4 @@ pub mod Reading
 pub mod Refusals
 pub mod Runs
 pub mod Soundness
+pub mod Verdicts

@@ -1,10 +1,14 @@
 //! What holds of all bodies: each law is the contract of a function with an empty body.
-ghost use Rattle.std.specs.Prelude.{◌≡◌, List};
+ghost use Rattle.std.specs.Prelude.{◌≡◌, ℕ, ◌⊎◌, List};
 ghost use Rattle.lx_base.specs.declared.blocks.BlockKind.{BlockKind};
-ghost use Rattle.lx_parse.specs.Blocks.{IsBody, form_of};
+ghost use Rattle.lx_base.specs.declared.faults.Fault.{Fault};
+ghost use Rattle.lx_base.specs.declared.places.Pos.{Pos};
+ghost use Rattle.lx_parse.specs.Blocks.{IsBody, IsSyntaxFault, form_of};
 ghost use Rattle.lx_parse.specs.Ranges.{EachHasExpressions};
+ghost use Rattle.lx_parse.specs.Sorts.{sorts_of};
 ghost use Rattle.lx_parse.specs.declared.items.Item.{Item};
 ghost use Rattle.lx_parse.specs.declared.sorts.Sort.{Sort};
+ghost use Rattle.lx_token.specs.declared.list.Token.{Token};
 
 /// A body has at most one block tree.
 pub fn bodies_have_one_tree()
@@ -17,4 +21,11 @@ pub fn bodies_have_one_tree()
 pub fn expressions_stand_in_ranges()
     ensures { (kind : BlockKind) (sorts : List Sort) (items : List Item) →
         IsBody (form_of kind) sorts items → EachHasExpressions sorts items }
+{}
+
+/// A body of tokens is read, or it is refused at its first token with which no body goes on.
+pub fn bodies_are_read_or_refused()
+    ensures { (kind : BlockKind) (body : List ℕ) (start : Pos) (tokens : List Token) →
+        ((items : List Item) × IsBody (form_of kind) (sorts_of kind body tokens) items)
+        ⊎ ((fault : Fault) × IsSyntaxFault kind body start tokens fault) }
 {}

@@ -47,7 +47,7 @@ module _ (options : Options) (definitions : List Definition) (ready : AreDefined
         refl,
       )
 
-  class_has_fits : (is_negated : Bool) (ranges : List Range) → FitsEncoding options.enc ranges → (point : ℕ)
+  pub class_has_fits : (is_negated : Bool) (ranges : List Range) → FitsEncoding options.enc ranges → (point : ℕ)
       → ClassHas options definitions is_negated ranges point → point ≤ greatest_point options.enc
   class_has_fits false ranges fit point has = after_fits options.enc options.surrogates ranges fit point has
   class_has_fits true ranges fit point has = point_fits options.enc options.surrogates point has.0

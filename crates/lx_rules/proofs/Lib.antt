@@ -33,3 +33,11 @@ pub mod FormFits
 pub mod RuleNumbers
 pub mod ItemFits
 pub mod ScannerFits
+pub mod Classical
+pub mod BoundedSets
+pub mod BuiltTerms
+pub mod BuildableMeanings
+pub mod FormVerdicts
+pub mod ItemVerdicts
+pub mod BuiltScanners
+pub mod BlockVerdicts

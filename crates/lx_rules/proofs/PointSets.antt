@@ -178,7 +178,7 @@ greatest_le Utf8 = omega arith
 greatest_le Utf16 = omega arith
 greatest_le Utf32 = omega arith
 
-le_greatest : (enc : Enc) (point : ℕ) → point ≤ greatest_point enc → point ≤ 0x10FFFF
+pub le_greatest : (enc : Enc) (point : ℕ) → point ≤ greatest_point enc → point ≤ 0x10FFFF
 le_greatest enc point le = let most = greatest_le enc in omega (arith, le, most)
 
 -- the characters of a token that has no fault

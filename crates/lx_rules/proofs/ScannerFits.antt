@@ -166,7 +166,7 @@ module _ (enc : Enc) where
       )
 
 -- what the limits say where they find no fault
-limits_say : (at : Pos) (size nesting tags : ℕ) → None ≡ limits_fault at size nesting tags → (size ≤ 4096) × (nesting ≤ 256) × (tags ≤ 128)
+pub limits_say : (at : Pos) (size nesting tags : ℕ) → None ≡ limits_fault at size nesting tags → (size ≤ 4096) × (nesting ≤ 256) × (tags ≤ 128)
 limits_say place size nesting tags none = at (nat_lt 4096 size || nat_lt 256 nesting || nat_lt 128 tags) refl none
   where
     at : (b : Bool) → (nat_lt 4096 size || nat_lt 256 nesting || nat_lt 128 tags) ≡ b

@@ -1,4 +1,5 @@
 pub mod Blocks
+pub mod Buildable
 pub mod Checks
 pub mod Configurations
 pub mod Environments

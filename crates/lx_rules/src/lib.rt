@@ -9,6 +9,7 @@ mod expressions;
 mod finishing;
 mod heads;
 mod items;
+mod laws;
 mod leaves;
 mod lexemes;
 mod points;
@@ -22,5 +23,6 @@ mod values;
 
 pub use definitions::Definitions;
 pub use environment::Env;
+pub use laws::{blocks_resolve_or_have_a_fault, environments_stay_ready};
 pub use resolved::{Act, Config, Resolved, Scanner};
 pub use resolving::resolve;

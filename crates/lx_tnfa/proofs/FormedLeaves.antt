@@ -107,6 +107,12 @@ leaf_number (state ∷ last ∷ states) ends (suc (suc number)) never =
     let even : 2 * (number / 2) ≡ number = r.1 in
     (omega (arith, within), omega (arith, even))
 
+-- a leaf stands at an even number
+pub leaf_even : (enc : Enc) (classes : List ClassGraph) (states : List State) → IsFormed enc classes states → (number : ℕ)
+    → (HasMoves (state_of states number) → ⊥) → 2 * (number / 2) ≡ number
+unfolding IsFormed
+leaf_even enc classes states formed number never = (leaf_number states formed.0 number never).1
+
 starts_among : (rows : Rows) (enc : Enc) (set ranges : List Range) (starts : List Residual) → AreStarts rows enc set ranges starts
     → Each (λ (start : Residual). start.0 < length rows) starts
 starts_among rows enc set [] starts are = subst (Each (λ (start : Residual). start.0 < length rows)) (sym are) tt

@@ -42,3 +42,5 @@ pub mod TableLeaves
 pub mod TagBounds
 pub mod TagMerges
 pub mod WholeTable
+pub mod TakenWalks
+pub mod LeafChoices

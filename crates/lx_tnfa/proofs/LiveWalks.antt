@@ -27,7 +27,7 @@ use Rattle.lx_tnfa.proofs.HeldStates.{held_at, held_moves}
 use Rattle.lx_tnfa.proofs.LeafStarts.{class_graph, graph_at, set_in, starts_have}
 use Rattle.lx_tnfa.proofs.TableLeaves.{leaf_fits, row_or_none}
 
-to_of : (way : spec.Move) → (shown_move way).to ≡ target way
+pub to_of : (way : spec.Move) → (shown_move way).to ≡ target way
 to_of (move picked set unset to) = refl
 
 -- the moves of a state lead where those of the automaton lead

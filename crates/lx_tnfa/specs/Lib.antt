@@ -14,4 +14,5 @@ pub mod Search
 pub mod Shapes
 pub mod Standing
 pub mod TagLists
+pub mod TakenWalks
 pub mod Tnfa

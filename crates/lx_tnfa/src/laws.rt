@@ -1,5 +1,5 @@
 //! What holds of places. Each law is the contract of a function that does nothing.
-ghost use Rattle.std.specs.Prelude.{◌≡◌, ◌↔◌, ℕ, List, [], Some, map, slice_get};
+ghost use Rattle.std.specs.Prelude.{◌≡◌, ◌↔◌, ℕ, ◌/◌, List, [], ◌++◌, Some, map, slice_get, slice_index};
 ghost use Rattle.lx_base.specs.declared.settings.Enc.{Enc};
 ghost use Rattle.lx_regex.specs.Automaton as spec;
 ghost use Rattle.lx_regex.specs.Automaton.{automaton, moves};
@@ -9,15 +9,17 @@ ghost use Rattle.lx_regex.specs.Plain.{IsPlain};
 ghost use Rattle.lx_regex.specs.Script.{Symbol};
 ghost use Rattle.lx_regex.specs.Term.{Term};
 ghost use Rattle.lx_regex.specs.Walk.{Walk, symbols};
-ghost use Rattle.lx_tnfa.specs.Closure.{IsClosureOf};
+ghost use Rattle.lx_tnfa.specs.Closure.{IsClosureOf, IsPlainWalk};
 ghost use Rattle.lx_tnfa.specs.LeafReadings.{NumbersLeaves};
 ghost use Rattle.lx_tnfa.specs.Live.{state_of};
 ghost use Rattle.lx_tnfa.specs.Moves.{shown_move};
 ghost use Rattle.lx_tnfa.specs.PlainWalks.{VisitsOnce};
 ghost use Rattle.lx_tnfa.specs.PlaceNumbers.{number_behind, numbers_after, symbols_added};
 ghost use Rattle.lx_tnfa.specs.Standing.{StandsAt};
+ghost use Rattle.lx_tnfa.specs.TakenWalks.{GoesOnAt, ReadsAt, Takes, first_events};
 ghost use Rattle.lx_tnfa.specs.Tnfa.{AllClassesFit, IsTnfaOf, Tnfa};
 ghost use Rattle.lx_tnfa.specs.declared.closure.Reach.{Reach};
+ghost use Rattle.lx_tnfa.specs.declared.closure.Target.{Target};
 ghost use Rattle.lx_tnfa.specs.declared.places.Place.{Place};
 ghost use Rattle.lx_tnfa.specs.declared.states.State.TheVariants.{Moves};
 
@@ -69,4 +71,23 @@ pub fn cuts_stand_at_places()
 pub fn plain_walks_visit_no_state_twice()
     ensures { (enc : Enc) (rules : List Term) (state : ℕ) (walk : Walk (automaton rules) 0 state)
         → IsPlain (symbols enc walk []) ↔ VisitsOnce walk }
+{}
+
+/// A walk over the automaton that goes on from a place to the last state, and visits no state twice between two units, is a plain
+/// walk of closures until its first unit, or to its end: it has the choices and the tag events of its moves, and comes to each
+/// place where the leaf of the unit begins, or to the end of its rule. So a closure, which enters no stop twice, loses no such walk.
+pub fn plain_walks_are_those_of_closures()
+    ensures { (enc : Enc) (patterns : List Pattern) (tnfa : Tnfa) (places : List Place) (place : Place) (from : ℕ)
+        (before choices : List ℕ) (to : Target) (state : ℕ) (walk : Walk (automaton (terms_of patterns)) 0 state)
+        → IsTnfaOf enc patterns tnfa → AllClassesFit enc (terms_of patterns) → slice_get places from ≡ Some place
+        → GoesOnAt tnfa place before state → VisitsOnce walk → Takes tnfa (slice_index tnfa.owners (state / 2)) walk choices to
+        → IsPlainWalk tnfa places (record { from = from; choices = before ++ choices; events = first_events walk; to = to }) }
+{}
+
+/// Each walk over the automaton to the last state takes choices until its first unit, by which it comes to a place from which the
+/// units of its first code point finish the leaf, or to the end of its rule.
+pub fn walks_come_to_their_leaves()
+    ensures { (enc : Enc) (patterns : List Pattern) (tnfa : Tnfa) (rule state : ℕ) (walk : Walk (automaton (terms_of patterns)) 0 state)
+        → IsTnfaOf enc patterns tnfa → AllClassesFit enc (terms_of patterns)
+        → (choices : List ℕ) × (to : Target) × Takes tnfa rule walk choices to × ReadsAt enc tnfa walk to }
 {}

@@ -5,3 +5,4 @@ pub mod FaultLemmas
 pub mod JobLemmas
 pub mod ReportLemmas
 pub mod WordLemmas
+pub mod SomeFault

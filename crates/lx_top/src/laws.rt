@@ -9,3 +9,8 @@ pub fn runs_have_one_first_fault()
     ensures { (words : List (List ℕ)) (seen : List HeldFile) (fault other : Option Fault) →
         IsFirstFault words seen fault → IsFirstFault words seen other → fault ≡ other }
 {}
+
+/// Words and files have a first fault, or they have none: that neither holds cannot be.
+pub fn runs_have_a_first_fault_or_none()
+    ensures { (words : List (List ℕ)) (seen : List HeldFile) → ((fault : Option Fault) → IsFirstFault words seen fault → ⊥) → ⊥ }
+{}

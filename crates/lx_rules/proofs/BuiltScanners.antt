@@ -1,0 +1,181 @@
+-- A block whose checks find nothing resolves: each of its scanners can be built.
+use Rattle.std.proofs.Common.{◌≡◌, ℕ, ◌≤◌, Bool, true, false, not, List, [], ◌∷◌, ◌++◌, map, length, Option, None, Some, refl, sym, ap, ap₂, arith}
+use Rattle.std.specs.List.{AllByRecursion, list_any, filter}
+use Rattle.std.specs.Option.{option_or}
+use Rattle.std.specs.Prelude.{◌||◌, if◌then◌else◌}
+use Rattle.lx_base.specs.Names.{usual_names}
+use Rattle.lx_base.specs.declared.faults.Fault.{Fault}
+use Rattle.lx_base.specs.declared.faults.Fault.TheVariants.{EofPair, NoRules}
+use Rattle.lx_base.specs.declared.places.Pos.{Pos}
+use Rattle.lx_regex.specs.Pattern as regex
+use Rattle.lx_regex.specs.Pattern.{Pattern, patterns_of}
+use Rattle.lx_regex.specs.Term.{Term}
+use Rattle.lx_regex.specs.declared.rules.Rule.{Rule}
+use Rattle.lx_regex.specs.declared.rules.Tag.{Tag}
+use Rattle.lx_rules.specs.Blocks.{AreScanners, BlockChecks, ClashCheck, IsResolved, IsScanner, cond_name, conditions_of, every, given_names, is_bare, limits_fault, lonely_fault, nesting_of, not_of_kind, of_kind, own_or, pattern_of, rules_of, rules_under, scanner_fault, scanner_rules, scanners_fault, shared_beside, size_of, tags_of, targets_fault}
+use Rattle.lx_rules.specs.Checks.{Check, Finds, Then, is_among}
+use Rattle.lx_rules.specs.Environments.{Environment, term_of_meaning}
+use Rattle.lx_rules.specs.Items.{RuleOf, State, is_default, is_end}
+use Rattle.lx_rules.specs.declared.resolved.Resolved.{Resolved}
+use Rattle.lx_rules.specs.declared.resolved.Scanner.{Scanner}
+use Rattle.lx_rules.proofs.BuildableMeanings.{IsMeantBuildable}
+use Rattle.lx_rules.proofs.BuiltTerms.{Expressed, expressed}
+use Rattle.lx_rules.proofs.ClassForms.{then-none}
+use Rattle.lx_rules.proofs.RuleNumbers.{all_both}
+use Rattle.lx_rules.proofs.ScannerFits.{limits_say}
+
+-- what holds of all rules holds of those of a scanner
+module _ (P : RuleOf → Type 0) where
+  all_filtered : (test : RuleOf → Bool) (rules : List RuleOf) → AllByRecursion P rules → AllByRecursion P (filter test rules)
+  all_filtered test [] all = tt
+  all_filtered test (rule ∷ rules) all = at (test rule) (all_filtered test rules all.1)
+    where
+      at : (b : Bool) → AllByRecursion P (filter test rules) → AllByRecursion P (if b then rule ∷ filter test rules else filter test rules)
+      at true later = (all.0, later)
+      at false later = later
+
+  all_own : (own shared : List RuleOf) → AllByRecursion P own → AllByRecursion P shared → AllByRecursion P (own_or own shared)
+  all_own [] shared here there = there
+  all_own (rule ∷ own) shared here there = here
+
+  all_shared : (own shared : List RuleOf) → AllByRecursion P shared → AllByRecursion P (shared_beside own shared)
+  all_shared own shared all = at (list_any (λ (rule : RuleOf). is_end rule.kind) own)
+    where
+      at : (b : Bool) → AllByRecursion P (if b then not_of_kind is_end shared else shared)
+      at true = all_filtered (λ (rule : RuleOf). not (is_end rule.kind)) shared all
+      at false = all
+
+  all_in_scanner : (own shared : List RuleOf) → AllByRecursion P own → AllByRecursion P shared → AllByRecursion P (scanner_rules own shared)
+  all_in_scanner own shared here there =
+      let plain = λ (rules : List RuleOf) (all : AllByRecursion P rules). all_filtered (λ (rule : RuleOf). not (is_default rule.kind)) rules all in
+      let default = λ (rules : List RuleOf) (all : AllByRecursion P rules). all_filtered (λ (rule : RuleOf). is_default rule.kind) rules all in
+      all_both P (not_of_kind is_default own ++ not_of_kind is_default (shared_beside own shared))
+      (own_or (of_kind is_default own) (of_kind is_default shared))
+      (all_both P (not_of_kind is_default own) (not_of_kind is_default (shared_beside own shared)) (plain own here)
+      (plain (shared_beside own shared) (all_shared own shared there)))
+      (all_own (of_kind is_default own) (of_kind is_default shared) (default own here) (default shared there))
+
+  all_of_scanner : (cond : List ℕ) (rules : List RuleOf) → AllByRecursion P rules → AllByRecursion P (rules_of cond rules)
+  all_of_scanner cond rules all =
+      all_in_scanner (rules_under cond rules) (rules_under every rules)
+      (all_filtered (λ (rule : RuleOf). is_among cond rule.conds) rules all) (all_filtered (λ (rule : RuleOf). is_among every rule.conds) rules all)
+
+-- each rule counts for no more than all of them, where none is `$`
+each_small : (rules : List RuleOf) → list_any (λ (rule : RuleOf). is_end rule.kind) rules ≡ false → size_of (not_of_kind is_end rules) ≤ 4096
+    → AllByRecursion (λ (rule : RuleOf). rule.meaning.size ≤ 4096) rules
+each_small [] none most = tt
+each_small (rule ∷ rules) none most = at (is_end rule.kind) refl none most (each_small rules)
+  where
+    at : (b : Bool) → is_end rule.kind ≡ b → (b || list_any (λ (rule : RuleOf). is_end rule.kind) rules) ≡ false
+        → size_of (if not b then rule ∷ not_of_kind is_end rules else not_of_kind is_end rules) ≤ 4096
+        → (list_any (λ (rule : RuleOf). is_end rule.kind) rules ≡ false → size_of (not_of_kind is_end rules) ≤ 4096
+        → AllByRecursion (λ (rule : RuleOf). rule.meaning.size ≤ 4096) rules)
+        → AllByRecursion (λ (rule : RuleOf). rule.meaning.size ≤ 4096) (rule ∷ rules)
+    at true e none most later = absurd (let h : true ≡ false = none in cc)
+    at false e none most later = (omega (arith, most), later none (omega (arith, most)))
+
+-- two faults, neither of which there is
+or_none : (one two : Option Fault) → option_or one two ≡ None → (one ≡ None) × (two ≡ None)
+or_none None two is = (refl, is)
+or_none (Some fault) two is = absurd (let h : Some fault ≡ None = is in cc)
+
+no_fault : (b : Bool) (fault : Fault) → (if b then Some fault else None) ≡ None → b ≡ false
+no_fault true fault is = absurd (let h : Some fault ≡ None = is in cc)
+no_fault false fault is = refl
+
+-- the rules of a scanner whose checks find nothing are small
+scanner_small : (at : Pos) (rules : List RuleOf) → scanner_fault at rules ≡ None → AllByRecursion (λ (rule : RuleOf). rule.meaning.size ≤ 4096) rules
+scanner_small at rules none =
+    let has_end : Bool = list_any (λ (rule : RuleOf). is_end rule.kind) rules in
+    let limits : Option Fault =
+    limits_fault at (size_of (not_of_kind is_end rules)) (nesting_of (not_of_kind is_end rules)) (tags_of (not_of_kind is_end rules)) in
+    let one = or_none (if is_bare rules then Some (NoRules at) else None) (option_or (if has_end then Some (EofPair at) else None) limits) none in
+    let two = or_none (if has_end then Some (EofPair at) else None) limits one.1 in
+    each_small rules (no_fault has_end (EofPair at) two.0)
+    (limits_say at (size_of (not_of_kind is_end rules)) (nesting_of (not_of_kind is_end rules)) (tags_of (not_of_kind is_end rules)) (sym two.1)).0
+
+-- a tag with its name
+abbrev named_tag : List ℕ → Tag
+named_tag name = record { name = name; many = false }
+
+tags_many : (names : List (List ℕ)) → map (λ (tag : Tag). tag.many) (map named_tag names) ≡ map (λ name. false) names
+tags_many [] = refl
+tags_many (name ∷ names) = ap (λ l. false ∷ l) (tags_many names)
+
+tags_names : (names : List (List ℕ)) → map (λ (tag : Tag). tag.name) (map named_tag names) ≡ names
+tags_names [] = refl
+tags_names (name ∷ names) = ap (λ l. name ∷ l) (tags_names names)
+
+-- the rule of an expression that stands for its meaning
+abbrev built_rule : (rule : RuleOf) → Expressed (term_of_meaning rule.meaning) → Rule
+built_rule rule expr = record {
+  number = rule.act.number;
+  kind = rule.kind;
+  expr = expr.0;
+  tags = map named_tag rule.meaning.tags;
+  slash = None;
+  groups = 0;
+}
+
+rule_pattern : (rule : RuleOf) (expr : Expressed (term_of_meaning rule.meaning)) → regex.pattern_of (built_rule rule expr) ≡ pattern_of rule
+rule_pattern rule expr =
+    ap₂ make (expr.1 (length (map named_tag rule.meaning.tags))) (tags_many rule.meaning.tags)
+  where
+    make : Term → List Bool → Pattern
+    make term many =
+        record { number = rule.act.number; kind = rule.kind; term = term; many = many; slash = None; groups = 0 }
+
+-- rules with the patterns and the names that are wanted
+abbrev AreBuilt : List RuleOf → List Rule → Type 0
+AreBuilt rules built = (patterns_of built ≡ map pattern_of rules) × (map given_names built ≡ map (λ (rule : RuleOf). rule.meaning.tags) rules)
+
+rules_built : (rules : List RuleOf) → AllByRecursion (λ (rule : RuleOf). IsMeantBuildable rule.meaning) rules
+    → AllByRecursion (λ (rule : RuleOf). rule.meaning.size ≤ 4096) rules → (built : List Rule) × AreBuilt rules built
+rules_built [] buildable small = ([], (refl, refl))
+rules_built (rule ∷ rules) buildable small =
+    let expr = expressed (term_of_meaning rule.meaning) (buildable.0.expressible small.0) in
+    let others = rules_built rules buildable.1 small.1 in (
+      built_rule rule expr ∷ others.0,
+      (
+        ap₂ (λ (p : Pattern) (l : List Pattern). p ∷ l) (rule_pattern rule expr) others.1.0,
+        ap₂ (λ (n : List (List ℕ)) (l : List (List (List ℕ))). n ∷ l) (tags_names rule.meaning.tags) others.1.1,
+      ),
+    )
+
+module _ (named : Bool) (at : Pos) (rules : List RuleOf) (buildable : AllByRecursion (λ (rule : RuleOf). IsMeantBuildable rule.meaning) rules) where
+  scanner_built : (cond : List ℕ) → scanner_fault at (rules_of cond rules) ≡ None → (scanner : Scanner) × IsScanner named rules cond scanner
+  scanner_built cond none =
+      let built =
+      rules_built (rules_of cond rules) (all_of_scanner (λ (rule : RuleOf). IsMeantBuildable rule.meaning) cond rules buildable)
+      (scanner_small at (rules_of cond rules) none) in (
+        record { cond = cond_name named cond; set = record { rules = built.0 } },
+        record { name = refl; patterns = built.1.0; names = built.1.1 },
+      )
+
+  scanners_built : (conds : List (List ℕ)) → scanners_fault at rules conds ≡ None → (scanners : List Scanner) × AreScanners named rules conds scanners
+  scanners_built [] none = ([], tt)
+  scanners_built (cond ∷ conds) none =
+      let both = or_none (scanner_fault at (rules_of cond rules)) (scanners_fault at rules conds) none in
+      let one = scanner_built cond both.0 in
+      let others = scanners_built conds both.1 in (one.0 ∷ others.0, (one.1, others.1))
+
+-- what a block resolves to
+pub block_built : (named : Bool) (at : Pos) (state : State) → BlockChecks at state None
+    → AllByRecursion (λ (rule : RuleOf). IsMeantBuildable rule.meaning) state.rules
+    → (after : Environment) × (resolved : Resolved) × IsResolved named state after resolved
+block_built named at state checked buildable =
+    let Scanners : Check = Finds (scanners_fault at state.rules (conditions_of state.rules)) in
+    let Targets : Check = Finds (targets_fault state.rules (conditions_of state.rules)) in
+    let Lonely : Check = Finds (lonely_fault at state.rules (conditions_of state.rules)) in
+    let one = then-none (ClashCheck at usual_names state.rules) (Then Lonely (Then Targets Scanners)) checked in
+    let two = then-none Lonely (Then Targets Scanners) one.1 in
+    let three = then-none Targets Scanners two.1 in
+    let built = scanners_built named at state.rules buildable (conditions_of state.rules) (sym three.1) in (
+      record { definitions = state.definitions; fill = state.fill },
+      record {
+        scanners = built.0;
+        acts = map (λ (rule : RuleOf). rule.act) state.rules;
+        config = record { names = usual_names; eof = None; fill = state.fill };
+      },
+      record { environment_is = refl; scanners = built.1; acts = refl; names = refl; eof = refl; fill = refl },
+    )

@@ -1,0 +1,268 @@
+-- The items of a block are surely refused, or taken to their end.
+use Rattle.std.proofs.Common.{◌≡◌, ℕ, suc, ◌-◌, ◌≤◌, Bool, true, false, not, List, [], ◌∷◌, length, Option, None, Some, Result, Ok, Err, refl, sym, subst}
+use Rattle.std.specs.List.{AllByRecursion}
+use Rattle.std.specs.Option.{option_map}
+use Rattle.std.specs.Prelude.{◌==◌, ◌||◌, is_some, if◌then◌else◌}
+use Rattle.std.specs.Str.{bytes_eq}
+use Rattle.lx_base.specs.declared.faults.Fault.{Fault}
+use Rattle.lx_base.specs.declared.faults.Fault.TheVariants.{BadValue, Unsupported, UnknownConfig}
+use Rattle.lx_base.specs.declared.places.Pos.{Pos}
+use Rattle.lx_base.specs.declared.settings.Options.{Options}
+use Rattle.lx_parse.specs.declared.items.Item.{Item}
+use Rattle.lx_parse.specs.declared.items.Item.TheVariants.{Define, Configure, Rule, Text}
+use Rattle.lx_parse.specs.Expressions.{alt}
+use Rattle.lx_parse.specs.Ranges.{EachHasExpressions, HasExpressions, IsPart}
+use Rattle.lx_regex.specs.Term.{IsInRanges, Term}
+use Rattle.lx_regex.specs.declared.rules.Kind.{Kind}
+use Rattle.lx_regex.specs.declared.rules.Kind.TheVariants as kind
+use Rattle.lx_rules.specs.Buildable.{IsBuildable}
+use Rattle.lx_rules.specs.Checks.{Check, Checks, Finds, IsIn, Then, is_among, tags_of, waits}
+use Rattle.lx_rules.specs.Configurations.{config_fault, define_words, fill_word, other_words, switch_fault, switch_of}
+use Rattle.lx_rules.specs.Environments.{Definition, IsClassKept, IsDefined, IsTermKept, Meaning, definition_of, is_built, kept, meant_class, term_of_meaning, whole, whole_room}
+use Rattle.lx_rules.specs.Items.{ContextChecks, ExpressionChecks, Goes, HeadChecks, HeadSort, IsAfter, IsHead, ItemChecks, ListChecks, RuleOf, State, TargetChecks, act_of, any, any_meaning, conds_of, ends, end, expression, first_of, head_sort, is_default, is_end, next, refused, twice, unless}
+use Rattle.lx_rules.specs.Lexemes.{Lexeme, nth_lexeme, sort_at, sorts_at}
+use Rattle.lx_rules.specs.Meanings.{set_term}
+use Rattle.lx_rules.specs.Within.{AreDefinedWithin}
+use Rattle.lx_rules.proofs.BoundedSets.{set_exists}
+use Rattle.lx_rules.proofs.BuildableMeanings.{IsMeantBuildable, any_buildable, defined_buildable, form_buildable}
+use Rattle.lx_rules.proofs.ClassFits.{plain_class}
+use Rattle.lx_rules.proofs.ClassForms.{then-none}
+use Rattle.lx_rules.proofs.Classical.{Surely, surely, and_then}
+use Rattle.lx_rules.proofs.ExpressionRanges.{part_form}
+use Rattle.lx_rules.proofs.FormFits.{form_ready}
+use Rattle.lx_rules.proofs.FormVerdicts.{Decides, finds_decides, form_decides, form_means, then_decides}
+use Rattle.lx_rules.proofs.HeadSteps.{head_part}
+use Rattle.lx_rules.proofs.ItemFits.{IsStateWithin, goes_within}
+use Rattle.lx_rules.proofs.PointSets.{le_greatest}
+use Rattle.lx_rules.proofs.RuleNumbers.{all_both}
+
+-- the class of what is kept of an expression
+class_kept : (ranges : Option (List (ℕ × ℕ))) → ((point : ℕ) → IsIn ranges point → point ≤ 0x10FFFF)
+    → Surely ((term : Option Term) × IsClassKept ranges term)
+class_kept None fit = surely (None, refl)
+class_kept (Some ranges) fit =
+    and_then (set_exists (IsInRanges ranges) fit)
+    (λ found. surely (Some (set_term found.0), (found.0, (found.1.canonical, found.1.points), refl)))
+
+-- a name has a definition for each meaning whose classes fit the encoding
+defined : (name : List ℕ) (at : Pos) (meaning : Meaning) → ((point : ℕ) → IsIn (meant_class meaning) point → point ≤ 0x10FFFF)
+    → Surely ((definition : Definition) × IsDefined name at meaning definition)
+defined name place meaning fit =
+    and_then (at (is_built whole_room meaning))
+    (λ term. surely (
+      record { name = name; at = place; size = kept meaning.size; nesting = kept meaning.nesting; tags = meaning.tags; term = term.0 },
+      record { name_is = refl; at_is = refl; size = refl; nesting = refl; tags = refl; term = term.1 },
+    ))
+  where
+    at : (b : Bool) → Surely ((term : Option Term) × IsTermKept b meaning term)
+    at true = surely (Some (term_of_meaning meaning), refl)
+    at false = class_kept (meant_class meaning) fit
+
+-- a configuration whose checks find nothing is a switch
+switched : (name value : Lexeme) → None ≡ config_fault name value → (fill : Bool) × (switch_of value.kind value.text ≡ Some fill)
+switched name value none = by (bytes_eq name.text fill_word) (is_among name.text define_words || is_among name.text other_words) none
+  where
+    of : (found : Option Bool) → None ≡ (if is_some found then None else Some (BadValue value.at)) → (fill : Bool) × (found ≡ Some fill)
+    of None none = absurd (let h : None ≡ Some (BadValue value.at) = none in cc)
+    of (Some fill) none = (fill, refl)
+
+    by : (is_fill is_known : Bool)
+        → None ≡ (if is_fill then switch_fault value else (if is_known then waits name else Some (UnknownConfig name.at name.text)))
+        → (fill : Bool) × (switch_of value.kind value.text ≡ Some fill)
+    by true is_known none = of (switch_of value.kind value.text) none
+    by false true none = absurd (let h : None ≡ Some (Unsupported (Some name.at)) = none in cc)
+    by false false none = absurd (let h : None ≡ Some (UnknownConfig name.at name.text) = none in cc)
+
+module _ (options : Options) (lexemes : List Lexeme) where
+  expression_decides : (definitions : List Definition) (from until : ℕ) → IsPart (sorts_at lexemes) alt from until
+      → Decides (ExpressionChecks options lexemes definitions from until)
+  expression_decides definitions from until part =
+      let form = part_form options lexemes from until part in
+      and_then (form_decides options definitions false [] form.0) (λ found. surely (found.0, (form.0, form.1, found.1)))
+
+  context_decides : (definitions : List Definition) (from slash until : ℕ) → IsPart (sorts_at lexemes) alt from slash
+      → IsPart (sorts_at lexemes) alt (suc slash) until → Decides (ContextChecks options lexemes definitions from slash until)
+  context_decides definitions from slash until part later =
+      let form = part_form options lexemes from slash part in
+      let behind = part_form options lexemes (suc slash) until later in
+      let First : Check = Checks options definitions false [] form.0 in
+      let Waits : Check = Finds (waits (nth_lexeme lexemes slash)) in
+      let Second : Check = Checks options definitions false (tags_of options definitions form.0) behind.0 in
+      and_then
+      (then_decides First (Then Waits Second) (form_decides options definitions false [] form.0)
+      (then_decides Waits Second (finds_decides (waits (nth_lexeme lexemes slash)))
+      (form_decides options definitions false (tags_of options definitions form.0) behind.0)))
+      (λ found. surely (found.0, (form.0, behind.0, form.1, behind.1, found.1)))
+
+  list_decides : (is_absent : Bool) (at : Pos) → Decides (ListChecks options lexemes is_absent at)
+  list_decides true at = finds_decides (unless (not options.conds) at)
+  list_decides false at =
+      then_decides (Finds (Some (Unsupported (Some at)))) (Finds (unless options.conds at)) (finds_decides (Some (Unsupported (Some at))))
+      (finds_decides (unless options.conds at))
+
+  target_decides : (goes : Option ℕ) → Decides (TargetChecks options lexemes goes)
+  target_decides None = finds_decides None
+  target_decides (Some goes) =
+      then_decides (Finds (waits (nth_lexeme lexemes (goes - 1)))) (Finds (unless options.conds (nth_lexeme lexemes (goes - 1)).at))
+      (finds_decides (waits (nth_lexeme lexemes (goes - 1)))) (finds_decides (unless options.conds (nth_lexeme lexemes (goes - 1)).at))
+
+  head_decides : (state : State) (sort : HeadSort) (conds : List (List ℕ)) (head : ℕ) (slash : Option ℕ) (until : ℕ)
+      → head_sort (sort_at (nth_lexeme lexemes head)) ≡ sort → HasExpressions (sorts_at lexemes) (Rule head head slash until None None)
+      → Decides (HeadChecks options lexemes state sort conds head slash until)
+  head_decides state any conds head slash until is has =
+      finds_decides (twice (nth_lexeme lexemes head).at (first_of is_default conds state.rules))
+  head_decides state end conds head slash until is has =
+      then_decides (Finds (waits (nth_lexeme lexemes head))) (Finds (twice (nth_lexeme lexemes head).at (first_of is_end conds state.rules)))
+      (finds_decides (waits (nth_lexeme lexemes head))) (finds_decides (twice (nth_lexeme lexemes head).at (first_of is_end conds state.rules)))
+  head_decides state expression conds head None until is has =
+      expression_decides state.definitions head until
+      (head_part lexemes head None until
+      (λ star. let h : any ≡ expression = subst (λ s. head_sort s ≡ expression) star is in cc)
+      (λ dollar. let h : end ≡ expression = subst (λ s. head_sort s ≡ expression) dollar is in cc) has)
+  head_decides state expression conds head (Some slash) until is has = context_decides state.definitions head slash until has.0 has.1
+
+  -- the expressions of a rule stand in its head
+  head_has : (first head : ℕ) (slash : Option ℕ) (until : ℕ) (goes code : Option ℕ)
+      → HasExpressions (sorts_at lexemes) (Rule first head slash until goes code)
+      → HasExpressions (sorts_at lexemes) (Rule head head slash until None None)
+  head_has first head None until goes code has = has
+  head_has first head (Some slash) until goes code has = has
+
+  item_decides : (state : State) (item : Item) → HasExpressions (sorts_at lexemes) item → Decides (ItemChecks options lexemes state item)
+  item_decides state (Define name from until) part =
+      let first = twice (nth_lexeme lexemes name).at
+      (option_map (λ (definition : Definition). definition.at) (definition_of state.definitions (nth_lexeme lexemes name).text)) in
+      then_decides (Finds first) (ExpressionChecks options lexemes state.definitions from until) (finds_decides first)
+      (expression_decides state.definitions from until part)
+  item_decides state (Configure name value) has = finds_decides (config_fault (nth_lexeme lexemes name) (nth_lexeme lexemes value))
+  item_decides state (Rule first head slash until goes code) has =
+      let sort = head_sort (sort_at (nth_lexeme lexemes head)) in
+      let Head : Check = HeadChecks options lexemes state sort (conds_of options lexemes first head) head slash until in
+      then_decides (ListChecks options lexemes (first == head) (nth_lexeme lexemes first).at)
+      (λ fault. Then Head (TargetChecks options lexemes goes) fault)
+      (list_decides (first == head) (nth_lexeme lexemes first).at)
+      (then_decides Head (TargetChecks options lexemes goes)
+      (head_decides state sort (conds_of options lexemes first head) head slash until refl (head_has first head slash until goes code has))
+      (target_decides goes))
+  item_decides state (Text value) has = finds_decides None
+
+  head_means : (state : State) → AreDefinedWithin options.enc state.definitions → (sort : HeadSort) (conds : List (List ℕ)) (head : ℕ)
+      (slash : Option ℕ) (until : ℕ) → HeadChecks options lexemes state sort conds head slash until None
+      → Surely ((sort_is : Kind) × (meaning : Meaning) × IsHead options lexemes state.definitions sort head slash until sort_is meaning)
+  head_means state ready any conds head slash until checked = surely (kind.Default, any_meaning, (refl, refl))
+  head_means state ready end conds head slash until checked =
+      let found =
+      then-none (Finds (waits (nth_lexeme lexemes head))) (Finds (twice (nth_lexeme lexemes head).at (first_of is_end conds state.rules))) checked in
+      absurd (let h : None ≡ Some (Unsupported (Some (nth_lexeme lexemes head).at)) = found.0 in cc)
+  head_means state ready expression conds head None until checked =
+      and_then (form_means options state.definitions ready false [] checked.0 checked.2)
+      (λ means. surely (kind.Plain, means.0, (refl, (checked.0, checked.1, means.1))))
+  head_means state ready expression conds head (Some slash) until checked =
+      let First : Check = Checks options state.definitions false [] checked.0 in
+      let Waits : Check = Finds (waits (nth_lexeme lexemes slash)) in
+      let Second : Check = Checks options state.definitions false (tags_of options state.definitions checked.0) checked.1 in
+      let found = then-none First (Then Waits Second) checked.4 in
+      let later = then-none Waits Second found.1 in
+      absurd (let h : None ≡ Some (Unsupported (Some (nth_lexeme lexemes slash).at)) = later.0 in cc)
+
+  -- behind an item whose checks find nothing something is known
+  item_after : (state : State) → AreDefinedWithin options.enc state.definitions → (item : Item) → ItemChecks options lexemes state item None
+      → Surely ((after : State) × IsAfter options lexemes state item after)
+  item_after state ready (Define name from until) checked =
+      let found =
+      then-none
+      (Finds (twice (nth_lexeme lexemes name).at (option_map (λ (d : Definition). d.at) (definition_of state.definitions (nth_lexeme lexemes name).text))))
+      (ExpressionChecks options lexemes state.definitions from until) checked in
+      and_then (form_means options state.definitions ready false [] found.1.0 found.1.2)
+      (λ means.
+      let plain = (form_ready options state.definitions ready false [] found.1.0 means.0 found.1.2 means.1).0.plain in
+      and_then
+      (defined (nth_lexeme lexemes name).text (nth_lexeme lexemes name).at means.0
+      (λ point is. le_greatest options.enc point (plain_class options.enc (whole means.0.shape) plain point is)))
+      (λ definition. surely (_, (found.1.0, means.0, definition.0, found.1.1, means.1, definition.1, refl))))
+  item_after state ready (Configure name value) checked =
+      let fill = switched (nth_lexeme lexemes name) (nth_lexeme lexemes value) checked in surely (_, (fill.0, fill.1, refl))
+  item_after state ready (Rule first head slash until goes code) checked =
+      let sort = head_sort (sort_at (nth_lexeme lexemes head)) in
+      let Head : Check = HeadChecks options lexemes state sort (conds_of options lexemes first head) head slash until in
+      let found =
+      then-none (ListChecks options lexemes (first == head) (nth_lexeme lexemes first).at)
+      (λ fault. Then Head (TargetChecks options lexemes goes) fault) checked in
+      let later = then-none Head (TargetChecks options lexemes goes) found.1 in
+      and_then (head_means state ready sort (conds_of options lexemes first head) head slash until later.0)
+      (λ means. surely (_, (means.0, means.1, means.2, refl)))
+  item_after state ready (Text value) checked = surely (state, refl)
+
+-- what is known behind items can be built
+pub record IsStateBuildable (state : State) : Type 0 where
+  pub definitions : AllByRecursion IsBuildable state.definitions
+  pub rules : AllByRecursion (λ (rule : RuleOf). IsMeantBuildable rule.meaning) state.rules
+
+module _ (options : Options) (lexemes : List Lexeme) where
+  head_buildable : (state : State) → AllByRecursion IsBuildable state.definitions → (sort : HeadSort) (head : ℕ) (slash : Option ℕ) (until : ℕ)
+      (sort_is : Kind) (meaning : Meaning) → IsHead options lexemes state.definitions sort head slash until sort_is meaning → IsMeantBuildable meaning
+  head_buildable state ready any head slash until sort_is meaning is = subst IsMeantBuildable (sym is.1) any_buildable
+  head_buildable state ready end head slash until sort_is meaning is = absurd is
+  head_buildable state ready expression head None until sort_is meaning is =
+      form_buildable options state.definitions ready false [] is.1.0 meaning is.1.2
+  head_buildable state ready expression head (Some slash) until sort_is meaning is = absurd is
+
+  item_buildable : (state after : State) (item : Item) → IsStateBuildable state → IsAfter options lexemes state item after → IsStateBuildable after
+  item_buildable state after (Define name from until) buildable is =
+      subst IsStateBuildable (sym is.6) (record {
+        definitions =
+            all_both IsBuildable state.definitions (is.2 ∷ []) buildable.definitions (
+              defined_buildable (nth_lexeme lexemes name).text (nth_lexeme lexemes name).at is.1 is.2 is.5
+                  (form_buildable options state.definitions buildable.definitions false [] is.0 is.1 is.4),
+              tt,
+            );
+        rules = buildable.rules;
+      })
+  item_buildable state after (Configure name value) buildable is =
+      subst IsStateBuildable (sym is.2) (record { definitions = buildable.definitions; rules = buildable.rules })
+  item_buildable state after (Rule first head slash until goes code) buildable is =
+      subst IsStateBuildable (sym is.3) (record {
+        definitions = buildable.definitions;
+        rules =
+            all_both (λ (rule : RuleOf). IsMeantBuildable rule.meaning) state.rules (record {
+              conds = conds_of options lexemes first head;
+              kind = is.0;
+              at = (nth_lexeme lexemes head).at;
+              meaning = is.1;
+              target = option_map (λ place. (nth_lexeme lexemes place).at) goes;
+              act = act_of options lexemes (suc (length state.rules)) goes code;
+            } ∷ []) buildable.rules
+            (head_buildable state buildable.definitions (head_sort (sort_at (nth_lexeme lexemes head))) head slash until is.0 is.1 is.2, tt);
+      })
+  item_buildable state after (Text value) buildable is = subst IsStateBuildable (sym is) buildable
+
+  pub goes_buildable : (state after : State) (items : List Item) → IsStateBuildable state → Goes options lexemes state items (Ok after)
+      → IsStateBuildable after
+  goes_buildable state after [] buildable ends = buildable
+  goes_buildable state after (item ∷ items) buildable (next middle checked is rest) =
+      goes_buildable middle after items (item_buildable state middle item buildable is) rest
+
+  -- an item is refused, or those behind it are taken or refused
+  item_goes : (state : State) (item : Item) (items : List Item) (fault : Option Fault) → IsStateWithin options.enc state → IsStateBuildable state
+      → ItemChecks options lexemes state item fault
+      → ((after : State) → IsStateWithin options.enc after → IsStateBuildable after
+      → Surely ((result : Result State Fault) × Goes options lexemes after items result))
+      → Surely ((result : Result State Fault) × Goes options lexemes state (item ∷ items) result)
+  item_goes state item items (Some fault) within buildable checked later = surely (Err fault, refused fault checked)
+  item_goes state item items None within buildable checked later =
+      and_then (item_after options lexemes state within.definitions item checked)
+      (λ after.
+      and_then
+      (later after.0 (goes_within options lexemes state after.0 (item ∷ []) within (next after.0 checked after.1 ends))
+      (item_buildable state after.0 item buildable after.1))
+      (λ rest. surely (rest.0, next after.0 checked after.1 rest.1)))
+
+  -- the items are taken, or one is refused
+  pub goes_decides : (items : List Item) (state : State) → EachHasExpressions (sorts_at lexemes) items → IsStateWithin options.enc state
+      → IsStateBuildable state → Surely ((result : Result State Fault) × Goes options lexemes state items result)
+  goes_decides [] state has within buildable = surely (Ok state, ends)
+  goes_decides (item ∷ items) state has within buildable =
+      and_then (item_decides options lexemes state item has.0)
+      (λ found.
+      item_goes state item items found.0 within buildable found.1
+      (λ after within_after buildable_after. goes_decides items after has.1 within_after buildable_after))

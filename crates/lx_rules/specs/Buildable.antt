@@ -1,0 +1,35 @@
+-- Environments whose definitions can stand in the expressions of rules.
+use Rattle.std.specs.Prelude.{◌<◌, ◌≤◌, ◌^◌}
+use Rattle.std.specs.List.{AllByRecursion}
+use Rattle.lx_base.specs.declared.settings.Enc.{Enc}
+use Rattle.lx_regex.specs.Limits.{member_count}
+use Rattle.lx_regex.specs.Term.{Term, Terms, empty, class, any_unit, cat, alt, repeat, tag, group, nil, cons}
+use Rattle.lx_rules.specs.Environments.{Definition, Environment}
+use Rattle.lx_rules.specs.Meanings.{term_or_empty}
+use Rattle.lx_rules.specs.Within.{AreDefinedWithin}
+
+-- An expression can stand for the term: each list of members has fewer than 2^63, which a vector can hold. Groups are not
+-- supported yet.
+abbrev mutual
+  pub IsExpressible : Term → Type 0
+  IsExpressible empty = Unit {0}
+  IsExpressible (class ranges) = Unit {0}
+  IsExpressible any_unit = Unit {0}
+  IsExpressible (cat members) = (member_count members < 2 ^ 63) × AreExpressible members
+  IsExpressible (alt members) = (member_count members < 2 ^ 63) × AreExpressible members
+  IsExpressible (repeat body low high) = IsExpressible body
+  IsExpressible (tag number) = Unit {0}
+  IsExpressible (group opening closing body) = ⊥
+
+  pub AreExpressible : Terms → Type 0
+  AreExpressible nil = Unit {0}
+  AreExpressible (cons member members) = IsExpressible member × AreExpressible members
+
+-- a definition counts for something, and an expression can stand for what is kept of it
+abbrev pub IsBuildable : Definition → Type 0
+IsBuildable definition = (1 ≤ definition.size) × IsExpressible (term_or_empty definition.term)
+
+-- the definitions of an environment are ready for copies, and can be built
+pub record IsReady (enc : Enc) (environment : Environment) : Type 0 where
+  pub within : AreDefinedWithin enc environment.definitions
+  pub buildable : AllByRecursion IsBuildable environment.definitions

@@ -1,0 +1,31 @@
+//! What holds of all blocks: each law is the contract of a function with an empty body.
+ghost use Rattle.std.specs.Prelude.{ℕ, List};
+ghost use Rattle.lx_base.specs.declared.blocks.BlockKind.TheVariants.{Code};
+ghost use Rattle.lx_base.specs.declared.faults.Fault.{Fault};
+ghost use Rattle.lx_base.specs.declared.places.Pos.{Pos};
+ghost use Rattle.lx_base.specs.declared.settings.Enc.{Enc};
+ghost use Rattle.lx_base.specs.declared.settings.Options.{Options};
+ghost use Rattle.lx_parse.specs.Blocks.{IsBody, form_of};
+ghost use Rattle.lx_parse.specs.Sorts.{sorts_of};
+ghost use Rattle.lx_parse.specs.declared.items.Item.{Item};
+ghost use Rattle.lx_token.specs.declared.list.Token.{Token};
+ghost use Rattle.lx_rules.specs.declared.resolved.Resolved.{Resolved};
+ghost use Rattle.lx_rules.specs.Blocks.{IsBlockFault, Resolves};
+ghost use Rattle.lx_rules.specs.Buildable.{IsReady};
+ghost use Rattle.lx_rules.specs.Environments.{Environment, first_environment};
+ghost use Rattle.lx_rules.specs.Lexemes.{Lexeme, lexemes_of};
+
+/// A block resolves or has a fault: that neither holds cannot be.
+pub fn blocks_resolve_or_have_a_fault()
+    ensures { (options : Options) (at : Pos) (environment : Environment) (body : List ℕ) (tokens : List Token) (items : List Item) →
+        IsReady options.enc environment → IsBody (form_of Code) (sorts_of Code body tokens) items →
+        ((after : Environment) (resolved : Resolved) → Resolves options at environment (lexemes_of body tokens) items after resolved → ⊥) →
+        ((fault : Fault) → IsBlockFault options at environment (lexemes_of body tokens) items fault → ⊥) → ⊥ }
+{}
+
+/// The environment before the first block is ready for what blocks say, and a block that resolves leaves one that is, too.
+pub fn environments_stay_ready()
+    ensures first { (enc : Enc) → IsReady enc first_environment }
+    ensures kept { (options : Options) (at : Pos) (environment after : Environment) (lexemes : List Lexeme) (items : List Item) (resolved : Resolved) →
+        IsReady options.enc environment → Resolves options at environment lexemes items after resolved → IsReady options.enc after }
+{}

@@ -1,0 +1,66 @@
+-- A command line has a first fault over the files, or it has none: one of both is there, under two negations.
+use Rattle.std.proofs.Common.{ℕ, zero, suc, ◌<◌, List, drop, Option, Some, None, refl, inl, inr, arith}
+use Rattle.lx_base.specs.declared.faults.Fault.{Fault}
+use Rattle.lx_base.specs.declared.faults.Fault.TheVariants.{NoFile, NotEmitted, Unsupported}
+use Rattle.lx_base.specs.declared.settings.Job.{Job}
+use Rattle.lx_base.specs.declared.settings.Job.TheVariants.{Compile, Run, Source}
+use Rattle.lx_base.specs.declared.settings.Options.{Options}
+use Rattle.lx_files.specs.declared.files.HeldFile.{HeldFile}
+use Rattle.lx_files.specs.Held.{bytes_of}
+use Rattle.lx_words.specs.Options.{words_fault}
+use Rattle.lx_ccode.specs.declared.piece.Piece.{Piece}
+use Rattle.lx_ccode.specs.Front.{BeginsWithPiece}
+use Rattle.lx_creader.specs.Marks.{BeginsBlock, IsFirstBegin}
+use Rattle.lx_compile.proofs.SomeFault as sources
+use Rattle.lx_top.specs.Emitted.{IsEmittedFault, IsRunFault, input_fault, place_in}
+use Rattle.lx_top.specs.FirstFault.{IsFaultBehind, IsFaultOf, IsFileFault, IsFirstFault}
+use Rattle.lx_top.specs.Jobs.{options_for}
+use Rattle.lx_top.specs.Places.{start_of}
+
+-- ---- runs
+
+module _ (block : Option ℕ) (name : List ℕ) (given : Option (List ℕ)) (bytes : List ℕ)
+    (none : (fault : Option Fault) → IsEmittedFault block name given bytes fault → ⊥) where
+  -- a first begin mark that is asked for: a piece stands there, or none does
+  no_first : (offset : ℕ) → IsFirstBegin block bytes offset → ⊥
+  no_first offset first = none (Some (NotEmitted (place_in bytes offset) offset)) (inl (offset, inr (first, no_piece), refl))
+    where
+      no_piece : (piece : Piece) → BeginsWithPiece (drop offset bytes) piece → ⊥
+      no_piece piece begins = none (input_fault name piece.unit given) (inr (piece, record { offset = offset; first = first; begins = begins }, refl))
+
+  -- so there is no such mark: one of them would be the first
+  no_begin_below : (count place : ℕ) → place < count → BeginsBlock block (drop place bytes) → ⊥
+  no_begin_below zero place before begins = absurd (omega arith)
+  no_begin_below (suc count) place before begins =
+      no_first place (record { begins = begins; none_before = λ other before_other. no_begin_below count other (omega arith) })
+
+  no_begin : (place : ℕ) → BeginsBlock block (drop place bytes) → ⊥
+  no_begin place = no_begin_below (suc place) place (omega arith)
+
+  emitted_fault : ⊥
+  emitted_fault = none (Some (NotEmitted (place_in bytes 0) 0)) (inl (0, inl (no_begin, refl), refl))
+
+-- a run has a first fault, or none
+run_fault : (block : Option ℕ) (name : List ℕ) (given : Option (List ℕ)) (emitted : List ℕ) (scanned : Option (List ℕ))
+    → ((fault : Option Fault) → IsRunFault block name given emitted scanned fault → ⊥) → ⊥
+run_fault block name given emitted None none = none (Some (NoFile (start_of 0) emitted)) refl
+run_fault block name given emitted (Some bytes) none = emitted_fault block name given bytes none
+
+-- ---- jobs
+
+file_fault : (options : Options) (name : List ℕ) (given : Option (List ℕ)) → ((fault : Option Fault) → IsFileFault options name given fault → ⊥) → ⊥
+file_fault options name None none = none (Some (NoFile (start_of 0) name)) refl
+file_fault options name (Some bytes) none = sources.IsFirstFault-some options bytes none
+
+job_fault : (options : Options) (job : Job) (files : List HeldFile) → ((fault : Option Fault) → IsFaultOf options job files fault → ⊥) → ⊥
+job_fault options (Compile file to) files none = file_fault options file (bytes_of files file) none
+job_fault options (Run input emitted block window piece) files none = run_fault block input (bytes_of files input) emitted (bytes_of files emitted) none
+job_fault options (Source rules to) files none = none (Some (Unsupported None)) refl
+
+fault_behind : (of_words : Option Fault) (options : Options) (files : List HeldFile) → ((fault : Option Fault) → IsFaultBehind of_words options files fault → ⊥) → ⊥
+fault_behind None options files none = job_fault options options.job files none
+fault_behind (Some first) options files none = none (Some first) refl
+
+-- a command line has a first fault, or none
+pub IsFirstFault-some : (words : List (List ℕ)) (files : List HeldFile) → ((fault : Option Fault) → IsFirstFault words files fault → ⊥) → ⊥
+IsFirstFault-some words files none = fault_behind (words_fault words) (options_for words) files none
