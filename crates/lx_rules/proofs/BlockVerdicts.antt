@@ -63,7 +63,7 @@ module _ (options : Options) (at : Pos) (environment : Environment) (lexemes : L
       })
 
   -- what a block resolves to, or its fault
-  abbrev IsVerdict : Type 0
+  abbrev pub IsVerdict : Type 0
   IsVerdict =
       ((after : Environment) × (resolved : Resolved) × Resolves options at environment lexemes items after resolved)
       ⊎ ((fault : Fault) × IsBlockFault options at environment lexemes items fault)
@@ -79,7 +79,7 @@ module _ (options : Options) (at : Pos) (environment : Environment) (lexemes : L
   items_verdict (Err fault) goes = surely (inr (fault, inl goes))
   items_verdict (Ok state) goes = and_then (block_decides at state) (λ found. surely (state_verdict state goes found.0 found.1))
 
-  block_verdict : EachHasExpressions (sorts_at lexemes) items → Surely IsVerdict
+  pub block_verdict : EachHasExpressions (sorts_at lexemes) items → Surely IsVerdict
   block_verdict has =
       and_then
       (goes_decides options lexemes items (first_state environment) has

@@ -15,7 +15,8 @@ ghost use Rattle.lx_rules.specs.Buildable.{IsReady};
 ghost use Rattle.lx_rules.specs.Environments.{Environment, first_environment};
 ghost use Rattle.lx_rules.specs.Lexemes.{Lexeme, lexemes_of};
 
-/// A block resolves or has a fault: that neither holds cannot be.
+/// A block resolves or has a fault: that neither holds cannot be. The definitions before it are ready for copies and can be
+/// built, as `environments_stay_ready` says that they are.
 pub fn blocks_resolve_or_have_a_fault()
     ensures { (options : Options) (at : Pos) (environment : Environment) (body : List ℕ) (tokens : List Token) (items : List Item) →
         IsReady options.enc environment → IsBody (form_of Code) (sorts_of Code body tokens) items →
