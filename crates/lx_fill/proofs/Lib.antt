@@ -1,0 +1,4 @@
+pub mod Graphs
+pub mod LongestWalks
+pub mod NumbersChecked
+pub mod SearchSteps
