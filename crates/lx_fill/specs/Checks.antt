@@ -17,6 +17,12 @@ pub data Leads (graph : Graph) : ℕ → ℕ → Type 0 where
   by_edge : (state next : ℕ) → Contains (graph state) next → Leads graph state next
   onward : (state last next : ℕ) → Leads graph state last → Contains (graph last) next → Leads graph state next
 
+-- the same, where none of the states behind the first one has a number
+pub data LeadsUnchecked (graph : Graph) (number : ℕ → ℕ) : ℕ → ℕ → Type 0 where
+  unchecked_edge : (state next : ℕ) → Contains (graph state) next → number next ≡ 0 → LeadsUnchecked graph number state next
+  unchecked_onward : (state last next : ℕ) → LeadsUnchecked graph number state last → Contains (graph last) next → number next ≡ 0
+      → LeadsUnchecked graph number state next
+
 -- some walk from the state reads so many units before it stops or meets the next number. A state that has an edge reads a
 -- unit, whether or not the unit fits.
 pub data Reads (graph : Graph) (number : ℕ → ℕ) : ℕ → ℕ → Type 0 where
