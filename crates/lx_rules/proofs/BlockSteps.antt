@@ -165,11 +165,11 @@ no_targets (rule ∷ rules) conds usual = let goes = usual.0.no_target in rw (go
 
 -- a fact of the names of all tags is one of those of each rule
 module _ (P : List ℕ → Type 0) where
-  each_both : (front back : List (List ℕ)) → AllByRecursion P front → AllByRecursion P back → AllByRecursion P (front ++ back)
+  pub each_both : (front back : List (List ℕ)) → AllByRecursion P front → AllByRecursion P back → AllByRecursion P (front ++ back)
   each_both [] back one two = two
   each_both (name ∷ front) back one two = (one.0, each_both front back one.1 two)
 
-  each_apart : (front back : List (List ℕ)) → AllByRecursion P (front ++ back) → AllByRecursion P front × AllByRecursion P back
+  pub each_apart : (front back : List (List ℕ)) → AllByRecursion P (front ++ back) → AllByRecursion P front × AllByRecursion P back
   each_apart [] back all = (tt, all)
   each_apart (name ∷ front) back all = let later = each_apart front back all.1 in ((all.0, later.0), later.1)
 

@@ -74,7 +74,7 @@ module _ (options : Options) (definitions : List Definition) (lexemes : List Lex
 
   -- and where they are taken, the expression is read
   pub part_read : (room : Room) (held : Held) (front : List Value) (reading : Reading) → AreTaken options definitions room no_operands steps held
-      → held.values.items ≡ front ++ reading.value ∷ [] → reading.tags.value ≡ held.seen
+      → held.values.items ≡ front ++ reading.value ∷ [] → reading.tags ≡ held.seen
       → IsRead options lexemes definitions room from until reading
   part_read room held front reading taken values tags =
       let stands = part_form options lexemes from until part in

@@ -72,33 +72,33 @@ nothing_mapped f (item ∷ items) none = cc
 
 module _ (conds : Bool) (known : Known) (state : State) (holds : Holds conds known state) (at : Pos) where
   abbrev known_over : Bool
-  known_over = is_over known.size known.nesting (length known.tags.items)
+  known_over = is_over known.size known.nesting (length known.tags)
 
   -- the limits are those on what is known
   over_is : (is : Bool) → known_over ≡ is
-      → over at state holds.usual state.rules ≡ (if is then Some (TooManyParts at known.size known.nesting (kept (length known.tags.items))) else None)
+      → over at state holds.usual state.rules ≡ (if is then Some (TooManyParts at known.size known.nesting (kept (length known.tags))) else None)
   over_is is e =
       let sizes = sym holds.size in let depths = sym holds.nesting in let tagged = ap length (sym holds.tags) in
       let same : is_over (blocks.size_of state.rules) (blocks.nesting_of state.rules) (length (names_of state.rules)) ≡ is =
       sym (over_kept (blocks.size_of state.rules) (blocks.nesting_of state.rules) (length (names_of state.rules)))
       ∙ ap₂ (λ a b. is_over a b (length (names_of state.rules))) sizes depths ∙ ap (is_over known.size known.nesting) tagged ∙ e in
       ap₂ (λ b t. if b then Some (TooManyParts at (kept (blocks.size_of state.rules)) (kept (blocks.nesting_of state.rules)) (kept t)) else None) same tagged
-      ∙ ap₂ (λ a b. if is then Some (TooManyParts at a b (kept (length known.tags.items))) else None) sizes depths
+      ∙ ap₂ (λ a b. if is then Some (TooManyParts at a b (kept (length known.tags))) else None) sizes depths
 
   -- the tags that are known have names that they may have
-  pub free_names : DoNotClash usual_names → AllByRecursion (IsTagName usual_names) known.tags.items → blocks.NoClash usual_names state.rules
+  pub free_names : DoNotClash usual_names → AllByRecursion (IsTagName usual_names) known.tags → blocks.NoClash usual_names state.rules
   free_names differ names = (differ, each_name (IsTagName usual_names) state.rules (subst (AllByRecursion (IsTagName usual_names)) holds.tags names))
 
   -- names that clash are refused
-  pub clashing : (DoNotClash usual_names → AllByRecursion (IsTagName usual_names) known.tags.items → ⊥) → BlockChecks at state (Some (BadValue at))
+  pub clashing : (DoNotClash usual_names → AllByRecursion (IsTagName usual_names) known.tags → ⊥) → BlockChecks at state (Some (BadValue at))
   clashing clash =
       block_clashes at state holds.usual
       (λ free. clash free.0 (subst (AllByRecursion (IsTagName usual_names)) (sym holds.tags) (all_names (IsTagName usual_names) state.rules free.1)))
 
   -- a scanner that is past a limit is refused
   pub too_large : blocks.NoClash usual_names state.rules → known_over ≡ true
-      → BlockChecks at state (Some (TooManyParts at known.size known.nesting (kept (length known.tags.items))))
-  too_large free is = block_checked at state holds.usual (Some (TooManyParts at known.size known.nesting (kept (length known.tags.items)))) free (over_is true is)
+      → BlockChecks at state (Some (TooManyParts at known.size known.nesting (kept (length known.tags))))
+  too_large free is = block_checked at state holds.usual (Some (TooManyParts at known.size known.nesting (kept (length known.tags)))) free (over_is true is)
 
   known_fits : known_over ≡ false → fits whole_room (blocks.size_of state.rules) (blocks.nesting_of state.rules) (length (names_of state.rules)) ≡ true
   known_fits under =
@@ -176,7 +176,7 @@ module _ (conds : Bool) (known : Known) (state : State) (holds : Holds conds kno
   scanners_all false scanners empty some are under =
       rw (are.1) (
         scanners_are state.rules (omega (arith, some refl, ap length holds.acts, length-map state.rules (λ (r : RuleOf). r.act))) refl,
-        All-one (IsFit (length known.acts.items)) are.0 (fit_all are.0 known.default refl are.3 (small_under known.size known.nesting (length known.tags.items) under)),
+        All-one (IsFit (length known.acts.items)) are.0 (fit_all are.0 known.default refl are.3 (small_under known.size known.nesting (length known.tags) under)),
       )
     where
       unconditional : (b : Bool) → conds ≡ b → 0 < length state.rules → blocks.cond_name conds [] ≡ None

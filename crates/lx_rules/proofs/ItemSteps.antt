@@ -113,7 +113,7 @@ module _ (options : Options) (lexemes : List Lexeme) (known : Known) (state : St
       nesting = nesting ∙ holds.nesting;
       usual = holds.usual;
       default = subst (λ d. HoldsDefault d (of_kind is_default state.rules)) (sym default) holds.default;
-      tags = ap (λ (l : Vec (List ℕ) Global). l.items) tags ∙ holds.tags;
+      tags = tags ∙ holds.tags;
       rules = λ fit. ap (λ (l : Vec regex_rules.Rule Global). map regex.pattern_of l.items) rules ∙ holds.rules fit;
       names = λ fit. ap (λ (l : Vec regex_rules.Rule Global). map given_names l.items) rules ∙ holds.names fit;
       sound = sound;

@@ -19,6 +19,7 @@ pub mod HeadSteps
 pub mod RuleSteps
 pub mod RuleItems
 pub mod BlockSteps
+pub mod SharedNames
 pub mod FinishingSteps
 pub mod ItemRuns
 pub mod PlainForms

@@ -46,7 +46,7 @@ module _ (options : Options) (body : List ℕ) (tokens : List Token) (known : Kn
   lexemes = lexemes_of body tokens
 
   module _ (from : ℕ) (slash : Option ℕ) (until : ℕ) (code : Option ℕ) (read : Head)
-      (heads : IsHeadRead options lexemes state from slash until (room_behind known.size known.nesting (length known.tags.items)) read) where
+      (heads : IsHeadRead options lexemes state from slash until (room_behind known.size known.nesting (length known.tags)) read) where
     -- the rule that is taken
     abbrev pub taken : RuleOf
     taken = record {
@@ -67,7 +67,7 @@ module _ (options : Options) (body : List ℕ) (tokens : List Token) (known : Kn
       without_conds = unconditional;
       usual = record {
         conds = refl;
-        no_end = head_no_end (room_behind known.size known.nesting (length known.tags.items)) heads.1.0 heads.1.1 read heads.1.3;
+        no_end = head_no_end (room_behind known.size known.nesting (length known.tags)) heads.1.0 heads.1.1 read heads.1.3;
         no_target = act_stays options lexemes (suc (length state.rules)) code;
       };
       at_is = refl;

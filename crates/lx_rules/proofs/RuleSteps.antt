@@ -88,8 +88,8 @@ fits_back size more nesting other count own e =
 -- a rule with the term, the names and the size of what was read is added
 pub adds_built : (room : Room) (number : ℕ) (reading : Reading) (before after : List Rule) (rule : Rule)
     → after ≡ before ++ rule ∷ [] → rule.number ≡ number → regex_size.size_of rule.expr ≤ reading.value.size
-    → given_names rule ≡ reading.tags.value
-    → ((meaning : Meaning) → IsReadAs room meaning reading → regex.pattern_of rule ≡ plain_pattern number (term_of_meaning meaning) reading.tags.value)
+    → given_names rule ≡ reading.tags
+    → ((meaning : Meaning) → IsReadAs room meaning reading → regex.pattern_of rule ≡ plain_pattern number (term_of_meaning meaning) reading.tags)
     → AddsPlain room number reading before after
 adds_built room number reading before after rule added numbered size named pattern =
     inr (
@@ -110,7 +110,7 @@ module _ (conds : Bool) (known after : Known) (state : State) (rule : RuleOf) (h
   default_more (Some default) acts more le within = (within.0, omega (arith, le, within.1))
 
   abbrev room : Room
-  room = room_behind known.size known.nesting (length known.tags.items)
+  room = room_behind known.size known.nesting (length known.tags)
 
   -- all rules fit
   abbrev AllFit : Type 0
@@ -123,7 +123,7 @@ module _ (conds : Bool) (known after : Known) (state : State) (rule : RuleOf) (h
   pub holds_plain :
       (at : Pos) (reading : Reading) → IsNew conds known (head.Plain reading) at rule.act rule → after.env ≡ known.env → after.default ≡ known.default
       → after.acts.items ≡ known.acts.items ++ rule.act ∷ [] → after.size ≡ min (2 ^ 40) (known.size + reading.value.size)
-      → after.nesting ≡ max known.nesting reading.value.nesting → after.tags.items ≡ known.tags.items ++ reading.tags.value
+      → after.nesting ≡ max known.nesting reading.value.nesting → after.tags ≡ known.tags ++ reading.tags
       → Adds reading → Holds conds after (with_rule state rule)
   holds_plain at reading is env default acts size nesting tags adds = record {
     without_conds = λ yes. let h : true ≡ false = sym yes ∙ is.without_conds in cc;
@@ -252,7 +252,7 @@ module _ (conds : Bool) (known after : Known) (state : State) (rule : RuleOf) (h
     nesting = nesting ∙ holds.nesting ∙ deep;
     usual = usual-snoc state.rules rule holds.usual is.usual;
     default = subst (λ d. HoldsDefault d (of_kind is_default (state.rules ++ rule ∷ []))) (sym default) (rule, only, is.at_is, pattern);
-    tags = ap (λ (l : Vec (List ℕ) Global). l.items) tags ∙ holds.tags ∙ same_names;
+    tags = tags ∙ holds.tags ∙ same_names;
     rules = λ fit.
         ap (λ (l : Vec Rule Global). map regex.pattern_of l.items) rules ∙ holds.rules (fit_front fit) ∙ ap (map pattern_of) (sym others);
     names = λ fit.

@@ -69,7 +69,7 @@ module _ {K V : Type 0} (items : K → List ℕ) where
       by false is later = there (bytes_eq name (items entry.0)) later
 
 -- a name among names in two parts
-is_among-append : (name : List ℕ) (front back : List (List ℕ)) → is_among name (front ++ back) ≡ (is_among name front || is_among name back)
+pub is_among-append : (name : List ℕ) (front back : List (List ℕ)) → is_among name (front ++ back) ≡ (is_among name front || is_among name back)
 is_among-append name [] back = refl
 is_among-append name (other ∷ front) back = at (bytes_eq name other) (is_among-append name front back)
   where

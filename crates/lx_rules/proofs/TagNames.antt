@@ -1,5 +1,5 @@
 -- Names of tags, one by one.
-use Rattle.std.proofs.Common.{◌≡◌, ℕ, ◌+◌, ◌<◌, List, [], ◌∷◌, None, refl, arith, drop, get_or, length, sym, ap, ◌∙◌}
+use Rattle.std.proofs.Common.{◌≡◌, ℕ, ◌+◌, ◌<◌, List, drop, get_or, length, sym, ap, ◌∙◌}
 use Rattle.std.specs.Prelude.{◌||◌, Some, if◌then◌else◌}
 use Rattle.std.specs.Str.{bytes_eq}
 use Rattle.std.proofs.lemmas.List.{at_drop_more}
@@ -18,9 +18,3 @@ pub repeated_tag-drop : (at : Pos) (tags seen : List (List ℕ)) (i : ℕ) (item
 repeated_tag-drop at tags seen i item lt is =
     at_drop_more (λ tags. repeated_tag at tags seen) tags i item lt
     ∙ ap (λ tag. if is_among tag seen then Some (DuplicateTag at tag) else repeated_tag at (drop (i + 1) tags) seen) (sym is)
-
--- no tag was seen before where none was
-pub repeated_tag-first : (at : Pos) (tags seen : List (List ℕ)) → length seen ≡ 0 → repeated_tag at tags seen ≡ None
-repeated_tag-first at [] seen none = refl
-repeated_tag-first at (tag ∷ tags) [] none = repeated_tag-first at tags [] none
-repeated_tag-first at (tag ∷ tags) (other ∷ seen) none = absurd (omega arith)

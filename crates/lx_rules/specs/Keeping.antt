@@ -50,7 +50,7 @@ names_of (rule ∷ rules) = rule.meaning.tags ++ names_of rules
 -- what is read stands for a meaning, whose item has no tags but its own
 pub record IsReadAs (room : Room) (meaning : Meaning) (reading : Reading) : Type 0 where
   pub value : IsValue room meaning reading.value
-  pub tags : reading.tags.value ≡ meaning.tags
+  pub tags : reading.tags ≡ meaning.tags
   pub count : meaning.count ≡ length meaning.tags
 
 -- an expression is read: its checks find nothing, and what is read stands for its meaning
@@ -91,7 +91,7 @@ pub record Holds (conds : Bool) (known : Known) (state : State) : Type 0 where
   pub nesting : known.nesting ≡ kept (nesting_of state.rules)
   pub usual : AllByRecursion IsUsual state.rules
   pub default : HoldsDefault known.default (of_kind is_default state.rules)
-  pub tags : known.tags.items ≡ names_of state.rules
+  pub tags : known.tags ≡ names_of state.rules
   pub rules : fits whole_room (size_of state.rules) (nesting_of state.rules) (length (names_of state.rules)) ≡ true
       → map regex.pattern_of known.rules.items ≡ map pattern_of (not_of_kind is_default state.rules)
   pub names : fits whole_room (size_of state.rules) (nesting_of state.rules) (length (names_of state.rules)) ≡ true
@@ -135,7 +135,7 @@ IsFresh default (head.Plain reading) = Unit {0}
 -- an expression that was read has the size and the tags of what is kept of it
 abbrev pub IsSoundHead : Head → Type 0
 IsSoundHead head.Default = Unit {0}
-IsSoundHead (head.Plain reading) = IsHonest (length reading.tags.value) reading.value
+IsSoundHead (head.Plain reading) = IsHonest (length reading.tags) reading.value
 
 -- what is known behind one rule more
 abbrev pub with_rule : State → RuleOf → State
@@ -160,7 +160,7 @@ pub record IsNew (conds : Bool) (known : Known) (read : Head) (at : Pos) (act : 
   pub usual : IsUsual rule
   pub at_is : rule.at ≡ at
   pub act_is : rule.act ≡ act
-  pub head_of : IsHeadOf (room_behind known.size known.nesting (length known.tags.items)) rule.kind rule.meaning read
+  pub head_of : IsHeadOf (room_behind known.size known.nesting (length known.tags)) rule.kind rule.meaning read
   pub fresh : IsFresh known.default read
   pub sound : IsSoundHead read
   pub number : act.number ≡ suc (length known.acts.items)

@@ -30,7 +30,7 @@ definition_view name kept = record {
   at = kept.at;
   size = kept.size;
   nesting = kept.nesting;
-  tags = kept.tags.value;
+  tags = kept.tags;
   term = option_map (term_of 0) kept.expr;
 }
 

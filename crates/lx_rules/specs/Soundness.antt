@@ -17,7 +17,7 @@ FitsKept (Some expr) size count = (1 ≤ size) × (size_of expr ≤ size) × Has
 
 -- each definition has the size and the tags of its expression
 abbrev pub AreSound : Definitions → Type 0
-AreSound definitions = All (λ entry. FitsKept entry.1.expr entry.1.size (length entry.1.tags.value)) definitions.by_name.entries
+AreSound definitions = All (λ entry. FitsKept entry.1.expr entry.1.size (length entry.1.tags)) definitions.by_name.entries
 
 abbrev pub IsSound : Env → Type 0
 IsSound env = AreSound env.definitions

@@ -5,12 +5,11 @@ ghost use Rattle.lx_rules.specs.Environments.{definition_of};
 ghost use Rattle.lx_rules.specs.Seen.{definition_view, definitions_view};
 ghost use Rattle.lx_rules.specs.Soundness.{AreSound, FitsKept};
 
-use crate::tags::TagNames;
+use crate::tags::SharedTags;
 use indexmap::IndexMap;
 use lx_base::{Memory, Pos};
 use lx_regex::Expr;
 use std::alloc::Global;
-use std::rc::Rc;
 
 /// What is kept of a definition.
 #[derive(Drop)]
@@ -21,8 +20,8 @@ pub struct Kept {
     pub size: u64,
     /// Its nesting; 2^40 stands for itself and for more.
     pub nesting: u64,
-    /// The names of its tags, in order. Definitions that have the same ones of another definition share them.
-    pub tags: Rc<TagNames>,
+    /// The names of its tags, in order. They are shared with definitions that have these of it.
+    pub tags: SharedTags,
     /// Its expression, where that is within the limits of a scanner, and else its class, if it is one.
     pub expr: Option<Expr>,
 }
@@ -46,7 +45,7 @@ impl Definitions {
     /// The definition of a name.
     pub fn get(&self, name: &[u8]) -> Option<&Kept>
         ensures found { option_map (λ kept. definition_view name.now kept.now) result ≡ definition_of (definitions_view self.now) name.now }
-        ensures sound { AreSound self.now → IfSome result (λ kept. FitsKept kept.now.expr kept.now.size (length kept.now.tags.value)) }
+        ensures sound { AreSound self.now → IfSome result (λ kept. FitsKept kept.now.expr kept.now.size (length kept.now.tags)) }
     {
         self.by_name.get(name)
     }
@@ -55,7 +54,7 @@ impl Definitions {
     pub fn add(&mut self, alloc: Global, name: &[u8], kept: Kept) -> Result<(), Memory>
         requires { definition_of (definitions_view self.old) name.now ≡ None }
         ensures added { OnOk result (definitions_view self.new ≡ definitions_view self.old ++ definition_view name.now kept ∷ []) }
-        ensures sound { AreSound self.old → FitsKept kept.expr kept.size (length kept.tags.value) → OnOk result (AreSound self.new) }
+        ensures sound { AreSound self.old → FitsKept kept.expr kept.size (length kept.tags) → OnOk result (AreSound self.new) }
     {
         let name = Vec::from_slice(alloc, name)?;
         self.by_name.insert(name, kept)?;

@@ -19,13 +19,12 @@ use crate::items::waits;
 use crate::leaves::{Reader, read_leaf, read_set};
 use crate::lexemes::{Lexeme, Lexemes};
 use crate::steps::{Step, StepSort, expression_steps};
-use crate::tags::{SeenTags, TagNames};
+use crate::tags::{SeenTags, SharedTags};
 use crate::values::{Room, Value};
 use lx_base::{Fault, Memory, Options, Pos, Stop};
 use lx_parse::Sort;
 use lx_token::{Repeat, repeat_of};
 use std::alloc::Global;
-use std::rc::Rc;
 
 /// The greatest number of a repetition.
 const MOST_BOUND: u64 = 4096;
@@ -41,7 +40,7 @@ pub(crate) struct Operands {
 #[derive(Drop)]
 pub(crate) struct Reading {
     pub value: Value,
-    pub tags: Rc<TagNames>,
+    pub tags: SharedTags,
 }
 
 /// How often a sign repeats what stands before it.
@@ -364,7 +363,7 @@ pub(crate) fn read_expression(
     requires sound { AreSound reader.definitions.now }
     requires part { IsPart (sorts_at (lexemes_view lexemes)) alt from until }
     requires few { until < 2 ^ 32 }
-    ensures honest { IfOk result (λ reading. IsHonest (length reading.tags.value) reading.value) }
+    ensures honest { IfOk result (λ reading. IsHonest (length reading.tags) reading.value) }
     ensures read { let definitions = definitions_view reader.entry.definitions.now in
         MatchResult result (IsRead reader.entry.options.now (lexemes_view lexemes.entry) definitions reader.entry.room from until)
         (StopsAt (ExpressionChecks reader.entry.options.now (lexemes_view lexemes.entry) definitions from until)) }

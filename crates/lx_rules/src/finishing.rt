@@ -8,8 +8,8 @@ use crate::environment::Env;
 use crate::items::{DefaultRule, Known};
 use crate::resolved::{Config, Resolved, Scanner};
 use crate::rules::simple_rule;
-use crate::tags::add_copy;
-use crate::values::{MOST_NESTING, MOST_SIZE, MOST_TAGS, sum};
+use crate::tags::{SharedTags, add_copy};
+use crate::values::{MOST_NESTING, MOST_SIZE, MOST_TAGS};
 use lx_base::spellings::{do_not_clash, is_tag_name};
 use lx_base::{ByteText, Fault, Memory, Names, Pos, Sequence, Stop};
 use lx_regex::{Expr, Kind, Rule, RuleSet};
@@ -60,6 +60,19 @@ fn are_tag_names(names: &Names, tags: &[ByteText]) -> bool
 {
     for tag in tags {
         if !is_tag_name(names, tag.as_slice()) {
+            return false;
+        }
+    }
+    true
+}
+
+/// Whether each of the names of all tags is one that a tag may have beside the spellings.
+fn are_all_tag_names(names: &Names, tags: &SharedTags) -> bool
+    ensures { IsTrue result ↔ AllByRecursion (IsTagName names.now) tags.now }
+{
+    let segments = tags.segments();
+    for segment in segments {
+        if !are_tag_names(names, segment.names()) {
             return false;
         }
     }
@@ -133,9 +146,9 @@ impl Known {
 
     /// Whether the scanner is past a limit.
     fn is_too_large(&self) -> bool
-        ensures { result ≡ (nat_lt 4096 self.now.size || nat_lt 256 self.now.nesting || nat_lt 128 (length self.now.tags.items)) }
+        ensures { result ≡ (nat_lt 4096 self.now.size || nat_lt 256 self.now.nesting || nat_lt 128 (length self.now.tags)) }
     {
-        self.size > MOST_SIZE || self.nesting > MOST_NESTING || self.tags.len() as u64 > MOST_TAGS
+        self.size > MOST_SIZE || self.nesting > MOST_NESTING || self.tags.len() > MOST_TAGS
     }
 
     /// What the block resolves to whose opener stands at this place, and what holds behind it.
@@ -144,7 +157,7 @@ impl Known {
         ensures { (conds : Bool) (state : State) → Holds conds self state → MatchResult result (IsFinished conds at state) (StopsAt (BlockChecks at state)) }
     {
         let names = usual_names(alloc)?;
-        if !do_not_clash(&names) || !are_tag_names(&names, &self.tags) {
+        if !do_not_clash(&names) || !are_all_tag_names(&names, &self.tags) {
             return Err(Stop::Fault(Fault::BadValue { at }));
         }
         if self.is_too_large() {
@@ -152,7 +165,7 @@ impl Known {
                 at,
                 size: self.size,
                 nesting: self.nesting,
-                tags: sum(self.tags.len() as u64, 0),
+                tags: self.tags.len(),
             }));
         }
         let env = self.env;

@@ -38,7 +38,7 @@ impl Known {
         requires sound { IsSound self.now.env }
         requires expressions { HasExpressions (sorts_at (lexemes_view block.lexemes)) (item.Rule head head slash until None None) }
         ensures read { (state : State) → Holds block.entry.options.now.conds self.now state → MatchResult result
-            (IsHeadRead block.entry.options.now (lexemes_view block.entry.lexemes) state head slash until (room_behind self.now.size self.now.nesting (length self.now.tags.items)))
+            (IsHeadRead block.entry.options.now (lexemes_view block.entry.lexemes) state head slash until (room_behind self.now.size self.now.nesting (length self.now.tags)))
             (StopsHead block.entry.options.now (lexemes_view block.entry.lexemes) state head slash until) }
         ensures fresh { IfOk result (IsFresh self.now.default) }
         ensures honest { IfOk result IsSoundHead }
@@ -71,7 +71,7 @@ impl Known {
         requires star { sort_at (nth_lexeme (lexemes_view block.lexemes) head) ≡ Star → ⊥ }
         requires dollar { sort_at (nth_lexeme (lexemes_view block.lexemes) head) ≡ Dollar → ⊥ }
         ensures read { (state : State) → Holds block.entry.options.now.conds self.now state → MatchResult result
-            (IsHeadRead block.entry.options.now (lexemes_view block.entry.lexemes) state head slash until (room_behind self.now.size self.now.nesting (length self.now.tags.items)))
+            (IsHeadRead block.entry.options.now (lexemes_view block.entry.lexemes) state head slash until (room_behind self.now.size self.now.nesting (length self.now.tags)))
             (StopsHead block.entry.options.now (lexemes_view block.entry.lexemes) state head slash until) }
         ensures fresh { IfOk result (IsFresh self.now.default) }
         ensures honest { IfOk result IsSoundHead }

@@ -10,8 +10,9 @@ use crate::expressions::{Reading, read_expression};
 use crate::leaves::Reader;
 use crate::lexemes::Lexemes;
 use crate::resolved::Act;
+use crate::tags::SharedTags;
 use crate::values::{MOST_NESTING, MOST_SIZE, MOST_TAGS, Room};
-use lx_base::{ByteText, Fault, Options, Pos, Stop};
+use lx_base::{Fault, Options, Pos, Stop};
 use lx_regex::Rule;
 use std::alloc::Global;
 
@@ -43,7 +44,7 @@ pub(crate) struct Known {
     /// The greatest nesting; 2^40 stands for itself and for more.
     pub nesting: u64,
     /// The names of all tags, rule by rule.
-    pub tags: Vec<ByteText>,
+    pub tags: SharedTags,
 }
 
 /// A form that is not supported yet.
@@ -77,15 +78,15 @@ impl Known {
             acts: Vec::new(alloc),
             size: 0,
             nesting: 0,
-            tags: Vec::new(alloc),
+            tags: SharedTags::new(alloc),
         }
     }
 
     /// What the next rule may have. It may have nothing behind a nesting or a number of tags that is past the limit.
     pub fn room(&self) -> Room
-        ensures { result ≡ room_behind self.now.size self.now.nesting (length self.now.tags.items) }
+        ensures { result ≡ room_behind self.now.size self.now.nesting (length self.now.tags) }
     {
-        let tags = self.tags.len() as u64;
+        let tags = self.tags.len();
         let is_past = self.nesting > MOST_NESTING || tags > MOST_TAGS;
         Room {
             size: if is_past {

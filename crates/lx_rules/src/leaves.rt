@@ -99,17 +99,17 @@ fn class_content(policy: EmptyPolicy, is_operand: bool, set: ClassSet) -> Conten
 }
 
 /// A copy of the expression of a definition, behind so many tags. One that was not built is missed nowhere.
-fn kept_content(alloc: Global, kept: &Kept, by: usize) -> Result<Content, Memory>
-    requires { FitsKept kept.now.expr kept.now.size (length kept.now.tags.value) }
-    ensures stands { (is_built : Bool) → (128 + 1 ≤ by + length kept.now.tags.value → is_built ≡ false)
-        → IfOk result (IsContent is_built (copied by (definition_view [] kept.now))) }
+fn kept_content(alloc: Global, kept: &Kept, by: u64) -> Result<Content, Memory>
+    requires { FitsKept kept.now.expr kept.now.size (length kept.now.tags) }
+    ensures stands { (is_built : Bool) (before : ℕ) → by ≡ min (2 ^ 40) before → (128 + 1 ≤ before + length kept.now.tags → is_built ≡ false)
+        → IfOk result (IsContent is_built (copied before (definition_view [] kept.now))) }
     ensures size { IfOk result (λ content. content_size content ≤ kept.now.size) }
-    ensures tags { IfOk result (AreTagsBelow (by + length kept.now.tags.value)) }
+    ensures tags { (before : ℕ) → by ≡ min (2 ^ 40) before → IfOk result (AreTagsBelow (before + length kept.now.tags)) }
 {
     let Some(expr) = &kept.expr else {
         return Ok(Content::One(Expr::Empty));
     };
-    if sum(by as u64, kept.tags.len() as u64) > MOST_TAGS {
+    if sum(by, kept.tags.len()) > MOST_TAGS {
         let class = class_of(alloc, expr)?;
         return Ok(Content::Past(class, false));
     }
@@ -133,14 +133,14 @@ fn unknown(alloc: Global, lexeme: &Lexeme<'_>) -> Stop
 fn read_string(
     alloc: Global,
     reader: Reader<'_>,
-    count: usize,
+    count: u64,
     lexeme: &Lexeme<'_>,
     is_caseless: bool,
 ) -> Result<Value, Stop>
     requires { IsRoom reader.room }
-    ensures read { (definitions : List Definition) → MatchResult result
+    ensures read { (definitions : List Definition) (before : ℕ) → count ≡ kept before → MatchResult result
         (λ value. PointsAre reader.entry.options.now definitions (lexeme_view lexeme.now) (singles (points_in (lexeme_view lexeme.now))) None
-        × IsValue reader.entry.room (meaning_of_string reader.entry.options.now definitions is_caseless count (lexeme_view lexeme.now)) value)
+        × IsValue reader.entry.room (meaning_of_string reader.entry.options.now definitions is_caseless before (lexeme_view lexeme.now)) value)
         (StopsAt (PointsAre reader.entry.options.now definitions (lexeme_view lexeme.now) (singles (points_in (lexeme_view lexeme.now))))) }
     ensures honest { (all : ℕ) → IfOk result (IsHonest all) }
 {
@@ -153,7 +153,7 @@ fn read_string(
     }
     let content = string_content(alloc, options.surrogates, is_caseless, characters)?;
     let size = sum((characters.len() as u64).max(1), 0);
-    Ok(Value::limited(alloc, reader.room, content, size, 0, sum(count as u64, 0))?)
+    Ok(Value::limited(alloc, reader.room, content, size, 0, count)?)
 }
 
 /// Whether a class is refused since it is empty.
@@ -195,14 +195,14 @@ pub(crate) fn read_set(
 fn read_class(
     alloc: Global,
     reader: Reader<'_>,
-    count: usize,
+    count: u64,
     lexeme: &Lexeme<'_>,
     is_operand: bool,
 ) -> Result<Value, Stop>
     requires room { IsRoom reader.room }
     requires sort { (lexeme_view lexeme.now).kind ≡ kind.Class }
     ensures read { let definitions = definitions_view reader.entry.definitions.now in
-        (before : List (List ℕ)) → count ≡ length before → MatchResult result
+        (before : List (List ℕ)) → count ≡ kept (length before) → MatchResult result
         (IsLeafRead reader.entry.options.now definitions reader.entry.room is_operand before (lexeme_view lexeme.now) before)
         (StopsAt (LeafChecks reader.entry.options.now definitions (lexeme_view lexeme.now).kind is_operand before (lexeme_view lexeme.now))) }
     ensures honest { (all : ℕ) → IfOk result (IsHonest all) }
@@ -214,33 +214,25 @@ fn read_class(
         return Err(Stop::Fault(fault));
     }
     let set = class_set(alloc, options, class.is_negated, &ranges)?;
-    read_set(
-        alloc,
-        reader,
-        sum(count as u64, 0),
-        set,
-        is_operand,
-        0,
-        lexeme.at,
-    )
+    read_set(alloc, reader, count, set, is_operand, 0, lexeme.at)
 }
 
 /// Reads `.`, which is all code points but the line feed, behind so many tags.
 fn read_line(
     alloc: Global,
     reader: Reader<'_>,
-    count: usize,
+    count: u64,
     is_operand: bool,
 ) -> Result<Value, Memory>
     requires { IsRoom reader.room }
     ensures read { let definitions = definitions_view reader.entry.definitions.now in
-        (before : List (List ℕ)) (lexeme : lexical.Lexeme) → count ≡ length before → lexeme.kind ≡ kind.Signs
+        (before : List (List ℕ)) (lexeme : lexical.Lexeme) → count ≡ kept (length before) → lexeme.kind ≡ kind.Signs
         → IfOk result (IsLeafRead reader.entry.options.now definitions reader.entry.room is_operand before lexeme before) }
     ensures honest { (all : ℕ) → IfOk result (IsHonest all) }
 {
     let set = line_set(alloc, reader.options)?;
     let content = class_content(reader.options.empty, is_operand, set);
-    Value::limited(alloc, reader.room, content, 1, 0, sum(count as u64, 0))
+    Value::limited(alloc, reader.room, content, 1, 0, count)
 }
 
 /// Reads a name: a copy of what is kept of its definition, whose tags come behind those that were seen before.
@@ -263,25 +255,26 @@ fn read_name(
     let Some(kept) = reader.definitions.get(lexeme.text) else {
         return Err(unknown(alloc, lexeme));
     };
-    if let Some(fault) = repeated_tag(alloc, lexeme.at, kept.tags.names(), seen)? {
+    if let Some(fault) = repeated_tag(alloc, lexeme.at, &kept.tags, seen)? {
         return Err(Stop::Fault(fault));
     }
     let by = seen.len();
     seen.add(alloc, &kept.tags)?;
     let content = kept_content(alloc, kept, by)?;
     let nesting = sum(kept.nesting, 1);
-    let tags = sum(seen.len() as u64, 0);
+    let tags = seen.len();
     let size = sum(kept.size, 0);
     Ok(Value::limited(alloc, reader.room, content, size, nesting, tags)?)
 }
 
 /// A tag behind so many others. One that is past the limit is not built.
-fn tag_content(number: usize) -> Content
-    ensures stands { (is_built : Bool) (name : List ℕ) → (128 + 1 ≤ suc number → is_built ≡ false) → IsContent is_built (tag_meaning number name) result }
+fn tag_content(number: u64) -> Content
+    ensures stands { (is_built : Bool) (before : ℕ) (name : List ℕ) → number ≡ kept before → (128 + 1 ≤ suc before → is_built ≡ false)
+        → IsContent is_built (tag_meaning before name) result }
     ensures size { content_size result ≤ 1 }
-    ensures tags { AreTagsBelow (suc number) result }
+    ensures tags { (before : ℕ) → number ≡ kept before → AreTagsBelow (suc before) result }
 {
-    if (number as u64) < MOST_TAGS {
+    if number < MOST_TAGS {
         Content::One(Expr::STag(number as u32))
     } else {
         Content::Past(None, false)
@@ -317,7 +310,7 @@ fn read_tag(
     }
     let number = seen.len();
     seen.push(alloc, name)?;
-    let tags = sum(number as u64, 1);
+    let tags = sum(number, 1);
     let content = tag_content(number);
     Ok(Value::limited(alloc, reader.room, content, 1, 0, tags)?)
 }

@@ -11,7 +11,7 @@ use crate::expressions::Reading;
 use crate::heads::Head;
 use crate::items::{Block, DefaultRule, Known, waits};
 use crate::resolved::Act;
-use crate::tags::{add_copies, text};
+use crate::tags::{TagNames, text};
 use crate::values::sum;
 use lx_base::{ByteText, Fault, Memory, Pos, Sequence, Stop};
 use lx_regex::{Expr, Kind, Rule, Tag};
@@ -88,23 +88,25 @@ impl Known {
 
     /// Adds the rule of an expression, where it is built.
     fn push_rule(&mut self, alloc: Global, number: u32, reading: Reading) -> Result<(), Memory>
-        requires { IsHonest (length reading.tags.value) reading.value }
+        requires { IsHonest (length reading.tags) reading.value }
         ensures size { OnOk result (self.new.size ≡ min (2 ^ 40) (self.old.size + reading.value.size)) }
         ensures nesting { OnOk result (self.new.nesting ≡ max self.old.nesting reading.value.nesting) }
-        ensures tags { OnOk result (self.new.tags.items ≡ self.old.tags.items ++ reading.tags.value) }
+        ensures tags { OnOk result (self.new.tags ≡ self.old.tags ++ reading.tags) }
         ensures env { self.new.env ≡ self.old.env }
         ensures default { self.new.default ≡ self.old.default }
         ensures acts { self.new.acts ≡ self.old.acts }
-        ensures rules { OnOk result (AddsPlain (room_behind self.old.size self.old.nesting (length self.old.tags.items)) number reading self.old.rules.items self.new.rules.items) }
+        ensures rules { OnOk result (AddsPlain (room_behind self.old.size self.old.nesting (length self.old.tags)) number reading self.old.rules.items self.new.rules.items) }
     {
         let Reading { value, tags } = reading;
         self.size = sum(self.size, value.size);
         self.nesting = self.nesting.max(value.nesting);
-        add_copies(alloc, &mut self.tags, tags.names())?;
+        self.tags.append(&tags)?;
         match value.into_expr() {
             None => Ok(()),
             Some(expr) => {
-                let tags = tags_with(alloc, tags.names())?;
+                let mut names = TagNames::new(alloc);
+                tags.copy_to(alloc, &mut names)?;
+                let tags = tags_with(alloc, names.names())?;
                 self.rules
                     .push(simple_rule(number, Kind::Plain, expr, tags))?;
                 Ok(())
@@ -129,7 +131,7 @@ impl Known {
 
     /// Adds the rule of an expression.
     fn add_plain(&mut self, alloc: Global, reading: Reading, act: Act) -> Result<(), Memory>
-        requires { IsHonest (length reading.tags.value) reading.value }
+        requires { IsHonest (length reading.tags) reading.value }
         ensures few { OnOk result (length self.new.acts.items ≤ suc (length self.old.acts.items)) }
         ensures added { (conds : Bool) (state : State) (at : Pos) (rule : RuleOf) → Holds conds self.old state → IsNew conds self.old (head.Plain reading) at act rule
             → OnOk result (Holds conds self.new (with_rule state rule)) }

@@ -1,4 +1,4 @@
-use Rattle.std.proofs.Common.{◌≡◌, ◌∙◌, ap, arith, length, refl, subst, sym}
+use Rattle.std.proofs.Common.{◌≡◌, ◌∙◌, ◌+◌, ap, arith, length, refl, subst, sym}
 use Rattle.std.specs.Option.{option_map}
 use Rattle.lx_regex.specs.Expr.{term_of}
 use Rattle.lx_rules.specs.Environments.{HasClass, class_in, one}
@@ -9,25 +9,29 @@ use Rattle.lx_rules.proofs.TermTags.{HasTagsBelow-greater, HasTagsBelow-shifted,
 use Rattle.lx_rules.proofs.leaves.kept_content.Goals as goal
 
 pub returns-then-sum-gt-MOST_TAGS-clause-stands : goal.returns-then-sum-gt-MOST_TAGS-clause-stands
-returns-then-sum-gt-MOST_TAGS-clause-stands c built past =
-    let count : c.len.result ≡ length c.args.kept.now.tags.value = c.len.ensures.count ∙ ap length c.deref.ensures in
-    let is = ap (λ expr. class_in (shifted c.args.by (term_or_empty (option_map (term_of 0) expr)))) c.in-Some.is in
-    let class = sym (is ∙ class_in-shifted c.args.by (term_of 0 c.in-Some.expr)) in
-    (past (omega (arith, count, c.sum.ensures, c.if-sum-gt-MOST_TAGS.true)), subst (HasClass c.in_ok-class.class) class c.in_ok-class.ensures, refl)
+returns-then-sum-gt-MOST_TAGS-clause-stands c built before by past =
+    let is = ap (λ expr. class_in (shifted before (term_or_empty (option_map (term_of 0) expr)))) c.in-Some.is in
+    let class = sym (is ∙ class_in-shifted before (term_of 0 c.in-Some.expr)) in
+    (past (omega (arith, by, c.len.ensures, c.sum.ensures, c.if-sum-gt-MOST_TAGS.true)), subst (HasClass c.in_ok-class.class) class c.in_ok-class.ensures, refl)
 
 pub copy-requires-clause-tags : goal.copy-requires-clause-tags
 copy-requires-clause-tags c =
-    let tags = c.args.kept.now.tags.value in
+    let tags = c.args.kept.now.tags in
     let fits = subst (λ expr. FitsKept expr c.args.kept.now.size (length tags)) c.in-Some.is c.requires in
-    let count : c.len.result ≡ length c.args.kept.now.tags.value = c.len.ensures.count ∙ ap length c.deref.ensures in
-    HasTagsBelow-greater (length tags) 128 (term_of 0 c.in-Some.expr) (omega (arith, count, c.sum.ensures, c.if-sum-gt-MOST_TAGS.false)) fits.2
+    HasTagsBelow-greater (length tags) 128 (term_of 0 c.in-Some.expr) (omega (arith, c.len.ensures, c.sum.ensures, c.if-sum-gt-MOST_TAGS.false)) fits.2
 
 pub returns-clause-stands : goal.returns-clause-stands
-returns-clause-stands c built past tags =
-    ap one (ap (λ expr. shifted c.args.by (term_or_empty (option_map (term_of 0) expr))) c.in-Some.is ∙ sym (c.in_ok-copy.ensures.term tags))
+returns-clause-stands c built before by past tags =
+    let same : c.args.by ≡ before = omega (arith, by, c.len.ensures, c.sum.ensures, c.if-sum-gt-MOST_TAGS.false) in
+    ap one
+    (ap (λ expr. shifted before (term_or_empty (option_map (term_of 0) expr))) c.in-Some.is
+    ∙ ap (λ by. shifted by (term_of 0 c.in-Some.expr)) (sym same) ∙ sym (c.in_ok-copy.ensures.term tags))
 
 pub returns-clause-tags : goal.returns-clause-tags
-returns-clause-tags c =
-    let tags = c.args.kept.now.tags.value in
+returns-clause-tags c before by =
+    let same : c.args.by ≡ before = omega (arith, by, c.len.ensures, c.sum.ensures, c.if-sum-gt-MOST_TAGS.false) in
+    let tags = c.args.kept.now.tags in
     let fits = subst (λ expr. FitsKept expr c.args.kept.now.size (length tags)) c.in-Some.is c.requires in
-    subst (HasTagsBelow _) (sym (c.in_ok-copy.ensures.term 0)) (HasTagsBelow-shifted c.args.by (length tags) (term_of 0 c.in-Some.expr) fits.2)
+    subst (HasTagsBelow _) (sym (c.in_ok-copy.ensures.term 0))
+    (subst (λ by. HasTagsBelow (before + length tags) (shifted by (term_of 0 c.in-Some.expr))) (sym same)
+    (HasTagsBelow-shifted before (length tags) (term_of 0 c.in-Some.expr) fits.2))

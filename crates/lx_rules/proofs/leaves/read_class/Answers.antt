@@ -1,9 +1,8 @@
-use Rattle.std.proofs.Common.{◌≡◌, ◌∙◌, All, None, Some, [], ap, arith, inr, length, map, refl, subst, sym}
+use Rattle.std.proofs.Common.{◌≡◌, ◌∙◌, All, None, Some, [], ap, inr, length, map, refl, subst, sym}
 use Rattle.std.proofs.lemmas.Result.{MatchResult-weaker}
 use Rattle.lx_token.specs.declared.classes.Class.{Class}
 use Rattle.lx_token.specs.declared.kinds.TokenKind.TheVariants as kind
 use Rattle.lx_rules.specs.Checks.{ClassHas, LeafHas, PointsAre, class_ranges, range_of}
-use Rattle.lx_rules.specs.Environments.{kept}
 use Rattle.lx_rules.specs.Meanings.{IsSetOf}
 use Rattle.lx_rules.specs.Points.{points_fault}
 use Rattle.lx_rules.specs.Seen.{IsOrdered, definitions_view, lexeme_view}
@@ -55,7 +54,6 @@ returns-clause-read c before count =
     subst (λ (class : Class). IsSetOf (λ point. ClassHas options definitions class.is_negated (map range_of class.ranges) point) c.in_ok-set.set) c.in_ok-class.ensures
     (subst (λ l. IsSetOf (ClassHas options definitions c.in_ok-class.class.is_negated l) c.in_ok-set.set)
     (c.deref-2.ensures.value ∙ c.in_ok-ranges.ensures ∙ ap (map range_of) c.as_slice.ensures) (c.in_ok-set.ensures definitions)) in
-    let tags : c.sum.result ≡ kept (length before) = omega (arith, c.sum.ensures, count) in
-    MatchResult-weaker c.read_set.result (c.read_set.ensures.read definitions 0 (length before) [] refl tags)
+    MatchResult-weaker c.read_set.result (c.read_set.ensures.read definitions 0 (length before) [] refl count)
     (λ value is. class-read options definitions reader.room c.args.is_operand before lexeme c.requires.sort c.in_ok-set.set none has value is)
     (λ stopped is. class-stops options definitions reader.room c.args.is_operand before lexeme c.requires.sort c.in_ok-set.set none has stopped is)

@@ -1,7 +1,7 @@
-use Rattle.std.proofs.Common.{◌≡◌, [], arith, length, refl, sym}
+use Rattle.std.proofs.Common.{[], arith, length, refl, sym}
 use Rattle.std.proofs.lemmas.List.{append-nil}
 use Rattle.lx_token.specs.declared.kinds.TokenKind.TheVariants as kind
-use Rattle.lx_rules.specs.Environments.{is_built, kept}
+use Rattle.lx_rules.specs.Environments.{is_built}
 use Rattle.lx_rules.specs.Meanings.{class_meaning}
 use Rattle.lx_rules.specs.Seen.{definitions_view}
 use Rattle.lx_rules.specs.Values.{IsValue}
@@ -14,9 +14,8 @@ returns-clause-read c before lexeme count sort =
     let reader = c.args.reader in
     let options = reader.options.now in
     let meaning = class_meaning c.args.is_operand options.empty 0 [] (length before) c.in_ok-set.set in
-    let tags : c.sum.result ≡ kept (length before) = omega (arith, c.sum.ensures, count) in
     let stands =
-    c.limited.ensures.stands meaning (record { size_is = refl; nesting_is = refl; tags_is = tags })
+    c.limited.ensures.stands meaning (record { size_is = refl; nesting_is = refl; tags_is = count })
     (c.class_content-content.ensures.stands (is_built reader.room meaning) 0 (length before) []) in
     if_ok_both (IsValue reader.room meaning) (IsValue reader.room meaning) _ c.limited.result
     (λ value one two.

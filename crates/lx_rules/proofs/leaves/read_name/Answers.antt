@@ -6,7 +6,7 @@ use Rattle.lx_rules.specs.Checks.{name_fault, repeated_tag}
 use Rattle.lx_rules.specs.Environments.{definition_of, is_built, kept}
 use Rattle.lx_rules.specs.Meanings.{copied}
 use Rattle.lx_rules.specs.Seen.{definition_view, definitions_view, lexeme_view}
-use Rattle.lx_rules.specs.Values.{AreTagsBelow, IsContent, IsCounted}
+use Rattle.lx_rules.specs.Values.{AreTagsBelow, IsCounted}
 use Rattle.lx_rules.proofs.LeafContents.{fits-tagged, size-some}
 use Rattle.lx_rules.proofs.LeafSteps.{kind-read}
 use Rattle.lx_rules.proofs.leaves.read_name.Goals as goal
@@ -22,34 +22,31 @@ returns-clause-read c =
     let meaning = copied (length before) definition in
     let found : definition_of definitions lexeme.text ≡ Some definition =
     sym c.get.ensures.found ∙ ap (option_map (λ kept. definition_view lexeme.text kept.now)) c.in-Some.is in
-    let names : c.names.result.now ≡ held.tags.value = c.names.ensures ∙ c.deref.ensures in
-    let fresh : repeated_tag lexeme.at held.tags.value before ≡ None =
-    ap (λ tags. repeated_tag lexeme.at tags before) (sym names) ∙ sym c.in_ok-fault.ensures ∙ c.in_default-2.is in
+    let fresh : repeated_tag lexeme.at held.tags before ≡ None =
+    sym c.in_ok-fault.ensures ∙ c.in_default-2.is in
     let checked = sym (ap (λ found. name_fault reader.options.now definitions found lexeme before) found ∙ fresh) in
-    let added : c.add.new.self ≡ before ++ held.tags.value = c.in_ok-add.ensures in
-    let many = ap length added ∙ length-append before held.tags.value in
-    let by : c.len-by.result ≡ length before = c.len-by.ensures in
-    let tags : c.sum-tags.result ≡ kept (length before + length held.tags.value) =
-    omega (arith, many, c.sum-tags.ensures, c.len.ensures) in
+    let added : c.add.new.self ≡ before ++ held.tags = c.in_ok-add.ensures in
+    let many = ap length added ∙ length-append before held.tags in
+    let tags : c.len-tags.result ≡ kept (length before + length held.tags) = c.len-tags.ensures ∙ ap kept many in
     let content =
-    c.in_ok-content.ensures.stands (is_built reader.room meaning)
-    (λ past. fits-tagged reader.room c.requires.room held.size (suc held.nesting) (length before + length held.tags.value) (omega (arith, past, by))) in
-    let counted : IsCounted meaning c.sum-size.result c.sum-nesting.result c.sum-tags.result =
+    c.in_ok-content.ensures.stands (is_built reader.room meaning) (length before) c.len-by.ensures
+    (fits-tagged reader.room c.requires.room held.size (suc held.nesting) (length before + length held.tags)) in
+    let counted : IsCounted meaning c.sum-size.result c.sum-nesting.result c.len-tags.result =
     record { size_is = c.sum-size.ensures ∙ omega arith; nesting_is = c.sum-nesting.ensures ∙ omega arith; tags_is = tags } in
     kind-read reader.options.now definitions reader.room c.args.is_operand before lexeme kind.Name c.requires.sort checked meaning
     (definition, found, refl) c.add.new.self added c.in_ok-limited.field-0
-    (c.in_ok-limited.ensures.stands meaning counted
-    (subst (λ count. IsContent (is_built reader.room meaning) (copied count definition) c.in_ok-content.content) by content))
+    (c.in_ok-limited.ensures.stands meaning counted content)
 
 pub returns-clause-honest : goal.returns-clause-honest
 returns-clause-honest c =
     let before = c.args.seen.now in
     let held = c.in-Some.kept.now in
-    let some = size-some held.expr held.size (length held.tags.value) (c.in-Some.ensures.sound c.requires.sound) in
+    let some = size-some held.expr held.size (length held.tags) (c.in-Some.ensures.sound c.requires.sound) in
     let size = c.in_ok-content.ensures.size in
-    let added : c.add.new.self ≡ before ++ held.tags.value = c.in_ok-add.ensures in
-    let many : length c.add.new.self ≡ c.len-by.result + length held.tags.value =
-    ap length added ∙ length-append before held.tags.value ∙ omega (arith, c.len-by.ensures) in
+    let added : c.add.new.self ≡ before ++ held.tags = c.in_ok-add.ensures in
+    let many : length c.add.new.self ≡ length before + length held.tags =
+    ap length added ∙ length-append before held.tags in
     c.in_ok-limited.ensures.honest (length c.add.new.self) (omega (arith, some, c.sum-size.ensures))
     (λ small. omega (arith, size, small, c.sum-size.ensures))
-    (subst (λ count. AreTagsBelow count c.in_ok-content.content) (sym many) c.in_ok-content.ensures.tags)
+    (subst (λ count. AreTagsBelow count c.in_ok-content.content) (sym many)
+    (c.in_ok-content.ensures.tags (length before) c.len-by.ensures))

@@ -21,13 +21,13 @@ string_content-requires c =
     code_points options.enc characters (points_taken options.enc options.surrogates at (singles (points_of characters)) none).0
 
 pub returns-clause-read : goal.returns-clause-read
-returns-clause-read c definitions =
+returns-clause-read c definitions before count =
     let reader = c.args.reader in
     let options = reader.options.now in
     let at = c.args.lexeme.now.at in
     let characters = c.as_slice-characters.result.now in
     let sets = λ (points : List ℕ). map (character_set options.surrogates c.args.is_caseless) points in
-    let meaning = λ (points : List ℕ). string_meaning c.args.count (sets points) in
+    let meaning = λ (points : List ℕ). string_meaning before (sets points) in
     let points : points_of characters ≡ points_in (lexeme_view c.args.lexeme.now) =
     ap (λ (characters : List Character). points_of characters) (c.as_slice-characters.ensures ∙ c.in_ok-characters.ensures) in
     let none : points_fault options.enc options.surrogates at (singles (points_of characters)) ≡ None =
@@ -36,13 +36,12 @@ returns-clause-read c definitions =
     length-map (points_of characters) _ ∙ length-map characters _ in
     let size : c.sum-size.result ≡ kept (max 1 (length (sets (points_of characters)))) =
     omega (arith, many, c.sum-size.ensures, c.max.ensures) in
-    let tags : c.sum.result ≡ kept c.args.count = omega (arith, c.sum.ensures) in
     let content =
-    c.in_ok-content.ensures.stands (is_built reader.room (meaning (points_of characters))) c.args.count
-    (λ past. fits-great reader.room c.requires (max 1 (length (sets (points_of characters)))) 0 c.args.count (omega (arith, past, many))) in (
+    c.in_ok-content.ensures.stands (is_built reader.room (meaning (points_of characters))) before
+    (λ past. fits-great reader.room c.requires (max 1 (length (sets (points_of characters)))) 0 before (omega (arith, past, many))) in (
       sym (ap (λ points. points_fault options.enc options.surrogates at (singles points)) (sym points) ∙ none),
       subst (λ points. IsValue reader.room (meaning points) c.in_ok-limited.field-0) points
-          (c.in_ok-limited.ensures.stands (meaning (points_of characters)) (record { size_is = size; nesting_is = refl; tags_is = tags }) content),
+          (c.in_ok-limited.ensures.stands (meaning (points_of characters)) (record { size_is = size; nesting_is = refl; tags_is = count }) content),
     )
 
 pub returns-clause-honest : goal.returns-clause-honest

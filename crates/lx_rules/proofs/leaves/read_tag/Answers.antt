@@ -5,7 +5,7 @@ use Rattle.lx_rules.specs.Checks.{is_among, tag_name}
 use Rattle.lx_rules.specs.Environments.{is_built, kept}
 use Rattle.lx_rules.specs.Meanings.{tag_meaning}
 use Rattle.lx_rules.specs.Seen.{definitions_view, lexeme_view}
-use Rattle.lx_rules.specs.Values.{AreTagsBelow, IsContent}
+use Rattle.lx_rules.specs.Values.{AreTagsBelow}
 use Rattle.lx_rules.proofs.LeafContents.{fits-tagged}
 use Rattle.lx_rules.proofs.LeafSteps.{kind-read, tag_fault-none}
 use Rattle.lx_rules.proofs.leaves.read_tag.Goals as goal
@@ -16,23 +16,23 @@ returns-clause-read c =
     let before = c.args.seen.now in
     let lexeme = lexeme_view c.args.lexeme.now in
     let number = length before in
-    let count : c.len-number.result ≡ number = c.len-number.ensures in
+    let count : c.len-number.result ≡ kept number = c.len-number.ensures in
     let meaning = tag_meaning number (tag_name lexeme) in
     let tags : c.sum-tags.result ≡ kept (suc number) = omega (arith, c.sum-tags.ensures, count) in
     let content =
-    c.tag_content-content.ensures.stands (is_built reader.room meaning) (tag_name lexeme)
-    (λ past. fits-tagged reader.room c.requires.room 1 0 (suc number) (omega (arith, past, count))) in
+    c.tag_content-content.ensures.stands (is_built reader.room meaning) number (tag_name lexeme) count
+    (fits-tagged reader.room c.requires.room 1 0 (suc number)) in
     let among = ap (λ name. is_among name before) (sym c.tag_name-name.ensures) ∙ sym c.if-contains.ensures in
     kind-read reader.options.now (definitions_view reader.definitions.now) reader.room c.args.is_operand before lexeme kind.STag c.requires.sort
     (tag_fault-none reader.options.now (definitions_view reader.definitions.now) reader.room c.args.is_operand before lexeme c.if-not-reader.false among) meaning refl c.push.new.self
     (c.in_ok-push.ensures ∙ ap (λ name. before ++ name ∷ []) c.tag_name-name.ensures) c.in_ok-limited.field-0
-    (c.in_ok-limited.ensures.stands meaning (record { size_is = refl; nesting_is = refl; tags_is = tags })
-    (subst (λ k. IsContent (is_built reader.room meaning) (tag_meaning k (tag_name lexeme)) c.tag_content-content.result) count content))
+    (c.in_ok-limited.ensures.stands meaning (record { size_is = refl; nesting_is = refl; tags_is = tags }) content)
 
 pub returns-clause-honest : goal.returns-clause-honest
 returns-clause-honest c =
     let size = c.tag_content-content.ensures.size in
-    let more : length c.push.new.self ≡ suc c.len-number.result =
-    ap length c.in_ok-push.ensures ∙ length-append c.args.seen.now (c.tag_name-name.result.now ∷ []) ∙ omega (arith, c.len-number.ensures) in
+    let more : length c.push.new.self ≡ suc (length c.args.seen.now) =
+    ap length c.in_ok-push.ensures ∙ length-append c.args.seen.now (c.tag_name-name.result.now ∷ []) ∙ omega arith in
     c.in_ok-limited.ensures.honest (length c.push.new.self) (omega arith) (λ small. omega (arith, size))
-    (subst (λ count. AreTagsBelow count c.tag_content-content.result) (sym more) c.tag_content-content.ensures.tags)
+    (subst (λ count. AreTagsBelow count c.tag_content-content.result) (sym more)
+    (c.tag_content-content.ensures.tags (length c.args.seen.now) c.len-number.ensures))

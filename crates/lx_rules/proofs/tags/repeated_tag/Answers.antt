@@ -1,36 +1,29 @@
-use Rattle.std.proofs.Common.{◌≡◌, ◌∙◌, ◌+◌, ap, arith, drop, length, sym, Some}
-use Rattle.std.specs.Prelude.{if◌then◌else◌}
-use Rattle.std.proofs.lemmas.List.{at_drop_all}
-use Rattle.lx_base.specs.declared.faults.Fault.TheVariants.{DuplicateTag}
+use Rattle.std.proofs.Common.{◌∙◌, ◌+◌, ap, drop, sym}
+use Rattle.std.specs.List.{flat_map, list_any}
+use Rattle.std.proofs.lemmas.List.{at_drop_more}
 use Rattle.lx_rules.specs.Checks.{is_among, repeated_tag}
-use Rattle.lx_rules.proofs.TagNames.{repeated_tag-drop, repeated_tag-first}
+use Rattle.lx_rules.proofs.SharedNames.{refused, repeated_tag-apart, repeated_tag-found, repeated_tag-passed}
 use Rattle.lx_rules.proofs.tags.repeated_tag.Goals as goal
 
-pub returns-then-contains : goal.returns-then-contains
-returns-then-contains c =
-    let tags = c.args.tags.now in
+pub returns-then-is_apart : goal.returns-then-is_apart
+returns-then-is_apart c =
+    sym (repeated_tag-apart c.args.at c.args.tags.now c.args.seen.now
+    (refused (list_any (λ name. is_among name c.args.tags.now) c.args.seen.now) (sym c.is_apart.ensures ∙ c.if-is_apart.true)))
+
+pub returns-then-is_some : goal.returns-then-is_some
+returns-then-is_some c =
     let seen = c.args.seen.now in
-    let next = repeated_tag-drop c.args.at tags seen c.loop-tag.tag-index c.tag-item.result c.loop-tag-test.true c.tag-item.is in
-    let among = ap (λ tag. is_among tag seen) (sym c.as_slice.ensures) ∙ sym c.if-contains.ensures in
-    let name = c.in_ok-name.ensures ∙ c.as_slice-then-contains.ensures in
-    ap (λ tag. Some (DuplicateTag c.args.at tag)) name
-    ∙ sym (c.loop-tag.invariant ∙ next
-    ∙ ap (λ test. if test then Some (DuplicateTag c.args.at c.tag-item.result) else repeated_tag c.args.at (drop (c.loop-tag.tag-index + 1) tags) seen) among)
+    let here = c.in_ok-found.ensures ∙ ap (λ names. repeated_tag c.args.at names seen) (c.names.ensures ∙ c.deref.ensures ∙ ap (λ segment. segment.value) c.segment-item.is) in
+    repeated_tag-found c.args.at _ (flat_map (λ names. names.value) (drop (c.loop-segment.segment-index + 1) c.segments-segments.result.now)) seen c.in_ok-found.found here
+    (sym c.is_some.ensures ∙ c.if-is_some.true)
+    ∙ sym (c.loop-segment.invariant
+    ∙ ap (λ names. repeated_tag c.args.at names seen) (at_drop_more (flat_map (λ names. names.value)) c.segments-segments.result.now c.loop-segment.segment-index c.segment-item.result c.loop-segment-test.true))
 
-pub loop-tag-preserved : goal.loop-tag-preserved
-loop-tag-preserved c =
-    let tags = c.args.tags.now in
+pub loop-segment-preserved : goal.loop-segment-preserved
+loop-segment-preserved c =
     let seen = c.args.seen.now in
-    let next = repeated_tag-drop c.args.at tags seen c.loop-tag.tag-index c.tag-item.result c.loop-tag-test.true c.tag-item.is in
-    let among = ap (λ tag. is_among tag seen) (sym c.as_slice.ensures) ∙ sym c.if-contains.ensures in
-    c.loop-tag.invariant ∙ next
-    ∙ ap (λ test. if test then Some (DuplicateTag c.args.at c.tag-item.result) else repeated_tag c.args.at (drop (c.loop-tag.tag-index + 1) tags) seen) among
-
-pub returns : goal.returns
-returns c =
-    sym (c.loop-tag.invariant ∙ at_drop_all (λ tags. repeated_tag c.args.at tags c.args.seen.now) c.args.tags.now c.loop-tag.tag-index c.loop-tag-test.false)
-
-pub returns-then-len-eq0 : goal.returns-then-len-eq0
-returns-then-len-eq0 c =
-    let none : length c.args.seen.now ≡ 0 = omega (arith, c.len.ensures, c.if-len-eq0.true) in
-    sym (repeated_tag-first c.args.at c.args.tags.now c.args.seen.now none)
+    let here = c.in_ok-found.ensures ∙ ap (λ names. repeated_tag c.args.at names seen) (c.names.ensures ∙ c.deref.ensures ∙ ap (λ segment. segment.value) c.segment-item.is) in
+    c.loop-segment.invariant
+    ∙ ap (λ names. repeated_tag c.args.at names seen) (at_drop_more (flat_map (λ names. names.value)) c.segments-segments.result.now c.loop-segment.segment-index c.segment-item.result c.loop-segment-test.true)
+    ∙ repeated_tag-passed c.args.at _ (flat_map (λ names. names.value) (drop (c.loop-segment.segment-index + 1) c.segments-segments.result.now)) seen c.in_ok-found.found here
+    (sym c.is_some.ensures ∙ c.if-is_some.false)

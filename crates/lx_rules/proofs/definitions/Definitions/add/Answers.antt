@@ -26,5 +26,5 @@ returns-clause-sound c = λ sound fits.
     let named = c.in_ok-name.ensures.items in
     let absent' = subst (λ text. lookup (λ key. bytes_eq text key.items) entries ≡ None) (sym named) absent in
     let added = c.in_ok-insert.ensures.entries ∙ insert_entry-new (λ key other. bytes_eq key.items other.items) c.args.self.now.by_name c.in_ok-name.name c.args.kept absent' in
-    subst (All (λ entry. FitsKept entry.1.expr entry.1.size (length entry.1.tags.value))) (sym added)
-    (All-append (λ entry. FitsKept entry.1.expr entry.1.size (length entry.1.tags.value)) entries ((c.in_ok-name.name, c.args.kept) ∷ []) sound (All-one (λ entry. FitsKept entry.1.expr entry.1.size (length entry.1.tags.value)) (c.in_ok-name.name, c.args.kept) fits))
+    subst (All (λ entry. FitsKept entry.1.expr entry.1.size (length entry.1.tags))) (sym added)
+    (All-append (λ entry. FitsKept entry.1.expr entry.1.size (length entry.1.tags)) entries ((c.in_ok-name.name, c.args.kept) ∷ []) sound (All-one (λ entry. FitsKept entry.1.expr entry.1.size (length entry.1.tags)) (c.in_ok-name.name, c.args.kept) fits))

@@ -15,6 +15,6 @@ returns-clause-found c =
 
 pub returns-clause-sound : goal.returns-clause-sound
 returns-clause-sound c = λ sound.
-    let Fits = λ (kept : Kept). FitsKept kept.expr kept.size (length kept.tags.value) in
+    let Fits = λ (kept : Kept). FitsKept kept.expr kept.size (length kept.tags) in
     IfSome-copied Fits c.get.result
     (subst (λ found. IfSome found Fits) (sym c.get.ensures.value) (All-lookup Fits (λ key. bytes_eq c.args.name.now key.items) c.args.self.now.by_name.entries sound))

@@ -12,4 +12,4 @@ returns-clause-added c = λ conds state at rule holds is.
     let acts = c.in_ok-push.ensures.items ∙ ap (λ (l : Vec Act Global). l.items ++ c.args.act ∷ []) added.acts in
     holds_plain conds known _ state rule holds at c.args.reading (subst (λ act. IsNew conds known (head.Plain c.args.reading) at act rule) (sym is.act_is) is)
     added.env added.default (acts ∙ ap (λ act. known.acts.items ++ act ∷ []) (sym is.act_is)) added.size added.nesting added.tags
-    (subst (λ (act : Act). AddsPlain (room_behind known.size known.nesting (length known.tags.items)) act.number c.args.reading known.rules.items c.push_rule.new.self.rules.items) (sym is.act_is) added.rules)
+    (subst (λ (act : Act). AddsPlain (room_behind known.size known.nesting (length known.tags)) act.number c.args.reading known.rules.items c.push_rule.new.self.rules.items) (sym is.act_is) added.rules)

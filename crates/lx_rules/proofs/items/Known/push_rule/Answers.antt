@@ -1,4 +1,4 @@
-use Rattle.std.proofs.Common.{◌≡◌, ◌≤◌, ◌∙◌, false, length, map, None, inl, refl, subst, sym, ap, ap₂}
+use Rattle.std.proofs.Common.{◌≡◌, ◌≤◌, ◌∙◌, ◌++◌, false, length, map, None, inl, refl, subst, sym, ap, ap₂}
 use Rattle.lx_regex.specs.Expr.{size_of}
 use Rattle.lx_regex.specs.Pattern.{Pattern}
 use Rattle.lx_regex.specs.declared.rules.Kind.TheVariants as kind
@@ -9,16 +9,17 @@ use Rattle.lx_rules.proofs.items.Known.push_rule.Goals as goal
 pub returns-in-None-clause-rules : goal.returns-in-None-clause-rules
 returns-in-None-clause-rules c =
     let known = c.args.self.now in
-    inl (refl, λ meaning is. c.in-None.ensures.past (room_behind known.size known.nesting (length known.tags.items)) meaning is.value)
+    inl (refl, λ meaning is. c.in-None.ensures.past (room_behind known.size known.nesting (length known.tags)) meaning is.value)
 
 pub returns-clause-rules : goal.returns-clause-rules
 returns-clause-rules c =
     let known = c.args.self.now in
     let reading = c.args.reading in
-    let room = room_behind known.size known.nesting (length known.tags.items) in
+    let room = room_behind known.size known.nesting (length known.tags) in
     let tags = c.in_ok-tags-in-Some in
-    let kept = c.in-Some.ensures.kept (length reading.tags.value) c.requires in
-    let named : c.names-in-Some.result.now ≡ reading.tags.value = c.names-in-Some.ensures ∙ c.deref-in-Some.ensures in
+    let kept = c.in-Some.ensures.kept (length reading.tags) c.requires in
+    let named : c.names-in-Some.result.now ≡ reading.tags =
+    c.names-in-Some.ensures ∙ c.in_ok-copy_to-in-Some.ensures ∙ ap (λ names. names ++ reading.tags) c.new-names.ensures in
     let size : size_of c.simple_rule.result.expr ≤ reading.value.size =
     subst (λ e. size_of e ≤ reading.value.size) (sym c.simple_rule.ensures.expr) kept.1 in
     adds_built room c.args.number reading known.rules.items c.push.new.self.items c.simple_rule.result c.in_ok-push-in-Some.ensures.items

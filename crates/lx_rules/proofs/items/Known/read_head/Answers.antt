@@ -21,4 +21,4 @@ pub returns-in-None-clause-read : goal.returns-in-None-clause-read
 returns-in-None-clause-read c = λ state holds.
     let star = ap sort_at (sym c.at-start.ensures) ∙ sym c.sort.ensures ∙ c.in-Star.is in
     star_read c.args.block.options.now (lexemes_view c.args.block.lexemes) c.args.self.now state holds c.args.head c.args.slash c.args.until
-    (room_behind c.args.self.now.size c.args.self.now.nesting (length c.args.self.now.tags.items)) star c.in-None.is
+    (room_behind c.args.self.now.size c.args.self.now.nesting (length c.args.self.now.tags)) star c.in-None.is

@@ -44,7 +44,7 @@ returns-in-None-clause-read c = λ state holds.
     let lexemes = lexemes_view c.args.block.lexemes in
     let known = c.args.self.now in
     let definitions = definitions_view known.env.definitions in
-    let room = room_behind known.size known.nesting (length known.tags.items) in
+    let room = room_behind known.size known.nesting (length known.tags) in
     let last = c.unwrap_or.ensures ∙ ap (λ slash. unwrap_or slash c.args.until) c.in-None.is in
     let read = subst (λ l. IsRead options lexemes definitions c.room.result c.args.head l c.in-Ok.reading) last c.in-Ok.ensures.read in
     subst (λ slash. IsHeadRead options lexemes state c.args.head slash c.args.until room (head.Plain c.in-Ok.reading)) (sym c.in-None.is)
