@@ -1,0 +1,95 @@
+//! The lines of a case.
+
+use crate::cases::{Extent, Order, Outside, Place};
+use crate::escapes::push_spelled;
+use anyhow::{Context, Result, bail};
+use std::alloc::Global;
+
+/// Puts a line of content behind others.
+pub fn push_content(content: &mut Vec<u8>, line: &str) -> Result<()> {
+    if let Some(text) = line.strip_prefix("| ") {
+        push_spelled(content, text)?;
+        content.push(b'\n')?;
+        Ok(())
+    } else if let Some(text) = line.strip_prefix("> ") {
+        push_spelled(content, text)
+    } else if let Some(text) = line.strip_prefix("* ") {
+        push_repeated(content, text)
+    } else if line == "|" {
+        content.push(b'\n')?;
+        Ok(())
+    } else {
+        bail!("no line of content")
+    }
+}
+
+/// A number, and then a text that stands so many times.
+fn push_repeated(content: &mut Vec<u8>, line: &str) -> Result<()> {
+    let (times, text) = line.split_once(' ').context("no text to repeat")?;
+    let times: u32 = times.parse().context("how many times")?;
+    let mut part = Vec::new(*content.allocator());
+    push_spelled(&mut part, text)?;
+    for _ in 0..times {
+        content.extend_from_slice(&part)?;
+    }
+    Ok(())
+}
+
+/// The order of a line.
+pub fn order(alloc: Global, line: &str) -> Result<Order> {
+    let (verb, rest) = line.split_once(' ').unwrap_or((line, ""));
+    match verb {
+        "given" => Ok(Order::Given(name(alloc, rest)?)),
+        "fail" => failing_call(rest),
+        "run" => Ok(Order::Run(words(alloc, rest)?)),
+        "status" => Ok(Order::Status(rest.parse().context("which status")?)),
+        "out" => Ok(Order::Want(Place::Out, extent(rest)?)),
+        "err" => Ok(Order::Want(Place::Err, extent(rest)?)),
+        "file" => wanted_file(alloc, rest),
+        _ => bail!("no order"),
+    }
+}
+
+/// A name, which is not empty.
+fn name(alloc: Global, text: &str) -> Result<String> {
+    if text.is_empty() {
+        bail!("no name");
+    }
+    Ok(String::from_str(alloc, text)?)
+}
+
+fn failing_call(text: &str) -> Result<Order> {
+    let (outside, call) = text.split_once(' ').context("which call")?;
+    let call: u64 = call.parse().context("which call")?;
+    match outside {
+        "files" => Ok(Order::Fail(Outside::Files, call)),
+        "out" => Ok(Order::Fail(Outside::Out, call)),
+        "err" => Ok(Order::Fail(Outside::Err, call)),
+        _ => bail!("whose call"),
+    }
+}
+
+fn words(alloc: Global, text: &str) -> Result<Vec<String>> {
+    let mut words = Vec::new(alloc);
+    for word in text.split_whitespace() {
+        words.push(String::from_str(alloc, word)?)?;
+    }
+    Ok(words)
+}
+
+fn wanted_file(alloc: Global, text: &str) -> Result<Order> {
+    let (file, rest) = text.split_once(' ').unwrap_or((text, ""));
+    Ok(Order::Want(Place::File(name(alloc, file)?), extent(rest)?))
+}
+
+fn extent(text: &str) -> Result<Extent> {
+    match text {
+        "" => Ok(Extent::Whole),
+        "any" => Ok(Extent::Any),
+        "absent" => Ok(Extent::Absent),
+        _ => {
+            let times = text.strip_prefix("holds ").context("no extent")?;
+            Ok(Extent::Times(times.parse().context("how many times")?))
+        }
+    }
+}

@@ -1,0 +1,32 @@
+//! Runs the cases of the files that its words name: command lines of the program over files and sinks in memory, each with what is
+//! wanted of it. It prints a line for each case that differs, and last how many cases there are and how many of them differ.
+#![tactic(auto)]
+
+use anyhow::Result;
+use lx_files::{Files, RealFiles};
+use report::Report;
+use std::env;
+use std::io::Write;
+use std::process::ExitCode;
+
+mod cases;
+mod escapes;
+mod format;
+mod lines;
+mod outcome;
+mod report;
+mod scene;
+mod seen;
+mod stage;
+
+fn main(rt: HostRuntime) -> Result<ExitCode> {
+    let alloc = rt.alloc();
+    let mut report = Report::new(alloc);
+    let names: Vec<String> = env::args(&rt)?.skip(1).collect(alloc)?;
+    for name in names.iter() {
+        let bytes = RealFiles::new(&rt).read(alloc, name.as_str())?;
+        report.run_file(alloc, name.as_str(), &bytes)?;
+    }
+    rt.stdout().write_all(report.text(alloc)?.as_bytes())?;
+    Ok(report.status())
+}

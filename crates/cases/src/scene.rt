@@ -1,0 +1,216 @@
+//! The state of a case between two orders.
+
+use crate::cases::{Case, Extent, Item, Order, Outside, Place};
+use crate::outcome::{Difference, difference};
+use crate::seen::Seen;
+use crate::stage::{Failing, NONE, Stage};
+use anyhow::{Result, bail};
+use std::alloc::{AllocError, Global};
+
+/// The files, what the last run left, its status where this was not compared yet, and the number of its line, which is 0 before a run.
+#[derive(Drop)]
+struct Scene {
+    files: Vec<Seen>,
+    out: Seen,
+    err: Seen,
+    status: Option<u8>,
+    failing: Failing,
+    line: usize,
+}
+
+/// How a case differs from what it wants, behind the number of the line of the run that differs.
+pub fn difference_of_case(alloc: Global, case: &Case) -> Result<Option<(usize, String)>> {
+    let mut scene = Scene::new(alloc)?;
+    for item in case.items.iter() {
+        if let Some(difference) = scene.step(alloc, item)? {
+            return Ok(Some((scene.line, difference)));
+        }
+    }
+    if scene.line == 0 {
+        bail!("no run");
+    }
+    Ok(
+        scene
+            .close(alloc)?
+            .map(|difference| (scene.line, difference)),
+    )
+}
+
+impl Scene {
+    fn new(alloc: Global) -> Result<Scene, AllocError> {
+        Ok(Scene {
+            files: Vec::new(alloc),
+            out: Seen::new(alloc, "standard output", None)?,
+            err: Seen::new(alloc, "standard error", None)?,
+            status: None,
+            failing: NONE,
+            line: 0,
+        })
+    }
+
+    /// Does what an order asks for. Each order that begins the next run first closes the last one.
+    fn step(&mut self, alloc: Global, item: &Item) -> Result<Difference> {
+        match &item.order {
+            Order::Status(wanted) => self.compare_status(alloc, *wanted),
+            Order::Want(place, extent) => self.compare(
+                alloc,
+                place,
+                *extent,
+                item.content.as_slice(),
+            ),
+            Order::Given(_) | Order::Fail(_, _) | Order::Run(_) => {
+                let difference = self.close(alloc)?;
+                self.prepare(alloc, item)?;
+                Ok(difference)
+            }
+        }
+    }
+
+    fn prepare(&mut self, alloc: Global, item: &Item) -> Result<()> {
+        match &item.order {
+            Order::Given(name) => self.give(alloc, name.as_str(), item.content.as_slice())?,
+            Order::Fail(outside, call) => self.fail(*outside, *call),
+            Order::Run(words) => {
+                self.run(alloc, words.as_slice())?;
+                self.line = item.line;
+            }
+            _ => {}
+        }
+        Ok(())
+    }
+
+    fn give(&mut self, alloc: Global, name: &str, bytes: &[u8]) -> Result<(), AllocError> {
+        let bytes = Vec::from_slice(alloc, bytes)?;
+        for seen in self.files.iter_mut() {
+            if seen.name.as_str() == name {
+                seen.give(bytes);
+                return Ok(());
+            }
+        }
+        let seen = Seen::new(alloc, name, Some(bytes))?;
+        self.files.push(seen)?;
+        Ok(())
+    }
+
+    fn fail(&mut self, outside: Outside, call: u64) {
+        match outside {
+            Outside::Files => self.failing.files = Some(call),
+            Outside::Out => self.failing.out = Some(call),
+            Outside::Err => self.failing.err = Some(call),
+        }
+    }
+
+    fn run(&mut self, alloc: Global, words: &[String]) -> Result<()> {
+        self.note_words(alloc, words)?;
+        let mut stage = self.stage(alloc)?;
+        self.status = Some(stage.run(alloc, words));
+        self.failing = NONE;
+        self.look(alloc, &mut stage)
+    }
+
+    /// Each word may be the name of a file that the run makes.
+    fn note_words(&mut self, alloc: Global, words: &[String]) -> Result<(), AllocError> {
+        for word in words.iter() {
+            if !self.is_known(word.as_str()) {
+                let seen = Seen::new(alloc, word.as_str(), None)?;
+                self.files.push(seen)?;
+            }
+        }
+        Ok(())
+    }
+
+    fn is_known(&self, name: &str) -> bool {
+        self.files.iter().any(|seen| seen.name.as_str() == name)
+    }
+
+    /// The files as they stand, and empty sinks.
+    fn stage(&self, alloc: Global) -> Result<Stage> {
+        let mut stage = Stage::new(alloc, self.failing)?;
+        for seen in self.files.iter() {
+            if let Some(bytes) = &seen.bytes {
+                stage.files.add(seen.name.as_str(), bytes.as_slice())?;
+            }
+        }
+        Ok(stage)
+    }
+
+    /// Takes note of what a run left.
+    fn look(&mut self, alloc: Global, stage: &mut Stage) -> Result<()> {
+        for seen in self.files.iter_mut() {
+            let bytes = stage.read(alloc, seen.name.as_str())?;
+            seen.leave(bytes);
+        }
+        self.out.give(Vec::new(alloc));
+        self.out
+            .leave(Some(Vec::from_slice(alloc, stage.out.bytes())?));
+        self.err.give(Vec::new(alloc));
+        self.err
+            .leave(Some(Vec::from_slice(alloc, stage.err.bytes())?));
+        Ok(())
+    }
+
+    fn compare_status(&mut self, alloc: Global, wanted: u8) -> Result<Difference> {
+        match self.status.take() {
+            None => bail!("a status without a run"),
+            Some(got) => Ok(difference_of_status(alloc, wanted, got)?),
+        }
+    }
+
+    fn compare(
+        &mut self,
+        alloc: Global,
+        place: &Place,
+        extent: Extent,
+        content: &[u8],
+    ) -> Result<Difference> {
+        if self.line == 0 {
+            bail!("nothing is left without a run");
+        }
+        let difference = match place {
+            Place::Out => self.out.compare(alloc, extent, content)?,
+            Place::Err => self.err.compare(alloc, extent, content)?,
+            Place::File(name) => self.compare_file(alloc, name.as_str(), extent, content)?,
+        };
+        Ok(difference)
+    }
+
+    fn compare_file(
+        &mut self,
+        alloc: Global,
+        name: &str,
+        extent: Extent,
+        content: &[u8],
+    ) -> Result<Difference, AllocError> {
+        for seen in self.files.iter_mut() {
+            if seen.name.as_str() == name {
+                return seen.compare(alloc, extent, content);
+            }
+        }
+        difference(alloc, name, extent, content, None)
+    }
+
+    /// How the last run differs in what no order named: its status is 0, its sinks are empty, and its files are as they were.
+    fn close(&mut self, alloc: Global) -> Result<Difference, AllocError> {
+        if let Some(got) = self.status.take()
+            && got != 0
+        {
+            return difference_of_status(alloc, 0, got);
+        }
+        for seen in self.files.iter_mut() {
+            if let Some(difference) = seen.compare_unchanged(alloc)? {
+                return Ok(Some(difference));
+            }
+        }
+        if let Some(difference) = self.out.compare_unchanged(alloc)? {
+            return Ok(Some(difference));
+        }
+        self.err.compare_unchanged(alloc)
+    }
+}
+
+fn difference_of_status(alloc: Global, wanted: u8, got: u8) -> Result<Difference, AllocError> {
+    if wanted == got {
+        return Ok(None);
+    }
+    Ok(Some(format!(in alloc; "status: wanted {wanted}, got {got}")?))
+}

@@ -1,0 +1,70 @@
+//! What stands at a place before and after a run.
+
+use crate::cases::Extent;
+use crate::outcome::{Difference, difference};
+use std::alloc::{AllocError, Global};
+use std::mem;
+
+/// A sink or a file: its name, what stood there before the last run, what that run left there, and whether this was compared.
+#[derive(Drop)]
+pub struct Seen {
+    pub name: String,
+    before: Option<Vec<u8>>,
+    pub bytes: Option<Vec<u8>>,
+    compared: bool,
+}
+
+impl Seen {
+    /// A place at which these bytes stand, or nothing.
+    pub fn new(alloc: Global, name: &str, bytes: Option<Vec<u8>>) -> Result<Seen, AllocError> {
+        Ok(Seen {
+            name: String::from_str(alloc, name)?,
+            before: None,
+            bytes,
+            compared: true,
+        })
+    }
+
+    /// Puts these bytes there before a run.
+    pub fn give(&mut self, bytes: Vec<u8>) {
+        self.bytes = Some(bytes);
+    }
+
+    /// Takes note of what a run left there.
+    pub fn leave(&mut self, bytes: Option<Vec<u8>>) {
+        self.before = mem::replace(&mut self.bytes, bytes);
+        self.compared = false;
+    }
+
+    /// How what the last run left there differs from the content that was wanted.
+    pub fn compare(
+        &mut self,
+        alloc: Global,
+        extent: Extent,
+        content: &[u8],
+    ) -> Result<Difference, AllocError> {
+        self.compared = true;
+        let got = as_bytes(&self.bytes);
+        difference(alloc, self.name.as_str(), extent, content, got)
+    }
+
+    /// How what the last run left there differs from what stood there before, where it was not compared yet.
+    pub fn compare_unchanged(&mut self, alloc: Global) -> Result<Difference, AllocError> {
+        if self.compared {
+            return Ok(None);
+        }
+        self.compared = true;
+        let (name, got) = (self.name.as_str(), as_bytes(&self.bytes));
+        match &self.before {
+            None => difference(alloc, name, Extent::Absent, b"", got),
+            Some(wanted) => difference(alloc, name, Extent::Whole, wanted.as_slice(), got),
+        }
+    }
+}
+
+fn as_bytes(bytes: &Option<Vec<u8>>) -> Option<&[u8]> {
+    match bytes {
+        None => None,
+        Some(bytes) => Some(bytes.as_slice()),
+    }
+}
