@@ -16,13 +16,13 @@ use Rattle.lx_parse.specs.declared.items.Item.TheVariants.{Define, Configure, Ru
 use Rattle.lx_parse.specs.declared.sorts.Sort.{Sort}
 use Rattle.lx_parse.specs.declared.sorts.Sort.TheVariants.{Code}
 use Rattle.lx_parse.proofs.Behind.{IsBehind, here, behind_next, behind_trans, drop-place, head_behind, item_behind, list_behind}
-use Rattle.lx_rules.specs.Checks.{Check, Then}
+use Rattle.lx_exprs.specs.Checks.{Check, Then}
 use Rattle.lx_rules.specs.Environments.{Environment}
 use Rattle.lx_rules.specs.Items.{Goes, HeadChecks, IsAfter, ItemChecks, ListChecks, RuleOf, State, TargetChecks, act_of, conds_of, ends, head_sort, next, refused}
-use Rattle.lx_rules.specs.Lexemes.{Lexeme, lexeme_of, lexemes_of, nth_lexeme, sort_at}
+use Rattle.lx_forms.specs.Lexemes.{Lexeme, lexeme_of, lexemes_of, nth_lexeme, sort_at}
 use Rattle.lx_rules.specs.declared.resolved.Act.{Act}
 use Rattle.lx_rules.specs.declared.resolved.Resolved.{Resolved}
-use Rattle.lx_rules.proofs.ClassForms.{then-none}
+use Rattle.lx_exprs.proofs.ClassForms.{then-none}
 use Rattle.lx_token.specs.Spans.{AreInOrder, EachStands, Stands}
 use Rattle.lx_token.specs.declared.kinds.TokenKind.{TokenKind}
 use Rattle.lx_token.specs.declared.kinds.TokenKind.TheVariants as kind

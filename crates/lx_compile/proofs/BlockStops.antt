@@ -12,7 +12,7 @@ use Rattle.lx_parse.specs.Blocks.{StopsWith as StopsParse}
 use Rattle.lx_parse.specs.declared.items.Item.{Item}
 use Rattle.lx_rules.specs.Blocks.{StopsWith as StopsRules}
 use Rattle.lx_rules.specs.Environments.{Environment}
-use Rattle.lx_rules.specs.Lexemes.{lexemes_of}
+use Rattle.lx_forms.specs.Lexemes.{lexemes_of}
 use Rattle.lx_token.specs.Tokens.{tokens_of, StopsWith as StopsTokens}
 use Rattle.lx_token.specs.declared.list.Token.{Token}
 use Rattle.lx_rules.specs.declared.resolved.Resolved.{Resolved}

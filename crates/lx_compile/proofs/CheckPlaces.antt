@@ -15,11 +15,11 @@ use Rattle.lx_base.specs.declared.settings.SurPolicy.{SurPolicy}
 use Rattle.lx_base.specs.declared.settings.SurPolicy.TheVariants.{Ignore, Substitute, Fail}
 use Rattle.lx_class.specs.declared.ranges.Range.{Range}
 use Rattle.lx_parse.specs.Expressions.{Part}
-use Rattle.lx_rules.specs.Checks.{Check, Then, Finds, waits, Checks, LeafChecks, IsFilled, PointsAre, AreClasses, HasPoint, LeafHas, are_groups, bounds_fault, bounds_of, class_ranges, group_fault, is_class, is_wrong, name_fault, repeated_tag, tag_fault, tag_name, tags_of, is_among}
-use Rattle.lx_rules.specs.Environments.{Definition, definition_of}
-use Rattle.lx_rules.specs.Forms.{Form, leaf, group, repeated, sequence, difference, alternative, IsForm, is_leaf, is_group, is_bare, is_repeated, is_first_post, is_sequence, is_first_cat, is_difference, is_first_diff, is_alternative}
-use Rattle.lx_rules.specs.Lexemes.{Lexeme, nth_lexeme, points_in}
-use Rattle.lx_rules.specs.Points.{least_from, points_fault, singles, surrogate_fault, up_to}
+use Rattle.lx_exprs.specs.Checks.{Check, Then, Finds, waits, Checks, LeafChecks, IsFilled, PointsAre, AreClasses, HasPoint, LeafHas, are_groups, bounds_fault, bounds_of, class_ranges, group_fault, is_class, is_wrong, name_fault, repeated_tag, tag_fault, tag_name, tags_of, is_among}
+use Rattle.lx_exprs.specs.Defined.{Definition, definition_of}
+use Rattle.lx_forms.specs.Forms.{Form, leaf, group, repeated, sequence, difference, alternative, IsForm, is_leaf, is_group, is_bare, is_repeated, is_first_post, is_sequence, is_first_cat, is_difference, is_first_diff, is_alternative}
+use Rattle.lx_forms.specs.Lexemes.{Lexeme, nth_lexeme, points_in}
+use Rattle.lx_exprs.specs.Points.{least_from, points_fault, singles, surrogate_fault, up_to}
 use Rattle.lx_token.specs.declared.kinds.TokenKind.{TokenKind}
 use Rattle.lx_token.specs.declared.kinds.TokenKind.TheVariants as kind
 use Rattle.lx_compile.specs.Places.{StandsInFirst}

@@ -11,7 +11,7 @@ use Rattle.lx_base.specs.declared.places.Pos.{Pos}
 use Rattle.lx_base.specs.declared.settings.Options.{Options}
 use Rattle.lx_parse.specs.Blocks.{place_of_next}
 use Rattle.lx_rules.specs.Environments.{Environment, first_environment}
-use Rattle.lx_rules.specs.Lexemes.{lexemes_of}
+use Rattle.lx_forms.specs.Lexemes.{lexemes_of}
 use Rattle.lx_split.specs.Cuts.{IsFaultOf as IsFaultOfSource, completed, marked, faulty, IsOpenerFault, refused as opener_refused, unclosed, source_text}
 use Rattle.lx_split.specs.Pieces.{Split, file_start, pieces_of}
 use Rattle.lx_split.specs.declared.pieces.SourcePiece.{SourcePiece}

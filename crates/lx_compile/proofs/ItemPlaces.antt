@@ -12,11 +12,13 @@ use Rattle.lx_base.specs.declared.settings.Options.{Options}
 use Rattle.lx_parse.specs.declared.items.Item.{Item}
 use Rattle.lx_parse.specs.declared.items.Item.TheVariants.{Define, Configure, Rule, Text}
 use Rattle.lx_rules.specs.Blocks.{BlockChecks, ClashCheck, IsBlockFault, conditions_of, is_bare, limits_fault, lonely_fault, nesting_of, not_of_kind, rules_of, scanner_fault, scanners_fault, size_of, tags_of as tag_count, target_fault, targets_fault}
-use Rattle.lx_rules.specs.Checks.{Then, Finds, waits, Checks, is_among, tags_of}
+use Rattle.lx_exprs.specs.Checks.{Then, Finds, waits, Checks, is_among, tags_of}
 use Rattle.lx_rules.specs.Configurations.{config_fault, define_words, fill_word, other_words, switch_fault, switch_of}
-use Rattle.lx_rules.specs.Environments.{Definition, Environment, definition_of, kept}
-use Rattle.lx_rules.specs.Items.{ContextChecks, ExpressionChecks, Goes, ends, refused, next, HeadChecks, HeadSort, any, end, expression, head_sort, IsAfter, ItemChecks, ListChecks, RuleOf, State, TargetChecks, conds_of, first_of, is_default, is_end, twice, unless}
-use Rattle.lx_rules.specs.Lexemes.{Lexeme, nth_lexeme, sort_at}
+use Rattle.lx_exprs.specs.Defined.{Definition, definition_of, kept}
+use Rattle.lx_rules.specs.Environments.{Environment}
+use Rattle.lx_exprs.specs.Expressions.{ContextChecks, ExpressionChecks}
+use Rattle.lx_rules.specs.Items.{Goes, ends, refused, next, HeadChecks, HeadSort, any, end, expression, head_sort, IsAfter, ItemChecks, ListChecks, RuleOf, State, TargetChecks, conds_of, first_of, is_default, is_end, twice, unless}
+use Rattle.lx_forms.specs.Lexemes.{Lexeme, nth_lexeme, sort_at}
 use Rattle.lx_token.specs.declared.kinds.TokenKind.{TokenKind}
 use Rattle.lx_token.specs.declared.kinds.TokenKind.TheVariants as kind
 use Rattle.lx_compile.specs.Places.{StandsInFirst}

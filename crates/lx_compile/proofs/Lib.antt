@@ -13,7 +13,5 @@ pub mod FoundPieces
 pub mod ItemPlaces
 pub mod KernelRuns
 pub mod WalkRuns
-pub mod OneCheck
 pub mod OneFault
-pub mod OneItem
 pub mod SomeFault

@@ -21,7 +21,7 @@ use Rattle.lx_regex.specs.Kernel.{HasTooManyKernels}
 use Rattle.lx_regex.specs.Pattern.{Pattern, terms_of}
 use Rattle.lx_rules.specs.Blocks.{IsBlockFault, Resolves}
 use Rattle.lx_rules.specs.Environments.{Environment, first_environment}
-use Rattle.lx_rules.specs.Lexemes.{lexemes_of}
+use Rattle.lx_forms.specs.Lexemes.{lexemes_of}
 use Rattle.lx_rules.specs.declared.resolved.Config.{Config}
 use Rattle.lx_rules.specs.declared.resolved.Resolved.{Resolved}
 use Rattle.lx_rules.specs.declared.resolved.Scanner.{Scanner}
@@ -35,7 +35,8 @@ use Rattle.lx_compile.specs.FirstFault.{IsFaultBehind, IsFaultOfBlocks, IsFaultO
 use Rattle.lx_compile.specs.Parts.{AreParts, HasTooLarge, IsFaultAmong, IsKernelFault}
 use Rattle.lx_compile.specs.declared.parts.Part.{Part}
 use Rattle.lx_compile.specs.declared.parts.Part.TheVariants.{Outside, Block}
-use Rattle.lx_compile.proofs.OneItem.{AreAlike, HaveSameRules, IsBlockFault-one, Resolves-one, resolves_or_not}
+use Rattle.lx_rules.specs.Likeness.{AreAlike, HaveSameRules}
+use Rattle.lx_rules.proofs.OneItem.{IsBlockFault-one, Resolves-one, resolves_or_not}
 
 -- ---- syntax
 

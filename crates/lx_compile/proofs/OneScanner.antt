@@ -6,7 +6,7 @@ use Rattle.lx_parse.specs.declared.items.Item.{Item}
 use Rattle.lx_rules.specs.Blocks.{AreScanners, Resolves, conditions_of}
 use Rattle.lx_rules.specs.Environments.{Environment}
 use Rattle.lx_rules.specs.Items.{RuleOf}
-use Rattle.lx_rules.specs.Lexemes.{Lexeme}
+use Rattle.lx_forms.specs.Lexemes.{Lexeme}
 use Rattle.lx_rules.specs.declared.resolved.Resolved.{Resolved}
 use Rattle.lx_rules.specs.declared.resolved.Scanner.{Scanner}
 use Rattle.lx_rules.proofs.BlockSteps.{AreUsual, conditions_of-usual}

@@ -21,18 +21,19 @@ use Rattle.lx_regex.specs.declared.rules.Kind.{Kind}
 use Rattle.lx_regex.specs.declared.rules.Kind.TheVariants as kind
 use Rattle.lx_regex.specs.declared.rules.Rule.{Rule}
 use Rattle.lx_rules.specs.Blocks.{AreScanners, BlockChecks, ClashCheck, IsScanner, NoClash, Resolves, conditions_of, given_names, lonely_fault, pattern_of, scanners_fault, targets_fault}
-use Rattle.lx_rules.specs.Checks.{Check, Finds, Then}
-use Rattle.lx_rules.specs.Environments.{Definition, Environment, Meaning}
+use Rattle.lx_exprs.specs.Checks.{Check, Finds, Then}
+use Rattle.lx_exprs.specs.Defined.{Definition, Meaning}
+use Rattle.lx_rules.specs.Environments.{Environment}
 use Rattle.lx_rules.specs.Items.{Goes, HeadChecks, HeadSort, IsAfter, IsHead, ItemChecks, ListChecks, RuleOf, State, TargetChecks, act_of, any, conds_of, end, ends, expression, head_sort, next, refused}
 use Rattle.lx_rules.specs.Keeping.{IsUsual}
-use Rattle.lx_rules.specs.Lexemes.{Lexeme, nth_lexeme, sort_at}
+use Rattle.lx_forms.specs.Lexemes.{Lexeme, nth_lexeme, sort_at}
 use Rattle.lx_rules.specs.Soundness.{IsFine, IsFit}
 use Rattle.lx_rules.specs.Within.{IsScannerWithin}
 use Rattle.lx_rules.specs.declared.resolved.Act.{Act}
 use Rattle.lx_rules.specs.declared.resolved.Resolved.{Resolved}
 use Rattle.lx_rules.specs.declared.resolved.Scanner.{Scanner}
 use Rattle.lx_rules.proofs.BlockSteps.{AreUsual, conditions_of-usual, in_order, rules_of-usual}
-use Rattle.lx_rules.proofs.ClassForms.{then-none}
+use Rattle.lx_exprs.proofs.ClassForms.{then-none}
 use Rattle.lx_rules.proofs.RuleNumbers.{all_in_order}
 use Rattle.lx_compile.specs.Output.{actions_of}
 use Rattle.lx_compile.specs.Ready.{CanBeEmitted}

@@ -12,7 +12,7 @@ use Rattle.lx_parse.specs.declared.items.Item.{Item}
 use Rattle.lx_parse.proofs.Verdicts.{read_or_refused}
 use Rattle.lx_rules.specs.Buildable.{IsReady}
 use Rattle.lx_rules.specs.Environments.{Environment, first_environment}
-use Rattle.lx_rules.specs.Lexemes.{lexemes_of}
+use Rattle.lx_forms.specs.Lexemes.{lexemes_of}
 use Rattle.lx_rules.specs.declared.resolved.Resolved.{Resolved}
 use Rattle.lx_rules.proofs.BlockVerdicts.{body_expressions, first_ready, ready_after, verdict_among}
 use Rattle.lx_split.specs.Pieces.{Split, file_start, pieces_of}

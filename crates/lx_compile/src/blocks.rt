@@ -3,7 +3,8 @@ ghost use Rattle.std.specs.Prelude.{◌↔◌, IfOk, IsTrue, MatchResult};
 ghost use Rattle.std.specs.List.{AllByRecursion};
 ghost use Rattle.lx_rules.specs.Seen.{environment_view};
 ghost use Rattle.lx_rules.specs.Soundness.{IsFine, IsSound};
-ghost use Rattle.lx_rules.specs.Within.{AreDefinedWithin, IsScannerWithin};
+ghost use Rattle.lx_exprs.specs.Within.{AreDefinedWithin};
+ghost use Rattle.lx_rules.specs.Within.{IsScannerWithin};
 ghost use Rattle.lx_compile.specs.Blocks.{AreSupported, IsBlock, StopsAt};
 ghost use Rattle.lx_compile.specs.Ready.{IsNear};
 

@@ -9,7 +9,8 @@ use Rattle.lx_base.specs.declared.faults.Fault.TheVariants.{BadValue, EofPair, N
 use Rattle.lx_base.specs.Names.{usual_names}
 use Rattle.lx_regex.specs.declared.rules.Kind.{Kind}
 use Rattle.lx_regex.specs.declared.rules.Kind.TheVariants as kind
-use Rattle.lx_rules.specs.Checks.{is_among}
+use Rattle.lx_exprs.specs.Checks.{is_among}
+use Rattle.lx_exprs.proofs.SharedNames.{each_apart, each_both}
 use Rattle.lx_rules.specs.Items.{RuleOf, State, is_default, is_end}
 use Rattle.lx_rules.specs.Blocks.{every, conditions_behind, conditions_of, rules_under, of_kind, not_of_kind, own_or, shared_beside, scanner_rules, rules_of, size_of, nesting_of, tags_of, limits_fault, scanner_fault, scanners_fault, lonely_fault, targets_fault, BlockChecks, NoClash}
 use Rattle.lx_rules.specs.Keeping.{IsUsual, names_of}
@@ -165,22 +166,14 @@ no_targets (rule ∷ rules) conds usual = let goes = usual.0.no_target in rw (go
 
 -- a fact of the names of all tags is one of those of each rule
 module _ (P : List ℕ → Type 0) where
-  pub each_both : (front back : List (List ℕ)) → AllByRecursion P front → AllByRecursion P back → AllByRecursion P (front ++ back)
-  each_both [] back one two = two
-  each_both (name ∷ front) back one two = (one.0, each_both front back one.1 two)
-
-  pub each_apart : (front back : List (List ℕ)) → AllByRecursion P (front ++ back) → AllByRecursion P front × AllByRecursion P back
-  each_apart [] back all = (tt, all)
-  each_apart (name ∷ front) back all = let later = each_apart front back all.1 in ((all.0, later.0), later.1)
-
   pub each_name : (rules : List RuleOf) → AllByRecursion P (names_of rules) → AllByRecursion (λ (rule : RuleOf). AllByRecursion P rule.meaning.tags) rules
   each_name [] all = tt
   each_name (rule ∷ rules) all =
-      let apart = each_apart rule.meaning.tags (names_of rules) all in (apart.0, each_name rules apart.1)
+      let apart = each_apart P rule.meaning.tags (names_of rules) all in (apart.0, each_name rules apart.1)
 
   pub all_names : (rules : List RuleOf) → AllByRecursion (λ (rule : RuleOf). AllByRecursion P rule.meaning.tags) rules → AllByRecursion P (names_of rules)
   all_names [] all = tt
-  all_names (rule ∷ rules) all = each_both rule.meaning.tags (names_of rules) all.0 (all_names rules all.1)
+  all_names (rule ∷ rules) all = each_both P rule.meaning.tags (names_of rules) all.0 (all_names rules all.1)
 
 module _ (at : Pos) (state : State) (usual : AreUsual state.rules) where
   -- what the limits say of rules

@@ -15,14 +15,14 @@ use Rattle.lx_parse.proofs.Ranges.{body_has}
 use Rattle.lx_token.specs.declared.list.Token.{Token}
 use Rattle.lx_rules.specs.Blocks.{BlockChecks, ClashCheck, IsBlockFault, NoClash, Resolves, conditions_of, lonely_fault, scanners_fault, targets_fault}
 use Rattle.lx_rules.specs.Buildable.{IsReady}
-use Rattle.lx_rules.specs.Checks.{Check, Finds, Then}
+use Rattle.lx_exprs.specs.Checks.{Check, Finds, Then}
 use Rattle.lx_rules.specs.Environments.{Environment, first_environment}
 use Rattle.lx_rules.specs.Items.{Goes, State, first_state}
-use Rattle.lx_rules.specs.Lexemes.{Lexeme, lexemes_of, sorts_at}
+use Rattle.lx_forms.specs.Lexemes.{Lexeme, lexemes_of, sorts_at}
 use Rattle.lx_rules.specs.declared.resolved.Resolved.{Resolved}
 use Rattle.lx_rules.proofs.BuiltScanners.{block_built}
-use Rattle.lx_rules.proofs.Classical.{Surely, surely, and_then, excluded_middle}
-use Rattle.lx_rules.proofs.FormVerdicts.{Decides, finds_decides, then_decides}
+use Rattle.lx_exprs.proofs.Classical.{Surely, surely, and_then, excluded_middle}
+use Rattle.lx_exprs.proofs.FormVerdicts.{Decides, finds_decides, then_decides}
 use Rattle.lx_rules.proofs.ItemFits.{IsStateWithin, goes_within}
 use Rattle.lx_rules.proofs.ItemRuns.{sorts_of-lexemes}
 use Rattle.lx_rules.proofs.ItemVerdicts.{IsStateBuildable, goes_buildable, goes_decides}

@@ -16,13 +16,13 @@ use Rattle.lx_regex.specs.Limits.{member_count}
 use Rattle.lx_regex.specs.Term.{Term, Terms, empty, class, any_unit, cat, alt, repeat, tag, nil, cons}
 use Rattle.lx_regex.specs.Term as term
 use Rattle.lx_rules.specs.Buildable.{IsExpressible, AreExpressible, IsBuildable}
-use Rattle.lx_rules.specs.Checks.{tag_name, bounds_of, tags_of}
-use Rattle.lx_rules.specs.Environments.{Definition, IsClassKept, IsDefined, IsTermKept, Meaning, Shape, one, row, choice, definition_of, is_built, meant_class, whole, whole_room}
-use Rattle.lx_rules.specs.Forms.{Form, leaf, group, repeated, sequence, difference, alternative}
+use Rattle.lx_exprs.specs.Checks.{tag_name, bounds_of, tags_of}
+use Rattle.lx_exprs.specs.Defined.{Definition, IsClassKept, IsDefined, IsTermKept, Meaning, Shape, one, row, choice, definition_of, is_built, meant_class, whole, whole_room}
+use Rattle.lx_forms.specs.Forms.{Form, leaf, group, repeated, sequence, difference, alternative}
 use Rattle.lx_rules.specs.Items.{any_meaning}
-use Rattle.lx_rules.specs.Lexemes.{Lexeme, points_in}
-use Rattle.lx_rules.specs.Meanings.{IsLeafMeaning, IsMeaning, alternated, character_set, class_meaning, class_term, copied, enclosed, followed, in_choice, in_row, repeated_by, set_term, shifted, shifted_all, string_meaning, string_term, tag_meaning, term_or_empty}
-use Rattle.lx_rules.proofs.ValueLimits.{at_least, both_of, times-some}
+use Rattle.lx_forms.specs.Lexemes.{Lexeme, points_in}
+use Rattle.lx_exprs.specs.Meanings.{IsLeafMeaning, IsMeaning, alternated, character_set, class_meaning, class_term, copied, enclosed, followed, in_choice, in_row, repeated_by, set_term, shifted, shifted_all, string_meaning, string_term, tag_meaning, term_or_empty}
+use Rattle.lx_exprs.proofs.ValueLimits.{at_least, both_of, times-some}
 
 -- how many terms stand beside one another
 abbrev term_count : Shape → ℕ

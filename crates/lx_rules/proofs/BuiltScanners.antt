@@ -13,14 +13,15 @@ use Rattle.lx_regex.specs.Term.{Term}
 use Rattle.lx_regex.specs.declared.rules.Rule.{Rule}
 use Rattle.lx_regex.specs.declared.rules.Tag.{Tag}
 use Rattle.lx_rules.specs.Blocks.{AreScanners, BlockChecks, ClashCheck, IsResolved, IsScanner, cond_name, conditions_of, every, given_names, is_bare, limits_fault, lonely_fault, nesting_of, not_of_kind, of_kind, own_or, pattern_of, rules_of, rules_under, scanner_fault, scanner_rules, scanners_fault, shared_beside, size_of, tags_of, targets_fault}
-use Rattle.lx_rules.specs.Checks.{Check, Finds, Then, is_among}
-use Rattle.lx_rules.specs.Environments.{Environment, term_of_meaning}
+use Rattle.lx_exprs.specs.Checks.{Check, Finds, Then, is_among}
+use Rattle.lx_exprs.specs.Defined.{term_of_meaning}
+use Rattle.lx_rules.specs.Environments.{Environment}
 use Rattle.lx_rules.specs.Items.{RuleOf, State, is_default, is_end}
 use Rattle.lx_rules.specs.declared.resolved.Resolved.{Resolved}
 use Rattle.lx_rules.specs.declared.resolved.Scanner.{Scanner}
 use Rattle.lx_rules.proofs.BuildableMeanings.{IsMeantBuildable}
 use Rattle.lx_rules.proofs.BuiltTerms.{Expressed, expressed}
-use Rattle.lx_rules.proofs.ClassForms.{then-none}
+use Rattle.lx_exprs.proofs.ClassForms.{then-none}
 use Rattle.lx_rules.proofs.RuleNumbers.{all_both}
 use Rattle.lx_rules.proofs.ScannerFits.{limits_say}
 

@@ -25,14 +25,14 @@ use Rattle.lx_rules.specs.declared.resolved.Resolved.{Resolved}
 use Rattle.lx_rules.specs.Items.{RuleOf, State, is_default}
 use Rattle.lx_rules.specs.Blocks as blocks
 use Rattle.lx_rules.specs.Blocks.{BlockChecks}
-use Rattle.lx_rules.specs.Environments.{fits, kept, whole_room}
+use Rattle.lx_exprs.specs.Defined.{fits, kept, whole_room}
 use Rattle.lx_rules.specs.Keeping.{Holds, HoldsDefault, DefaultWithin, default_count, names_of}
 use Rattle.lx_rules.specs.Soundness.{IsFit, IsSound, rules_size}
 use Rattle.lx_rules.specs.Seen.{environment_view}
 use Rattle.lx_rules.specs.Finishing.{AddsDefault, AreScannersOf, IsFinished}
 use Rattle.lx_rules.proofs.BlockSteps.{AreUsual, all_names, block_checked, block_clashes, conditions_of-usual, each_name, in_order, over, rules_of-usual}
 use Rattle.lx_rules.proofs.RuleSteps.{rules_size-snoc}
-use Rattle.lx_rules.proofs.DefinitionLists.{All-one}
+use Rattle.lx_exprs.proofs.DefinitionLists.{All-one}
 
 size_of-any_unit : size_of AnyUnit ≡ 1
 size_of-any_unit = ap size_of (sym rolls-AnyUnit) ∙ fold-roll-Expr ℕ size_step Expr-F.AnyUnit

@@ -14,18 +14,20 @@ use Rattle.lx_parse.specs.Expressions.{alt}
 use Rattle.lx_parse.specs.Ranges.{HasExpressions, IsPart}
 use Rattle.lx_regex.specs.declared.rules.Kind.{Kind}
 use Rattle.lx_regex.specs.declared.rules.Kind.TheVariants as kind
-use Rattle.lx_rules.specs.declared.expressions.Reading.{Reading}
+use Rattle.lx_exprs.specs.declared.expressions.Reading.{Reading}
 use Rattle.lx_rules.specs.declared.heads.Head.TheVariants as head
 use Rattle.lx_rules.specs.declared.items.Known.{Known}
 use Rattle.lx_rules.specs.declared.items.DefaultRule.{DefaultRule}
-use Rattle.lx_rules.specs.declared.values.Room.{Room}
-use Rattle.lx_rules.specs.Lexemes.{Lexeme, nth_lexeme, sort_at, sorts_at}
-use Rattle.lx_rules.specs.Checks.{Check, StopsAt}
-use Rattle.lx_rules.specs.Items.{RuleOf, State, ExpressionChecks, HeadChecks, IsHead, any_meaning, expression, head_sort, first_of, is_default, twice}
+use Rattle.lx_exprs.specs.declared.values.Room.{Room}
+use Rattle.lx_forms.specs.Lexemes.{Lexeme, nth_lexeme, sort_at, sorts_at}
+use Rattle.lx_exprs.specs.Checks.{Check, StopsAt}
+use Rattle.lx_exprs.specs.Expressions.{ExpressionChecks}
+use Rattle.lx_rules.specs.Items.{RuleOf, State, HeadChecks, IsHead, any_meaning, expression, head_sort, first_of, is_default, twice}
 use Rattle.lx_rules.specs.Blocks.{of_kind}
-use Rattle.lx_rules.specs.Keeping.{Holds, HoldsDefault, IsRead, IsUsual, IsHeadRead, StopsHead}
-use Rattle.lx_rules.specs.Seen.{definitions_view}
-use Rattle.lx_rules.proofs.ExpressionRanges.{part_form}
+use Rattle.lx_exprs.specs.Expressions.{IsRead}
+use Rattle.lx_rules.specs.Keeping.{Holds, HoldsDefault, IsUsual, IsHeadRead, StopsHead}
+use Rattle.lx_exprs.specs.Seen.{definitions_view}
+use Rattle.lx_exprs.proofs.ExpressionRanges.{part_form}
 use Rattle.lx_rules.proofs.ItemSteps.{read_checked, read_known}
 
 -- the place of the first of some rules

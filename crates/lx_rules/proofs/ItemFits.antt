@@ -11,20 +11,21 @@ use Rattle.lx_parse.specs.declared.items.Item.{Item}
 use Rattle.lx_parse.specs.declared.items.Item.TheVariants.{Define, Configure, Rule, Text}
 use Rattle.lx_regex.specs.Term.{Term}
 use Rattle.lx_regex.specs.declared.rules.Kind.{Kind}
-use Rattle.lx_rules.specs.Checks.{Check, Checks, Finds, IsIn, Then}
-use Rattle.lx_rules.specs.Environments.{Definition, IsClassKept, IsDefined, IsTermKept, Meaning, class_in, definition_of, fits, is_built, meant_class, whole, whole_room}
-use Rattle.lx_rules.specs.Forms.{Form}
-use Rattle.lx_rules.specs.Items.{ExpressionChecks, Goes, HeadChecks, HeadSort, IsAfter, IsExpression, IsHead, ItemChecks, ListChecks, RuleOf, State, TargetChecks, act_of, any, any_meaning, conds_of, ends, end, expression, head_sort, next, twice}
-use Rattle.lx_rules.specs.Lexemes.{Lexeme, nth_lexeme, sort_at}
-use Rattle.lx_rules.specs.Meanings.{IsMeaning, term_or_empty}
-use Rattle.lx_rules.specs.Within.{AreDefinedWithin, IsDefinedWithin, IsPlain}
-use Rattle.lx_rules.proofs.ClassFits.{plain_class}
-use Rattle.lx_rules.proofs.ClassForms.{in_ranges_of, then-none}
-use Rattle.lx_rules.proofs.FormFits.{form_ready}
-use Rattle.lx_rules.proofs.MeaningFits.{IsMeantWithin}
-use Rattle.lx_rules.proofs.OneForm.{one_form}
+use Rattle.lx_exprs.specs.Checks.{Check, Checks, Finds, IsIn, Then}
+use Rattle.lx_exprs.specs.Defined.{Definition, IsClassKept, IsDefined, IsTermKept, Meaning, class_in, definition_of, fits, is_built, meant_class, whole, whole_room}
+use Rattle.lx_forms.specs.Forms.{Form}
+use Rattle.lx_exprs.specs.Expressions.{ExpressionChecks, IsExpression}
+use Rattle.lx_rules.specs.Items.{Goes, HeadChecks, HeadSort, IsAfter, IsHead, ItemChecks, ListChecks, RuleOf, State, TargetChecks, act_of, any, any_meaning, conds_of, ends, end, expression, head_sort, next, twice}
+use Rattle.lx_forms.specs.Lexemes.{Lexeme, nth_lexeme, sort_at}
+use Rattle.lx_exprs.specs.Meanings.{IsMeaning, term_or_empty}
+use Rattle.lx_exprs.specs.Within.{AreDefinedWithin, IsDefinedWithin, IsPlain}
+use Rattle.lx_exprs.proofs.ClassFits.{plain_class}
+use Rattle.lx_exprs.proofs.ClassForms.{in_ranges_of, then-none}
+use Rattle.lx_exprs.proofs.FormFits.{form_ready}
+use Rattle.lx_exprs.proofs.MeaningFits.{IsMeantWithin}
+use Rattle.lx_forms.proofs.OneForm.{one_form}
 use Rattle.lx_rules.proofs.RuleNumbers.{Differ, all_both, differ_snoc}
-use Rattle.lx_rules.proofs.ValueLimits.{le_kept}
+use Rattle.lx_exprs.proofs.ValueLimits.{le_kept}
 
 no_way : {A : Type 0} → false ≡ true → A
 no_way held = absurd (let h : false ≡ true = held in cc)

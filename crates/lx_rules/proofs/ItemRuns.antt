@@ -18,11 +18,11 @@ use Rattle.lx_parse.specs.Sorts.{sort_of, sorts_of}
 use Rattle.lx_token.specs.declared.list.Token.{Token}
 use Rattle.lx_rules.specs.Environments.{Environment}
 use Rattle.lx_rules.specs.Blocks.{BlockChecks, StopsWith}
-use Rattle.lx_rules.specs.Lexemes.{Lexeme, lexeme_of, lexemes_of, sort_at, sorts_at}
+use Rattle.lx_forms.specs.Lexemes.{Lexeme, lexeme_of, lexemes_of, sort_at, sorts_at}
 use Rattle.lx_rules.specs.Items.{State, Goes, ends, refused, next, first_state, ItemChecks, IsAfter}
 use Rattle.lx_rules.specs.Keeping.{StopsGoing}
-use Rattle.lx_rules.specs.Checks.{StopsAt}
-use Rattle.lx_rules.proofs.FormReading.{reads_some}
+use Rattle.lx_exprs.specs.Checks.{StopsAt}
+use Rattle.lx_forms.proofs.FormReading.{reads_some}
 
 module _ (options : Options) (lexemes : List Lexeme) where
   -- one item more

@@ -8,20 +8,22 @@ use Rattle.lx_base.specs.declared.settings.Options.{Options}
 use Rattle.lx_parse.specs.declared.items.Item.TheVariants.{Define, Configure}
 use Rattle.lx_regex.specs.Pattern as regex
 use Rattle.lx_regex.specs.declared.rules.Rule as regex_rules
-use Rattle.lx_rules.specs.declared.definitions.Kept.{Kept}
-use Rattle.lx_rules.specs.declared.expressions.Reading.{Reading}
+use Rattle.lx_exprs.specs.declared.definitions.Kept.{Kept}
+use Rattle.lx_exprs.specs.declared.expressions.Reading.{Reading}
 use Rattle.lx_rules.specs.declared.items.Known.{Known}
 use Rattle.lx_rules.specs.declared.resolved.Act.{Act}
-use Rattle.lx_rules.specs.declared.values.Room.{Room}
-use Rattle.lx_rules.specs.Lexemes.{Lexeme, nth_lexeme}
-use Rattle.lx_rules.specs.Environments.{Definition, IsDefined, definition_of, whole_room}
-use Rattle.lx_rules.specs.Checks.{Finds, StopsAt}
+use Rattle.lx_exprs.specs.declared.values.Room.{Room}
+use Rattle.lx_forms.specs.Lexemes.{Lexeme, nth_lexeme}
+use Rattle.lx_exprs.specs.Defined.{Definition, IsDefined, definition_of, whole_room}
+use Rattle.lx_exprs.specs.Checks.{Finds, StopsAt}
 use Rattle.lx_rules.specs.Configurations.{config_fault, switch_of}
-use Rattle.lx_rules.specs.Items.{State, ExpressionChecks, ItemChecks, is_default, twice}
-use Rattle.lx_rules.specs.Keeping.{Holds, HoldsDefault, IsRead, IsTaken}
+use Rattle.lx_exprs.specs.Expressions.{ExpressionChecks}
+use Rattle.lx_rules.specs.Items.{State, ItemChecks, is_default, twice}
+use Rattle.lx_exprs.specs.Expressions.{IsRead}
+use Rattle.lx_rules.specs.Keeping.{Holds, HoldsDefault, IsTaken}
 use Rattle.lx_rules.specs.Blocks.{given_names, of_kind}
 use Rattle.lx_rules.specs.Soundness.{IsSound}
-use Rattle.lx_rules.specs.Seen.{definition_view, definitions_view}
+use Rattle.lx_exprs.specs.Seen.{definition_view, definitions_view}
 
 -- the checks of an expression that is read find nothing
 pub read_checked : (options : Options) (lexemes : List Lexeme) (definitions : List Definition) (room : Room) (from until : ℕ) (reading : Reading)

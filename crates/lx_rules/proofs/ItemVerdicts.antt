@@ -16,24 +16,25 @@ use Rattle.lx_regex.specs.Term.{IsInRanges, Term}
 use Rattle.lx_regex.specs.declared.rules.Kind.{Kind}
 use Rattle.lx_regex.specs.declared.rules.Kind.TheVariants as kind
 use Rattle.lx_rules.specs.Buildable.{IsBuildable}
-use Rattle.lx_rules.specs.Checks.{Check, Checks, Finds, IsIn, Then, is_among, tags_of, waits}
+use Rattle.lx_exprs.specs.Checks.{Check, Checks, Finds, IsIn, Then, is_among, tags_of, waits}
 use Rattle.lx_rules.specs.Configurations.{config_fault, define_words, fill_word, other_words, switch_fault, switch_of}
-use Rattle.lx_rules.specs.Environments.{Definition, IsClassKept, IsDefined, IsTermKept, Meaning, definition_of, is_built, kept, meant_class, term_of_meaning, whole, whole_room}
-use Rattle.lx_rules.specs.Items.{ContextChecks, ExpressionChecks, Goes, HeadChecks, HeadSort, IsAfter, IsHead, ItemChecks, ListChecks, RuleOf, State, TargetChecks, act_of, any, any_meaning, conds_of, ends, end, expression, first_of, head_sort, is_default, is_end, next, refused, twice, unless}
-use Rattle.lx_rules.specs.Lexemes.{Lexeme, nth_lexeme, sort_at, sorts_at}
-use Rattle.lx_rules.specs.Meanings.{set_term}
-use Rattle.lx_rules.specs.Within.{AreDefinedWithin}
-use Rattle.lx_rules.proofs.BoundedSets.{set_exists}
+use Rattle.lx_exprs.specs.Defined.{Definition, IsClassKept, IsDefined, IsTermKept, Meaning, definition_of, is_built, kept, meant_class, term_of_meaning, whole, whole_room}
+use Rattle.lx_exprs.specs.Expressions.{ContextChecks, ExpressionChecks}
+use Rattle.lx_rules.specs.Items.{Goes, HeadChecks, HeadSort, IsAfter, IsHead, ItemChecks, ListChecks, RuleOf, State, TargetChecks, act_of, any, any_meaning, conds_of, ends, end, expression, first_of, head_sort, is_default, is_end, next, refused, twice, unless}
+use Rattle.lx_forms.specs.Lexemes.{Lexeme, nth_lexeme, sort_at, sorts_at}
+use Rattle.lx_exprs.specs.Meanings.{set_term}
+use Rattle.lx_exprs.specs.Within.{AreDefinedWithin}
+use Rattle.lx_exprs.proofs.BoundedSets.{set_exists}
 use Rattle.lx_rules.proofs.BuildableMeanings.{IsMeantBuildable, any_buildable, defined_buildable, form_buildable}
-use Rattle.lx_rules.proofs.ClassFits.{plain_class}
-use Rattle.lx_rules.proofs.ClassForms.{then-none}
-use Rattle.lx_rules.proofs.Classical.{Surely, surely, and_then}
-use Rattle.lx_rules.proofs.ExpressionRanges.{part_form}
-use Rattle.lx_rules.proofs.FormFits.{form_ready}
-use Rattle.lx_rules.proofs.FormVerdicts.{Decides, finds_decides, form_decides, form_means, then_decides}
+use Rattle.lx_exprs.proofs.ClassFits.{plain_class}
+use Rattle.lx_exprs.proofs.ClassForms.{then-none}
+use Rattle.lx_exprs.proofs.Classical.{Surely, surely, and_then}
+use Rattle.lx_exprs.proofs.ExpressionRanges.{part_form}
+use Rattle.lx_exprs.proofs.FormFits.{form_ready}
+use Rattle.lx_exprs.proofs.FormVerdicts.{Decides, finds_decides, form_decides, form_means, then_decides}
 use Rattle.lx_rules.proofs.HeadSteps.{head_part}
 use Rattle.lx_rules.proofs.ItemFits.{IsStateWithin, goes_within}
-use Rattle.lx_rules.proofs.PointSets.{le_greatest}
+use Rattle.lx_exprs.proofs.PointSets.{le_greatest}
 use Rattle.lx_rules.proofs.RuleNumbers.{all_both}
 
 -- the class of what is kept of an expression

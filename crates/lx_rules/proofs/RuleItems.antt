@@ -10,9 +10,9 @@ use Rattle.lx_token.specs.declared.list.Token.{Token}
 use Rattle.lx_rules.specs.declared.heads.Head.{Head}
 use Rattle.lx_rules.specs.declared.heads.Head.TheVariants as head
 use Rattle.lx_rules.specs.declared.items.Known.{Known}
-use Rattle.lx_rules.specs.declared.values.Room.{Room}
-use Rattle.lx_rules.specs.Lexemes.{Lexeme, nth_lexeme, lexemes_of}
-use Rattle.lx_rules.specs.Environments.{Meaning}
+use Rattle.lx_exprs.specs.declared.values.Room.{Room}
+use Rattle.lx_forms.specs.Lexemes.{Lexeme, nth_lexeme, lexemes_of}
+use Rattle.lx_exprs.specs.Defined.{Meaning}
 use Rattle.lx_rules.specs.Items.{RuleOf, State, ListChecks, act_of, unless}
 use Rattle.lx_rules.specs.Keeping.{Holds, IsFresh, IsHeadOf, IsHeadRead, IsNew, IsSoundHead, IsTaken, room_behind, with_rule}
 use Rattle.lx_rules.specs.Soundness.{IsShort}

@@ -11,19 +11,20 @@ use Rattle.lx_regex.specs.declared.rules.Rule.{Rule}
 use Rattle.lx_regex.specs.declared.rules.Kind.{Kind}
 use Rattle.lx_regex.specs.declared.rules.Kind.TheVariants as kind
 use Rattle.lx_rules.specs.declared.environment.Env.{Env}
-use Rattle.lx_rules.specs.declared.expressions.Reading.{Reading}
+use Rattle.lx_exprs.specs.declared.expressions.Reading.{Reading}
 use Rattle.lx_rules.specs.declared.heads.Head.TheVariants as head
 use Rattle.lx_rules.specs.declared.items.DefaultRule.{DefaultRule}
 use Rattle.lx_rules.specs.declared.items.Known.{Known}
 use Rattle.lx_rules.specs.declared.resolved.Act.{Act}
-use Rattle.lx_rules.specs.declared.values.Room.{Room}
-use Rattle.lx_rules.specs.Environments.{Meaning, fits, is_built, kept, term_of_meaning, whole_room}
+use Rattle.lx_exprs.specs.declared.values.Room.{Room}
+use Rattle.lx_exprs.specs.Defined.{Meaning, fits, is_built, kept, term_of_meaning, whole_room}
 use Rattle.lx_rules.specs.Items.{RuleOf, State, any_meaning, is_default}
 use Rattle.lx_rules.specs.Blocks.{given_names, of_kind, not_of_kind, pattern_of, size_of, nesting_of}
-use Rattle.lx_rules.specs.Keeping.{Holds, HoldsDefault, DefaultWithin, AddsPlain, IsNew, IsReadAs, IsUsual, default_count, default_pattern, names_of, plain_pattern, room_behind, with_rule}
+use Rattle.lx_exprs.specs.Expressions.{IsReadAs}
+use Rattle.lx_rules.specs.Keeping.{Holds, HoldsDefault, DefaultWithin, AddsPlain, IsNew, IsUsual, default_count, default_pattern, names_of, plain_pattern, room_behind, with_rule}
 use Rattle.lx_rules.specs.Soundness.{IsShort, IsSound, rules_size}
-use Rattle.lx_rules.specs.Seen.{definitions_view}
-use Rattle.lx_rules.proofs.DefinitionLists.{All-one}
+use Rattle.lx_exprs.specs.Seen.{definitions_view}
+use Rattle.lx_exprs.proofs.DefinitionLists.{All-one}
 
 -- one rule more
 of_kind-snoc : (test : Kind → Bool) (rules : List RuleOf) (rule : RuleOf) (is : Bool) → test rule.kind ≡ is

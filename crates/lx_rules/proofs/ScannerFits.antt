@@ -23,18 +23,20 @@ use Rattle.lx_rules.specs.declared.resolved.Resolved.{Resolved}
 use Rattle.lx_rules.specs.declared.resolved.Scanner.{Scanner}
 use Rattle.lx_rules.specs.Blocks as blocks
 use Rattle.lx_rules.specs.Blocks.{AreScanners, BlockChecks, ClashCheck, IsResolved, IsScanner, conditions_of, limits_fault, lonely_fault, nesting_of, rules_of, scanners_fault, targets_fault}
-use Rattle.lx_rules.specs.Checks.{Check, Finds, Then}
-use Rattle.lx_rules.specs.Environments.{Environment, Meaning, is_built, kept, whole, whole_room}
+use Rattle.lx_exprs.specs.Checks.{Check, Finds, Then}
+use Rattle.lx_exprs.specs.Defined.{Meaning, is_built, kept, whole, whole_room}
+use Rattle.lx_rules.specs.Environments.{Environment}
 use Rattle.lx_rules.specs.Items.{Goes, RuleOf, State, first_state}
 use Rattle.lx_rules.specs.Keeping.{names_of}
-use Rattle.lx_rules.specs.Lexemes.{Lexeme}
+use Rattle.lx_forms.specs.Lexemes.{Lexeme}
 use Rattle.lx_rules.specs.Soundness.{IsFine, IsFit, rules_size}
-use Rattle.lx_rules.specs.Within.{AllClassesFit, AreDefinedWithin, IsPlain, IsScannerWithin}
+use Rattle.lx_exprs.specs.Within.{AllClassesFit, AreDefinedWithin, IsPlain}
+use Rattle.lx_rules.specs.Within.{IsScannerWithin}
 use Rattle.lx_rules.proofs.BlockSteps.{AreUsual, conditions_of-usual, in_order, rules_of-usual, scanners_usual, tags_of-in_order}
-use Rattle.lx_rules.proofs.ClassFits.{classes_fit}
-use Rattle.lx_rules.proofs.ClassForms.{then-none}
+use Rattle.lx_exprs.proofs.ClassFits.{classes_fit}
+use Rattle.lx_exprs.proofs.ClassForms.{then-none}
 use Rattle.lx_rules.proofs.ItemFits.{IsStateWithin, goes_within}
-use Rattle.lx_rules.proofs.MeaningFits.{IsMeantWithin}
+use Rattle.lx_exprs.proofs.MeaningFits.{IsMeantWithin}
 use Rattle.lx_rules.proofs.RuleNumbers.{Differ, all_in_order, differ_in_order}
 
 -- what is asked of one rule, which is not `$`

@@ -16,9 +16,10 @@ use Rattle.lx_regex.specs.declared.rules.Rule.{Rule}
 use Rattle.lx_regex.specs.declared.rules.Tag.{Tag}
 use Rattle.lx_rules.specs.declared.resolved.Scanner.{Scanner}
 use Rattle.lx_rules.specs.declared.resolved.Resolved.{Resolved}
-use Rattle.lx_rules.specs.Lexemes.{Lexeme}
-use Rattle.lx_rules.specs.Environments.{Environment, kept, term_of_meaning}
-use Rattle.lx_rules.specs.Checks.{Check, Then, Finds, is_among}
+use Rattle.lx_forms.specs.Lexemes.{Lexeme}
+use Rattle.lx_exprs.specs.Defined.{kept, term_of_meaning}
+use Rattle.lx_rules.specs.Environments.{Environment}
+use Rattle.lx_exprs.specs.Checks.{Check, Then, Finds, is_among}
 use Rattle.lx_rules.specs.Items.{RuleOf, State, first_state, Goes, is_default, is_end}
 
 -- the condition of `<*>`

@@ -4,9 +4,10 @@ use Rattle.std.specs.List.{AllByRecursion}
 use Rattle.lx_base.specs.declared.settings.Enc.{Enc}
 use Rattle.lx_regex.specs.Limits.{member_count}
 use Rattle.lx_regex.specs.Term.{Term, Terms, empty, class, any_unit, cat, alt, repeat, tag, group, nil, cons}
-use Rattle.lx_rules.specs.Environments.{Definition, Environment}
-use Rattle.lx_rules.specs.Meanings.{term_or_empty}
-use Rattle.lx_rules.specs.Within.{AreDefinedWithin}
+use Rattle.lx_exprs.specs.Defined.{Definition}
+use Rattle.lx_rules.specs.Environments.{Environment}
+use Rattle.lx_exprs.specs.Meanings.{term_or_empty}
+use Rattle.lx_exprs.specs.Within.{AreDefinedWithin}
 
 -- An expression can stand for the term: each list of members has fewer than 2^63, which a vector can hold. Groups are not
 -- supported yet.

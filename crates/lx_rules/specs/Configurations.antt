@@ -7,8 +7,8 @@ use Rattle.lx_token.specs.declared.kinds.TokenKind.{TokenKind}
 use Rattle.lx_token.specs.declared.kinds.TokenKind.TheVariants as kind
 use Rattle.lx_token.specs.declared.numbers.Number.{Number}
 use Rattle.lx_token.specs.Numbers.{number_of}
-use Rattle.lx_rules.specs.Lexemes.{Lexeme}
-use Rattle.lx_rules.specs.Checks.{is_among, waits}
+use Rattle.lx_forms.specs.Lexemes.{Lexeme}
+use Rattle.lx_exprs.specs.Checks.{is_among, waits}
 
 -- the configurations that spell the names of a scanner
 abbrev pub define_words : List (List ℕ)

@@ -1,5 +1,5 @@
 -- The items of a block, in order, and their checks.
-use Rattle.std.specs.Prelude.{◌≡◌, ℕ, suc, ◌-◌, Bool, true, false, List, [], ◌∷◌, ◌++◌, length, drop, ◌==◌, ◌&&◌, Option, Some, None, Result, Ok, Err, not, if◌then◌else◌}
+use Rattle.std.specs.Prelude.{◌≡◌, ℕ, suc, ◌-◌, Bool, true, false, List, [], ◌∷◌, ◌++◌, length, ◌==◌, ◌&&◌, Option, Some, None, Result, Ok, Err, not, if◌then◌else◌}
 use Rattle.std.specs.List.{list_any}
 use Rattle.std.specs.Option.{option_map}
 use Rattle.lx_base.specs.declared.places.Pos.{Pos}
@@ -10,17 +10,18 @@ use Rattle.lx_parse.specs.declared.items.Item.{Item}
 use Rattle.lx_parse.specs.declared.items.Item.TheVariants.{Define, Configure, Rule, Text}
 use Rattle.lx_parse.specs.declared.sorts.Sort.{Sort}
 use Rattle.lx_parse.specs.declared.sorts.Sort.TheVariants.{Star, Dollar}
-use Rattle.lx_parse.specs.Expressions.{alt}
 use Rattle.lx_regex.specs.Term.{any_unit}
 use Rattle.lx_regex.specs.declared.rules.Kind.{Kind}
 use Rattle.lx_regex.specs.declared.rules.Kind.TheVariants as kind
 use Rattle.lx_rules.specs.declared.resolved.Act.{Act}
-use Rattle.lx_rules.specs.Lexemes.{Lexeme, nth_lexeme, sort_at}
-use Rattle.lx_rules.specs.Forms.{Form, IsForm}
-use Rattle.lx_rules.specs.Environments.{Definition, Meaning, Environment, IsDefined, definition_of, one}
-use Rattle.lx_rules.specs.Meanings.{IsMeaning}
+use Rattle.lx_forms.specs.Lexemes.{Lexeme, nth_lexeme, sort_at}
+use Rattle.lx_exprs.specs.Expressions.{ContextChecks, ExpressionChecks, IsExpression}
+use Rattle.lx_forms.specs.Forms.{Form}
+use Rattle.lx_exprs.specs.Defined.{Definition, Meaning, IsDefined, definition_of, one}
+use Rattle.lx_rules.specs.Environments.{Environment}
+use Rattle.lx_exprs.specs.Meanings.{IsMeaning}
 use Rattle.lx_rules.specs.Configurations.{config_fault, switch_of}
-use Rattle.lx_rules.specs.Checks.{Check, Then, Finds, waits, Checks, is_among, tags_of}
+use Rattle.lx_exprs.specs.Checks.{Check, Then, Finds, waits, is_among}
 
 -- A rule: its conditions, its kind, the place of its head, what that means, the place of its target, and its action. Where
 -- conditions are not in use it has one without a name; and that of `<*>` is named so.
@@ -88,22 +89,6 @@ module _ (options : Options) (lexemes : List Lexeme) where
   abbrev lexeme_at : ℕ → Lexeme
   lexeme_at place = nth_lexeme lexemes place
 
-  -- the expression that stands from one place up to another
-  abbrev pub IsExpression : (from until : ℕ) → Form → Type 0
-  IsExpression from until form = IsForm alt (drop from lexemes) (drop until lexemes) form
-
-  -- the checks of that expression
-  abbrev pub ExpressionChecks : List Definition → (from until : ℕ) → Check
-  ExpressionChecks definitions from until fault =
-      (form : Form) × IsExpression from until form × Checks options definitions false [] form fault
-
-  -- the checks of an expression with a trailing context, in which no tag stands twice
-  abbrev pub ContextChecks : List Definition → (from slash until : ℕ) → Check
-  ContextChecks definitions from slash until fault =
-      (form behind : Form) × IsExpression from slash form × IsExpression (suc slash) until behind
-      × Then (Checks options definitions false [] form)
-      (Then (Finds (waits (lexeme_at slash))) (Checks options definitions false (tags_of options definitions form) behind)) fault
-
   -- a rule has a list of conditions exactly where these are in use
   abbrev pub ListChecks : (is_absent : Bool) → Pos → Check
   ListChecks true at = Finds (unless (not options.conds) at)
@@ -118,8 +103,8 @@ module _ (options : Options) (lexemes : List Lexeme) where
   HeadChecks state any conds head slash until = Finds (twice (lexeme_at head).at (first_of is_default conds state.rules))
   HeadChecks state end conds head slash until =
       Then (Finds (waits (lexeme_at head))) (Finds (twice (lexeme_at head).at (first_of is_end conds state.rules)))
-  HeadChecks state expression conds head None until = ExpressionChecks state.definitions head until
-  HeadChecks state expression conds head (Some slash) until = ContextChecks state.definitions head slash until
+  HeadChecks state expression conds head None until = ExpressionChecks options lexemes state.definitions head until
+  HeadChecks state expression conds head (Some slash) until = ContextChecks options lexemes state.definitions head slash until
 
   -- a target stands behind `=>` or `:=>`, and where conditions are in use
   abbrev pub TargetChecks : (goes : Option ℕ) → Check
@@ -131,7 +116,7 @@ module _ (options : Options) (lexemes : List Lexeme) where
   abbrev pub ItemChecks : State → Item → Check
   ItemChecks state (Define name from until) =
       Then (Finds (twice (lexeme_at name).at (option_map (λ (definition : Definition). definition.at) (definition_of state.definitions (lexeme_at name).text))))
-      (ExpressionChecks state.definitions from until)
+      (ExpressionChecks options lexemes state.definitions from until)
   ItemChecks state (Configure name value) = Finds (config_fault (lexeme_at name) (lexeme_at value))
   ItemChecks state (Rule first head slash until goes code) =
       Then (ListChecks (first == head) (lexeme_at first).at)
@@ -143,7 +128,7 @@ module _ (options : Options) (lexemes : List Lexeme) where
   IsHead definitions any head slash until sort meaning = (sort ≡ kind.Default) × (meaning ≡ any_meaning)
   IsHead definitions end head slash until sort meaning = ⊥
   IsHead definitions expression head None until sort meaning =
-      (sort ≡ kind.Plain) × ((form : Form) × IsExpression head until form × IsMeaning options definitions false [] form meaning)
+      (sort ≡ kind.Plain) × ((form : Form) × IsExpression options lexemes head until form × IsMeaning options definitions false [] form meaning)
   IsHead definitions expression head (Some slash) until sort meaning = ⊥
 
   -- the action of a rule with this number: its target, its text with the braces, and the place of that or of `:=>`
@@ -161,7 +146,7 @@ module _ (options : Options) (lexemes : List Lexeme) where
   -- what is known behind one item more
   abbrev pub IsAfter : State → Item → State → Type 0
   IsAfter state (Define name from until) after =
-      (form : Form) × (meaning : Meaning) × (definition : Definition) × IsExpression from until form
+      (form : Form) × (meaning : Meaning) × (definition : Definition) × IsExpression options lexemes from until form
       × IsMeaning options state.definitions false [] form meaning
       × IsDefined (lexeme_at name).text (lexeme_at name).at meaning definition
       × (after ≡ record {

@@ -1,4 +1,5 @@
 -- What the code knows behind some items of a block.
+use Rattle.lx_exprs.specs.Expressions.{IsReadAs}
 use Rattle.std.specs.Prelude.{◌≡◌, ℕ, suc, ◌+◌, ◌-◌, ◌<◌, ◌≤◌, ◌⊎◌, nat_lt, ◌||◌, length, All, Bool, true, false, if◌then◌else◌, List, [], ◌∷◌, ◌++◌, map, Option, Some, None, Err}
 use Rattle.std.specs.List.{AllByRecursion}
 use Rattle.lx_base.specs.declared.faults.Stop.{Stop}
@@ -18,17 +19,15 @@ use Rattle.lx_rules.specs.declared.items.Known.{Known}
 use Rattle.lx_rules.specs.declared.items.DefaultRule.{DefaultRule}
 use Rattle.lx_rules.specs.declared.heads.Head.{Head}
 use Rattle.lx_rules.specs.declared.heads.Head.TheVariants as head
-use Rattle.lx_rules.specs.Lexemes.{Lexeme, nth_lexeme, sort_at}
-use Rattle.lx_rules.specs.Environments.{Definition, Meaning, fits, is_built, kept, term_of_meaning, whole_room}
-use Rattle.lx_rules.specs.Checks.{Checks, StopsAt}
-use Rattle.lx_rules.specs.Forms.{Form}
-use Rattle.lx_rules.specs.Items.{RuleOf, State, Goes, HeadChecks, head_sort, IsHead, IsExpression, ItemChecks, IsAfter, any_meaning, is_default}
-use Rattle.lx_rules.specs.Meanings.{IsMeaning}
+use Rattle.lx_forms.specs.Lexemes.{Lexeme, nth_lexeme, sort_at}
+use Rattle.lx_exprs.specs.Defined.{Meaning, fits, is_built, kept, term_of_meaning, whole_room}
+use Rattle.lx_exprs.specs.Checks.{StopsAt}
+use Rattle.lx_rules.specs.Items.{RuleOf, State, Goes, HeadChecks, head_sort, IsHead, ItemChecks, IsAfter, any_meaning, is_default}
 use Rattle.lx_rules.specs.Blocks.{given_names, of_kind, not_of_kind, pattern_of, size_of, nesting_of}
-use Rattle.lx_rules.specs.declared.expressions.Reading.{Reading}
-use Rattle.lx_rules.specs.declared.values.Room.{Room}
-use Rattle.lx_rules.specs.Values.{IsHonest, IsValue}
-use Rattle.lx_rules.specs.Seen.{definitions_view}
+use Rattle.lx_exprs.specs.declared.expressions.Reading.{Reading}
+use Rattle.lx_exprs.specs.declared.values.Room.{Room}
+use Rattle.lx_exprs.specs.Values.{IsHonest}
+use Rattle.lx_exprs.specs.Seen.{definitions_view}
 use Rattle.lx_rules.specs.Soundness.{IsSound, IsShort, rules_size}
 
 -- what a rule may have behind rules of this size and nesting, and with so many tags
@@ -46,21 +45,6 @@ pub record IsUsual (rule : RuleOf) : Type 0 where
 abbrev pub names_of : List RuleOf → List (List ℕ)
 names_of [] = []
 names_of (rule ∷ rules) = rule.meaning.tags ++ names_of rules
-
--- what is read stands for a meaning, whose item has no tags but its own
-pub record IsReadAs (room : Room) (meaning : Meaning) (reading : Reading) : Type 0 where
-  pub value : IsValue room meaning reading.value
-  pub tags : reading.tags ≡ meaning.tags
-  pub count : meaning.count ≡ length meaning.tags
-
--- an expression is read: its checks find nothing, and what is read stands for its meaning
-pub record IsRead (options : Options) (lexemes : List Lexeme) (definitions : List Definition) (room : Room) (from until : ℕ) (reading : Reading) : Type 0 where
-  pub form : Form
-  pub stands_there : IsExpression options lexemes from until form
-  pub checked : Checks options definitions false [] form None
-  pub meaning : Meaning
-  pub means : IsMeaning options definitions false [] form meaning
-  pub stands : IsReadAs room meaning reading
 
 -- the rule `*` with this number
 abbrev pub default_pattern : (number : ℕ) → Pattern

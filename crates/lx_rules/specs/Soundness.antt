@@ -1,23 +1,12 @@
 -- What holds of what blocks resolve to, whatever they say.
+use Rattle.lx_exprs.specs.Soundness.{AreSound}
 use Rattle.std.specs.Prelude.{ℕ, ◌+◌, ◌<◌, ◌≤◌, List, [], ◌∷◌, length, All, Option, Some, None}
-use Rattle.lx_regex.specs.Expr.{size_of, term_of}
-use Rattle.lx_regex.specs.declared.expr.Expr.{Expr}
+use Rattle.lx_regex.specs.Expr.{size_of}
 use Rattle.lx_regex.specs.declared.rules.Rule.{Rule}
-use Rattle.lx_rules.specs.declared.definitions.Definitions.{Definitions}
-use Rattle.lx_rules.specs.Values.{HasTagsBelow}
 use Rattle.lx_rules.specs.declared.environment.Env.{Env}
 use Rattle.lx_rules.specs.declared.resolved.Act.{Act}
 use Rattle.lx_rules.specs.declared.resolved.Scanner.{Scanner}
 use Rattle.lx_rules.specs.declared.resolved.Resolved.{Resolved}
-
--- an expression that is kept has at most the size that is kept of it, which is at least 1, and so many tags
-abbrev pub FitsKept : Option Expr → (size count : ℕ) → Type 0
-FitsKept None size count = 1 ≤ size
-FitsKept (Some expr) size count = (1 ≤ size) × (size_of expr ≤ size) × HasTagsBelow count (term_of 0 expr)
-
--- each definition has the size and the tags of its expression
-abbrev pub AreSound : Definitions → Type 0
-AreSound definitions = All (λ entry. FitsKept entry.1.expr entry.1.size (length entry.1.tags)) definitions.by_name.entries
 
 abbrev pub IsSound : Env → Type 0
 IsSound env = AreSound env.definitions

@@ -1,12 +1,13 @@
 //! Configurations.
 ghost use Rattle.std.specs.Prelude.{◌≡◌, MatchResult, Some, None, map};
 ghost use Rattle.lx_base.specs.declared.faults.Fault.TheVariants.{UnknownConfig};
-ghost use Rattle.lx_rules.specs.Checks.{is_among};
+ghost use Rattle.lx_exprs.specs.Checks.{is_among};
 ghost use Rattle.lx_rules.specs.Configurations.{config_fault, define_words, number_switch, other_words, switch_of};
-ghost use Rattle.lx_rules.specs.Seen.{lexeme_view, IsStop};
+ghost use Rattle.lx_exprs.specs.Seen.{IsStop};
+ghost use Rattle.lx_forms.specs.Seen.{lexeme_view};
 
-use crate::lexemes::Lexeme;
 use lx_base::{ByteText, Fault, Stop};
+use lx_forms::lexemes::Lexeme;
 use lx_token::{Number, TokenKind, number_of};
 use std::alloc::Global;
 

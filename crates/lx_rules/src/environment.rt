@@ -4,7 +4,7 @@ ghost use Rattle.lx_rules.specs.Environments.{first_environment};
 ghost use Rattle.lx_rules.specs.Seen.{environment_view};
 ghost use Rattle.lx_rules.specs.Soundness.{IsSound};
 
-use crate::definitions::Definitions;
+use lx_exprs::definitions::Definitions;
 use std::alloc::Global;
 
 /// What holds behind a block for the blocks after it: its definitions and its configuration. Contracts see it by

@@ -8,10 +8,10 @@ use crate::environment::Env;
 use crate::items::{DefaultRule, Known};
 use crate::resolved::{Config, Resolved, Scanner};
 use crate::rules::simple_rule;
-use crate::tags::{SharedTags, add_copy};
-use crate::values::{MOST_NESTING, MOST_SIZE, MOST_TAGS};
 use lx_base::spellings::{do_not_clash, is_tag_name};
 use lx_base::{ByteText, Fault, Memory, Names, Pos, Sequence, Stop};
+use lx_exprs::tags::{SharedTags, add_copy};
+use lx_exprs::values::{MOST_NESTING, MOST_SIZE, MOST_TAGS};
 use lx_regex::{Expr, Kind, Rule, RuleSet};
 use std::alloc::Global;
 
@@ -141,7 +141,7 @@ impl Known {
     ghost use Rattle.lx_rules.specs.Blocks.{BlockChecks, IsResolved};
     ghost use Rattle.lx_rules.specs.Items.{State};
     ghost use Rattle.lx_rules.specs.Keeping.{Holds};
-    ghost use Rattle.lx_rules.specs.Checks.{StopsAt};
+    ghost use Rattle.lx_exprs.specs.Checks.{StopsAt};
     ghost use Rattle.lx_rules.specs.Finishing.{IsFinished};
 
     /// Whether the scanner is past a limit.

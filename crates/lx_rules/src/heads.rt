@@ -1,8 +1,8 @@
 //! Reads the heads of rules.
-use crate::expressions::{Reading, read_expression};
-use crate::items::{Block, Known, waits};
-use crate::leaves::Reader;
+use crate::items::{Block, Known};
 use lx_base::{Fault, Stop};
+use lx_exprs::expressions::{Reading, read_expression};
+use lx_exprs::leaves::{Reader, waits};
 use lx_parse::Sort;
 use std::alloc::Global;
 
@@ -22,8 +22,8 @@ impl Known {
     ghost use Rattle.lx_parse.specs.declared.sorts.Sort.TheVariants.{Star, Dollar};
     ghost use Rattle.lx_rules.specs.Items.{State};
     ghost use Rattle.lx_rules.specs.Keeping.{Holds, IsFresh, IsHeadRead, IsSoundHead, StopsHead, room_behind};
-    ghost use Rattle.lx_rules.specs.Lexemes.{nth_lexeme, sort_at, sorts_at};
-    ghost use Rattle.lx_rules.specs.Seen.{lexemes_view};
+    ghost use Rattle.lx_forms.specs.Lexemes.{nth_lexeme, sort_at, sorts_at};
+    ghost use Rattle.lx_forms.specs.Seen.{lexemes_view};
     ghost use Rattle.lx_rules.specs.Soundness.{IsSound};
 
     /// Reads the head of a rule.

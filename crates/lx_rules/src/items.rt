@@ -1,18 +1,16 @@
 //! Takes the items of a block in order.
 ghost use Rattle.std.specs.Prelude.{◌≡◌, IfOk, Some};
-ghost use Rattle.lx_base.specs.declared.faults.Fault.TheVariants.{Unsupported};
-ghost use Rattle.lx_base.specs.declared.faults.Stop.TheVariants as stop;
 
 use crate::configurations::read_config;
-use crate::definitions::Kept;
 use crate::environment::Env;
-use crate::expressions::{Reading, read_expression};
-use crate::leaves::Reader;
-use crate::lexemes::Lexemes;
 use crate::resolved::Act;
-use crate::tags::SharedTags;
-use crate::values::{MOST_NESTING, MOST_SIZE, MOST_TAGS, Room};
 use lx_base::{Fault, Options, Pos, Stop};
+use lx_exprs::definitions::Kept;
+use lx_exprs::expressions::{Reading, read_expression};
+use lx_exprs::leaves::Reader;
+use lx_exprs::tags::SharedTags;
+use lx_exprs::values::{MOST_NESTING, MOST_SIZE, MOST_TAGS, Room};
+use lx_forms::lexemes::Lexemes;
 use lx_regex::Rule;
 use std::alloc::Global;
 
@@ -47,13 +45,6 @@ pub(crate) struct Known {
     pub tags: SharedTags,
 }
 
-/// A form that is not supported yet.
-pub(crate) fn waits(at: Pos) -> Stop
-    ensures { result ≡ stop.Fault (Unsupported (Some at)) }
-{
-    Stop::Fault(Fault::Unsupported { at: Some(at) })
-}
-
 impl Known {
     ghost use Rattle.std.specs.Prelude.{length, ◌≡◌, MatchResult, OnOk, Bool};
     ghost use Rattle.lx_parse.specs.Expressions.{alt};
@@ -61,9 +52,10 @@ impl Known {
     ghost use Rattle.lx_parse.specs.declared.items.Item.TheVariants as item;
     ghost use Rattle.lx_rules.specs.Items.{State, ItemChecks, first_state};
     ghost use Rattle.lx_rules.specs.Keeping.{Holds, IsTaken, room_behind};
-    ghost use Rattle.lx_rules.specs.Checks.{StopsAt};
-    ghost use Rattle.lx_rules.specs.Lexemes.{sorts_at};
-    ghost use Rattle.lx_rules.specs.Seen.{environment_view, lexemes_view};
+    ghost use Rattle.lx_exprs.specs.Checks.{StopsAt};
+    ghost use Rattle.lx_forms.specs.Lexemes.{sorts_at};
+    ghost use Rattle.lx_forms.specs.Seen.{lexemes_view};
+    ghost use Rattle.lx_rules.specs.Seen.{environment_view};
     ghost use Rattle.lx_rules.specs.Soundness.{IsSound};
 
     /// What is known before the items.

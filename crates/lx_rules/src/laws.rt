@@ -13,7 +13,7 @@ ghost use Rattle.lx_rules.specs.declared.resolved.Resolved.{Resolved};
 ghost use Rattle.lx_rules.specs.Blocks.{IsBlockFault, Resolves};
 ghost use Rattle.lx_rules.specs.Buildable.{IsReady};
 ghost use Rattle.lx_rules.specs.Environments.{Environment, first_environment};
-ghost use Rattle.lx_rules.specs.Lexemes.{Lexeme, lexemes_of};
+ghost use Rattle.lx_forms.specs.Lexemes.{Lexeme, lexemes_of};
 
 /// A block resolves or has a fault: that neither holds cannot be. The definitions before it are ready for copies and can be
 /// built, as `environments_stay_ready` says that they are.

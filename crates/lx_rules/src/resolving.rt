@@ -10,16 +10,18 @@ ghost use Rattle.lx_token.specs.Tokens.{tokens_of};
 ghost use Rattle.lx_rules.specs.Blocks.{Resolves, StopsWith};
 ghost use Rattle.lx_rules.specs.Items.{State, Goes, first_state};
 ghost use Rattle.lx_rules.specs.Keeping.{Holds, StopsGoing};
-ghost use Rattle.lx_rules.specs.Lexemes.{lexemes_of, sorts_at};
-ghost use Rattle.lx_rules.specs.Seen.{environment_view, lexemes_view};
+ghost use Rattle.lx_forms.specs.Lexemes.{lexemes_of, sorts_at};
+ghost use Rattle.lx_forms.specs.Seen.{lexemes_view};
+ghost use Rattle.lx_rules.specs.Seen.{environment_view};
 ghost use Rattle.lx_rules.specs.Soundness.{IsFine, IsSound};
-ghost use Rattle.lx_rules.specs.Within.{AreDefinedWithin, IsScannerWithin};
+ghost use Rattle.lx_exprs.specs.Within.{AreDefinedWithin};
+ghost use Rattle.lx_rules.specs.Within.{IsScannerWithin};
 
 use crate::environment::Env;
 use crate::items::{Block, Known};
-use crate::lexemes::Lexemes;
 use crate::resolved::Resolved;
 use lx_base::{Options, Pos, Stop};
+use lx_forms::lexemes::Lexemes;
 use lx_parse::{BlockTree, Item, expressions_stand_in_ranges};
 use lx_token::{TokenList, tokens_stand_in_order};
 use std::alloc::Global;
@@ -92,10 +94,10 @@ impl Known {
     ghost use Rattle.std.specs.Prelude.{◌≡◌, ◌≤◌, ◌<◌, suc, length, MatchResult, OnOk};
     ghost use Rattle.lx_parse.specs.Ranges.{HasExpressions};
     ghost use Rattle.lx_rules.specs.Items.{State, ItemChecks};
-    ghost use Rattle.lx_rules.specs.Checks.{StopsAt};
+    ghost use Rattle.lx_exprs.specs.Checks.{StopsAt};
     ghost use Rattle.lx_rules.specs.Keeping.{Holds, IsTaken};
-    ghost use Rattle.lx_rules.specs.Lexemes.{sorts_at};
-    ghost use Rattle.lx_rules.specs.Seen.{lexemes_view};
+    ghost use Rattle.lx_forms.specs.Lexemes.{sorts_at};
+    ghost use Rattle.lx_forms.specs.Seen.{lexemes_view};
     ghost use Rattle.lx_rules.specs.Soundness.{IsSound};
 
     /// Takes an item.

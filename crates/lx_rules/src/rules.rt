@@ -5,15 +5,16 @@ ghost use Rattle.lx_regex.specs.Pattern as regex;
 ghost use Rattle.lx_regex.specs.declared.rules.Tag.{Tag as tag_type};
 ghost use Rattle.lx_rules.specs.Blocks.{given_names};
 ghost use Rattle.lx_rules.specs.Items.{act_of};
-ghost use Rattle.lx_rules.specs.Seen.{lexemes_view};
+ghost use Rattle.lx_forms.specs.Seen.{lexemes_view};
 
-use crate::expressions::Reading;
 use crate::heads::Head;
-use crate::items::{Block, DefaultRule, Known, waits};
+use crate::items::{Block, DefaultRule, Known};
 use crate::resolved::Act;
-use crate::tags::{TagNames, text};
-use crate::values::sum;
 use lx_base::{ByteText, Fault, Memory, Pos, Sequence, Stop};
+use lx_exprs::expressions::Reading;
+use lx_exprs::leaves::waits;
+use lx_exprs::tags::{TagNames, text};
+use lx_exprs::values::sum;
 use lx_regex::{Expr, Kind, Rule, Tag};
 use std::alloc::Global;
 
@@ -80,11 +81,11 @@ impl Known {
     ghost use Rattle.lx_rules.specs.declared.heads.Head.TheVariants as head;
     ghost use Rattle.lx_rules.specs.Items.{RuleOf, State, ItemChecks};
     ghost use Rattle.lx_rules.specs.Keeping.{AddsPlain, Holds, IsNew, IsSoundHead, IsTaken, room_behind, with_rule};
-    ghost use Rattle.lx_rules.specs.Checks.{StopsAt};
-    ghost use Rattle.lx_rules.specs.Lexemes.{sorts_at};
-    ghost use Rattle.lx_rules.specs.Seen.{lexemes_view};
+    ghost use Rattle.lx_exprs.specs.Checks.{StopsAt};
+    ghost use Rattle.lx_forms.specs.Lexemes.{sorts_at};
+    ghost use Rattle.lx_forms.specs.Seen.{lexemes_view};
     ghost use Rattle.lx_rules.specs.Soundness.{IsSound};
-    ghost use Rattle.lx_rules.specs.Values.{IsHonest};
+    ghost use Rattle.lx_exprs.specs.Values.{IsHonest};
 
     /// Adds the rule of an expression, where it is built.
     fn push_rule(&mut self, alloc: Global, number: u32, reading: Reading) -> Result<(), Memory>

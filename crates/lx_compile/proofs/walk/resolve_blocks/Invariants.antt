@@ -2,7 +2,7 @@ use Rattle.std.proofs.Common.{◌≡◌, length}
 use Rattle.std.specs.Vec.Iter.{into_iter_items, into_iter_len}
 use Rattle.lx_rules.specs.Seen.{environment_view}
 use Rattle.lx_rules.specs.Soundness.{IsSound}
-use Rattle.lx_rules.specs.Within.{AreDefinedWithin}
+use Rattle.lx_exprs.specs.Within.{AreDefinedWithin}
 use Rattle.lx_compile.proofs.WalkRuns.{IsWalked}
 use Rattle.lx_compile.proofs.walk.resolve_blocks.Given as goal
 

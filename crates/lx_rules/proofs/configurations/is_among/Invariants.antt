@@ -1,5 +1,5 @@
 use Rattle.std.proofs.Common.{◌≡◌, map, drop}
-use Rattle.lx_rules.specs.Checks.{is_among}
+use Rattle.lx_exprs.specs.Checks.{is_among}
 use Rattle.lx_rules.proofs.configurations.is_among.Given as goal
 
 abbrev pub invariant-loop-word : goal.invariant-loop-word

@@ -1,4 +1,4 @@
-use Rattle.lx_rules.specs.Lexemes.{lexemes_of}
+use Rattle.lx_forms.specs.Lexemes.{lexemes_of}
 use Rattle.lx_rules.proofs.BlockVerdicts.{body_expressions, verdict_among}
 use Rattle.lx_rules.proofs.laws.blocks_resolve_or_have_a_fault.Goals as goal
 

@@ -6,12 +6,13 @@ use Rattle.lx_parse.specs.Sorts.{sorts_of}
 use Rattle.lx_parse.proofs.Reading.{few_spans}
 use Rattle.lx_rules.specs.Blocks.{BlockChecks, Resolves, StopsWith}
 use Rattle.lx_rules.specs.Finishing.{IsFinished}
-use Rattle.lx_rules.specs.Checks.{StopsAt}
-use Rattle.lx_rules.specs.Lexemes.{lexemes_of, sorts_at}
+use Rattle.lx_exprs.specs.Checks.{StopsAt}
+use Rattle.lx_forms.specs.Lexemes.{lexemes_of, sorts_at}
 use Rattle.lx_rules.specs.Items.{Goes, first_state}
 use Rattle.lx_rules.specs.Seen.{environment_view}
 use Rattle.lx_rules.specs.Soundness.{IsFine, IsSound}
-use Rattle.lx_rules.specs.Within.{AreDefinedWithin, IsScannerWithin}
+use Rattle.lx_exprs.specs.Within.{AreDefinedWithin}
+use Rattle.lx_rules.specs.Within.{IsScannerWithin}
 use Rattle.lx_rules.proofs.ScannerFits.{resolved_within}
 use Rattle.lx_rules.proofs.ItemRuns.{lexemes_few, sorts_of-lexemes, match_so, if_ok_so, stops_behind}
 use Rattle.lx_rules.proofs.resolving.resolve.Goals as goal

@@ -4,8 +4,9 @@ use Rattle.std.proofs.lemmas.List.{take-append-drop}
 use Rattle.lx_parse.specs.declared.items.Item.TheVariants.{Define}
 use Rattle.lx_rules.specs.Items.{Goes, ends, first_state}
 use Rattle.lx_rules.specs.Keeping.{StopsGoing}
-use Rattle.lx_rules.specs.Lexemes.{sorts_at}
-use Rattle.lx_rules.specs.Seen.{environment_view, lexemes_view}
+use Rattle.lx_forms.specs.Lexemes.{sorts_at}
+use Rattle.lx_forms.specs.Seen.{lexemes_view}
+use Rattle.lx_rules.specs.Seen.{environment_view}
 use Rattle.lx_rules.proofs.ItemRuns.{goes-snoc, goes-stops, expressions_at}
 use Rattle.lx_rules.proofs.resolving.take_items.Goals as goal
 

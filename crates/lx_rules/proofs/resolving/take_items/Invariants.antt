@@ -1,7 +1,8 @@
 use Rattle.std.proofs.Common.{◌≤◌, length, take, Ok}
 use Rattle.lx_rules.specs.Items.{State, Goes, first_state}
 use Rattle.lx_rules.specs.Keeping.{Holds}
-use Rattle.lx_rules.specs.Seen.{environment_view, lexemes_view}
+use Rattle.lx_forms.specs.Seen.{lexemes_view}
+use Rattle.lx_rules.specs.Seen.{environment_view}
 use Rattle.lx_rules.proofs.resolving.take_items.Given as goal
 
 abbrev pub invariant-loop-item : goal.invariant-loop-item

@@ -1,5 +1,5 @@
 use Rattle.std.proofs.Common.{sym}
-use Rattle.lx_rules.specs.Seen.{lexemes_view}
+use Rattle.lx_forms.specs.Seen.{lexemes_view}
 use Rattle.lx_rules.proofs.ItemSteps.{configured}
 use Rattle.lx_rules.proofs.items.Known.configure.Goals as goal
 

@@ -1,9 +1,10 @@
 use Rattle.std.proofs.Common.{◌≡◌, ◌∙◌, ◌++◌, ◌∷◌, [], ap, length, sym, subst, refl, None}
 use Rattle.std.specs.Option.{option_map}
-use Rattle.lx_rules.specs.declared.definitions.Kept.{Kept}
-use Rattle.lx_rules.specs.Lexemes.{Lexeme, nth_lexeme}
-use Rattle.lx_rules.specs.Environments.{IsDefined, definition_of, whole_room}
-use Rattle.lx_rules.specs.Seen.{definition_view, definitions_view, lexemes_view}
+use Rattle.lx_exprs.specs.declared.definitions.Kept.{Kept}
+use Rattle.lx_forms.specs.Lexemes.{Lexeme, nth_lexeme}
+use Rattle.lx_exprs.specs.Defined.{IsDefined, definition_of, whole_room}
+use Rattle.lx_exprs.specs.Seen.{definition_view, definitions_view}
+use Rattle.lx_forms.specs.Seen.{lexemes_view}
 use Rattle.lx_rules.proofs.ItemSteps.{define_refused, define_taken, read_known}
 use Rattle.lx_rules.proofs.items.Known.define.Goals as goal
 

@@ -4,7 +4,7 @@ use Rattle.std.proofs.lemmas.Bool.{false≢true}
 use Rattle.lx_base.specs.Names.{DoNotClash, IsTagName, usual_names}
 use Rattle.lx_base.specs.declared.faults.Fault.TheVariants.{TooManyParts}
 use Rattle.lx_rules.specs.Blocks.{BlockChecks}
-use Rattle.lx_rules.specs.Environments.{kept}
+use Rattle.lx_exprs.specs.Defined.{kept}
 use Rattle.lx_rules.proofs.FinishingSteps.{clashing, free_names, too_large, finished, empty_length, filled_length}
 use Rattle.lx_rules.proofs.items.Known.finish.Goals.{then-not-do_not_clash-via-then-not-do_not_clash, then-not-do_not_clash-via-else-not-do_not_clash+then-not-are_all_tag_names}
 use Rattle.lx_rules.proofs.items.Known.finish.Goals as goal

@@ -1,9 +1,9 @@
 use Rattle.std.proofs.Common.{◌∙◌, ◌∷◌, [], length, ap, sym, subst, Some}
 use Rattle.lx_base.specs.declared.faults.Fault.TheVariants.{Redefined}
-use Rattle.lx_rules.specs.Lexemes.{Lexeme, nth_lexeme, sort_at}
+use Rattle.lx_forms.specs.Lexemes.{Lexeme, nth_lexeme, sort_at}
 use Rattle.lx_rules.specs.Items.{HeadChecks, head_sort}
 use Rattle.lx_rules.specs.Keeping.{room_behind}
-use Rattle.lx_rules.specs.Seen.{lexemes_view}
+use Rattle.lx_forms.specs.Seen.{lexemes_view}
 use Rattle.lx_rules.proofs.HeadSteps.{star_twice, star_read}
 use Rattle.lx_rules.proofs.items.Known.read_head.Goals as goal
 

@@ -5,9 +5,11 @@ use Rattle.lx_base.specs.declared.faults.Stop.TheVariants as stop
 use Rattle.lx_parse.specs.Expressions.{alt}
 use Rattle.lx_parse.specs.Ranges.{HasExpressions, IsPart}
 use Rattle.lx_parse.specs.declared.items.Item.TheVariants as item
-use Rattle.lx_rules.specs.Lexemes.{Lexeme, sorts_at}
-use Rattle.lx_rules.specs.Keeping.{IsHeadRead, IsRead, StopsHead, room_behind}
-use Rattle.lx_rules.specs.Seen.{definitions_view, lexemes_view}
+use Rattle.lx_forms.specs.Lexemes.{Lexeme, sorts_at}
+use Rattle.lx_exprs.specs.Expressions.{IsRead}
+use Rattle.lx_rules.specs.Keeping.{IsHeadRead, StopsHead, room_behind}
+use Rattle.lx_exprs.specs.Seen.{definitions_view}
+use Rattle.lx_forms.specs.Seen.{lexemes_view}
 use Rattle.lx_rules.specs.declared.heads.Head.TheVariants as head
 use Rattle.lx_rules.proofs.HeadSteps.{StopsIn, context_waits, head_part, head_refused, plain_read}
 use Rattle.lx_rules.proofs.items.Known.read_plain.Goals as goal

@@ -1,10 +1,10 @@
 use Rattle.std.proofs.Common.{◌≡◌, ◌∙◌, ◌+◌, suc, ap, sym, subst, arith, length, None}
 use Rattle.lx_parse.specs.declared.items.Item.TheVariants as item
 use Rattle.std.proofs.lemmas.List.{length-map}
-use Rattle.lx_rules.specs.Lexemes.{Lexeme, nth_lexeme}
+use Rattle.lx_forms.specs.Lexemes.{Lexeme, nth_lexeme}
 use Rattle.lx_rules.specs.Items.{RuleOf, act_of}
 use Rattle.lx_rules.specs.Keeping.{IsNew, IsTaken}
-use Rattle.lx_rules.specs.Seen.{lexemes_view}
+use Rattle.lx_forms.specs.Seen.{lexemes_view}
 use Rattle.lx_rules.proofs.RuleItems.{taken, taken_new, rule_taken}
 use Rattle.lx_rules.proofs.items.Known.take_rule.Goals as goal
 

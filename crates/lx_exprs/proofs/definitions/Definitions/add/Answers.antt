@@ -1,0 +1,30 @@
+use Rattle.std.proofs.Common.{◌≡◌, ◌∙◌, ap, sym, subst, ◌++◌, map, length, [], ◌∷◌, None, All}
+use Rattle.std.specs.Str.{bytes_eq}
+use Rattle.std.specs.Map.{lookup}
+use Rattle.std.proofs.lemmas.List.{map-append}
+use Rattle.std.proofs.lemmas.List.Elements.{All-append}
+use Rattle.indexmap.proofs.CallerLemmas.{insert_entry-new}
+use Rattle.lx_exprs.specs.Seen.{definition_view}
+use Rattle.lx_exprs.specs.Soundness.{FitsKept}
+use Rattle.lx_exprs.proofs.DefinitionLists.{lookup-None, All-one}
+use Rattle.lx_exprs.proofs.definitions.Definitions.add.Goals as goal
+
+pub returns-clause-added : goal.returns-clause-added
+returns-clause-added c =
+    let entries = c.args.self.now.by_name.entries in
+    let absent = lookup-None (λ key. key.items) c.args.name.now entries c.requires in
+    let named = c.in_ok-name.ensures.items in
+    let absent' = subst (λ text. lookup (λ key. bytes_eq text key.items) entries ≡ None) (sym named) absent in
+    ap (map (λ entry. definition_view entry.0.items entry.1)) (c.in_ok-insert.ensures.entries ∙ insert_entry-new (λ key other. bytes_eq key.items other.items) c.args.self.now.by_name c.in_ok-name.name c.args.kept absent')
+    ∙ map-append (λ entry. definition_view entry.0.items entry.1) entries ((c.in_ok-name.name, c.args.kept) ∷ [])
+    ∙ ap (λ text. map (λ entry. definition_view entry.0.items entry.1) entries ++ definition_view text c.args.kept ∷ []) named
+
+pub returns-clause-sound : goal.returns-clause-sound
+returns-clause-sound c = λ sound fits.
+    let entries = c.args.self.now.by_name.entries in
+    let absent = lookup-None (λ key. key.items) c.args.name.now entries c.requires in
+    let named = c.in_ok-name.ensures.items in
+    let absent' = subst (λ text. lookup (λ key. bytes_eq text key.items) entries ≡ None) (sym named) absent in
+    let added = c.in_ok-insert.ensures.entries ∙ insert_entry-new (λ key other. bytes_eq key.items other.items) c.args.self.now.by_name c.in_ok-name.name c.args.kept absent' in
+    subst (All (λ entry. FitsKept entry.1.expr entry.1.size (length entry.1.tags))) (sym added)
+    (All-append (λ entry. FitsKept entry.1.expr entry.1.size (length entry.1.tags)) entries ((c.in_ok-name.name, c.args.kept) ∷ []) sound (All-one (λ entry. FitsKept entry.1.expr entry.1.size (length entry.1.tags)) (c.in_ok-name.name, c.args.kept) fits))

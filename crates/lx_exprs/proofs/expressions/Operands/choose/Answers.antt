@@ -1,0 +1,15 @@
+use Rattle.std.proofs.Common.{length}
+use Rattle.lx_exprs.proofs.OperandValues.{honest_all, honest_front, honest_last}
+use Rattle.lx_exprs.proofs.expressions.Operands.choose.Goals as goal
+
+pub returns-clause-honest : goal.returns-clause-honest
+returns-clause-honest c honest =
+    let count = length c.args.self.now.seen in
+    let middle = c.pop-right.new.self.values.items in
+    let front = c.pop.new.self.values.items in
+    let rest = honest_front count middle c.args.self.now.values.items c.pop-right.result c.pop-right.ensures.values honest in
+    rw c.in_ok-push.ensures.seen (rw c.pop.ensures.seen (rw c.pop-right.ensures.seen
+    (honest_all count front c.push.new.self.values.items c.in_ok-value.value c.in_ok-push.ensures.values
+    (honest_front count front middle c.pop.result c.pop.ensures.values rest)
+    (c.in_ok-value.ensures.honest count (honest_last count front middle c.pop.result c.pop.ensures.values rest)
+    (honest_last count middle c.args.self.now.values.items c.pop-right.result c.pop-right.ensures.values honest)))))

@@ -1,0 +1,33 @@
+use Rattle.std.proofs.Common.{◌∙◌, map, subst}
+use Rattle.lx_exprs.specs.Reading.{AreTaken, StopsReading, no_operands}
+use Rattle.lx_exprs.specs.Seen.{definitions_view}
+use Rattle.lx_forms.specs.Seen.{lexemes_view}
+use Rattle.lx_forms.specs.StepViews.{step_view}
+use Rattle.lx_exprs.proofs.ExpressionRanges.{part_in_order, part_read, part_stops}
+use Rattle.lx_exprs.proofs.expressions.read_expression.Goals as goal
+
+pub take_steps-requires-clause-order : goal.take_steps-requires-clause-order
+take_steps-requires-clause-order c =
+    rw c.deref.ensures.value
+    (part_in_order c.args.reader.options.now (definitions_view c.args.reader.definitions.now) (lexemes_view c.args.lexemes) c.args.from c.args.until c.requires.part
+    (map (step_view (lexemes_view c.args.lexemes)) c.in_ok-steps.steps.items) c.in_ok-steps.ensures)
+
+pub returns-in-Err-clause-read : goal.returns-in-Err-clause-read
+returns-in-Err-clause-read c =
+    let options = c.args.reader.options.now in
+    let definitions = definitions_view c.args.reader.definitions.now in
+    let view = step_view (lexemes_view c.args.lexemes) in
+    part_stops options definitions (lexemes_view c.args.lexemes) c.args.from c.args.until c.requires.part
+    (map view c.in_ok-steps.steps.items) c.in_ok-steps.ensures c.in-Err.stop
+    (subst (λ l. StopsReading options definitions no_operands (map view l) c.in-Err.stop) c.deref.ensures.value c.in-Err.ensures.taken)
+
+pub returns-clause-read : goal.returns-clause-read
+returns-clause-read c =
+    let options = c.args.reader.options.now in
+    let definitions = definitions_view c.args.reader.definitions.now in
+    let view = step_view (lexemes_view c.args.lexemes) in
+    part_read options definitions (lexemes_view c.args.lexemes) c.args.from c.args.until c.requires.part
+    (map view c.in_ok-steps.steps.items) c.in_ok-steps.ensures c.args.reader.room c.in-Ok.operands c.pop-value.new.self.values.items
+    (record { value = c.pop-value.result; tags = c.in_ok-tags.tags })
+    (subst (λ l. AreTaken options definitions c.args.reader.room no_operands (map view l) c.in-Ok.operands) c.deref.ensures.value c.in-Ok.ensures.taken)
+    c.pop-value.ensures.values (c.in_ok-tags.ensures ∙ c.pop-value.ensures.seen)

@@ -1,0 +1,22 @@
+use Rattle.std.proofs.Common.{arith, refl}
+use Rattle.lx_exprs.specs.Defined.{is_built}
+use Rattle.lx_exprs.specs.Meanings.{class_meaning}
+use Rattle.lx_exprs.proofs.leaves.read_set.Goals as goal
+
+pub returns-then-is_refused-clause-read : goal.returns-then-is_refused-clause-read
+returns-then-is_refused-clause-read c definitions depth all tags nesting count =
+    c.is_refused.ensures.refused c.args.reader.options.now definitions c.args.at c.if-is_refused.true
+
+pub returns-clause-read : goal.returns-clause-read
+returns-clause-read c definitions depth all tags nesting count =
+    let options = c.args.reader.options.now in
+    let meaning = class_meaning c.args.is_operand options.empty depth tags all c.args.set in (
+      c.is_refused.ensures.taken options definitions c.args.at c.if-is_refused.false,
+      c.in_ok-limited.ensures.stands meaning (record { size_is = refl; nesting_is = nesting; tags_is = count })
+          (c.class_content-content.ensures.stands (is_built c.args.reader.room meaning) depth all tags),
+    )
+
+pub returns-clause-honest : goal.returns-clause-honest
+returns-clause-honest c all =
+    let size = c.class_content-content.ensures.size in
+    c.in_ok-limited.ensures.honest all (omega arith) (λ small. omega (arith, size)) (c.class_content-content.ensures.tags all)

@@ -1,0 +1,36 @@
+use Rattle.std.proofs.Common.{◌≡◌, ◌∙◌, ◌+◌, ap, ap₂, map, sum, sym, rules}
+use Rattle.std.proofs.lemmas.List.{map_push, take_all}
+use Rattle.std.proofs.lemmas.List.Sums.{sum_by_push}
+use Rattle.std.proofs.lemmas.Simd.{map-map}
+use Rattle.lx_regex.specs.Term.{cat}
+use Rattle.lx_regex.specs.Expr.{members_of, size_of, term_of}
+use Rattle.lx_regex.proofs.Folds.{term_of-cat, term_of-class}
+use Rattle.lx_regex.specs.declared.expr.Expr.{the_lemmas}
+use Rattle.lx_regex.specs.declared.expr.Expr.TheVariants.{Class}
+use Rattle.lx_token.specs.declared.characters.Character.{Character}
+use Rattle.lx_exprs.specs.Meanings.{character_set, set_term}
+use Rattle.lx_exprs.proofs.LeafContents.{map-taken}
+use Rattle.lx_exprs.proofs.leaves.sequence.Goals as goal
+
+pub loop-character-preserved : goal.loop-character-preserved
+loop-character-preserved c =
+    let pushed = c.in_ok-push.ensures.items in
+    let one : size_of (Class c.in_ok-set.set) ≡ 1 = search (rules, the_lemmas) in record {
+      terms = λ tags.
+          map-taken (term_of tags) (λ (character : Character). set_term (character_set c.args.policy c.args.is_caseless character.point))
+          c.loop-character.members.items c.push.new.self.items (Class c.in_ok-set.set) c.args.characters.now c.loop-character.character-index _ c.loop-character-test.true pushed
+          (term_of-class tags c.in_ok-set.set ∙ ap set_term c.in_ok-set.ensures) (c.loop-character.invariant.terms tags);
+      sizes =
+          ap (λ members. sum (map size_of members)) pushed ∙ ap sum (map_push size_of c.loop-character.members.items (Class c.in_ok-set.set))
+          ∙ sum_by_push (λ size. size) (map size_of c.loop-character.members.items) (size_of (Class c.in_ok-set.set)) ∙ ap₂ ◌+◌ c.loop-character.invariant.sizes one;
+    }
+
+pub returns-clause-term : goal.returns-clause-term
+returns-clause-term c tags =
+    let characters = c.args.characters.now in
+    let set = character_set c.args.policy c.args.is_caseless in
+    let all = take_all c.loop-character.character-index characters c.loop-character-test.false in
+    let each = λ (character : Character). set_term (set character.point) in
+    let fused = ap (map set_term) (map-map set (λ (character : Character). character.point) characters) ∙ map-map set_term (λ (character : Character). set character.point) characters in
+    term_of-cat tags c.loop-character.members
+    ∙ ap (λ terms. cat (members_of terms)) (c.loop-character.invariant.terms tags ∙ ap (map each) all ∙ sym fused)

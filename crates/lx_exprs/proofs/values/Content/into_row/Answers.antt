@@ -1,0 +1,21 @@
+use Rattle.std.proofs.Common.{arith, map, subst, sym}
+use Rattle.lx_regex.specs.Expr.{members_of, term_of}
+use Rattle.lx_exprs.specs.Values.{HaveTagsBelow}
+use Rattle.lx_exprs.proofs.ValueContents.{row_free, row_members, row_one}
+use Rattle.lx_exprs.proofs.values.Content.into_row.Goals as goal
+
+pub returns-in-Row-clause-built : goal.returns-in-Row-clause-built
+returns-in-Row-clause-built c built meaning is = row_members built meaning c.args.self c.in-Row.members c.in-Row.is is
+
+pub returns-in_ok-vec-in-Some : goal.returns-in_ok-vec-in-Some
+returns-in_ok-vec-in-Some c =
+    let items = c.in_ok-vec-in-Some.ensures.items in
+    let size = c.in-Some.ensures.size in record {
+      built = λ built meaning is.
+          row_one meaning c.in-Some.expr c.in_ok-vec-in-Some.field-0.items
+          (row_free built meaning c.args.self is c.in-Some.ensures.kept (λ members same. c.in_default.not-Row members same)) items
+          (c.in-Some.ensures.built built meaning is);
+      past = tt;
+      size = rw items (omega (arith, size));
+      tags = λ bound below. subst (λ l. HaveTagsBelow bound (members_of (map (term_of 0) l))) (sym items) (c.in-Some.ensures.tags bound below, tt);
+    }

@@ -1,0 +1,13 @@
+use Rattle.std.proofs.Common.{◌≡◌, ◌∙◌, sym}
+use Rattle.lx_exprs.proofs.ValueContents.{repeated_one}
+use Rattle.lx_exprs.proofs.values.Content.repeated.Goals as goal
+use Rattle.lx_exprs.proofs.values.Content.repeated.Goals.{in-Some-max, in-None}
+
+pub returns-clause-stands : goal.returns-clause-stands
+returns-clause-stands c built around meaning is off =
+    let bound : c.match-bounds.high ≡ c.args.bounds.max = elim c.match-bounds.branch [
+      | in-Some-max w ↦ w.high-is ∙ sym w.in-Some-max.is
+      | in-None w ↦ w.high-is ∙ sym w.in-None.is
+    ] in
+    repeated_one meaning c.in-Some.body c.in_ok-body.body c.args.bounds.min c.args.bounds.max c.match-bounds.high c.in_ok-body.ensures.ok bound
+    (c.in-Some.ensures.built built meaning is)

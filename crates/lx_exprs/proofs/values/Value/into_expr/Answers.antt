@@ -1,0 +1,10 @@
+use Rattle.lx_exprs.specs.Defined.{is_built}
+use Rattle.lx_exprs.proofs.ValueContents.{kept_fits}
+use Rattle.lx_exprs.proofs.values.Value.into_expr.Goals as goal
+
+pub returns-clause-built : goal.returns-clause-built
+returns-clause-built c room meaning is = c.into_expr.ensures.built (is_built room meaning) meaning is.content
+
+pub returns-clause-kept : goal.returns-clause-kept
+returns-clause-kept c count is =
+    kept_fits c.into_expr.result c.args.self.content c.args.self.size count is.some is.size is.tags c.into_expr.ensures.size (c.into_expr.ensures.tags count is.tags)

@@ -1,0 +1,10 @@
+pub mod Checks
+pub mod Defined
+pub mod Expressions
+pub mod Meanings
+pub mod Points
+pub mod Reading
+pub mod Seen
+pub mod Soundness
+pub mod Values
+pub mod Within

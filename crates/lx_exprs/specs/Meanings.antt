@@ -1,0 +1,191 @@
+-- What expressions mean, in the forms that are supported: all but m-tags and groups of captures.
+use Rattle.std.specs.Prelude.{◌≡◌, ℕ, suc, ◌+◌, ◌-◌, ◌*◌, ◌↔◌, max, if◌then◌else◌, Bool, true, false, List, [], ◌∷◌, ◌++◌, length, map, Option, Some, None}
+use Rattle.lx_base.specs.Letters.{is_within}
+use Rattle.lx_base.specs.declared.settings.EmptyPolicy.{EmptyPolicy}
+use Rattle.lx_base.specs.declared.settings.EmptyPolicy.TheVariants.{MatchEmpty}
+use Rattle.lx_base.specs.declared.settings.Options.{Options}
+use Rattle.lx_base.specs.declared.settings.SurPolicy.{SurPolicy}
+use Rattle.lx_class.specs.Ranges.{InRanges, IsCanonical}
+use Rattle.lx_class.specs.declared.ranges.Range.{Range}
+use Rattle.lx_token.specs.declared.kinds.TokenKind.{TokenKind}
+use Rattle.lx_token.specs.declared.kinds.TokenKind.TheVariants as kind
+use Rattle.lx_token.specs.declared.numbers.Repeat.{Repeat}
+use Rattle.lx_regex.specs.Term.{Term, Terms, empty, class, any_unit, cat, alt, repeat, tag, group, nil, cons}
+use Rattle.lx_regex.specs.Expr.{members_of, ranges_of, times}
+use Rattle.lx_forms.specs.Lexemes.{Lexeme, points_in}
+use Rattle.lx_exprs.specs.Points.{replaced, singles}
+use Rattle.lx_exprs.specs.Defined.{Definition, Meaning, Shape, one, row, choice, whole, definition_of}
+use Rattle.lx_forms.specs.Forms as forms
+use Rattle.lx_forms.specs.Forms.{Form, leaf, repeated, sequence, difference, alternative}
+use Rattle.lx_exprs.specs.Checks.{HasPoint, LeafHas, bounds_of, tag_name, tags_of}
+
+-- the sorted ranges of these points, and of no others
+pub record IsSetOf (Has : ℕ → Type 0) (set : List Range) : Type 0 where
+  pub canonical : IsCanonical set
+  pub points : (point : ℕ) → InRanges set point ↔ Has point
+
+-- a set as a class
+abbrev pub set_term : List Range → Term
+set_term set = class (ranges_of set)
+
+-- A class that is no operand of a difference and has no point is the empty word, where empty classes match that.
+abbrev pub class_term : (is_operand : Bool) → EmptyPolicy → (set : List Range) → Term
+class_term true policy set = set_term set
+class_term false MatchEmpty [] = empty
+class_term false policy set = set_term set
+
+-- a class has the tags of its operands, where it is a difference: none, since these are classes
+abbrev pub class_meaning : (is_operand : Bool) → EmptyPolicy → (nesting : ℕ) → (tags : List (List ℕ)) → (count : ℕ) → List Range → Meaning
+class_meaning is_operand policy nesting tags count set =
+    record { shape = one (class_term is_operand policy set); size = 1; nesting = nesting; tags = tags; count = count }
+
+-- the set of a character: its code point as the policy takes it, and an ASCII letter in both cases where these are one
+abbrev pub character_set : SurPolicy → (is_caseless : Bool) → ℕ → List Range
+character_set policy false point = singles (replaced policy point ∷ [])
+character_set policy true point =
+    if is_within 65 90 point then singles (point ∷ (point + 32) ∷ [])
+    else (if is_within 97 122 point then singles ((point - 32) ∷ point ∷ []) else singles (replaced policy point ∷ []))
+
+-- a string: nothing, one character, or the sequence of its characters
+abbrev pub string_term : (sets : List (List Range)) → Term
+string_term [] = empty
+string_term (set ∷ []) = set_term set
+string_term (set ∷ next ∷ sets) = cat (members_of (map set_term (set ∷ next ∷ sets)))
+
+abbrev pub string_meaning : (count : ℕ) → (sets : List (List Range)) → Meaning
+string_meaning count sets =
+    record { shape = one (string_term sets); size = max 1 (length sets); nesting = 0; tags = []; count = count }
+
+-- the term of a definition; one that is past a limit is missed nowhere, since what it stands in is past that limit too
+abbrev pub term_or_empty : Option Term → Term
+term_or_empty None = empty
+term_or_empty (Some term) = term
+
+-- a term with its tags numbered from another number on
+abbrev mutual
+  pub shifted : (by : ℕ) → Term → Term
+  shifted by empty = empty
+  shifted by (class ranges) = class ranges
+  shifted by any_unit = any_unit
+  shifted by (cat members) = cat (shifted_all by members)
+  shifted by (alt members) = alt (shifted_all by members)
+  shifted by (repeat body low high) = repeat (shifted by body) low high
+  shifted by (tag number) = tag (number + by)
+  shifted by (group opening closing body) = group opening closing (shifted by body)
+
+  pub shifted_all : (by : ℕ) → Terms → Terms
+  shifted_all by nil = nil
+  shifted_all by (cons member members) = cons (shifted by member) (shifted_all by members)
+
+-- a copy of a definition behind so many tags
+abbrev pub copied : (by : ℕ) → Definition → Meaning
+copied by definition = record {
+  shape = one (shifted by (term_or_empty definition.term));
+  size = definition.size;
+  nesting = suc definition.nesting;
+  tags = definition.tags;
+  count = by + length definition.tags;
+}
+
+-- a tag behind so many others
+abbrev pub tag_meaning : (number : ℕ) → (name : List ℕ) → Meaning
+tag_meaning number name =
+    record { shape = one (tag number); size = 1; nesting = 0; tags = name ∷ []; count = suc number }
+
+-- parentheses that are no group
+abbrev pub enclosed : Meaning → Meaning
+enclosed inner = record {
+  shape = one (whole inner.shape);
+  size = inner.size;
+  nesting = suc inner.nesting;
+  tags = inner.tags;
+  count = inner.count;
+}
+
+-- a repetition
+abbrev pub repeated_by : Repeat → Meaning → Meaning
+repeated_by bounds inner = record {
+  shape = one (repeat (whole inner.shape) bounds.min bounds.max);
+  size = inner.size * times bounds.min bounds.max + 1;
+  nesting = suc inner.nesting;
+  tags = inner.tags;
+  count = inner.count;
+}
+
+-- what stands in a sequence: its terms, or the one that it is
+abbrev pub in_row : Shape → List Term
+in_row (row terms) = terms
+in_row shape = whole shape ∷ []
+
+-- a sequence, and what stands behind it
+abbrev pub followed : Meaning → Meaning → Meaning
+followed front back = record {
+  shape = row (in_row front.shape ++ in_row back.shape);
+  size = front.size + back.size;
+  nesting = max front.nesting back.nesting;
+  tags = front.tags ++ back.tags;
+  count = max front.count back.count;
+}
+
+-- the terms among which an alternation chooses, or the one that it is
+abbrev pub in_choice : Shape → List Term
+in_choice (choice terms) = terms
+in_choice shape = whole shape ∷ []
+
+-- an alternation counts 1 more than what stands in it
+abbrev pub choice_size : Shape → ℕ
+choice_size (choice terms) = 0
+choice_size shape = 1
+
+-- alternatives, and one more
+abbrev pub alternated : Meaning → Meaning → Meaning
+alternated left right = record {
+  shape = choice (in_choice left.shape ++ whole right.shape ∷ []);
+  size = left.size + choice_size left.shape + right.size;
+  nesting = max left.nesting right.nesting;
+  tags = left.tags ++ right.tags;
+  count = max left.count right.count;
+}
+
+module _ (options : Options) (definitions : List Definition) where
+  -- the meaning of a string, in quotes that tell cases apart or not
+  abbrev pub meaning_of_string : (is_caseless : Bool) → (count : ℕ) → Lexeme → Meaning
+  meaning_of_string is_caseless count lexeme =
+      string_meaning count (map (character_set options.surrogates is_caseless) (points_in lexeme))
+
+  -- the meaning of a class of these points
+  abbrev pub IsClassMeaning : (is_operand : Bool) → (nesting : ℕ) → (tags : List (List ℕ)) → (count : ℕ) → (Has : ℕ → Type 0) → Meaning → Type 0
+  IsClassMeaning is_operand nesting tags count Has meaning =
+      (set : List Range) × IsSetOf Has set × (meaning ≡ class_meaning is_operand options.empty nesting tags count set)
+
+  -- the meaning of a token that is no sign between other forms, behind tags that were seen before
+  abbrev pub IsLeafMeaning : (is_operand : Bool) → TokenKind → (seen : List (List ℕ)) → Lexeme → Meaning → Type 0
+  IsLeafMeaning is_operand kind.Str seen lexeme meaning = meaning ≡ meaning_of_string false (length seen) lexeme
+  IsLeafMeaning is_operand kind.IStr seen lexeme meaning = meaning ≡ meaning_of_string true (length seen) lexeme
+  IsLeafMeaning is_operand kind.Class seen lexeme meaning =
+      IsClassMeaning is_operand 0 [] (length seen) (LeafHas options definitions kind.Class lexeme) meaning
+  IsLeafMeaning is_operand kind.Signs seen lexeme meaning =
+      IsClassMeaning is_operand 0 [] (length seen) (LeafHas options definitions kind.Signs lexeme) meaning
+  IsLeafMeaning is_operand kind.Name seen lexeme meaning =
+      (definition : Definition) × (definition_of definitions lexeme.text ≡ Some definition) × (meaning ≡ copied (length seen) definition)
+  IsLeafMeaning is_operand kind.STag seen lexeme meaning = meaning ≡ tag_meaning (length seen) (tag_name lexeme)
+  IsLeafMeaning is_operand kind seen lexeme meaning = ⊥
+
+  -- the meaning of an expression, behind tags that were seen before
+  abbrev pub IsMeaning : (is_operand : Bool) → (seen : List (List ℕ)) → Form → Meaning → Type 0
+  IsMeaning is_operand seen (leaf lexeme) meaning = IsLeafMeaning is_operand lexeme.kind seen lexeme meaning
+  IsMeaning is_operand seen (forms.group opening inner) meaning =
+      (body : Meaning) × IsMeaning is_operand seen inner body × (meaning ≡ enclosed body)
+  IsMeaning is_operand seen (repeated inner sign) meaning =
+      (body : Meaning) × IsMeaning false seen inner body × (meaning ≡ repeated_by (bounds_of sign) body)
+  IsMeaning is_operand seen (sequence front back) meaning =
+      (first second : Meaning) × IsMeaning false seen front first
+      × IsMeaning false (seen ++ tags_of options definitions front) back second × (meaning ≡ followed first second)
+  IsMeaning is_operand seen (difference left sign right) meaning =
+      (first second : Meaning) × IsMeaning true seen left first
+      × IsMeaning true (seen ++ tags_of options definitions left) right second
+      × IsClassMeaning is_operand (max first.nesting second.nesting) (first.tags ++ second.tags)
+      (max first.count second.count) (HasPoint options definitions (difference left sign right)) meaning
+  IsMeaning is_operand seen (alternative left sign right) meaning =
+      (first second : Meaning) × IsMeaning is_operand seen left first
+      × IsMeaning is_operand (seen ++ tags_of options definitions left) right second × (meaning ≡ alternated first second)

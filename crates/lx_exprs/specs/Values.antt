@@ -1,0 +1,89 @@
+-- What is kept of what is read of an expression.
+use Rattle.std.specs.Prelude.{◌≡◌, ℕ, ◌+◌, ◌≤◌, ◌<◌, Bool, true, false, map, sum, not}
+use Rattle.lx_regex.specs.Expr.{members_of, size_of, term_of}
+use Rattle.lx_regex.specs.Term.{Term, Terms, empty, class, any_unit, cat, alt, repeat, tag, group, nil, cons}
+use Rattle.lx_exprs.specs.declared.values.Content.{Content}
+use Rattle.lx_exprs.specs.declared.values.Content.TheVariants as content
+use Rattle.lx_exprs.specs.declared.values.Room.{Room}
+use Rattle.lx_exprs.specs.declared.values.Value.{Value}
+use Rattle.lx_exprs.specs.Defined.{HasClass, Meaning, Shape, one, row, choice, is_built, kept, meant_class}
+
+-- whether alternatives stand there
+abbrev pub is_choice : Shape → Bool
+is_choice (one term) = false
+is_choice (row terms) = false
+is_choice (choice terms) = true
+
+-- whether it is not built
+abbrev pub is_past : Content → Bool
+is_past (content.One expr) = false
+is_past (content.Row members) = false
+is_past (content.Choice members) = false
+is_past (content.Past set alternatives) = true
+
+-- whether alternatives are built
+abbrev pub is_choice_content : Content → Bool
+is_choice_content (content.One expr) = false
+is_choice_content (content.Row members) = false
+is_choice_content (content.Choice members) = true
+is_choice_content (content.Past set alternatives) = alternatives
+
+-- All that stands there is kept, or it is not built, and then its class is, if it is one.
+abbrev pub IsContent : (is_built : Bool) → Meaning → Content → Type 0
+IsContent is_built meaning (content.One expr) = (tags : ℕ) → meaning.shape ≡ one (term_of tags expr)
+IsContent is_built meaning (content.Row members) = (tags : ℕ) → meaning.shape ≡ row (map (term_of tags) members.items)
+IsContent is_built meaning (content.Choice members) = (tags : ℕ) → meaning.shape ≡ choice (map (term_of tags) members.items)
+IsContent is_built meaning (content.Past set alternatives) =
+    (is_built ≡ false) × HasClass set (meant_class meaning) × (alternatives ≡ is_choice meaning.shape)
+
+-- the size, the nesting and the number of tags of a meaning, as far as they are kept
+pub record IsCounted (meaning : Meaning) (size nesting tags : ℕ) : Type 0 where
+  pub size_is : size ≡ kept meaning.size
+  pub nesting_is : nesting ≡ kept meaning.nesting
+  pub tags_is : tags ≡ kept meaning.count
+
+-- what is read stands for a meaning
+pub record IsValue (room : Room) (meaning : Meaning) (value : Value) : Type 0 where
+  pub counted : IsCounted meaning value.size value.nesting value.tags
+  pub content : IsContent (is_built room meaning) meaning value.content
+  pub past : is_past value.content ≡ not (is_built room meaning)
+
+-- a room is no greater than that of a scanner
+abbrev pub IsRoom : Room → Type 0
+IsRoom room = (room.size ≤ 4096) × (room.tags ≤ 128)
+
+-- the tags of a term have lesser numbers than this, and it has no groups, which are not supported yet
+abbrev mutual
+  pub HasTagsBelow : (bound : ℕ) → Term → Type 0
+  HasTagsBelow bound empty = Unit {0}
+  HasTagsBelow bound (class ranges) = Unit {0}
+  HasTagsBelow bound any_unit = Unit {0}
+  HasTagsBelow bound (cat members) = HaveTagsBelow bound members
+  HasTagsBelow bound (alt members) = HaveTagsBelow bound members
+  HasTagsBelow bound (repeat body low high) = HasTagsBelow bound body
+  HasTagsBelow bound (tag number) = number < bound
+  HasTagsBelow bound (group opening closing body) = ⊥
+
+  pub HaveTagsBelow : (bound : ℕ) → Terms → Type 0
+  HaveTagsBelow bound nil = Unit {0}
+  HaveTagsBelow bound (cons member members) = HasTagsBelow bound member × HaveTagsBelow bound members
+
+-- the size of what is kept
+abbrev pub content_size : Content → ℕ
+content_size (content.One expr) = size_of expr
+content_size (content.Row members) = sum (map size_of members.items)
+content_size (content.Choice members) = sum (map size_of members.items) + 1
+content_size (content.Past set alternatives) = 0
+
+-- the tags of what is kept have lesser numbers
+abbrev pub AreTagsBelow : (bound : ℕ) → Content → Type 0
+AreTagsBelow bound (content.One expr) = HasTagsBelow bound (term_of 0 expr)
+AreTagsBelow bound (content.Row members) = HaveTagsBelow bound (members_of (map (term_of 0) members.items))
+AreTagsBelow bound (content.Choice members) = HaveTagsBelow bound (members_of (map (term_of 0) members.items))
+AreTagsBelow bound (content.Past set alternatives) = Unit {0}
+
+-- what is read has at least the size of what is kept, and 1 at least, and its tags have lesser numbers than this
+pub record IsHonest (count : ℕ) (value : Value) : Type 0 where
+  pub some : 1 ≤ value.size
+  pub size : content_size value.content ≤ value.size
+  pub tags : AreTagsBelow count value.content

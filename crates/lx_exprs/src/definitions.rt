@@ -1,0 +1,63 @@
+//! Definitions by name.
+ghost use Rattle.std.specs.Prelude.{◌≡◌, [], ◌∷◌, ◌++◌, None, Some, IfSome, OnOk, length};
+ghost use Rattle.std.specs.Option.{option_map};
+ghost use Rattle.lx_exprs.specs.Defined.{definition_of};
+ghost use Rattle.lx_exprs.specs.Seen.{definition_view, definitions_view};
+ghost use Rattle.lx_exprs.specs.Soundness.{AreSound, FitsKept};
+
+use crate::tags::SharedTags;
+use indexmap::IndexMap;
+use lx_base::{Memory, Pos};
+use lx_regex::Expr;
+use std::alloc::Global;
+
+/// What is kept of a definition.
+#[derive(Drop)]
+pub struct Kept {
+    /// Where its name stands.
+    pub at: Pos,
+    /// Its size; 2^40 stands for itself and for more.
+    pub size: u64,
+    /// Its nesting; 2^40 stands for itself and for more.
+    pub nesting: u64,
+    /// The names of its tags, in order. They are shared with definitions that have these of it.
+    pub tags: SharedTags,
+    /// Its expression, where that is within the limits of a scanner, and else its class, if it is one.
+    pub expr: Option<Expr>,
+}
+
+/// The definitions so far, by name, in the order of the source. Contracts see them as a list, by `definitions_view`.
+#[derive(Drop)]
+pub struct Definitions {
+    by_name: IndexMap<Vec<u8>, Kept>,
+}
+
+impl Definitions {
+    /// No definitions. It takes no memory.
+    pub fn new(alloc: Global) -> Definitions
+        ensures { result.by_name.entries ≡ [] }
+    {
+        Definitions {
+            by_name: IndexMap::new(alloc),
+        }
+    }
+
+    /// The definition of a name.
+    pub fn get(&self, name: &[u8]) -> Option<&Kept>
+        ensures found { option_map (λ kept. definition_view name.now kept.now) result ≡ definition_of (definitions_view self.now) name.now }
+        ensures sound { AreSound self.now → IfSome result (λ kept. FitsKept kept.now.expr kept.now.size (length kept.now.tags)) }
+    {
+        self.by_name.get(name)
+    }
+
+    /// Puts the definition of a name that has none yet behind the others.
+    pub fn add(&mut self, alloc: Global, name: &[u8], kept: Kept) -> Result<(), Memory>
+        requires { definition_of (definitions_view self.old) name.now ≡ None }
+        ensures added { OnOk result (definitions_view self.new ≡ definitions_view self.old ++ definition_view name.now kept ∷ []) }
+        ensures sound { AreSound self.old → FitsKept kept.expr kept.size (length kept.tags) → OnOk result (AreSound self.new) }
+    {
+        let name = Vec::from_slice(alloc, name)?;
+        self.by_name.insert(name, kept)?;
+        Ok(())
+    }
+}

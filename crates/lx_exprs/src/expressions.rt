@@ -1,0 +1,381 @@
+//! Reads the expressions of definitions and rules.
+ghost use Rattle.std.specs.Prelude.{◌≡◌, ◌<◌, ◌≤◌, ◌^◌, ℕ, List, IfOk, IfSome, MatchResult, None, Some, length, map};
+ghost use Rattle.lx_base.specs.declared.settings.Options.{Options};
+ghost use Rattle.lx_parse.specs.Expressions.{alt};
+ghost use Rattle.lx_parse.specs.Ranges.{IsPart};
+ghost use Rattle.lx_exprs.specs.Checks.{Finds, StopsAt, bounds_at, bounds_fault, bounds_of, group_fault, is_wrong};
+ghost use Rattle.lx_exprs.specs.Defined.{Definition, Meaning};
+ghost use Rattle.lx_exprs.specs.Expressions.{ExpressionChecks};
+ghost use Rattle.lx_exprs.specs.Expressions.{IsRead};
+ghost use Rattle.lx_forms.specs.Lexemes as lexical;
+ghost use Rattle.lx_forms.specs.Lexemes.{sort_at, sorts_at};
+ghost use Rattle.lx_exprs.specs.Reading.{AreHonest, AreInOrder, AreTaken, DifferenceChecks, IsDifference, StopsReading, no_operands};
+ghost use Rattle.lx_exprs.specs.Seen.{definitions_view};
+ghost use Rattle.lx_forms.specs.Seen.{lexeme_view, lexemes_view};
+ghost use Rattle.lx_exprs.specs.Soundness.{AreSound};
+ghost use Rattle.lx_forms.specs.StepViews.{step_view};
+ghost use Rattle.lx_exprs.specs.Values.{IsHonest, IsRoom, IsValue};
+
+use crate::leaves::{Reader, read_leaf, read_set, waits};
+use crate::tags::{SeenTags, SharedTags};
+use crate::values::{Room, Value};
+use lx_base::{Fault, Memory, Options, Pos, Stop};
+use lx_forms::lexemes::{Lexeme, Lexemes};
+use lx_forms::steps::{Step, StepSort, expression_steps};
+use lx_parse::Sort;
+use lx_token::{Repeat, repeat_of};
+use std::alloc::Global;
+
+/// The greatest number of a repetition.
+const MOST_BOUND: u64 = 4096;
+
+/// What is read of an expression so far: values that are not yet put together, in order, and the names of all tags.
+#[derive(Drop)]
+pub struct Operands {
+    values: Vec<Value>,
+    seen: SeenTags,
+}
+
+/// What is read of a whole expression, with the names of its tags, in order.
+#[derive(Drop)]
+pub struct Reading {
+    pub value: Value,
+    pub tags: SharedTags,
+}
+
+/// How often a sign repeats what stands before it.
+fn bounds_at(sign: &Lexeme<'_>) -> Repeat
+    ensures { result ≡ bounds_at (sort_at (lexeme_view sign.now)) (lexeme_view sign.now) }
+{
+    match sign.sort() {
+        Sort::Star => Repeat { min: 0, max: None },
+        Sort::Plus => Repeat { min: 1, max: None },
+        Sort::Question => Repeat {
+            min: 0,
+            max: Some(1),
+        },
+        _ => repeat_of(sign.text),
+    }
+}
+
+/// Whether bounds are in the wrong order, or have a number over 4,096.
+fn is_wrong(bounds: Repeat) -> bool
+    ensures { result ≡ is_wrong bounds.min bounds.max }
+{
+    match bounds.max {
+        Some(most) => bounds.min > MOST_BOUND || most > MOST_BOUND || most < bounds.min,
+        None => bounds.min > MOST_BOUND,
+    }
+}
+
+/// How often a sign repeats what stands before it, or the fault of its bounds.
+fn checked_bounds(sign: &Lexeme<'_>) -> Result<Repeat, Fault>
+    ensures bounds { MatchResult result
+        (λ bounds. (bounds ≡ bounds_of (lexeme_view sign.now)) × (bounds_fault (lexeme_view sign.now) ≡ None))
+        (λ fault. bounds_fault (lexeme_view sign.now) ≡ Some fault) }
+    ensures least { IfOk result (λ bounds. bounds.min ≤ 4096) }
+    ensures most { IfOk result (λ bounds. IfSome bounds.max (λ most. most ≤ 4096)) }
+{
+    let bounds = bounds_at(sign);
+    if is_wrong(bounds) {
+        return Err(Fault::Bounds {
+            at: sign.at,
+            min: bounds.min,
+            max: bounds.max,
+        });
+    }
+    Ok(bounds)
+}
+
+/// The difference of two values, whose sign stands at a place.
+fn difference(
+    alloc: Global,
+    reader: Reader<'_>,
+    left: Value,
+    right: Value,
+    is_operand: bool,
+    at: Pos,
+) -> Result<Value, Stop>
+    requires { IsRoom reader.room }
+    ensures read { let definitions = definitions_view reader.entry.definitions.now in
+        (first second : Meaning) (sign : lexical.Lexeme) → sign.at ≡ at → IsValue reader.entry.room first left → IsValue reader.entry.room second right
+        → MatchResult result
+        (λ value. DifferenceChecks reader.entry.options.now definitions is_operand first second sign None
+        × ((meaning : Meaning) × IsDifference reader.entry.options.now definitions is_operand first second meaning × IsValue reader.entry.room meaning value))
+        (StopsAt (DifferenceChecks reader.entry.options.now definitions is_operand first second sign)) }
+    ensures honest { (count : ℕ) → IfOk result (IsHonest count) }
+{
+    let nesting = left.nesting.max(right.nesting);
+    let tags = left.tags.max(right.tags);
+    let Some(whole) = left.into_class(alloc)? else {
+        return Err(Stop::Fault(Fault::NotClass { at }));
+    };
+    let Some(holes) = right.into_class(alloc)? else {
+        return Err(Stop::Fault(Fault::NotClass { at }));
+    };
+    let set = whole.minus(alloc, &holes)?;
+    read_set(alloc, reader, tags, set, is_operand, nesting, at)
+}
+
+impl Operands {
+    ghost use Rattle.std.specs.Prelude.{◌≡◌, ◌≤◌, ◌<◌, ◌++◌, ◌∷◌, [], OnOk, MatchResult, length, suc};
+    ghost use Rattle.std.specs.Prelude.{ℕ, List};
+    ghost use Rattle.lx_base.specs.declared.settings.Options.{Options};
+    ghost use Rattle.lx_exprs.specs.Checks.{StopsAt};
+    ghost use Rattle.lx_exprs.specs.Defined.{Definition};
+    ghost use Rattle.lx_exprs.specs.Meanings.{alternated, enclosed, followed};
+    ghost use Rattle.lx_exprs.specs.Reading as reading;
+    ghost use Rattle.lx_exprs.specs.Reading.{AreHonest, AreOperands, IsStepTaken, Needs, StepChecks, depth_behind, in_place, no_operands, with_both, with_last};
+    ghost use Rattle.lx_exprs.specs.Seen.{definitions_view};
+    ghost use Rattle.lx_forms.specs.Seen.{lexeme_view, lexemes_view};
+    ghost use Rattle.lx_exprs.specs.Soundness.{AreSound};
+    ghost use Rattle.lx_forms.specs.StepViews.{step_view};
+    ghost use Rattle.lx_forms.specs.Steps.{reads, repeats, subtracts};
+    ghost use Rattle.lx_exprs.specs.Values.{IsRoom};
+    ghost use Rattle.lx_exprs.specs.declared.values.Room.{Room};
+
+    /// Nothing is read.
+    fn new(alloc: Global) -> Operands
+        ensures stands { (room : Room) → AreOperands room no_operands result }
+        ensures honest { (count : ℕ) → AreHonest count result.values.items }
+        ensures none { result.values.items ≡ [] }
+    {
+        Operands {
+            values: Vec::new(alloc),
+            seen: SeenTags::new(alloc),
+        }
+    }
+
+    /// Puts a value behind the others.
+    fn push(&mut self, value: Value) -> Result<(), Memory>
+        ensures values { OnOk result (self.new.values.items ≡ self.old.values.items ++ value ∷ []) }
+        ensures seen { self.new.seen ≡ self.old.seen }
+    {
+        self.values.push(value)?;
+        Ok(())
+    }
+
+    /// The value that was read last, which is taken away.
+    fn pop(&mut self) -> Value
+        requires { 0 < length self.old.values.items }
+        ensures values { self.old.values.items ≡ self.new.values.items ++ result ∷ [] }
+        ensures seen { self.new.seen ≡ self.old.seen }
+    {
+        match self.values.pop() {
+            Some(value) => value,
+            None => unreachable!(),
+        }
+    }
+
+    /// Reads a token that is no sign between others.
+    fn read(
+        &mut self,
+        alloc: Global,
+        reader: Reader<'_>,
+        lexeme: &Lexeme<'_>,
+        is_operand: bool,
+    ) -> Result<(), Stop>
+        requires room { IsRoom reader.room }
+        requires sound { AreSound reader.definitions.now }
+        ensures stands { let definitions = definitions_view reader.entry.definitions.now in
+            (operands : reading.Operands) → AreOperands reader.entry.room operands self.old → MatchResult result
+            (λ _. IsStepTaken reader.entry.options.now definitions reader.entry.room operands (reads is_operand (lexeme_view lexeme.now)) self.new)
+            (StopsAt (StepChecks reader.entry.options.now definitions operands (reads is_operand (lexeme_view lexeme.now)))) }
+        ensures honest { AreHonest (length self.old.seen) self.old.values.items → OnOk result (AreHonest (length self.new.seen) self.new.values.items) }
+        ensures depth { OnOk result (length self.new.values.items ≡ suc (length self.old.values.items)) }
+    {
+        let value = match read_leaf(alloc, reader, &mut self.seen, lexeme, is_operand) {
+            Ok(value) => value,
+            Err(stop) => return Err(stop),
+        };
+        self.push(value)?;
+        Ok(())
+    }
+
+    /// Closes a parenthesis.
+    fn close(&mut self, alloc: Global, room: Room) -> Result<(), Memory>
+        requires room { IsRoom room }
+        requires depth { 1 ≤ length self.old.values.items }
+        ensures stands { (operands : reading.Operands) → AreOperands room operands self.old
+            → OnOk result (AreOperands room (in_place operands (with_last enclosed operands.meanings)) self.new) }
+        ensures honest { AreHonest (length self.old.seen) self.old.values.items → OnOk result (AreHonest (length self.new.seen) self.new.values.items) }
+        ensures depth { OnOk result (length self.new.values.items ≡ length self.old.values.items) }
+    {
+        let value = self.pop().enclosed(alloc, room)?;
+        self.push(value)?;
+        Ok(())
+    }
+
+    /// Repeats what was read last.
+    fn repeat(&mut self, alloc: Global, room: Room, sign: &Lexeme<'_>) -> Result<(), Stop>
+        requires room { IsRoom room }
+        requires depth { 1 ≤ length self.old.values.items }
+        ensures stands { (options : Options) (definitions : List Definition) (operands : reading.Operands) → AreOperands room operands self.old → MatchResult result
+            (λ _. IsStepTaken options definitions room operands (repeats (lexeme_view sign.now)) self.new)
+            (StopsAt (StepChecks options definitions operands (repeats (lexeme_view sign.now)))) }
+        ensures honest { AreHonest (length self.old.seen) self.old.values.items → OnOk result (AreHonest (length self.new.seen) self.new.values.items) }
+        ensures depth { OnOk result (length self.new.values.items ≡ length self.old.values.items) }
+    {
+        let bounds = match checked_bounds(sign) {
+            Ok(bounds) => bounds,
+            Err(fault) => return Err(Stop::Fault(fault)),
+        };
+        let value = self.pop().repeated(alloc, room, bounds)?;
+        self.push(value)?;
+        Ok(())
+    }
+
+    /// Puts the last two values one behind the other.
+    fn join(&mut self, alloc: Global, room: Room) -> Result<(), Memory>
+        requires room { IsRoom room }
+        requires depth { 2 ≤ length self.old.values.items }
+        ensures stands { (operands : reading.Operands) → AreOperands room operands self.old
+            → OnOk result (AreOperands room (in_place operands (with_both followed operands.meanings)) self.new) }
+        ensures honest { AreHonest (length self.old.seen) self.old.values.items → OnOk result (AreHonest (length self.new.seen) self.new.values.items) }
+        ensures depth { OnOk result (suc (length self.new.values.items) ≡ length self.old.values.items) }
+    {
+        let back = self.pop();
+        let value = self.pop().followed_by(alloc, room, back)?;
+        self.push(value)?;
+        Ok(())
+    }
+
+    /// Puts the last two values beside each other.
+    fn choose(&mut self, alloc: Global, room: Room) -> Result<(), Memory>
+        requires room { IsRoom room }
+        requires depth { 2 ≤ length self.old.values.items }
+        ensures stands { (operands : reading.Operands) → AreOperands room operands self.old
+            → OnOk result (AreOperands room (in_place operands (with_both alternated operands.meanings)) self.new) }
+        ensures honest { AreHonest (length self.old.seen) self.old.values.items → OnOk result (AreHonest (length self.new.seen) self.new.values.items) }
+        ensures depth { OnOk result (suc (length self.new.values.items) ≡ length self.old.values.items) }
+    {
+        let right = self.pop();
+        let value = self.pop().beside(alloc, room, right)?;
+        self.push(value)?;
+        Ok(())
+    }
+
+    /// Puts the difference of the last two values in their place.
+    fn subtract(
+        &mut self,
+        alloc: Global,
+        reader: Reader<'_>,
+        sign: &Lexeme<'_>,
+        is_operand: bool,
+    ) -> Result<(), Stop>
+        requires room { IsRoom reader.room }
+        requires depth { 2 ≤ length self.old.values.items }
+        ensures stands { let definitions = definitions_view reader.entry.definitions.now in
+            (operands : reading.Operands) → AreOperands reader.entry.room operands self.old → MatchResult result
+            (λ _. IsStepTaken reader.entry.options.now definitions reader.entry.room operands (subtracts is_operand (lexeme_view sign.now)) self.new)
+            (StopsAt (StepChecks reader.entry.options.now definitions operands (subtracts is_operand (lexeme_view sign.now)))) }
+        ensures honest { AreHonest (length self.old.seen) self.old.values.items → OnOk result (AreHonest (length self.new.seen) self.new.values.items) }
+        ensures depth { OnOk result (suc (length self.new.values.items) ≡ length self.old.values.items) }
+    {
+        let right = self.pop();
+        let left = self.pop();
+        let value = match difference(alloc, reader, left, right, is_operand, sign.at) {
+            Ok(value) => value,
+            Err(stop) => return Err(stop),
+        };
+        self.push(value)?;
+        Ok(())
+    }
+
+    /// Takes a step.
+    fn take(
+        &mut self,
+        alloc: Global,
+        reader: Reader<'_>,
+        lexemes: Lexemes<'_>,
+        step: Step,
+    ) -> Result<(), Stop>
+        requires room { IsRoom reader.room }
+        requires sound { AreSound reader.definitions.now }
+        requires needs { Needs (step_view (lexemes_view lexemes) step) (length self.old.values.items) }
+        ensures stands { let definitions = definitions_view reader.entry.definitions.now in
+            (operands : reading.Operands) → AreOperands reader.entry.room operands self.old → MatchResult result
+            (λ _. IsStepTaken reader.entry.options.now definitions reader.entry.room operands (step_view (lexemes_view lexemes.entry) step) self.new)
+            (StopsAt (StepChecks reader.entry.options.now definitions operands (step_view (lexemes_view lexemes.entry) step))) }
+        ensures honest { AreHonest (length self.old.seen) self.old.values.items → OnOk result (AreHonest (length self.new.seen) self.new.values.items) }
+        ensures depth { OnOk result (length self.new.values.items ≡ depth_behind (step_view (lexemes_view lexemes.entry) step) (length self.old.values.items)) }
+    {
+        let lexeme = lexemes.at(step.place as usize);
+        match step.sort {
+            StepSort::Read => self.read(alloc, reader, &lexeme, step.is_operand),
+            StepSort::Open => open(reader.options, &lexeme),
+            StepSort::Close => Ok(self.close(alloc, reader.room)?),
+            StepSort::Repeat => self.repeat(alloc, reader.room, &lexeme),
+            StepSort::Join => Ok(self.join(alloc, reader.room)?),
+            StepSort::Subtract => self.subtract(alloc, reader, &lexeme, step.is_operand),
+            StepSort::Choose => Ok(self.choose(alloc, reader.room)?),
+        }
+    }
+}
+
+/// Opens a parenthesis. Groups of captures are not supported yet.
+fn open(options: &Options, opening: &Lexeme<'_>) -> Result<(), Stop>
+    ensures { (definitions : List Definition) → MatchResult result
+        (λ _. group_fault options.now definitions (lexeme_view opening.now) ≡ None)
+        (StopsAt (Finds (group_fault options.now definitions (lexeme_view opening.now)))) }
+{
+    if options.captures || options.posix {
+        return Err(waits(opening.at));
+    }
+    Ok(())
+}
+
+/// Takes steps in their order.
+fn take_steps(
+    alloc: Global,
+    reader: Reader<'_>,
+    lexemes: Lexemes<'_>,
+    steps: &[Step],
+) -> Result<Operands, Stop>
+    requires room { IsRoom reader.room }
+    requires sound { AreSound reader.definitions.now }
+    requires order { AreInOrder 0 (map (step_view (lexemes_view lexemes)) steps.now) }
+    ensures taken { let definitions = definitions_view reader.entry.definitions.now in
+        MatchResult result
+        (AreTaken reader.entry.options.now definitions reader.entry.room no_operands (map (step_view (lexemes_view lexemes.entry)) steps.now))
+        (StopsReading reader.entry.options.now definitions no_operands (map (step_view (lexemes_view lexemes.entry)) steps.now)) }
+    ensures honest { IfOk result (λ operands. AreHonest (length operands.seen) operands.values.items) }
+    ensures one { IfOk result (λ operands. length operands.values.items ≡ 1) }
+{
+    let mut operands = Operands::new(alloc);
+    for step in steps {
+        match operands.take(alloc, reader, lexemes, *step) {
+            Ok(()) => {}
+            Err(stop) => return Err(stop),
+        }
+    }
+    Ok(operands)
+}
+
+/// Reads the expression that stands from one token up to another. It is built only where it is within the room.
+pub fn read_expression(
+    alloc: Global,
+    reader: Reader<'_>,
+    lexemes: Lexemes<'_>,
+    from: usize,
+    until: usize,
+) -> Result<Reading, Stop>
+    requires room { IsRoom reader.room }
+    requires sound { AreSound reader.definitions.now }
+    requires part { IsPart (sorts_at (lexemes_view lexemes)) alt from until }
+    requires few { until < 2 ^ 32 }
+    ensures honest { IfOk result (λ reading. IsHonest (length reading.tags) reading.value) }
+    ensures read { let definitions = definitions_view reader.entry.definitions.now in
+        MatchResult result (IsRead reader.entry.options.now (lexemes_view lexemes.entry) definitions reader.entry.room from until)
+        (StopsAt (ExpressionChecks reader.entry.options.now (lexemes_view lexemes.entry) definitions from until)) }
+{
+    let steps = expression_steps(alloc, lexemes, from, until)?;
+    let operands = match take_steps(alloc, reader, lexemes, &steps) {
+        Ok(operands) => operands,
+        Err(stop) => return Err(stop),
+    };
+    let mut operands = operands;
+    let value = operands.pop();
+    let tags = operands.seen.into_shared(alloc)?;
+    Ok(Reading { value, tags })
+}

@@ -1,0 +1,354 @@
+//! Reads the tokens of an expression that are no signs between others.
+ghost use Rattle.std.specs.Prelude.{◌≡◌, ◌≤◌, ◌∷◌, ◌++◌, ◌^◌, ◌+◌, ℕ, Bool, true, false, List, Some, None, [], IfOk, MatchResult, length, map, max, min, suc};
+ghost use Rattle.lx_base.specs.declared.faults.Fault.TheVariants.{EmptyClass, UnknownName, Unsupported};
+ghost use Rattle.lx_base.specs.declared.faults.Stop.TheVariants as stop;
+ghost use Rattle.lx_base.specs.declared.places.Pos.{Pos};
+ghost use Rattle.lx_base.specs.declared.settings.Options.{Options};
+ghost use Rattle.lx_class.specs.Ranges.{InRanges, IsCanonical};
+ghost use Rattle.lx_regex.specs.Expr.{members_of, size_of, term_of};
+ghost use Rattle.lx_regex.specs.Term.{cat};
+ghost use Rattle.lx_exprs.specs.Checks.{IsFilled, LeafChecks, PointsAre, StopsAt};
+ghost use Rattle.lx_exprs.specs.Defined.{Definition, is_built, kept};
+ghost use Rattle.lx_forms.specs.Lexemes as lexical;
+ghost use Rattle.lx_forms.specs.Lexemes.{points_in};
+ghost use Rattle.lx_exprs.specs.Meanings.{IsSetOf, character_set, class_meaning, copied, meaning_of_string, set_term, string_meaning, tag_meaning};
+ghost use Rattle.lx_exprs.specs.Points.{singles};
+ghost use Rattle.lx_exprs.specs.Reading.{IsLeafRead};
+ghost use Rattle.lx_exprs.specs.Seen.{AreCodePoints, IsStop, definition_view, definitions_view, points_of};
+ghost use Rattle.lx_forms.specs.Seen.{lexeme_view};
+ghost use Rattle.lx_exprs.specs.Soundness.{AreSound, FitsKept};
+ghost use Rattle.lx_exprs.specs.Values.{AreTagsBelow, IsContent, IsHonest, IsRoom, IsValue, content_size, is_past};
+ghost use Rattle.lx_token.specs.declared.kinds.TokenKind.TheVariants as kind;
+
+use crate::copies::copy;
+use crate::definitions::{Definitions, Kept};
+use crate::points::points_fault;
+use crate::sets::{character_set, class_set, line_set, ranges_of, single_ranges};
+use crate::tags::{SeenTags, repeated_tag, tag_name, text};
+use crate::values::{Content, MOST_SIZE, MOST_TAGS, Room, Value, class_of, sum};
+use lx_base::{EmptyPolicy, Fault, Memory, Options, Pos, Stop, SurPolicy};
+use lx_class::ClassSet;
+use lx_forms::lexemes::Lexeme;
+use lx_regex::Expr;
+use lx_token::{Character, TokenKind, characters_of, class_of as written_class};
+use std::alloc::Global;
+
+/// What does not change while an expression is read.
+#[derive(Clone, Copy)]
+pub struct Reader<'r> {
+    pub options: &'r Options,
+    pub definitions: &'r Definitions,
+    /// What the expression may have; a greater one is read to its end and not built.
+    pub room: Room,
+}
+
+/// A form that is not supported yet.
+pub fn waits(at: Pos) -> Stop
+    ensures { result ≡ stop.Fault (Unsupported (Some at)) }
+{
+    Stop::Fault(Fault::Unsupported { at: Some(at) })
+}
+
+/// The characters of a string, one behind another.
+fn sequence(
+    alloc: Global,
+    policy: SurPolicy,
+    is_caseless: bool,
+    characters: &[Character],
+) -> Result<Expr, Memory>
+    requires { AreCodePoints characters.now }
+    ensures term { IfOk result (λ expr. (tags : ℕ) → term_of tags expr ≡ cat (members_of (map set_term (map (character_set policy is_caseless) (points_of characters.now))))) }
+    ensures size { IfOk result (λ expr. size_of expr ≡ length characters.now) }
+{
+    let mut members = Vec::new(alloc);
+    for character in characters {
+        let set = character_set(alloc, policy, is_caseless, character.point)?;
+        members.push(Expr::Class(set))?;
+    }
+    Ok(Expr::Cat(members))
+}
+
+/// What stands in a string. A long one is not built.
+fn string_content(
+    alloc: Global,
+    policy: SurPolicy,
+    is_caseless: bool,
+    characters: &[Character],
+) -> Result<Content, Memory>
+    requires { AreCodePoints characters.now }
+    ensures stands { (is_built : Bool) (count : ℕ) → (4096 + 1 ≤ length characters.now → is_built ≡ false)
+        → IfOk result (IsContent is_built (string_meaning count (map (character_set policy is_caseless) (points_of characters.now)))) }
+    ensures size { IfOk result (λ content. content_size content ≤ max 1 (length characters.now)) }
+    ensures tags { (bound : ℕ) → IfOk result (AreTagsBelow bound) }
+{
+    match characters {
+        [] => Ok(Content::One(Expr::Empty)),
+        [character] => {
+            let set = character_set(alloc, policy, is_caseless, character.point)?;
+            Ok(Content::One(Expr::Class(set)))
+        }
+        _ if characters.len() as u64 <= MOST_SIZE => {
+            let expr = sequence(alloc, policy, is_caseless, characters)?;
+            Ok(Content::One(expr))
+        }
+        _ => Ok(Content::Past(None, false)),
+    }
+}
+
+/// A class. One that is no operand of a difference and has no point is the empty word, where empty classes match that.
+fn class_content(policy: EmptyPolicy, is_operand: bool, set: ClassSet) -> Content
+    ensures stands { (is_built : Bool) (nesting count : ℕ) (tags : List (List ℕ)) → IsContent is_built (class_meaning is_operand policy nesting tags count set) result }
+    ensures size { content_size result ≡ 1 }
+    ensures tags { (bound : ℕ) → AreTagsBelow bound result }
+{
+    if !is_operand && policy == EmptyPolicy::MatchEmpty && set.ranges().is_empty() {
+        return Content::One(Expr::Empty);
+    }
+    Content::One(Expr::Class(set))
+}
+
+/// A copy of the expression of a definition, behind so many tags. One that was not built is missed nowhere.
+fn kept_content(alloc: Global, kept: &Kept, by: u64) -> Result<Content, Memory>
+    requires { FitsKept kept.now.expr kept.now.size (length kept.now.tags) }
+    ensures stands { (is_built : Bool) (before : ℕ) → by ≡ min (2 ^ 40) before → (128 + 1 ≤ before + length kept.now.tags → is_built ≡ false)
+        → IfOk result (IsContent is_built (copied before (definition_view [] kept.now))) }
+    ensures size { IfOk result (λ content. content_size content ≤ kept.now.size) }
+    ensures tags { (before : ℕ) → by ≡ min (2 ^ 40) before → IfOk result (AreTagsBelow (before + length kept.now.tags)) }
+{
+    let Some(expr) = &kept.expr else {
+        return Ok(Content::One(Expr::Empty));
+    };
+    if sum(by, kept.tags.len()) > MOST_TAGS {
+        let class = class_of(alloc, expr)?;
+        return Ok(Content::Past(class, false));
+    }
+    Ok(Content::One(copy(alloc, expr, by as u32)?))
+}
+
+/// The fault of a name that has no definition.
+fn unknown(alloc: Global, lexeme: &Lexeme<'_>) -> Stop
+    ensures { IsStop (Some (UnknownName lexeme.now.at lexeme.now.text.now)) result }
+{
+    match text(alloc, lexeme.text) {
+        Ok(name) => Stop::Fault(Fault::UnknownName {
+            at: lexeme.at,
+            name,
+        }),
+        Err(_) => Stop::Memory,
+    }
+}
+
+/// Reads a string behind so many tags.
+fn read_string(
+    alloc: Global,
+    reader: Reader<'_>,
+    count: u64,
+    lexeme: &Lexeme<'_>,
+    is_caseless: bool,
+) -> Result<Value, Stop>
+    requires { IsRoom reader.room }
+    ensures read { (definitions : List Definition) (before : ℕ) → count ≡ kept before → MatchResult result
+        (λ value. PointsAre reader.entry.options.now definitions (lexeme_view lexeme.now) (singles (points_in (lexeme_view lexeme.now))) None
+        × IsValue reader.entry.room (meaning_of_string reader.entry.options.now definitions is_caseless before (lexeme_view lexeme.now)) value)
+        (StopsAt (PointsAre reader.entry.options.now definitions (lexeme_view lexeme.now) (singles (points_in (lexeme_view lexeme.now))))) }
+    ensures honest { (all : ℕ) → IfOk result (IsHonest all) }
+{
+    let options = reader.options;
+    let characters = characters_of(alloc, lexeme.text)?;
+    let characters = characters.as_slice();
+    let ranges = single_ranges(alloc, characters)?;
+    if let Some(fault) = points_fault(options.enc, options.surrogates, lexeme.at, &ranges) {
+        return Err(Stop::Fault(fault));
+    }
+    let content = string_content(alloc, options.surrogates, is_caseless, characters)?;
+    let size = sum((characters.len() as u64).max(1), 0);
+    Ok(Value::limited(alloc, reader.room, content, size, 0, count)?)
+}
+
+/// Whether a class is refused since it is empty.
+fn is_refused(policy: EmptyPolicy, is_operand: bool, set: &ClassSet) -> bool
+    ensures refused { (options : Options) (definitions : List Definition) (at : Pos) → result ≡ true
+        → IsFilled options definitions policy is_operand at (InRanges set.now) (Some (EmptyClass at)) }
+    ensures taken { (options : Options) (definitions : List Definition) (at : Pos) → result ≡ false
+        → IsFilled options definitions policy is_operand at (InRanges set.now) None }
+{
+    policy == EmptyPolicy::Error && !is_operand && set.ranges().is_empty()
+}
+
+/// A class of this nesting and at this place, behind so many tags. One that has no point may be refused.
+pub fn read_set(
+    alloc: Global,
+    reader: Reader<'_>,
+    count: u64,
+    set: ClassSet,
+    is_operand: bool,
+    nesting: u64,
+    at: Pos,
+) -> Result<Value, Stop>
+    requires { IsRoom reader.room }
+    ensures read { (definitions : List Definition) (depth all : ℕ) (tags : List (List ℕ)) → nesting ≡ kept depth → count ≡ kept all → MatchResult result
+        (λ value. IsFilled reader.entry.options.now definitions reader.entry.options.now.empty is_operand at (InRanges set) None
+        × IsValue reader.entry.room (class_meaning is_operand reader.entry.options.now.empty depth tags all set) value)
+        (StopsAt (IsFilled reader.entry.options.now definitions reader.entry.options.now.empty is_operand at (InRanges set))) }
+    ensures honest { (all : ℕ) → IfOk result (IsHonest all) }
+{
+    let policy = reader.options.empty;
+    if is_refused(policy, is_operand, &set) {
+        return Err(Stop::Fault(Fault::EmptyClass { at }));
+    }
+    let content = class_content(policy, is_operand, set);
+    Ok(Value::limited(alloc, reader.room, content, 1, nesting, count)?)
+}
+
+/// Reads a class behind so many tags.
+fn read_class(
+    alloc: Global,
+    reader: Reader<'_>,
+    count: u64,
+    lexeme: &Lexeme<'_>,
+    is_operand: bool,
+) -> Result<Value, Stop>
+    requires room { IsRoom reader.room }
+    requires sort { (lexeme_view lexeme.now).kind ≡ kind.Class }
+    ensures read { let definitions = definitions_view reader.entry.definitions.now in
+        (before : List (List ℕ)) → count ≡ kept (length before) → MatchResult result
+        (IsLeafRead reader.entry.options.now definitions reader.entry.room is_operand before (lexeme_view lexeme.now) before)
+        (StopsAt (LeafChecks reader.entry.options.now definitions (lexeme_view lexeme.now).kind is_operand before (lexeme_view lexeme.now))) }
+    ensures honest { (all : ℕ) → IfOk result (IsHonest all) }
+{
+    let options = reader.options;
+    let class = written_class(alloc, lexeme.text)?;
+    let ranges = ranges_of(alloc, class.ranges.as_slice())?;
+    if let Some(fault) = points_fault(options.enc, options.surrogates, lexeme.at, &ranges) {
+        return Err(Stop::Fault(fault));
+    }
+    let set = class_set(alloc, options, class.is_negated, &ranges)?;
+    read_set(alloc, reader, count, set, is_operand, 0, lexeme.at)
+}
+
+/// Reads `.`, which is all code points but the line feed, behind so many tags.
+fn read_line(
+    alloc: Global,
+    reader: Reader<'_>,
+    count: u64,
+    is_operand: bool,
+) -> Result<Value, Memory>
+    requires { IsRoom reader.room }
+    ensures read { let definitions = definitions_view reader.entry.definitions.now in
+        (before : List (List ℕ)) (lexeme : lexical.Lexeme) → count ≡ kept (length before) → lexeme.kind ≡ kind.Signs
+        → IfOk result (IsLeafRead reader.entry.options.now definitions reader.entry.room is_operand before lexeme before) }
+    ensures honest { (all : ℕ) → IfOk result (IsHonest all) }
+{
+    let set = line_set(alloc, reader.options)?;
+    let content = class_content(reader.options.empty, is_operand, set);
+    Value::limited(alloc, reader.room, content, 1, 0, count)
+}
+
+/// Reads a name: a copy of what is kept of its definition, whose tags come behind those that were seen before.
+fn read_name(
+    alloc: Global,
+    reader: Reader<'_>,
+    seen: &mut SeenTags,
+    lexeme: &Lexeme<'_>,
+    is_operand: bool,
+) -> Result<Value, Stop>
+    requires room { IsRoom reader.room }
+    requires sort { (lexeme_view lexeme.now).kind ≡ kind.Name }
+    requires sound { AreSound reader.definitions.now }
+    ensures read { let definitions = definitions_view reader.entry.definitions.now in
+        MatchResult result
+        (IsLeafRead reader.entry.options.now definitions reader.entry.room is_operand seen.old (lexeme_view lexeme.now) seen.new)
+        (StopsAt (LeafChecks reader.entry.options.now definitions (lexeme_view lexeme.now).kind is_operand seen.old (lexeme_view lexeme.now))) }
+    ensures honest { IfOk result (IsHonest (length seen.new)) }
+{
+    let Some(kept) = reader.definitions.get(lexeme.text) else {
+        return Err(unknown(alloc, lexeme));
+    };
+    if let Some(fault) = repeated_tag(alloc, lexeme.at, &kept.tags, seen)? {
+        return Err(Stop::Fault(fault));
+    }
+    let by = seen.len();
+    seen.add(alloc, &kept.tags)?;
+    let content = kept_content(alloc, kept, by)?;
+    let nesting = sum(kept.nesting, 1);
+    let tags = seen.len();
+    let size = sum(kept.size, 0);
+    Ok(Value::limited(alloc, reader.room, content, size, nesting, tags)?)
+}
+
+/// A tag behind so many others. One that is past the limit is not built.
+fn tag_content(number: u64) -> Content
+    ensures stands { (is_built : Bool) (before : ℕ) (name : List ℕ) → number ≡ kept before → (128 + 1 ≤ suc before → is_built ≡ false)
+        → IsContent is_built (tag_meaning before name) result }
+    ensures size { content_size result ≤ 1 }
+    ensures tags { (before : ℕ) → number ≡ kept before → AreTagsBelow (suc before) result }
+{
+    if number < MOST_TAGS {
+        Content::One(Expr::STag(number as u32))
+    } else {
+        Content::Past(None, false)
+    }
+}
+
+/// Reads a tag.
+fn read_tag(
+    alloc: Global,
+    reader: Reader<'_>,
+    seen: &mut SeenTags,
+    lexeme: &Lexeme<'_>,
+    is_operand: bool,
+) -> Result<Value, Stop>
+    requires room { IsRoom reader.room }
+    requires sort { (lexeme_view lexeme.now).kind ≡ kind.STag }
+    ensures read { let definitions = definitions_view reader.entry.definitions.now in
+        MatchResult result
+        (IsLeafRead reader.entry.options.now definitions reader.entry.room is_operand seen.old (lexeme_view lexeme.now) seen.new)
+        (StopsAt (LeafChecks reader.entry.options.now definitions (lexeme_view lexeme.now).kind is_operand seen.old (lexeme_view lexeme.now))) }
+    ensures honest { IfOk result (IsHonest (length seen.new)) }
+{
+    if !reader.options.tags {
+        return Err(Stop::Fault(Fault::TagsOff { at: lexeme.at }));
+    }
+    let name = tag_name(lexeme.text);
+    if seen.contains(name) {
+        let name = text(alloc, name)?;
+        return Err(Stop::Fault(Fault::DuplicateTag {
+            at: lexeme.at,
+            name,
+        }));
+    }
+    let number = seen.len();
+    seen.push(alloc, name)?;
+    let tags = sum(number, 1);
+    let content = tag_content(number);
+    Ok(Value::limited(alloc, reader.room, content, 1, 0, tags)?)
+}
+
+/// Reads a token that is no sign between others, behind the tags that were seen before. M-tags are not supported yet.
+pub fn read_leaf(
+    alloc: Global,
+    reader: Reader<'_>,
+    seen: &mut SeenTags,
+    lexeme: &Lexeme<'_>,
+    is_operand: bool,
+) -> Result<Value, Stop>
+    requires room { IsRoom reader.room }
+    requires sound { AreSound reader.definitions.now }
+    ensures read { let definitions = definitions_view reader.entry.definitions.now in
+        MatchResult result
+        (IsLeafRead reader.entry.options.now definitions reader.entry.room is_operand seen.old (lexeme_view lexeme.now) seen.new)
+        (StopsAt (LeafChecks reader.entry.options.now definitions (lexeme_view lexeme.now).kind is_operand seen.old (lexeme_view lexeme.now))) }
+    ensures honest { IfOk result (IsHonest (length seen.new)) }
+{
+    match lexeme.kind {
+        TokenKind::Str => read_string(alloc, reader, seen.len(), lexeme, false),
+        TokenKind::IStr => read_string(alloc, reader, seen.len(), lexeme, true),
+        TokenKind::Class => read_class(alloc, reader, seen.len(), lexeme, is_operand),
+        TokenKind::Signs => Ok(read_line(alloc, reader, seen.len(), is_operand)?),
+        TokenKind::Name => read_name(alloc, reader, seen, lexeme, is_operand),
+        TokenKind::STag => read_tag(alloc, reader, seen, lexeme, is_operand),
+        _ => Err(Stop::Fault(Fault::Unsupported {
+            at: Some(lexeme.at),
+        })),
+    }
+}

@@ -1,0 +1,4 @@
+pub mod FormReading
+pub mod OneForm
+pub mod PlainForms
+pub mod StepMarks

@@ -1,0 +1,5 @@
+//! The forms of expressions: which token is an operand of which sign, and the steps in which an expression is read.
+#![tactic(auto)]
+
+pub mod lexemes;
+pub mod steps;

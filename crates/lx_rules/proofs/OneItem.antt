@@ -1,0 +1,204 @@
+-- The items of a block have one first fault, or leave one thing known; and so a block has one fault, or none.
+use Rattle.std.proofs.Common.{◌≡◌, ℕ, suc, ◌-◌, Bool, true, false, List, [], ◌∷◌, ◌++◌, length, Option, Some, None, Result, Ok, Err, refl, sym, ap, ap₂, subst, inl, inr, ◌∙◌}
+use Rattle.std.specs.Prelude.{not, ◌==◌}
+use Rattle.std.specs.Option.{option_map}
+use Rattle.lx_base.specs.Names.{Spellings, usual_names}
+use Rattle.lx_base.specs.declared.faults.Fault.{Fault}
+use Rattle.lx_base.specs.declared.faults.Fault.TheVariants.{Unsupported, BadValue}
+use Rattle.lx_base.specs.declared.places.Pos.{Pos}
+use Rattle.lx_base.specs.declared.settings.Options.{Options}
+use Rattle.lx_parse.specs.declared.items.Item.{Item}
+use Rattle.lx_parse.specs.declared.items.Item.TheVariants.{Define, Configure, Rule, Text}
+use Rattle.lx_regex.specs.declared.rules.Kind.{Kind}
+use Rattle.lx_regex.specs.Pattern.{patterns_of}
+use Rattle.lx_rules.specs.Blocks.{AreScanners, BlockChecks, ClashCheck, IsBlockFault, IsResolved, NoClash, Resolves, conditions_of, lonely_fault, scanners_fault, targets_fault}
+use Rattle.lx_exprs.specs.Checks.{Then, Finds}
+use Rattle.lx_rules.specs.Configurations.{config_fault}
+use Rattle.lx_exprs.specs.Defined.{Definition, Meaning, IsDefined, definition_of}
+use Rattle.lx_rules.specs.Environments.{Environment}
+use Rattle.lx_exprs.specs.Expressions.{ExpressionChecks}
+use Rattle.lx_rules.specs.Items.{Goes, ends, refused, next, HeadChecks, HeadSort, any, end, expression, IsAfter, IsHead, ItemChecks, ListChecks, RuleOf, State, TargetChecks, act_of, conds_of, first_of, first_state, head_sort, is_default, is_end, twice, unless}
+use Rattle.lx_forms.specs.Lexemes.{Lexeme, nth_lexeme, sort_at}
+use Rattle.lx_rules.specs.declared.resolved.Resolved.{Resolved}
+use Rattle.lx_rules.specs.declared.resolved.Scanner.{Scanner}
+use Rattle.lx_rules.specs.Likeness.{AreAlike, HaveSameRules}
+use Rattle.lx_exprs.proofs.OneCheck.{FindsOne, FindsOne-Finds, FindsOne-Then, FindsOne-by, context-one, definition-one, expression-one, expression_meaning-one, then_waits-one}
+
+scanners-alike : (named : Bool) (rules : List RuleOf) (conds : List (List ℕ)) (scanners others : List Scanner) → AreScanners named rules conds scanners
+    → AreScanners named rules conds others → HaveSameRules scanners others
+scanners-alike named rules [] [] [] are are_other = tt
+scanners-alike named rules [] [] (other ∷ others) are are_other = absurd are_other
+scanners-alike named rules [] (scanner ∷ scanners) others are are_other = absurd are
+scanners-alike named rules (cond ∷ conds) [] others are are_other = absurd are
+scanners-alike named rules (cond ∷ conds) (scanner ∷ scanners) [] are are_other = absurd are_other
+scanners-alike named rules (cond ∷ conds) (scanner ∷ scanners) (other ∷ others) are are_other =
+    (are.0.patterns ∙ sym are_other.0.patterns, scanners-alike named rules conds scanners others are.1 are_other.1)
+
+module _ (options : Options) (lexemes : List Lexeme) where
+  list-one : (is_absent : Bool) (at : Pos) → FindsOne (ListChecks options lexemes is_absent at)
+  list-one true at = FindsOne-Finds (unless (not options.conds) at)
+  list-one false at =
+      FindsOne-Then (Finds (Some (Unsupported (Some at)))) (Finds (unless options.conds at)) (FindsOne-Finds (Some (Unsupported (Some at))))
+      (FindsOne-Finds (unless options.conds at))
+
+  target-one : (goes : Option ℕ) → FindsOne (TargetChecks options lexemes goes)
+  target-one None = FindsOne-Finds None
+  target-one (Some goes) =
+      let lexeme = nth_lexeme lexemes (goes - 1) in
+      then_waits-one options [] (Finds (unless options.conds lexeme.at)) lexeme (FindsOne-Finds (unless options.conds lexeme.at))
+
+  head-one : (state : State) (given : HeadSort) (conds : List (List ℕ)) (head : ℕ) (slash : Option ℕ) (until : ℕ)
+      → FindsOne (HeadChecks options lexemes state given conds head slash until)
+  head-one state any conds head slash until =
+      FindsOne-Finds (twice (nth_lexeme lexemes head).at (first_of is_default conds state.rules))
+  head-one state end conds head slash until =
+      let found = twice (nth_lexeme lexemes head).at (first_of is_end conds state.rules) in
+      then_waits-one options [] (Finds found) (nth_lexeme lexemes head) (FindsOne-Finds found)
+  head-one state expression conds head None until = expression-one options state.definitions lexemes head until
+  head-one state expression conds head (Some slash) until = context-one options state.definitions lexemes head slash until
+
+  -- the checks of an item find one fault, or none
+  item-one : (state : State) (item : Item) → FindsOne (ItemChecks options lexemes state item)
+  item-one state (Define name from until) =
+      let lexeme = nth_lexeme lexemes name in
+      let first = option_map (λ (definition : Definition). definition.at) (definition_of state.definitions lexeme.text) in
+      FindsOne-Then (Finds (twice lexeme.at first)) (ExpressionChecks options lexemes state.definitions from until)
+      (FindsOne-Finds (twice lexeme.at first)) (expression-one options state.definitions lexemes from until)
+  item-one state (Configure name value) = FindsOne-Finds (config_fault (nth_lexeme lexemes name) (nth_lexeme lexemes value))
+  item-one state (Rule first head slash until goes code) =
+      let List' = ListChecks options lexemes (first == head) (nth_lexeme lexemes first).at in
+      let Head = HeadChecks options lexemes state (head_sort (sort_at (nth_lexeme lexemes head))) (conds_of options lexemes first head) head slash until in
+      let Target = TargetChecks options lexemes goes in
+      FindsOne-Then List' (Then Head Target) (list-one (first == head) (nth_lexeme lexemes first).at)
+      (FindsOne-Then Head Target
+      (head-one state (head_sort (sort_at (nth_lexeme lexemes head))) (conds_of options lexemes first head) head slash until) (target-one goes))
+  item-one state (Text value) = FindsOne-Finds None
+
+  -- a head has one kind and one meaning, if it has one
+  abbrev Heads : State → HeadSort → (head : ℕ) → (slash : Option ℕ) → (until : ℕ) → Type 0
+  Heads state given head slash until =
+      (kind other : Kind) (meaning meant : Meaning)
+      → IsHead options lexemes state.definitions given head slash until kind meaning
+      → IsHead options lexemes state.definitions given head slash until other meant → (kind ≡ other) × (meaning ≡ meant)
+
+  head_meaning-one : (state : State) (given : HeadSort) (head : ℕ) (slash : Option ℕ) (until : ℕ) → Heads state given head slash until
+  head_meaning-one state any head slash until = λ kind other meaning meant is is_other. (is.0 ∙ sym is_other.0, is.1 ∙ sym is_other.1)
+  head_meaning-one state end head slash until = λ kind other meaning meant is is_other. absurd is
+  head_meaning-one state expression head None until = λ kind other meaning meant is is_other. (
+    is.0 ∙ sym is_other.0,
+    expression_meaning-one options state.definitions lexemes head until is.1.0 is_other.1.0 meaning meant is.1.1 is_other.1.1 is.1.2 is_other.1.2,
+  )
+  head_meaning-one state expression head (Some slash) until = λ kind other meaning meant is is_other. absurd is
+
+  -- behind an item one thing is known
+  after-one : (state : State) (item : Item) (after other : State) → IsAfter options lexemes state item after
+      → IsAfter options lexemes state item other → after ≡ other
+  after-one state (Define name from until) after other is is_other =
+      let lexeme = nth_lexeme lexemes name in
+      let same = expression_meaning-one options state.definitions lexemes from until is.0 is_other.0 is.1 is_other.1 is.3 is_other.3 is.4 is_other.4 in
+      let defined = definition-one lexeme.text lexeme.at is_other.1 is.2 is_other.2
+      (subst (λ (meaning : Meaning). IsDefined lexeme.text lexeme.at meaning is.2) same is.5) is_other.5 in
+      is.6
+      ∙ ap (λ (definition : Definition). record {
+        definitions = state.definitions ++ definition ∷ [];
+        fill = state.fill;
+        rules = state.rules;
+      }) defined
+      ∙ sym is_other.6
+  after-one state (Configure name value) after other is is_other =
+      let same : is.0 ≡ is_other.0 = let found = sym is.1 ∙ is_other.1 in cc in
+      is.2 ∙ ap (λ (fill : Bool). record { definitions = state.definitions; fill = fill; rules = state.rules }) same ∙ sym is_other.2
+  after-one state (Rule first head slash until goes code) after other is is_other =
+      let same = head_meaning-one state (head_sort (sort_at (nth_lexeme lexemes head))) head slash until is.0 is_other.0 is.1 is_other.1 is.2 is_other.2 in
+      is.3
+      ∙ ap₂ (λ (kind : Kind) (meaning : Meaning). record {
+        definitions = state.definitions;
+        fill = state.fill;
+        rules = state.rules ++ record {
+          conds = conds_of options lexemes first head;
+          kind = kind;
+          at = (nth_lexeme lexemes head).at;
+          meaning = meaning;
+          target = option_map (λ place. (nth_lexeme lexemes place).at) goes;
+          act = act_of options lexemes (suc (length state.rules)) goes code;
+        } ∷ [];
+      }) same.0 same.1
+      ∙ sym is_other.3
+  after-one state (Text value) after other is is_other = is ∙ sym is_other
+
+  ends-one : {state : State} {other : Result State Fault} → Goes options lexemes state [] other → Ok state ≡ other
+  ends-one ends = refl
+
+  -- items come to one end
+  pub Goes-one : {state : State} {items : List Item} {result : Result State Fault} → Goes options lexemes state items result
+      → (other : Result State Fault) → Goes options lexemes state items other → result ≡ other
+  Goes-one ends other goes = ends-one goes
+  Goes-one (refused {state = state} {item = item} {items = items} fault checks) other goes = by other goes
+    where
+      by : (other : Result State Fault) → Goes options lexemes state (item ∷ items) other → Err fault ≡ other
+      by other (refused found checks_other) = let same = (item-one state item).one (Some fault) (Some found) checks checks_other in cc
+      by other (next after checks_other becomes goes) = absurd (let same = (item-one state item).one (Some fault) None checks checks_other in cc)
+  Goes-one (next {state = state} {item = item} {items = items} {result = result} after checks becomes goes) other goes_other =
+      by other goes_other (λ other goes_other. Goes-one goes other goes_other)
+    where
+      by : (other : Result State Fault) → Goes options lexemes state (item ∷ items) other
+          → ((other : Result State Fault) → Goes options lexemes after items other → result ≡ other) → result ≡ other
+      by other (refused found checks_other) later = absurd (let same = (item-one state item).one None (Some found) checks checks_other in cc)
+      by other (next after_other checks_other becomes_other goes_other) later =
+          later other
+          (subst (λ (s : State). Goes options lexemes s items other) (sym (after-one state item after after_other becomes becomes_other)) goes_other)
+
+  module _ (at : Pos) where
+    clash-one : (names : Spellings) (rules : List RuleOf) → FindsOne (ClashCheck at names rules)
+    clash-one names rules = FindsOne-by (NoClash names rules) (NoClash names rules → ⊥) None (Some (BadValue at)) (λ holds fails. fails holds)
+
+    block-one : (state : State) → FindsOne (BlockChecks at state)
+    block-one state =
+        let conds = conditions_of state.rules in
+        let Lonely = Finds (lonely_fault at state.rules conds) in
+        let Targets = Finds (targets_fault state.rules conds) in
+        let Scanners = Finds (scanners_fault at state.rules conds) in
+        FindsOne-Then (ClashCheck at usual_names state.rules) (Then Lonely (Then Targets Scanners)) (clash-one usual_names state.rules)
+        (FindsOne-Then Lonely (Then Targets Scanners) (FindsOne-Finds (lonely_fault at state.rules conds))
+        (FindsOne-Then Targets Scanners (FindsOne-Finds (targets_fault state.rules conds)) (FindsOne-Finds (scanners_fault at state.rules conds))))
+
+    module _ (environment : Environment) (items : List Item) where
+      -- what is known behind all items is one thing
+      state-one : (state other : State) → Goes options lexemes (first_state environment) items (Ok state)
+          → Goes options lexemes (first_state environment) items (Ok other) → state ≡ other
+      state-one state other goes goes_other = let same = Goes-one goes (Ok other) goes_other in cc
+
+      block_checks-one : (state other : State) (fault found : Option Fault) → Goes options lexemes (first_state environment) items (Ok state)
+          → Goes options lexemes (first_state environment) items (Ok other) → BlockChecks at state fault → BlockChecks at other found → fault ≡ found
+      block_checks-one state other fault found goes goes_other checks checks_other =
+          (block-one state).one fault found checks
+          (subst (λ (s : State). BlockChecks at s found) (sym (state-one state other goes goes_other)) checks_other)
+
+      -- a block has one fault, if it has one
+      pub IsBlockFault-one : (fault other : Fault) → IsBlockFault options at environment lexemes items fault
+          → IsBlockFault options at environment lexemes items other → fault ≡ other
+      IsBlockFault-one fault other (inl goes) (inl goes_other) = let same = Goes-one goes (Err other) goes_other in cc
+      IsBlockFault-one fault other (inl goes) (inr found) = absurd (let same = Goes-one goes (Ok found.0) found.1 in cc)
+      IsBlockFault-one fault other (inr found) (inl goes) = absurd (let same = Goes-one goes (Ok found.0) found.1 in cc)
+      IsBlockFault-one fault other (inr found) (inr found_other) =
+          let same = block_checks-one found.0 found_other.0 (Some fault) (Some other) found.1 found_other.1 found.2 found_other.2 in cc
+
+      -- a block that resolves has none
+      pub resolves_or_not : (after : Environment) (resolved : Resolved) (fault : Fault) → Resolves options at environment lexemes items after resolved
+          → IsBlockFault options at environment lexemes items fault → ⊥
+      resolves_or_not after resolved fault is (inl goes) = let same = Goes-one is.1 (Err fault) goes in cc
+      resolves_or_not after resolved fault is (inr found) =
+          let same = block_checks-one is.0 found.0 None (Some fault) is.1 found.1 is.2 found.2 in cc
+
+      -- a block leaves one environment, and what it resolves to is alike
+      pub Resolves-one : (after other : Environment) (resolved another : Resolved) → Resolves options at environment lexemes items after resolved
+          → Resolves options at environment lexemes items other another → (after ≡ other) × AreAlike resolved another
+      Resolves-one after other resolved another is is_other =
+          let same = state-one is.0 is_other.0 is.1 is_other.1 in
+          let ends_so = subst (λ (s : State). IsResolved options.conds s other another) (sym same) is_other.3 in (
+            is.3.environment_is ∙ sym ends_so.environment_is,
+            record {
+              fill = is.3.fill ∙ sym ends_so.fill;
+              scanners = scanners-alike options.conds is.0.rules (conditions_of is.0.rules) resolved.scanners another.scanners is.3.scanners ends_so.scanners;
+            },
+          )

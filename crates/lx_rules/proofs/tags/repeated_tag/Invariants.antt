@@ -1,7 +1,0 @@
-use Rattle.std.proofs.Common.{◌≡◌, drop}
-use Rattle.std.specs.List.{flat_map}
-use Rattle.lx_rules.specs.Checks.{repeated_tag}
-use Rattle.lx_rules.proofs.tags.repeated_tag.Given as goal
-
-abbrev pub invariant-loop-segment : goal.invariant-loop-segment
-invariant-loop-segment l = repeated_tag l.at l.tags l.seen ≡ repeated_tag l.at (flat_map (λ names. names.value) (drop l.segment-index l.segments)) l.seen

@@ -1,0 +1,17 @@
+-- When two results of blocks are alike, as far as definitions tell them apart.
+use Rattle.std.specs.Prelude.{◌≡◌, List, [], ◌∷◌}
+use Rattle.lx_regex.specs.Pattern.{patterns_of}
+use Rattle.lx_rules.specs.declared.resolved.Resolved.{Resolved}
+use Rattle.lx_rules.specs.declared.resolved.Scanner.{Scanner}
+
+-- scanners have the same rules, one by one
+abbrev pub HaveSameRules : List Scanner → List Scanner → Type 0
+HaveSameRules [] [] = Unit {0}
+HaveSameRules [] (other ∷ others) = ⊥
+HaveSameRules (scanner ∷ scanners) [] = ⊥
+HaveSameRules (scanner ∷ scanners) (other ∷ others) = (patterns_of scanner.set.rules ≡ patterns_of other.set.rules) × HaveSameRules scanners others
+
+-- what blocks resolve to is alike: refills are enabled in both or in none, and the scanners have the same rules
+pub record AreAlike (resolved other : Resolved) : Type 0 where
+  pub fill : resolved.config.fill ≡ other.config.fill
+  pub scanners : HaveSameRules resolved.scanners other.scanners
