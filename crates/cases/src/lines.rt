@@ -71,10 +71,20 @@ fn failing_call(text: &str) -> Result<Order> {
 
 fn words(alloc: Global, text: &str) -> Result<Vec<String>> {
     let mut words = Vec::new(alloc);
-    for word in text.split_whitespace() {
-        words.push(String::from_str(alloc, word)?)?;
+    for spelling in text.split_whitespace() {
+        words.push(word(alloc, spelling)?)?;
     }
     Ok(words)
+}
+
+/// A word of the command line, which is spelled as content is.
+fn word(alloc: Global, spelling: &str) -> Result<String> {
+    let mut bytes = Vec::new(alloc);
+    push_spelled(&mut bytes, spelling)?;
+    match String::from_utf8(bytes) {
+        Ok(word) => Ok(word),
+        Err(_) => bail!("a word that is no text"),
+    }
 }
 
 fn wanted_file(alloc: Global, text: &str) -> Result<Order> {

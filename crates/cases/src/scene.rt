@@ -108,13 +108,21 @@ impl Scene {
         self.look(alloc, &mut stage)
     }
 
-    /// Each word may be the name of a file that the run makes.
+    /// Each word may be the name of a file that the run makes, or end with it.
     fn note_words(&mut self, alloc: Global, words: &[String]) -> Result<(), AllocError> {
         for word in words.iter() {
-            if !self.is_known(word.as_str()) {
-                let seen = Seen::new(alloc, word.as_str(), None)?;
-                self.files.push(seen)?;
-            }
+            let word = word.as_str();
+            self.note_name(alloc, word)?;
+            self.note_name(alloc, word.strip_prefix("-o").unwrap_or(word))?;
+            self.note_name(alloc, word.strip_prefix("--output=").unwrap_or(word))?;
+        }
+        Ok(())
+    }
+
+    fn note_name(&mut self, alloc: Global, name: &str) -> Result<(), AllocError> {
+        if !self.is_known(name) {
+            let seen = Seen::new(alloc, name, None)?;
+            self.files.push(seen)?;
         }
         Ok(())
     }

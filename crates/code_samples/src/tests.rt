@@ -1,3 +1,2 @@
-mod lines;
 mod reader;
 mod stepper;

@@ -1,3 +1,2 @@
 mod encode;
 mod regex;
-mod rules;

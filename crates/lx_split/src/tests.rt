@@ -199,32 +199,6 @@ fn what_is_not_closed_in_its_line_is_a_byte(rt: HostRuntime) -> Result<(), Fail>
 }
 
 #[test]
-fn faulty_openers_are_told(rt: HostRuntime) -> Result<(), Fail> {
-    let opts = options(rt.alloc(), false, false);
-    let rows = [
-        ("/*!re2cx*/", "Directive 1:1"),
-        ("a\n /*!re2c:x*/", "Directive 2:2"),
-        ("/*!local:re2c*/", "Directive 1:1"),
-        ("/*!9re2c_", "Directive 1:1"),
-        ("/*!types:re2c*/", "Directive 1:1"),
-        ("/*!getstate:re2c*/", "Directive 1:1"),
-        ("/*!re2c", "Unclosed 1:1"),
-        ("a/*!re2c \"*/\"", "Unclosed 1:2"),
-        ("\n/*!re2c { */", "Unclosed 2:1"),
-        ("/*!re2c {\"}\" */", "Unclosed 1:1"),
-        ("/*!re2c /* */", "Unclosed 1:1"),
-        ("/*!re2c /* x", "Unclosed 1:1"),
-        ("/*!re2c // */", "Unclosed 1:1"),
-        ("/*!re2c {/*}", "Unclosed 1:1"),
-        ("/*!ignore:re2c *", "Unclosed 1:1"),
-        ("/*!re2cx*/ /*!re2c", "Directive 1:1"),
-        ("/*!re2c {\n/*!re2cx*/", "Unclosed 1:1"),
-        ("/*!re2c*/\n/*!re2cx*/", "Directive 2:1"),
-    ];
-    compare(&rt, rt.alloc(), &opts, &rows)
-}
-
-#[test]
 fn options_allow_their_blocks(rt: HostRuntime) -> Result<(), Fail> {
     let conds = options(rt.alloc(), true, false);
     let rows = [
@@ -238,29 +212,6 @@ fn options_allow_their_blocks(rt: HostRuntime) -> Result<(), Fail> {
         ("/*!getstate:re2c*/", "(GetState 1:1 1:17 1|)"),
     ];
     compare(&rt, rt.alloc(), &states, &rows)
-}
-
-#[test]
-fn marks_are_refused_first(rt: HostRuntime) -> Result<(), Fail> {
-    let opts = options(rt.alloc(), false, false);
-    let rows = [
-        ("x\n /*!begin:re2c 1*/", "MarkInSource 2:2"),
-        ("x\n /*!end:re2c*/", "MarkInSource 2:2"),
-        ("x\n /*!code:re2c 1 2*/", "MarkInSource 2:2"),
-        ("x\n /*!names:re2cx", "MarkInSource 2:2"),
-        ("x\n /*!head:re2c", "MarkInSource 2:2"),
-        ("// /*!end:re2c*/", "MarkInSource 1:4"),
-        ("/*!re2c\n/*!head:re2c */ */", "MarkInSource 2:1"),
-        ("/*!re2c { /*!end:re2c*/", "MarkInSource 1:11"),
-        ("/*!re2cx*/ /*!code:re2c", "MarkInSource 1:12"),
-        (" /*!head:re2c /*!begin:re2c", "MarkInSource 1:2"),
-        ("*!begin:re2c 1*/", "MarkInSource 1:1"),
-        ("*!names:re2c /*!head:re2c", "MarkInSource 1:1"),
-        (" *!begin:re2c 1*/", "[ *!begin:re2c 1*/]"),
-        ("/*!begin:re2", "[/*!begin:re2]"),
-        ("\n*!end:re2c", "[\n*!end:re2c]"),
-    ];
-    compare(&rt, rt.alloc(), &opts, &rows)
 }
 
 /// A front, a line as often as it fits, and a back: 16 MiB in all, or a little less.

@@ -44,3 +44,4 @@ pub mod TagMerges
 pub mod WholeTable
 pub mod TakenWalks
 pub mod LeafChoices
+pub mod FoundWalks

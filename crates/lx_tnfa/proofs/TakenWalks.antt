@@ -31,7 +31,7 @@ use Rattle.lx_tnfa.proofs.SearchPaths.{All-from_each, Each-from_all}
 -- ---- stops
 
 -- the stops of a walk to a target
-abbrev stops_to : (states : List ℕ) → Target → List Stop
+abbrev pub stops_to : (states : List ℕ) → Target → List Stop
 stops_to states to = map AtState states ++ AtTarget to ∷ []
 
 apart : (state : ℕ) (states : List ℕ) (to : Target) → Each (λ other. state ≢ other) states → Each (λ stop. AtState state ≢ stop) (stops_to states to)
@@ -74,6 +74,14 @@ begins_later (rule ∷ rules) part (suc choice) state later at = begins_later ru
 
 -- ---- walks
 
+-- the states that are left until the first unit are apart
+pub states_once : {rows : List spec.State} {state : ℕ} (walk : Walk rows 0 state) → VisitsOnce walk
+    → AllPairs (λ (state other : ℕ). state ≢ other) (first_states walk)
+states_once stay once = λ i j d lt within. absurd (omega arith)
+states_once (moved ways way stands among walk) once = once.0
+states_once (at_point ranges number stands within walk) once = λ i j d lt within. absurd (omega arith)
+states_once (at_unit number stands walk) once = λ i j d lt within. absurd (omega arith)
+
 module _ (enc : Enc) (patterns : List Pattern) (tnfa : Tnfa) (is : IsTnfaOf enc patterns tnfa) where
   abbrev FullWalk : (state : ℕ) → Type 0
   FullWalk state = Walk (automaton (terms_of patterns)) 0 state
@@ -114,14 +122,7 @@ module _ (enc : Enc) (patterns : List Pattern) (tnfa : Tnfa) (is : IsTnfaOf enc 
   taken rule (at_unit {state = zero} number stands walk) choices to takes = cc
   taken rule (at_unit {state = suc number} unit stands walk) choices to takes = leaf_taken number choices to takes
 
-  -- it visits none twice
-  states_once : {state : ℕ} (walk : FullWalk state) → VisitsOnce walk → AllPairs (λ (state other : ℕ). state ≢ other) (first_states walk)
-  states_once stay once = λ i j d lt within. absurd (omega arith)
-  states_once (moved ways way stands among walk) once = once.0
-  states_once (at_point ranges number stands within walk) once = λ i j d lt within. absurd (omega arith)
-  states_once (at_unit number stands walk) once = λ i j d lt within. absurd (omega arith)
-
-  -- and not the start
+  -- it does not visit the start
   none_start : {state : ℕ} (walk : FullWalk state) → Each (λ other. 0 ≢ other) (first_states walk)
   none_start stay = tt
   none_start (moved {state = zero} ways way stands among walk) = absurd (no_move ways way stands among)

@@ -1,5 +1,5 @@
 //! What holds of places. Each law is the contract of a function that does nothing.
-ghost use Rattle.std.specs.Prelude.{◌≡◌, ◌↔◌, ℕ, ◌/◌, List, [], ◌++◌, Some, map, slice_get, slice_index};
+ghost use Rattle.std.specs.Prelude.{◌≡◌, ◌≢◌, ◌↔◌, ℕ, ◌/◌, ◌<◌, List, [], ◌++◌, Some, map, slice_get, slice_index, All, AllPairs};
 ghost use Rattle.lx_base.specs.declared.settings.Enc.{Enc};
 ghost use Rattle.lx_regex.specs.Automaton as spec;
 ghost use Rattle.lx_regex.specs.Automaton.{automaton, moves};
@@ -9,7 +9,7 @@ ghost use Rattle.lx_regex.specs.Plain.{IsPlain};
 ghost use Rattle.lx_regex.specs.Script.{Symbol};
 ghost use Rattle.lx_regex.specs.Term.{Term};
 ghost use Rattle.lx_regex.specs.Walk.{Walk, symbols};
-ghost use Rattle.lx_tnfa.specs.Closure.{IsClosureOf, IsPlainWalk};
+ghost use Rattle.lx_tnfa.specs.Closure.{IsClosureOf, IsDead, IsPlainWalk, IsWalk};
 ghost use Rattle.lx_tnfa.specs.LeafReadings.{NumbersLeaves};
 ghost use Rattle.lx_tnfa.specs.Live.{state_of};
 ghost use Rattle.lx_tnfa.specs.Moves.{shown_move};
@@ -19,7 +19,10 @@ ghost use Rattle.lx_tnfa.specs.Standing.{StandsAt};
 ghost use Rattle.lx_tnfa.specs.TakenWalks.{GoesOnAt, ReadsAt, Takes, first_events};
 ghost use Rattle.lx_tnfa.specs.Tnfa.{AllClassesFit, IsTnfaOf, Tnfa};
 ghost use Rattle.lx_tnfa.specs.declared.closure.Reach.{Reach};
+ghost use Rattle.lx_tnfa.specs.declared.closure.Stop.{Stop};
+ghost use Rattle.lx_tnfa.specs.declared.closure.Stop.TheVariants.{AtState, AtTarget};
 ghost use Rattle.lx_tnfa.specs.declared.closure.Target.{Target};
+ghost use Rattle.lx_tnfa.specs.declared.states.Event.{Event};
 ghost use Rattle.lx_tnfa.specs.declared.places.Place.{Place};
 ghost use Rattle.lx_tnfa.specs.declared.states.State.TheVariants.{Moves};
 
@@ -90,4 +93,14 @@ pub fn walks_come_to_their_leaves()
     ensures { (enc : Enc) (patterns : List Pattern) (tnfa : Tnfa) (rule state : ℕ) (walk : Walk (automaton (terms_of patterns)) 0 state)
         → IsTnfaOf enc patterns tnfa → AllClassesFit enc (terms_of patterns)
         → (choices : List ℕ) × (to : Target) × Takes tnfa rule walk choices to × ReadsAt enc tnfa walk to }
+{}
+
+/// And each plain walk of closures from a state is until its first unit, or to its end, one over the automaton to the last state
+/// that visits no state twice between two units, with its choices and tag events. So closures take no other walks.
+pub fn closures_take_plain_walks_alone()
+    ensures { (enc : Enc) (patterns : List Pattern) (tnfa : Tnfa) (state : ℕ) (choices : List ℕ) (visited : List Stop) (events : List Event) (to : Target)
+        → IsTnfaOf enc patterns tnfa → 0 < state → IsWalk tnfa (AtState state) choices visited events (AtTarget to)
+        → AllPairs (λ stop other. stop ≢ other) visited → All (λ stop. ¬ IsDead tnfa stop) visited
+        → (walk : Walk (automaton (terms_of patterns)) 0 state) × VisitsOnce walk
+        × Takes tnfa (slice_index tnfa.owners (state / 2)) walk choices to × (events ≡ first_events walk) }
 {}

@@ -9,6 +9,3 @@ mod points;
 mod words;
 
 pub use words::read_words;
-
-#[cfg(test)]
-mod tests;

@@ -1,6 +1,6 @@
 //! The example pieces read back, and texts that are none.
 use lx_ccode::print;
-use lx_creader::{PieceStop, find_block, read_piece};
+use lx_creader::{PieceStop, read_piece};
 use memchr::memmem;
 use std::alloc::Global;
 use std::test::Fail;
@@ -28,16 +28,6 @@ fn is_read(alloc: Global, bytes: &[u8], at: usize) -> Result<bool, Fail> {
         Err(PieceStop::NotEmitted(_)) => Ok(false),
         Err(stop) => Err(stop.into()),
     }
-}
-
-/// The text with the first `old` replaced by `new`.
-fn changed(alloc: Global, text: &[u8], old: &str, new: &str) -> Result<Vec<u8>, Fail> {
-    let place = memmem::find(text, old.as_bytes()).unwrap_or(0);
-    let end = place.saturating_add(old.len());
-    let mut result = Vec::from_slice(alloc, text.get(..place).unwrap_or(&[]))?;
-    result.extend_from_slice(new.as_bytes())?;
-    result.extend_from_slice(text.get(end..).unwrap_or(&[]))?;
-    Ok(result)
 }
 
 #[test]
@@ -118,98 +108,6 @@ fn is_in_name(text: &[u8], place: usize) -> bool {
         }
         None => false,
     }
-}
-
-#[test]
-fn other_spellings_are_no_pieces(rt: HostRuntime) -> Result<(), Fail> {
-    let alloc = rt.alloc();
-    let table = [
-        (CONTEXT, "goto", "got"),
-        (CONTEXT, "yyaccept = 1;", "yyaccept = 01;"),
-        (CONTEXT, "begin:re2c 1", "begin:re2c 01"),
-        (CONTEXT, "begin:re2c 1", "begin:re2c 4294967297"),
-        (CONTEXT, "<= 0x60", "<= 0x060"),
-        (CONTEXT, "<= 0x60", "<=0x60"),
-        (CONTEXT, "<= 0x60", "<=  0x60"),
-        (CONTEXT, "YYMARKER = YYCURSOR", "YYMARKER =YYCURSOR"),
-        (CONTEXT, "YYMARKER = YYCURSOR", "YYMARKER= YYCURSOR"),
-        (CHECKED, "0x100A", "0x100a"),
-        (CONTEXT, "re2c 1 13*/", "re2c 1 12*/"),
-        (CONTEXT, "re2c 1 13*/", "re2c 1 14*/"),
-        (CONTEXT, "re2c 1 13*/", "re2c 1 18446744073709551616*/"),
-        (CONTEXT, ") goto yy1_5;", ") goto yy1_6;"),
-        (CONTEXT, ") goto yy1_5;", ") goto yy1_18446744073709551621;"),
-        (CONTEXT, "YYCTXMARKER = YYCURSOR", "yyt1 = YYCURSOR"),
-        (CONTEXT, "8:YYCURSOR", "7:YYLIMIT"),
-        (CONTEXT, "8:yyaccept", "4:yyt3"),
-        (CONTEXT, "names:re2c 1 ", "names:re2c 3 "),
-        (CONTEXT, "re2c 1 -", "re2c 1 256"),
-        (STORED, "YYSETSTATE(1)", "YYSETSTATE(0)"),
-        (STORED, "case 0: goto yy2_4", "case 0: goto yy2_5"),
-        (STORED, "YYSETCONDITION(yycB)", "YYSETCONDITION(yycC)"),
-        (CHECKED, "yynmatch = 1;", "yynmatch = 66;"),
-        (CHECKED, "yyt1 = YYCURSOR", "yyt0 = YYCURSOR"),
-    ];
-    for (text, old, new) in table {
-        let bytes = changed(alloc, text, old, new)?;
-        assert!(rt; !is_read(alloc, &bytes, 0)?, "{new}");
-    }
-    Ok(())
-}
-
-#[test]
-fn other_pieces_are_read(rt: HostRuntime) -> Result<(), Fail> {
-    let alloc = rt.alloc();
-    let table = [
-        (CONTEXT, "yyaccept = 1;", "yyaccept = 10;"),
-        (CONTEXT, "<= 0x60", "<= 0xFF"),
-        (CONTEXT, "re2c 1 -", "re2c 1 255"),
-        (CONTEXT, ") goto yy1_5;", ") goto yy1_4;"),
-        (CHECKED, "yynmatch = 1;", "yynmatch = 65;"),
-    ];
-    for (text, old, new) in table {
-        let bytes = changed(alloc, text, old, new)?;
-        assert!(rt; is_read(alloc, &bytes, 0)?, "{new}");
-    }
-    Ok(())
-}
-
-/// The piece with stored states, with this letter for the name of its second condition.
-fn with_condition(alloc: Global, letter: u8) -> Result<Vec<u8>, Fail> {
-    let mut bytes = Vec::from_slice(alloc, STORED)?;
-    for byte in bytes.iter_mut() {
-        if *byte == b'B' {
-            *byte = letter;
-        }
-    }
-    Ok(bytes)
-}
-
-#[test]
-fn equal_conditions_are_no_piece(rt: HostRuntime) -> Result<(), Fail> {
-    let alloc = rt.alloc();
-    assert!(rt; is_read(alloc, &with_condition(alloc, b'C')?, 0)?);
-    assert!(rt; !is_read(alloc, &with_condition(alloc, b'A')?, 0)?);
-    Ok(())
-}
-
-#[test]
-fn blocks_are_found(rt: HostRuntime) -> Result<(), Fail> {
-    let mut bytes = Vec::from_slice(rt.alloc(), b"a /*!begin:re2c 01*/\n/*!names:re2c ")?;
-    bytes.extend_from_slice(b"/*!begin:re2c 3*/\n/*!end:re2c*/")?;
-    bytes.extend_from_slice(b"/*!begin:re2c 4294967296*/\n/*!names:re2c ")?;
-    let first = bytes.len();
-    bytes.extend_from_slice(STORED)?;
-    let second = bytes.len();
-    bytes.extend_from_slice(CONTEXT)?;
-    bytes.extend_from_slice(CHECKED)?;
-    assert_eq!(rt; find_block(&bytes, None), Some(first));
-    assert_eq!(rt; find_block(&bytes, Some(2)), Some(first));
-    assert_eq!(rt; find_block(&bytes, Some(1)), Some(second));
-    assert_eq!(rt; find_block(&bytes, Some(3)), Some(35));
-    assert_eq!(rt; find_block(&bytes, Some(0)), None);
-    assert_eq!(rt; find_block(b"int x;", None), None);
-    Ok(())
 }
 
 /// So many copies of the middle of the text: its blocks and actions.

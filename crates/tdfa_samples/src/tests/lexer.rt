@@ -2,12 +2,9 @@
 ghost use Rattle.std.specs.Prelude.{◌≡◌};
 
 use super::limits::timed;
-use super::machine::matches;
-use super::rules::auto_of;
 use super::terms::{
     Rules, Term, both, either, letter, no_rules, points, repeated, unit, with, word,
 };
-use lx_base::Enc;
 use std::alloc::Global;
 use std::test::Fail;
 
@@ -87,22 +84,6 @@ fn lexer(alloc: Global) -> Result<Rules, Fail> {
         false,
     )?;
     with(alloc, rules, unit(), false)
-}
-
-/// The matches in `do doo <<= /***/ 1.x`. Behind `1.` there is no digit, so the number ends before the dot.
-#[test]
-fn a_lexer_finds_tokens(rt: HostRuntime) -> Result<(), Fail> {
-    let alloc = rt.alloc();
-    let auto = auto_of(alloc, &lexer(alloc)?, Enc::Utf8)?;
-    let mut input = Vec::new(alloc);
-    for byte in b"do doo <<= /***/ 1.x" {
-        input.push(u32::from(*byte))?;
-    }
-    assert_eq!(rt;
-        matches(alloc, &auto, input.as_slice(), &[])?.as_str(),
-        "7 2; 39 3; 35 6; 39 7; 32 10; 39 11; 38 16; 39 17; 36 18; 34 19; 35 20"
-    );
-    Ok(())
 }
 
 #[test]
