@@ -1,4 +1,4 @@
-use Rattle.lx_gen.proofs.RuleEndings.{no_end-simple}
+use Rattle.lx_gen.proofs.Rules.RuleEndings.{no_end-simple}
 use Rattle.lx_compile.proofs.ActionTexts.{AreShort-of}
 use Rattle.lx_compile.proofs.emission.scanner_text.Goals as goal
 

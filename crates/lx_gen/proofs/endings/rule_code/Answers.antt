@@ -3,7 +3,7 @@ use Rattle.lx_auto.specs.Automaton.{IsHeld}
 use Rattle.lx_ccode.specs.declared.piece.Stmt.TheVariants.{Code}
 use Rattle.lx_gen.specs.Endings.{back_code, slash_held, tags_code}
 use Rattle.lx_gen.specs.Rules.{ending_of, names_of}
-use Rattle.lx_gen.proofs.EndingLoops.{rule_code-parts, slash_held-held}
+use Rattle.lx_gen.proofs.Rules.EndingLoops.{rule_code-parts, slash_held-held}
 use Rattle.lx_gen.proofs.endings.rule_code.Goals as goal
 
 pub push_back-requires : goal.push_back-requires

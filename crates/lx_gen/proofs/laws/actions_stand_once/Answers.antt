@@ -1,4 +1,4 @@
-use Rattle.lx_gen.proofs.ActionCounts.{actions_once, actions_own}
+use Rattle.lx_gen.proofs.Validity.ActionCounts.{actions_once, actions_own}
 use Rattle.lx_gen.proofs.laws.actions_stand_once.Goals as goal
 
 pub returns-clause-once : goal.returns-clause-once

@@ -1,4 +1,4 @@
-use Rattle.lx_gen.proofs.LayoutFits.{layout_ends, layout_jumps}
+use Rattle.lx_gen.proofs.Validity.LayoutFits.{layout_ends, layout_jumps}
 use Rattle.lx_gen.proofs.laws.layouts_are_closed.Goals as goal
 
 pub returns-clause-jumps : goal.returns-clause-jumps

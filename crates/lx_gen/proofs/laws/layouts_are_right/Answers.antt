@@ -1,4 +1,4 @@
-use Rattle.lx_gen.proofs.LayoutLaws.{layout_right}
+use Rattle.lx_gen.proofs.Validity.LayoutLaws.{layout_right}
 use Rattle.lx_gen.proofs.laws.layouts_are_right.Goals as goal
 
 pub returns : goal.returns

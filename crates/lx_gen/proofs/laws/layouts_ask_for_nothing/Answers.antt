@@ -1,4 +1,4 @@
-use Rattle.lx_gen.proofs.QuietCodes.{layout_asks_nothing}
+use Rattle.lx_gen.proofs.Validity.QuietCodes.{layout_asks_nothing}
 use Rattle.lx_gen.proofs.laws.layouts_ask_for_nothing.Goals as goal
 
 pub returns : goal.returns

@@ -1,4 +1,4 @@
-use Rattle.lx_gen.proofs.RuleEndings.{limited_ends, rules_ends, simple_ends}
+use Rattle.lx_gen.proofs.Rules.RuleEndings.{limited_ends, rules_ends, simple_ends}
 use Rattle.lx_gen.proofs.laws.rules_have_ends.Goals as goal
 
 pub returns-clause-limited : goal.returns-clause-limited

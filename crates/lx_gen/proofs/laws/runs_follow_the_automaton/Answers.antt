@@ -1,4 +1,4 @@
-use Rattle.lx_gen.proofs.Simulation.{run_found}
+use Rattle.lx_gen.proofs.Runs.Simulation.{run_found}
 use Rattle.lx_gen.proofs.laws.runs_follow_the_automaton.Goals as goal
 
 pub returns : goal.returns

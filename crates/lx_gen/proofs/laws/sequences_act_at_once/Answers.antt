@@ -1,4 +1,4 @@
-use Rattle.lx_gen.proofs.LayoutLaws.{mregs-at_once, regs-at_once}
+use Rattle.lx_gen.proofs.Validity.LayoutLaws.{mregs-at_once, regs-at_once}
 use Rattle.lx_gen.proofs.laws.sequences_act_at_once.Goals as goal
 
 pub returns-clause-registers : goal.returns-clause-registers

@@ -1,4 +1,4 @@
-use Rattle.lx_gen.proofs.Matches.{served_right}
+use Rattle.lx_gen.proofs.Runs.Matches.{served_right}
 use Rattle.lx_gen.proofs.laws.served_pieces_are_right.Goals as goal
 
 pub returns : goal.returns

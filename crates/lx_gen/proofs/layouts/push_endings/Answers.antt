@@ -4,7 +4,7 @@ use Rattle.lx_gen.specs.Plans.{seen_accepts, unlabelled}
 use Rattle.lx_gen.specs.Layout.{ending_blocks}
 use Rattle.lx_gen.specs.Rules.{endings_of}
 use Rattle.lx_gen.specs.declared.accepts.First.{First}
-use Rattle.lx_gen.proofs.EndingLoops.{EndIsKnown, ends_known}
+use Rattle.lx_gen.proofs.Rules.EndingLoops.{EndIsKnown, ends_known}
 use Rattle.lx_gen.proofs.layouts.push_endings.Goals as goal
 
 pub loop-first-init : goal.loop-first-init

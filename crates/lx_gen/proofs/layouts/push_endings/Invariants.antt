@@ -3,7 +3,7 @@ use Rattle.std.specs.List.{AllByRecursion}
 use Rattle.lx_gen.specs.Layout.{accepts_of, ending_blocks}
 use Rattle.lx_gen.specs.Plans.{seen_accepts, unlabelled}
 use Rattle.lx_gen.specs.Rules.{endings_of}
-use Rattle.lx_gen.proofs.EndingLoops.{EndIsKnown}
+use Rattle.lx_gen.proofs.Rules.EndingLoops.{EndIsKnown}
 use Rattle.lx_gen.proofs.layouts.push_endings.Given as goal
 
 abbrev pub invariant-loop-first : goal.invariant-loop-first

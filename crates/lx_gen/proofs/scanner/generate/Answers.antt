@@ -9,8 +9,8 @@ use Rattle.lx_encode.specs.Units.{unit_size}
 use Rattle.lx_regex.specs.Order.{greedy}
 use Rattle.lx_gen.specs.Layout.{layout}
 use Rattle.lx_gen.specs.Rules.{endings_of}
-use Rattle.lx_gen.proofs.RuleTold.{rules_told}
-use Rattle.lx_gen.proofs.Scanners.{scanner}
+use Rattle.lx_gen.proofs.Rules.RuleTold.{rules_told}
+use Rattle.lx_gen.proofs.Rules.Scanners.{scanner}
 use Rattle.lx_gen.proofs.scanner.generate.Goals as goal
 
 greatest_is : (enc : Enc) (unit : ℕ) → unit + 1 ≡ 256 ^ unit_size enc → unit ≡ greatest_unit enc

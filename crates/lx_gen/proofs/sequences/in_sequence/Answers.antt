@@ -1,7 +1,7 @@
 use Rattle.std.proofs.Common.{◌≡◌, ◌++◌, length, sym, ◌∙◌, ap, subst}
 use Rattle.lx_gen.specs.CopyOps.{AreKnown, seen_copies, waiting_copies}
 use Rattle.lx_gen.specs.Sequences.{in_sequence}
-use Rattle.lx_gen.proofs.WaitingCopies.{AreKnown-new, waiting_copies-new}
+use Rattle.lx_gen.proofs.Operations.WaitingCopies.{AreKnown-new, waiting_copies-new}
 use Rattle.lx_gen.proofs.sequences.in_sequence.Goals as goal
 
 pub loop-alloc-init : goal.loop-alloc-init

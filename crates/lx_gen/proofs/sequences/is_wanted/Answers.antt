@@ -1,7 +1,7 @@
 use Rattle.std.proofs.Common.{◌+◌, ◌&&◌, ◌||◌, not, nat_eq, drop, take, subst, sym, ◌∙◌, ap}
 use Rattle.lx_gen.specs.CopyOps.{IsKnown, seen_copy, waiting_copies}
 use Rattle.lx_gen.specs.Sequences.{is_in, sources}
-use Rattle.lx_gen.proofs.WaitingCopies.{AreKnown-at, AreKnown-set, drop-here, is_in-known, same_waiting, take-here, unread_target-known, unread_target-tested, waiting_copies-around, waiting_copies-set}
+use Rattle.lx_gen.proofs.Operations.WaitingCopies.{AreKnown-at, AreKnown-set, drop-here, is_in-known, same_waiting, take-here, unread_target-known, unread_target-tested, waiting_copies-around, waiting_copies-set}
 use Rattle.lx_gen.proofs.sequences.is_wanted.Goals as goal
 
 pub returns-then-waiting-clause-wanted : goal.returns-then-waiting-clause-wanted

@@ -1,7 +1,7 @@
 use Rattle.std.proofs.Common.{◌≡◌, arith, length, refl, ap, ◌∙◌}
 use Rattle.std.proofs.lemmas.List.{length-map}
 use Rattle.lx_gen.specs.CopyOps.{seen_copy, waiting_copies}
-use Rattle.lx_gen.proofs.WaitingCopies.{length-read_from}
+use Rattle.lx_gen.proofs.Operations.WaitingCopies.{length-read_from}
 use Rattle.lx_gen.proofs.sequences.push_next.Goals as goal
 
 pub returns-in_ok-list-in-None-clause-fewer : goal.returns-in_ok-list-in-None-clause-fewer

@@ -2,7 +2,7 @@ use Rattle.std.proofs.Common.{◌≡◌, arith, map, subst, sym, ◌∙◌, ap}
 use Rattle.std.proofs.lemmas.Grind.{common_steps}
 use Rattle.lx_gen.specs.CopyOps.{AreKnown, renamed, waiting_copies}
 use Rattle.lx_gen.specs.Sequences.{read_from}
-use Rattle.lx_gen.proofs.WaitingCopies.{AreKnown-renamed, is_in-read_from, waiting_copies-renamed}
+use Rattle.lx_gen.proofs.Operations.WaitingCopies.{AreKnown-renamed, is_in-read_from, waiting_copies-renamed}
 use Rattle.lx_gen.proofs.sequences.read_from.Goals as goal
 
 pub returns-clause-copies : goal.returns-clause-copies

@@ -1,6 +1,6 @@
 use Rattle.std.proofs.Common.{◌+◌, ◌++◌, drop, map, take, subst, sym, ◌∙◌, ap}
 use Rattle.lx_gen.specs.CopyOps.{AreKnown, forgotten, seen_copy, waiting_copies}
-use Rattle.lx_gen.proofs.WaitingCopies.{AreKnown-forgotten, AreKnown-left, drop-here, is_in-left, take-here, waiting_copies-forgotten, waiting_copies-left}
+use Rattle.lx_gen.proofs.Operations.WaitingCopies.{AreKnown-forgotten, AreKnown-left, drop-here, is_in-left, take-here, waiting_copies-forgotten, waiting_copies-left}
 use Rattle.lx_gen.proofs.sequences.take_at.Goals as goal
 
 pub returns-clause-here : goal.returns-clause-here

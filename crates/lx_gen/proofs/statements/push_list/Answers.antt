@@ -1,6 +1,6 @@
 use Rattle.std.proofs.Common.{arith, subst, sym, ◌∙◌}
 use Rattle.lx_gen.specs.Numbers.{AreBelow}
-use Rattle.lx_gen.proofs.SequenceBounds.{AreBelow-one_by_one, AreOps-AreBelow}
+use Rattle.lx_gen.proofs.Operations.SequenceBounds.{AreBelow-one_by_one, AreOps-AreBelow}
 use Rattle.lx_gen.proofs.statements.push_list.Goals as goal
 
 pub push_ops-requires : goal.push_ops-requires

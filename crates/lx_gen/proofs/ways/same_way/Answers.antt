@@ -2,7 +2,7 @@ use Rattle.std.proofs.Common.{◌∙◌, ap₂, sym, List, ◌&&◌, Bool, refl,
 use Rattle.std.specs.Cmp.Lexicographic.{pointwise}
 use Rattle.lx_auto.specs.contracts.ops.OpPartialEq.TheImpl.{eq-value}
 use Rattle.lx_auto.specs.declared.ops.Op.{Op}
-use Rattle.lx_gen.proofs.OpsAlike.{pointwise-same_ops}
+use Rattle.lx_gen.proofs.Operations.OpsAlike.{pointwise-same_ops}
 use Rattle.lx_gen.proofs.ways.same_way.Goals as goal
 
 pub returns-then-edge-other : goal.returns-then-edge-other

@@ -2,9 +2,9 @@ use Rattle.std.proofs.Common.{◌+◌, ◌*◌, ◌≤◌, arith, ap, ◌∙◌,
 use Rattle.std.proofs.Math.Nat.{mul-le-mul}
 use Rattle.std.proofs.lemmas.Result.{err_from_is_err_and}
 use Rattle.lx_tdfa.specs.Making.{most_places}
-use Rattle.lx_tdfa.proofs.Determined.{built-automaton, built-narrow, built-too_many, start_listed}
-use Rattle.lx_tdfa.proofs.TableBounds.{most_places-within}
-use Rattle.lx_tdfa.proofs.TableFormed.{table_formed}
+use Rattle.lx_tdfa.proofs.Tables.Determined.{built-automaton, built-narrow, built-too_many, start_listed}
+use Rattle.lx_tdfa.proofs.Tables.TableBounds.{most_places-within}
+use Rattle.lx_tdfa.proofs.Tables.TableFormed.{table_formed}
 use Rattle.lx_tdfa.proofs.automata.determinize.Goals as goal
 
 pub overflow_cast-source : goal.overflow_cast-source

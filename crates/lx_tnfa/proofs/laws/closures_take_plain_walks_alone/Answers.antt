@@ -1,4 +1,4 @@
-use Rattle.lx_tnfa.proofs.FoundWalks.{plain_found}
+use Rattle.lx_tnfa.proofs.Searching.FoundWalks.{plain_found}
 use Rattle.lx_tnfa.proofs.laws.closures_take_plain_walks_alone.Goals as goal
 
 pub returns : goal.returns

@@ -1,4 +1,4 @@
-use Rattle.lx_tnfa.proofs.OnePlace.{one_place}
+use Rattle.lx_tnfa.proofs.Leaves.OnePlace.{one_place}
 use Rattle.lx_tnfa.proofs.laws.places_are_told_apart.Goals as goal
 
 pub returns : goal.returns

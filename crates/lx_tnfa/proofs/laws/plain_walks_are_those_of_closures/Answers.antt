@@ -1,4 +1,4 @@
-use Rattle.lx_tnfa.proofs.TakenWalks.{plain_taken}
+use Rattle.lx_tnfa.proofs.Searching.TakenWalks.{plain_taken}
 use Rattle.lx_tnfa.proofs.laws.plain_walks_are_those_of_closures.Goals as goal
 
 pub returns : goal.returns

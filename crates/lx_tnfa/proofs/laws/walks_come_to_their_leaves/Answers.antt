@@ -1,4 +1,4 @@
-use Rattle.lx_tnfa.proofs.LeafChoices.{some_taken}
+use Rattle.lx_tnfa.proofs.Leaves.LeafChoices.{some_taken}
 use Rattle.lx_tnfa.proofs.laws.walks_come_to_their_leaves.Goals as goal
 
 pub returns : goal.returns

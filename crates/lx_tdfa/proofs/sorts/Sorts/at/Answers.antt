@@ -1,6 +1,6 @@
 use Rattle.std.proofs.Common.{◌∙◌, map, rules, sym, subst}
 use Rattle.lx_tdfa.specs.Making.{AreSortsOf}
-use Rattle.lx_tdfa.proofs.PartSorts.{AreSortsOf-at}
+use Rattle.lx_tdfa.proofs.Rules.PartSorts.{AreSortsOf-at}
 use Rattle.lx_tdfa.proofs.sorts.Sorts.at.Goals as goal
 
 pub returns-in-Some : goal.returns-in-Some

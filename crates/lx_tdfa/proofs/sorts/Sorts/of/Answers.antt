@@ -4,7 +4,7 @@ use Rattle.std.specs.Option.{unwrap_or}
 use Rattle.std.specs.Prelude.{slice_index}
 use Rattle.lx_tnfa.specs.Tnfa.{sorts_for}
 use Rattle.lx_tdfa.specs.Making.{AreSortsOf}
-use Rattle.lx_tdfa.proofs.PartSorts.{AreSortsOf-more}
+use Rattle.lx_tdfa.proofs.Rules.PartSorts.{AreSortsOf-more}
 use Rattle.lx_tdfa.proofs.sorts.Sorts.of.Goals as goal
 
 pub loop-part-preserved : goal.loop-part-preserved

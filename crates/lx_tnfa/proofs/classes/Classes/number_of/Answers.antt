@@ -1,6 +1,6 @@
 use Rattle.std.proofs.Common.{◌≡◌, sym, subst, arith, length}
 use Rattle.lx_encode.specs.Graph.{IsGraphOf}
-use Rattle.lx_tnfa.proofs.ClassLists.{classes_push, class_last}
+use Rattle.lx_tnfa.proofs.Leaves.ClassLists.{classes_push, class_last}
 use Rattle.lx_tnfa.proofs.classes.Classes.number_of.Goals as goal
 
 pub returns-clause-sound : goal.returns-clause-sound

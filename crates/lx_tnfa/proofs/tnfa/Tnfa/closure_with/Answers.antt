@@ -1,8 +1,8 @@
 use Rattle.std.proofs.Common.{[], ◌++◌, ◌∷◌, ◌∙◌, ◌<◌, ap, refl, sym, subst, vec_len}
 use Rattle.lx_tnfa.specs.Search.{Enters}
 use Rattle.lx_tnfa.specs.declared.search.Branch.{Branch}
-use Rattle.lx_tnfa.proofs.ClosureLoop.{none_left}
-use Rattle.lx_tnfa.proofs.SearchTrail.{SearchSoFar, left_dropped, left_state, left_target, search_begin, search_dropped, search_end, search_left, search_state, search_taken, search_target}
+use Rattle.lx_tnfa.proofs.Searching.ClosureLoop.{none_left}
+use Rattle.lx_tnfa.proofs.Searching.SearchTrail.{SearchSoFar, left_dropped, left_state, left_target, search_begin, search_dropped, search_end, search_left, search_state, search_taken, search_target}
 use Rattle.lx_tnfa.proofs.tnfa.Tnfa.closure_with.Goals as goal
 
 pub loop-at-init : goal.loop-at-init

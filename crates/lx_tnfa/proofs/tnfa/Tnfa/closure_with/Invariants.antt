@@ -1,4 +1,4 @@
-use Rattle.lx_tnfa.proofs.SearchTrail.{SearchSoFar, search_left}
+use Rattle.lx_tnfa.proofs.Searching.SearchTrail.{SearchSoFar, search_left}
 use Rattle.lx_tnfa.proofs.tnfa.Tnfa.closure_with.Given as goal
 
 abbrev pub invariant-loop-at : goal.invariant-loop-at

@@ -1,7 +1,7 @@
 use Rattle.std.proofs.Common.{◌≡◌, ◌*◌, ◌<◌, ◌∷◌, [], ◌∙◌, length, ap, sym, subst, arith}
 use Rattle.std.proofs.lemmas.Bool.Decides.{nat_tests}
 use Rattle.lx_tnfa.specs.Tnfa.{FinishesRest, FinishesPlace, rows_at}
-use Rattle.lx_tnfa.proofs.PlaceSteps.{class_goes_on, goes_on, numbered_at, rows_are, state_is}
+use Rattle.lx_tnfa.proofs.Leaves.PlaceSteps.{class_goes_on, goes_on, numbered_at, rows_are, state_is}
 use Rattle.lx_tnfa.proofs.tnfa.Tnfa.next.Goals as goal
 
 pub returns-in_ok-rest-in-Class-clause-none : goal.returns-in_ok-rest-in-Class-clause-none

@@ -1,4 +1,4 @@
-use Rattle.lx_tnfa.proofs.FormedLeaves.{steps_lead_of}
+use Rattle.lx_tnfa.proofs.Leaves.FormedLeaves.{steps_lead_of}
 use Rattle.lx_tnfa.proofs.tnfa.Tnfa.push_steps.Goals as goal
 
 pub returns-then-branch-eq0-clause-targets : goal.returns-then-branch-eq0-clause-targets

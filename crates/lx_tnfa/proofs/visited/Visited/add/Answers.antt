@@ -1,5 +1,5 @@
 use Rattle.lx_tnfa.specs.contracts.closure.StopPartialEq.TheImpl.{eq-value}
-use Rattle.lx_tnfa.proofs.StopSets.{added, same_stop, stop_same}
+use Rattle.lx_tnfa.proofs.Searching.StopSets.{added, same_stop, stop_same}
 use Rattle.lx_tnfa.proofs.visited.Visited.add.Goals as goal
 
 pub returns : goal.returns

@@ -1,0 +1,132 @@
+-- Statements and blocks, one behind another.
+use Rattle.std.specs.Prelude.{◌≡◌, ℕ, zero, suc, ◌+◌, ◌<◌, List, [], ◌∷◌, ◌++◌, length, drop, slice_index_or, None, Bool, true, false, if◌then◌else◌}
+use Rattle.std.proofs.Common.{refl, ap, ap₂, sym, subst, ◌∙◌, arith, append_assoc}
+use Rattle.std.proofs.lemmas.List.{drop_more}
+use Rattle.std.specs.List.{AllByRecursion}
+use Rattle.lx_auto.specs.Automaton.{LeadWithin}
+use Rattle.lx_auto.specs.declared.automaton.Auto.{Auto}
+use Rattle.lx_auto.specs.declared.automaton.Edge.{Edge}
+use Rattle.lx_auto.specs.declared.automaton.State.{State}
+use Rattle.lx_auto.specs.declared.ops.Op.{Op}
+use Rattle.lx_ccode.specs.Statements.{code_of}
+use Rattle.lx_ccode.specs.declared.piece.CodeBlock.{CodeBlock}
+use Rattle.lx_ccode.specs.declared.piece.Stmt.{Stmt}
+use Rattle.lx_ccode.specs.declared.piece.Stmt.TheVariants.{Goto, Skip}
+use Rattle.lx_gen.specs.Codes.{choices_code, edge_code, keep_code, keeps_on, list_code}
+use Rattle.lx_gen.specs.Endings.{Ending}
+use Rattle.lx_gen.specs.Layout.{accepts_of, choices_from, ending_blocks, fall_block, kept_number, kept_of, layout, place_in, place_of, restore_blocks, state_size}
+use Rattle.lx_gen.specs.Plans.{blocks_of_states, blocks_of_ways, places_from, rule_at, unlabelled}
+use Rattle.lx_gen.specs.Sequences.{one_by_one}
+use Rattle.lx_gen.specs.Views.{seen_ways}
+use Rattle.lx_gen.specs.Ways.{has_way, ways_of, ways_onto}
+use Rattle.lx_gen.specs.declared.ends.Ends.{Ends}
+use Rattle.lx_gen.specs.declared.ways.Way.{Way}
+use Rattle.lx_gen.proofs.Operations.SequenceBounds.{ops_code-append}
+
+-- ---- statements
+
+pub list_code-append : (auto : Auto) (ops : List Op) (rest : List Stmt) → list_code auto ops rest ≡ list_code auto ops [] ++ rest
+list_code-append auto ops rest = ops_code-append (one_by_one auto.regs auto.mregs ops) rest
+
+keep_code-append : (keeps : Bool) (kept : ℕ) (rest : List Stmt) → keep_code keeps kept rest ≡ keep_code keeps kept [] ++ rest
+keep_code-append false kept rest = refl
+keep_code-append true kept rest = refl
+
+pub edge_code-parts : (auto : Auto) (state : State) (kept : ℕ) (edge : Edge) (block : ℕ)
+    → (((keep_code (keeps_on auto.states state edge) kept [] ++ list_code auto state.leave []) ++ list_code auto edge.ops []) ++ Skip ∷ [])
+    ++ Goto block ∷ [] ≡ edge_code auto state kept edge block
+edge_code-parts auto state kept edge block =
+    let keep = keep_code (keeps_on auto.states state edge) kept [] in
+    let leave = list_code auto state.leave [] in
+    let ops = list_code auto edge.ops [] in
+    append_assoc ((keep ++ leave) ++ ops) (Skip ∷ []) (Goto block ∷ [])
+    ∙ append_assoc (keep ++ leave) ops (Skip ∷ Goto block ∷ [])
+    ∙ append_assoc keep leave (ops ++ Skip ∷ Goto block ∷ [])
+    ∙ ap (λ l. keep ++ (leave ++ l)) (sym (list_code-append auto edge.ops (Skip ∷ Goto block ∷ [])))
+    ∙ ap (λ l. keep ++ l) (sym (list_code-append auto state.leave (list_code auto edge.ops (Skip ∷ Goto block ∷ []))))
+    ∙ sym (keep_code-append (keeps_on auto.states state edge) kept
+    (list_code auto state.leave (list_code auto edge.ops (Skip ∷ Goto block ∷ []))))
+
+-- ---- where states stand
+
+pub places_from-length : (ends : Ends) (number from : ℕ) (states : List State) → length (places_from ends number from states) ≡ length states
+places_from-length ends number from [] = refl
+places_from-length ends number from (state ∷ states) =
+    ap suc (places_from-length ends (suc number) (from + state_size ends.greatest number state) states)
+
+pub places_from-at : (ends : Ends) (number from : ℕ) (states : List State) (n other : ℕ) → n < length states
+    → slice_index_or (places_from ends number from states) n other
+    ≡ place_in ends.greatest ends.auto.now (rule_at ends) (fall_block ends.greatest ends.auto.now 0) number from states n
+places_from-at ends number from [] n other lt = absurd (omega (arith, lt))
+places_from-at ends number from (state ∷ states) zero other lt = refl
+places_from-at ends number from (state ∷ states) (suc n) other lt =
+    places_from-at ends (suc number) (from + state_size ends.greatest number state) states n other (omega (arith, lt))
+
+-- ---- ways
+
+LeadWithin-append : (regs mregs count : ℕ) (a b : List Edge) → LeadWithin regs mregs count a → LeadWithin regs mregs count b
+    → LeadWithin regs mregs count (a ++ b)
+LeadWithin-append regs mregs count [] b h g = g
+LeadWithin-append regs mregs count (edge ∷ a) b h g = (h.0, h.1, LeadWithin-append regs mregs count a b h.2 g)
+
+LeadWithin-onto : (regs mregs count : ℕ) (edges found : List Edge) → LeadWithin regs mregs count found → LeadWithin regs mregs count edges
+    → LeadWithin regs mregs count (ways_onto found edges)
+LeadWithin-onto regs mregs count [] found h g = h
+LeadWithin-onto regs mregs count (edge ∷ edges) found h g = by (has_way found edge) (λ ways is. LeadWithin-onto regs mregs count edges ways is g.2)
+  where
+    by : (t : Bool) → ((ways : List Edge) → LeadWithin regs mregs count ways → LeadWithin regs mregs count (ways_onto ways edges))
+        → LeadWithin regs mregs count (ways_onto (if t then found else found ++ edge ∷ []) edges)
+    by true again = again found h
+    by false again = again (found ++ edge ∷ []) (LeadWithin-append regs mregs count found (edge ∷ []) h (g.0, g.1, tt))
+
+pub LeadWithin-ways_of : (regs mregs count : ℕ) (edges : List Edge) → LeadWithin regs mregs count edges
+    → LeadWithin regs mregs count (ways_of edges)
+LeadWithin-ways_of regs mregs count edges lead = LeadWithin-onto regs mregs count edges [] tt lead
+
+module _ (ways : List Way) (index : ℕ) (way : Way) (within : index < length ways) (is : way ≡ slice_index_or ways index way) where
+  here : drop index ways ≡ way ∷ drop (index + 1) ways
+  here = drop_more ways index way within ∙ ap (λ w. w ∷ drop (index + 1) ways) (sym is)
+
+  pub ways-lead : (regs mregs count : ℕ) → LeadWithin regs mregs count (seen_ways (drop index ways))
+      → LeadWithin regs mregs count (way.edge.now ∷ seen_ways (drop (index + 1) ways))
+  ways-lead regs mregs count lead = subst (λ (l : List Way). LeadWithin regs mregs count (seen_ways l)) here lead
+
+  pub ways-more : (ends : Ends) (state : State) (code : List Stmt) (front next whole : List CodeBlock)
+      → next ≡ front ++ unlabelled (code ∷ []) → front ++ unlabelled (blocks_of_ways ends state (seen_ways (drop index ways))) ≡ whole
+      → code ≡ edge_code ends.auto.now state (kept_number (kept_of ends.auto.now.states) state.accept) way.edge.now
+      (place_of ends.greatest ends.auto.now 0 way.edge.now.to)
+      → next ++ unlabelled (blocks_of_ways ends state (seen_ways (drop (index + 1) ways))) ≡ whole
+  ways-more ends state code front next whole put before e =
+      ap (λ l. l ++ unlabelled (blocks_of_ways ends state (seen_ways (drop (index + 1) ways)))) put
+      ∙ append_assoc front (unlabelled (code ∷ [])) (unlabelled (blocks_of_ways ends state (seen_ways (drop (index + 1) ways))))
+      ∙ ap (λ c. front ++ unlabelled (c ∷ blocks_of_ways ends state (seen_ways (drop (index + 1) ways)))) e
+      ∙ ap (λ (l : List Way). front ++ unlabelled (blocks_of_ways ends state (seen_ways l))) (sym here) ∙ before
+
+-- ---- blocks
+
+pub unlabelled-append : (a b : List (List Stmt)) → unlabelled (a ++ b) ≡ unlabelled a ++ unlabelled b
+unlabelled-append [] b = refl
+unlabelled-append (code ∷ a) b = ap (λ l. record { cond = None; stmts = code } ∷ l) (unlabelled-append a b)
+
+pub code_of-unlabelled : (codes : List (List Stmt)) → code_of (unlabelled codes) ≡ codes
+code_of-unlabelled [] = refl
+code_of-unlabelled (code ∷ codes) = ap (λ l. code ∷ l) (code_of-unlabelled codes)
+
+pub unlabelled-none : (codes : List (List Stmt)) → AllByRecursion (λ (block : CodeBlock). block.cond ≡ None) (unlabelled codes)
+unlabelled-none [] = tt
+unlabelled-none (code ∷ codes) = (refl, unlabelled-none codes)
+
+pub layout-parts : (endings : ℕ → Ending) (ends : Ends) (greatest : ℕ) (auto : Auto) → ends.greatest ≡ greatest → ends.auto.now ≡ auto
+    → (unlabelled (blocks_of_states ends 0 0 ends.auto.now.states)
+    ++ unlabelled (choices_code (choices_from 1 (suc (fall_block ends.greatest ends.auto.now 0)) (kept_of ends.auto.now.states))
+    ∷ restore_blocks (rule_at ends) (kept_of ends.auto.now.states)))
+    ++ unlabelled (ending_blocks endings (accepts_of ends.auto.now.states)) ≡ unlabelled (layout endings greatest auto 0)
+layout-parts endings ends greatest auto units same =
+    let states = blocks_of_states ends 0 0 ends.auto.now.states in
+    let choices = choices_code (choices_from 1 (suc (fall_block ends.greatest ends.auto.now 0)) (kept_of ends.auto.now.states)) in
+    let restores = restore_blocks (rule_at ends) (kept_of ends.auto.now.states) in
+    let last = ending_blocks endings (accepts_of ends.auto.now.states) in
+    append_assoc (unlabelled states) (unlabelled (choices ∷ restores)) (unlabelled last)
+    ∙ ap (λ l. unlabelled states ++ l) (sym (unlabelled-append (choices ∷ restores) last))
+    ∙ sym (unlabelled-append states (choices ∷ (restores ++ last)))
+    ∙ ap₂ (λ g a. unlabelled (layout endings g a 0)) units same

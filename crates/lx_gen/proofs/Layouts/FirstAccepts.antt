@@ -1,0 +1,187 @@
+-- Of what is chosen of states the first accept of each rule: what holds of each, how many there are, and where a rule stands.
+use Rattle.std.specs.Prelude.{◌≡◌, ◌≢◌, ℕ, suc, ◌+◌, ◌<◌, ◌≤◌, List, [], ◌∷◌, ◌++◌, length, Option, Some, None, Bool, true, false, nat_eq, refl, if◌then◌else◌}
+use Rattle.std.proofs.Common.{sym, ap, ◌∙◌, arith, eq-eqb, true≢false, length-append}
+use Rattle.std.specs.List.{AllByRecursion}
+use Rattle.lx_auto.specs.declared.automaton.Accept.{Accept}
+use Rattle.lx_auto.specs.declared.automaton.State.{State}
+use Rattle.lx_gen.specs.Codes.{is_kept}
+use Rattle.lx_gen.specs.Layout.{firsts_onto, has_rule, kept_accept, rule_place, with_accept}
+use Rattle.lx_gen.proofs.Validity.EachElement.{each-append}
+
+-- ---- what holds of each
+
+module _ (P : Accept → Type 0) where
+  abbrev pub Chosen : Option Accept → Type 0
+  Chosen None = Unit {0}
+  Chosen (Some accept) = P accept
+
+  each-with_accept : (found : List Accept) (o : Option Accept) → AllByRecursion P found → Chosen o → AllByRecursion P (with_accept found o)
+  each-with_accept found None h is = h
+  each-with_accept found (Some accept) h is = by (has_rule found accept.rule)
+    where
+      by : (t : Bool) → AllByRecursion P (if t then found else found ++ accept ∷ [])
+      by true = h
+      by false = each-append P found (accept ∷ []) h (is, tt)
+
+  pub each-firsts : (choose : State → Option Accept) (found : List Accept) (states : List State) → AllByRecursion P found
+      → AllByRecursion (λ (state : State). Chosen (choose state)) states → AllByRecursion P (firsts_onto choose found states)
+  each-firsts choose found [] h are = h
+  each-firsts choose found (state ∷ states) h are =
+      each-firsts choose (with_accept found (choose state)) states (each-with_accept found (choose state) h are.0) are.1
+
+-- ---- what holds of what states accept
+
+pub all-chosen : (P Q : Accept → Type 0) → ((accept : Accept) → P accept → Q accept) → (states : List State)
+    → AllByRecursion (λ (state : State). Chosen P state.accept) states → AllByRecursion (λ (state : State). Chosen Q state.accept) states
+all-chosen P Q f [] h = tt
+all-chosen P Q f (state ∷ states) h = (by state.accept h.0, all-chosen P Q f states h.1)
+  where
+    by : (o : Option Accept) → Chosen P o → Chosen Q o
+    by None is = tt
+    by (Some accept) is = f accept is
+
+-- what is chosen of states that are kept is what they accept
+pub kept-chosen : (P : Accept → Type 0) (all states : List State) → AllByRecursion (λ (state : State). Chosen P state.accept) states
+    → AllByRecursion (λ (state : State). Chosen P (kept_accept all state)) states
+kept-chosen P all [] h = tt
+kept-chosen P all (state ∷ states) h = (by (is_kept all state), kept-chosen P all states h.1)
+  where
+    by : (t : Bool) → Chosen P (if t then state.accept else None)
+    by true = h.0
+    by false = tt
+
+-- ---- how many there are
+
+length-with_accept : (found : List Accept) (o : Option Accept) → length (with_accept found o) ≤ suc (length found)
+length-with_accept found None = omega arith
+length-with_accept found (Some accept) = by (has_rule found accept.rule)
+  where
+    by : (t : Bool) → length (if t then found else found ++ accept ∷ []) ≤ suc (length found)
+    by true = omega arith
+    by false = let e = length-append found (accept ∷ []) in omega (arith, e)
+
+pub length-firsts : (choose : State → Option Accept) (found : List Accept) (states : List State)
+    → length (firsts_onto choose found states) ≤ length found + length states
+length-firsts choose found [] = omega arith
+length-firsts choose found (state ∷ states) =
+    let more = length-with_accept found (choose state) in
+    let again = length-firsts choose (with_accept found (choose state)) states in
+    omega (arith, more, again)
+
+-- ---- where a rule stands
+
+pub rule_place-within : (accepts : List Accept) (rule : ℕ) → rule_place accepts rule ≤ length accepts
+rule_place-within [] rule = omega arith
+rule_place-within (accept ∷ accepts) rule = by (nat_eq rule accept.rule) (rule_place-within accepts rule)
+  where
+    by : (t : Bool) → rule_place accepts rule ≤ length accepts → (if t then 0 else suc (rule_place accepts rule)) ≤ suc (length accepts)
+    by true le = omega arith
+    by false le = omega (arith, le)
+
+pub rule_place-below : (accepts : List Accept) (rule : ℕ) → has_rule accepts rule ≡ true → rule_place accepts rule < length accepts
+rule_place-below [] rule has = absurd (true≢false (sym has))
+rule_place-below (accept ∷ accepts) rule has = by (nat_eq rule accept.rule) has (λ h. rule_place-below accepts rule h)
+  where
+    by : (t : Bool) → (if t then true else has_rule accepts rule) ≡ true
+        → (has_rule accepts rule ≡ true → rule_place accepts rule < length accepts)
+        → (if t then 0 else suc (rule_place accepts rule)) < suc (length accepts)
+    by true has again = omega arith
+    by false has again = let lt = again has in omega (arith, lt)
+
+-- ---- each rule that is chosen stands there
+
+has_rule-append : (accepts more : List Accept) (rule : ℕ) → has_rule accepts rule ≡ true → has_rule (accepts ++ more) rule ≡ true
+has_rule-append [] more rule has = absurd (true≢false (sym has))
+has_rule-append (accept ∷ accepts) more rule has = by (nat_eq rule accept.rule) has (λ h. has_rule-append accepts more rule h)
+  where
+    by : (t : Bool) → (if t then true else has_rule accepts rule) ≡ true → (has_rule accepts rule ≡ true → has_rule (accepts ++ more) rule ≡ true)
+        → (if t then true else has_rule (accepts ++ more) rule) ≡ true
+    by true has again = refl
+    by false has again = again has
+
+has_rule-last : (accepts : List Accept) (accept : Accept) → has_rule (accepts ++ accept ∷ []) accept.rule ≡ true
+has_rule-last [] accept = ap (λ t. if t then true else false) (eq-eqb accept.rule accept.rule refl)
+has_rule-last (other ∷ accepts) accept = by (nat_eq accept.rule other.rule) (has_rule-last accepts accept)
+  where
+    by : (t : Bool) → has_rule (accepts ++ accept ∷ []) accept.rule ≡ true
+        → (if t then true else has_rule (accepts ++ accept ∷ []) accept.rule) ≡ true
+    by true has = refl
+    by false has = has
+
+has_rule-with_accept : (found : List Accept) (o : Option Accept) (rule : ℕ) → has_rule found rule ≡ true → has_rule (with_accept found o) rule ≡ true
+has_rule-with_accept found None rule has = has
+has_rule-with_accept found (Some accept) rule has = by (has_rule found accept.rule)
+  where
+    by : (t : Bool) → has_rule (if t then found else found ++ accept ∷ []) rule ≡ true
+    by true = has
+    by false = has_rule-append found (accept ∷ []) rule has
+
+pub has_rule-own : (found : List Accept) (accept : Accept) → has_rule (with_accept found (Some accept)) accept.rule ≡ true
+has_rule-own found accept = by (has_rule found accept.rule) refl
+  where
+    by : (t : Bool) → has_rule found accept.rule ≡ t → has_rule (if t then found else found ++ accept ∷ []) accept.rule ≡ true
+    by true has = has
+    by false has = has_rule-last found accept
+
+pub has_rule-onto : (choose : State → Option Accept) (found : List Accept) (states : List State) (rule : ℕ) → has_rule found rule ≡ true
+    → has_rule (firsts_onto choose found states) rule ≡ true
+has_rule-onto choose found [] rule has = has
+has_rule-onto choose found (state ∷ states) rule has =
+    has_rule-onto choose (with_accept found (choose state)) states rule (has_rule-with_accept found (choose state) rule has)
+
+-- an accept is by a rule of these
+abbrev pub HasRule : List Accept → Accept → Type 0
+HasRule accepts accept = has_rule accepts accept.rule ≡ true
+
+pub has_rule-firsts : (choose : State → Option Accept) (found : List Accept) (states : List State)
+    → AllByRecursion (λ (state : State). Chosen (HasRule (firsts_onto choose found states)) (choose state)) states
+has_rule-firsts choose found [] = tt
+has_rule-firsts choose found (state ∷ states) =
+    (by (choose state), has_rule-firsts choose (with_accept found (choose state)) states)
+  where
+    by : (o : Option Accept) → Chosen (HasRule (firsts_onto choose (with_accept found o) states)) o
+    by None = tt
+    by (Some accept) = has_rule-onto choose (with_accept found (Some accept)) states accept.rule (has_rule-own found accept)
+
+-- ---- each rule stands there once
+
+abbrev pub NoneByRule : ℕ → List Accept → Type 0
+NoneByRule rule [] = Unit {0}
+NoneByRule rule (accept ∷ accepts) = (rule ≢ accept.rule) × NoneByRule rule accepts
+
+abbrev pub HaveOwnRules : List Accept → Type 0
+HaveOwnRules [] = Unit {0}
+HaveOwnRules (accept ∷ accepts) = NoneByRule accept.rule accepts × HaveOwnRules accepts
+
+NoneByRule-last : (rule : ℕ) (accepts : List Accept) (accept : Accept) → NoneByRule rule accepts → rule ≢ accept.rule
+    → NoneByRule rule (accepts ++ accept ∷ [])
+NoneByRule-last rule [] accept h ne = (ne, tt)
+NoneByRule-last rule (other ∷ accepts) accept h ne = (h.0, NoneByRule-last rule accepts accept h.1 ne)
+
+HaveOwnRules-last : (accepts : List Accept) (accept : Accept) → HaveOwnRules accepts → has_rule accepts accept.rule ≡ false
+    → HaveOwnRules (accepts ++ accept ∷ [])
+HaveOwnRules-last [] accept h out = (tt, tt)
+HaveOwnRules-last (other ∷ accepts) accept h out =
+    by (nat_eq accept.rule other.rule) refl out (λ e. HaveOwnRules-last accepts accept h.1 e)
+  where
+    by : (t : Bool) → nat_eq accept.rule other.rule ≡ t → (if t then true else has_rule accepts accept.rule) ≡ false
+        → (has_rule accepts accept.rule ≡ false → HaveOwnRules (accepts ++ accept ∷ []))
+        → NoneByRule other.rule (accepts ++ accept ∷ []) × HaveOwnRules (accepts ++ accept ∷ [])
+    by true e out again = absurd (true≢false out)
+    by false e out again =
+        let ne : other.rule ≢ accept.rule = λ z. true≢false (sym (eq-eqb accept.rule other.rule (sym z)) ∙ e) in
+        (NoneByRule-last other.rule accepts accept h.0 ne, again out)
+
+HaveOwnRules-with_accept : (found : List Accept) (o : Option Accept) → HaveOwnRules found → HaveOwnRules (with_accept found o)
+HaveOwnRules-with_accept found None h = h
+HaveOwnRules-with_accept found (Some accept) h = by (has_rule found accept.rule) refl
+  where
+    by : (t : Bool) → has_rule found accept.rule ≡ t → HaveOwnRules (if t then found else found ++ accept ∷ [])
+    by true e = h
+    by false e = HaveOwnRules-last found accept h e
+
+pub HaveOwnRules-firsts : (choose : State → Option Accept) (found : List Accept) (states : List State) → HaveOwnRules found
+    → HaveOwnRules (firsts_onto choose found states)
+HaveOwnRules-firsts choose found [] h = h
+HaveOwnRules-firsts choose found (state ∷ states) h =
+    HaveOwnRules-firsts choose (with_accept found (choose state)) states (HaveOwnRules-with_accept found (choose state) h)

@@ -1,0 +1,10 @@
+-- Lists of operations, at once and one by one.
+pub mod Agreeing
+pub mod CopySequences
+pub mod OneByOne
+pub mod OpBounds
+pub mod OpParts
+pub mod OpsAlike
+pub mod SequenceBounds
+pub mod SmallOps
+pub mod WaitingCopies

@@ -1,0 +1,258 @@
+-- Blocks that serve an automaton run as it does: the run ends with the automaton's match, under every legal schedule.
+use Rattle.std.specs.Prelude.{◌≡◌, ℕ, zero, suc, ◌+◌, ◌-◌, ◌*◌, ◌<◌, ◌≤◌, List, [], ◌∷◌, length, drop, Option, Some, None, Bool, true, false, ◌||◌, nat_lt, nat_eq, refl, slice_get, if◌then◌else◌}
+use Rattle.std.proofs.Common.{inl, inr, sym, ap, ◌∙◌, subst, arith, lt-ltb, length-drop}
+use Rattle.std.proofs.Math.Bool.{or-true}
+use Rattle.std.specs.List.{AllByRecursion, list_any}
+use Rattle.lx_auto.specs.Automaton.{IsAuto, edge_on, has_unit, state_of}
+use Rattle.lx_auto.specs.Bank.{Bank}
+use Rattle.lx_auto.specs.Run.{Left, Standing, behind_edge, by_edge, found_behind, left_after, start_with}
+use Rattle.lx_auto.specs.declared.automaton.Accept.{Accept}
+use Rattle.lx_auto.specs.declared.automaton.Auto.{Auto}
+use Rattle.lx_auto.specs.declared.automaton.Edge.{Edge}
+use Rattle.lx_auto.specs.declared.automaton.State.{State}
+use Rattle.lx_auto.proofs.States.{edge_on-leads, state_formed}
+use Rattle.lx_ccode.specs.declared.piece.Piece.{Piece}
+use Rattle.lx_ccode.specs.declared.piece.Stmt.{Stmt}
+use Rattle.lx_ccode.specs.declared.piece.Stmt.TheVariants.{Goto, Peek}
+use Rattle.lx_ccode.specs.Machine.{Answer, Machine, code_at, jump, peek, units_of_answers}
+use Rattle.lx_ccode.specs.Runs.{entry_block, loop_count, run, run_in}
+use Rattle.lx_ccode.specs.Schedules.{Schedule}
+use Rattle.lx_ccode.specs.Statements.{code_of, statement_count}
+use Rattle.lx_gen.specs.Codes.{Choice, accept_code, choices_code, edge_code, is_kept, keeps_by, keeps_on}
+use Rattle.lx_gen.specs.Endings.{Ending, ending_code}
+use Rattle.lx_gen.specs.Serving.{IsEnd, Serves, ServesState, by_jump, by_tests, itself}
+use Rattle.lx_gen.specs.Starts.{machine_with, run_with}
+use Rattle.lx_gen.specs.Stops.{Stops, bank_from, last_standing, or_here, or_later, told_found}
+use Rattle.lx_gen.specs.TestTrees.{inner_blocks, picked, tree_code}
+use Rattle.lx_gen.proofs.Operations.Agreeing.{Agrees, Agrees-after}
+use Rattle.lx_gen.proofs.Runs.BlockRuns.{Has, IsHeldWell, Target, all, at, behind, edge_run, held_after, held_behind, stop_run}
+use Rattle.lx_gen.proofs.Runs.RunMachines.{machine_at, raised-shift, tree_run}
+use Rattle.lx_gen.proofs.Layouts.StandingCodes.{length-block, length-with_row}
+use Rattle.lx_gen.proofs.Runs.PartialRuns.{EndsIn, LeadsIn, end_in, loop_count-mono, stays_in, step_in, then_in, widen}
+use Rattle.lx_gen.proofs.Layouts.TreeCodes.{inner_blocks-read, tree_length}
+
+-- a unit that is left of a stream is the one at the cursor
+pub left_unit : (pos unit : ℕ) (more stream : List ℕ) → unit ∷ more ≡ drop pos stream
+    → (pos < length stream) × (slice_get stream pos ≡ Some unit) × (more ≡ drop (suc pos) stream)
+left_unit zero unit more [] left = absurd (let h = left in cc)
+left_unit (suc pos) unit more [] left = absurd (let h = left in cc)
+left_unit zero unit more (other ∷ stream) left =
+    let e : unit ≡ other = cc in let f : more ≡ stream = cc in (omega arith, ap Some (sym e), f)
+left_unit (suc pos) unit more (other ∷ stream) left = let rest = left_unit pos unit more stream left in (omega (arith, rest.0), rest.1, rest.2)
+
+-- the edge on a unit is one of the edges
+list_any-edge_on : (test : Edge → Bool) (edges : List Edge) (unit : ℕ) (edge : Edge) → edge_on edges unit ≡ Some edge → test edge ≡ true
+    → list_any test edges ≡ true
+list_any-edge_on test [] unit edge on passes = absurd (cc)
+list_any-edge_on test (first ∷ edges) unit edge on passes =
+    by (has_unit first unit) on (λ later. list_any-edge_on test edges unit edge later passes)
+  where
+    by : (t : Bool) → (if t then Some first else edge_on edges unit) ≡ Some edge → (edge_on edges unit ≡ Some edge → list_any test edges ≡ true)
+        → test first || list_any test edges ≡ true
+    by true on again = let same : first ≡ edge = cc in ap (λ e. test e || list_any test edges) same ∙ ap (λ t. t || list_any test edges) passes
+    by false on again = ap (λ t. test first || t) (again on) ∙ or-true (test first)
+
+-- what is kept on an edge is found again, too
+IsHeldWell-after : (auto : Auto) (s pos : ℕ) (o next : Option Accept) (held : Option Left) → s < length auto.states
+    → (keeps_by o next ≡ true → is_kept auto.states (state_of auto.states s) ≡ true) → (state_of auto.states s).accept ≡ o
+    → IsHeldWell auto held → IsHeldWell auto (held_after o next s pos held)
+IsHeldWell-after auto s pos None next held lt keeps e ok = ok
+IsHeldWell-after auto s pos (Some accept) None held lt keeps e ok = (lt, keeps refl, e)
+IsHeldWell-after auto s pos (Some accept) (Some other) held lt keeps e ok = ok
+
+-- before a state that does not accept it is what was left last
+held_after-left : (o next : Option Accept) (held : Option Left) (standing : Standing) → (o ≡ None → held ≡ standing.left) → next ≡ None
+    → held_after o next standing.state standing.offset held ≡ left_after o standing
+held_after-left None next held standing same none = same refl
+held_after-left (Some accept) None held standing same none = refl
+held_after-left (Some accept) (Some other) held standing same none = absurd (cc)
+
+module _ (p : Piece) (x : List ℕ) (start : ℕ) (endings : ℕ → Ending) (greatest : ℕ) (auto : Auto) (place kept rules : ℕ → ℕ) (fall : ℕ)
+    (serves : Serves endings greatest auto (code_of p.blocks) place kept rules fall) (formed : IsAuto auto) (first : Option ℕ) (cond : List ℕ) where
+  abbrev Have : ℕ → List Stmt → Type 0
+  Have block code = Has p x start endings greatest auto place kept rules fall serves formed first cond (length x) block code
+
+  abbrev To : (s : ℕ) → Option Edge → ℕ → Type 0
+  To s o block = Target p x start endings greatest auto place kept rules fall serves formed first cond (length x) s o block
+
+  abbrev mach : (pos : ℕ) → (held : Option Left) → (u : Option ℕ) → Bank → Machine
+  mach pos held u k = at p x start endings greatest auto place kept rules fall serves formed first cond (length x) pos held u k
+
+  abbrev size : ℕ
+  size = all p x start endings greatest auto place kept rules fall serves formed first cond (length x)
+
+  -- what a state's block leads to on a unit
+  record Entered (s : ℕ) (o : Option Edge) (code : List Stmt) (pos : ℕ) (held : Option Left) (u : Option ℕ) (k : Bank)
+      (q : List Answer) : Type 0 where
+    block : ℕ
+    to : List Stmt
+    target : To s o block
+    has : Have block to
+    unit : Option ℕ
+    leads : LeadsIn p x start size code (mach pos held u k) q to (mach pos held unit k) q
+
+  target_code : (s : ℕ) (o : Option Edge) (block : ℕ) → s < length auto.states → To s o block → (to : List Stmt) × Have block to
+  target_code s (Some edge) block lt target = (edge_code auto (state_of auto.states s) (kept s) edge (place edge.to), target)
+  target_code s None block lt target = by (state_of auto.states s).accept refl target
+    where
+      by : (o : Option Accept) → (state_of auto.states s).accept ≡ o → IsEnd endings greatest auto (code_of p.blocks) place kept rules fall o block
+          → (to : List Stmt) × Have block to
+      by None e target = (choices_code serves.choices, ap (λ n. slice_get (code_of p.blocks) n) target ∙ serves.falls)
+      by (Some accept) e (inl has) = (accept_code auto accept.ops (rules accept.rule), has)
+      by (Some accept) e (inr is) =
+          (ending_code endings accept.rule accept.values, ap (λ n. slice_get (code_of p.blocks) n) is.0 ∙ serves.ends s accept lt e)
+
+  enter : (s pos v : ℕ) (code : List Stmt) (held : Option Left) (u : Option ℕ) (k : Bank) (q : List Answer)
+      → ServesState endings greatest auto (code_of p.blocks) place kept rules fall s (state_of auto.states s) → Have (place s) code
+      → s < length auto.states → slice_get x pos ≡ Some v → pos < length x → v ≤ greatest
+      → Entered s (edge_on (state_of auto.states s).edges v) code pos held u k q
+  enter s pos v code held u k q (itself leads) has known ev lt within =
+      record { block = place s; to = code; target = leads v within; has = has; unit = u; leads = stays_in p x start size code (mach pos held u k) q }
+  enter s pos v code held u k q (by_jump block is leads) has known ev lt within =
+      let to = target_code s (edge_on (state_of auto.states s).edges v) block known (leads v within) in
+      let c : code ≡ Goto block ∷ [] = cc in
+      let n = length-block (code_of p.blocks) (place s) (Goto block ∷ []) is in
+      let h = step_in p x start {s = Goto block} {b = []} {m = mach pos held u k} {q = q} (ap (λ o. jump o (mach pos held u k) q) to.1)
+      (omega arith) in
+      record {
+        block = block;
+        to = to.0;
+        target = leads v within;
+        has = to.1;
+        unit = u;
+        leads = subst (λ z. LeadsIn p x start size z (mach pos held u k) q to.0 (mach pos held u k) q) (sym c)
+            (widen p x start size h (omega (arith, n)));
+      }
+  enter s pos v code held u k q (by_tests tree next is stands leads) has known ev lt within =
+      let to = target_code s (edge_on (state_of auto.states s).edges v) (picked tree v) known (leads v within) in
+      let rest : List Stmt = tree_code next tree in
+      let c : code ≡ Peek ∷ tree_code next tree = cc in
+      let n = length-with_row (code_of p.blocks) (place s) (Peek ∷ tree_code next tree) next (inner_blocks next tree) is stands
+      (inner_blocks-read next tree (tree_code next tree)) in
+      let t : nat_lt pos (length x) ≡ true = lt-ltb pos (length x) lt in
+      let h = step_in p x start {s = Peek} {b = tree_code next tree} {m = mach pos held u k} {m' = mach pos held (Some v) k} {q = q}
+      (ap (λ t. peek (if t then slice_get x pos else (if nat_eq pos (length x) then p.eof else None)) rest (mach pos held u k) q) t
+      ∙ ap (λ o. peek o rest (mach pos held u k) q) ev) (omega arith) in
+      let g = tree_run p x start tree next v to.0 (mach pos held (Some v) k) q refl stands to.1 in
+      record {
+        block = picked tree v;
+        to = to.0;
+        target = leads v within;
+        has = to.1;
+        unit = Some v;
+        leads = subst (λ z. LeadsIn p x start size z (mach pos held u k) q to.0 (mach pos held (Some v) k) q) (sym c)
+            (widen p x start size (then_in p x start (suc (tree_length next tree)) h g (omega arith)) (omega (arith, n)));
+      }
+
+  -- each state has a block
+  state_code : (s : ℕ) → s < length auto.states → (code : List Stmt) × Have (place s) code
+  state_code s lt = by (serves.states s lt)
+    where
+      by : ServesState endings greatest auto (code_of p.blocks) place kept rules fall s (state_of auto.states s)
+          → (code : List Stmt) × Have (place s) code
+      by (by_tests tree next is stands leads) = (Peek ∷ tree_code next tree, is)
+      by (by_jump block is leads) = (Goto block ∷ [], is)
+      by (itself leads) = target_code s (edge_on (state_of auto.states s).edges 0) (place s) lt (leads 0 (omega arith))
+
+  -- the end of the run from a state's block on
+  abbrev Simulated : List ℕ → Standing → Type 0
+  Simulated w st = (code : List Stmt) (held : Option Left) (u : Option ℕ) (k : Bank) (q : List Answer) → Have (place st.state) code
+      → st.state < length auto.states → IsHeldWell auto held → ((state_of auto.states st.state).accept ≡ None → held ≡ st.left)
+      → Agrees auto.regs auto.mregs k st.bank → w ≡ drop st.offset x → AllByRecursion (λ unit. unit ≤ greatest) w → Stops auto st w
+      → EndsIn p x start (length w * (2 * size) + 2 * size) code (mach st.offset held u k) q
+      (told_found endings cond (found_behind auto (last_standing auto st w)) (last_standing auto st w).offset)
+
+  simulation : (w : List ℕ) (st : Standing) → Simulated w st
+  simulation [] st code held u k q has lt ok same agree left within stops = absurd stops
+  simulation (v ∷ w) st code held u k q has lt ok same agree left within stops =
+      by (edge_on (state_of auto.states st.state).edges v) refl entered stops (λ next. simulation w next)
+    where
+      unit_here : (st.offset < length x) × (slice_get x st.offset ≡ Some v) × (w ≡ drop (suc st.offset) x)
+      unit_here = left_unit st.offset v w x left
+
+      entered : Entered st.state (edge_on (state_of auto.states st.state).edges v) code st.offset held u k q
+      entered = enter st.state st.offset v code held u k q (serves.states st.state lt) has lt unit_here.1 unit_here.0 within.0
+
+      by : (o : Option Edge) → edge_on (state_of auto.states st.state).edges v ≡ o → Entered st.state o code st.offset held u k q
+          → or_later (by_edge (state_of auto.states st.state) st o) (λ next. Stops auto next w) → ((next : Standing) → Simulated w next)
+          → EndsIn p x start (suc (length w) * (2 * size) + 2 * size) code (mach st.offset held u k) q
+          (told_found endings cond (found_behind auto (or_here st (by_edge (state_of auto.states st.state) st o) (λ next. last_standing auto next w)))
+          (or_here st (by_edge (state_of auto.states st.state) st o) (λ next. last_standing auto next w)).offset)
+      by None on entered stops again =
+          let g = stop_run p x start endings greatest auto place kept rules fall serves formed first cond
+          (length x) st.state entered.block st.offset entered.to st.left held entered.unit k st.bank q
+          lt entered.target entered.has agree ok same in
+          end_in p x start (suc (length w) * (2 * size) + 2 * size) entered.leads g (omega arith)
+      by (Some edge) on entered stops again =
+          let state : State = state_of auto.states st.state in
+          let formed_state = state_formed auto st.state formed in
+          let leads = edge_on-leads auto.regs auto.mregs (length auto.states) state.edges v edge formed_state.lead on in
+          let next : Standing = behind_edge (state_of auto.states st.state) st edge in
+          let next_code = state_code edge.to leads.0 in
+          let block_code : List Stmt = edge_code auto (state_of auto.states st.state) (kept st.state) edge (place edge.to) in
+          let is : slice_get (code_of p.blocks) entered.block ≡ Some block_code = entered.target in
+          let has' : slice_get (code_of p.blocks) entered.block ≡ Some entered.to = entered.has in
+          let c : entered.to ≡ block_code = cc in
+          let n = length-block (code_of p.blocks) entered.block block_code is in
+          let f = edge_run p x start endings greatest auto place kept rules fall serves formed first cond
+          (length x) edge next_code.0 st.state st.offset held entered.unit k q
+          leads.1 next_code.1 unit_here.0 in
+          let l = subst (λ z. LeadsIn p x start size code (mach st.offset held u k) q z
+          (mach st.offset held entered.unit k) q) c entered.leads in
+          let k1 : Bank = behind p x start endings greatest auto place kept rules fall serves formed first cond
+          (length x) st.state st.offset edge k in
+          let after : Option Accept = (state_of auto.states edge.to).accept in
+          let held1 : Option Left = held_behind p x start endings greatest auto place kept rules fall serves formed first cond
+          (length x) st.state st.offset edge held in
+          let ok1 = IsHeldWell-after auto st.state st.offset state.accept after held lt
+          (λ keeps. list_any-edge_on (λ edge. keeps_on auto.states state edge) state.edges v edge on keeps) refl ok in
+          let agree1 = Agrees-after auto.regs auto.mregs st.offset state.leave k st.bank formed_state.leave agree in
+          let agree2 = Agrees-after auto.regs auto.mregs st.offset edge.ops _ _ leads.1 agree1 in
+          let rest = again next next_code.0 held1 entered.unit k1 q next_code.1 leads.0 ok1
+          (held_after-left state.accept after held st same) agree2 unit_here.2 within.1 stops in
+          end_in p x start (suc (length w) * (2 * size) + 2 * size) l
+          (end_in p x start (size + (length w * (2 * size) + 2 * size)) f rest (omega (arith, n))) (omega arith)
+
+fits : (l d n : ℕ) → l ≡ d → 0 < n → l * (2 * n) + 2 * n < 2 * (d + 2) * n
+fits l d n e h = let g : l * (2 * n) ≡ d * (2 * n) = ap (λ k. k * (2 * n)) e in omega (arith, g)
+
+choices_code-some : (choices : List Choice) → 0 < length (choices_code choices)
+choices_code-some [] = omega arith
+choices_code-some (choice ∷ choices) = omega arith
+
+-- the run of a match is the automaton's
+pub run_found : (p : Piece) (x : List ℕ) (start : ℕ) (endings : ℕ → Ending) (greatest : ℕ) (auto : Auto) (place kept rules : ℕ → ℕ) (fall : ℕ)
+    → Serves endings greatest auto (code_of p.blocks) place kept rules fall → IsAuto auto → (cond : List ℕ)
+    → entry_block p.conds cond ≡ Some (place 0)
+    → start ≤ length x → AllByRecursion (λ unit. unit ≤ greatest) (drop start x)
+    → (registers : ℕ → Option ℕ) (histories : ℕ → List (Option ℕ)) → Stops auto (start_with start (bank_from registers histories)) (drop start x)
+    → (schedule : Schedule) → schedule.first ≡ length x
+    → run_with p x start registers histories cond schedule
+    ≡ told_found endings cond (found_behind auto (last_standing auto (start_with start (bank_from registers histories)) (drop start x)))
+    (last_standing auto (start_with start (bank_from registers histories)) (drop start x)).offset
+unfolding run_with
+run_found p x start endings greatest auto place kept rules fall serves formed cond entry le within registers histories stops schedule whole =
+    let w : List ℕ = drop start x in
+    let size : ℕ = statement_count p.blocks in
+    let q : List Answer = schedule.answers in
+    let k : Bank = bank_from registers histories in
+    let st : Standing = start_with start (bank_from registers histories) in
+    let m : Machine = machine_with registers histories start schedule.first cond in
+    let fuel : ℕ = loop_count p start (schedule.first + units_of_answers schedule.answers) in
+    let code = state_code p x start endings greatest auto place kept rules fall serves formed (registers 0) cond 0 formed.start in
+    let found : code_at p.blocks (entry_block p.conds cond) ≡ Some code.0 = ap (λ o. code_at p.blocks o) entry ∙ code.1 in
+    let h = simulation p x start endings greatest auto place kept rules fall serves formed
+    (registers 0) cond w st code.0 None None k q code.1 formed.start tt (λ none. refl)
+    (record { same = λ r lt. refl; alike = λ r lt. refl }) refl within stops in
+    let n = length-block (code_of p.blocks) fall (choices_code serves.choices) serves.falls in
+    let n1 = choices_code-some serves.choices in
+    let lw : length w ≡ length x - start = length-drop start x in
+    let mono : loop_count p start (length x) ≤ fuel = loop_count-mono p x start (length x) (schedule.first + units_of_answers schedule.answers)
+    (omega arith) in
+    let prod : length w * (2 * size) + 2 * size < loop_count p start (length x) = fits (length w) (length x - start) size lw (omega (arith, n, n1)) in
+    let f : ℕ = fuel - suc h.steps in
+    let go = h.ends.by f fuel 0 (omega (arith, h.few, prod, mono)) (omega (arith, h.few, prod)) in
+    let em : m ≡ machine_at start start (length x) None 0 (registers 0) k cond [] =
+    ap (λ l. machine_with registers histories start l cond) whole
+    ∙ ap (λ g. machine_with g histories start (length x) cond) (sym (raised-shift registers)) in
+    ap (λ o. run_in p x start o m q) found ∙ ap (λ m. run p x start fuel 0 code.0 m q) em ∙ go

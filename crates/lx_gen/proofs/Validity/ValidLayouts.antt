@@ -1,0 +1,105 @@
+-- A piece whose blocks are a layout is valid.
+use Rattle.std.specs.Prelude.{◌≡◌, ℕ, ◌*◌, ◌<◌, ◌≤◌, ◌^◌, ◌⊎◌, IfSome, List, [], length, map, Option, Some, All, true, false, refl}
+use Rattle.std.proofs.Common.{inl, inr, sym, ap, ◌∙◌, subst, arith}
+use Rattle.std.proofs.lemmas.Bool.{false≢true}
+use Rattle.std.proofs.lemmas.List.{length-map}
+use Rattle.std.specs.List.{AllByRecursion, list_any}
+use Rattle.lx_auto.specs.Automaton.{IsAuto}
+use Rattle.lx_auto.specs.declared.automaton.Auto.{Auto}
+use Rattle.lx_auto.specs.declared.automaton.Edge.{Edge}
+use Rattle.lx_auto.specs.declared.automaton.State.{State}
+use Rattle.lx_base.specs.Letters.{IsIdentifier}
+use Rattle.lx_base.specs.Names.{AreAllowed, AreDistinct, DoNotClash, Spellings}
+use Rattle.lx_base.specs.declared.settings.Enc.{Enc}
+use Rattle.lx_base.specs.declared.settings.Enc.TheVariants.{Byte, Ucs2, Utf8, Utf16, Utf32}
+use Rattle.lx_ccode.specs.Statements.{all_statements, code_of, is_state, statement_count}
+use Rattle.lx_ccode.specs.Validity.{AreOnce, EachBlockHasSpelling, HasFewGroups, IsLine, IsLong, IsShort, IsStateSwitch, IsValid, JumpsBelow, NamesOneOf, ends_once, label_of, labels}
+use Rattle.lx_ccode.specs.declared.piece.CodeBlock.{CodeBlock}
+use Rattle.lx_ccode.specs.declared.piece.CondCase.{CondCase}
+use Rattle.lx_ccode.specs.declared.piece.Piece.{Piece}
+use Rattle.lx_ccode.specs.declared.piece.StateCase.{StateCase}
+use Rattle.lx_encode.specs.Units.{unit_size}
+use Rattle.lx_gen.specs.Endings.{Ending}
+use Rattle.lx_gen.specs.Layout.{layout}
+use Rattle.lx_gen.specs.Written.{AreWritten, IsUnconditional}
+use Rattle.lx_gen.proofs.Validity.EachElement.{each-map}
+use Rattle.lx_gen.proofs.Validity.FineCodes.{Fine, IsFine}
+use Rattle.lx_gen.proofs.Validity.FineLayouts.{layout_fine}
+use Rattle.lx_gen.proofs.Validity.FinePieces.{FineBlocks, FineBlocks-codes, HasFewGroups-fine, NamesOneOf-fine, after_states-fine, all_fine, blocks-few, blocks_spelled, labels-none, last_statements-fine, no_need, states_from-fine}
+use Rattle.lx_gen.proofs.Validity.LayoutFits.{layout_ends, layout_jumps}
+use Rattle.lx_gen.proofs.Layouts.LayoutLengths.{length-layout}
+use Rattle.lx_gen.proofs.Validity.QuietCodes.{layout_asks_nothing}
+
+unit_size-is : (enc : Enc) → (unit_size enc ≡ 1) ⊎ ((unit_size enc ≡ 2) ⊎ (unit_size enc ≡ 4))
+unit_size-is Byte = inl refl
+unit_size-is Ucs2 = inr (inl refl)
+unit_size-is Utf8 = inl refl
+unit_size-is Utf16 = inr (inl refl)
+unit_size-is Utf32 = inr (inr refl)
+
+module _ (enc : Enc) (counted : ℕ) (spellings : Spellings) (endings : ℕ → Ending) (greatest : ℕ) (auto : Auto) (piece : Piece)
+    (formed : IsAuto auto) (units : All (λ (state : State). All (λ (edge : Edge). edge.hi ≤ greatest) state.edges) auto.states)
+    (short : IsShort greatest) (written : AreWritten spellings endings auto.states)
+    (same : code_of piece.blocks ≡ layout endings greatest auto 0) (bare : IsUnconditional enc counted spellings piece)
+    (number : IsShort counted) (allowed : AreAllowed spellings) (differ : DoNotClash spellings)
+    (few : statement_count piece.blocks ≤ 4611686018427387904) where
+  pub blocks_fine : FineBlocks spellings piece.blocks
+  blocks_fine = FineBlocks-codes spellings piece.blocks
+      (subst (λ l. AllByRecursion (Fine spellings) l) (sym same) (layout_fine spellings endings greatest auto 0 short formed units written))
+
+  ends : AllByRecursion (λ (block : CodeBlock). ends_once block.stmts ≡ true) piece.blocks
+  ends = layout_ends endings greatest auto piece.blocks same
+
+  jumps : AllByRecursion (JumpsBelow (length piece.blocks)) (all_statements piece.blocks)
+  jumps = layout_jumps endings greatest auto piece.blocks same
+
+  no_state : list_any is_state (all_statements piece.blocks) ≡ false
+  no_state = (layout_asks_nothing endings greatest auto 0 piece.blocks same).1
+
+  some_block : 0 < length piece.blocks
+  some_block =
+      let count = length-layout endings greatest auto in
+      let e : length (layout endings greatest auto 0) ≡ length piece.blocks = ap (λ l. length l) (sym same)
+      ∙ length-map piece.blocks (λ (block : CodeBlock). block.stmts) in
+      omega (arith, count, e)
+
+  few_blocks : length piece.blocks ≤ 4611686018427387904
+  few_blocks = let h : length piece.blocks ≤ statement_count piece.blocks = blocks-few piece.blocks ends in omega (arith, h, few)
+
+  no_labels : labels piece.blocks ≡ []
+  no_labels = labels-none piece.blocks bare.labels
+
+  pub layout_valid : IsValid piece
+  layout_valid = record {
+    range = record {
+      number = subst IsShort (sym bare.number) number;
+      line = subst IsLine (sym bare.line) tt;
+      states = subst (λ (o : Option (List StateCase)). IfSome o (λ cases. AllByRecursion (λ case. IsLong case.state × IsLong case.block) cases))
+          (sym bare.states) tt;
+      conds = subst (λ (l : List CondCase). AllByRecursion (λ case. IsIdentifier case.cond × IsLong case.block) l) (sym bare.conds) tt;
+    };
+    unit = subst (λ n. (n ≡ 1) ⊎ ((n ≡ 2) ⊎ (n ≡ 4))) (sym bare.unit) (unit_size-is enc);
+    eof = subst (λ (o : Option ℕ). IfSome o (λ eof. eof < 2 ^ (8 * piece.unit))) (sym bare.eof) tt;
+    blocks = some_block;
+    statements = few;
+    jumps = jumps;
+    ends = ends;
+    one_refill = inl (no_need spellings piece.blocks blocks_fine);
+    states_differ = subst AreOnce (sym (states_from-fine spellings 0 piece.blocks blocks_fine)) tt;
+    after_states = after_states-fine spellings piece.blocks blocks_fine;
+    before_refills = λ e. absurd (false≢true (sym no_state ∙ e));
+    next_block = last_statements-fine spellings piece.blocks blocks_fine;
+    state_switch = subst (λ (o : Option (List StateCase)). IfSome o (IsStateSwitch piece.blocks)) (sym bare.states) tt;
+    conds = ap (λ (l : List CondCase). map (λ case. case.cond) l) bare.conds ∙ sym no_labels;
+    conds_differ = subst AreDistinct (sym no_labels) tt;
+    cond_switch = subst (λ (l : List CondCase). AllByRecursion (λ case. label_of piece.blocks case.block ≡ Some case.cond) l) (sym bare.conds) tt;
+    conds_named = each-map (IsFine spellings) (NamesOneOf (labels piece.blocks)) (NamesOneOf-fine spellings (labels piece.blocks))
+        (all_statements piece.blocks) (all_fine spellings piece.blocks blocks_fine);
+    groups = each-map (IsFine spellings) HasFewGroups (HasFewGroups-fine spellings) (all_statements piece.blocks)
+        (all_fine spellings piece.blocks blocks_fine);
+    ctx = λ e. absurd (false≢true (sym bare.ctx ∙ e));
+    names = subst AreAllowed (sym bare.names) allowed;
+    names_differ = subst DoNotClash (sym bare.names) differ;
+    spelled = subst (λ names. EachBlockHasSpelling names piece.blocks) (sym bare.names)
+        (blocks_spelled spellings (length piece.blocks) piece.blocks few_blocks blocks_fine bare.labels ends jumps);
+  }

@@ -1,0 +1,15 @@
+-- What the loops of the code build.
+pub mod EdgeLoops
+pub mod EdgeSteps
+pub mod EdgesMade
+pub mod JoinedEdges
+pub mod ListSets
+pub mod OpBounds
+pub mod OpLists
+pub mod PlaceLists
+pub mod PlaceSets
+pub mod RegisterBounds
+pub mod SetMembers
+pub mod StateLists
+pub mod StatesMade
+pub mod StepLoops

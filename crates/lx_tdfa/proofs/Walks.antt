@@ -1,0 +1,20 @@
+-- What an ordered search over the states finds: walks, their segments over a unit, and their ends.
+pub mod ClosureSearches
+pub mod Closures
+pub mod EndsAlike
+pub mod FirstEnds
+pub mod FirstSegments
+pub mod LeafReads
+pub mod ListReads
+pub mod NumbersApart
+pub mod PlacesRead
+pub mod PlainRuns
+pub mod RunSegments
+pub mod Searches
+pub mod SegmentOrder
+pub mod StartLists
+pub mod StatePaths
+pub mod StepsAlike
+pub mod StopPlaces
+pub mod StopSteps
+pub mod WalkPaths
