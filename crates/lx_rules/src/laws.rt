@@ -1,5 +1,5 @@
 //! What holds of all blocks: each law is the contract of a function with an empty body.
-ghost use Rattle.std.specs.Prelude.{ℕ, List};
+ghost use Rattle.std.specs.Prelude.{◌≡◌, ℕ, List};
 ghost use Rattle.lx_base.specs.declared.blocks.BlockKind.TheVariants.{Code};
 ghost use Rattle.lx_base.specs.declared.faults.Fault.{Fault};
 ghost use Rattle.lx_base.specs.declared.places.Pos.{Pos};
@@ -13,6 +13,7 @@ ghost use Rattle.lx_rules.specs.declared.resolved.Resolved.{Resolved};
 ghost use Rattle.lx_rules.specs.Blocks.{IsBlockFault, Resolves};
 ghost use Rattle.lx_rules.specs.Buildable.{IsReady};
 ghost use Rattle.lx_rules.specs.Environments.{Environment, first_environment};
+ghost use Rattle.lx_rules.specs.Likeness.{AreAlike};
 ghost use Rattle.lx_forms.specs.Lexemes.{Lexeme, lexemes_of};
 
 /// A block resolves or has a fault: that neither holds cannot be. The definitions before it are ready for copies and can be
@@ -29,4 +30,15 @@ pub fn environments_stay_ready()
     ensures first { (enc : Enc) → IsReady enc first_environment }
     ensures kept { (options : Options) (at : Pos) (environment after : Environment) (lexemes : List Lexeme) (items : List Item) (resolved : Resolved) →
         IsReady options.enc environment → Resolves options at environment lexemes items after resolved → IsReady options.enc after }
+{}
+
+/// A block resolves in one way, as far as definitions tell results apart, or it has one fault, and not both.
+pub fn blocks_resolve_in_one_way()
+    ensures alike { (options : Options) (at : Pos) (environment after other : Environment) (lexemes : List Lexeme) (items : List Item) (resolved another : Resolved) →
+        Resolves options at environment lexemes items after resolved → Resolves options at environment lexemes items other another →
+        (after ≡ other) × AreAlike resolved another }
+    ensures fault { (options : Options) (at : Pos) (environment : Environment) (lexemes : List Lexeme) (items : List Item) (fault other : Fault) →
+        IsBlockFault options at environment lexemes items fault → IsBlockFault options at environment lexemes items other → fault ≡ other }
+    ensures apart { (options : Options) (at : Pos) (environment after : Environment) (lexemes : List Lexeme) (items : List Item) (resolved : Resolved) (fault : Fault) →
+        Resolves options at environment lexemes items after resolved → IsBlockFault options at environment lexemes items fault → ⊥ }
 {}

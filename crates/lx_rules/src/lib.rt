@@ -12,6 +12,8 @@ pub mod resolving;
 mod rules;
 
 pub use environment::Env;
-pub use laws::{blocks_resolve_or_have_a_fault, environments_stay_ready};
+pub use laws::{
+    blocks_resolve_in_one_way, blocks_resolve_or_have_a_fault, environments_stay_ready,
+};
 pub use resolved::{Act, Config, Resolved, Scanner};
 pub use resolving::resolve;
