@@ -1,5 +1,5 @@
 -- Sets of code points: what faults they have, and what policies make of them.
-use Rattle.std.proofs.Common.{◌≡◌, ℕ, suc, All, map, length, le_refl, ◌≤◌, ◌↔◌, ◌⊎◌, inl, inr, ⊎_elim, Bool, true, false, List, [], ◌∷◌, ◌++◌, take, drop, Option, None, Some, Result, Ok, Err, IfOk, refl, sym, ap, ◌∙◌, subst, arith}
+use Rattle.std.proofs.Common.{◌≡◌, ℕ, ◌+◌, suc, All, map, length, le_refl, ◌≤◌, ◌↔◌, ◌⊎◌, inl, inr, ⊎_elim, Bool, true, false, List, [], ◌∷◌, ◌++◌, take, drop, Option, None, Some, Result, Ok, Err, IfOk, refl, sym, ap, ◌∙◌, subst, arith}
 use Rattle.std.specs.Prelude.{◌==◌, nat_le, max, if◌then◌else◌}
 use Rattle.std.specs.List.{AllByRecursion}
 use Rattle.std.proofs.lemmas.List.Elements.{All-from_recursion}
@@ -16,7 +16,7 @@ use Rattle.lx_base.specs.declared.settings.Enc.TheVariants.{Byte, Ucs2, Utf8, Ut
 use Rattle.lx_base.specs.declared.settings.SurPolicy.{SurPolicy}
 use Rattle.lx_base.specs.declared.settings.SurPolicy.TheVariants.{Ignore, Substitute, Fail}
 use Rattle.lx_base.specs.declared.settings.Options.{Options}
-use Rattle.lx_class.specs.Ranges.{HaveSamePoints, InRanges, IsCanonical, IsDifference, IsUnion}
+use Rattle.lx_class.specs.Ranges.{HaveSamePoints, InRanges, IsCanonical, IsCanonicalFrom, IsDifference, IsUnion}
 use Rattle.lx_class.specs.declared.ranges.Range.{Range}
 use Rattle.lx_class.proofs.RangeLists.{InRanges-append}
 use Rattle.lx_encode.specs.Policy.{FitsEncoding, IsAfter, IsAllowed, IsPoint}
@@ -54,6 +54,22 @@ halves ranges front back left right set at front_is back_is front_same back_same
           (InRanges-append front back point).1
           (⊎_elim (λ one. inl ((front_same point).1 one)) (λ two. inr ((back_same point).1 two)) ((union point).0 is)),
     )
+
+-- the ranges of a set are ordered
+pub canonical_ordered : (set : List Range) → IsCanonical set → All IsOrdered set
+canonical_ordered set canonical = All-from_recursion IsOrdered set (each 0 set canonical)
+  where
+    each : (low : ℕ) (ranges : List Range) → IsCanonicalFrom low ranges → AllByRecursion IsOrdered ranges
+    each low [] are = tt
+    each low (range ∷ ranges) are = ((are.1, are.2), each (range.hi + 2) ranges are.3)
+
+-- ranges end to end have the points of both lists, also where they are put in order
+pub union_appended : (ranges others all : List Range) → all ≡ ranges ++ others → IsUnion ranges others all
+union_appended ranges others all same = subst (IsUnion ranges others) (sym same) (InRanges-append ranges others)
+
+pub union_same : (ranges others all set : List Range) → IsUnion ranges others all → HaveSamePoints all set → IsUnion ranges others set
+union_same ranges others all set union same point =
+    ((λ is. (union point).0 ((same point).1 is)), (λ is. (same point).0 ((union point).1 is)))
 
 -- the least point from a bound on is no greater than any other, and where there is none no point lies there
 pub least_from-least : (low : ℕ) (ranges : List Range) (point : ℕ) → InRanges ranges point → low ≤ point

@@ -4,7 +4,7 @@ use Rattle.std.specs.Prelude.{not}
 use Rattle.std.proofs.Math.Seq.{take-suc}
 use Rattle.std.proofs.lemmas.List.{map-append}
 use Rattle.std.proofs.lemmas.List.Sums.{sum-map, sum_by-append, sum_by-cons}
-use Rattle.lx_class.specs.Ranges.{InRanges, IsCanonical, IsUnion}
+use Rattle.lx_class.specs.Ranges.{HaveSamePoints, InRanges, IsCanonical, IsUnion}
 use Rattle.lx_class.specs.declared.ranges.Range.{Range}
 use Rattle.lx_regex.specs.Term.{Term, IsInRanges, class, repeat}
 use Rattle.lx_regex.specs.Expr.{members_of, ranges_of, size_of, term_of}
@@ -19,7 +19,7 @@ use Rattle.lx_exprs.specs.Defined.{HasClass, IsTermKept, Meaning, Shape, one, ro
 use Rattle.lx_exprs.specs.Meanings.{alternated, choice_size, in_choice, in_row}
 use Rattle.std.specs.Option.{option_map}
 use Rattle.lx_exprs.specs.Soundness.{FitsKept}
-use Rattle.lx_exprs.specs.Values.{AreTagsBelow, HasTagsBelow, HaveTagsBelow, IsContent, content_size, is_choice, is_choice_content, is_past}
+use Rattle.lx_exprs.specs.Values.{AreTagsBelow, HasPoints, HasTagsBelow, HaveTagsBelow, IsContent, content_size, is_choice, is_choice_content, is_past}
 
 -- whether alternatives stand there can be seen
 pub choice_content : (built : Bool) (meaning : Meaning) (held : Content) → IsContent built meaning held → is_choice_content held ≡ is_choice meaning.shape
@@ -119,29 +119,34 @@ in_both (range ∷ ranges) others point =
       ⊎_elim (⊎_elim (λ here. inl here) (λ is. inr (later.1 (inl is)))) (λ is. inr (later.1 (inr is))),
     )
 
-pub has_both : (set other both : List Range) (ranges others : Option (List (ℕ × ℕ))) → HasClass (Some set) ranges → HasClass (Some other) others
-    → IsCanonical both → IsUnion set other both → HasClass (Some both) (both_classes ranges others)
-has_both set other both None others has more canonical union = absurd has
-has_both set other both (Some ranges) None has more canonical union = absurd more
-has_both set other both (Some ranges) (Some others) has more canonical union = (
-  canonical,
-  λ point. (
-    λ is. (in_both ranges others point).1 (⊎_elim (λ in_set. inl ((has.1 point).0 in_set)) (λ in_other. inr ((more.1 point).0 in_other)) ((union point).0 is)),
-    λ is. (union point).1 (⊎_elim (λ in_set. inl ((has.1 point).1 in_set)) (λ in_other. inr ((more.1 point).1 in_other)) ((in_both ranges others point).0 is)),
-  ),
+pub has_both : (collected other both : List Range) (ranges others : Option (List (ℕ × ℕ))) → HasPoints (Some collected) ranges
+    → HasPoints (Some other) others → IsUnion collected other both → HasPoints (Some both) (both_classes ranges others)
+has_both collected other both None others has more union = absurd has
+has_both collected other both (Some ranges) None has more union = absurd more
+has_both collected other both (Some ranges) (Some others) has more union = λ point. (
+  λ is. (in_both ranges others point).1 (⊎_elim (λ in_these. inl ((has point).0 in_these)) (λ in_other. inr ((more point).0 in_other)) ((union point).0 is)),
+  λ is. (union point).1 (⊎_elim (λ in_these. inl ((has point).1 in_these)) (λ in_other. inr ((more point).1 in_other)) ((in_both ranges others point).0 is)),
 )
 
--- a set is the class of its points
-pub has_set : (set copy : List Range) → copy ≡ set → IsCanonical copy → HasClass (Some copy) (Some (ranges_of set))
-has_set set copy same canonical = (
-  canonical,
-  λ point. subst (λ s. InRanges s point ↔ IsInRanges (ranges_of set) point) (sym same)
-      ((in_ranges_of set point).1, (in_ranges_of set point).0),
-)
+-- a set has the points of its class
+pub has_set : (set collected : List Range) → collected ≡ set → HasPoints (Some collected) (Some (ranges_of set))
+has_set set collected same point = subst (λ s. InRanges s point ↔ IsInRanges (ranges_of set) point) (sym same)
+    ((in_ranges_of set point).1, (in_ranges_of set point).0)
 
--- no expressions, and one more
-pub has_none : (none : List Range) → none ≡ [] → HasClass (Some none) (Some [])
-has_none none same = subst (λ s. HasClass (Some s) (Some [])) (sym same) (tt, λ point. ((λ is. is), (λ is. is)))
+-- no ranges have the points of no classes
+pub has_none : (none : List Range) → none ≡ [] → HasPoints (Some none) (Some [])
+has_none none same = subst (λ s. HasPoints (Some s) (Some [])) (sym same) (λ point. ((λ is. is), (λ is. is)))
+
+-- the set of the points that are collected is the class
+pub has_class : (collected set : List Range) (ranges : Option (List (ℕ × ℕ))) → HasPoints (Some collected) ranges → IsCanonical set
+    → HaveSamePoints collected set → HasClass (Some set) ranges
+has_class collected set None has canonical same = absurd has
+has_class collected set (Some ranges) has canonical same =
+    (canonical, λ point. ((λ is. (has point).0 ((same point).1 is)), (λ is. (same point).0 ((has point).1 is))))
+
+pub no_class : (ranges : Option (List (ℕ × ℕ))) → HasPoints None ranges → HasClass None ranges
+no_class None has = tt
+no_class (Some ranges) has = has
 
 pub classes-next : (i : ℕ) (members : List Expr) (item : Expr) → i < length members → item ≡ get_or members i item
     → classes_in (members_of (map (term_of 0) (take (suc i) members)))
@@ -166,10 +171,10 @@ pub choice_class : (built : Bool) (meaning : Meaning) (held : Content) (members 
 choice_class built meaning held members same is = ap (λ shape. class_in (whole shape)) (subst (IsContent built meaning) same is 0)
 
 -- the class of alternatives
-pub has_choice : (both : Option (List Range)) (first second : Meaning) → HasClass both (both_classes (meant_class first) (meant_class second))
-    → HasClass both (meant_class (alternated first second))
+pub has_choice : (both : Option (List Range)) (first second : Meaning) → HasPoints both (both_classes (meant_class first) (meant_class second))
+    → HasPoints both (meant_class (alternated first second))
 has_choice both first second has =
-    subst (HasClass both) (sym (class_in-choice first.shape (whole second.shape))) has
+    subst (HasPoints both) (sym (class_in-choice first.shape (whole second.shape))) has
 
 -- one alternative more
 pub choice_more : (first second : Meaning) (members all : List Expr) (expr : Expr) → all ≡ members ++ expr ∷ []
@@ -237,11 +242,12 @@ term_kept true meaning held None tags past kept none some = absurd (let h : fals
 term_kept true meaning held (Some expr) tags past kept none some = ap Some (some tags)
 term_kept false meaning held found tags past kept none some = absurd (let h : false ≡ true = sym kept ∙ past in cc)
 
-pub class_kept : (built : Bool) (meaning : Meaning) (held : Content) (set : List Range) (alternatives : Bool) (expr : Term) → held ≡ content.Past (Some set) alternatives
-    → IsContent built meaning held → expr ≡ class (ranges_of set) → IsTermKept built meaning (Some expr)
-class_kept built meaning held set alternatives expr same is term =
+pub class_kept : (built : Bool) (meaning : Meaning) (held : Content) (collected set : List Range) (alternatives : Bool) (expr : Term)
+    → held ≡ content.Past (Some collected) alternatives → IsContent built meaning held → IsCanonical set → HaveSamePoints collected set
+    → expr ≡ class (ranges_of set) → IsTermKept built meaning (Some expr)
+class_kept built meaning held collected set alternatives expr same is canonical points term =
     let past = subst (IsContent built meaning) same is in
-    subst (λ b. IsTermKept b meaning (Some expr)) (sym past.0) (set, past.1, term)
+    subst (λ b. IsTermKept b meaning (Some expr)) (sym past.0) (set, has_class collected set (meant_class meaning) past.1 canonical points, term)
 
 pub none_kept : (built : Bool) (meaning : Meaning) (held : Content) (alternatives : Bool) → held ≡ content.Past None alternatives
     → IsContent built meaning held → IsTermKept built meaning None
@@ -249,7 +255,7 @@ none_kept built meaning held alternatives same is =
     let past = subst (IsContent built meaning) same is in
     subst (λ b. IsTermKept b meaning None) (sym past.0) (at (meant_class meaning) past.1)
   where
-    at : (ranges : Option (List (ℕ × ℕ))) → HasClass None ranges → ranges ≡ None
+    at : (ranges : Option (List (ℕ × ℕ))) → HasPoints None ranges → ranges ≡ None
     at None has = refl
     at (Some ranges) has = absurd has
 

@@ -1,12 +1,21 @@
 -- What is kept of what is read of an expression.
-use Rattle.std.specs.Prelude.{◌≡◌, ℕ, ◌+◌, ◌≤◌, ◌<◌, Bool, true, false, map, sum, not}
+use Rattle.std.specs.Prelude.{◌≡◌, ℕ, ◌+◌, ◌≤◌, ◌<◌, ◌↔◌, Bool, true, false, List, Option, Some, None, map, sum, not}
+use Rattle.lx_class.specs.Ranges.{InRanges}
+use Rattle.lx_class.specs.declared.ranges.Range.{Range}
 use Rattle.lx_regex.specs.Expr.{members_of, size_of, term_of}
-use Rattle.lx_regex.specs.Term.{Term, Terms, empty, class, any_unit, cat, alt, repeat, tag, group, nil, cons}
+use Rattle.lx_regex.specs.Term.{Term, Terms, IsInRanges, empty, class, any_unit, cat, alt, repeat, tag, group, nil, cons}
 use Rattle.lx_exprs.specs.declared.values.Content.{Content}
 use Rattle.lx_exprs.specs.declared.values.Content.TheVariants as content
 use Rattle.lx_exprs.specs.declared.values.Room.{Room}
 use Rattle.lx_exprs.specs.declared.values.Value.{Value}
-use Rattle.lx_exprs.specs.Defined.{HasClass, Meaning, Shape, one, row, choice, is_built, kept, meant_class}
+use Rattle.lx_exprs.specs.Defined.{Meaning, Shape, one, row, choice, is_built, kept, meant_class}
+
+-- ranges are collected where there is a class, in any order, and they have its points
+abbrev pub HasPoints : Option (List Range) → Option (List (ℕ × ℕ)) → Type 0
+HasPoints None None = Unit {0}
+HasPoints None (Some ranges) = ⊥
+HasPoints (Some collected) None = ⊥
+HasPoints (Some collected) (Some ranges) = (point : ℕ) → InRanges collected point ↔ IsInRanges ranges point
 
 -- whether alternatives stand there
 abbrev pub is_choice : Shape → Bool
@@ -28,13 +37,13 @@ is_choice_content (content.Row members) = false
 is_choice_content (content.Choice members) = true
 is_choice_content (content.Past set alternatives) = alternatives
 
--- All that stands there is kept, or it is not built, and then its class is, if it is one.
+-- All that stands there is kept, or it is not built, and then the points of its class are, if it is one.
 abbrev pub IsContent : (is_built : Bool) → Meaning → Content → Type 0
 IsContent is_built meaning (content.One expr) = (tags : ℕ) → meaning.shape ≡ one (term_of tags expr)
 IsContent is_built meaning (content.Row members) = (tags : ℕ) → meaning.shape ≡ row (map (term_of tags) members.items)
 IsContent is_built meaning (content.Choice members) = (tags : ℕ) → meaning.shape ≡ choice (map (term_of tags) members.items)
 IsContent is_built meaning (content.Past set alternatives) =
-    (is_built ≡ false) × HasClass set (meant_class meaning) × (alternatives ≡ is_choice meaning.shape)
+    (is_built ≡ false) × HasPoints set (meant_class meaning) × (alternatives ≡ is_choice meaning.shape)
 
 -- the size, the nesting and the number of tags of a meaning, as far as they are kept
 pub record IsCounted (meaning : Meaning) (size nesting tags : ℕ) : Type 0 where

@@ -1,6 +1,6 @@
 //! The sets of code points that tokens stand for.
 ghost use Rattle.std.specs.Prelude.{◌≡◌, ◌≢◌, ◌≤◌, ◌+◌, ◌∷◌, [], ℕ, List, All, IfOk, length, map};
-ghost use Rattle.lx_class.specs.Ranges.{HaveSamePoints, IsCanonical};
+ghost use Rattle.lx_class.specs.Ranges.{HaveSamePoints, IsCanonical, IsUnion};
 ghost use Rattle.lx_encode.specs.Policy.{FitsEncoding, IsAfter, IsAllowed, IsPoint};
 ghost use Rattle.lx_exprs.specs.Checks.{ClassHas, range_of};
 ghost use Rattle.lx_exprs.specs.Defined.{Definition};
@@ -14,6 +14,7 @@ use lx_class::{ClassSet, Range, same_points_same_ranges};
 use lx_encode::{PointStop, all_points, apply};
 use lx_token::{Character, PointRange};
 use std::alloc::Global;
+use std::marker::Model;
 
 /// The characters as ranges of one point each.
 pub fn single_ranges(alloc: Global, characters: &[Character]) -> Result<Vec<Range>, Memory>
@@ -57,6 +58,84 @@ fn set_of(alloc: Global, ranges: &[Range]) -> Result<ClassSet, Memory>
             let front = set_of(alloc, front)?;
             let back = set_of(alloc, back)?;
             front.union(alloc, &back)
+        }
+    }
+}
+
+/// Ranges of a class that is being put together, in any order; they may overlap. Contracts see them as a list.
+#[derive(Debug, Drop)]
+pub struct Collected {
+    ranges: Vec<Range>,
+    /// How many there were when they were last put in order.
+    in_order: usize,
+}
+
+impl Model for Collected {
+    ghost use Rattle.std.specs.Prelude.{All, List};
+    ghost use Rattle.lx_class.specs.declared.ranges.Range.{Range};
+    ghost use Rattle.lx_exprs.specs.Seen.{IsOrdered};
+
+    ghost Value = { List Range };
+
+    ghost view = { λ collected. collected.ranges.items };
+
+    ghost invariant = { λ collected. All IsOrdered collected.ranges.items };
+}
+
+impl Collected {
+    /// No ranges. It takes no memory.
+    pub fn none(alloc: Global) -> Collected
+        ensures { result ≡ [] }
+    {
+        Collected {
+            ranges: Vec::new(alloc),
+            in_order: 0,
+        }
+    }
+
+    /// The ranges of a set.
+    pub fn of_set(alloc: Global, set: &ClassSet) -> Result<Collected, Memory>
+        ensures { IfOk result (λ collected. collected ≡ set.now) }
+    {
+        let ranges = Vec::from_slice(alloc, set.ranges())?;
+        let in_order = ranges.len();
+        Ok(Collected { ranges, in_order })
+    }
+
+    /// The set of their points.
+    pub fn into_set(self, alloc: Global) -> Result<ClassSet, Memory>
+        ensures canonical { IfOk result IsCanonical }
+        ensures points { IfOk result (HaveSamePoints self) }
+    {
+        set_of(alloc, &self.ranges)
+    }
+
+    /// These ranges, and others behind them. Where they are more than twice as many as when they were last put in order, they are put
+    /// in order again, which joins those that overlap.
+    fn with(self, alloc: Global, others: &[Range]) -> Result<Collected, Memory>
+        requires { All IsOrdered others.now }
+        ensures { IfOk result (IsUnion self others.now) }
+    {
+        let mut ranges = self.ranges;
+        ranges.extend_from_slice(others)?;
+        if ranges.len() > self.in_order.saturating_mul(2) {
+            let set = set_of(alloc, &ranges)?;
+            return Collected::of_set(alloc, &set);
+        }
+        Ok(Collected {
+            ranges,
+            in_order: self.in_order,
+        })
+    }
+
+    /// These ranges and others. The longer list takes those of the other one.
+    pub fn beside(self, alloc: Global, other: Collected) -> Result<Collected, Memory>
+        ensures { IfOk result (IsUnion self other) }
+    {
+        if self.ranges.len() < other.ranges.len() {
+            other.with(alloc, &self.ranges)
+        } else {
+            self.with(alloc, &other.ranges)
         }
     }
 }

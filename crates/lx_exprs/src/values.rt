@@ -2,8 +2,10 @@
 ghost use Rattle.std.specs.Prelude.{◌≡◌, ◌++◌, ℕ, ◌+◌, ◌^◌, IfOk, List, Option, map, min};
 ghost use Rattle.lx_regex.specs.Expr.{members_of, size_of, term_of};
 ghost use Rattle.lx_regex.specs.Expr as regex;
-ghost use Rattle.lx_exprs.specs.Defined.{HasClass, both_classes, class_in, classes_in};
+ghost use Rattle.lx_exprs.specs.Defined.{both_classes, class_in, classes_in};
+ghost use Rattle.lx_exprs.specs.Values.{HasPoints};
 
+use crate::sets::Collected;
 use lx_base::Memory;
 use lx_class::ClassSet;
 use lx_regex::Expr;
@@ -50,8 +52,8 @@ pub enum Content {
     Row(Vec<Expr>),
     /// Alternatives.
     Choice(Vec<Expr>),
-    /// What is past a limit and not built: its class, if it is one, and whether it has alternatives.
-    Past(Option<ClassSet>, bool),
+    /// What is past a limit and not built: the ranges of its class, if it is one, and whether it has alternatives.
+    Past(Option<Collected>, bool),
 }
 
 /// What is read of an expression. 2^40 stands for itself and for more in its numbers.
@@ -84,10 +86,10 @@ fn times(bounds: Repeat) -> u64
 /// The points of two classes, if both are some.
 fn both_classes(
     alloc: Global,
-    class: Option<ClassSet>,
-    other: Option<ClassSet>,
-) -> Result<Option<ClassSet>, Memory>
-    ensures { (ranges others : Option (List (ℕ × ℕ))) → HasClass class ranges → HasClass other others → IfOk result (λ both. HasClass both (both_classes ranges others)) }
+    class: Option<Collected>,
+    other: Option<Collected>,
+) -> Result<Option<Collected>, Memory>
+    ensures { (ranges others : Option (List (ℕ × ℕ))) → HasPoints class ranges → HasPoints other others → IfOk result (λ both. HasPoints both (both_classes ranges others)) }
 {
     let Some(class) = class else {
         return Ok(None);
@@ -95,16 +97,16 @@ fn both_classes(
     let Some(other) = other else {
         return Ok(None);
     };
-    let both = class.union(alloc, &other)?;
+    let both = class.beside(alloc, other)?;
     Ok(Some(both))
 }
 
 /// The points of all of some expressions, if each is a class.
 #[cycle(class_of)]
-fn class_of_all(alloc: Global, members: &[Expr]) -> Result<Option<ClassSet>, Memory>
-    ensures { IfOk result (λ class. HasClass class (classes_in (members_of (map (term_of 0) members.now)))) }
+fn class_of_all(alloc: Global, members: &[Expr]) -> Result<Option<Collected>, Memory>
+    ensures { IfOk result (λ class. HasPoints class (classes_in (members_of (map (term_of 0) members.now)))) }
 {
-    let mut all = Some(ClassSet::none(alloc));
+    let mut all = Some(Collected::none(alloc));
     for member in members {
         let class = class_of(alloc, member)?;
         all = both_classes(alloc, all, class)?;
@@ -114,11 +116,11 @@ fn class_of_all(alloc: Global, members: &[Expr]) -> Result<Option<ClassSet>, Mem
 
 /// The class that an expression is, if it is one, or an alternation of classes.
 #[cycle(class_of)]
-pub fn class_of(alloc: Global, expr: &Expr) -> Result<Option<ClassSet>, Memory>
-    ensures { IfOk result (λ class. HasClass class (class_in (term_of 0 expr.now))) }
+pub fn class_of(alloc: Global, expr: &Expr) -> Result<Option<Collected>, Memory>
+    ensures { IfOk result (λ class. HasPoints class (class_in (term_of 0 expr.now))) }
 {
     match expr {
-        Expr::Class(set) => Ok(Some(set.copy(alloc)?)),
+        Expr::Class(set) => Ok(Some(Collected::of_set(alloc, set)?)),
         Expr::Alt(members) => class_of_all(alloc, members),
         Expr::Empty
         | Expr::AnyUnit
@@ -144,9 +146,9 @@ fn joined(front: Vec<Expr>, back: Vec<Expr>) -> Result<Vec<Expr>, Memory>
 impl Content {
     ghost use Rattle.std.specs.Prelude.{◌≡◌, ◌≤◌, ◌+◌, ◌*◌, ℕ, Bool, IfOk, IfSome, IfNone, false, not, true, map, sum};
     ghost use Rattle.lx_regex.specs.Expr.{members_of, size_of, term_of, times};
-    ghost use Rattle.lx_exprs.specs.Defined.{HasClass, Meaning, meant_class, term_of_meaning};
+    ghost use Rattle.lx_exprs.specs.Defined.{Meaning, meant_class, term_of_meaning};
     ghost use Rattle.lx_exprs.specs.Meanings.{alternated, enclosed, followed, in_choice, in_row, repeated_by};
-    ghost use Rattle.lx_exprs.specs.Values.{AreTagsBelow, HasTagsBelow, HaveTagsBelow, IsContent, content_size, is_choice_content, is_past};
+    ghost use Rattle.lx_exprs.specs.Values.{AreTagsBelow, HasPoints, HasTagsBelow, HaveTagsBelow, IsContent, content_size, is_choice_content, is_past};
 
     /// Whether it is built.
     fn is_built(&self) -> bool
@@ -167,8 +169,8 @@ impl Content {
     }
 
     /// The class that it is, if it is one.
-    fn into_class(self, alloc: Global) -> Result<Option<ClassSet>, Memory>
-        ensures { (is_built : Bool) (meaning : Meaning) → IsContent is_built meaning self → IfOk result (λ class. HasClass class (meant_class meaning)) }
+    fn into_class(self, alloc: Global) -> Result<Option<Collected>, Memory>
+        ensures { (is_built : Bool) (meaning : Meaning) → IsContent is_built meaning self → IfOk result (λ class. HasPoints class (meant_class meaning)) }
     {
         match self {
             Content::One(expr) => class_of(alloc, &expr),
@@ -411,21 +413,24 @@ impl Value {
     pub fn into_class(self, alloc: Global) -> Result<Option<ClassSet>, Memory>
         ensures { (room : Room) (meaning : Meaning) → IsValue room meaning self → IfOk result (λ class. HasClass class (meant_class meaning)) }
     {
-        self.content.into_class(alloc)
+        match self.content.into_class(alloc)? {
+            Some(collected) => Ok(Some(collected.into_set(alloc)?)),
+            None => Ok(None),
+        }
     }
 
     /// What is kept of it for a definition: the expression, where it is built, and else its class, if it is one.
-    pub fn into_kept(self) -> Option<Expr>
+    pub fn into_kept(self, alloc: Global) -> Result<Option<Expr>, Memory>
         ensures term { (tags : ℕ) (meaning : Meaning) → IsValue whole_room meaning self
-            → IsTermKept (is_built whole_room meaning) meaning (option_map (term_of tags) result) }
-        ensures kept { (count : ℕ) → IsHonest count self → FitsKept result self.size count }
+            → IfOk result (λ found. IsTermKept (is_built whole_room meaning) meaning (option_map (term_of tags) found)) }
+        ensures kept { (count : ℕ) → IsHonest count self → IfOk result (λ found. FitsKept found self.size count) }
     {
         match self.content {
             Content::Past(class, _) => match class {
-                Some(set) => Some(Expr::Class(set)),
-                None => None,
+                Some(collected) => Ok(Some(Expr::Class(collected.into_set(alloc)?))),
+                None => Ok(None),
             },
-            content => content.into_expr(),
+            content => Ok(content.into_expr()),
         }
     }
 

@@ -137,7 +137,7 @@ impl Known {
             size: value.size,
             nesting: value.nesting,
             tags,
-            expr: value.into_kept(),
+            expr: value.into_kept(alloc)?,
         };
         self.env.definitions.add(alloc, name.text, kept)?;
         Ok(())

@@ -1,10 +1,10 @@
 use Rattle.std.proofs.Common.{◌≡◌, ◌∙◌, ◌+◌, ap, arith, length, refl, subst, sym}
 use Rattle.std.specs.Option.{option_map}
 use Rattle.lx_regex.specs.Expr.{term_of}
-use Rattle.lx_exprs.specs.Defined.{HasClass, class_in, one}
+use Rattle.lx_exprs.specs.Defined.{class_in, one}
 use Rattle.lx_exprs.specs.Meanings.{shifted, term_or_empty}
 use Rattle.lx_exprs.specs.Soundness.{FitsKept}
-use Rattle.lx_exprs.specs.Values.{HasTagsBelow}
+use Rattle.lx_exprs.specs.Values.{HasPoints, HasTagsBelow}
 use Rattle.lx_exprs.proofs.TermTags.{HasTagsBelow-greater, HasTagsBelow-shifted, class_in-shifted}
 use Rattle.lx_exprs.proofs.leaves.kept_content.Goals as goal
 
@@ -12,7 +12,7 @@ pub returns-then-sum-gt-MOST_TAGS-clause-stands : goal.returns-then-sum-gt-MOST_
 returns-then-sum-gt-MOST_TAGS-clause-stands c built before by past =
     let is = ap (λ expr. class_in (shifted before (term_or_empty (option_map (term_of 0) expr)))) c.in-Some.is in
     let class = sym (is ∙ class_in-shifted before (term_of 0 c.in-Some.expr)) in
-    (past (omega (arith, by, c.len.ensures, c.sum.ensures, c.if-sum-gt-MOST_TAGS.true)), subst (HasClass c.in_ok-class.class) class c.in_ok-class.ensures, refl)
+    (past (omega (arith, by, c.len.ensures, c.sum.ensures, c.if-sum-gt-MOST_TAGS.true)), subst (HasPoints c.in_ok-class.class) class c.in_ok-class.ensures, refl)
 
 pub copy-requires-clause-tags : goal.copy-requires-clause-tags
 copy-requires-clause-tags c =

@@ -27,7 +27,7 @@ returns-clause-taken c = λ state holds.
     let reading = c.in-Ok.reading in
     let read = read_known c.args.block.options.now lexemes c.args.self.now state holds whole_room c.args.from c.args.until reading c.in-Ok.ensures.read in
     let counted = read.stands.value.counted in
-    let given : Kept = record { at = c.at-name.result.at; size = reading.value.size; nesting = reading.value.nesting; tags = reading.tags; expr = c.into_kept.result } in
+    let given : Kept = record { at = c.at-name.result.at; size = reading.value.size; nesting = reading.value.nesting; tags = reading.tags; expr = c.in_ok-into_kept.field-0 } in
     let defined : IsDefined (nth_lexeme lexemes c.args.name).text (nth_lexeme lexemes c.args.name).at read.meaning (definition_view (nth_lexeme lexemes c.args.name).text given) =
     record {
       name_is = refl;
@@ -35,10 +35,10 @@ returns-clause-taken c = λ state holds.
       size = counted.size_is;
       nesting = counted.nesting_is;
       tags = read.stands.tags;
-      term = c.into_kept.ensures.term 0 read.meaning read.stands.value;
+      term = c.in_ok-into_kept.ensures.term 0 read.meaning read.stands.value;
     } in
     define_taken c.args.block.options.now lexemes c.args.self.now state holds c.args.name c.args.from c.args.until _ given reading none read defined
     (subst (λ (l : Lexeme). definitions_view c.add.new.self ≡ definitions_view c.args.self.now.env.definitions ++ definition_view l.text given ∷ []) c.at-name.ensures c.in_ok-add.ensures.added)
     (c.in_ok-add.ensures.sound holds.sound
-    (c.into_kept.ensures.kept (length reading.tags) c.in-Ok.ensures.honest))
+    (c.in_ok-into_kept.ensures.kept (length reading.tags) c.in-Ok.ensures.honest))
     refl refl refl refl refl refl refl
