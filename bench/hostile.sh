@@ -2,7 +2,9 @@
 # Measures small inputs that are made to take long, each at two sizes, and fails where one takes longer than its limit, where one of
 # four times the size takes more than six times as long, or where one takes more memory than its limit:
 # - 4,000 rules, each of a class of its own of all letters but one, in UTF-8 (10 s);
-# - 20,000 tags in one definition, and 20,000 definitions that stand on it (5 s, 200 MB);
+# - 20,000 tags in one definition, and 20,000 definitions that stand on it (5 s, 200 MB); and 20,000 definitions that have one tag
+#   more each (5 s, 200 MB);
+# - a class of 20,000 alternatives, past the limits of a scanner (2 s);
 # - an emitted file with a great register (0.1 s), one with 20,000 tags in one rule (1 s a match), and one with 60,000
 #   conditions (2 s).
 cd "$(dirname "$0")/.." || exit 1
@@ -62,6 +64,14 @@ def definitions(count):
     lines = ''.join(f'd{k + 1} = d{k};\n' for k in range(count))
     return f'/*!re2c\nre2c:yyfill:enable = 0;\nd0 = "a" {tags};\n{lines}*/\n'
 
+def chain(count):
+    lines = ''.join(f'd{k + 1} = d{k} @x{k};\n' for k in range(count))
+    return f'/*!re2c\nre2c:yyfill:enable = 0;\nd0 = "a";\n{lines}*/\n'
+
+def alternatives(count):
+    points, _ = letters()
+    return '/*!re2c\nre2c:yyfill:enable = 0;\ne = ' + ' | '.join(f'[\\U{point:08X}]' for point in points[::2][:count]) + ';\n*/\n'
+
 def measured(words):
     begun = time.monotonic()
     child = subprocess.Popen([program] + words, stdout=subprocess.DEVNULL, stderr=subprocess.DEVNULL)
@@ -86,6 +96,8 @@ def compile_with(*options):
 INPUTS = {
     'classes': (classes, compile_with('-8'), 4_000, 10.0, None),
     'tags of definitions': (definitions, compile_with('-T'), 20_000, 5.0, 200),
+    'one tag more in each definition': (chain, compile_with('-T'), 20_000, 5.0, 200),
+    'alternatives of a class': (alternatives, compile_with('-8'), 20_000, 2.0, None),
     'a great register': (register, run('aa'), 100_000_000, 0.1, None),
     'tags in one rule': (tags, run('aa'), 20_000, 2.0, None),
     'conditions': (conditions, run('a'), 60_000, 2.0, None),
