@@ -1,5 +1,5 @@
 pub mod Operations
 pub mod Runs
-pub mod Layouts
+pub mod BlockLayouts
 pub mod Validity
 pub mod Rules

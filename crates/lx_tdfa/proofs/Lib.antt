@@ -1,4 +1,4 @@
-pub mod Kernels
+pub mod WordKernels
 pub mod Walks
 pub mod Rules
 pub mod Values

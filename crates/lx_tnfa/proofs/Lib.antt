@@ -1,4 +1,4 @@
 pub mod Leaves
 pub mod Searching
-pub mod Live
-pub mod Building
+pub mod Liveness
+pub mod Construction

@@ -12,7 +12,7 @@ use Rattle.lx_ccode.specs.declared.piece.Stmt.{Stmt}
 use Rattle.lx_gen.specs.Endings.{Ending, back_code, end_code, ends_code, groups_code, is_slash, slash_held, tag_code, tags_code, unless}
 use Rattle.lx_gen.specs.Layout.{accepts_of}
 use Rattle.lx_gen.specs.Plans.{AcceptIsTold, AreTold, IsTold}
-use Rattle.lx_gen.proofs.Layouts.AcceptLoops.{HoldsOf, firsts_onto-each}
+use Rattle.lx_gen.proofs.BlockLayouts.AcceptLoops.{HoldsOf, firsts_onto-each}
 
 ends_code-append : (values : List Held) (place : ℕ) (rest : List Stmt) → ends_code values place rest ≡ ends_code values place [] ++ rest
 ends_code-append [] place rest = refl

@@ -10,7 +10,7 @@ use Rattle.lx_auto.specs.declared.automaton.State.{State}
 use Rattle.lx_gen.specs.Codes.{chosen, is_kept, restore_code}
 use Rattle.lx_gen.specs.Endings.{Ending, ending_code}
 use Rattle.lx_gen.specs.Layout.{AreAgreed, accepts_of, choices_from, ending_blocks, firsts_onto, has_rule, kept_accept, kept_of, restore_blocks, rule_place, with_accept}
-use Rattle.lx_gen.proofs.Layouts.FirstAccepts.{Chosen, each-firsts, has_rule-onto, has_rule-own}
+use Rattle.lx_gen.proofs.BlockLayouts.FirstAccepts.{Chosen, each-firsts, has_rule-onto, has_rule-own}
 
 -- ---- the first accept of each rule
 

@@ -32,7 +32,7 @@ use Rattle.lx_gen.proofs.Validity.LayoutLaws.{layout_right}
 use Rattle.lx_gen.proofs.Validity.QuietCodes.{layout_asks_nothing}
 use Rattle.lx_gen.proofs.Rules.RuleEndings.{endings-action, endings-no_line, limited_ends}
 use Rattle.lx_gen.proofs.Rules.RuleNames.{rules_written}
-use Rattle.lx_gen.proofs.Layouts.StandingCodes.{StandsFrom-itself}
+use Rattle.lx_gen.proofs.BlockLayouts.StandingCodes.{StandsFrom-itself}
 use Rattle.lx_gen.proofs.Validity.ValidLayouts.{blocks_fine, layout_valid}
 
 greatest_unit-short : (enc : Enc) → IsShort (greatest_unit enc)

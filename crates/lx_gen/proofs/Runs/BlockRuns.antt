@@ -27,7 +27,7 @@ use Rattle.lx_gen.proofs.Operations.Agreeing.{Agrees, Agrees-after, read_all-agr
 use Rattle.lx_gen.proofs.Runs.RunMachines.{choices_end, choices_run, keep_size, length-keep_code, length-ops_code, machine_at, ops_run}
 use Rattle.lx_gen.proofs.Operations.OpBounds.{ArePositive-one_by_one}
 use Rattle.lx_gen.proofs.Rules.RuleEnds.{ending_run, goto_run}
-use Rattle.lx_gen.proofs.Layouts.StandingCodes.{length-block}
+use Rattle.lx_gen.proofs.BlockLayouts.StandingCodes.{length-block}
 use Rattle.lx_gen.proofs.Runs.PartialRuns.{EndsIn, LeadsIn, end_in, stays_in, step_in, then_in, widen_end}
 
 -- the accepting state that the piece kept last is one that is found again

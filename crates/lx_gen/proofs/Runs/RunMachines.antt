@@ -15,9 +15,9 @@ use Rattle.lx_gen.specs.Codes.{Choice, choices_code, chosen, keep_code, op_code,
 use Rattle.lx_gen.specs.Layout.{StandsFrom}
 use Rattle.lx_gen.specs.TestTrees.{TestTree, fork, inner_blocks, inner_size, leaf, picked, test, tree_code}
 use Rattle.lx_gen.specs.Turns.{after_op, after_ops}
-use Rattle.lx_gen.proofs.Layouts.StandingCodes.{StandsFrom-back, StandsFrom-front, code_length-append}
+use Rattle.lx_gen.proofs.BlockLayouts.StandingCodes.{StandsFrom-back, StandsFrom-front, code_length-append}
 use Rattle.lx_gen.proofs.Runs.PartialRuns.{LeadsIn, EndsIn, stays_in, step_in, last_in, then_in, end_in, widen}
-use Rattle.lx_gen.proofs.Layouts.TreeCodes.{length-inner_blocks, tree_length}
+use Rattle.lx_gen.proofs.BlockLayouts.TreeCodes.{length-inner_blocks, tree_length}
 
 -- registers counted from 1, where register 0 holds this
 abbrev pub raised : Option ℕ → (ℕ → Option ℕ) → ℕ → Option ℕ

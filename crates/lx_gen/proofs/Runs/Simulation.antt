@@ -27,9 +27,9 @@ use Rattle.lx_gen.specs.TestTrees.{inner_blocks, picked, tree_code}
 use Rattle.lx_gen.proofs.Operations.Agreeing.{Agrees, Agrees-after}
 use Rattle.lx_gen.proofs.Runs.BlockRuns.{Has, IsHeldWell, Target, all, at, behind, edge_run, held_after, held_behind, stop_run}
 use Rattle.lx_gen.proofs.Runs.RunMachines.{machine_at, raised-shift, tree_run}
-use Rattle.lx_gen.proofs.Layouts.StandingCodes.{length-block, length-with_row}
+use Rattle.lx_gen.proofs.BlockLayouts.StandingCodes.{length-block, length-with_row}
 use Rattle.lx_gen.proofs.Runs.PartialRuns.{EndsIn, LeadsIn, end_in, loop_count-mono, stays_in, step_in, then_in, widen}
-use Rattle.lx_gen.proofs.Layouts.TreeCodes.{inner_blocks-read, tree_length}
+use Rattle.lx_gen.proofs.BlockLayouts.TreeCodes.{inner_blocks-read, tree_length}
 
 -- a unit that is left of a stream is the one at the cursor
 pub left_unit : (pos unit : ℕ) (more stream : List ℕ) → unit ∷ more ≡ drop pos stream

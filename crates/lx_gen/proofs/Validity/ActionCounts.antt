@@ -14,7 +14,7 @@ use Rattle.lx_gen.specs.Actions.{IsOwnAction, action_count}
 use Rattle.lx_gen.specs.Codes.{Choice, choices_code}
 use Rattle.lx_gen.specs.Endings.{Ending, action_code, cond_code, ending_code, last_code}
 use Rattle.lx_gen.specs.Layout.{accepts_of, choices_from, ending_blocks, fall_block, kept_of, layout, place_of, restore_blocks, rule_block, states_blocks}
-use Rattle.lx_gen.proofs.Layouts.FirstAccepts.{HaveOwnRules, HaveOwnRules-firsts, NoneByRule}
+use Rattle.lx_gen.proofs.BlockLayouts.FirstAccepts.{HaveOwnRules, HaveOwnRules-firsts, NoneByRule}
 use Rattle.lx_gen.proofs.Validity.PlainCodes.{Plain, PlainAll, choices_plain, is_plain, restores_plain, rule-before, states_plain}
 
 -- the statements of codes, in order

@@ -18,8 +18,8 @@ use Rattle.lx_gen.specs.Endings.{Ending, action_code, back_code, cond_code, endi
 use Rattle.lx_gen.specs.Layout.{front_blocks, front_size}
 use Rattle.lx_gen.specs.Sequences.{one_by_one}
 use Rattle.lx_gen.specs.TestTrees.{TestTree}
-use Rattle.lx_gen.proofs.Layouts.BalancedTrees.{EachTest}
-use Rattle.lx_gen.proofs.Layouts.TreeCodes.{each-front_blocks}
+use Rattle.lx_gen.proofs.BlockLayouts.BalancedTrees.{EachTest}
+use Rattle.lx_gen.proofs.BlockLayouts.TreeCodes.{each-front_blocks}
 
 module _ (n : ℕ) where
   -- the code ends once, and jumps below so many blocks

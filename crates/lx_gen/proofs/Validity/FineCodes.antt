@@ -22,9 +22,9 @@ use Rattle.lx_gen.specs.Layout.{front_blocks}
 use Rattle.lx_gen.specs.Sequences.{one_by_one}
 use Rattle.lx_gen.specs.TestTrees.{TestTree}
 use Rattle.lx_gen.specs.Written.{IsShortAction, IsWritten, IsWrittenAccept, MayStand}
-use Rattle.lx_gen.proofs.Layouts.BalancedTrees.{EachTest}
+use Rattle.lx_gen.proofs.BlockLayouts.BalancedTrees.{EachTest}
 use Rattle.lx_gen.proofs.Operations.SmallOps.{AreSmall, AreSmall-ops, IsSmall, one_by_one-small}
-use Rattle.lx_gen.proofs.Layouts.TreeCodes.{each-front_blocks}
+use Rattle.lx_gen.proofs.BlockLayouts.TreeCodes.{each-front_blocks}
 
 module _ (names : Spellings) where
   -- the statement has a spelling if its block has one, it has few groups, and is none of a refill, a stored state or a condition

@@ -16,12 +16,12 @@ use Rattle.lx_gen.specs.Layout.{accepts_of, blocks_by, choices_from, end_block, 
 use Rattle.lx_gen.specs.TestTrees.{TestTree, edge_tree}
 use Rattle.lx_gen.specs.Ways.{Split, Stretch, before, edge_split, first_way, has_way, same_place, split_of, stretches, way_place, ways_of, ways_onto}
 use Rattle.lx_gen.specs.Written.{AcceptIsWritten, AreWritten, IsWrittenAccept}
-use Rattle.lx_gen.proofs.Layouts.BalancedTrees.{EachTest, each-balanced}
+use Rattle.lx_gen.proofs.BlockLayouts.BalancedTrees.{EachTest, each-balanced}
 use Rattle.lx_gen.proofs.Validity.EachElement.{each-append, each-map}
 use Rattle.lx_gen.proofs.Validity.FineCodes.{ChoicesShort, Fine, accept_fine, choices_fine, edge_fine, ending_fine, front_fine}
-use Rattle.lx_gen.proofs.Layouts.FirstAccepts.{Chosen, each-firsts, length-firsts, rule_place-within}
+use Rattle.lx_gen.proofs.BlockLayouts.FirstAccepts.{Chosen, each-firsts, length-firsts, rule_place-within}
 use Rattle.lx_gen.proofs.Rules.RuleEndings.{each-All}
-use Rattle.lx_gen.proofs.Layouts.TreeCodes.{each-numbered}
+use Rattle.lx_gen.proofs.BlockLayouts.TreeCodes.{each-numbered}
 
 -- ---- tests
 

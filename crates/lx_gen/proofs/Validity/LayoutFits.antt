@@ -18,13 +18,13 @@ use Rattle.lx_gen.specs.Endings.{Ending}
 use Rattle.lx_gen.specs.Layout.{accepts_of, blocks_by, choices_from, end_block, end_blocks, end_of, end_size, ending_blocks, fall_block, front_blocks, front_size, kept_accept, kept_number, kept_of, layout, lone_blocks, lone_place, lone_size, numbered, own_block, own_blocks, own_size, place_by, place_in, place_of, restore_blocks, rule_block, size_by, state_size, states_blocks, way_block, way_blocks}
 use Rattle.lx_gen.specs.TestTrees.{TestTree, edge_tree}
 use Rattle.lx_gen.specs.Ways.{Split, Stretch, before, edge_split, first_way, has_way, same_place, split_of, stretches, way_place, ways_of, ways_onto}
-use Rattle.lx_gen.proofs.Layouts.BalancedTrees.{EachTest, each-balanced}
+use Rattle.lx_gen.proofs.BlockLayouts.BalancedTrees.{EachTest, each-balanced}
 use Rattle.lx_gen.proofs.Validity.CodeFits.{ChoicesBelow, Fits, accept_fits, choices_fit, edge_fits, ending_fits, front_fits, goto_fits, restore_fits}
 use Rattle.lx_gen.proofs.Validity.EachElement.{each-append, each-map}
-use Rattle.lx_gen.proofs.Layouts.FirstAccepts.{Chosen, HasRule, all-chosen, each-firsts, has_rule-firsts, kept-chosen, rule_place-below}
-use Rattle.lx_gen.proofs.Layouts.LayoutLengths.{length-layout}
-use Rattle.lx_gen.proofs.Layouts.TreeCodes.{each-numbered, front_size-numbered}
-use Rattle.lx_gen.proofs.Layouts.WayLists.{has_way-last, has_way-onto, way_found}
+use Rattle.lx_gen.proofs.BlockLayouts.FirstAccepts.{Chosen, HasRule, all-chosen, each-firsts, has_rule-firsts, kept-chosen, rule_place-below}
+use Rattle.lx_gen.proofs.BlockLayouts.LayoutLengths.{length-layout}
+use Rattle.lx_gen.proofs.BlockLayouts.TreeCodes.{each-numbered, front_size-numbered}
+use Rattle.lx_gen.proofs.BlockLayouts.WayLists.{has_way-last, has_way-onto, way_found}
 
 -- ---- ways
 

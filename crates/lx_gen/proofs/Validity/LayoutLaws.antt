@@ -24,7 +24,7 @@ use Rattle.lx_gen.specs.Sequences.{one_by_one}
 use Rattle.lx_gen.specs.Starts.{run_with}
 use Rattle.lx_gen.specs.Turns.{after_ops}
 use Rattle.lx_gen.proofs.Operations.Agreeing.{Agrees-after}
-use Rattle.lx_gen.proofs.Layouts.LayoutServes.{layout_serves, number_in}
+use Rattle.lx_gen.proofs.BlockLayouts.LayoutServes.{layout_serves, number_in}
 use Rattle.lx_gen.proofs.Runs.Matches.{served_right}
 
 -- the first state stands where the layout begins

@@ -18,9 +18,9 @@ use Rattle.lx_gen.specs.Layout.{blocks_by, end_block, end_blocks, front_blocks, 
 use Rattle.lx_gen.specs.Sequences.{one_by_one}
 use Rattle.lx_gen.specs.TestTrees.{TestTree, edge_tree, fork, leaf, test}
 use Rattle.lx_gen.specs.Ways.{ways_of}
-use Rattle.lx_gen.proofs.Layouts.BalancedTrees.{EachTest}
+use Rattle.lx_gen.proofs.BlockLayouts.BalancedTrees.{EachTest}
 use Rattle.lx_gen.proofs.Validity.EachElement.{each-append}
-use Rattle.lx_gen.proofs.Layouts.TreeCodes.{each-front_blocks}
+use Rattle.lx_gen.proofs.BlockLayouts.TreeCodes.{each-front_blocks}
 
 -- a statement of no state, refill, condition or action
 abbrev pub is_plain : Stmt → Bool

@@ -27,7 +27,7 @@ use Rattle.lx_gen.proofs.Validity.FineCodes.{Fine, IsFine}
 use Rattle.lx_gen.proofs.Validity.FineLayouts.{layout_fine}
 use Rattle.lx_gen.proofs.Validity.FinePieces.{FineBlocks, FineBlocks-codes, HasFewGroups-fine, NamesOneOf-fine, after_states-fine, all_fine, blocks-few, blocks_spelled, labels-none, last_statements-fine, no_need, states_from-fine}
 use Rattle.lx_gen.proofs.Validity.LayoutFits.{layout_ends, layout_jumps}
-use Rattle.lx_gen.proofs.Layouts.LayoutLengths.{length-layout}
+use Rattle.lx_gen.proofs.BlockLayouts.LayoutLengths.{length-layout}
 use Rattle.lx_gen.proofs.Validity.QuietCodes.{layout_asks_nothing}
 
 unit_size-is : (enc : Enc) → (unit_size enc ≡ 1) ⊎ ((unit_size enc ≡ 2) ⊎ (unit_size enc ≡ 4))

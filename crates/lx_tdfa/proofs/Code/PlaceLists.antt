@@ -10,10 +10,10 @@ use Rattle.lx_tnfa.specs.LeafReadings.{NumbersLeaves}
 use Rattle.lx_tnfa.proofs.Searching.SearchBasics.{Each}
 use Rattle.lx_tdfa.specs.Graph.{graph_of, rule_starts}
 use Rattle.lx_tdfa.specs.Kernels.{Candidate, Entry, Key, cut_of, entries, kernel_list, places, segment_symbols}
-use Rattle.lx_tdfa.proofs.Kernels.KernelSteps.{kernel_list-first_runs}
-use Rattle.lx_tdfa.proofs.Kernels.KernelsListed.{same_number, same_place}
-use Rattle.lx_tdfa.proofs.Kernels.OrderedLists.{each_from}
-use Rattle.lx_tdfa.proofs.Kernels.RunCuts.{IsRunOf}
+use Rattle.lx_tdfa.proofs.WordKernels.KernelSteps.{kernel_list-first_runs}
+use Rattle.lx_tdfa.proofs.WordKernels.KernelsListed.{same_number, same_place}
+use Rattle.lx_tdfa.proofs.WordKernels.OrderedLists.{each_from}
+use Rattle.lx_tdfa.proofs.WordKernels.RunCuts.{IsRunOf}
 use Rattle.lx_tdfa.proofs.Rules.StateOrder.{rule_starts-apart}
 
 pub places_of_entries :

@@ -13,7 +13,7 @@ use Rattle.lx_regex.proofs.RuleParts.{length-group_ends}
 use Rattle.lx_tnfa.specs.Tnfa.{sorts_for}
 use Rattle.lx_tdfa.specs.Registers.{widest}
 use Rattle.lx_tdfa.specs.RuleNumbers.{HaveApartNumbers, NoneIsNumbered}
-use Rattle.lx_tdfa.proofs.Kernels.OrderedLists.{IsMember}
+use Rattle.lx_tdfa.proofs.WordKernels.OrderedLists.{IsMember}
 
 -- what an automaton keeps of rules
 abbrev pub kept_of : List Pattern → List (ℕ × List Bool)

@@ -6,7 +6,7 @@ use Rattle.lx_tnfa.specs.Tnfa.{IsTnfaOf, Tnfa}
 use Rattle.lx_tdfa.specs.RuleNumbers.{HaveApartNumbers}
 use Rattle.lx_tdfa.proofs.Rules.ApartNumbers.{sorts_kept}
 use Rattle.lx_tdfa.proofs.Walks.ClosureSearches.{RulesKept}
-use Rattle.lx_tdfa.proofs.Kernels.EndingRules.{script-ending_rule}
+use Rattle.lx_tdfa.proofs.WordKernels.EndingRules.{script-ending_rule}
 use Rattle.lx_tdfa.proofs.Walks.NumbersApart.{number_of-apart}
 use Rattle.lx_tdfa.proofs.Rules.RuleSteps.{first_ending-kept, next_steps-kept}
 

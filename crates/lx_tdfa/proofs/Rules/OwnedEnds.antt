@@ -16,9 +16,9 @@ use Rattle.lx_regex.specs.Automaton.{automaton, final, rules_table, table}
 use Rattle.lx_regex.specs.Parts.{Part, parts_in, parts_of, parts_of_rules}
 use Rattle.lx_regex.specs.Pattern.{Pattern, is_end, terms_of, with_terms}
 use Rattle.lx_regex.specs.Term.{parts}
-use Rattle.lx_tnfa.proofs.Building.HeldStates.{moves_same}
-use Rattle.lx_tnfa.proofs.Building.NthLists.{mapped_from}
-use Rattle.lx_tnfa.proofs.Building.WholeTable.{held_length}
+use Rattle.lx_tnfa.proofs.Construction.HeldStates.{moves_same}
+use Rattle.lx_tnfa.proofs.Construction.NthLists.{mapped_from}
+use Rattle.lx_tnfa.proofs.Construction.WholeTable.{held_length}
 use Rattle.lx_tnfa.specs.Closure.{Arrival, IsPlainWalk, IsWalk, Step, beginning_at, beginning_of, behind_or_at, leaf_step, steps_at, steps_from, steps_of, stop_at}
 use Rattle.lx_tnfa.specs.Live.{starts_at, state_of}
 use Rattle.lx_tnfa.specs.Tnfa.{IsTnfaOf, Tnfa, rows_at, state_at}

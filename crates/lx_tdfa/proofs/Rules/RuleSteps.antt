@@ -14,7 +14,7 @@ use Rattle.lx_tnfa.specs.declared.closure.Stop.TheVariants.{AtTarget}
 use Rattle.lx_tnfa.specs.declared.closure.Target.{Target}
 use Rattle.lx_tnfa.specs.declared.closure.Target.TheVariants.{End, Leaf}
 use Rattle.lx_tnfa.specs.declared.places.Place.{Place}
-use Rattle.lx_tnfa.proofs.Building.NthLists.{mapped_from}
+use Rattle.lx_tnfa.proofs.Construction.NthLists.{mapped_from}
 use Rattle.lx_tnfa.proofs.Searching.SearchBasics.{Each}
 use Rattle.lx_tnfa.proofs.Searching.SearchPaths.{All-from_each, Each-from_all}
 use Rattle.lx_tdfa.specs.Steps.{Ending, IsInLeaf, Step, ending_at, first_ending, next_steps, step_on, step_to}

@@ -26,7 +26,7 @@ use Rattle.lx_tnfa.specs.declared.states.Event.{Event}
 use Rattle.lx_tnfa.specs.declared.states.Move.{Move}
 use Rattle.lx_tnfa.specs.declared.states.State.{State}
 use Rattle.lx_tnfa.specs.declared.states.State.TheVariants.{AnyUnit, Class, Moves}
-use Rattle.lx_tnfa.proofs.Building.HeldStates.{held_at}
+use Rattle.lx_tnfa.proofs.Construction.HeldStates.{held_at}
 use Rattle.lx_tnfa.proofs.Searching.SearchBasics.{Each}
 use Rattle.lx_tdfa.specs.Steps.{IsInLeaf}
 use Rattle.lx_tdfa.proofs.Walks.NumbersApart.{rules_table-length}

@@ -12,8 +12,8 @@ use Rattle.lx_tnfa.specs.declared.closure.Target.TheVariants.{End, Leaf}
 use Rattle.lx_tnfa.specs.declared.places.Place.{Place}
 use Rattle.lx_tnfa.specs.declared.states.State.{State}
 use Rattle.lx_tnfa.specs.declared.states.State.TheVariants.{AnyUnit, Class, Moves}
-use Rattle.lx_tnfa.proofs.Building.HeldStates.{moves_same}
-use Rattle.lx_tnfa.proofs.Building.NthLists.{kept_from, mapped_from}
+use Rattle.lx_tnfa.proofs.Construction.HeldStates.{moves_same}
+use Rattle.lx_tnfa.proofs.Construction.NthLists.{kept_from, mapped_from}
 use Rattle.lx_tdfa.specs.Steps.{Step, first_steps, next_steps, start_place, step_on, step_to}
 
 first_steps-head : (steps others : List Step) (step : Step) → first_steps [] steps ≡ step ∷ others → IsNth steps 0 step

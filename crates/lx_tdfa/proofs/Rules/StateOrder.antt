@@ -9,7 +9,7 @@ use Rattle.lx_regex.proofs.PartLists.{parts_positive}
 use Rattle.lx_tnfa.specs.LeafReadings.{IsNth}
 use Rattle.lx_tnfa.specs.DepthFirst.{successors}
 use Rattle.lx_tdfa.specs.Graph.{graph_of, move_at, nth_move, rule_starts, starts_behind}
-use Rattle.lx_tdfa.proofs.Kernels.OrderedLists.{IsRising, at_zero_nth, each_from, member_nth}
+use Rattle.lx_tdfa.proofs.WordKernels.OrderedLists.{IsRising, at_zero_nth, each_from, member_nth}
 use Rattle.lx_tdfa.proofs.Walks.StatePaths.{MovesInOrder}
 
 pub some_parts : (e : Term) → 0 < parts e

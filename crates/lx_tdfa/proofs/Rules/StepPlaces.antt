@@ -25,8 +25,8 @@ use Rattle.lx_tnfa.specs.declared.states.Event.{Event}
 use Rattle.lx_tnfa.specs.declared.states.State.{State}
 use Rattle.lx_tnfa.specs.declared.states.State.TheVariants.{AnyUnit, Class, Moves}
 use Rattle.lx_tnfa.proofs.Leaves.FormedLeaves.{automaton_formed, steps_lead_of}
-use Rattle.lx_tnfa.proofs.Building.HeldStates.{moves_same}
-use Rattle.lx_tnfa.proofs.Building.NthLists.{mapped_from}
+use Rattle.lx_tnfa.proofs.Construction.HeldStates.{moves_same}
+use Rattle.lx_tnfa.proofs.Construction.NthLists.{mapped_from}
 use Rattle.lx_tnfa.proofs.Leaves.RestPlaces.{StepsStay, rest_stays, steps_stay}
 use Rattle.lx_tnfa.proofs.Searching.SearchBasics.{Each}
 use Rattle.lx_tnfa.proofs.Searching.SearchPaths.{All-from_each, Each-from_all}

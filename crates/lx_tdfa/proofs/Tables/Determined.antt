@@ -22,9 +22,9 @@ use Rattle.lx_tdfa.specs.Steps.{IsFound, at_start, start_place}
 use Rattle.lx_tdfa.specs.Table.{IsStateOf, IsTable, is_first}
 use Rattle.lx_tdfa.proofs.Rules.ApartNumbers.{numbers_apart, widest_bound}
 use Rattle.lx_tdfa.proofs.Walks.ClosureSearches.{RulesKept, SearchesAlike}
-use Rattle.lx_tdfa.proofs.Kernels.FewKernels.{few_found}
+use Rattle.lx_tdfa.proofs.WordKernels.FewKernels.{few_found}
 use Rattle.lx_tdfa.proofs.Rules.KeptRules.{rules_kept}
-use Rattle.lx_tdfa.proofs.Kernels.ManyKernels.{many_found}
+use Rattle.lx_tdfa.proofs.WordKernels.ManyKernels.{many_found}
 use Rattle.lx_tdfa.proofs.Rules.OwnedEnds.{ends_are_owned}
 use Rattle.lx_tdfa.proofs.Walks.Searches.{searches_alike}
 use Rattle.lx_tdfa.proofs.Tables.TableAutomata.{table_auto}

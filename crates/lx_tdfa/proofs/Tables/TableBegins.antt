@@ -15,7 +15,7 @@ use Rattle.lx_tnfa.specs.declared.places.Place.{Place}
 use Rattle.lx_tdfa.specs.Graph.{graph_of, rule_starts}
 use Rattle.lx_tdfa.specs.Kernels.{Entry, cut_of, kernel_after, kernel_step, places, segment_symbols}
 use Rattle.lx_tdfa.proofs.Walks.ClosureSearches.{number_of}
-use Rattle.lx_tdfa.proofs.Kernels.ProgramKernels.{kernel_after-empty, kernel_after-kernel}
+use Rattle.lx_tdfa.proofs.WordKernels.ProgramKernels.{kernel_after-empty, kernel_after-kernel}
 use Rattle.lx_tdfa.proofs.Values.StepHolds.{kernel_after-more}
 use Rattle.lx_tdfa.proofs.Tables.TableRuns.{IsGiven, Stands, kernel_numbers, stands-run, stands-start, stands-step, stuck}
 

@@ -34,7 +34,7 @@ use Rattle.lx_tdfa.specs.Table.{IsStateOf, accept_of}
 use Rattle.lx_tdfa.specs.Values.{all_values_after, last_values_after, value_at}
 use Rattle.lx_tdfa.proofs.Walks.ClosureSearches.{AreEndsAlike, IsEndAlike, IsSource, end_from, events_of, last_state}
 use Rattle.lx_tdfa.proofs.Values.HeldValues.{read_all-values}
-use Rattle.lx_tdfa.proofs.Kernels.ProgramAccepts.{accept_after-accepts, all_accepted, last_accepted}
+use Rattle.lx_tdfa.proofs.WordKernels.ProgramAccepts.{accept_after-accepts, all_accepted, last_accepted}
 use Rattle.lx_tdfa.proofs.Values.RegisterWrites.{mregs-alone, regs-alone}
 use Rattle.lx_tdfa.proofs.Values.StepHolds.{IsHeldAt, all_values-bare, last_values-bare}
 use Rattle.lx_tdfa.proofs.Values.StepOps.{ending_ops-alone, sorts_of_rule-widest}

@@ -25,7 +25,7 @@ use Rattle.lx_tdfa.specs.Registers.{first_of, held_from, sorts_of_rule, step_ops
 use Rattle.lx_tdfa.specs.Steps.{Ending, Step, first_ending, next_steps, places_of, start_place}
 use Rattle.lx_tdfa.specs.Table.{IsEdgeOf, IsStateOf, IsTable, accept_of, is_first, leave_of}
 use Rattle.lx_tdfa.proofs.Walks.ClosureSearches.{AreAlike, AreEndsAlike, RulesKept, SearchesAlike, candidates_from, end_from, number_of}
-use Rattle.lx_tdfa.proofs.Kernels.ProgramKernels.{kernel_after-step}
+use Rattle.lx_tdfa.proofs.WordKernels.ProgramKernels.{kernel_after-step}
 use Rattle.lx_tdfa.proofs.Values.RegisterWrites.{AllAvoid}
 use Rattle.lx_tdfa.proofs.Rules.StartUnreached.{next_steps-start}
 use Rattle.lx_tdfa.proofs.Values.StepHolds.{Holds, IsHeldAt, holds-avoid, holds-start, holds-step}

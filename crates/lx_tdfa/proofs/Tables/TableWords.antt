@@ -17,8 +17,8 @@ use Rattle.lx_tdfa.specs.Kernels.{kernel_after, places, places_step}
 use Rattle.lx_tdfa.specs.Steps.{IsInLeaf, Step, next_steps, places_of, start_place}
 use Rattle.lx_tdfa.specs.Table.{IsEdgeOf, IsTable}
 use Rattle.lx_tdfa.proofs.Walks.ClosureSearches.{SearchesAlike, number_of}
-use Rattle.lx_tdfa.proofs.Kernels.KernelWords.{first_numbers, numbers_on}
-use Rattle.lx_tdfa.proofs.Kernels.ProgramKernels.{forwards-reverse, kernel_after-step}
+use Rattle.lx_tdfa.proofs.WordKernels.KernelWords.{first_numbers, numbers_on}
+use Rattle.lx_tdfa.proofs.WordKernels.ProgramKernels.{forwards-reverse, kernel_after-step}
 use Rattle.lx_tdfa.proofs.Rules.StepPlaces.{next_steps-in_leaf, start_place-place}
 use Rattle.lx_tdfa.proofs.Values.ValueSteps.{forwards}
 

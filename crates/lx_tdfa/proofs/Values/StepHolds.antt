@@ -10,7 +10,7 @@ use Rattle.lx_regex.specs.Values.{all_events, last_event}
 use Rattle.lx_tnfa.specs.PlaceNumbers.{numbers_after, symbols_added}
 use Rattle.lx_tnfa.specs.Tnfa.{Tnfa}
 use Rattle.lx_tnfa.specs.declared.places.Place.{Place}
-use Rattle.lx_tnfa.proofs.Building.NthLists.{mapped_from}
+use Rattle.lx_tnfa.proofs.Construction.NthLists.{mapped_from}
 use Rattle.lx_tdfa.specs.Graph.{graph_of, rule_starts}
 use Rattle.lx_tdfa.specs.Kernels.{kernel_after, kernel_list, kernel_step, places, segment_symbols}
 use Rattle.lx_tdfa.specs.Registers.{first_of, last_mark, sorts_at, sorts_of_rule, step_ops, tag_ops, widest}

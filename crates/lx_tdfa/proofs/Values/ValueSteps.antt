@@ -5,12 +5,12 @@ use Rattle.lx_regex.specs.Script.{Symbol, begins, ends, picks, reads, sets, unit
 use Rattle.lx_regex.specs.Values.{all_events, last_event}
 use Rattle.lx_regex.proofs.PlainWalk.{units_append}
 use Rattle.lx_tnfa.specs.LeafReadings.{IsNth}
-use Rattle.lx_tnfa.proofs.Building.NthLists.{nth_unmap}
+use Rattle.lx_tnfa.proofs.Construction.NthLists.{nth_unmap}
 use Rattle.lx_tdfa.specs.Kernels.{Candidate, Entry, Key, entries, entry_at, first_entries, kernel_list, next_candidates, places}
 use Rattle.lx_tdfa.specs.Values.{value_at, values_beside, values_on}
-use Rattle.lx_tdfa.proofs.Kernels.KernelSteps.{kernel_list-first_runs, next_candidates-first}
-use Rattle.lx_tdfa.proofs.Kernels.OrderedLists.{IsMember, IsRising, nth_member}
-use Rattle.lx_tdfa.proofs.Kernels.RunSteps.{IsRun, IsSegment, entry_is}
+use Rattle.lx_tdfa.proofs.WordKernels.KernelSteps.{kernel_list-first_runs, next_candidates-first}
+use Rattle.lx_tdfa.proofs.WordKernels.OrderedLists.{IsMember, IsRising, nth_member}
+use Rattle.lx_tdfa.proofs.WordKernels.RunSteps.{IsRun, IsSegment, entry_is}
 
 pub last_event_append : (tag here : ℕ) (last : Option ℕ) (a b : List Symbol)
     → last_event tag here last (a ++ b) ≡ last_event tag (here + length (units a)) (last_event tag here last a) b

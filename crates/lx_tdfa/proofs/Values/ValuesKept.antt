@@ -10,10 +10,10 @@ use Rattle.lx_tnfa.specs.LeafReadings.{IsNth, NumbersLeaves}
 use Rattle.lx_tdfa.specs.Graph.{graph_of, rule_starts}
 use Rattle.lx_tdfa.specs.Kernels.{Entry, kernel_list, segment_symbols}
 use Rattle.lx_tdfa.specs.Values.{value_at, values_beside}
-use Rattle.lx_tdfa.proofs.Kernels.KernelSteps.{kernel_list-first_runs}
-use Rattle.lx_tdfa.proofs.Kernels.OrderedLists.{nth_member}
-use Rattle.lx_tdfa.proofs.Kernels.RunCuts.{IsRunOf, one_unit, run_word}
-use Rattle.lx_tdfa.proofs.Kernels.RunSteps.{entry_is}
+use Rattle.lx_tdfa.proofs.WordKernels.KernelSteps.{kernel_list-first_runs}
+use Rattle.lx_tdfa.proofs.WordKernels.OrderedLists.{nth_member}
+use Rattle.lx_tdfa.proofs.WordKernels.RunCuts.{IsRunOf, one_unit, run_word}
+use Rattle.lx_tdfa.proofs.WordKernels.RunSteps.{entry_is}
 use Rattle.lx_tdfa.proofs.Rules.StateOrder.{rule_starts-apart}
 use Rattle.lx_tdfa.proofs.Values.ValueSteps.{all_events_append, all_values, forwards-length, last_event_append, last_values, value_front}
 

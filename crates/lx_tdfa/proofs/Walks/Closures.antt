@@ -7,7 +7,7 @@ use Rattle.lx_tnfa.proofs.Searching.SimplePaths.{SimplePathFrom, unvisited}
 use Rattle.lx_tnfa.proofs.Searching.SearchBasics.{Each, IsClosed-SimplePath, IsClosed-self}
 use Rattle.lx_tnfa.proofs.Searching.SearchBounds.{enough}
 use Rattle.lx_tnfa.proofs.Searching.SearchLaws.{Covers, IsAscending, search_each-ascending, search_each-complete, search_each-least, search_each-sound, search_within-ascending, search_within-complete, search_within-least, search_within-sound}
-use Rattle.lx_tdfa.proofs.Kernels.OrderedLists.{IsMember, each_member}
+use Rattle.lx_tdfa.proofs.WordKernels.OrderedLists.{IsMember, each_member}
 
 pub record IsSearchList (graph : List (List ℕ)) (starts : List ℕ) (es : List Found) : Type 0 where
   pub sound : (e : Found) → IsMember es e → SimplePathFrom graph [] 0 starts e.choices e.state

@@ -25,7 +25,7 @@ use Rattle.lx_tdfa.specs.Graph.{graph_of, path_symbols}
 use Rattle.lx_tdfa.specs.Steps.{Ending, ending_at, first_ending}
 use Rattle.lx_tdfa.proofs.Walks.ClosureSearches.{AreEndsAlike, IsEndAlike, end_from, events_of, last_state}
 use Rattle.lx_tdfa.proofs.Walks.Closures.{IsSearchList, search_from-list}
-use Rattle.lx_tdfa.proofs.Kernels.OrderedLists.{IsMember, IsRising, at_zero_nth, each_member, nth_at_zero}
+use Rattle.lx_tdfa.proofs.WordKernels.OrderedLists.{IsMember, IsRising, at_zero_nth, each_member, nth_at_zero}
 use Rattle.lx_tdfa.proofs.Walks.PlainRuns.{Keyed, Run, rising_pairs}
 use Rattle.lx_tdfa.proofs.Walks.StatePaths.{no_edge, path_symbols-units}
 use Rattle.lx_tdfa.proofs.Walks.StopPlaces.{AreBeginnings, Begin, begin_beyond, begin_number, begin_stop, value_nth}

@@ -6,14 +6,14 @@ use Rattle.lx_regex.specs.Script.{Symbol}
 use Rattle.lx_tnfa.specs.LeafReadings.{IsNth}
 use Rattle.lx_tnfa.specs.DepthFirst.{Found, IsIn, decide_in, search_from}
 use Rattle.lx_tnfa.proofs.Searching.SimplePaths.{SimplePath, SimplePathFrom}
-use Rattle.lx_tnfa.proofs.Building.NthLists.{nth_map, nth_unmap}
+use Rattle.lx_tnfa.proofs.Construction.NthLists.{nth_map, nth_unmap}
 use Rattle.lx_tnfa.proofs.Searching.SearchLaws.{IsAscending}
 use Rattle.lx_tnfa.proofs.Searching.SearchUnique.{IsBefore-trans, three_cases}
 use Rattle.lx_tdfa.specs.Accepts.{first_end, first_final, if_final}
 use Rattle.lx_tdfa.specs.Kernels.{Entry, Key, places}
 use Rattle.lx_tdfa.proofs.Walks.Closures.{IsSearchList, search_from-list}
-use Rattle.lx_tdfa.proofs.Kernels.OrderedLists.{IsLesser, IsMember, at_zero_nth, each_member, lesser_trans, member_nth, nth_at_zero, nth_member, nth_same, rising_nth}
-use Rattle.lx_tdfa.proofs.Kernels.RunSteps.{AreFirstRuns, IsRun}
+use Rattle.lx_tdfa.proofs.WordKernels.OrderedLists.{IsLesser, IsMember, at_zero_nth, each_member, lesser_trans, member_nth, nth_at_zero, nth_member, nth_same, rising_nth}
+use Rattle.lx_tdfa.proofs.WordKernels.RunSteps.{AreFirstRuns, IsRun}
 
 -- what first_final gives
 data IsFirstFinal (finals : List ℕ) (es : List Found) : Option Found → Type 0 where

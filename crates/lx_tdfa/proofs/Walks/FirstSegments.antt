@@ -3,9 +3,9 @@ use Rattle.std.proofs.Common.{◌≡◌, ℕ, ◌<◌, ◌⊎◌, inl, inr, arit
 use Rattle.lx_regex.specs.Script.{Symbol}
 use Rattle.lx_tnfa.proofs.Searching.SearchUnique.{three_cases}
 use Rattle.lx_tdfa.specs.Kernels.{Candidate, Key}
-use Rattle.lx_tdfa.proofs.Kernels.KernelSteps.{sooner_trans}
-use Rattle.lx_tdfa.proofs.Kernels.OrderedLists.{IsLesserKey, IsMember, IsRising, each_member, key_cases, lesser_key_self}
-use Rattle.lx_tdfa.proofs.Kernels.RunSteps.{AreApart, AreFirstSegments, IsSooner}
+use Rattle.lx_tdfa.proofs.WordKernels.KernelSteps.{sooner_trans}
+use Rattle.lx_tdfa.proofs.WordKernels.OrderedLists.{IsLesserKey, IsMember, IsRising, each_member, key_cases, lesser_key_self}
+use Rattle.lx_tdfa.proofs.WordKernels.RunSteps.{AreApart, AreFirstSegments, IsSooner}
 
 pub sooner_self : (n : Candidate) → IsSooner n n → ⊥
 sooner_self n (inl lt) = omega arith

@@ -26,7 +26,7 @@ use Rattle.lx_tnfa.specs.declared.states.State.TheVariants as held
 use Rattle.lx_tnfa.proofs.Leaves.LeafNumbering.{numbers_leaves}
 use Rattle.lx_tnfa.proofs.Leaves.LeafNumbers.{read_at, state_turn, way_of}
 use Rattle.lx_tnfa.proofs.Leaves.LeafStarts.{class_graph}
-use Rattle.lx_tnfa.proofs.Building.NthLists.{mapped_from, nth_map, nth_unmap}
+use Rattle.lx_tnfa.proofs.Construction.NthLists.{mapped_from, nth_map, nth_unmap}
 use Rattle.lx_tnfa.proofs.Leaves.TableLeaves.{row_or_none}
 use Rattle.lx_tdfa.proofs.Walks.ClosureSearches.{events_of}
 use Rattle.lx_tdfa.proofs.Walks.StartLists.{nth_ranked, rank, rank_nth, start_chosen, start_listed}

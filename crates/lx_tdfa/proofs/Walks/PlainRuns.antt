@@ -13,12 +13,12 @@ use Rattle.lx_tnfa.specs.declared.closure.Stop.TheVariants.{AtState, AtTarget}
 use Rattle.lx_tnfa.specs.declared.closure.Target.{Target}
 use Rattle.lx_tnfa.specs.declared.places.Place.{Place}
 use Rattle.lx_tnfa.specs.declared.states.Event.{Event}
-use Rattle.lx_tnfa.proofs.Building.NthLists.{nth_map, nth_unmap}
+use Rattle.lx_tnfa.proofs.Construction.NthLists.{nth_map, nth_unmap}
 use Rattle.lx_tnfa.proofs.Searching.SearchBasics.{Each}
 use Rattle.lx_tnfa.proofs.Searching.SearchPaths.{All-from_each, Each-from_all}
 use Rattle.lx_tdfa.specs.Steps.{start_place}
 use Rattle.lx_tdfa.proofs.Walks.ClosureSearches.{IsSource}
-use Rattle.lx_tdfa.proofs.Kernels.OrderedLists.{IsRising, each_member, nth_member}
+use Rattle.lx_tdfa.proofs.WordKernels.OrderedLists.{IsRising, each_member, nth_member}
 use Rattle.lx_tdfa.proofs.Walks.StopSteps.{Holds, IsStep, by_move, by_start, get_nth, nth_get, reaches_alive, rule_at, state_moves, step_is}
 
 pub rising_pairs : {X : Type 0} (L : X → X → Type 0) (xs : List X) → AllPairs L xs → IsRising L xs

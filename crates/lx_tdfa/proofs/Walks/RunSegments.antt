@@ -18,7 +18,7 @@ use Rattle.lx_tnfa.specs.declared.closure.Target.TheVariants.{End, Leaf}
 use Rattle.lx_tnfa.specs.declared.places.Place.{Place}
 use Rattle.lx_tnfa.specs.declared.states.Event.{Event}
 use Rattle.lx_tnfa.proofs.Leaves.LeafNumbers.{read_at, unfinished_number}
-use Rattle.lx_tnfa.proofs.Building.NthLists.{mapped_from, nth_option}
+use Rattle.lx_tnfa.proofs.Construction.NthLists.{mapped_from, nth_option}
 use Rattle.lx_tnfa.proofs.Leaves.RestPlaces.{rest_stays, start_rest, steps_stay}
 use Rattle.lx_tnfa.proofs.Searching.SimplePaths.{SimplePath}
 use Rattle.lx_tnfa.proofs.Leaves.TableLeaves.{row_or_none}
@@ -30,7 +30,7 @@ use Rattle.lx_tdfa.proofs.Walks.ClosureSearches.{events_of, number_of}
 use Rattle.lx_tdfa.proofs.Walks.EndsAlike.{never_away}
 use Rattle.lx_tdfa.proofs.Walks.LeafReads.{Reads, number_reads, pick_of, start_choice, start_reads}
 use Rattle.lx_tdfa.proofs.Walks.PlainRuns.{Run}
-use Rattle.lx_tdfa.proofs.Kernels.RunSteps.{IsSegment}
+use Rattle.lx_tdfa.proofs.WordKernels.RunSteps.{IsSegment}
 use Rattle.lx_tdfa.proofs.Walks.StatePaths.{no_edge, path_end-is, path_symbols-append, path_symbols-units}
 use Rattle.lx_tdfa.proofs.Walks.StopPlaces.{AreBeginnings, Begin, begin_beyond, begin_number, begin_stop, leaf_even, start_leaf, state_count}
 use Rattle.lx_tdfa.proofs.Walks.StopSteps.{Holds, events_append, start_within, starts_in, state_moves}

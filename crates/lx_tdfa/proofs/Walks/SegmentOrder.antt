@@ -16,7 +16,7 @@ use Rattle.lx_tnfa.proofs.Searching.SimplePaths.{IsAt, SimplePath}
 use Rattle.lx_tdfa.specs.Graph.{graph_of, path_end}
 use Rattle.lx_tdfa.specs.Kernels.{Key}
 use Rattle.lx_tdfa.proofs.Walks.LeafReads.{pick_of, start_choice}
-use Rattle.lx_tdfa.proofs.Kernels.OrderedLists.{IsLesserKey, at_zero_nth, nth_same}
+use Rattle.lx_tdfa.proofs.WordKernels.OrderedLists.{IsLesserKey, at_zero_nth, nth_same}
 use Rattle.lx_tdfa.proofs.Walks.RunSegments.{Shape, inside, outside}
 use Rattle.lx_tdfa.proofs.Walks.StartLists.{rank_less}
 use Rattle.lx_tdfa.proofs.Walks.StatePaths.{path_end-is}

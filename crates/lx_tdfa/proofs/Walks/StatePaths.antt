@@ -13,10 +13,10 @@ use Rattle.lx_regex.proofs.Readings.{code_row}
 use Rattle.lx_tnfa.specs.LeafReadings.{IsNth}
 use Rattle.lx_tnfa.specs.DepthFirst.{IsIn, successors}
 use Rattle.lx_tnfa.proofs.Searching.SimplePaths.{IsAt, SimplePath}
-use Rattle.lx_tnfa.proofs.Building.NthLists.{nth_map}
+use Rattle.lx_tnfa.proofs.Construction.NthLists.{nth_map}
 use Rattle.lx_tnfa.proofs.Searching.SearchBasics.{IsAt-row}
 use Rattle.lx_tdfa.specs.Graph.{graph_of, move_at, moves_at, moves_of_state, nth_move, path_end, path_symbols}
-use Rattle.lx_tdfa.proofs.Kernels.OrderedLists.{at_zero_nth, nth_at_zero}
+use Rattle.lx_tdfa.proofs.WordKernels.OrderedLists.{at_zero_nth, nth_at_zero}
 
 nth_target : (ms : List Move) (i c : ℕ) → IsNth (map target ms) i c → IsNth ms i (nth_move ms i) × (target (nth_move ms i) ≡ c)
 nth_target [] i c h = absurd h

@@ -16,7 +16,7 @@ use Rattle.lx_tnfa.specs.declared.closure.Stop.{Stop}
 use Rattle.lx_tnfa.specs.declared.closure.Target.{Target}
 use Rattle.lx_tnfa.specs.declared.closure.Target.TheVariants.{End, Leaf}
 use Rattle.lx_tnfa.specs.declared.places.Place.{Place}
-use Rattle.lx_tnfa.proofs.Building.NthLists.{mapped_from}
+use Rattle.lx_tnfa.proofs.Construction.NthLists.{mapped_from}
 use Rattle.lx_tnfa.proofs.Searching.SearchBasics.{Each}
 use Rattle.lx_tnfa.proofs.Searching.SearchPaths.{Each-from_all}
 use Rattle.lx_tnfa.proofs.Searching.SearchUnique.{IsBefore-irrefl, IsBefore-trans}
@@ -27,11 +27,11 @@ use Rattle.lx_tdfa.proofs.Walks.ClosureSearches as bridge
 use Rattle.lx_tdfa.proofs.Walks.ClosureSearches.{AreAlike, IsSource, candidates_from, number_of}
 use Rattle.lx_tdfa.proofs.Walks.EndsAlike.{least_arrival, not_before, reach_of}
 use Rattle.lx_tdfa.proofs.Walks.FirstSegments.{segments_same}
-use Rattle.lx_tdfa.proofs.Kernels.KernelSteps.{next_candidates-first}
-use Rattle.lx_tdfa.proofs.Kernels.OrderedLists.{IsMember, IsRising, each_from, each_member, nth_same}
+use Rattle.lx_tdfa.proofs.WordKernels.KernelSteps.{next_candidates-first}
+use Rattle.lx_tdfa.proofs.WordKernels.OrderedLists.{IsMember, IsRising, each_from, each_member, nth_same}
 use Rattle.lx_tdfa.proofs.Walks.PlainRuns.{Keyed, Run, rising_pairs}
 use Rattle.lx_tdfa.proofs.Walks.RunSegments.{IsBetween, Matches, Shape, candidate_run, run_candidate}
-use Rattle.lx_tdfa.proofs.Kernels.RunSteps.{AreApart, AreFirstSegments, IsSooner}
+use Rattle.lx_tdfa.proofs.WordKernels.RunSteps.{AreApart, AreFirstSegments, IsSooner}
 use Rattle.lx_tdfa.proofs.Walks.SegmentOrder.{shape_before, shape_behind}
 use Rattle.lx_tdfa.proofs.Walks.StopPlaces.{AreBeginnings, value_nth}
 use Rattle.lx_tdfa.proofs.Walks.StopSteps.{Holds}

@@ -25,12 +25,12 @@ use Rattle.lx_tnfa.specs.declared.states.State.TheVariants as held
 use Rattle.lx_tnfa.proofs.Leaves.LeafNumbers.{beyond, finished_number, unfinished_number}
 use Rattle.lx_tnfa.proofs.Searching.SearchBasics.{Each}
 use Rattle.lx_tnfa.proofs.Leaves.TableLeaves.{row_or_none}
-use Rattle.lx_tnfa.proofs.Building.WholeTable.{held_length}
+use Rattle.lx_tnfa.proofs.Construction.WholeTable.{held_length}
 use Rattle.lx_tdfa.specs.Graph.{rule_starts, starts_behind}
 use Rattle.lx_tdfa.specs.Steps.{IsInLeaf}
 use Rattle.lx_tdfa.specs.Values.{value_at}
 use Rattle.lx_tdfa.proofs.Walks.ClosureSearches.{number_of}
-use Rattle.lx_tdfa.proofs.Kernels.OrderedLists.{each_from, member_nth}
+use Rattle.lx_tdfa.proofs.WordKernels.OrderedLists.{each_from, member_nth}
 use Rattle.lx_tdfa.proofs.Walks.StopSteps.{Holds, starts_in}
 use Rattle.lx_tdfa.proofs.Rules.WithinStates.{rules_begin_within}
 

@@ -23,13 +23,13 @@ use Rattle.lx_tnfa.specs.declared.states.Event.TheVariants.{Set, Unset}
 use Rattle.lx_tnfa.specs.declared.states.Move.{Move}
 use Rattle.lx_tnfa.specs.declared.states.State.{State}
 use Rattle.lx_tnfa.specs.declared.states.State.TheVariants as held
-use Rattle.lx_tnfa.proofs.Building.HeldStates.{held_at, held_moves}
-use Rattle.lx_tnfa.proofs.Building.NthLists.{nth_map, nth_unmap}
+use Rattle.lx_tnfa.proofs.Construction.HeldStates.{held_at, held_moves}
+use Rattle.lx_tnfa.proofs.Construction.NthLists.{nth_map, nth_unmap}
 use Rattle.lx_tnfa.proofs.Searching.SimplePaths.{IsAt}
 use Rattle.lx_tnfa.proofs.Leaves.TableLeaves.{row_or_none}
 use Rattle.lx_tdfa.specs.Graph.{graph_of, move_at, moves_at}
 use Rattle.lx_tdfa.proofs.Walks.ClosureSearches.{events_of}
-use Rattle.lx_tdfa.proofs.Kernels.OrderedLists.{at_zero_nth, nth_at_zero}
+use Rattle.lx_tdfa.proofs.WordKernels.OrderedLists.{at_zero_nth, nth_at_zero}
 use Rattle.lx_tdfa.proofs.Walks.StatePaths.{at_move, moves_are, nth_is_move}
 
 pub get_nth : {X : Type 0} (xs : List X) (index : ℕ) (x : X) → slice_get xs index ≡ Some x → IsNth xs index x

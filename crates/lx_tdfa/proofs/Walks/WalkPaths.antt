@@ -14,12 +14,12 @@ use Rattle.lx_tnfa.specs.declared.closure.Stop.TheVariants.{AtState, AtTarget}
 use Rattle.lx_tnfa.specs.declared.closure.Target.{Target}
 use Rattle.lx_tnfa.specs.declared.closure.Target.TheVariants.{End, Leaf}
 use Rattle.lx_tnfa.specs.declared.states.Event.{Event}
-use Rattle.lx_tnfa.proofs.Live.LiveWalks.{reaches_walk, walk_reaches}
+use Rattle.lx_tnfa.proofs.Liveness.LiveWalks.{reaches_walk, walk_reaches}
 use Rattle.lx_tnfa.proofs.Searching.SearchBasics.{Each, Each-weaker}
 use Rattle.lx_tnfa.proofs.Searching.SimplePaths.{IsAt, SimplePath}
 use Rattle.lx_tdfa.specs.Graph.{graph_of, move_at, path_symbols}
 use Rattle.lx_tdfa.proofs.Walks.ClosureSearches.{events_of, last_state}
-use Rattle.lx_tdfa.proofs.Kernels.OrderedLists.{IsRising}
+use Rattle.lx_tdfa.proofs.WordKernels.OrderedLists.{IsRising}
 use Rattle.lx_tdfa.proofs.Walks.StatePaths.{at_move, path_walk}
 use Rattle.lx_tdfa.proofs.Walks.StopSteps.{Holds, IsStep, alive_reaches, by_move, by_start, edge_step, events_append, events_mark, move_step, reaches_alive, rule_at, start_step, start_within, starts_in, state_moves, step_is}
 

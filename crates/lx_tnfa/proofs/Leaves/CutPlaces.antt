@@ -27,7 +27,7 @@ use Rattle.lx_tnfa.proofs.Leaves.FrontLeaves.{front_leaf, front_left, since}
 use Rattle.lx_tnfa.proofs.Leaves.LeafGraphs.{EndsBy}
 use Rattle.lx_tnfa.proofs.Leaves.LeafRests.{left_below, left_ends, left_rest, reading_left}
 use Rattle.lx_tnfa.proofs.Leaves.RestPlaces.{StepsStay, rest_ends, steps_stay}
-use Rattle.lx_tnfa.proofs.Building.WholeTable.{held_length}
+use Rattle.lx_tnfa.proofs.Construction.WholeTable.{held_length}
 
 module _ (tnfa : Tnfa) (rules : List Term) (are : AreClasses tnfa.enc tnfa.classes) (states : AreHeld tnfa.classes (automaton rules) tnfa.states) (fits : AllClassesFit tnfa.enc rules) (stay : StepsStay tnfa.classes) (cut : Cut) (after : EndsInUnit cut.front) where
   -- the part in which the cut stands, the state at its beginning, and the residual of what was read in it

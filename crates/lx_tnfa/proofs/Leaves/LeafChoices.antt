@@ -26,7 +26,7 @@ use Rattle.lx_tnfa.specs.declared.closure.Target.TheVariants.{End, Leaf}
 use Rattle.lx_tnfa.specs.declared.states.State.{State}
 use Rattle.lx_tnfa.specs.declared.states.State.TheVariants as held
 use Rattle.lx_tnfa.proofs.Leaves.FormedLeaves.{automaton_formed, leaf_even}
-use Rattle.lx_tnfa.proofs.Building.HeldStates.{held_at}
+use Rattle.lx_tnfa.proofs.Construction.HeldStates.{held_at}
 use Rattle.lx_tnfa.proofs.Leaves.LeafStarts.{starts_have}
 use Rattle.lx_tnfa.proofs.Leaves.RestPlaces.{rest_ends, start_rest}
 use Rattle.lx_tnfa.proofs.Leaves.TableLeaves.{leaf_fits}

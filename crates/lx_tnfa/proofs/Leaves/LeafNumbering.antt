@@ -21,15 +21,15 @@ use Rattle.lx_tnfa.specs.PlaceNumbers.{is_finished, leaf_starts, number_behind, 
 use Rattle.lx_tnfa.specs.Rows.{AreHeld}
 use Rattle.lx_tnfa.specs.Tnfa.{AllClassesFit, IsTnfaOf, Tnfa, rest_after}
 use Rattle.lx_tnfa.specs.declared.states.State.{State}
-use Rattle.lx_tnfa.proofs.Building.HeldStates.{held_at}
+use Rattle.lx_tnfa.proofs.Construction.HeldStates.{held_at}
 use Rattle.lx_tnfa.proofs.Leaves.LeafGraphs.{EndsBy, ends_step, finished_only, goes_unfinished, residuals_same, some_finish, step_ends}
 use Rattle.lx_tnfa.proofs.Leaves.LeafNumbers.{beyond, finished_number, number_same, read_at, start_of, state_turn, unfinished_number, way_of}
 use Rattle.lx_tnfa.proofs.Leaves.LeafRests.{ends_left, left_below, left_ends, left_more, rest_left-more, rest_left-start}
 use Rattle.lx_tnfa.proofs.Leaves.LeafStarts.{leaf_rise, starts_have, starts_read}
-use Rattle.lx_tnfa.proofs.Live.LiveWalks.{reaches_walk, walk_reaches}
-use Rattle.lx_tnfa.proofs.Building.NthLists.{kept_from, kept_has, kept_order, nth_map, nth_option, nth_read, nth_unmap}
+use Rattle.lx_tnfa.proofs.Liveness.LiveWalks.{reaches_walk, walk_reaches}
+use Rattle.lx_tnfa.proofs.Construction.NthLists.{kept_from, kept_has, kept_order, nth_map, nth_option, nth_read, nth_unmap}
 use Rattle.lx_tnfa.proofs.Leaves.TableLeaves.{leaf_below, leaf_fits, row_or_none}
-use Rattle.lx_tnfa.proofs.Building.WholeTable.{held_length}
+use Rattle.lx_tnfa.proofs.Construction.WholeTable.{held_length}
 
 module _ (tnfa : Tnfa) (rules : List Term) (are : AreClasses tnfa.enc tnfa.classes) (states : AreHeld tnfa.classes (automaton rules) tnfa.states) (fits : AllClassesFit tnfa.enc rules) (live : AreLive tnfa.classes tnfa.states tnfa.live) where
   -- the state of the program at a number

@@ -9,7 +9,7 @@ use Rattle.lx_tnfa.specs.Live.{state_of}
 use Rattle.lx_tnfa.specs.PlaceNumbers.{is_finished, leaf_starts, place_number}
 use Rattle.lx_tnfa.specs.Tnfa.{Tnfa, rest_after}
 use Rattle.lx_tnfa.specs.declared.states.State.{State}
-use Rattle.lx_tnfa.proofs.Building.NthLists.{From, mapped_from}
+use Rattle.lx_tnfa.proofs.Construction.NthLists.{From, mapped_from}
 
 module _ (tnfa : Tnfa) where
   -- the number at a residual, by whether the leaf is finished there

@@ -16,7 +16,7 @@ use Rattle.lx_tnfa.specs.Live.{state_of}
 use Rattle.lx_tnfa.specs.PlaceNumbers.{leaf_starts, rest_behind, rest_left, start_picked}
 use Rattle.lx_tnfa.specs.Rows.{AreHeld}
 use Rattle.lx_tnfa.specs.Tnfa.{AllClassesFit, IsRest, Tnfa, rest_after}
-use Rattle.lx_tnfa.proofs.Building.HeldStates.{held_at}
+use Rattle.lx_tnfa.proofs.Construction.HeldStates.{held_at}
 use Rattle.lx_tnfa.proofs.Leaves.LeafGraphs.{EndsBy, behind_ends, ends_behind, rest_behind-more}
 use Rattle.lx_tnfa.proofs.Leaves.LeafStarts.{Starts, leaf_rise, start_found, starts_have, starts_read}
 use Rattle.lx_tnfa.proofs.Leaves.RestPlaces.{StepsStay, behind_rest, start_rest}

@@ -16,7 +16,7 @@ use Rattle.lx_tnfa.proofs.Searching.SearchBounds.{search_at, search_from-is_sear
 use Rattle.lx_tnfa.proofs.Searching.SearchPaths.{Each-from_all}
 use Rattle.lx_tnfa.proofs.Searching.SearchStack.{after_choices, found_by, found_by-new, found_by-seen, found_by-starts, stacked}
 use Rattle.lx_tnfa.proofs.Searching.StopNumbers.{dead_from_listed, dead_stops, dead_to_listed, leads, stop_graph, stop_number, stop_same, stop_successors}
-use Rattle.lx_tnfa.proofs.Building.Membership.{behind, either_part, in_front, in_reverse}
+use Rattle.lx_tnfa.proofs.Construction.Membership.{behind, either_part, in_front, in_reverse}
 use Rattle.lx_tnfa.proofs.Searching.LeastWalks.{IsFoundPath, Shows, begin_numbers, found_plain, search_least}
 
 -- a stop that waits, one step on

@@ -27,12 +27,12 @@ use Rattle.lx_tnfa.specs.declared.closure.Target.TheVariants.{End, Leaf}
 use Rattle.lx_tnfa.specs.declared.states.Event.{Event}
 use Rattle.lx_tnfa.specs.declared.states.State.{State}
 use Rattle.lx_tnfa.specs.declared.states.State.TheVariants as held
-use Rattle.lx_tnfa.proofs.Live.LiveWalks.{reaches_walk, to_of}
+use Rattle.lx_tnfa.proofs.Liveness.LiveWalks.{reaches_walk, to_of}
 use Rattle.lx_tnfa.proofs.Searching.SearchBasics.{Each}
 use Rattle.lx_tnfa.proofs.Searching.SearchPaths.{All-from_each, Each-from_all}
 use Rattle.lx_tnfa.proofs.Leaves.TableLeaves.{row_or_none}
 use Rattle.lx_tnfa.proofs.Searching.TakenWalks.{states_once, stops_to}
-use Rattle.lx_tnfa.proofs.Building.WholeTable.{held_length}
+use Rattle.lx_tnfa.proofs.Construction.WholeTable.{held_length}
 
 -- ---- loops
 

@@ -23,8 +23,8 @@ use Rattle.lx_tnfa.specs.declared.closure.Target.{Target}
 use Rattle.lx_tnfa.specs.declared.closure.Target.TheVariants.{End}
 use Rattle.lx_tnfa.specs.declared.places.Place.{Place}
 use Rattle.lx_tnfa.specs.declared.states.State.TheVariants as held
-use Rattle.lx_tnfa.proofs.Building.HeldStates.{moves_same}
-use Rattle.lx_tnfa.proofs.Live.LiveWalks.{to_of, walk_reaches}
+use Rattle.lx_tnfa.proofs.Construction.HeldStates.{moves_same}
+use Rattle.lx_tnfa.proofs.Liveness.LiveWalks.{to_of, walk_reaches}
 use Rattle.lx_tnfa.proofs.Searching.SearchBasics.{Each}
 use Rattle.lx_tnfa.proofs.Searching.SearchPaths.{All-from_each, Each-from_all}
 

@@ -5,7 +5,7 @@ use Rattle.lx_gen.specs.Layout.{accepts_of, end_of, kept_of}
 use Rattle.lx_gen.specs.Plans.{ArePlanned, seen_states}
 use Rattle.lx_gen.specs.declared.accepts.First.{First}
 use Rattle.lx_gen.specs.declared.plans.Plan.{Plan}
-use Rattle.lx_gen.proofs.Layouts.AcceptLoops.{kept_of-length}
+use Rattle.lx_gen.proofs.BlockLayouts.AcceptLoops.{kept_of-length}
 use Rattle.lx_gen.proofs.ends.ends_of.Goals as goal
 
 pub returns-clause-ends : goal.returns-clause-ends

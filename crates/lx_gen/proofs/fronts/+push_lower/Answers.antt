@@ -5,7 +5,7 @@ use Rattle.lx_gen.specs.Layout.{numbered}
 use Rattle.lx_gen.specs.Plans.{unlabelled}
 use Rattle.lx_gen.specs.TestTrees.{TestTree, fork, inner_blocks, inner_size, tree_code}
 use Rattle.lx_gen.specs.Views.{seen_tree}
-use Rattle.lx_gen.proofs.Layouts.TreeLoops.{lower-more, seen_tree-fork}
+use Rattle.lx_gen.proofs.BlockLayouts.TreeLoops.{lower-more, seen_tree-fork}
 use Rattle.lx_gen.proofs.fronts.+push_lower.Goals as goal
 
 pub returns-in_ok-behind-in-Fork : goal.returns-in_ok-behind-in-Fork

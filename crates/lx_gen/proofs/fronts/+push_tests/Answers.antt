@@ -3,7 +3,7 @@ use Rattle.std.specs.Result.{OnOk}
 use Rattle.lx_gen.specs.Layout.{numbered}
 use Rattle.lx_gen.specs.TestTrees.{TestTree, fork, tree_code}
 use Rattle.lx_gen.specs.Views.{seen_tree}
-use Rattle.lx_gen.proofs.Layouts.TreeLoops.{seen_tree-fork, tests-more}
+use Rattle.lx_gen.proofs.BlockLayouts.TreeLoops.{seen_tree-fork, tests-more}
 use Rattle.lx_gen.proofs.fronts.+push_tests.Goals as goal
 
 pub returns-in_ok-behind-in-Fork : goal.returns-in_ok-behind-in-Fork

@@ -3,7 +3,7 @@ use Rattle.lx_gen.specs.Codes.{choices_code}
 use Rattle.lx_gen.specs.Layout.{accepts_of, choices_from, ending_blocks, fall_block, kept_of, restore_blocks}
 use Rattle.lx_gen.specs.Plans.{blocks_of_states, rule_at, unlabelled}
 use Rattle.lx_gen.specs.Rules.{endings_of}
-use Rattle.lx_gen.proofs.Layouts.BlockLoops.{layout-parts}
+use Rattle.lx_gen.proofs.BlockLayouts.BlockLoops.{layout-parts}
 use Rattle.lx_gen.proofs.layouts.all_blocks.Goals as goal
 
 pub returns : goal.returns

@@ -4,7 +4,7 @@ use Rattle.lx_ccode.specs.Statements.{code_of}
 use Rattle.lx_ccode.specs.declared.piece.CodeBlock.{CodeBlock}
 use Rattle.lx_gen.specs.Layout.{layout}
 use Rattle.lx_gen.specs.Rules.{endings_of}
-use Rattle.lx_gen.proofs.Layouts.BlockLoops.{code_of-unlabelled, unlabelled-none}
+use Rattle.lx_gen.proofs.BlockLayouts.BlockLoops.{code_of-unlabelled, unlabelled-none}
 use Rattle.lx_gen.proofs.layouts.blocks_of.Goals as goal
 
 pub returns-clause-code : goal.returns-clause-code

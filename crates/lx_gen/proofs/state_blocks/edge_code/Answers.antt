@@ -1,7 +1,7 @@
 use Rattle.std.proofs.Common.{[], ◌∷◌, ◌++◌, ap, ap₂, ◌∙◌}
 use Rattle.lx_ccode.specs.declared.piece.Stmt.TheVariants.{Goto, Skip}
 use Rattle.lx_gen.specs.Codes.{keep_code, keeps_on, list_code}
-use Rattle.lx_gen.proofs.Layouts.BlockLoops.{edge_code-parts}
+use Rattle.lx_gen.proofs.BlockLayouts.BlockLoops.{edge_code-parts}
 use Rattle.lx_gen.proofs.state_blocks.edge_code.Goals as goal
 
 pub returns : goal.returns

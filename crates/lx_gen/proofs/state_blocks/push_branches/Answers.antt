@@ -2,7 +2,7 @@ use Rattle.std.proofs.Common.{ap, subst, sym, ◌∙◌, length, List}
 use Rattle.lx_auto.specs.Automaton.{LeadWithin}
 use Rattle.lx_gen.specs.Views.{seen_ways}
 use Rattle.lx_gen.specs.declared.ways.Way.{Way}
-use Rattle.lx_gen.proofs.Layouts.BlockLoops.{LeadWithin-ways_of}
+use Rattle.lx_gen.proofs.BlockLayouts.BlockLoops.{LeadWithin-ways_of}
 use Rattle.lx_gen.proofs.state_blocks.push_branches.Goals as goal
 
 pub push_ways-requires-clause-lead : goal.push_ways-requires-clause-lead

@@ -1,6 +1,6 @@
 use Rattle.std.proofs.Common.{◌≡◌, ap, ap₂, ◌∙◌, arith, length, slice_index_or}
 use Rattle.lx_gen.specs.Codes.{edge_code}
-use Rattle.lx_gen.proofs.Layouts.BlockLoops.{places_from-at, places_from-length, ways-lead, ways-more}
+use Rattle.lx_gen.proofs.BlockLayouts.BlockLoops.{places_from-at, places_from-length, ways-lead, ways-more}
 use Rattle.lx_gen.proofs.state_blocks.push_ways.Goals as goal
 
 pub index-block-requires : goal.index-block-requires

@@ -4,7 +4,7 @@ use Rattle.std.proofs.lemmas.List.{take_all}
 use Rattle.lx_gen.specs.TestTrees.{balanced, first_place, fork}
 use Rattle.lx_gen.specs.Views.{seen_stretches, seen_tree}
 use Rattle.lx_gen.specs.declared.unit_splits.Stretch.{Stretch}
-use Rattle.lx_gen.proofs.Layouts.TreeLoops.{balanced-both, place-in, seen_tree-fork}
+use Rattle.lx_gen.proofs.BlockLayouts.TreeLoops.{balanced-both, place-in, seen_tree-fork}
 use Rattle.lx_gen.proofs.test_trees.+balanced.Goals as goal
 
 pub returns : goal.returns

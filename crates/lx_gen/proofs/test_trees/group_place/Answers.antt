@@ -1,6 +1,6 @@
 use Rattle.std.specs.Option.{option_or}
 use Rattle.std.proofs.Common.{ap₂, ◌∙◌}
-use Rattle.lx_gen.proofs.Layouts.FirstPlaces.{end_place-seen}
+use Rattle.lx_gen.proofs.BlockLayouts.FirstPlaces.{end_place-seen}
 use Rattle.lx_gen.proofs.test_trees.group_place.Goals as goal
 
 pub returns : goal.returns

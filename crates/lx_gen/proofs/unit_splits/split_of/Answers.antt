@@ -2,7 +2,7 @@ use Rattle.std.proofs.Common.{◌+◌, ◌++◌, ◌∙◌, ap, drop}
 use Rattle.std.proofs.lemmas.List.{map-append}
 use Rattle.lx_gen.specs.Views.{seen_stretch, seen_stretches}
 use Rattle.lx_gen.specs.Ways.{split_of}
-use Rattle.lx_gen.proofs.Layouts.SplitLoops.{split_of-added, split_of-kept}
+use Rattle.lx_gen.proofs.BlockLayouts.SplitLoops.{split_of-added, split_of-kept}
 use Rattle.lx_gen.proofs.unit_splits.split_of.Goals as goal
 use Rattle.lx_gen.proofs.unit_splits.split_of.Goals.{then-not-same_place+in_ok-push, else-not-same_place}
 

@@ -3,7 +3,7 @@ use Rattle.std.proofs.lemmas.List.{map-append, length-map}
 use Rattle.lx_gen.specs.Views.{seen_ways}
 use Rattle.lx_gen.specs.Ways.{way_place, ways_of, ways_onto}
 use Rattle.lx_gen.specs.declared.ways.Way.{Way}
-use Rattle.lx_gen.proofs.Layouts.WayLoops.{ways_onto-added, ways_onto-kept}
+use Rattle.lx_gen.proofs.BlockLayouts.WayLoops.{ways_onto-added, ways_onto-kept}
 use Rattle.lx_gen.proofs.ways.ways_of.Goals as goal
 use Rattle.lx_gen.proofs.ways.ways_of.Goals.{then-way_place-len+in_ok-push, else-way_place-len}
 

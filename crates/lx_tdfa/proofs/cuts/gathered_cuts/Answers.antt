@@ -3,7 +3,7 @@ use Rattle.std.proofs.Common.{◌≡◌, ℕ, ◌+◌, ◌++◌, [], ◌∷◌, 
 use Rattle.std.proofs.lemmas.List.{append-nil, take_all, take_more}
 use Rattle.lx_tnfa.specs.declared.closure.Reach.{Reach}
 use Rattle.lx_tdfa.specs.Edges.{CutSteps}
-use Rattle.lx_tdfa.proofs.Kernels.CutLists.{CutStep, gathered-push, step-end, step-leaf}
+use Rattle.lx_tdfa.proofs.WordKernels.CutLists.{CutStep, gathered-push, step-end, step-leaf}
 use Rattle.lx_tdfa.proofs.cuts.gathered_cuts.Goals as goal
 use Rattle.lx_tdfa.proofs.cuts.gathered_cuts.Goals.{in-Leaf+in_ok-extend_from_slice, in_default}
 

@@ -1,6 +1,6 @@
 -- Sorting moves the cuts, and brings zero to the front.
 use Rattle.std.proofs.lemmas.List.Sorted.{Contains-permutation, IsNonDecreasingBy-from_sort}
-use Rattle.lx_tdfa.proofs.Kernels.CutLists.{Contains-slice_get, ascending-sorted, steps-permutation, zero_is_first}
+use Rattle.lx_tdfa.proofs.WordKernels.CutLists.{Contains-slice_get, ascending-sorted, steps-permutation, zero_is_first}
 use Rattle.lx_tdfa.proofs.cuts.merged_cuts.Goals as goal
 
 pub returns-clause-cuts : goal.returns-clause-cuts

@@ -1,4 +1,4 @@
-use Rattle.lx_tdfa.proofs.Kernels.ProgramAccepts.{all_accepted}
+use Rattle.lx_tdfa.proofs.WordKernels.ProgramAccepts.{all_accepted}
 use Rattle.lx_tdfa.proofs.laws.all_values_are_kept.Goals as goal
 
 pub returns : goal.returns

@@ -1,4 +1,4 @@
-use Rattle.lx_tdfa.proofs.Kernels.ProgramKernels.{kernel_after-empty}
+use Rattle.lx_tdfa.proofs.WordKernels.ProgramKernels.{kernel_after-empty}
 use Rattle.lx_tdfa.proofs.laws.empty_lists_begin_no_match.Goals as goal
 
 pub returns : goal.returns

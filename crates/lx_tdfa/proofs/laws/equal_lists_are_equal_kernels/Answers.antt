@@ -1,4 +1,4 @@
-use Rattle.lx_tdfa.proofs.Kernels.ProgramKernels.{kernel_after-alike}
+use Rattle.lx_tdfa.proofs.WordKernels.ProgramKernels.{kernel_after-alike}
 use Rattle.lx_tdfa.proofs.laws.equal_lists_are_equal_kernels.Goals as goal
 
 pub returns : goal.returns

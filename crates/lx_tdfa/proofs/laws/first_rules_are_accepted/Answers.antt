@@ -1,4 +1,4 @@
-use Rattle.lx_tdfa.proofs.Kernels.ProgramAccepts.{accept_after-accepts}
+use Rattle.lx_tdfa.proofs.WordKernels.ProgramAccepts.{accept_after-accepts}
 use Rattle.lx_tdfa.proofs.laws.first_rules_are_accepted.Goals as goal
 
 pub returns : goal.returns

@@ -1,4 +1,4 @@
-use Rattle.lx_tdfa.proofs.Kernels.ProgramKernels.{kernel_after-kernel}
+use Rattle.lx_tdfa.proofs.WordKernels.ProgramKernels.{kernel_after-kernel}
 use Rattle.lx_tdfa.proofs.laws.kernels_are_listed.Goals as goal
 
 pub returns : goal.returns

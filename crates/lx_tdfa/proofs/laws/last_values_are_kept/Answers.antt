@@ -1,4 +1,4 @@
-use Rattle.lx_tdfa.proofs.Kernels.ProgramAccepts.{last_accepted}
+use Rattle.lx_tdfa.proofs.WordKernels.ProgramAccepts.{last_accepted}
 use Rattle.lx_tdfa.proofs.laws.last_values_are_kept.Goals as goal
 
 pub returns : goal.returns

@@ -1,4 +1,4 @@
-use Rattle.lx_tdfa.proofs.Kernels.ProgramKernels.{kernel_after-step}
+use Rattle.lx_tdfa.proofs.WordKernels.ProgramKernels.{kernel_after-step}
 use Rattle.lx_tdfa.proofs.laws.steps_go_by_places.Goals as goal
 
 pub returns : goal.returns

@@ -14,10 +14,10 @@ use Rattle.lx_tnfa.specs.Moves.{counted_size}
 use Rattle.lx_tnfa.specs.Rows.{HasRoom, IsBuildable}
 use Rattle.lx_tnfa.specs.Shapes.{HasShape}
 use Rattle.lx_tnfa.specs.declared.building.Building.{Building}
-use Rattle.lx_tnfa.proofs.Building.BuiltCopies.{CopiesBuilt, copies_begin, copies_end, copies_more, copy_exits, copy_room, size_counts}
-use Rattle.lx_tnfa.proofs.Building.BuiltStates.{both_pushed, buildable_at, built, built_leaf, leads_on, room_inside, member_room, members_begin, members_end, members_more, room_front}
-use Rattle.lx_tnfa.proofs.Building.FirstStates.{counted_times, from_form}
-use Rattle.lx_tnfa.proofs.Building.ShapeFacts.{counted_shape, parts_shape, repeat_body, shape_at, shapes_many}
+use Rattle.lx_tnfa.proofs.Construction.BuiltCopies.{CopiesBuilt, copies_begin, copies_end, copies_more, copy_exits, copy_room, size_counts}
+use Rattle.lx_tnfa.proofs.Construction.BuiltStates.{both_pushed, buildable_at, built, built_leaf, leads_on, room_inside, member_room, members_begin, members_end, members_more, room_front}
+use Rattle.lx_tnfa.proofs.Construction.FirstStates.{counted_times, from_form}
+use Rattle.lx_tnfa.proofs.Construction.ShapeFacts.{counted_shape, parts_shape, repeat_body, shape_at, shapes_many}
 use Rattle.lx_tnfa.proofs.building.+build.Goals as goal
 use Rattle.lx_tnfa.proofs.building.+build.Goals.{build_members-then-i-members, build_members-else-i-members}
 

@@ -1,8 +1,8 @@
 use Rattle.std.proofs.Common.{◌≡◌, ◌-◌}
 use Rattle.lx_regex.specs.Automaton.{members_table, alternatives_table}
 use Rattle.lx_regex.specs.Expr.{term_of}
-use Rattle.lx_tnfa.proofs.Building.BuiltCopies.{CopiesBuilt}
-use Rattle.lx_tnfa.proofs.Building.BuiltStates.{MembersBuilt}
+use Rattle.lx_tnfa.proofs.Construction.BuiltCopies.{CopiesBuilt}
+use Rattle.lx_tnfa.proofs.Construction.BuiltStates.{MembersBuilt}
 use Rattle.lx_tnfa.proofs.building.+build.Given as goal
 
 abbrev pub invariant-build_members-loop-i : goal.invariant-build_members-loop-i

@@ -7,8 +7,8 @@ use Rattle.lx_regex.proofs.NoUnits.{terms_in}
 use Rattle.lx_regex.proofs.PartLists.{parts-form}
 use Rattle.lx_tnfa.specs.declared.states.Repeat.{Repeat}
 use Rattle.lx_tnfa.specs.Moves.{counted_size}
-use Rattle.lx_tnfa.proofs.Building.FirstStates.{alt_held, cat_held, class_fits, class_held, counted_times, rep_held}
-use Rattle.lx_tnfa.proofs.Building.ShapeFacts.{alternation_shapes, counted_shape, few_together, repeat_body, repeat_tags}
+use Rattle.lx_tnfa.proofs.Construction.FirstStates.{alt_held, cat_held, class_fits, class_held, counted_times, rep_held}
+use Rattle.lx_tnfa.proofs.Construction.ShapeFacts.{alternation_shapes, counted_shape, few_together, repeat_body, repeat_tags}
 use Rattle.lx_tnfa.proofs.building.beginning.Goals as goal
 use Rattle.lx_tnfa.proofs.building.beginning.Goals.{then-is_empty, else-is_empty}
 

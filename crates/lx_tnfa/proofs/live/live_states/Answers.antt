@@ -2,7 +2,7 @@ use Rattle.std.proofs.Common.{◌∙◌, ◌++◌, ◌∷◌, [], ◌<◌, All, 
 use Rattle.std.proofs.lemmas.List.{get_or_read}
 use Rattle.lx_tnfa.specs.Live.{list_at}
 use Rattle.lx_tnfa.proofs.Searching.ClosureLoop.{none_left}
-use Rattle.lx_tnfa.proofs.Live.LiveMarks.{lists_within, spreading_begins, spreading_ends, spreading_step, waits_within}
+use Rattle.lx_tnfa.proofs.Liveness.LiveMarks.{lists_within, spreading_begins, spreading_ends, spreading_step, waits_within}
 use Rattle.lx_tnfa.proofs.live.live_states.Goals as goal
 
 pub loop-number-init : goal.loop-number-init

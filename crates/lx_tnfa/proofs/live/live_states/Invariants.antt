@@ -1,5 +1,5 @@
 use Rattle.std.proofs.Common.{◌+◌, count_by, length, not}
-use Rattle.lx_tnfa.proofs.Live.LiveMarks.{IsSpreading}
+use Rattle.lx_tnfa.proofs.Liveness.LiveMarks.{IsSpreading}
 use Rattle.lx_tnfa.proofs.live.live_states.Given as goal
 
 abbrev pub invariant-loop-number : goal.invariant-loop-number

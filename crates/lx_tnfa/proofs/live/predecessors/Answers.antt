@@ -1,6 +1,6 @@
 use Rattle.std.proofs.Common.{◌≡◌, ◌∙◌, [], ap, drop, sym}
 use Rattle.std.proofs.Math.ListN.{drop_of_length-le}
-use Rattle.lx_tnfa.proofs.Live.LiveMarks.{all_predecessors, put_all}
+use Rattle.lx_tnfa.proofs.Liveness.LiveMarks.{all_predecessors, put_all}
 use Rattle.lx_tnfa.proofs.live.predecessors.Goals as goal
 
 pub returns-clause-lists : goal.returns-clause-lists

@@ -1,5 +1,5 @@
 use Rattle.std.proofs.Common.{◌≡◌, drop, length}
-use Rattle.lx_tnfa.proofs.Live.LiveMarks.{put_all}
+use Rattle.lx_tnfa.proofs.Liveness.LiveMarks.{put_all}
 use Rattle.lx_tnfa.proofs.live.predecessors.Given as goal
 
 abbrev pub invariant-loop-number : goal.invariant-loop-number

@@ -1,6 +1,6 @@
 use Rattle.std.proofs.Common.{◌≡◌, ◌+◌, ◌-◌, ◌++◌, suc, subst, arith}
 use Rattle.lx_regex.specs.Values.{group_ends}
-use Rattle.lx_tnfa.proofs.Building.RuleLists.{ends_next}
+use Rattle.lx_tnfa.proofs.Construction.RuleLists.{ends_next}
 use Rattle.lx_tnfa.proofs.making.push_group_ends.Goals as goal
 
 pub loop-preserved : goal.loop-preserved

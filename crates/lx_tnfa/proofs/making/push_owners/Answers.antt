@@ -1,6 +1,6 @@
 use Rattle.std.proofs.Common.{◌≡◌, ◌+◌, ◌-◌, ◌++◌, suc, subst, arith}
 use Rattle.std.specs.Prelude.{replicate}
-use Rattle.lx_tnfa.proofs.Building.RuleLists.{replicate_next}
+use Rattle.lx_tnfa.proofs.Construction.RuleLists.{replicate_next}
 use Rattle.lx_tnfa.proofs.making.push_owners.Goals as goal
 
 pub loop-preserved : goal.loop-preserved

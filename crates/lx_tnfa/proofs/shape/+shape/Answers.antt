@@ -5,8 +5,8 @@ use Rattle.lx_regex.specs.declared.expr.Expr.{the_lemmas}
 use Rattle.lx_regex.proofs.NoUnits.{terms_in}
 use Rattle.lx_tnfa.specs.Shapes.{HasShape, HaveShapes, IsAround}
 use Rattle.lx_tnfa.specs.declared.shape.Shape.TheViews.{out-roll-Shape}
-use Rattle.lx_tnfa.proofs.Building.Members.{ends_at}
-use Rattle.lx_tnfa.proofs.Building.ShapeFacts.{have_push, members_shape, repeat_shape}
+use Rattle.lx_tnfa.proofs.Construction.Members.{ends_at}
+use Rattle.lx_tnfa.proofs.Construction.ShapeFacts.{have_push, members_shape, repeat_shape}
 use Rattle.lx_tnfa.proofs.shape.+shape.Goals as goal
 
 pub shapes_of-shape_of-requires-in-loop-member : goal.shapes_of-shape_of-requires-in-loop-member

@@ -1,7 +1,7 @@
 use Rattle.std.proofs.Common.{◌≡◌, ◌+◌, suc, ap, arith, drop}
 use Rattle.std.proofs.Math.ListN.{drop_of_length-le}
 use Rattle.lx_tnfa.specs.Shapes.{parts_together}
-use Rattle.lx_tnfa.proofs.Building.ShapeFacts.{parts_next}
+use Rattle.lx_tnfa.proofs.Construction.ShapeFacts.{parts_next}
 use Rattle.lx_tnfa.proofs.shape.parts_together.Goals as goal
 
 pub loop-member-preserved : goal.loop-member-preserved

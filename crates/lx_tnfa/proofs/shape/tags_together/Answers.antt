@@ -1,7 +1,7 @@
 use Rattle.std.proofs.Common.{◌≡◌, ◌+◌, ◌∙◌, suc, ap, arith, subst, drop}
 use Rattle.lx_regex.specs.Script.{merge_tags}
 use Rattle.lx_tnfa.specs.Shapes.{tags_together}
-use Rattle.lx_tnfa.proofs.Building.ShapeFacts.{tags_next, together-nil}
+use Rattle.lx_tnfa.proofs.Construction.ShapeFacts.{tags_next, together-nil}
 use Rattle.lx_tnfa.proofs.shape.tags_together.Goals as goal
 
 pub loop-member-init : goal.loop-member-init

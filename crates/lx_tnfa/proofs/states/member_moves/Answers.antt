@@ -1,8 +1,8 @@
 use Rattle.std.proofs.Common.{◌≡◌, ◌+◌, ◌*◌, ◌∷◌, [], ◌++◌, ◌∙◌, suc, ap, arith, refl, subst}
 use Rattle.lx_tnfa.specs.Shapes.{parts_together}
 use Rattle.lx_tnfa.specs.declared.shape.Shape.{out-Shape}
-use Rattle.lx_tnfa.proofs.Building.MemberMoves.{MovesLeft, moves_begin, moves_end, moves_more}
-use Rattle.lx_tnfa.proofs.Building.ShapeFacts.{next_shape}
+use Rattle.lx_tnfa.proofs.Construction.MemberMoves.{MovesLeft, moves_begin, moves_end, moves_more}
+use Rattle.lx_tnfa.proofs.Construction.ShapeFacts.{next_shape}
 use Rattle.lx_tnfa.proofs.states.member_moves.Goals as goal
 
 pub loop-member-init : goal.loop-member-init

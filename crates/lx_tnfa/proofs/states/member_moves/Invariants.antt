@@ -2,7 +2,7 @@ use Rattle.std.proofs.Common.{◌≡◌, ◌+◌, drop}
 use Rattle.lx_regex.specs.Script.{tags_among}
 use Rattle.lx_regex.specs.Term.{Terms}
 use Rattle.lx_tnfa.specs.Shapes.{HaveShapes, parts_together}
-use Rattle.lx_tnfa.proofs.Building.MemberMoves.{MovesLeft}
+use Rattle.lx_tnfa.proofs.Construction.MemberMoves.{MovesLeft}
 use Rattle.lx_tnfa.proofs.states.member_moves.Given as goal
 
 abbrev pub invariant-loop-member : goal.invariant-loop-member

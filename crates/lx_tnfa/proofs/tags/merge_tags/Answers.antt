@@ -1,6 +1,6 @@
 use Rattle.std.proofs.Common.{◌≡◌, ◌+◌, ◌∙◌, suc, ap, arith, subst, drop}
 use Rattle.lx_regex.specs.Script.{merge_tags}
-use Rattle.lx_tnfa.proofs.Building.TagMerges.{merge_next}
+use Rattle.lx_tnfa.proofs.Construction.TagMerges.{merge_next}
 use Rattle.lx_tnfa.proofs.tags.merge_tags.Goals as goal
 
 pub loop-tag-preserved : goal.loop-tag-preserved

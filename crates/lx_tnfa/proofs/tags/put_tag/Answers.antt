@@ -1,6 +1,6 @@
 use Rattle.std.proofs.Common.{◌∙◌, ap, sym, arith}
 use Rattle.lx_regex.specs.Script.{put_tag}
-use Rattle.lx_tnfa.proofs.Building.TagMerges.{put_here, put_last}
+use Rattle.lx_tnfa.proofs.Construction.TagMerges.{put_here, put_last}
 use Rattle.lx_tnfa.proofs.tags.put_tag.Goals as goal
 
 pub returns-then-number-index : goal.returns-then-number-index

@@ -1,6 +1,6 @@
 use Rattle.std.proofs.Common.{◌∙◌, ap, sym, arith}
 use Rattle.lx_tnfa.specs.TagLists.{remove_tag}
-use Rattle.lx_tnfa.proofs.Building.TagMerges.{remove_at, remove_none}
+use Rattle.lx_tnfa.proofs.Construction.TagMerges.{remove_at, remove_none}
 use Rattle.lx_tnfa.proofs.tags.remove_tag.Goals as goal
 
 pub returns-then-index-number : goal.returns-then-index-number

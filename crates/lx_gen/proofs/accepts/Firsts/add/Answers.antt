@@ -2,7 +2,7 @@ use Rattle.std.proofs.Common.{◌∙◌, ap, sym}
 use Rattle.std.specs.Option.{is_some}
 use Rattle.lx_gen.specs.Layout.{with_accept}
 use Rattle.lx_gen.specs.Plans.{seen_accepts}
-use Rattle.lx_gen.proofs.Layouts.AcceptLoops.{with_accept-added, with_accept-kept}
+use Rattle.lx_gen.proofs.BlockLayouts.AcceptLoops.{with_accept-added, with_accept-kept}
 use Rattle.lx_gen.proofs.accepts.Firsts.add.Goals as goal
 
 pub returns-in_ok-push-clause-added : goal.returns-in_ok-push-clause-added

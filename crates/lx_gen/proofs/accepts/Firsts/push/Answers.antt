@@ -2,7 +2,7 @@ use Rattle.std.proofs.Common.{◌≡◌, ◌∙◌, Some, None, ap, get_or, set,
 use Rattle.std.proofs.lemmas.List.{map-append, length-map}
 use Rattle.lx_gen.specs.Plans.{rule_index, seen_accepts}
 use Rattle.lx_gen.specs.declared.accepts.First.{First}
-use Rattle.lx_gen.proofs.Layouts.AcceptLoops.{rule_index-pushed}
+use Rattle.lx_gen.proofs.BlockLayouts.AcceptLoops.{rule_index-pushed}
 use Rattle.lx_gen.proofs.accepts.Firsts.push.Goals as goal
 
 pub returns-clause-indexed : goal.returns-clause-indexed

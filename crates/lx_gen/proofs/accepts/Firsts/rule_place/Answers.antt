@@ -2,7 +2,7 @@ use Rattle.std.proofs.Common.{◌≡◌, ◌∙◌, length, sym}
 use Rattle.std.proofs.lemmas.List.{length-map}
 use Rattle.lx_gen.specs.Plans.{seen_accepts}
 use Rattle.lx_gen.specs.declared.accepts.First.{First}
-use Rattle.lx_gen.proofs.Layouts.AcceptLoops.{rule_place-none, rule_place-some}
+use Rattle.lx_gen.proofs.BlockLayouts.AcceptLoops.{rule_place-none, rule_place-some}
 use Rattle.lx_gen.proofs.accepts.Firsts.rule_place.Goals as goal
 
 pub returns-in-Some : goal.returns-in-Some

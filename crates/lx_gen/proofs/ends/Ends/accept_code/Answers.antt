@@ -1,7 +1,7 @@
 use Rattle.std.proofs.Common.{[], ◌∷◌, ◌++◌, ap, ap₂, sym, ◌∙◌}
 use Rattle.lx_ccode.specs.declared.piece.Stmt.TheVariants.{Goto}
 use Rattle.lx_gen.specs.Codes.{list_code}
-use Rattle.lx_gen.proofs.Layouts.BlockLoops.{list_code-append}
+use Rattle.lx_gen.proofs.BlockLayouts.BlockLoops.{list_code-append}
 use Rattle.lx_gen.proofs.ends.Ends.accept_code.Goals as goal
 
 pub returns : goal.returns

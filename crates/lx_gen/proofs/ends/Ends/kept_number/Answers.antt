@@ -2,7 +2,7 @@ use Rattle.std.proofs.Common.{◌≡◌, arith, length}
 use Rattle.std.proofs.lemmas.List.{length-map}
 use Rattle.lx_gen.specs.Plans.{seen_accepts}
 use Rattle.lx_gen.specs.declared.accepts.First.{First}
-use Rattle.lx_gen.proofs.Layouts.AcceptLoops.{rule_place-le}
+use Rattle.lx_gen.proofs.BlockLayouts.AcceptLoops.{rule_place-le}
 use Rattle.lx_gen.proofs.ends.Ends.kept_number.Goals as goal
 
 pub overflow_cast-result : goal.overflow_cast-result

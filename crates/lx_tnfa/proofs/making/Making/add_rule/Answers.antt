@@ -7,8 +7,8 @@ use Rattle.lx_regex.specs.Expr.{term_of}
 use Rattle.lx_regex.specs.Pattern.{is_end, pattern_of, sorts_of}
 use Rattle.lx_tnfa.specs.Making.{CanAdd}
 use Rattle.lx_tnfa.specs.declared.making.Making.{Making}
-use Rattle.lx_tnfa.proofs.Building.RuleLists.{adds_end, adds_rule, is_rule, seen_push}
-use Rattle.lx_tnfa.proofs.Building.ShapeFacts.{parts_shape}
+use Rattle.lx_tnfa.proofs.Construction.RuleLists.{adds_end, adds_rule, is_rule, seen_push}
+use Rattle.lx_tnfa.proofs.Construction.ShapeFacts.{parts_shape}
 use Rattle.lx_tnfa.proofs.making.Making.add_rule.Goals as goal
 
 pub returns-in-Eof : goal.returns-in-Eof

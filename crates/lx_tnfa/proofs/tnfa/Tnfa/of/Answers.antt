@@ -4,8 +4,8 @@ use Rattle.lx_regex.specs.Limits.{IsWithinLimits}
 use Rattle.lx_regex.specs.Pattern.{patterns_of, terms_of}
 use Rattle.lx_tnfa.specs.Tnfa.{AllClassesFit}
 use Rattle.lx_tnfa.proofs.Leaves.FormedLeaves.{automaton_formed}
-use Rattle.lx_tnfa.proofs.Live.LiveMarks.{live_same}
-use Rattle.lx_tnfa.proofs.Building.WholeTable.{RulesMade, made_begin, made_can, made_more, made_end, made_few, made_some, held_numbered}
+use Rattle.lx_tnfa.proofs.Liveness.LiveMarks.{live_same}
+use Rattle.lx_tnfa.proofs.Construction.WholeTable.{RulesMade, made_begin, made_can, made_more, made_end, made_few, made_some, held_numbered}
 use Rattle.lx_tnfa.proofs.tnfa.Tnfa.of.Goals as goal
 
 pub loop-rule-init : goal.loop-rule-init

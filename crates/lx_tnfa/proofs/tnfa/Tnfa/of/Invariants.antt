@@ -1,4 +1,4 @@
-use Rattle.lx_tnfa.proofs.Building.WholeTable.{RulesMade}
+use Rattle.lx_tnfa.proofs.Construction.WholeTable.{RulesMade}
 use Rattle.lx_tnfa.proofs.tnfa.Tnfa.of.Given as goal
 
 abbrev pub invariant-loop-rule : goal.invariant-loop-rule
