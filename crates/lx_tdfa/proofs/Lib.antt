@@ -3,4 +3,4 @@ pub mod Walks
 pub mod Rules
 pub mod Values
 pub mod Tables
-pub mod Code
+pub mod Loops

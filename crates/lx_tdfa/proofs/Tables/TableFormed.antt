@@ -18,9 +18,9 @@ use Rattle.lx_tdfa.specs.Making.{IsWithin, most_places}
 use Rattle.lx_tdfa.specs.Registers.{widest}
 use Rattle.lx_tdfa.specs.Steps.{Ending, Step, first_ending, next_steps, places_of, start_place, step_on}
 use Rattle.lx_tdfa.specs.Table.{IsEdgeOf, IsStateOf, accept_of, is_first, leave_of}
-use Rattle.lx_tdfa.proofs.Code.EdgesMade.{steps_from}
-use Rattle.lx_tdfa.proofs.Code.OpBounds.{ending_ops-bound, step_ops-bound, values-bound}
-use Rattle.lx_tdfa.proofs.Code.StatesMade.{closure_sources, first_ending-source}
+use Rattle.lx_tdfa.proofs.Loops.EdgesMade.{steps_from}
+use Rattle.lx_tdfa.proofs.Loops.OpBounds.{ending_ops-bound, step_ops-bound, values-bound}
+use Rattle.lx_tdfa.proofs.Loops.StatesMade.{closure_sources, first_ending-source}
 use Rattle.lx_tdfa.proofs.Values.StepOps.{sorts_of_rule-widest}
 use Rattle.lx_tdfa.proofs.Rules.StepPlaces.{first_steps-each}
 use Rattle.lx_tdfa.proofs.Tables.TableBounds.{most_places-sum}

@@ -16,7 +16,7 @@ use Rattle.lx_tnfa.proofs.Leaves.LeafNumbering.{automaton_numbers}
 use Rattle.lx_tdfa.specs.Graph.{graph_of, rule_starts}
 use Rattle.lx_tdfa.specs.Kernels.{Entry, cut_of, kernel_after, kernel_list, next_candidates, places, places_step, segment_symbols}
 use Rattle.lx_tdfa.proofs.WordKernels.KernelsListed.{kernel_is_listed}
-use Rattle.lx_tdfa.proofs.Code.PlaceLists.{lists_alike, places_of_entries}
+use Rattle.lx_tdfa.proofs.Loops.PlaceLists.{lists_alike, places_of_entries}
 use Rattle.lx_tdfa.proofs.Values.ValueSteps.{forwards}
 
 forwards-is : (w : List ℕ) → forwards w ≡ reverse w

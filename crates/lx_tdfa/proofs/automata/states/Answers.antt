@@ -1,5 +1,5 @@
 use Rattle.std.proofs.Common.{◌<◌, length, arith}
-use Rattle.lx_tdfa.proofs.Code.StateLists.{states-more}
+use Rattle.lx_tdfa.proofs.Loops.StateLists.{states-more}
 use Rattle.lx_tdfa.proofs.automata.states.Goals as goal
 
 pub loop-number-preserved : goal.loop-number-preserved

@@ -6,7 +6,7 @@ use Rattle.lx_auto.specs.contracts.ops.OpPartialEq.TheImpl.{eq-value}
 use Rattle.lx_auto.specs.declared.automaton.Edge.{Edge}
 use Rattle.lx_auto.specs.declared.ops.Op.{Op}
 use Rattle.lx_tdfa.specs.Edges.{GoesOn}
-use Rattle.lx_tdfa.proofs.Code.OpLists.{Decides-ops}
+use Rattle.lx_tdfa.proofs.Loops.OpLists.{Decides-ops}
 use Rattle.lx_tdfa.proofs.edges.goes_on.Goals as goal
 use Rattle.lx_tdfa.proofs.edges.goes_on.Goals.{then-next-gt0, else-next-gt0, then-edge-next, else-edge-next}
 

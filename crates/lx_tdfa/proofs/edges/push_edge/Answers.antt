@@ -1,5 +1,5 @@
 -- The last edge is made longer.
-use Rattle.lx_tdfa.proofs.Code.JoinedEdges.{push-joined}
+use Rattle.lx_tdfa.proofs.Loops.JoinedEdges.{push-joined}
 use Rattle.lx_tdfa.proofs.edges.push_edge.Goals as goal
 
 pub returns-in_ok-push-in-Some : goal.returns-in_ok-push-in-Some

@@ -2,7 +2,7 @@ use Rattle.std.proofs.Common.{◌++◌, map, ap, ◌∙◌, drop, ◌+◌, filte
 use Rattle.std.proofs.lemmas.List.{map-append}
 use Rattle.lx_tdfa.specs.Making.{seen_step}
 use Rattle.lx_tdfa.specs.Steps.{first_steps, next_steps, step_on}
-use Rattle.lx_tdfa.proofs.Code.StepLoops.{first_steps-left, first_steps-seen, first_steps-taken}
+use Rattle.lx_tdfa.proofs.Loops.StepLoops.{first_steps-left, first_steps-seen, first_steps-taken}
 use Rattle.lx_tdfa.proofs.steps.next_steps.Goals as goal
 use Rattle.lx_tdfa.proofs.steps.next_steps.Goals.{in-Some+in_ok-add+then-branch+in_ok-push, in-Some+in_ok-add+else-branch, in_default}
 

@@ -4,7 +4,7 @@ use Rattle.std.proofs.lemmas.List.{length-map}
 use Rattle.std.specs.Prelude.{◌⊎◌, sum_by}
 use Rattle.lx_tnfa.specs.declared.places.Place.{Place}
 use Rattle.lx_tdfa.specs.Making.{Adds, AreTooMany, IsWithin, lists_of}
-use Rattle.lx_tdfa.proofs.Code.ListSets.{adds_kept, adds_put, is_kept, is_put, kept_with, stored_list}
+use Rattle.lx_tdfa.proofs.Loops.ListSets.{adds_kept, adds_put, is_kept, is_put, kept_with, stored_list}
 use Rattle.lx_tdfa.proofs.kernels.Kernels.add.Goals as goal
 use Rattle.lx_tdfa.proofs.kernels.Kernels.add.Goals.{then-len-gt-STATE_LIMIT-via-then-len-gt-STATE_LIMIT, then-len-gt-STATE_LIMIT-via-else-len-gt-STATE_LIMIT+then-self-gt-PLACE_LIMIT, then-is_new+else-len-gt-STATE_LIMIT+else-self-gt-PLACE_LIMIT, else-is_new}
 

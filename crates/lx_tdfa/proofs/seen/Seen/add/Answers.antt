@@ -1,4 +1,4 @@
-use Rattle.lx_tdfa.proofs.Code.PlaceSets.{place_added}
+use Rattle.lx_tdfa.proofs.Loops.PlaceSets.{place_added}
 use Rattle.lx_tdfa.proofs.seen.Seen.add.Goals as goal
 
 pub returns : goal.returns

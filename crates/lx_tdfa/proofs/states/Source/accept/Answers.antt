@@ -1,4 +1,4 @@
-use Rattle.lx_tdfa.proofs.Code.RegisterBounds.{sorts_bound}
+use Rattle.lx_tdfa.proofs.Loops.RegisterBounds.{sorts_bound}
 use Rattle.lx_tdfa.proofs.states.Source.accept.Goals as goal
 
 pub held-requires : goal.held-requires

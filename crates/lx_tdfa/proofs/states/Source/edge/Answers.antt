@@ -5,7 +5,7 @@ use Rattle.lx_tdfa.specs.Making.{seen_step}
 use Rattle.lx_tdfa.specs.Registers.{step_ops, widest}
 use Rattle.lx_tdfa.specs.Steps.{places_of}
 use Rattle.lx_tdfa.specs.declared.steps.Step as held
-use Rattle.lx_tdfa.proofs.Code.EdgesMade.{adds-grows, edge-made, steps-sources, too_many-found}
+use Rattle.lx_tdfa.proofs.Loops.EdgesMade.{adds-grows, edge-made, steps-sources, too_many-found}
 use Rattle.lx_tdfa.proofs.states.Source.edge.Goals as goal
 
 pub step_ops-requires-clause-sources : goal.step_ops-requires-clause-sources

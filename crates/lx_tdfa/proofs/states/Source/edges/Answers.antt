@@ -2,8 +2,8 @@ use Rattle.std.proofs.Common.{◌≡◌, suc, ◌+◌, ◌≤◌, arith, refl, �
 use Rattle.std.proofs.lemmas.Option.{get_or_from_slice_get, slice_get_past}
 use Rattle.lx_tdfa.specs.Building.{greatest_of}
 use Rattle.lx_tdfa.specs.Edges.{AreEdgesBefore, IsRangeEnd}
-use Rattle.lx_tdfa.proofs.Code.EdgeLoops.{edges-start}
-use Rattle.lx_tdfa.proofs.Code.EdgeSteps.{edge-apart, edge-kept, empty-kept, grows-itself, none-kept}
+use Rattle.lx_tdfa.proofs.Loops.EdgeLoops.{edges-start}
+use Rattle.lx_tdfa.proofs.Loops.EdgeSteps.{edge-apart, edge-kept, empty-kept, grows-itself, none-kept}
 use Rattle.lx_tdfa.proofs.states.Source.edges.Goals as goal
 use Rattle.lx_tdfa.proofs.states.Source.edges.Goals.{in-Some+in_ok-edge+in-Some-2+in_ok-push_edge, in-Some+in_ok-edge+in_default-2, in_default}
 

@@ -1,5 +1,5 @@
 use Rattle.std.proofs.Common.{arith}
-use Rattle.lx_tdfa.proofs.Code.RegisterBounds.{first_of-room, sorts_bound}
+use Rattle.lx_tdfa.proofs.Loops.RegisterBounds.{first_of-room, sorts_bound}
 use Rattle.lx_tdfa.proofs.states.Source.ending_ops.Goals as goal
 
 pub push_tags-requires : goal.push_tags-requires

@@ -1,5 +1,5 @@
 use Rattle.std.proofs.Common.{arith}
-use Rattle.lx_tdfa.proofs.Code.StatesMade.{is_first-zero, list_ending, list_places, list_short, list_targets, state_made}
+use Rattle.lx_tdfa.proofs.Loops.StatesMade.{is_first-zero, list_ending, list_places, list_short, list_targets, state_made}
 use Rattle.lx_tdfa.proofs.states.Source.state.Goals as goal
 
 pub closure_with-requires-clause-places : goal.closure_with-requires-clause-places

@@ -1,6 +1,6 @@
 use Rattle.std.proofs.Common.{arith, length, ◌<◌, subst, sym}
 use Rattle.lx_tdfa.specs.declared.steps.Step.{Step}
-use Rattle.lx_tdfa.proofs.Code.RegisterBounds.{first_of-room}
+use Rattle.lx_tdfa.proofs.Loops.RegisterBounds.{first_of-room}
 use Rattle.lx_tdfa.proofs.states.Source.step_ops.Goals as goal
 
 pub push_tags-requires : goal.push_tags-requires

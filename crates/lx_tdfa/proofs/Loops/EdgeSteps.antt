@@ -11,7 +11,7 @@ use Rattle.lx_tdfa.specs.Building.{AreListed, Grows, IsEdgeMade, greatest_of}
 use Rattle.lx_tdfa.specs.Edges.{AreEdgesBefore, AreSameEdges, CutSteps, IsAscending, IsRangeEmpty, IsRangeEnd}
 use Rattle.lx_tdfa.specs.Steps.{next_steps}
 use Rattle.lx_tdfa.specs.Table.{IsEdgeOf}
-use Rattle.lx_tdfa.proofs.Code.EdgeLoops.{edges-apart, edges-behind, edges-empty, edges-more, edges-none}
+use Rattle.lx_tdfa.proofs.Loops.EdgeLoops.{edges-apart, edges-behind, edges-empty, edges-more, edges-none}
 
 module _ (tnfa : Tnfa) where
   pub grows-itself : (lists : List (List Place)) → AreListed tnfa lists → Grows tnfa lists lists

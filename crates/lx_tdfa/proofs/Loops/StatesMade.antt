@@ -22,7 +22,7 @@ use Rattle.lx_tdfa.specs.Making.{seen_ending}
 use Rattle.lx_tdfa.specs.Steps.{Ending, IsFound, ending_at, first_ending}
 use Rattle.lx_tdfa.specs.Table.{IsStateOf, accept_of, is_first, leave_of}
 use Rattle.lx_tdfa.specs.declared.steps.Ending as held
-use Rattle.lx_tdfa.proofs.Code.EdgesMade.{found_places, length-among}
+use Rattle.lx_tdfa.proofs.Loops.EdgesMade.{found_places, length-among}
 
 pub is_first-zero : (number : ℕ) → nat_eq number 0 ≡ is_first number
 is_first-zero zero = refl

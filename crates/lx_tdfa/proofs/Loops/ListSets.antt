@@ -13,8 +13,8 @@ use Rattle.std.proofs.lemmas.Option.{slice_get-map}
 use Rattle.lx_tnfa.specs.contracts.places.PlacePartialEq.TheImpl.{eq-value}
 use Rattle.lx_tnfa.specs.declared.places.Place.{Place}
 use Rattle.lx_tdfa.specs.Making.{Adds, lists_of, most_places}
-use Rattle.lx_tdfa.proofs.Code.PlaceSets.{same_place, place_same}
-use Rattle.lx_tdfa.proofs.Code.SetMembers.{added}
+use Rattle.lx_tdfa.proofs.Loops.PlaceSets.{same_place, place_same}
+use Rattle.lx_tdfa.proofs.Loops.SetMembers.{added}
 
 pub Decides-pointwise : (list other : List Place) → Decides (pointwise eq-value.it list other) (list ≡ other)
 Decides-pointwise = pointwise_decides (λ place other. (same_place place other, place_same place other))

@@ -10,8 +10,8 @@ use Rattle.lx_tnfa.specs.declared.places.Place.{Place}
 use Rattle.lx_tdfa.specs.Building.{AreStatesOf, Grows, greatest_of}
 use Rattle.lx_tdfa.specs.Steps.{next_steps}
 use Rattle.lx_tdfa.specs.Table.{IsStateOf, is_first}
-use Rattle.lx_tdfa.proofs.Code.EdgeLoops.{IsEdgeOf-more}
-use Rattle.lx_tdfa.proofs.Code.EdgeSteps.{grows-more}
+use Rattle.lx_tdfa.proofs.Loops.EdgeLoops.{IsEdgeOf-more}
+use Rattle.lx_tdfa.proofs.Loops.EdgeSteps.{grows-more}
 use Rattle.lx_tdfa.proofs.Walks.ListReads.{slice_get-behind, slice_get-front}
 
 IsStateOf-more : (tnfa : Tnfa) (greatest : ℕ) (lists later : List (List Place)) (first : Bool) (list : List Place) (state : State)

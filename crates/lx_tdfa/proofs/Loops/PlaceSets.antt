@@ -6,7 +6,7 @@ use Rattle.std.specs.Bool.{MatchBool}
 use Rattle.std.specs.List.{list_any}
 use Rattle.lx_tnfa.specs.contracts.places.PlacePartialEq.TheImpl.{eq-value}
 use Rattle.lx_tnfa.specs.declared.places.Place.{Place}
-use Rattle.lx_tdfa.proofs.Code.SetMembers.{added}
+use Rattle.lx_tdfa.proofs.Loops.SetMembers.{added}
 
 -- equal places are those that the program takes for equal
 pub same_place : (place other : Place) → eq-value.it place other ≡ true → place ≡ other
