@@ -1,5 +1,6 @@
 //! What holds of all blocks: each law is the contract of a function with an empty body.
-ghost use Rattle.std.specs.Prelude.{◌≡◌, ℕ, List};
+ghost use Rattle.std.specs.Prelude.{◌≡◌, ℕ, List, Ok};
+ghost use Rattle.lx_base.specs.declared.blocks.BlockKind.{BlockKind};
 ghost use Rattle.lx_base.specs.declared.blocks.BlockKind.TheVariants.{Code};
 ghost use Rattle.lx_base.specs.declared.faults.Fault.{Fault};
 ghost use Rattle.lx_base.specs.declared.places.Pos.{Pos};
@@ -8,7 +9,9 @@ ghost use Rattle.lx_base.specs.declared.settings.Options.{Options};
 ghost use Rattle.lx_parse.specs.Blocks.{IsBody, form_of};
 ghost use Rattle.lx_parse.specs.Sorts.{sorts_of};
 ghost use Rattle.lx_parse.specs.declared.items.Item.{Item};
+ghost use Rattle.lx_token.specs.Tokens.{tokens_of};
 ghost use Rattle.lx_token.specs.declared.list.Token.{Token};
+ghost use Rattle.lx_exprs.specs.FaultPlaces.{StandsIn};
 ghost use Rattle.lx_rules.specs.declared.resolved.Resolved.{Resolved};
 ghost use Rattle.lx_rules.specs.Blocks.{IsBlockFault, Resolves};
 ghost use Rattle.lx_rules.specs.Buildable.{IsReady};
@@ -41,4 +44,11 @@ pub fn blocks_resolve_in_one_way()
         IsBlockFault options at environment lexemes items fault → IsBlockFault options at environment lexemes items other → fault ≡ other }
     ensures apart { (options : Options) (at : Pos) (environment after : Environment) (lexemes : List Lexeme) (items : List Item) (resolved : Resolved) (fault : Fault) →
         Resolves options at environment lexemes items after resolved → IsBlockFault options at environment lexemes items fault → ⊥ }
+{}
+
+/// The fault of a block stands in the file of its opener, whichever file that is, if its body begins in this file.
+pub fn block_faults_stand_in_the_file_of_the_opener()
+    ensures { (options : Options) (at start : Pos) (environment : Environment) (kind : BlockKind) (body : List ℕ) (tokens : List Token) (items : List Item) (fault : Fault) →
+        start.file ≡ at.file → tokens_of body start ≡ Ok tokens → IsBody (form_of kind) (sorts_of kind body tokens) items →
+        IsBlockFault options at environment (lexemes_of body tokens) items fault → StandsIn at.file fault }
 {}

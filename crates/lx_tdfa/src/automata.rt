@@ -11,7 +11,6 @@ ghost use Rattle.lx_tdfa.specs.Steps.{start_place};
 
 use crate::kernels::Kernels;
 use crate::seen::Seen;
-use crate::sorts::Sorts;
 use crate::states::{Buffers, Source};
 use lx_auto::{Auto, State};
 use lx_base::{Memory, Pos, Sequence, Stop};
@@ -63,11 +62,9 @@ pub fn determinize(alloc: Global, t: &Tnfa, at: Pos) -> Result<Auto, Stop>
         → MatchResult result (λ auto. IsAutoOf enc patterns auto × ¬ HasTooManyKernels enc (terms_of patterns))
         (StopsBy at (HasTooManyKernels enc (terms_of patterns))) }
 {
-    let sorts = Sorts::of(alloc, t)?;
     let source = Source {
         alloc,
         t,
-        sorts: &sorts,
         width: t.most_tags() as u32,
         at,
     };

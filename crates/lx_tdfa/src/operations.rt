@@ -95,12 +95,12 @@ pub(crate) fn push_tags(
     ops: &mut Ops,
     transfer: Transfer,
     events: &[Event],
-    sorts: &[bool],
+    kinds: &[bool],
 ) -> Result<(), Memory>
-    requires { (transfer.source + length sorts.now < 2 ^ 32) × (transfer.target + length sorts.now < 2 ^ 32) }
-    ensures { OnOk result (ops.new ≡ ops.old ++ all_tag_ops transfer.is_first transfer.source transfer.target 0 events.now sorts.now) }
+    requires { (transfer.source + length kinds.now < 2 ^ 32) × (transfer.target + length kinds.now < 2 ^ 32) }
+    ensures { OnOk result (ops.new ≡ ops.old ++ all_tag_ops transfer.is_first transfer.source transfer.target 0 events.now kinds.now) }
 {
-    for (tag, many) in sorts.iter().enumerate() {
+    for (tag, many) in kinds.iter().enumerate() {
         let tag = tag as u32;
         let transfer = Transfer {
             is_first: transfer.is_first,

@@ -15,7 +15,6 @@ use crate::edges::push_edge;
 use crate::kernels::Kernels;
 use crate::operations::{Transfer, push_tags};
 use crate::seen::Seen;
-use crate::sorts::Sorts;
 use crate::steps::{Ending, Step, first_ending, next_steps};
 use lx_auto::{Accept, Edge, Held, Ops, State};
 use lx_base::{Memory, Pos, Sequence, Stop};
@@ -27,7 +26,6 @@ use std::alloc::Global;
 pub(crate) struct Source<'a> {
     pub alloc: Global,
     pub t: &'a Tnfa,
-    pub sorts: &'a Sorts,
     /// The most tags that a rule has: so many registers hold the values at a place.
     pub width: u32,
     /// Where the scanner stands that would have too many states.
@@ -76,7 +74,7 @@ impl<'a> Source<'a> {
                 &mut ops,
                 transfer,
                 step.reach.events.as_slice(),
-                self.sorts.at(self.t, step.to.part),
+                self.t.tags_at(step.to.part),
             )?;
         }
         Ok(ops)
@@ -104,12 +102,12 @@ impl<'a> Source<'a> {
     }
 
     /// What holds the values of a rule's tags where it was accepted.
-    fn held(&self, sorts: &[bool]) -> Result<Sequence<Held>, Memory>
-        requires { length sorts.now ≤ 130 }
-        ensures { IfOk result (λ values. values ≡ held_from 0 sorts.now) }
+    fn held(&self, kinds: &[bool]) -> Result<Sequence<Held>, Memory>
+        requires { length kinds.now ≤ 130 }
+        ensures { IfOk result (λ values. values ≡ held_from 0 kinds.now) }
     {
         let mut values = Sequence::new(self.alloc);
-        for (tag, many) in sorts.iter().enumerate() {
+        for (tag, many) in kinds.iter().enumerate() {
             let tag = tag as u32;
             values.push(if *many {
                 Held::MReg(tag + 1)

@@ -68,10 +68,10 @@ FinishesRest classes AnyUnit rest units = length units ≡ rest
 abbrev pub FinishesPlace : Tnfa → Place → List ℕ → Type 0
 FinishesPlace tnfa place units = FinishesRest tnfa.classes (state_at tnfa place) place.rest.0 units
 
--- the sorts of the tags of the rule with this number
-abbrev pub sorts_for : List (ℕ × List Bool) → (number : ℕ) → Option (List Bool)
-sorts_for [] number = None
-sorts_for (rule ∷ rules) number = if nat_eq rule.0 number then Some rule.1 else sorts_for rules number
+-- of each tag of the rule with this number, whether it is an m-tag
+abbrev pub kinds_for : List (ℕ × List Bool) → (number : ℕ) → Option (List Bool)
+kinds_for [] number = None
+kinds_for (rule ∷ rules) number = if nat_eq rule.0 number then Some rule.1 else kinds_for rules number
 
 -- the most tags that a rule has
 abbrev pub most_tags : List (ℕ × List Bool) → ℕ

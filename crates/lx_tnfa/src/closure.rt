@@ -79,11 +79,7 @@ impl Tnfa {
         let part = branch.state / 2;
         match self.states.get(branch.state as usize) {
             Some(State::Moves(ways)) => {
-                let rule = match self.owners.get(part as usize) {
-                    Some(rule) => *rule,
-                    None => 0,
-                };
-                push_moves(waiting, branch, rule, ways.as_slice())
+                push_moves(waiting, branch, self.rule_of(part), ways.as_slice())
             }
             Some(State::Class(class)) => match self.classes.get(*class as usize) {
                 Some(class) => push_starts(waiting, branch, part, class.graph.starts()),

@@ -12,7 +12,6 @@ overflow_cast-source c = let narrow = built-narrow c.args.t.now c.requires in om
 
 pub states-requires-clause-ready : goal.states-requires-clause-ready
 states-requires-clause-ready c = record {
-  sorts = c.in_ok-sorts.ensures;
   width = c.most_tags.ensures;
   narrow = built-narrow c.args.t.now c.requires;
   enc = c.requires.0;

@@ -1,4 +1,4 @@
-use Rattle.std.proofs.Common.{◌≡◌, ◌∙◌, ◌*◌, ◌∷◌, [], ◌++◌, ap, refl, subst, arith, length}
+use Rattle.std.proofs.Common.{◌≡◌, ◌∙◌, ◌*◌, ◌∷◌, [], ◌++◌, Some, ap, refl, subst, arith, length}
 use Rattle.std.proofs.lemmas.Result.{on_ok_weaker}
 use Rattle.std.specs.Bool.{OnFalse}
 use Rattle.std.specs.Prelude.{replicate}
@@ -29,10 +29,11 @@ returns-in_ok-build-in-Plain c =
     let states = rw (c.as_slice.ensures, part) at (c.in_ok-build-in-Plain.ensures final c.in_ok-exits-in-Plain.ensures) in
     let can = subst (λ b. OnFalse b (CanAdd old rule)) (is_rule rule.kind c.in-Plain.is) c.requires.can in
     let has = rw c.as_slice.ensures at c.in_ok-shape-in-Plain.ensures in
+    let index : c.len-index.result ≡ length old.rules.items = omega (arith, c.len-index.ensures) in
     let count = parts_shape (term_of (length rule.tags) rule.expr) c.in_ok-shape-in-Plain.shape has (omega (arith, can.room.parts)) in
     let begins = c.in_ok-push-in-Plain.ensures.items ∙ ap (λ n. old.begins.items ++ 2 * n ∷ []) part in
     on_ok_weaker c.push_owners.result
     (λ owners. adds_rule old new rule (is_rule rule.kind c.in-Plain.is)
     (seen_push old.rules.items c.push.new.self.items _ rule.number (sorts_of (pattern_of rule)) c.in_ok-push.ensures.items tags.number tags.many)
-    (owners ∙ ap (λ n. old.owners.items ++ replicate n rule.number) count) begins states)
+    (owners ∙ ap (λ index. old.owners.items ++ replicate c.in_ok-shape-in-Plain.shape.parts (Some index)) index ∙ ap (λ n. old.owners.items ++ replicate n (Some (length old.rules.items))) count) begins states)
     c.push_owners.ensures
