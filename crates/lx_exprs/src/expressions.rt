@@ -184,10 +184,7 @@ impl Operands {
         ensures honest { AreHonest (length self.old.seen) self.old.values.items → OnOk result (AreHonest (length self.new.seen) self.new.values.items) }
         ensures depth { OnOk result (length self.new.values.items ≡ suc (length self.old.values.items)) }
     {
-        let value = match read_leaf(alloc, reader, &mut self.seen, lexeme, is_operand) {
-            Ok(value) => value,
-            Err(stop) => return Err(stop),
-        };
+        let value = read_leaf(alloc, reader, &mut self.seen, lexeme, is_operand)?;
         self.push(value)?;
         Ok(())
     }
@@ -274,10 +271,7 @@ impl Operands {
     {
         let right = self.pop();
         let left = self.pop();
-        let value = match difference(alloc, reader, left, right, is_operand, sign.at) {
-            Ok(value) => value,
-            Err(stop) => return Err(stop),
-        };
+        let value = difference(alloc, reader, left, right, is_operand, sign.at)?;
         self.push(value)?;
         Ok(())
     }
@@ -344,10 +338,7 @@ fn take_steps(
 {
     let mut operands = Operands::new(alloc);
     for step in steps {
-        match operands.take(alloc, reader, lexemes, *step) {
-            Ok(()) => {}
-            Err(stop) => return Err(stop),
-        }
+        operands.take(alloc, reader, lexemes, *step)?;
     }
     Ok(operands)
 }
@@ -370,11 +361,7 @@ pub fn read_expression(
         (StopsAt (ExpressionChecks reader.entry.options.now (lexemes_view lexemes.entry) definitions from until)) }
 {
     let steps = expression_steps(alloc, lexemes, from, until)?;
-    let operands = match take_steps(alloc, reader, lexemes, &steps) {
-        Ok(operands) => operands,
-        Err(stop) => return Err(stop),
-    };
-    let mut operands = operands;
+    let mut operands = take_steps(alloc, reader, lexemes, &steps)?;
     let value = operands.pop();
     let tags = operands.seen.into_shared(alloc)?;
     Ok(Reading { value, tags })
