@@ -2,7 +2,7 @@
 use Rattle.std.proofs.Common.{◌≡◌, ℕ, zero, suc, ◌+◌, ◌<◌, ◌∙◌, arith, Bool, true, false, List, [], ◌∷◌, length, take, drop, Ok, refl, ap}
 use Rattle.std.specs.Prelude.{◌==◌, if◌then◌else◌}
 use Rattle.lx_base.specs.declared.places.Pos.{Pos}
-use Rattle.lx_token.specs.Places.{next_place, place_after}
+use Rattle.lx_base.specs.Places.{next_place, place_after}
 use Rattle.lx_token.specs.Spans.{EachStands}
 use Rattle.lx_token.specs.Tokens.{tokens_of}
 use Rattle.lx_token.specs.declared.list.Token.{Token}

@@ -10,7 +10,6 @@ ghost use Rattle.lx_forms.specs.Seen.{lexemes_view};
 use crate::items::Block;
 use crate::resolved::Act;
 use lx_base::{ByteText, Memory, Sequence};
-use lx_exprs::tags::text;
 use lx_regex::{Expr, Kind, Rule, Tag};
 use std::alloc::Global;
 
@@ -39,7 +38,7 @@ pub(crate) fn tags_with(alloc: Global, names: &[ByteText]) -> Result<Sequence<Ta
     let mut tags = Vec::new(alloc);
     for name in names {
         tags.push(Tag {
-            name: text(alloc, name.as_slice())?,
+            name: ByteText::copy_of(alloc, name.as_slice())?,
             many: false,
         })?;
     }
@@ -56,7 +55,7 @@ pub(crate) fn act(alloc: Global, block: Block<'_>, number: u32, code: Option<u32
             Ok(Act {
                 number,
                 goes: None,
-                code: Some(text(alloc, lexeme.text)?),
+                code: Some(ByteText::copy_of(alloc, lexeme.text)?),
                 at: lexeme.at,
             })
         }
