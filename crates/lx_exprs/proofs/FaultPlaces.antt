@@ -1,5 +1,5 @@
 -- The faults that the checks of an expression find stand at its tokens, and so in their file.
-use Rattle.std.proofs.Common.{◌≡◌, ℕ, suc, ◌<◌, arith, Bool, true, false, List, [], ◌∷◌, ◌++◌, drop, length, length-drop, Option, Some, None, subst, inl, inr}
+use Rattle.std.proofs.Common.{◌≡◌, ℕ, suc, ◌<◌, arith, Bool, true, false, List, [], ◌∷◌, ◌++◌, length, length-drop, Option, Some, None, subst, inl, inr}
 use Rattle.std.specs.Prelude.{◌&&◌, if◌then◌else◌}
 use Rattle.std.specs.Option.{option_map, option_or}
 use Rattle.lx_base.specs.declared.faults.Fault.{Fault}
@@ -14,7 +14,7 @@ use Rattle.lx_base.specs.declared.settings.SurPolicy.{SurPolicy}
 use Rattle.lx_base.specs.declared.settings.SurPolicy.TheVariants.{Ignore, Substitute, Fail}
 use Rattle.lx_class.specs.declared.ranges.Range.{Range}
 use Rattle.lx_parse.specs.Expressions.{Part}
-use Rattle.lx_exprs.specs.Checks.{Check, Then, Finds, waits, Checks, LeafChecks, IsFilled, PointsAre, AreClasses, HasPoint, LeafHas, are_groups, bounds_fault, bounds_of, class_ranges, group_fault, is_class, is_wrong, name_fault, repeated_tag, tag_fault, tag_name, tags_of, is_among}
+use Rattle.lx_exprs.specs.Checks.{Check, Then, Finds, unsupported, Checks, LeafChecks, IsFilled, PointsAre, AreClasses, HasPoint, LeafHas, are_groups, bounds_fault, bounds_of, class_ranges, group_fault, is_class, is_wrong, name_fault, repeated_tag, tag_fault, tag_name, tags_of, is_among}
 use Rattle.lx_exprs.specs.Defined.{Definition, definition_of}
 use Rattle.lx_forms.specs.Forms.{Form, leaf, group, repeated, sequence, difference, alternative, IsForm, is_leaf, is_group, is_bare, is_repeated, is_first_post, is_sequence, is_first_cat, is_difference, is_first_diff, is_alternative}
 use Rattle.lx_forms.specs.Lexemes.{Lexeme, StandInFile, nth_lexeme, points_in}
@@ -151,15 +151,15 @@ module _ (file : ℕ) where
         if-file options.tags (repeated_tag lexeme.at (tag_name lexeme ∷ []) seen) (Some (TagsOff lexeme.at))
         (repeated_tag-file lexeme.at (tag_name lexeme ∷ []) seen is) is
 
-    pub waits-file : (lexeme : Lexeme) → lexeme.at.file ≡ file → FindsIn (Finds (waits lexeme))
-    waits-file lexeme is = FindsIn-Finds (waits lexeme) is
+    pub unsupported-file : (lexeme : Lexeme) → lexeme.at.file ≡ file → FindsIn (Finds (unsupported lexeme))
+    unsupported-file lexeme is = FindsIn-Finds (unsupported lexeme) is
 
     PointsAre-file : (lexeme : Lexeme) (ranges : List Range) → lexeme.at.file ≡ file → FindsIn (PointsAre options definitions lexeme ranges)
     PointsAre-file lexeme ranges is =
         FindsIn-Finds (points_fault options.enc options.surrogates lexeme.at ranges) (points-file options.enc options.surrogates lexeme.at ranges is)
 
-    pub then_waits : (Second : Check) (lexeme : Lexeme) → lexeme.at.file ≡ file → FindsIn Second → FindsIn (Then (Finds (waits lexeme)) Second)
-    then_waits Second lexeme is second = FindsIn-Then (Finds (waits lexeme)) Second (waits-file lexeme is) second
+    pub then_unsupported : (Second : Check) (lexeme : Lexeme) → lexeme.at.file ≡ file → FindsIn Second → FindsIn (Then (Finds (unsupported lexeme)) Second)
+    then_unsupported Second lexeme is second = FindsIn-Then (Finds (unsupported lexeme)) Second (unsupported-file lexeme is) second
 
     leaf-file : (sort : TokenKind) (is_operand : Bool) (seen : List (List ℕ)) (lexeme : Lexeme) → lexeme.at.file ≡ file
         → FindsIn (LeafChecks options definitions sort is_operand seen lexeme)
@@ -170,7 +170,7 @@ module _ (file : ℕ) where
     leaf-file kind.STag is_operand seen lexeme is =
         FindsIn-Finds (tag_fault options definitions lexeme seen) (tag-file lexeme seen is)
     leaf-file kind.MTag is_operand seen lexeme is =
-        then_waits (Finds (tag_fault options definitions lexeme seen)) lexeme is
+        then_unsupported (Finds (tag_fault options definitions lexeme seen)) lexeme is
         (FindsIn-Finds (tag_fault options definitions lexeme seen) (tag-file lexeme seen is))
     leaf-file kind.IStr is_operand seen lexeme is = PointsAre-file lexeme (singles (points_in lexeme)) is
     leaf-file kind.Class is_operand seen lexeme is =
@@ -178,10 +178,10 @@ module _ (file : ℕ) where
         let Points = PointsAre options definitions lexeme (class_ranges lexeme) in
         FindsIn-Then Points Filled (PointsAre-file lexeme (class_ranges lexeme) is)
         (filled-file options.empty is_operand lexeme.at (LeafHas options definitions kind.Class lexeme) is)
-    leaf-file kind.Config is_operand seen lexeme is = waits-file lexeme is
-    leaf-file kind.Number is_operand seen lexeme is = waits-file lexeme is
-    leaf-file kind.Bounds is_operand seen lexeme is = waits-file lexeme is
-    leaf-file kind.Code is_operand seen lexeme is = waits-file lexeme is
+    leaf-file kind.Config is_operand seen lexeme is = unsupported-file lexeme is
+    leaf-file kind.Number is_operand seen lexeme is = unsupported-file lexeme is
+    leaf-file kind.Bounds is_operand seen lexeme is = unsupported-file lexeme is
+    leaf-file kind.Code is_operand seen lexeme is = unsupported-file lexeme is
     leaf-file kind.Signs is_operand seen lexeme is = FindsIn-Finds None tt
 
     AreClasses-file : (left right : Form) (sign : Lexeme) → sign.at.file ≡ file → FindsIn (AreClasses options definitions left right sign)
@@ -195,7 +195,7 @@ module _ (file : ℕ) where
     Checks-file is_operand seen (leaf lexeme) is = leaf-file lexeme.kind is_operand seen lexeme is
     Checks-file is_operand seen (group opening inner) is =
         FindsIn-Then (Finds (group_fault options definitions opening)) (Checks options definitions is_operand seen inner)
-        (FindsIn-Finds (group_fault options definitions opening) (if-file (are_groups options definitions) (waits opening) None is.0 tt))
+        (FindsIn-Finds (group_fault options definitions opening) (if-file (are_groups options definitions) (unsupported opening) None is.0 tt))
         (Checks-file is_operand seen inner is.1)
     Checks-file is_operand seen (repeated inner sign) is =
         FindsIn-Then (Checks options definitions false seen inner) (Finds (bounds_fault sign)) (Checks-file false seen inner is.0)
@@ -242,9 +242,9 @@ module _ (file : ℕ) where
               let some = form_some found.3 in
               let at_slash : slash < length lexemes = omega (arith, length-drop (suc slash) lexemes, some) in
               let Behind = Checks options definitions false (tags_of options definitions form) behind in
-              let Slash = Then (Finds (waits (nth_lexeme lexemes slash))) Behind in
+              let Slash = Then (Finds (unsupported (nth_lexeme lexemes slash))) Behind in
               let both =
               FindsIn-Then (Checks options definitions false [] form) Slash (Checks-file false [] form inside.0)
-              (then_waits Behind (nth_lexeme lexemes slash) (nth_lexeme-file lexemes slash are at_slash)
+              (then_unsupported Behind (nth_lexeme lexemes slash) (nth_lexeme-file lexemes slash are at_slash)
               (Checks-file false (tags_of options definitions form) behind inside_behind.0)) in
               both.finds fault found.4

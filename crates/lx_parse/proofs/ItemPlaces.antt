@@ -1,11 +1,11 @@
 -- The places that items name are those of tokens.
-use Rattle.std.proofs.Common.{ℕ, suc, ◌<◌, ◌≤◌, List, [], ◌∷◌, length, Option, Some, None, arith}
+use Rattle.std.proofs.Common.{ℕ, ◌<◌, List, ◌∷◌, length, Option, arith}
 use Rattle.std.specs.Prelude.{IfSome}
 use Rattle.lx_parse.specs.declared.items.Item.{Item}
 use Rattle.lx_parse.specs.declared.forms.Form.{Form}
 use Rattle.lx_parse.specs.declared.forms.Form.TheVariants as forms
 use Rattle.lx_parse.specs.declared.sorts.Sort.{Sort}
-use Rattle.lx_parse.specs.declared.sorts.Sort.TheVariants.{Bar, Backslash, Close, Code, Name, Semicolon, Slash}
+use Rattle.lx_parse.specs.declared.sorts.Sort.TheVariants.{Bar, Backslash, Close, Semicolon, Slash}
 use Rattle.lx_parse.specs.Expressions.{Part, alt, Reads, sign, group, bare, repeated, first_post, next_post, first_cat, next_cat, first_diff, next_diff}
 use Rattle.lx_parse.specs.Items.{place, ReadsHead, plain, trailing, any, end, ReadsAction, code, code_and_target, target, ReadsItem, define, configure, rule, ReadsItems, no_item, next_item, ReadsSeparator, no_separator, separator, ReadsTexts, format, nothing}
 use Rattle.lx_parse.specs.Blocks.{IsBody}

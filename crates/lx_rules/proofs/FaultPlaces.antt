@@ -17,7 +17,7 @@ use Rattle.lx_parse.proofs.ItemPlaces.{body_has_places}
 use Rattle.lx_parse.specs.declared.items.Item.{Item}
 use Rattle.lx_parse.specs.declared.items.Item.TheVariants.{Define, Configure, Rule, Text}
 use Rattle.lx_rules.specs.Blocks.{BlockChecks, ClashCheck, IsBlockFault, conditions_of, is_bare, limits_fault, lonely_fault, nesting_of, not_of_kind, rules_of, scanner_fault, scanners_fault, size_of, tags_of as tag_count, target_fault, targets_fault}
-use Rattle.lx_exprs.specs.Checks.{Then, Finds, waits, is_among}
+use Rattle.lx_exprs.specs.Checks.{Then, Finds, unsupported, is_among}
 use Rattle.lx_rules.specs.Configurations.{config_fault, define_words, fill_word, other_words, switch_fault, switch_of}
 use Rattle.lx_exprs.specs.Defined.{Definition, definition_of, kept}
 use Rattle.lx_rules.specs.Environments.{Environment}
@@ -28,7 +28,7 @@ use Rattle.lx_forms.specs.Lexemes.{Lexeme, StandInFile, lexemes_of, nth_lexeme, 
 use Rattle.lx_forms.proofs.FilePlaces.{nth_lexeme-file, tokens_of-file}
 use Rattle.lx_token.specs.Tokens.{tokens_of}
 use Rattle.lx_token.specs.declared.list.Token.{Token}
-use Rattle.lx_exprs.proofs.FaultPlaces.{FindsIn, FindsIn-Finds, FindsIn-Then, IsFoundIn, context-file, expression-file, file-found, if-file, option_map-file, option_or-file, then_waits}
+use Rattle.lx_exprs.proofs.FaultPlaces.{FindsIn, FindsIn-Finds, FindsIn-Then, IsFoundIn, context-file, expression-file, file-found, if-file, option_map-file, option_or-file, then_unsupported}
 
 module _ (file : ℕ) where
   -- a target stands in the file, if there is one
@@ -53,9 +53,9 @@ module _ (file : ℕ) where
   config-file : (name value : Lexeme) → name.at.file ≡ file → value.at.file ≡ file → IsFoundIn file (config_fault name value)
   config-file name value name_is value_is =
       let known = is_among name.text define_words || is_among name.text other_words in
-      let other = if◌then◌else◌ {A = Option Fault} known (waits name) (Some (UnknownConfig name.at name.text)) in
+      let other = if◌then◌else◌ {A = Option Fault} known (unsupported name) (Some (UnknownConfig name.at name.text)) in
       if-file file (bytes_eq name.text fill_word) (switch_fault value) other (switch-file value value_is)
-      (if-file file known (waits name) (Some (UnknownConfig name.at name.text)) name_is name_is)
+      (if-file file known (unsupported name) (Some (UnknownConfig name.at name.text)) name_is name_is)
 
   module _ (options : Options) (lexemes : List Lexeme) (are : StandInFile file lexemes) where
     at_in : (place : ℕ) → place < length lexemes → (nth_lexeme lexemes place).at.file ≡ file
@@ -72,7 +72,7 @@ module _ (file : ℕ) where
     target-file (Some goes) within =
         let lexeme = nth_lexeme lexemes (goes - 1) in
         let lt : goes - 1 < length lexemes = omega (arith, within.0, within.1) in
-        then_waits file options [] (Finds (unless options.conds lexeme.at)) lexeme (at_in (goes - 1) lt)
+        then_unsupported file options [] (Finds (unless options.conds lexeme.at)) lexeme (at_in (goes - 1) lt)
         (FindsIn-Finds file (unless options.conds lexeme.at) (unless-file options.conds lexeme.at (at_in (goes - 1) lt)))
 
     head-file : (state : State) (head_is : HeadSort) (conds : List (List ℕ)) (head : ℕ) (slash : Option ℕ) (until : ℕ)
@@ -82,7 +82,7 @@ module _ (file : ℕ) where
         FindsIn-Finds file found (twice-file (nth_lexeme lexemes head).at (first_of is_default conds state.rules) (at_in head lt))
     head-file state end conds head slash until lt =
         let found = twice (nth_lexeme lexemes head).at (first_of is_end conds state.rules) in
-        then_waits file options [] (Finds found) (nth_lexeme lexemes head) (at_in head lt)
+        then_unsupported file options [] (Finds found) (nth_lexeme lexemes head) (at_in head lt)
         (FindsIn-Finds file found (twice-file (nth_lexeme lexemes head).at (first_of is_end conds state.rules) (at_in head lt)))
     head-file state expression conds head None until lt = expression-file file options state.definitions lexemes are head until
     head-file state expression conds head (Some slash) until lt = context-file file options state.definitions lexemes are head slash until

@@ -4,15 +4,15 @@ ghost use Rattle.lx_parse.specs.Ranges.{HasExpressions};
 ghost use Rattle.lx_parse.specs.declared.items.Item.TheVariants as item;
 ghost use Rattle.lx_parse.specs.declared.sorts.Sort.TheVariants.{Star, Dollar};
 ghost use Rattle.lx_rules.specs.Items.{State};
-ghost use Rattle.lx_rules.specs.Keeping.{Holds, IsFresh, IsHeadRead, IsSoundHead, StopsHead, room_behind};
+ghost use Rattle.lx_rules.specs.Keeping.{Holds, IsFresh, IsHeadRead, IsBoundedHead, StopsHead, room_behind};
 ghost use Rattle.lx_forms.specs.Lexemes.{nth_lexeme, sort_at, sorts_at};
 ghost use Rattle.lx_forms.specs.Seen.{lexemes_view};
-ghost use Rattle.lx_rules.specs.Soundness.{IsSound};
+ghost use Rattle.lx_rules.specs.Soundness.{HasFitDefinitions};
 
 use crate::items::{Block, Known};
 use lx_base::{Fault, Stop};
 use lx_exprs::expressions::{Reading, read_expression};
-use lx_exprs::leaves::{Reader, waits};
+use lx_exprs::leaves::{Reader, unsupported};
 use lx_parse::Sort;
 use std::alloc::Global;
 
@@ -34,7 +34,7 @@ fn read_plain(
     slash: Option<u32>,
     until: u32,
 ) -> Result<Head, Stop>
-    requires sound { IsSound known.now.env }
+    requires sound { HasFitDefinitions known.now.env }
     requires expressions { HasExpressions (sorts_at (lexemes_view block.lexemes)) (item.Rule head head slash until None None) }
     requires star { sort_at (nth_lexeme (lexemes_view block.lexemes) head) ≡ Star → ⊥ }
     requires dollar { sort_at (nth_lexeme (lexemes_view block.lexemes) head) ≡ Dollar → ⊥ }
@@ -42,7 +42,7 @@ fn read_plain(
         (IsHeadRead block.entry.options.now (lexemes_view block.entry.lexemes) state head slash until (room_behind known.now.size known.now.nesting (length known.now.tags)))
         (StopsHead block.entry.options.now (lexemes_view block.entry.lexemes) state head slash until) }
     ensures fresh { IfOk result (IsFresh known.now.default) }
-    ensures honest { IfOk result IsSoundHead }
+    ensures bounded { IfOk result IsBoundedHead }
 {
     let reader = Reader {
         options: block.options,
@@ -57,7 +57,7 @@ fn read_plain(
         slash.unwrap_or(until) as usize,
     )?;
     match slash {
-        Some(slash) => Err(waits(block.lexemes.at(slash as usize).at)),
+        Some(slash) => Err(unsupported(block.lexemes.at(slash as usize).at)),
         None => Ok(Head::Plain(reading)),
     }
 }
@@ -71,13 +71,13 @@ pub(crate) fn read_head(
     slash: Option<u32>,
     until: u32,
 ) -> Result<Head, Stop>
-    requires sound { IsSound known.now.env }
+    requires sound { HasFitDefinitions known.now.env }
     requires expressions { HasExpressions (sorts_at (lexemes_view block.lexemes)) (item.Rule head head slash until None None) }
     ensures read { (state : State) → Holds block.entry.options.now.conds known.now state → MatchResult result
         (IsHeadRead block.entry.options.now (lexemes_view block.entry.lexemes) state head slash until (room_behind known.now.size known.now.nesting (length known.now.tags)))
         (StopsHead block.entry.options.now (lexemes_view block.entry.lexemes) state head slash until) }
     ensures fresh { IfOk result (IsFresh known.now.default) }
-    ensures honest { IfOk result IsSoundHead }
+    ensures bounded { IfOk result IsBoundedHead }
 {
     let start = block.lexemes.at(head as usize);
     match start.sort() {
@@ -88,7 +88,7 @@ pub(crate) fn read_head(
             })),
             None => Ok(Head::Default),
         },
-        Sort::Dollar => Err(waits(start.at)),
+        Sort::Dollar => Err(unsupported(start.at)),
         _ => read_plain(alloc, known, block, head, slash, until),
     }
 }

@@ -9,7 +9,7 @@ use crate::rules::{act, simple_rule, tags_with};
 use lx_base::{Fault, Memory, Options, Pos, Stop};
 use lx_exprs::definitions::Kept;
 use lx_exprs::expressions::{Reading, read_expression};
-use lx_exprs::leaves::{Reader, waits};
+use lx_exprs::leaves::{Reader, unsupported};
 use lx_exprs::tags::{SharedTags, TagNames};
 use lx_exprs::values::{MOST_NESTING, MOST_SIZE, MOST_TAGS, Room, sum};
 use lx_forms::lexemes::Lexemes;
@@ -54,19 +54,19 @@ impl Known {
     ghost use Rattle.lx_parse.specs.Ranges.{IsPart, HasExpressions};
     ghost use Rattle.lx_parse.specs.declared.items.Item.TheVariants as item;
     ghost use Rattle.lx_rules.specs.Items.{State, ItemChecks, first_state, RuleOf};
-    ghost use Rattle.lx_rules.specs.Keeping.{Holds, IsTaken, room_behind, AddsPlain, IsNew, IsSoundHead, with_rule};
+    ghost use Rattle.lx_rules.specs.Keeping.{Holds, IsTaken, room_behind, AddsPlain, IsNew, IsBoundedHead, with_rule};
     ghost use Rattle.lx_exprs.specs.Checks.{StopsAt};
     ghost use Rattle.lx_forms.specs.Lexemes.{sorts_at};
     ghost use Rattle.lx_forms.specs.Seen.{lexemes_view};
     ghost use Rattle.lx_rules.specs.Seen.{environment_view};
-    ghost use Rattle.lx_rules.specs.Soundness.{IsSound};
+    ghost use Rattle.lx_rules.specs.Soundness.{HasFitDefinitions};
     ghost use Rattle.lx_base.specs.declared.places.Pos.{Pos};
     ghost use Rattle.lx_rules.specs.declared.heads.Head.TheVariants as head;
-    ghost use Rattle.lx_exprs.specs.Values.{IsHonest};
+    ghost use Rattle.lx_exprs.specs.Values.{IsBounded};
 
     /// What is known before the items.
     pub fn new(alloc: Global, env: Env) -> Known
-        requires { IsSound env }
+        requires { HasFitDefinitions env }
         ensures { (conds : Bool) → Holds conds result (first_state (environment_view env)) }
     {
         Known {
@@ -106,7 +106,7 @@ impl Known {
         until: u32,
     ) -> Result<(), Stop>
         requires part { IsPart (sorts_at (lexemes_view block.lexemes)) alt from until }
-        requires sound { IsSound self.old.env }
+        requires sound { HasFitDefinitions self.old.env }
         ensures acts { OnOk result (self.new.acts ≡ self.old.acts) }
         ensures taken { (state : State) → Holds block.entry.options.now.conds self.old state → MatchResult result
             (λ _. IsTaken block.entry.options.now (lexemes_view block.entry.lexemes) state (item.Define name from until) self.new)
@@ -167,7 +167,7 @@ impl Known {
 
     /// Adds the rule of an expression, where it is built.
     fn push_rule(&mut self, alloc: Global, number: u32, reading: Reading) -> Result<(), Memory>
-        requires { IsHonest (length reading.tags) reading.value }
+        requires { IsBounded (length reading.tags) reading.value }
         ensures size { OnOk result (self.new.size ≡ min (2 ^ 40) (self.old.size + reading.value.size)) }
         ensures nesting { OnOk result (self.new.nesting ≡ max self.old.nesting reading.value.nesting) }
         ensures tags { OnOk result (self.new.tags ≡ self.old.tags ++ reading.tags) }
@@ -210,7 +210,7 @@ impl Known {
 
     /// Adds the rule of an expression.
     fn add_plain(&mut self, alloc: Global, reading: Reading, act: Act) -> Result<(), Memory>
-        requires { IsHonest (length reading.tags) reading.value }
+        requires { IsBounded (length reading.tags) reading.value }
         ensures few { OnOk result (length self.new.acts.items ≤ suc (length self.old.acts.items)) }
         ensures added { (conds : Bool) (state : State) (at : Pos) (rule : RuleOf) → Holds conds self.old state → IsNew conds self.old (head.Plain reading) at act rule
             → OnOk result (Holds conds self.new (with_rule state rule)) }
@@ -222,7 +222,7 @@ impl Known {
 
     /// Adds a rule with its action, at whose head stands this place.
     fn add_rule(&mut self, alloc: Global, head: Head, at: Pos, act: Act) -> Result<(), Memory>
-        requires { IsSoundHead head }
+        requires { IsBoundedHead head }
         ensures few { OnOk result (length self.new.acts.items ≤ suc (length self.old.acts.items)) }
         ensures added { (conds : Bool) (state : State) (rule : RuleOf) → Holds conds self.old state → IsNew conds self.old head at act rule
             → OnOk result (Holds conds self.new (with_rule state rule)) }
@@ -248,7 +248,7 @@ impl Known {
         requires few { length self.old.acts.items < 16777216 }
         requires short { length block.lexemes.body.now ≤ 16777216 }
         requires expressions { HasExpressions (sorts_at (lexemes_view block.lexemes)) (item.Rule first head slash until goes code) }
-        requires sound { IsSound self.old.env }
+        requires sound { HasFitDefinitions self.old.env }
         ensures few { OnOk result (length self.new.acts.items ≤ suc (length self.old.acts.items)) }
         ensures taken { (state : State) → Holds block.entry.options.now.conds self.old state → MatchResult result
             (λ _. IsTaken block.entry.options.now (lexemes_view block.entry.lexemes) state (item.Rule first head slash until goes code) self.new)
@@ -256,7 +256,7 @@ impl Known {
     {
         let opener = block.lexemes.at(first as usize);
         if first != head {
-            return Err(waits(opener.at));
+            return Err(unsupported(opener.at));
         }
         if block.options.conds {
             return Err(Stop::Fault(Fault::Condition { at: opener.at }));
@@ -264,7 +264,7 @@ impl Known {
         let read = read_head(alloc, self, block, head, slash, until)?;
         if let Some(goes) = goes {
             let sign = block.lexemes.at((goes as usize).saturating_sub(1));
-            return Err(waits(sign.at));
+            return Err(unsupported(sign.at));
         }
         let number = self.acts.len() as u32 + 1;
         let act = act(alloc, block, number, code)?;
@@ -277,7 +277,7 @@ impl Known {
         requires few { length self.old.acts.items < 16777216 }
         requires short { length block.lexemes.body.now ≤ 16777216 }
         requires expressions { HasExpressions (sorts_at (lexemes_view block.lexemes)) item }
-        requires sound { IsSound self.old.env }
+        requires sound { HasFitDefinitions self.old.env }
         ensures few { OnOk result (length self.new.acts.items ≤ suc (length self.old.acts.items)) }
         ensures taken { (state : State) → Holds block.entry.options.now.conds self.old state → MatchResult result
             (λ _. IsTaken block.entry.options.now (lexemes_view block.entry.lexemes) state item self.new)

@@ -13,7 +13,7 @@ ghost use Rattle.lx_rules.specs.Keeping.{Holds, StopsGoing};
 ghost use Rattle.lx_forms.specs.Lexemes.{lexemes_of, sorts_at};
 ghost use Rattle.lx_forms.specs.Seen.{lexemes_view};
 ghost use Rattle.lx_rules.specs.Seen.{environment_view};
-ghost use Rattle.lx_rules.specs.Soundness.{IsFine, IsSound};
+ghost use Rattle.lx_rules.specs.Soundness.{FitsLimits, HasFitDefinitions};
 ghost use Rattle.lx_exprs.specs.Within.{AreDefinedWithin};
 ghost use Rattle.lx_rules.specs.Within.{IsScannerWithin};
 
@@ -46,8 +46,8 @@ pub fn resolve(
     requires size { length body.now ≤ 16777216 }
     requires tokens { (start : Pos) × (tokens_of body.now start ≡ Ok tokens.now) }
     requires tree { IsBody (form_of Code) (sorts_of Code body.now tokens.now) tree.now.items }
-    requires sound { IsSound env }
-    ensures sound { IfOk result (λ answer. IsSound answer.0 × IsFine answer.1) }
+    requires sound { HasFitDefinitions env }
+    ensures sound { IfOk result (λ answer. HasFitDefinitions answer.0 × FitsLimits answer.1) }
     ensures within { AreDefinedWithin options.now.enc (environment_view env).definitions
         → IfOk result (λ answer. AreDefinedWithin options.now.enc (environment_view answer.0).definitions
         × AllByRecursion (IsScannerWithin options.now.enc) answer.1.scanners) }
@@ -74,7 +74,7 @@ fn take_items(alloc: Global, block: Block<'_>, env: Env, items: &[Item]) -> Resu
     requires few { length items.now ≤ 16777216 }
     requires short { length block.lexemes.body.now ≤ 16777216 }
     requires expressions { EachHasExpressions (sorts_at (lexemes_view block.lexemes)) items.now }
-    requires sound { IsSound env }
+    requires sound { HasFitDefinitions env }
     ensures few { IfOk result (λ known. length known.acts.items ≤ 16777216) }
     ensures goes { MatchResult result
         (λ known. (state : State) × Goes block.entry.options.now (lexemes_view block.entry.lexemes) (first_state (environment_view env)) items.now (Ok state)

@@ -25,8 +25,8 @@ IsBuilt tnfa =
     (enc : Enc) × (rules : List Rule) × IsWithinLimits rules × AllClassesFit enc (terms_of (patterns_of rules))
     × IsTnfaOf enc (patterns_of rules) tnfa
 
--- what states are made from is right
-pub record IsReady (source : Source) : Type 0 where
+-- states are made from the automaton of a rule list, and the width is the most tags that a rule has
+pub record IsSourceOfRules (source : Source) : Type 0 where
   pub width : source.width ≡ widest source.t.now.rules
   pub narrow : widest source.t.now.rules ≤ 130
   pub enc : Enc

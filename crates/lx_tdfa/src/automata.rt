@@ -4,7 +4,7 @@ ghost use Rattle.lx_base.specs.declared.settings.Enc.{Enc};
 ghost use Rattle.lx_regex.specs.Kernel.{HasTooManyKernels};
 ghost use Rattle.lx_regex.specs.Pattern.{Pattern, terms_of};
 ghost use Rattle.lx_tnfa.specs.Tnfa.{AllClassesFit, IsTnfaOf};
-ghost use Rattle.lx_tdfa.specs.Building.{AreListed, AreStatesOf, Grows, IsBuilt, IsReady, TooManyFound};
+ghost use Rattle.lx_tdfa.specs.Building.{AreListed, AreStatesOf, Grows, IsBuilt, IsSourceOfRules, TooManyFound};
 ghost use Rattle.lx_tdfa.specs.Making.{StopsBy};
 ghost use Rattle.lx_tdfa.specs.Promise.{IsAutoOf};
 ghost use Rattle.lx_tdfa.specs.Steps.{start_place};
@@ -32,7 +32,7 @@ fn start(alloc: Global) -> Result<Kernels, Memory>
 
 /// A state for each list of places, in the order in which the lists are found.
 fn states(source: &Source<'_>, kernels: &mut Kernels) -> Result<Sequence<State>, Stop>
-    requires ready { IsReady source.now }
+    requires of_rules { IsSourceOfRules source.now }
     requires listed { AreListed source.now.t.now kernels.old }
     ensures { MatchResult result (λ states. Grows source.now.t.now kernels.old kernels.new × (length states ≡ length kernels.new)
         × AreStatesOf source.now.t.now kernels.new states)

@@ -111,7 +111,8 @@ impl Making {
                 self.begins.push(2 * part)?;
                 let exits = one_move(alloc, 0, None)?;
                 build(alloc, &mut self.building, site, &rule.expr, &shape, exits)?;
-                push_owners(&mut self.owners, index as u32, shape.parts)
+                let owner = index as u32;
+                push_owners(&mut self.owners, owner, shape.parts)
             }
         }
     }

@@ -1,7 +1,7 @@
 -- What is read where the values of a rule's tags are held.
 use Rattle.std.proofs.Common.{◌≡◌, ℕ, suc, ◌+◌, ◌<◌, ◌≤◌, List, [], ◌∷◌, map, length, Option, Some, None, Bool, true, false, slice_get, refl, ap, ap₂, sym, subst, arith}
 use Rattle.lx_auto.specs.Bank as bank
-use Rattle.lx_auto.specs.Bank.{Bank, bank_after, read_all}
+use Rattle.lx_auto.specs.Bank.{Bank, read_all}
 use Rattle.lx_auto.specs.Run.{Left, found_left}
 use Rattle.lx_regex.specs.Script.{Symbol}
 use Rattle.lx_regex.specs.Values.{Value, all_events, history, last_event, single, values_of}

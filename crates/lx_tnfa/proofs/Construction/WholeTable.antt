@@ -17,7 +17,7 @@ use Rattle.lx_regex.proofs.Rows.{table_length}
 use Rattle.lx_tnfa.specs.Classes.{AreClasses}
 use Rattle.lx_tnfa.specs.Live.{AreLive}
 use Rattle.lx_tnfa.specs.Making.{AddsRule, CanAdd, rule_beginning, rule_size, rule_states, seen_owners, seen_tags}
-use Rattle.lx_tnfa.specs.Rows.{AreHeld, Builds, ClassesFit, IsHeld}
+use Rattle.lx_tnfa.specs.Rows.{RepresentEach, Builds, ClassesFit, Represents}
 use Rattle.lx_tnfa.specs.Tnfa.{AllClassesFit, AreNumbered, IsNumbered, IsTnfaOf, beginnings_from}
 use Rattle.lx_tnfa.specs.declared.classes.ClassGraph.{ClassGraph}
 use Rattle.lx_tnfa.specs.declared.making.Making.{Making}
@@ -72,7 +72,7 @@ states_count pattern part = at (is_end pattern.kind)
     at true = refl
     at false = table_length pattern.term part final
 
-pub held_length : (classes : List ClassGraph) (rows : List spec.State) (states : List State) → AreHeld classes rows states → length states ≡ length rows
+pub held_length : (classes : List ClassGraph) (rows : List spec.State) (states : List State) → RepresentEach classes rows states → length states ≡ length rows
 held_length classes [] [] h = refl
 held_length classes [] (state ∷ states) h = absurd h
 held_length classes (row ∷ rows) [] h = absurd h
@@ -228,14 +228,14 @@ get_within (y ∷ xs) zero x e = omega arith
 get_within (y ∷ xs) (suc i) x e = let lt : i < length xs = get_within xs i x e in omega arith
 
 -- states that are held name classes that are there
-pub held_numbered : (classes : List ClassGraph) (rows : List spec.State) (states : List State) → AreHeld classes rows states
+pub held_numbered : (classes : List ClassGraph) (rows : List spec.State) (states : List State) → RepresentEach classes rows states
     → AreNumbered (length classes) states
 held_numbered classes [] [] h = tt
 held_numbered classes [] (state ∷ states) h = absurd h
 held_numbered classes (row ∷ rows) [] h = absurd h
 held_numbered classes (row ∷ rows) (state ∷ states) h = (one row state h.0, held_numbered classes rows states h.1)
   where
-    one : (row : spec.State) (state : State) → IsHeld classes row state → IsNumbered (length classes) state
+    one : (row : spec.State) (state : State) → Represents classes row state → IsNumbered (length classes) state
     one row (held.Moves ways) h = tt
     one row held.AnyUnit h = tt
     one (moves ways) (held.Class number) h = absurd h
@@ -262,8 +262,8 @@ made_end enc rules start now place live le states encoding made marks marked =
     made.builds.states ∙ ap (λ l. l ++ made.builds.more) states in record {
       enc = refl;
       states =
-          subst (AreHeld now.building.classes.list.items (automaton (terms_of (patterns_of rules)))) (sym all)
-          (refl, (refl, subst (λ l. AreHeld now.building.classes.list.items l made.builds.more) whole made.builds.held));
+          subst (RepresentEach now.building.classes.list.items (automaton (terms_of (patterns_of rules)))) (sym all)
+          (refl, (refl, subst (λ l. RepresentEach now.building.classes.list.items l made.builds.more) whole made.builds.held));
       classes = subst (λ n. AreClasses n now.building.classes.list.items) (made.builds.enc ∙ encoding) made.builds.sound;
       owners =
           sym (append-nil (seen_owners (seen_tags now.rules.items) now.owners.items))

@@ -14,7 +14,7 @@ loop-step-init c =
     let none = ap length c.new-operands.ensures.none in record {
       taken = record { after = no_operands; goes = ends; stands = c.new-operands.ensures.stands c.args.reader.room };
       order = subst (λ n. AreInOrder n (map (step_view (lexemes_view c.args.lexemes)) c.args.steps.now)) (sym none) c.requires.order;
-      honest = c.new-operands.ensures.honest (length c.new-operands.result.seen);
+      bounded = c.new-operands.ensures.bounded (length c.new-operands.result.seen);
     }
 
 pub take-requires-clause-needs : goal.take-requires-clause-needs
@@ -66,5 +66,5 @@ loop-step-preserved c =
         stands = more.stands;
       };
       order = subst (λ n. AreInOrder n (drop (suc place) (map view steps))) (sym c.in_ok-take.ensures.depth) order.1;
-      honest = c.in_ok-take.ensures.honest c.loop-step.invariant.honest;
+      bounded = c.in_ok-take.ensures.bounded c.loop-step.invariant.bounded;
     }

@@ -12,7 +12,7 @@ use Rattle.lx_rules.specs.Keeping.{IsHeadRead, StopsHead, room_behind}
 use Rattle.lx_exprs.specs.Seen.{definitions_view}
 use Rattle.lx_forms.specs.Seen.{lexemes_view}
 use Rattle.lx_rules.specs.declared.heads.Head.TheVariants as head
-use Rattle.lx_rules.proofs.HeadSteps.{StopsIn, context_waits, head_part, head_refused, plain_read}
+use Rattle.lx_rules.proofs.HeadSteps.{StopsIn, context_unsupported, head_part, head_refused, plain_read}
 use Rattle.lx_rules.proofs.heads.read_plain.Goals as goal
 
 pub read_expression-requires-clause-part : goal.read_expression-requires-clause-part
@@ -39,10 +39,10 @@ returns-in-Some-clause-read c = λ state holds.
     let last = c.unwrap_or.ensures ∙ ap (λ slash. unwrap_or slash c.args.until) c.in-Some.is in
     let read = subst (λ l. IsRead options lexemes definitions c.room.result c.args.head l c.in_ok-reading.reading) last c.in_ok-reading.ensures.read in
     let has = subst (λ slash. HasExpressions (sorts_at lexemes) (item.Rule c.args.head c.args.head slash c.args.until None None)) c.in-Some.is c.requires.expressions in
-    let waiting = context_waits options lexemes c.args.known.now state holds c.args.head c.in-Some.slash c.args.until c.requires.star c.requires.dollar has c.room.result c.in_ok-reading.reading read in
-    subst (λ slash. StopsHead options lexemes state c.args.head slash c.args.until c.waits.result) (sym c.in-Some.is)
+    let waiting = context_unsupported options lexemes c.args.known.now state holds c.args.head c.in-Some.slash c.args.until c.requires.star c.requires.dollar has c.room.result c.in_ok-reading.reading read in
+    subst (λ slash. StopsHead options lexemes state c.args.head slash c.args.until c.unsupported.result) (sym c.in-Some.is)
     (subst (λ stopped. StopsHead options lexemes state c.args.head (Some c.in-Some.slash) c.args.until stopped)
-    (ap (λ (l : Lexeme). stop.Fault (Unsupported (Some l.at))) (sym c.at.ensures) ∙ sym c.waits.ensures) waiting)
+    (ap (λ (l : Lexeme). stop.Fault (Unsupported (Some l.at))) (sym c.at.ensures) ∙ sym c.unsupported.ensures) waiting)
 
 pub returns-in-None-clause-read : goal.returns-in-None-clause-read
 returns-in-None-clause-read c = λ state holds.

@@ -44,5 +44,5 @@ returns-clause-taken c = λ state holds.
     define_taken c.args.block.options.now lexemes c.args.self.now state holds c.args.name c.args.from c.args.until _ given reading none read defined
     (subst (λ (l : Lexeme). definitions_view c.add.new.self ≡ definitions_view c.args.self.now.env.definitions ++ definition_view l.text given ∷ []) c.at-name.ensures c.in_ok-add.ensures.added)
     (c.in_ok-add.ensures.sound holds.sound
-    (c.in_ok-into_kept.ensures.kept (length reading.tags) c.in_ok-reading.ensures.honest))
+    (c.in_ok-into_kept.ensures.kept (length reading.tags) c.in_ok-reading.ensures.bounded))
     refl refl refl refl refl refl refl

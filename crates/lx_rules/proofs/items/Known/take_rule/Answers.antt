@@ -15,7 +15,7 @@ returns-clause-taken c = λ state holds.
     let heads = c.in_ok-read.ensures.read state holds in
     let rule = taken block.options.now block.lexemes.body.now block.lexemes.tokens.now known state holds c.args.head c.args.slash c.args.until c.args.code c.in_ok-read.read heads in
     let is = taken_new block.options.now block.lexemes.body.now block.lexemes.tokens.now known state holds c.args.head c.args.slash c.args.until c.args.code c.in_ok-read.read heads
-    c.requires.short c.if-block.false c.in_ok-read.ensures.fresh c.in_ok-read.ensures.honest in
+    c.requires.short c.if-block.false c.in_ok-read.ensures.fresh c.in_ok-read.ensures.bounded in
     let same : c.args.first ≡ c.args.head = c.if-first-head.false in
     let at = ap (λ (l : Lexeme). l.at) (ap (nth_lexeme (lexemes_view block.lexemes)) (sym same) ∙ sym c.at-opener.ensures) in
     let counted : c.len.result + 1 ≡ suc (length state.rules) = let acts = ap length holds.acts ∙ length-map state.rules (λ (r : RuleOf). r.act) in omega (arith, acts, c.len.ensures) in

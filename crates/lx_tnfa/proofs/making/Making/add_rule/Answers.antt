@@ -5,6 +5,7 @@ use Rattle.std.specs.Prelude.{replicate}
 use Rattle.lx_regex.specs.Automaton.{final}
 use Rattle.lx_regex.specs.Expr.{term_of}
 use Rattle.lx_regex.specs.Pattern.{is_end, pattern_of, sorts_of}
+use Rattle.lx_regex.specs.Term.{parts}
 use Rattle.lx_tnfa.specs.Making.{CanAdd}
 use Rattle.lx_tnfa.specs.declared.making.Making.{Making}
 use Rattle.lx_tnfa.proofs.Construction.RuleLists.{adds_end, adds_rule, is_rule, seen_push}
@@ -35,5 +36,11 @@ returns-in_ok-build-in-Plain c =
     on_ok_weaker c.push_owners.result
     (λ owners. adds_rule old new rule (is_rule rule.kind c.in-Plain.is)
     (seen_push old.rules.items c.push.new.self.items _ rule.number (sorts_of (pattern_of rule)) c.in_ok-push.ensures.items tags.number tags.many)
-    (owners ∙ ap (λ index. old.owners.items ++ replicate c.in_ok-shape-in-Plain.shape.parts (Some index)) index ∙ ap (λ n. old.owners.items ++ replicate n (Some (length old.rules.items))) count) begins states)
+    (owners ∙ ap (λ n. old.owners.items ++ replicate n (Some c.len-index.result)) count
+    ∙ ap (λ place. old.owners.items ++ replicate (parts (pattern_of rule).term) (Some place)) index) begins states)
     c.push_owners.ensures
+
+pub overflow_cast-owner : goal.overflow_cast-owner
+overflow_cast-owner c =
+    let can = subst (λ b. OnFalse b (CanAdd c.args.self.now c.args.rule.now)) (is_rule c.args.rule.now.kind c.in-Plain.is) c.requires.can in
+    omega (arith, can.rules, c.len-index.ensures)
