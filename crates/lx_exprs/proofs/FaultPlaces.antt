@@ -227,7 +227,7 @@ module _ (file : ℕ) where
         where
           by : (fault : Fault) → ExpressionChecks options lexemes definitions from until (Some fault) → StandsIn file fault
           by fault found =
-              let inside = form-file found.1 (drop-file lexemes from are) in
+              let inside = form-file found.1 (drop-file file lexemes from are) in
               (Checks-file false [] found.0 inside.0).finds fault found.2
 
       pub context-file : (from slash until : ℕ) → FindsIn (ContextChecks options lexemes definitions from slash until)
@@ -237,14 +237,14 @@ module _ (file : ℕ) where
           by fault found =
               let form = found.0 in
               let behind = found.1 in
-              let inside = form-file found.2 (drop-file lexemes from are) in
-              let inside_behind = form-file found.3 (drop-file lexemes (suc slash) are) in
+              let inside = form-file found.2 (drop-file file lexemes from are) in
+              let inside_behind = form-file found.3 (drop-file file lexemes (suc slash) are) in
               let some = form_some found.3 in
               let at_slash : slash < length lexemes = omega (arith, length-drop (suc slash) lexemes, some) in
               let Behind = Checks options definitions false (tags_of options definitions form) behind in
               let Slash = Then (Finds (unsupported (nth_lexeme lexemes slash))) Behind in
               let both =
               FindsIn-Then (Checks options definitions false [] form) Slash (Checks-file false [] form inside.0)
-              (then_unsupported Behind (nth_lexeme lexemes slash) (nth_lexeme-file lexemes slash are at_slash)
+              (then_unsupported Behind (nth_lexeme lexemes slash) (nth_lexeme-file file lexemes slash are at_slash)
               (Checks-file false (tags_of options definitions form) behind inside_behind.0)) in
               both.finds fault found.4

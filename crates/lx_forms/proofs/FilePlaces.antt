@@ -30,7 +30,7 @@ pub tokens_of-file : (body : List ℕ) (start : Pos) (tokens : List Token) → t
     → StandInFile start.file (lexemes_of body tokens)
 tokens_of-file body start tokens are = each-file body start tokens (tokens_stand body start tokens are).each_stands
 
-module _ {file : ℕ} where
+module _ (file : ℕ) where
   pub nth_lexeme-file : (lexemes : List Lexeme) (place : ℕ) → StandInFile file lexemes → place < length lexemes
       → (nth_lexeme lexemes place).at.file ≡ file
   nth_lexeme-file [] place are lt = absurd (omega arith)

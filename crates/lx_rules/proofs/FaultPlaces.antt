@@ -59,7 +59,7 @@ module _ (file : ℕ) where
 
   module _ (options : Options) (lexemes : List Lexeme) (are : StandInFile file lexemes) where
     at_in : (place : ℕ) → place < length lexemes → (nth_lexeme lexemes place).at.file ≡ file
-    at_in place lt = nth_lexeme-file lexemes place are lt
+    at_in place lt = nth_lexeme-file file lexemes place are lt
 
     list-file : (is_absent : Bool) (at : Pos) → at.file ≡ file → FindsIn file (ListChecks options lexemes is_absent at)
     list-file true at is = FindsIn-Finds file (unless (not options.conds) at) (unless-file (not options.conds) at is)

@@ -10,7 +10,7 @@ pub returns-in_err-value-clause-stands : goal.returns-in_err-value-clause-stands
 returns-in_err-value-clause-stands c operands are =
     let two = last_two c.args.reader.room operands.meanings c.args.self.now.values.items c.pop-right.new.self.values.items c.pop-left.new.self.values.items
     c.pop-left.result c.pop-right.result c.pop-right.ensures.values c.pop-left.ensures.values are.values in
-    let p = err_from_is_err_and c.from_residual-in_err-value.result c.from_residual-in_err-value.ensures.1 in
+    let p = err_from_is_err_and c.from_residual.result c.from_residual.ensures.1 in
     rw (p.1, p.2)
     (subtract_stops c.args.reader.options.now (definitions_view c.args.reader.definitions.now) c.args.reader.room operands.meanings c.args.is_operand
     (lexeme_view c.args.sign.now) c.pop-left.new.self.values.items c.pop-left.result c.pop-right.result c.in_err-value.field-0.0 two
