@@ -127,13 +127,7 @@ impl Known {
                 tags: MOST_TAGS,
             },
         };
-        let reading = read_expression(
-            alloc,
-            reader,
-            block.lexemes,
-            from as usize,
-            until as usize,
-        )?;
+        let reading = read_expression(alloc, reader, block.lexemes, from as usize, until as usize)?;
         let Reading { value, tags } = reading;
         let kept = Kept {
             at: name.at,
