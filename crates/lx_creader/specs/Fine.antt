@@ -1,6 +1,7 @@
 -- The rules of a valid piece, in groups that are tested together.
 use Rattle.std.specs.Prelude.{◌≡◌, ℕ, ◌<◌, ◌≤◌, ◌*◌, ◌^◌, ◌⊎◌, Bool, false, true, List, length, map, Option, Some, IfSome}
 use Rattle.std.specs.List.{AllByRecursion, list_any}
+use Rattle.lx_base.specs.declared.limits.TheConstants.{STATEMENT_LIMIT}
 use Rattle.lx_base.specs.Letters.{IsIdentifier}
 use Rattle.lx_base.specs.Names.{AreAllowed, AreDistinct, DoNotClash, Spellings}
 use Rattle.lx_ccode.specs.declared.piece.Stmt.{Stmt}
@@ -54,7 +55,7 @@ pub record KeepsHeadRules (piece : Piece) : Type 0 where
 -- the rules of blocks one by one
 pub record KeepsBlockRules (names : Spellings) (conds : List (List ℕ)) (blocks : List CodeBlock) : Type 0 where
   pub some : 0 < length blocks
-  pub countable : statement_count blocks ≤ 4_611_686_018_427_387_904
+  pub countable : statement_count blocks ≤ STATEMENT_LIMIT
   pub fine : AllByRecursion (IsFineBlock names conds (length blocks)) blocks
 
 -- the rules of refills, states and the context marker

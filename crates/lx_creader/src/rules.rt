@@ -209,18 +209,3 @@ pub(crate) fn kinds_in(blocks: &[CodeBlock]) -> Kinds
     }
     kinds
 }
-
-/// Whether there are at most 2^62 statements.
-pub(crate) fn are_countable(blocks: &[CodeBlock]) -> bool
-    ensures { IsTrue result ↔ (statement_count blocks.now ≤ 4611686018427387904) }
-{
-    let mut left: u64 = 4_611_686_018_427_387_904;
-    for block in blocks {
-        let count = block.stmts.as_slice().len() as u64;
-        if count > left {
-            return false;
-        }
-        left -= count;
-    }
-    true
-}

@@ -6,12 +6,12 @@ ghost use Rattle.lx_creader.specs.Fine.{HasUnit, KeepsBlockRules, KeepsHeadRules
 
 use crate::conds::{distinct_conds, keep_cond_rules};
 use crate::names::NameSet;
-use crate::rules::{Rules, are_countable, blocks_store_states, kinds_in, last_tries_after_state};
+use crate::rules::{Rules, blocks_store_states, kinds_in, last_tries_after_state};
 use crate::statements::{is_line, is_long, is_short};
 use crate::states::keep_state_rules;
 use lx_base::names::{are_allowed, do_not_clash};
 use lx_base::{Memory, Names, Sequence};
-use lx_ccode::{CodeBlock, Piece, StateCase};
+use lx_ccode::{CodeBlock, Piece, StateCase, count_statements};
 use std::alloc::Global;
 
 /// Whether a unit has one, two or four bytes, and the unit at the buffer's end is one.
@@ -70,7 +70,7 @@ fn keep_block_rules(names: &Names, conds: &NameSet, blocks: &[CodeBlock]) -> boo
         blocks: blocks.len(),
     };
     let some = !blocks.is_empty();
-    let countable = are_countable(blocks);
+    let countable = count_statements(blocks).is_some();
     let fine = rules.are_fine_blocks(blocks);
     some && countable && fine
 }

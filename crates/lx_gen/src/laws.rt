@@ -1,6 +1,7 @@
 //! What holds of laid-out pieces. Each law is the contract of a function that does nothing.
 ghost use Rattle.std.specs.Prelude.{◌≡◌, ℕ, ◌<◌, ◌≤◌, List, [], All, Option, Some, None, length, drop, false, true};
 ghost use Rattle.std.specs.List.{AllByRecursion, list_any};
+ghost use Rattle.lx_base.specs.declared.limits.TheConstants.{STATEMENT_LIMIT};
 ghost use Rattle.lx_auto.specs.Automaton.{AreOps, IsAuto};
 ghost use Rattle.lx_auto.specs.Bank.{Bank, bank_after};
 ghost use Rattle.lx_auto.specs.Run.{found_behind, start_with};
@@ -129,7 +130,7 @@ pub fn layouts_are_valid()
         → IsShort greatest → AreWritten spellings endings auto.states
         → code_of piece.blocks ≡ layout endings greatest auto 0 → IsUnconditional enc counted spellings piece
         → IsShort counted → AreAllowed spellings → DoNotClash spellings
-        → statement_count piece.blocks ≤ 4_611_686_018_427_387_904 → IsValid piece }
+        → statement_count piece.blocks ≤ STATEMENT_LIMIT → IsValid piece }
 {}
 
 /// A piece without conditions whose blocks are the layout of the automaton of its rules is a scanner of these rules, if none is `$`.
@@ -139,5 +140,5 @@ pub fn layouts_are_scanners()
         → AreShort texts → AreNamed spellings texts rules
         → code_of piece.blocks ≡ layout (endings_of rules texts) (greatest_unit enc) auto 0 → IsUnconditional enc counted spellings piece
         → IsShort counted → AreAllowed spellings → DoNotClash spellings
-        → statement_count piece.blocks ≤ 4_611_686_018_427_387_904 → IsScannerUnder policy enc counted spellings rules texts piece }
+        → statement_count piece.blocks ≤ STATEMENT_LIMIT → IsScannerUnder policy enc counted spellings rules texts piece }
 {}

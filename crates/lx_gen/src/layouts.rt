@@ -1,6 +1,7 @@
 //! The blocks of the scanner of an automaton.
 ghost use Rattle.std.specs.Prelude.{◌≡◌, ◌≤◌, ◌++◌, None, IfOk, OnOk};
 ghost use Rattle.std.specs.List.{AllByRecursion};
+ghost use Rattle.lx_base.specs.declared.limits.TheConstants.{STATEMENT_LIMIT};
 ghost use Rattle.lx_auto.specs.Automaton.{IsAuto};
 ghost use Rattle.lx_ccode.specs.Statements.{code_of, statement_count};
 ghost use Rattle.lx_ccode.specs.declared.piece.CodeBlock.{CodeBlock};
@@ -16,12 +17,9 @@ use crate::places::places_of;
 use crate::state_blocks::push_states;
 use lx_auto::Auto;
 use lx_base::{ByteText, Memory};
-use lx_ccode::CodeBlock;
+use lx_ccode::{CodeBlock, count_statements};
 use lx_regex::Rule;
 use std::alloc::Global;
-
-/// The greatest number of statements that a piece may have.
-const MOST_STATEMENTS: u64 = 4_611_686_018_427_387_904;
 
 /// Puts the blocks of the ends of rules behind others.
 fn push_endings(
@@ -40,17 +38,6 @@ fn push_endings(
         push_block(blocks, ending_code(alloc, rules, texts, first.accept)?)?;
     }
     Ok(())
-}
-
-/// How many statements blocks have. A number that has no 64 bits counts as want of memory.
-fn count_statements(blocks: &[CodeBlock]) -> Result<u64, Memory>
-    ensures { IfOk result (λ count. count ≡ statement_count blocks.now) }
-{
-    let mut count = 0;
-    for block in blocks {
-        count = sum(count, block.stmts.as_slice().len() as u64)?;
-    }
-    Ok(count)
 }
 
 /// All blocks of an automaton, however many there are.
@@ -88,10 +75,10 @@ pub(crate) fn blocks_of(
     requires told { AreTold (endings_of rules.now texts.now) auto.now.states }
     ensures code { IfOk result (λ blocks. code_of blocks.items ≡ layout (endings_of rules.now texts.now) greatest auto.now 0) }
     ensures labels { IfOk result (λ blocks. AllByRecursion (λ (block : CodeBlock). block.cond ≡ None) blocks.items) }
-    ensures few { IfOk result (λ blocks. statement_count blocks.items ≤ 4_611_686_018_427_387_904) }
+    ensures few { IfOk result (λ blocks. statement_count blocks.items ≤ STATEMENT_LIMIT) }
 {
     let blocks = all_blocks(alloc, greatest, rules, texts, auto)?;
-    if count_statements(&blocks)? > MOST_STATEMENTS {
+    if count_statements(&blocks).is_none() {
         return Err(Memory);
     }
     Ok(blocks)

@@ -1,6 +1,7 @@
 -- What holds of lexers, at first and after each match.
 use Rattle.std.proofs.Common.{◌≡◌, ◌∙◌, sym, ap, subst, refl, ℕ, ◌≤◌, ◌^◌, ◌⊎◌, Bool, true, List, [], length, is_some, Result, Ok, Err, IfOk, OnErr, arith}
 use Rattle.std.proofs.lemmas.List.{length-replicate}
+use Rattle.lx_base.specs.declared.limits.TheConstants.{STATEMENT_LIMIT}
 use Rattle.lx_base.specs.declared.lists.Memory.{Memory}
 use Rattle.lx_ccode.specs.declared.piece.Piece.{Piece}
 use Rattle.lx_ccode.specs.Runs.{Ended}
@@ -27,7 +28,7 @@ use Rattle.lx_step.proofs.Places.{length-places_from}
 use Rattle.lx_step.proofs.SlotLists.{offset_slots-in, history_slots-in, after_values-offset_in, after_values-history_in}
 
 pub IsSound-fresh : (program : Program) (scanner : Scanner) (given : Given) (room : ℕ) (sizes : Sizes) (numbering : Numbering) → program.statements ≡ statement_count program.piece.now.blocks
-    → statement_count program.piece.now.blocks ≤ 2 ^ 62 → (program.piece.now.unit ≡ 1) ⊎ ((program.piece.now.unit ≡ 2) ⊎ (program.piece.now.unit ≡ 4))
+    → statement_count program.piece.now.blocks ≤ STATEMENT_LIMIT → (program.piece.now.unit ≡ 1) ⊎ ((program.piece.now.unit ≡ 2) ⊎ (program.piece.now.unit ≡ 4))
     → sizes ≡ sizes_of_all numbering (all_statements program.piece.now.blocks) → scanner.numbering ≡ numbering → length scanner.registers.items ≡ sizes.registers → length scanner.histories ≡ sizes.histories
     → given ≡ nothing_given (all_statements program.piece.now.blocks) sizes.groups → program.statements ≤ room → IsSound program scanner given room
 IsSound-fresh program scanner given room sizes numbering count few unit s same registers histories g r =

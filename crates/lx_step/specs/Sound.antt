@@ -1,6 +1,7 @@
 -- What holds of the parts of each lexer.
-use Rattle.std.specs.Prelude.{◌≡◌, ◌≤◌, ◌^◌, ◌⊎◌, ℕ, List, is_some}
+use Rattle.std.specs.Prelude.{◌≡◌, ◌≤◌, ◌⊎◌, ℕ, List, is_some}
 use Rattle.std.specs.Prelude.{Result, Ok, Err}
+use Rattle.lx_base.specs.declared.limits.TheConstants.{STATEMENT_LIMIT}
 use Rattle.lx_base.specs.declared.lists.Memory.{Memory}
 use Rattle.lx_step.specs.declared.answers.Outcome.{Outcome}
 use Rattle.lx_step.specs.declared.answers.Outcome.TheVariants as outcome
@@ -15,7 +16,7 @@ use Rattle.lx_step.specs.Steps.{HasRoom}
 
 pub record IsSound (program : Program) (scanner : Scanner) (given : Given) (room : ℕ) : Type 0 where
   pub statements : program.statements ≡ statement_count program.piece.now.blocks
-  pub few : program.statements ≤ 2 ^ 62
+  pub few : program.statements ≤ STATEMENT_LIMIT
   pub unit : (program.piece.now.unit ≡ 1) ⊎ ((program.piece.now.unit ≡ 2) ⊎ (program.piece.now.unit ≡ 4))
   -- the tables have room for what the statements name
   pub tables : HasRoom (sizes_of_all scanner.numbering (all_statements program.piece.now.blocks)) scanner given

@@ -124,13 +124,6 @@ impl Slots {
     }
 }
 
-/// Whether two words are equal.
-pub(crate) fn same_words(word: &[u8], other: &[u8]) -> bool
-    ensures { result ≡ equal_words word.now other.now }
-{
-    word == other
-}
-
 /// The slots of tags that get an offset, each found without a look at all others. Contracts see them as a list.
 #[derive(Debug, Drop)]
 pub(crate) struct OffsetSlots {

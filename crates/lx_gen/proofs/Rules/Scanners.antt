@@ -1,6 +1,7 @@
 -- A piece whose blocks are the layout of the automaton of rules is a scanner of these rules.
 use Rattle.std.specs.Prelude.{◌≡◌, ℕ, zero, suc, ◌-◌, ◌<◌, ◌≤◌, List, None, Some, slice_get}
 use Rattle.std.proofs.Common.{sym, ap, ◌∙◌, subst, arith}
+use Rattle.lx_base.specs.declared.limits.TheConstants.{STATEMENT_LIMIT}
 use Rattle.lx_auto.specs.declared.automaton.Auto.{Auto}
 use Rattle.lx_base.specs.Names.{AreAllowed, DoNotClash, Spellings}
 use Rattle.lx_base.specs.Spelling.{greatest_unit}
@@ -65,7 +66,7 @@ module _ (policy : Policy) (enc : Enc) (counted : ℕ) (spellings : Spellings) (
     (short : AreShort texts) (named : AreNamed spellings texts rules)
     (same : code_of piece.blocks ≡ layout (endings_of rules texts) (greatest_unit enc) auto 0) (bare : IsUnconditional enc counted spellings piece)
     (number : IsShort counted) (allowed : AreAllowed spellings) (differ : DoNotClash spellings)
-    (few : statement_count piece.blocks ≤ 4611686018427387904) where
+    (few : statement_count piece.blocks ≤ STATEMENT_LIMIT) where
   written : AreWritten spellings (endings_of rules texts) auto.states
   written = rules_written spellings enc rules texts auto.states limits short named is.fits.rules
 

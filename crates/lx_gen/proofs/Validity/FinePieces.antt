@@ -3,6 +3,7 @@ use Rattle.std.specs.Prelude.{◌≡◌, ℕ, suc, ◌<◌, ◌≤◌, List, [],
 use Rattle.std.proofs.Common.{sym, ap, ◌∙◌, subst, arith}
 use Rattle.std.proofs.lemmas.Bool.{false≢true}
 use Rattle.std.specs.List.{AllByRecursion, list_any}
+use Rattle.lx_base.specs.declared.limits.TheConstants.{STATEMENT_LIMIT}
 use Rattle.lx_base.specs.Names.{Spellings}
 use Rattle.lx_ccode.specs.States.{states_from, states_in}
 use Rattle.lx_ccode.specs.Statements.{all_statements, code_of, is_need, is_state, statement_count}
@@ -39,7 +40,7 @@ module _ (names : Spellings) where
   -- ---- one statement
 
   -- the blocks aside, and there are few of them
-  HasSpelling-fine : (count : ℕ) (statement : Stmt) → count ≤ 4611686018427387904 → IsFine names statement → JumpsBelow count statement
+  HasSpelling-fine : (count : ℕ) (statement : Stmt) → count ≤ STATEMENT_LIMIT → IsFine names statement → JumpsBelow count statement
       → HasSpelling names statement
   HasSpelling-fine count Peek small fine below = tt
   HasSpelling-fine count Skip small fine below = tt
@@ -135,13 +136,13 @@ module _ (names : Spellings) where
   pub no_need : (blocks : List CodeBlock) → FineBlocks blocks → list_any is_need (all_statements blocks) ≡ false
   no_need blocks fine = no_need-fine (all_statements blocks) (all_fine blocks fine)
 
-  EachHasSpelling-fine : (count : ℕ) (code : List Stmt) → count ≤ 4611686018427387904 → Fine names code
+  EachHasSpelling-fine : (count : ℕ) (code : List Stmt) → count ≤ STATEMENT_LIMIT → Fine names code
       → AllByRecursion (JumpsBelow count) code → EachHasSpelling names code
   EachHasSpelling-fine count [] small fine below = tt
   EachHasSpelling-fine count (statement ∷ code) small fine below =
       (HasSpelling-fine count statement small fine.0 below.0, EachHasSpelling-fine count code small fine.1 below.1)
 
-  pub blocks_spelled : (count : ℕ) (blocks : List CodeBlock) → count ≤ 4611686018427387904 → FineBlocks blocks → NoLabels blocks
+  pub blocks_spelled : (count : ℕ) (blocks : List CodeBlock) → count ≤ STATEMENT_LIMIT → FineBlocks blocks → NoLabels blocks
       → AllByRecursion (λ (block : CodeBlock). ends_once block.stmts ≡ true) blocks
       → AllByRecursion (JumpsBelow count) (all_statements blocks) → EachBlockHasSpelling names blocks
   blocks_spelled count [] small fine none ends below = tt

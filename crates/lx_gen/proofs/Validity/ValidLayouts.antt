@@ -4,6 +4,7 @@ use Rattle.std.proofs.Common.{inl, inr, sym, ap, ◌∙◌, subst, arith}
 use Rattle.std.proofs.lemmas.Bool.{false≢true}
 use Rattle.std.proofs.lemmas.List.{length-map}
 use Rattle.std.specs.List.{AllByRecursion, list_any}
+use Rattle.lx_base.specs.declared.limits.TheConstants.{STATEMENT_LIMIT}
 use Rattle.lx_auto.specs.Automaton.{IsAuto}
 use Rattle.lx_auto.specs.declared.automaton.Auto.{Auto}
 use Rattle.lx_auto.specs.declared.automaton.Edge.{Edge}
@@ -42,7 +43,7 @@ module _ (enc : Enc) (counted : ℕ) (spellings : Spellings) (endings : ℕ → 
     (short : IsShort greatest) (written : AreWritten spellings endings auto.states)
     (same : code_of piece.blocks ≡ layout endings greatest auto 0) (bare : IsUnconditional enc counted spellings piece)
     (number : IsShort counted) (allowed : AreAllowed spellings) (differ : DoNotClash spellings)
-    (few : statement_count piece.blocks ≤ 4611686018427387904) where
+    (few : statement_count piece.blocks ≤ STATEMENT_LIMIT) where
   pub blocks_fine : FineBlocks spellings piece.blocks
   blocks_fine = FineBlocks-codes spellings piece.blocks
       (subst (λ l. AllByRecursion (Fine spellings) l) (sym same) (layout_fine spellings endings greatest auto 0 short formed units written))
@@ -63,7 +64,7 @@ module _ (enc : Enc) (counted : ℕ) (spellings : Spellings) (endings : ℕ → 
       ∙ length-map piece.blocks (λ (block : CodeBlock). block.stmts) in
       omega (arith, count, e)
 
-  few_blocks : length piece.blocks ≤ 4611686018427387904
+  few_blocks : length piece.blocks ≤ STATEMENT_LIMIT
   few_blocks = let h : length piece.blocks ≤ statement_count piece.blocks = blocks-few piece.blocks ends in omega (arith, h, few)
 
   no_labels : labels piece.blocks ≡ []
