@@ -36,13 +36,13 @@ pub record CanBeEmitted (enc : Enc) (acts : List Act) (scanner : Scanner) : Type
   pub named : AreNamed usual_names (actions_of acts) scanner.set.rules
 
 -- what a block resolves to can be emitted: it is within the limits of scanners, and has at most one scanner
-pub record IsReady (enc : Enc) (resolved : Resolved) : Type 0 where
+pub record IsEmittable (enc : Enc) (resolved : Resolved) : Type 0 where
   pub fine : IsFine resolved
   pub supported : AreSupported resolved
   pub names : resolved.config.names ≡ usual_names
   pub one : length resolved.scanners ≤ 1
   pub scanners : AllByRecursion (CanBeEmitted enc resolved.acts) resolved.scanners
 
-abbrev pub IsReadyPart : Enc → Part → Type 0
-IsReadyPart enc (Outside text) = Unit {0}
-IsReadyPart enc (Block at resolved) = IsReady enc resolved
+abbrev pub IsEmittablePart : Enc → Part → Type 0
+IsEmittablePart enc (Outside text) = Unit {0}
+IsEmittablePart enc (Block at resolved) = IsEmittable enc resolved

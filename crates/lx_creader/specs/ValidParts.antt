@@ -12,22 +12,22 @@ use Rattle.lx_ccode.specs.Statements.{all_statements, has_register_one, is_need,
 use Rattle.lx_ccode.specs.Validity.{HasFewGroups, HasSpelling, IsLabel, IsLine, IsLong, IsShort, JumpsBelow, NamesOneOf, ends_once, label_of, labels, last_statements, refills_after_states, states_before_refills, tries_after_state}
 
 -- the statement keeps the rules in a piece with these spellings, these conditions and so many blocks
-pub record IsFineStatement (names : Spellings) (conds : List (List ℕ)) (blocks : ℕ) (statement : Stmt) : Type 0 where
+pub record IsValidStatement (names : Spellings) (conds : List (List ℕ)) (blocks : ℕ) (statement : Stmt) : Type 0 where
   pub jumps : JumpsBelow blocks statement
   pub named : NamesOneOf conds statement
   pub groups : HasFewGroups statement
   pub spelled : HasSpelling names statement
 
 -- the block keeps the rules
-pub record IsFineBlock (names : Spellings) (conds : List (List ℕ)) (blocks : ℕ) (block : CodeBlock) : Type 0 where
+pub record IsValidBlock (names : Spellings) (conds : List (List ℕ)) (blocks : ℕ) (block : CodeBlock) : Type 0 where
   pub some : 0 < length block.stmts
   pub label : IsLabel block.cond
   pub ends : ends_once block.stmts ≡ true
   pub after_states : refills_after_states block.stmts ≡ true
-  pub statements : AllByRecursion (IsFineStatement names conds blocks) block.stmts
+  pub statements : AllByRecursion (IsValidStatement names conds blocks) block.stmts
 
 -- the case of a condition is an identifier and goes to the block that is its start
-pub record IsFineCond (blocks : List CodeBlock) (case : CondCase) : Type 0 where
+pub record IsValidCase (blocks : List CodeBlock) (case : CondCase) : Type 0 where
   pub identifier : IsIdentifier case.cond
   pub long : IsLong case.block
   pub start : label_of blocks case.block ≡ Some case.cond
@@ -36,7 +36,7 @@ pub record IsFineCond (blocks : List CodeBlock) (case : CondCase) : Type 0 where
 pub record KeepCondRules (blocks : List CodeBlock) (conds : List CondCase) : Type 0 where
   pub labels : map (λ case. case.cond) conds ≡ labels blocks
   pub differ : AreDistinct (map (λ case. case.cond) conds)
-  pub fine : AllByRecursion (IsFineCond blocks) conds
+  pub valid : AllByRecursion (IsValidCase blocks) conds
 
 -- a unit has one, two or four bytes, and the unit at the buffer's end is one
 pub record HasUnit (unit : ℕ) (eof : Option ℕ) : Type 0 where
@@ -56,7 +56,7 @@ pub record KeepsHeadRules (piece : Piece) : Type 0 where
 pub record KeepsBlockRules (names : Spellings) (conds : List (List ℕ)) (blocks : List CodeBlock) : Type 0 where
   pub some : 0 < length blocks
   pub countable : statement_count blocks ≤ STATEMENT_LIMIT
-  pub fine : AllByRecursion (IsFineBlock names conds (length blocks)) blocks
+  pub valid : AllByRecursion (IsValidBlock names conds (length blocks)) blocks
 
 -- the rules of refills, states and the context marker
 pub record KeepsKindRules (ctx : Bool) (blocks : List CodeBlock) : Type 0 where

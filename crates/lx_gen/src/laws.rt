@@ -29,7 +29,7 @@ ghost use Rattle.lx_gen.specs.Layout.{StandsFrom, layout};
 ghost use Rattle.lx_gen.specs.Right.{AreEndsOf, IsRightUnder, IsSetBy};
 ghost use Rattle.lx_gen.specs.Rules.{AreSimple, endings_of};
 ghost use Rattle.lx_gen.specs.Scanner.{AreNamed, AreShort, IsScannerUnder};
-ghost use Rattle.lx_gen.specs.Sequences.{one_by_one};
+ghost use Rattle.lx_gen.specs.ParallelCopies.{sequentialized};
 ghost use Rattle.lx_gen.specs.Serving.{Serves};
 ghost use Rattle.lx_gen.specs.Starts.{run_with};
 ghost use Rattle.lx_gen.specs.Stops.{Stops, bank_from, last_standing, told_found};
@@ -105,9 +105,9 @@ pub fn actions_stand_once()
 /// Operations one by one do to all registers but the spares what the list does at once.
 pub fn sequences_act_at_once()
     ensures registers { (regs mregs offset : ℕ) (ops : List Op) (bank : Bank) (reg : ℕ) → AreOps regs mregs ops → reg < regs
-        → (after_ops offset (one_by_one regs mregs ops) bank).regs reg ≡ (bank_after offset ops bank).regs reg }
+        → (after_ops offset (sequentialized regs mregs ops) bank).regs reg ≡ (bank_after offset ops bank).regs reg }
     ensures histories { (regs mregs offset : ℕ) (ops : List Op) (bank : Bank) (mreg : ℕ) → AreOps regs mregs ops → mreg < mregs
-        → (after_ops offset (one_by_one regs mregs ops) bank).mregs mreg ≡ (bank_after offset ops bank).mregs mreg }
+        → (after_ops offset (sequentialized regs mregs ops) bank).mregs mreg ≡ (bank_after offset ops bank).mregs mreg }
 {}
 
 /// Rules of which none is `$` have the ends that the law of layouts asks for, whatever their actions are: where they are within the

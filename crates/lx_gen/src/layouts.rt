@@ -6,23 +6,23 @@ ghost use Rattle.lx_auto.specs.Automaton.{IsAuto};
 ghost use Rattle.lx_ccode.specs.Statements.{code_of, statement_count};
 ghost use Rattle.lx_ccode.specs.declared.piece.CodeBlock.{CodeBlock};
 ghost use Rattle.lx_gen.specs.Layout.{accepts_of, ending_blocks, layout};
-ghost use Rattle.lx_gen.specs.Plans.{AreEnds, AreTold, unlabelled};
+ghost use Rattle.lx_gen.specs.Plans.{AreEnds, HaveEndings, unlabelled};
 ghost use Rattle.lx_gen.specs.Rules.{endings_of};
 
-use crate::blocks::{push_block, sum};
+use crate::blocks::{append_block, sum};
 use crate::endings::ending_code;
 use crate::ends::Ends;
-use crate::fallback::push_fallback;
+use crate::fallback::append_fallback;
 use crate::places::places_of;
-use crate::state_blocks::push_states;
+use crate::state_blocks::append_states;
 use lx_auto::Auto;
 use lx_base::{ByteText, Memory};
 use lx_ccode::{CodeBlock, count_statements};
 use lx_regex::Rule;
 use std::alloc::Global;
 
-/// Puts the blocks of the ends of rules behind others.
-fn push_endings(
+/// Appends the blocks of the ends of rules.
+fn append_endings(
     alloc: Global,
     blocks: &mut Vec<CodeBlock>,
     rules: &[Rule],
@@ -30,12 +30,12 @@ fn push_endings(
     ends: &Ends<'_>,
 ) -> Result<(), Memory>
     requires ends { AreEnds ends.now }
-    requires told { AreTold (endings_of rules.now texts.now) ends.now.auto.now.states }
+    requires told { HaveEndings (endings_of rules.now texts.now) ends.now.auto.now.states }
     ensures { OnOk result (blocks.new.items
         ≡ blocks.old.items ++ unlabelled (ending_blocks (endings_of rules.now texts.now) (accepts_of ends.now.auto.now.states))) }
 {
     for first in &ends.accepts.list {
-        push_block(blocks, ending_code(alloc, rules, texts, first.accept)?)?;
+        append_block(blocks, ending_code(alloc, rules, texts, first.accept)?)?;
     }
     Ok(())
 }
@@ -49,14 +49,14 @@ fn all_blocks(
     auto: &Auto,
 ) -> Result<Vec<CodeBlock>, Memory>
     requires formed { IsAuto auto.now }
-    requires told { AreTold (endings_of rules.now texts.now) auto.now.states }
+    requires told { HaveEndings (endings_of rules.now texts.now) auto.now.states }
     ensures { IfOk result (λ blocks. blocks.items ≡ unlabelled (layout (endings_of rules.now texts.now) greatest auto.now 0)) }
 {
     let places = places_of(alloc, greatest, auto)?;
     let mut blocks = Vec::new(alloc);
-    push_states(alloc, &mut blocks, &places)?;
-    push_fallback(alloc, &mut blocks, &places.ends)?;
-    push_endings(alloc, &mut blocks, rules, texts, &places.ends)?;
+    append_states(alloc, &mut blocks, &places)?;
+    append_fallback(alloc, &mut blocks, &places.ends)?;
+    append_endings(alloc, &mut blocks, rules, texts, &places.ends)?;
     Ok(blocks)
 }
 
@@ -72,7 +72,7 @@ pub(crate) fn blocks_of(
     auto: &Auto,
 ) -> Result<Vec<CodeBlock>, Memory>
     requires formed { IsAuto auto.now }
-    requires told { AreTold (endings_of rules.now texts.now) auto.now.states }
+    requires told { HaveEndings (endings_of rules.now texts.now) auto.now.states }
     ensures code { IfOk result (λ blocks. code_of blocks.items ≡ layout (endings_of rules.now texts.now) greatest auto.now 0) }
     ensures labels { IfOk result (λ blocks. AllByRecursion (λ (block : CodeBlock). block.cond ≡ None) blocks.items) }
     ensures few { IfOk result (λ blocks. statement_count blocks.items ≤ STATEMENT_LIMIT) }

@@ -14,7 +14,7 @@ use Rattle.lx_step.specs.Places.{AreRoomy}
 use Rattle.lx_step.specs.Sizes.{sizes_of_all}
 use Rattle.lx_step.specs.Steps.{HasRoom}
 
-pub record IsSound (program : Program) (scanner : Scanner) (given : Given) (room : ℕ) : Type 0 where
+pub record IsLexerOf (program : Program) (scanner : Scanner) (given : Given) (room : ℕ) : Type 0 where
   pub statements : program.statements ≡ statement_count program.piece.now.blocks
   pub few : program.statements ≤ STATEMENT_LIMIT
   pub unit : (program.piece.now.unit ≡ 1) ⊎ ((program.piece.now.unit ≡ 2) ⊎ (program.piece.now.unit ≡ 4))

@@ -6,7 +6,7 @@ ghost use Rattle.lx_ccode.specs.Statements.{all_statements, statement_count};
 ghost use Rattle.lx_ccode.specs.Validity.{IsValid};
 ghost use Rattle.lx_step.specs.Given.{gives_history, gives_offset, history_in, offset_in};
 ghost use Rattle.lx_step.specs.Held.{IsMatch, cond_of, first_cond, fresh};
-ghost use Rattle.lx_step.specs.Sound.{told};
+ghost use Rattle.lx_step.specs.LexerParts.{told};
 ghost use Rattle.lx_step.specs.Streams.{stream_units};
 
 use crate::answers::{Group, Outcome, StmtAt};
@@ -43,7 +43,7 @@ impl<'p> Model for Lexer<'p> {
 
     ghost Value = { Held };
 
-    ghost use Rattle.lx_step.specs.Sound.{IsSound};
+    ghost use Rattle.lx_step.specs.LexerParts.{IsLexerOf};
 
     ghost view = { λ lexer. record {
       piece = lexer.program.piece.now;
@@ -55,7 +55,7 @@ impl<'p> Model for Lexer<'p> {
       assigned = lexer.assigned.keys;
     } };
 
-    ghost invariant = { λ lexer. IsSound lexer.program lexer.scanner lexer.slots (room_of lexer.assigned) };
+    ghost invariant = { λ lexer. IsLexerOf lexer.program lexer.scanner lexer.slots (room_of lexer.assigned) };
 }
 
 impl<'p> Lexer<'p> {

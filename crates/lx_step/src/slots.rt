@@ -170,7 +170,7 @@ impl OffsetSlots {
         }
     }
 
-    /// Puts a slot for a tag behind the others, unless it has one.
+    /// Appends a slot for a tag to the others, unless it has one.
     fn add(&mut self, alloc: Global, name: &[u8]) -> Result<(), Memory>
         ensures { OnOk result (self.new ≡ onto_offsets name.now self.old) }
     {
@@ -259,7 +259,7 @@ impl HistorySlots {
         }
     }
 
-    /// Puts a slot for a tag behind the others, unless it has one.
+    /// Appends a slot for a tag to the others, unless it has one.
     fn add(&mut self, alloc: Global, name: &[u8]) -> Result<(), Memory>
         ensures { OnOk result (self.new ≡ onto_histories name.now self.old) }
     {

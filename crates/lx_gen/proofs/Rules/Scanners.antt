@@ -27,8 +27,8 @@ use Rattle.lx_gen.specs.Scanner.{AreNamed, AreShort, IsScannerUnder}
 use Rattle.lx_gen.specs.Written.{AreWritten, IsUnconditional}
 use Rattle.lx_gen.proofs.Validity.ActionCounts.{actions_once, actions_own}
 use Rattle.lx_gen.proofs.Validity.EachElement.{each-both}
-use Rattle.lx_gen.proofs.Validity.FineCodes.{IsFine}
-use Rattle.lx_gen.proofs.Validity.FinePieces.{all_fine}
+use Rattle.lx_gen.proofs.Validity.SpelledCodes.{CanBeSpelled}
+use Rattle.lx_gen.proofs.Validity.SpelledPieces.{all_fine}
 use Rattle.lx_gen.proofs.Validity.LayoutLaws.{layout_right}
 use Rattle.lx_gen.proofs.Validity.QuietCodes.{layout_asks_nothing}
 use Rattle.lx_gen.proofs.Rules.RuleEndings.{endings-action, endings-no_line, limited_ends}
@@ -53,7 +53,7 @@ text_at texts (suc place) action e =
 
 -- an action that is its rule's own is the rule's text
 HasAction-own : (names : Spellings) (rules : List Rule) (texts : List (List ℕ)) (statement : Stmt) → IsOwnAction (endings_of rules texts) statement
-    → IsFine names statement → HasAction texts statement
+    → CanBeSpelled names statement → HasAction texts statement
 HasAction-own names rules texts (Code number line action) own fine =
     let at : (0 < number) × (slice_get texts (number - 1) ≡ Some action) =
     text_at texts number action (endings-action rules texts number action own.0) in
@@ -81,7 +81,7 @@ module _ (policy : Policy) (enc : Enc) (counted : ℕ) (spellings : Spellings) (
         fields = bare;
         no_refill = quiet.0;
         no_state = quiet.1;
-        actions = each-both (IsOwnAction endings) (IsFine spellings) (HasAction texts) (HasAction-own spellings rules texts)
+        actions = each-both (IsOwnAction endings) (CanBeSpelled spellings) (HasAction texts) (HasAction-own spellings rules texts)
             (all_statements piece.blocks) (actions_own endings greatest auto 0 piece.blocks same)
             (all_fine spellings piece.blocks (blocks_fine enc counted spellings endings greatest auto piece is.fits.formed is.fits.units
             (greatest_unit-short enc) written same bare number allowed differ few));

@@ -18,7 +18,7 @@ use Rattle.lx_gen.specs.Ways.{Split, Stretch, before, edge_split, first_way, has
 use Rattle.lx_gen.specs.Written.{AcceptIsWritten, AreWritten, IsWrittenAccept}
 use Rattle.lx_gen.proofs.BlockLayouts.BalancedTrees.{EachTest, each-balanced}
 use Rattle.lx_gen.proofs.Validity.EachElement.{each-append, each-map}
-use Rattle.lx_gen.proofs.Validity.FineCodes.{ChoicesShort, Fine, accept_fine, choices_fine, edge_fine, ending_fine, front_fine}
+use Rattle.lx_gen.proofs.Validity.SpelledCodes.{ChoicesShort, CodeCanBeSpelled, accept_fine, choices_fine, edge_fine, ending_fine, front_fine}
 use Rattle.lx_gen.proofs.BlockLayouts.FirstAccepts.{Chosen, each-firsts, length-firsts, rule_place-within}
 use Rattle.lx_gen.proofs.Rules.RuleEndings.{each-All}
 use Rattle.lx_gen.proofs.BlockLayouts.TreeCodes.{each-numbered}
@@ -110,23 +110,23 @@ kept_number-short kepts (Some accept) few = let h = rule_place-within kepts acce
 module _ (names : Spellings) where
   module _ (greatest : ℕ) (auto : Auto) (rules : ℕ → ℕ) (fall : ℕ) (few : auto.regs ≤ 1073741824) (few_mregs : auto.mregs ≤ 1073741824) where
     own_blocks-fine : (block : ℕ) (ops : List Op) → AreOps auto.regs auto.mregs ops
-        → AllByRecursion (Fine names) (own_blocks greatest auto rules fall block ops)
+        → AllByRecursion (CodeCanBeSpelled names) (own_blocks greatest auto rules fall block ops)
     own_blocks-fine block [] are = tt
     own_blocks-fine block (op ∷ ops) are = (accept_fine names auto few few_mregs (op ∷ ops) block are, tt)
 
-    end_blocks-fine : (o : Option Accept) → IsAccept auto.regs auto.mregs o → AllByRecursion (Fine names) (end_blocks greatest auto rules fall o)
+    end_blocks-fine : (o : Option Accept) → IsAccept auto.regs auto.mregs o → AllByRecursion (CodeCanBeSpelled names) (end_blocks greatest auto rules fall o)
     end_blocks-fine None is = tt
     end_blocks-fine (Some accept) is = own_blocks-fine (rules accept.rule) accept.ops is.0
 
     lone_blocks-fine : (number : ℕ) (o : Option Accept) → IsAccept auto.regs auto.mregs o
-        → AllByRecursion (Fine names) (lone_blocks greatest auto rules fall number o)
+        → AllByRecursion (CodeCanBeSpelled names) (lone_blocks greatest auto rules fall number o)
     lone_blocks-fine zero None is = ((tt, tt), tt)
     lone_blocks-fine zero (Some accept) is = (accept_fine names auto few few_mregs accept.ops (rules accept.rule) is.0, tt)
     lone_blocks-fine (suc number) o is = end_blocks-fine o is
 
     module _ (kepts : List Accept) (place : ℕ → ℕ) (short : IsShort greatest) (few_kepts : length kepts < 4294967295) where
       way_blocks-fine : (state : State) (ways : List Edge) → AreOps auto.regs auto.mregs state.leave → HaveOps auto.regs auto.mregs ways
-          → AllByRecursion (Fine names) (way_blocks greatest auto rules fall kepts place state ways)
+          → AllByRecursion (CodeCanBeSpelled names) (way_blocks greatest auto rules fall kepts place state ways)
       way_blocks-fine state [] leave h = tt
       way_blocks-fine state (way ∷ ways) leave h = (
         edge_fine names auto few few_mregs state (kept_number kepts state.accept) way (place way.to) (kept_number-short kepts state.accept few_kepts)
@@ -136,7 +136,7 @@ module _ (names : Spellings) where
 
       state_fine : (number from : ℕ) (state : State) (edges : List Edge) → AreOps auto.regs auto.mregs state.leave
           → HaveOps auto.regs auto.mregs edges → EdgesShort edges → IsAccept auto.regs auto.mregs state.accept
-          → AllByRecursion (Fine names) (blocks_by greatest auto rules fall kepts place number from state edges)
+          → AllByRecursion (CodeCanBeSpelled names) (blocks_by greatest auto rules fall kepts place number from state edges)
       state_fine number from state [] leave ops units is = lone_blocks-fine number state.accept is
       state_fine number from state (edge ∷ edges) leave ops units is =
           let ways : List Edge = ways_of (edge ∷ edges) in
@@ -144,19 +144,19 @@ module _ (names : Spellings) where
           let own : ℕ = from + front_size (edge_tree greatest (edge ∷ edges)) + length (ways_of (edge ∷ edges)) in
           let end : ℕ = end_block greatest auto rules fall own state.accept in
           let tree : TestTree ℕ = numbered first end (edge_tree greatest (edge ∷ edges)) in
-          each-append (Fine names) (front_blocks from tree)
+          each-append (CodeCanBeSpelled names) (front_blocks from tree)
           (way_blocks greatest auto rules fall kepts place state ways ++ end_blocks greatest auto rules fall state.accept)
           (front_fine names from tree (each-numbered first end IsShort (λ way. Unit {0}) (λ block. Unit {0}) (λ way any. tt)
           (edge_tree greatest (edge ∷ edges)) (edge_tree-short greatest (edge ∷ edges) units)))
-          (each-append (Fine names) (way_blocks greatest auto rules fall kepts place state ways) (end_blocks greatest auto rules fall state.accept)
+          (each-append (CodeCanBeSpelled names) (way_blocks greatest auto rules fall kepts place state ways) (end_blocks greatest auto rules fall state.accept)
           (way_blocks-fine state ways leave (HaveOps-onto auto.regs auto.mregs (edge ∷ edges) [] tt ops)) (end_blocks-fine state.accept is))
 
       states_fine : (count number from : ℕ) (states : List State) → AreStates auto.regs auto.mregs count states
           → AllByRecursion (λ (state : State). All (λ (edge : Edge). edge.hi ≤ greatest) state.edges) states
-          → AllByRecursion (Fine names) (states_blocks greatest auto rules fall kepts place number from states)
+          → AllByRecursion (CodeCanBeSpelled names) (states_blocks greatest auto rules fall kepts place number from states)
       states_fine count number from [] are units = tt
       states_fine count number from (state ∷ states) are units =
-          each-append (Fine names) (blocks_by greatest auto rules fall kepts place number from state state.edges)
+          each-append (CodeCanBeSpelled names) (blocks_by greatest auto rules fall kepts place number from state state.edges)
           (states_blocks greatest auto rules fall kepts place (suc number) (from + state_size greatest number state) states)
           (state_fine number from state state.edges are.0.leave (HaveOps-lead auto.regs auto.mregs count state.edges are.0.lead)
           (EdgesShort-apart greatest 0 state.edges short are.0.apart (each-All (λ (edge : Edge). edge.hi ≤ greatest) state.edges units.0))
@@ -170,7 +170,7 @@ module _ (names : Spellings) where
   choices-short kept block (accept ∷ kepts) fit =
       (omega (arith, fit), choices-short (suc kept) (suc block) kepts (omega (arith, fit)))
 
-  restore_blocks-fine : (rules : ℕ → ℕ) (kepts : List Accept) → AllByRecursion (Fine names) (restore_blocks rules kepts)
+  restore_blocks-fine : (rules : ℕ → ℕ) (kepts : List Accept) → AllByRecursion (CodeCanBeSpelled names) (restore_blocks rules kepts)
   restore_blocks-fine rules [] = tt
   restore_blocks-fine rules (accept ∷ kepts) = ((tt, (tt, tt)), restore_blocks-fine rules kepts)
 
@@ -192,7 +192,7 @@ module _ (names : Spellings) where
         by (Some accept) written is = (written, is.1)
 
     ending_blocks-fine : (accepts : List Accept) → auto.regs ≤ 1073741824 → auto.mregs ≤ 1073741824 → AllByRecursion EndIsWritten accepts
-        → AllByRecursion (Fine names) (ending_blocks endings accepts)
+        → AllByRecursion (CodeCanBeSpelled names) (ending_blocks endings accepts)
     ending_blocks-fine [] few few_mregs h = tt
     ending_blocks-fine (accept ∷ accepts) few few_mregs h =
         (ending_fine names auto.regs auto.mregs few few_mregs endings accept h.0.0 h.0.1, ending_blocks-fine accepts few few_mregs h.1)
@@ -201,7 +201,7 @@ module _ (names : Spellings) where
 
   pub layout_fine : (endings : ℕ → Ending) (greatest : ℕ) (auto : Auto) (from : ℕ) → IsShort greatest → IsAuto auto
       → All (λ (state : State). All (λ (edge : Edge). edge.hi ≤ greatest) state.edges) auto.states → AreWritten names endings auto.states
-      → AllByRecursion (Fine names) (layout endings greatest auto from)
+      → AllByRecursion (CodeCanBeSpelled names) (layout endings greatest auto from)
   layout_fine endings greatest auto from short formed units written =
       let rules : ℕ → ℕ = rule_block greatest auto from in
       let fall : ℕ = fall_block greatest auto from in
@@ -212,13 +212,13 @@ module _ (names : Spellings) where
       let few_kepts : length (kept_of auto.states) < 4294967295 = omega (arith, few, more) in
       let ends = each-firsts (EndIsWritten endings auto) (λ state. state.accept) [] auto.states tt
       (ends_written endings auto (length auto.states) auto.states written formed.states) in
-      each-append (Fine names) (states_blocks greatest auto rules fall kepts place 0 from auto.states)
+      each-append (CodeCanBeSpelled names) (states_blocks greatest auto rules fall kepts place 0 from auto.states)
       (choices_code (choices_from 1 (suc fall) kepts) ∷ (restore_blocks rules kepts ++ ending_blocks endings (accepts_of auto.states)))
       (states_fine greatest auto rules fall formed.few_regs formed.few_mregs kepts place short few_kepts (length auto.states) 0 from auto.states
       formed.states
       (each-All (λ (state : State). All (λ (edge : Edge). edge.hi ≤ greatest) state.edges) auto.states units)) (
         choices_fine names (choices_from 1 (suc fall) kepts) (choices-short 1 (suc fall) kepts (omega (arith, few_kepts))),
-        each-append (Fine names) (restore_blocks rules kepts) (ending_blocks endings (accepts_of auto.states))
+        each-append (CodeCanBeSpelled names) (restore_blocks rules kepts) (ending_blocks endings (accepts_of auto.states))
             (restore_blocks-fine rules kepts)
             (ending_blocks-fine endings auto (accepts_of auto.states) formed.few_regs formed.few_mregs ends),
       )

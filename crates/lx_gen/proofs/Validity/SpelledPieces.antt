@@ -13,7 +13,7 @@ use Rattle.lx_ccode.specs.declared.piece.StateCase.{StateCase}
 use Rattle.lx_ccode.specs.declared.piece.Stmt.{Stmt}
 use Rattle.lx_ccode.specs.declared.piece.Stmt.TheVariants.{Accept, Back, Backup, Code, Cond, Copy, Count, End, Goto, IfAccept, IfUnit, Jump, Leave, MCopy, MSet, MUnset, Need, Peek, Restore, Set, Skip, State, Tag, Unset}
 use Rattle.lx_gen.proofs.Validity.EachElement.{each-append, each-back, each-front}
-use Rattle.lx_gen.proofs.Validity.FineCodes.{Fine, IsFine}
+use Rattle.lx_gen.proofs.Validity.SpelledCodes.{CodeCanBeSpelled, CanBeSpelled}
 
 -- ---- how many blocks there are
 
@@ -40,7 +40,7 @@ module _ (names : Spellings) where
   -- ---- one statement
 
   -- the blocks aside, and there are few of them
-  HasSpelling-fine : (count : ℕ) (statement : Stmt) → count ≤ STATEMENT_LIMIT → IsFine names statement → JumpsBelow count statement
+  HasSpelling-fine : (count : ℕ) (statement : Stmt) → count ≤ STATEMENT_LIMIT → CanBeSpelled names statement → JumpsBelow count statement
       → HasSpelling names statement
   HasSpelling-fine count Peek small fine below = tt
   HasSpelling-fine count Skip small fine below = tt
@@ -65,84 +65,84 @@ module _ (names : Spellings) where
   HasSpelling-fine count (Code rule line action) small fine below = fine
   HasSpelling-fine count _ small fine below = absurd fine
 
-  is_need-fine : (statement : Stmt) → IsFine names statement → is_need statement ≡ false
+  is_need-fine : (statement : Stmt) → CanBeSpelled names statement → is_need statement ≡ false
   is_need-fine (Need units) fine = absurd fine
   is_need-fine _ fine = refl
 
-  is_state-fine : (statement : Stmt) → IsFine names statement → is_state statement ≡ false
+  is_state-fine : (statement : Stmt) → CanBeSpelled names statement → is_state statement ≡ false
   is_state-fine (State state) fine = absurd fine
   is_state-fine _ fine = refl
 
-  pub NamesOneOf-fine : (conds : List (List ℕ)) (statement : Stmt) → IsFine names statement → NamesOneOf conds statement
+  pub NamesOneOf-fine : (conds : List (List ℕ)) (statement : Stmt) → CanBeSpelled names statement → NamesOneOf conds statement
   NamesOneOf-fine conds (Cond cond) fine = absurd fine
   NamesOneOf-fine conds (Jump cond rule) fine = absurd fine
   NamesOneOf-fine conds _ fine = tt
 
-  pub HasFewGroups-fine : (statement : Stmt) → IsFine names statement → HasFewGroups statement
+  pub HasFewGroups-fine : (statement : Stmt) → CanBeSpelled names statement → HasFewGroups statement
   HasFewGroups-fine (Count groups) fine = fine
   HasFewGroups-fine (End place register) fine = fine.0
   HasFewGroups-fine _ fine = tt
 
   -- ---- the statements of a block
 
-  refills_after_states-fine : (code : List Stmt) → Fine names code → refills_after_states code ≡ true
+  refills_after_states-fine : (code : List Stmt) → CodeCanBeSpelled names code → refills_after_states code ≡ true
   refills_after_states-fine [] fine = refl
   refills_after_states-fine (statement ∷ code) fine =
       ap (λ test. if (if test then refill_first code else true) then refills_after_states code else false) (is_state-fine statement fine.0)
       ∙ refills_after_states-fine code fine.1
 
-  tries_after_state-fine : (code : List Stmt) → Fine names code → tries_after_state false code ≡ false
+  tries_after_state-fine : (code : List Stmt) → CodeCanBeSpelled names code → tries_after_state false code ≡ false
   tries_after_state-fine [] fine = refl
   tries_after_state-fine (statement ∷ code) fine =
       ap (λ test. tries_after_state test code) (is_state-fine statement fine.0) ∙ tries_after_state-fine code fine.1
 
-  states_in-fine : (place : ℕ) (code : List Stmt) (others : List StateCase) → Fine names code → states_in place code others ≡ others
+  states_in-fine : (place : ℕ) (code : List Stmt) (others : List StateCase) → CodeCanBeSpelled names code → states_in place code others ≡ others
   states_in-fine place [] others fine = refl
   states_in-fine place (State state ∷ code) others fine = absurd fine.0
   states_in-fine place (_ ∷ code) others fine = states_in-fine place code others fine.1
 
-  no_need-fine : (code : List Stmt) → Fine names code → list_any is_need code ≡ false
+  no_need-fine : (code : List Stmt) → CodeCanBeSpelled names code → list_any is_need code ≡ false
   no_need-fine [] fine = refl
   no_need-fine (statement ∷ code) fine = ap (λ t. t || list_any is_need code) (is_need-fine statement fine.0) ∙ no_need-fine code fine.1
 
   -- ---- all blocks
 
-  abbrev pub FineBlocks : List CodeBlock → Type 0
-  FineBlocks blocks = AllByRecursion (λ (block : CodeBlock). Fine names block.stmts) blocks
+  abbrev pub BlocksCanBeSpelled : List CodeBlock → Type 0
+  BlocksCanBeSpelled blocks = AllByRecursion (λ (block : CodeBlock). CodeCanBeSpelled names block.stmts) blocks
 
-  pub FineBlocks-codes : (blocks : List CodeBlock) → AllByRecursion (Fine names) (code_of blocks) → FineBlocks blocks
+  pub FineBlocks-codes : (blocks : List CodeBlock) → AllByRecursion (CodeCanBeSpelled names) (code_of blocks) → BlocksCanBeSpelled blocks
   FineBlocks-codes [] fine = tt
   FineBlocks-codes (block ∷ blocks) fine = (fine.0, FineBlocks-codes blocks fine.1)
 
-  pub all_fine : (blocks : List CodeBlock) → FineBlocks blocks → Fine names (all_statements blocks)
+  pub all_fine : (blocks : List CodeBlock) → BlocksCanBeSpelled blocks → CodeCanBeSpelled names (all_statements blocks)
   all_fine [] fine = tt
-  all_fine (block ∷ blocks) fine = each-append (IsFine names) block.stmts (all_statements blocks) fine.0 (all_fine blocks fine.1)
+  all_fine (block ∷ blocks) fine = each-append (CanBeSpelled names) block.stmts (all_statements blocks) fine.0 (all_fine blocks fine.1)
 
-  pub after_states-fine : (blocks : List CodeBlock) → FineBlocks blocks
+  pub after_states-fine : (blocks : List CodeBlock) → BlocksCanBeSpelled blocks
       → AllByRecursion (λ (block : CodeBlock). refills_after_states block.stmts ≡ true) blocks
   after_states-fine [] fine = tt
   after_states-fine (block ∷ blocks) fine = (refills_after_states-fine block.stmts fine.0, after_states-fine blocks fine.1)
 
-  pub last_statements-fine : (blocks : List CodeBlock) → FineBlocks blocks → tries_after_state false (last_statements blocks) ≡ false
+  pub last_statements-fine : (blocks : List CodeBlock) → BlocksCanBeSpelled blocks → tries_after_state false (last_statements blocks) ≡ false
   last_statements-fine [] fine = refl
   last_statements-fine (block ∷ []) fine = tries_after_state-fine block.stmts fine.0
   last_statements-fine (block ∷ next ∷ blocks) fine = last_statements-fine (next ∷ blocks) fine.1
 
-  pub states_from-fine : (place : ℕ) (blocks : List CodeBlock) → FineBlocks blocks → states_from place blocks ≡ []
+  pub states_from-fine : (place : ℕ) (blocks : List CodeBlock) → BlocksCanBeSpelled blocks → states_from place blocks ≡ []
   states_from-fine place [] fine = refl
   states_from-fine place (block ∷ blocks) fine =
       states_in-fine place block.stmts (states_from (suc place) blocks) fine.0 ∙ states_from-fine (suc place) blocks fine.1
 
-  pub no_need : (blocks : List CodeBlock) → FineBlocks blocks → list_any is_need (all_statements blocks) ≡ false
+  pub no_need : (blocks : List CodeBlock) → BlocksCanBeSpelled blocks → list_any is_need (all_statements blocks) ≡ false
   no_need blocks fine = no_need-fine (all_statements blocks) (all_fine blocks fine)
 
-  EachHasSpelling-fine : (count : ℕ) (code : List Stmt) → count ≤ STATEMENT_LIMIT → Fine names code
+  EachHasSpelling-fine : (count : ℕ) (code : List Stmt) → count ≤ STATEMENT_LIMIT → CodeCanBeSpelled names code
       → AllByRecursion (JumpsBelow count) code → EachHasSpelling names code
   EachHasSpelling-fine count [] small fine below = tt
   EachHasSpelling-fine count (statement ∷ code) small fine below =
       (HasSpelling-fine count statement small fine.0 below.0, EachHasSpelling-fine count code small fine.1 below.1)
 
-  pub blocks_spelled : (count : ℕ) (blocks : List CodeBlock) → count ≤ STATEMENT_LIMIT → FineBlocks blocks → NoLabels blocks
+  pub blocks_spelled : (count : ℕ) (blocks : List CodeBlock) → count ≤ STATEMENT_LIMIT → BlocksCanBeSpelled blocks → NoLabels blocks
       → AllByRecursion (λ (block : CodeBlock). ends_once block.stmts ≡ true) blocks
       → AllByRecursion (JumpsBelow count) (all_statements blocks) → EachBlockHasSpelling names blocks
   blocks_spelled count [] small fine none ends below = tt
