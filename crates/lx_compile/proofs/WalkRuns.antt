@@ -11,7 +11,7 @@ use Rattle.lx_base.specs.declared.faults.Stop.TheVariants as stop
 use Rattle.lx_base.specs.declared.places.Pos.{Pos}
 use Rattle.lx_base.specs.declared.settings.Options.{Options}
 use Rattle.lx_rules.specs.Environments.{Environment, first_environment}
-use Rattle.lx_rules.specs.Soundness.{IsFine}
+use Rattle.lx_rules.specs.Soundness.{FitsLimits}
 use Rattle.lx_rules.specs.Within.{IsScannerWithin}
 use Rattle.lx_rules.specs.declared.resolved.Resolved.{Resolved}
 use Rattle.lx_split.specs.declared.pieces.SourcePiece.{SourcePiece}
@@ -52,10 +52,10 @@ IsWalked-outside options pieces rest environment parts text walked = record {
 }
 
 -- what a block of a source resolves to can be emitted
-pub IsReady-block : (options : Options) (environment : Environment) (kind : BlockKind) (body : List ℕ) (at start : Pos) (after : Environment) (resolved : Resolved)
-    → IsBlock options environment kind body at start after resolved → IsFine resolved
+pub IsEmittable-block : (options : Options) (environment : Environment) (kind : BlockKind) (body : List ℕ) (at start : Pos) (after : Environment) (resolved : Resolved)
+    → IsBlock options environment kind body at start after resolved → FitsLimits resolved
     → AllByRecursion (IsScannerWithin options.enc) resolved.scanners → IsEmittable options.enc resolved
-IsReady-block options environment kind body at start after resolved block fine within =
+IsEmittable-block options environment kind body at start after resolved block fine within =
     let resolves = block.resolves.resolves in record {
       fine = fine;
       supported = block.supported;
@@ -67,10 +67,10 @@ IsReady-block options environment kind body at start after resolved block fine w
 pub IsWalked-block : (options : Options) (pieces rest : List SourcePiece) (environment : Environment) (parts : List Part)
     (kind : BlockKind) (body : List ℕ) (at start : Pos) (end_line : ℕ) (after : Environment) (resolved : Resolved)
     → IsWalked options pieces (piece.Block kind body at start end_line ∷ rest) environment parts
-    → IsBlock options environment kind body at start after resolved → IsFine resolved → AllByRecursion (IsScannerWithin options.enc) resolved.scanners
+    → IsBlock options environment kind body at start after resolved → FitsLimits resolved → AllByRecursion (IsScannerWithin options.enc) resolved.scanners
     → IsWalked options pieces rest after (parts ++ Block at resolved ∷ [])
 IsWalked-block options pieces rest environment parts kind body at start end_line after resolved walked block fine within = record {
-  ready = All-push (IsEmittablePart options.enc) parts (Block at resolved) walked.ready (IsReady-block options environment kind body at start after resolved block fine within);
+  ready = All-push (IsEmittablePart options.enc) parts (Block at resolved) walked.ready (IsEmittable-block options environment kind body at start after resolved block fine within);
   few = omega (arith, walked.few, length_push parts (Block at resolved));
   near = All-tail IsNearPiece (piece.Block kind body at start end_line) rest walked.near;
   continues = λ more are. rw append_assoc (walked.continues (Block at resolved ∷ more) (refl, (after, block, are)));

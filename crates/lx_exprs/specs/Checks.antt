@@ -45,8 +45,8 @@ StopsAt Found stop.Memory = Unit {0}
 StopsAt Found (stop.Fault fault) = Found (Some fault)
 
 -- a form that is not supported yet is refused at its token, before the other checks there
-abbrev pub waits : Lexeme → Option Fault
-waits lexeme = Some (Unsupported (Some lexeme.at))
+abbrev pub unsupported : Lexeme → Option Fault
+unsupported lexeme = Some (Unsupported (Some lexeme.at))
 
 -- the class that a token is
 abbrev pub range_of : PointRange → Range
@@ -154,7 +154,7 @@ module _ (options : Options) (definitions : List Definition) where
 
   -- groups of captures are not supported yet
   abbrev pub group_fault : Lexeme → Option Fault
-  group_fault opening = if are_groups then waits opening else None
+  group_fault opening = if are_groups then unsupported opening else None
 
   -- a form that is a class; parentheses that are a group of captures are none
   abbrev pub is_class : Form → Bool
@@ -202,12 +202,12 @@ module _ (options : Options) (definitions : List Definition) where
   LeafChecks kind.Str is_operand seen lexeme = PointsAre lexeme (singles (points_in lexeme))
   LeafChecks kind.Name is_operand seen lexeme = Finds (name_fault (definition_of definitions lexeme.text) lexeme seen)
   LeafChecks kind.STag is_operand seen lexeme = Finds (tag_fault lexeme seen)
-  LeafChecks kind.MTag is_operand seen lexeme = Then (Finds (waits lexeme)) (Finds (tag_fault lexeme seen))
+  LeafChecks kind.MTag is_operand seen lexeme = Then (Finds (unsupported lexeme)) (Finds (tag_fault lexeme seen))
   LeafChecks kind.IStr is_operand seen lexeme = PointsAre lexeme (singles (points_in lexeme))
   LeafChecks kind.Class is_operand seen lexeme =
       Then (PointsAre lexeme (class_ranges lexeme)) (IsFilled options.empty is_operand lexeme.at (LeafHas kind.Class lexeme))
   LeafChecks kind.Signs is_operand seen lexeme = Finds None
-  LeafChecks kind is_operand seen lexeme = Finds (waits lexeme)
+  LeafChecks kind is_operand seen lexeme = Finds (unsupported lexeme)
 
   -- the checks of an expression, behind tags that were seen before
   abbrev pub Checks : (is_operand : Bool) → (seen : List (List ℕ)) → Form → Check

@@ -92,7 +92,7 @@ AreTagsBelow bound (content.Choice members) = HaveTagsBelow bound (members_of (m
 AreTagsBelow bound (content.Past set alternatives) = Unit {0}
 
 -- what is read has at least the size of what is kept, and 1 at least, and its tags have lesser numbers than this
-pub record IsHonest (count : ℕ) (value : Value) : Type 0 where
+pub record IsBounded (count : ℕ) (value : Value) : Type 0 where
   pub some : 1 ≤ value.size
   pub size : content_size value.content ≤ value.size
   pub tags : AreTagsBelow count value.content

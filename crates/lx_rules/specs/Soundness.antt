@@ -1,5 +1,5 @@
 -- What holds of what blocks resolve to, whatever they say.
-use Rattle.lx_exprs.specs.Soundness.{AreSound}
+use Rattle.lx_exprs.specs.Soundness.{DefinitionsFit}
 use Rattle.std.specs.Prelude.{ℕ, ◌+◌, ◌<◌, ◌≤◌, List, [], ◌∷◌, length, All, Option, Some, None}
 use Rattle.lx_regex.specs.Expr.{size_of}
 use Rattle.lx_regex.specs.declared.rules.Rule.{Rule}
@@ -8,8 +8,8 @@ use Rattle.lx_rules.specs.declared.resolved.Act.{Act}
 use Rattle.lx_rules.specs.declared.resolved.Scanner.{Scanner}
 use Rattle.lx_rules.specs.declared.resolved.Resolved.{Resolved}
 
-abbrev pub IsSound : Env → Type 0
-IsSound env = AreSound env.definitions
+abbrev pub HasFitDefinitions : Env → Type 0
+HasFitDefinitions env = DefinitionsFit env.definitions
 
 -- the size of rules
 abbrev pub rules_size : List Rule → ℕ
@@ -29,7 +29,7 @@ IsShort None = Unit {0}
 IsShort (Some code) = length code ≤ 16777216
 
 -- what a block resolves to is within the limits of a scanner, and the rule of number k has the k-th action
-pub record IsFine (resolved : Resolved) : Type 0 where
+pub record FitsLimits (resolved : Resolved) : Type 0 where
   pub scanners : All (IsFit (length resolved.acts)) resolved.scanners
   pub acts : All (λ (act : Act). IsShort act.code) resolved.acts
   pub few : length resolved.acts ≤ 16777216

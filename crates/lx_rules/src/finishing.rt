@@ -1,8 +1,12 @@
 //! What a block resolves to, by what is known behind its items.
-ghost use Rattle.std.specs.Prelude.{◌≡◌, ◌↔◌, IfOk, IsTrue};
+ghost use Rattle.std.specs.Prelude.{◌≡◌, ◌↔◌, ◌≤◌, ◌||◌, Bool, IfOk, IsTrue, MatchResult, length, nat_lt};
 ghost use Rattle.std.specs.List.{AllByRecursion};
 ghost use Rattle.lx_base.specs.Names.{IsTagName};
-ghost use Rattle.lx_rules.specs.Finishing.{AddsDefault, AreScannersOf, IsOneScanner};
+ghost use Rattle.lx_rules.specs.Blocks.{BlockChecks};
+ghost use Rattle.lx_rules.specs.Finishing.{AddsDefault, AreScannersOf, IsFinished, IsOneScanner};
+ghost use Rattle.lx_rules.specs.Items.{State};
+ghost use Rattle.lx_rules.specs.Keeping.{Holds};
+ghost use Rattle.lx_exprs.specs.Checks.{StopsAt};
 
 use crate::environment::Env;
 use crate::items::{DefaultRule, Known};
@@ -97,53 +101,44 @@ fn scanners(
     one_scanner(alloc, rules, default)
 }
 
-impl Known {
-    ghost use Rattle.std.specs.Prelude.{◌≡◌, ◌≤◌, ◌||◌, Bool, MatchResult, length, nat_lt};
-    ghost use Rattle.lx_rules.specs.Blocks.{BlockChecks, IsResolved};
-    ghost use Rattle.lx_rules.specs.Items.{State};
-    ghost use Rattle.lx_rules.specs.Keeping.{Holds};
-    ghost use Rattle.lx_exprs.specs.Checks.{StopsAt};
-    ghost use Rattle.lx_rules.specs.Finishing.{IsFinished};
+/// Whether the scanner is past a limit.
+fn is_too_large(known: &Known) -> bool
+    ensures { result ≡ (nat_lt 4096 known.now.size || nat_lt 256 known.now.nesting || nat_lt 128 (length known.now.tags)) }
+{
+    known.size > MOST_SIZE || known.nesting > MOST_NESTING || known.tags.len() > MOST_TAGS
+}
 
-    /// Whether the scanner is past a limit.
-    fn is_too_large(&self) -> bool
-        ensures { result ≡ (nat_lt 4096 self.now.size || nat_lt 256 self.now.nesting || nat_lt 128 (length self.now.tags)) }
-    {
-        self.size > MOST_SIZE || self.nesting > MOST_NESTING || self.tags.len() > MOST_TAGS
+/// What the block resolves to whose opener stands at this place, and what holds behind it.
+pub(crate) fn finish(alloc: Global, known: Known, at: Pos) -> Result<(Env, Resolved), Stop>
+    requires { length known.acts.items ≤ 16777216 }
+    ensures { (conds : Bool) (state : State) → Holds conds known state → MatchResult result (IsFinished conds at state) (StopsAt (BlockChecks at state)) }
+{
+    let names = usual_names(alloc)?;
+    if !do_not_clash(&names) || !are_all_tag_names(&names, &known.tags) {
+        return Err(Stop::Fault(Fault::BadValue { at }));
     }
-
-    /// What the block resolves to whose opener stands at this place, and what holds behind it.
-    pub fn finish(self, alloc: Global, at: Pos) -> Result<(Env, Resolved), Stop>
-        requires { length self.acts.items ≤ 16777216 }
-        ensures { (conds : Bool) (state : State) → Holds conds self state → MatchResult result (IsFinished conds at state) (StopsAt (BlockChecks at state)) }
-    {
-        let names = usual_names(alloc)?;
-        if !do_not_clash(&names) || !are_all_tag_names(&names, &self.tags) {
-            return Err(Stop::Fault(Fault::BadValue { at }));
-        }
-        if self.is_too_large() {
-            return Err(Stop::Fault(Fault::TooManyParts {
-                at,
-                size: self.size,
-                nesting: self.nesting,
-                tags: self.tags.len(),
-            }));
-        }
-        let env = self.env;
-        let fill = env.fill;
-        let acts = self.acts;
-        let rules = self.rules;
-        let default = self.default;
-        let scanners = scanners(alloc, acts.as_slice().is_empty(), rules, default)?;
-        let resolved = Resolved {
-            scanners,
-            acts: Sequence::from_vec(acts),
-            config: Config {
-                names,
-                eof: None,
-                fill,
-            },
-        };
-        Ok((env, resolved))
+    if is_too_large(&known) {
+        return Err(Stop::Fault(Fault::TooManyParts {
+            at,
+            size: known.size,
+            nesting: known.nesting,
+            tags: known.tags.len(),
+        }));
     }
+    let env = known.env;
+    let fill = env.fill;
+    let acts = known.acts;
+    let rules = known.rules;
+    let default = known.default;
+    let scanners = scanners(alloc, acts.as_slice().is_empty(), rules, default)?;
+    let resolved = Resolved {
+        scanners,
+        acts: Sequence::from_vec(acts),
+        config: Config {
+            names,
+            eof: None,
+            fill,
+        },
+    };
+    Ok((env, resolved))
 }

@@ -12,7 +12,7 @@ use Rattle.lx_tnfa.specs.Closure.{IsClosureOf}
 use Rattle.lx_tnfa.specs.Tnfa.{AllClassesFit, IsTnfaOf, Tnfa}
 use Rattle.lx_tnfa.specs.declared.closure.Reach.{Reach}
 use Rattle.lx_tnfa.specs.declared.places.Place.{Place}
-use Rattle.lx_tdfa.specs.Making.{AreSortsOf, AreTooMany, IsWithin}
+use Rattle.lx_tdfa.specs.Making.{AreTooMany, IsWithin}
 use Rattle.lx_tdfa.specs.Registers.{widest}
 use Rattle.lx_tdfa.specs.Steps.{IsFound, IsInLeaf, next_steps, start_place}
 use Rattle.lx_tdfa.specs.Table.{IsEdgeOf, IsStateOf, is_first}
@@ -25,9 +25,8 @@ IsBuilt tnfa =
     (enc : Enc) × (rules : List Rule) × IsWithinLimits rules × AllClassesFit enc (terms_of (patterns_of rules))
     × IsTnfaOf enc (patterns_of rules) tnfa
 
--- what states are made from is right
-pub record IsReady (source : Source) : Type 0 where
-  pub sorts : AreSortsOf source.t.now source.sorts.now
+-- states are made from the automaton of a rule list, and the width is the most tags that a rule has
+pub record IsSourceOfRules (source : Source) : Type 0 where
   pub width : source.width ≡ widest source.t.now.rules
   pub narrow : widest source.t.now.rules ≤ 130
   pub enc : Enc

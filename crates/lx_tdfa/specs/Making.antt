@@ -1,14 +1,12 @@
 -- What the code of determinization holds.
-use Rattle.std.specs.Prelude.{◌≡◌, ◌≢◌, ℕ, ◌<◌, ◌≤◌, ◌⊎◌, max, List, [], ◌∷◌, ◌++◌, map, length, sum_by, Vec, Some, Bool, AllPairs, Contains, slice_get, slice_index}
+use Rattle.std.specs.Prelude.{◌≡◌, ◌≢◌, ℕ, ◌<◌, ◌≤◌, ◌⊎◌, max, List, [], ◌∷◌, ◌++◌, map, length, sum_by, Vec, AllPairs, Contains}
 use Rattle.lx_base.specs.declared.faults.Fault.TheVariants.{TooManyStates}
 use Rattle.lx_base.specs.declared.faults.Stop.{Stop}
 use Rattle.lx_base.specs.declared.faults.Stop.TheVariants as stop
 use Rattle.lx_base.specs.declared.places.Pos.{Pos}
-use Rattle.lx_tnfa.specs.Tnfa.{Tnfa}
 use Rattle.lx_tnfa.specs.declared.places.Place.{Place}
 use Rattle.lx_tdfa.specs.declared.steps.Ending as held
 use Rattle.lx_tdfa.specs.declared.steps.Step as held_step
-use Rattle.lx_tdfa.specs.Registers.{sorts_of_rule}
 use Rattle.lx_tdfa.specs.Steps.{Ending, Step}
 
 -- the lists that a set holds
@@ -38,11 +36,6 @@ pub record AreTooMany (lists : List (List Place)) : Type 0 where
 abbrev pub StopsBy : Pos → (reason : Type 0) → Stop → Type 0
 StopsBy at reason stop.Memory = Unit {0}
 StopsBy at reason (stop.Fault fault) = (fault ≡ TooManyStates at) × reason
-
--- the sorts of tags of each part's rule
-abbrev pub AreSortsOf : Tnfa → List (List Bool) → Type 0
-AreSortsOf tnfa lists = (part : ℕ) (list : List Bool) → slice_get lists part ≡ Some list
-    → list ≡ sorts_of_rule tnfa (slice_index tnfa.owners part)
 
 -- what the definitions see of a step and of an ending
 abbrev pub seen_step : held_step.Step → Step

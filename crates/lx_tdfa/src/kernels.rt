@@ -77,8 +77,8 @@ impl Kernels {
         }
     }
 
-    /// The number of a list, which is put behind the others where it is not there. With more lists or places than the limits
-    /// nothing goes on.
+    /// The number of a list, which is appended where it is not there yet. It refuses a list with which there are more lists or
+    /// places than the limits.
     pub(crate) fn add(&mut self, places: Vec<Place>, at: Pos) -> Result<usize, Stop>
         requires { IsWithin self.old }
         ensures { MatchResult result (λ number. Adds self.old places.items self.new × (slice_get self.new number ≡ Some places.items) × IsWithin self.new)

@@ -3,7 +3,7 @@ ghost use Rattle.std.specs.Prelude.{◌≡◌, ◌<◌, ◌≤◌, ◌*◌, All,
 ghost use Rattle.lx_auto.specs.Automaton.{AreApart};
 ghost use Rattle.lx_tnfa.specs.Closure.{AllPlaces};
 ghost use Rattle.lx_tnfa.specs.declared.places.Place.{Place};
-ghost use Rattle.lx_tdfa.specs.Building.{AreListed, AreTargets, Grows, IsEdgeMade, IsReady, TooManyFound, greatest_of};
+ghost use Rattle.lx_tdfa.specs.Building.{AreListed, AreTargets, Grows, IsEdgeMade, IsSourceOfRules, TooManyFound, greatest_of};
 ghost use Rattle.lx_tdfa.specs.Edges.{AreEdgesBefore};
 ghost use Rattle.lx_tdfa.specs.Making.{StopsBy, seen_ending, seen_step};
 ghost use Rattle.lx_tdfa.specs.Registers.{ending_ops, first_of, held_from, step_ops, widest};
@@ -15,7 +15,6 @@ use crate::edges::push_edge;
 use crate::kernels::Kernels;
 use crate::operations::{Transfer, push_tags};
 use crate::seen::Seen;
-use crate::sorts::Sorts;
 use crate::steps::{Ending, Step, first_ending, next_steps};
 use lx_auto::{Accept, Edge, Held, Ops, State};
 use lx_base::{Memory, Pos, Sequence, Stop};
@@ -27,7 +26,6 @@ use std::alloc::Global;
 pub(crate) struct Source<'a> {
     pub alloc: Global,
     pub t: &'a Tnfa,
-    pub sorts: &'a Sorts,
     /// The most tags that a rule has: so many registers hold the values at a place.
     pub width: u32,
     /// Where the scanner stands that would have too many states.
@@ -60,7 +58,7 @@ impl<'a> Source<'a> {
 
     /// The operations of steps.
     fn step_ops(&self, is_first: bool, steps: &[Step<'_>]) -> Result<Ops, Memory>
-        requires ready { IsReady self.now }
+        requires of_rules { IsSourceOfRules self.now }
         requires few { length steps.now ≤ 1048576 }
         requires sources { All (λ step. step.reach.now.from < 1048576) steps.now }
         ensures { IfOk result (λ ops. ops ≡ step_ops self.now.t.now (widest self.now.t.now.rules) is_first 0 (map seen_step steps.now)) }
@@ -76,7 +74,7 @@ impl<'a> Source<'a> {
                 &mut ops,
                 transfer,
                 step.reach.events.as_slice(),
-                self.sorts.at(self.t, step.to.part),
+                self.t.tags_at(step.to.part),
             )?;
         }
         Ok(ops)
@@ -84,7 +82,7 @@ impl<'a> Source<'a> {
 
     /// The operations that keep the values of a rule that ends.
     fn ending_ops(&self, is_first: bool, ending: Ending<'_>) -> Result<Ops, Memory>
-        requires ready { IsReady self.now }
+        requires of_rules { IsSourceOfRules self.now }
         requires source { ending.reach.now.from < 1048576 }
         ensures { IfOk result (λ ops. ops ≡ ending_ops self.now.t.now (widest self.now.t.now.rules) is_first (seen_ending ending.entry)) }
     {
@@ -104,12 +102,12 @@ impl<'a> Source<'a> {
     }
 
     /// What holds the values of a rule's tags where it was accepted.
-    fn held(&self, sorts: &[bool]) -> Result<Sequence<Held>, Memory>
-        requires { length sorts.now ≤ 130 }
-        ensures { IfOk result (λ values. values ≡ held_from 0 sorts.now) }
+    fn held(&self, kinds: &[bool]) -> Result<Sequence<Held>, Memory>
+        requires { length kinds.now ≤ 130 }
+        ensures { IfOk result (λ values. values ≡ held_from 0 kinds.now) }
     {
         let mut values = Sequence::new(self.alloc);
-        for (tag, many) in sorts.iter().enumerate() {
+        for (tag, many) in kinds.iter().enumerate() {
             let tag = tag as u32;
             values.push(if *many {
                 Held::MReg(tag + 1)
@@ -122,7 +120,7 @@ impl<'a> Source<'a> {
 
     /// What a state accepts by its first ending.
     fn accept(&self, is_first: bool, ending: Option<Ending<'_>>) -> Result<Option<Accept>, Memory>
-        requires ready { IsReady self.now }
+        requires of_rules { IsSourceOfRules self.now }
         requires source { IfSome ending (λ ending. ending.reach.now.from < 1048576) }
         ensures { IfOk result (λ accept. accept ≡ accept_of self.now.t.now is_first (option_map seen_ending ending.entry)) }
     {
@@ -138,7 +136,7 @@ impl<'a> Source<'a> {
 
     /// What is done where a state is left.
     fn leave(&self, is_first: bool, ending: Option<Ending<'_>>) -> Result<Ops, Memory>
-        requires ready { IsReady self.now }
+        requires of_rules { IsSourceOfRules self.now }
         requires source { IfSome ending (λ ending. ending.reach.now.from < 1048576) }
         ensures { IfOk result (λ ops. ops ≡ leave_of self.now.t.now is_first (option_map seen_ending ending.entry)) }
     {
@@ -168,7 +166,7 @@ impl<'a> Source<'a> {
         reaches: &[Reach],
         units: Units,
     ) -> Result<Option<Edge>, Stop>
-        requires ready { IsReady self.now }
+        requires of_rules { IsSourceOfRules self.now }
         requires listed { AreListed self.now.t.now kernels.old }
         requires targets { AreTargets self.now.t.now reaches.now × AllPlaces self.now.t.now reaches.now }
         requires unit { units.lo ≤ greatest_of self.now.t.now }
@@ -196,7 +194,7 @@ impl<'a> Source<'a> {
         is_first: bool,
         reaches: &[Reach],
     ) -> Result<Sequence<Edge>, Stop>
-        requires ready { IsReady self.now }
+        requires of_rules { IsSourceOfRules self.now }
         requires listed { AreListed self.now.t.now kernels.old }
         requires targets { AreTargets self.now.t.now reaches.now × AllPlaces self.now.t.now reaches.now }
         ensures { MatchResult result (λ edges. Grows self.now.t.now kernels.old kernels.new
@@ -226,7 +224,7 @@ impl<'a> Source<'a> {
         buffers: &mut Buffers,
         number: usize,
     ) -> Result<State, Stop>
-        requires ready { IsReady self.now }
+        requires of_rules { IsSourceOfRules self.now }
         requires listed { AreListed self.now.t.now kernels.old }
         requires there { number < length kernels.old }
         ensures { MatchResult result (λ state. Grows self.now.t.now kernels.old kernels.new

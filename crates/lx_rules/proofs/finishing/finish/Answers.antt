@@ -6,13 +6,13 @@ use Rattle.lx_base.specs.declared.faults.Fault.TheVariants.{TooManyParts}
 use Rattle.lx_rules.specs.Blocks.{BlockChecks}
 use Rattle.lx_exprs.specs.Defined.{kept}
 use Rattle.lx_rules.proofs.FinishingSteps.{clashing, free_names, too_large, finished, empty_length, filled_length}
-use Rattle.lx_rules.proofs.items.Known.finish.Goals.{then-not-do_not_clash-via-then-not-do_not_clash, then-not-do_not_clash-via-else-not-do_not_clash+then-not-are_all_tag_names}
-use Rattle.lx_rules.proofs.items.Known.finish.Goals as goal
+use Rattle.lx_rules.proofs.finishing.finish.Goals.{then-not-do_not_clash-via-then-not-do_not_clash, then-not-do_not_clash-via-else-not-do_not_clash+then-not-are_all_tag_names}
+use Rattle.lx_rules.proofs.finishing.finish.Goals as goal
 
 pub returns-then-not-do_not_clash : goal.returns-then-not-do_not_clash
 returns-then-not-do_not_clash c = λ conds state holds.
     let named = c.in_ok-names.ensures in
-    let clash : DoNotClash usual_names → AllByRecursion (IsTagName usual_names) c.args.self.tags → ⊥ =
+    let clash : DoNotClash usual_names → AllByRecursion (IsTagName usual_names) c.args.known.tags → ⊥ =
     elim c.then-not-do_not_clash.branch [
       | then-not-do_not_clash-via-then-not-do_not_clash w ↦ λ differ tags.
           false≢true (sym w.if-not-do_not_clash.true ∙ c.do_not_clash.ensures.1 (subst DoNotClash (sym named) differ))
@@ -20,13 +20,13 @@ returns-then-not-do_not_clash c = λ conds state holds.
           false≢true
           (sym w.if-not-are_all_tag_names.true
           ∙ w.are_all_tag_names.ensures.1
-          (subst (λ names. AllByRecursion (IsTagName names) c.args.self.tags) (sym named) tags))
+          (subst (λ names. AllByRecursion (IsTagName names) c.args.known.tags) (sym named) tags))
     ] in
-    clashing conds c.args.self state holds c.args.at clash
+    clashing conds c.args.known state holds c.args.at clash
 
 pub returns-then-is_too_large : goal.returns-then-is_too_large
 returns-then-is_too_large c = λ conds state holds.
-    let known = c.args.self in
+    let known = c.args.known in
     let named = c.in_ok-names.ensures in
     let differ : DoNotClash usual_names = subst DoNotClash named (c.do_not_clash.ensures.0 c.if-not-do_not_clash.false) in
     let tags : AllByRecursion (IsTagName usual_names) known.tags =
@@ -37,7 +37,7 @@ returns-then-is_too_large c = λ conds state holds.
 
 pub returns : goal.returns
 returns c = λ conds state holds.
-    let known = c.args.self in
+    let known = c.args.known in
     let named = c.in_ok-names.ensures in
     let differ : DoNotClash usual_names = subst DoNotClash named (c.do_not_clash.ensures.0 c.if-not-do_not_clash.false) in
     let tags : AllByRecursion (IsTagName usual_names) known.tags =

@@ -1,5 +1,5 @@
 use Rattle.lx_rules.proofs.BlockVerdicts.{first_ready, ready_after}
-use Rattle.lx_rules.proofs.laws.environments_stay_ready.Goals as goal
+use Rattle.lx_rules.proofs.laws.environments_stay_buildable.Goals as goal
 
 pub returns-clause-first : goal.returns-clause-first
 returns-clause-first c = λ enc. first_ready enc
