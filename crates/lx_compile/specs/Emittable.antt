@@ -1,6 +1,7 @@
 -- What the steps of a compilation know of the parts of a source.
 use Rattle.std.specs.Prelude.{◌≡◌, ℕ, ◌≤◌, List, length}
 use Rattle.std.specs.List.{AllByRecursion}
+use Rattle.lx_base.specs.declared.limits.TheConstants.{SOURCE_LIMIT}
 use Rattle.lx_base.specs.Names.{usual_names}
 use Rattle.lx_base.specs.declared.places.Pos.{Pos}
 use Rattle.lx_base.specs.declared.settings.Enc.{Enc}
@@ -20,7 +21,7 @@ use Rattle.lx_compile.specs.declared.parts.Part.TheVariants.{Outside, Block}
 
 -- a block is no longer than a source may be, and its body begins in a line and a column that a source may have
 pub record IsNear (body : List ℕ) (start : Pos) : Type 0 where
-  pub size : length body ≤ 16777216
+  pub size : length body ≤ SOURCE_LIMIT
   pub line : start.line ≤ 16777217
   pub col : start.col ≤ 16777217
 

@@ -1,5 +1,6 @@
 //! The texts of the parts of a source.
 ghost use Rattle.std.specs.Prelude.{◌≡◌, ◌≤◌, ◌++◌, ℕ, List, [], All, IfOk, MatchResult, OnOk, length, unwrap_or, None};
+ghost use Rattle.lx_base.specs.declared.limits.TheConstants.{SOURCE_LIMIT};
 ghost use Rattle.lx_base.specs.Names.{usual_names};
 ghost use Rattle.lx_ccode.specs.Bodies.{body_piece_text, no_body};
 ghost use Rattle.lx_regex.specs.Pattern.{patterns_of};
@@ -128,7 +129,7 @@ fn append_block(
 /// answered, also for a piece that would have more than 2^62 statements; no clause ties it to a cause.
 pub(crate) fn emit(alloc: Global, enc: Enc, parts: &[Part]) -> Result<Vec<u8>, Stop>
     requires ready { All (IsEmittablePart enc) parts.now }
-    requires few { length parts.now ≤ 16777216 }
+    requires few { length parts.now ≤ SOURCE_LIMIT }
     ensures { MatchResult result
         (λ output. AreTexts enc 1 parts.now output.items × IsKernelFault enc parts.now None)
         (StopsByKernels enc parts.now) }

@@ -1,5 +1,6 @@
 //! The statements of operations.
 ghost use Rattle.std.specs.Prelude.{◌≡◌, ◌≤◌, [], ◌++◌, OnOk};
+ghost use Rattle.lx_base.specs.declared.limits.TheConstants.{REGISTER_LIMIT};
 ghost use Rattle.lx_auto.specs.Automaton.{AreOps};
 ghost use Rattle.lx_gen.specs.Codes.{list_code, op_code, ops_code};
 ghost use Rattle.lx_gen.specs.Numbers.{AreBelow, IsBelow};
@@ -12,7 +13,7 @@ use std::alloc::Global;
 
 /// The statement of an operation. Statements count registers from 1 and histories from 0.
 fn op_code(op: &Op) -> Stmt
-    requires { IsBelow 4294967295 op.now }
+    requires { IsBelow REGISTER_LIMIT op.now }
     ensures { result ≡ op_code op.now }
 {
     match *op {
@@ -27,7 +28,7 @@ fn op_code(op: &Op) -> Stmt
 
 /// Appends the statements of operations that act one by one.
 pub(crate) fn append_ops(stmts: &mut Vec<Stmt>, ops: &[Op]) -> Result<(), Memory>
-    requires { AreBelow 4294967295 ops.now }
+    requires { AreBelow REGISTER_LIMIT ops.now }
     ensures { OnOk result (stmts.new.items ≡ stmts.old.items ++ ops_code ops.now []) }
 {
     for op in ops {
