@@ -10,7 +10,7 @@ use Rattle.lx_split.specs.Cuts.{AreApart, AreAtPlaces, AreCut, piece_text, sourc
 use Rattle.lx_split.specs.Openers.{word_of}
 use Rattle.lx_split.specs.declared.pieces.SourcePiece.{SourcePiece}
 use Rattle.lx_split.specs.declared.pieces.SourcePiece.TheVariants.{Outside, Block}
-use Rattle.lx_compile.specs.Ready.{IsNearPiece}
+use Rattle.lx_compile.specs.Emittable.{IsNearPiece}
 
 next_place-line : (at : Pos) (letter : ℕ) → (next_place at letter).line ≤ at.line + 1
 next_place-line at letter = by (letter == 10)

@@ -36,7 +36,7 @@ use Rattle.lx_rules.proofs.BlockSteps.{AreUsual, conditions_of-usual, in_order, 
 use Rattle.lx_exprs.proofs.ClassForms.{then-none}
 use Rattle.lx_rules.proofs.RuleNumbers.{all_in_order}
 use Rattle.lx_compile.specs.Output.{actions_of}
-use Rattle.lx_compile.specs.Ready.{CanBeEmitted}
+use Rattle.lx_compile.specs.Emittable.{CanBeEmitted}
 
 -- ---- the rules of a block
 

@@ -6,7 +6,7 @@ ghost use Rattle.lx_rules.specs.Soundness.{FitsLimits, HasFitDefinitions};
 ghost use Rattle.lx_exprs.specs.Within.{AreDefinedWithin};
 ghost use Rattle.lx_rules.specs.Within.{IsScannerWithin};
 ghost use Rattle.lx_compile.specs.Blocks.{AreSupported, IsBlock, StopsAt};
-ghost use Rattle.lx_compile.specs.Ready.{IsNear};
+ghost use Rattle.lx_compile.specs.Emittable.{IsNear};
 
 use lx_base::{BlockKind, Fault, Options, Pos, Stop};
 use lx_parse::parse;

@@ -2,6 +2,7 @@
 use Rattle.std.specs.Prelude.{◌≡◌, ◌≢◌, ℕ, ◌+◌, ◌-◌, ◌⊎◌, Bool, true, false, List, [], ◌∷◌, ◌++◌, length, map, drop, nat_lt, ◌==◌, ◌&&◌, ◌||◌, Option, Some, None, is_some, if◌then◌else◌}
 use Rattle.std.specs.Option.{option_and_then}
 use Rattle.std.specs.Str.{bytes_eq}
+use Rattle.lx_base.specs.declared.limits.TheConstants.{BOUND_LIMIT}
 use Rattle.lx_base.specs.Letters.{is_within}
 use Rattle.lx_base.specs.declared.places.Pos.{Pos}
 use Rattle.lx_base.specs.declared.faults.Fault.{Fault}
@@ -73,8 +74,8 @@ repeated_tag at (tag ∷ tags) seen = if is_among tag seen then Some (DuplicateT
 
 -- bounds in the wrong order, or with a number over 4,096
 abbrev pub is_wrong : (least : ℕ) → (greatest : Option ℕ) → Bool
-is_wrong least None = nat_lt 4096 least
-is_wrong least (Some greatest) = nat_lt 4096 least || nat_lt 4096 greatest || nat_lt greatest least
+is_wrong least None = nat_lt BOUND_LIMIT least
+is_wrong least (Some greatest) = nat_lt BOUND_LIMIT least || nat_lt BOUND_LIMIT greatest || nat_lt greatest least
 
 -- how often a sign repeats what stands before it
 abbrev pub bounds_at : Sort → Lexeme → Repeat

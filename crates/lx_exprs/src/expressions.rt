@@ -1,5 +1,6 @@
 //! Reads the expressions of definitions and rules.
 ghost use Rattle.std.specs.Prelude.{◌≡◌, ◌<◌, ◌≤◌, ◌^◌, ℕ, List, IfOk, IfSome, MatchResult, None, Some, length, map};
+ghost use Rattle.lx_base.specs.declared.limits.TheConstants.{BOUND_LIMIT};
 ghost use Rattle.lx_base.specs.declared.settings.Options.{Options};
 ghost use Rattle.lx_parse.specs.Expressions.{alt};
 ghost use Rattle.lx_parse.specs.Ranges.{IsPart};
@@ -19,15 +20,13 @@ ghost use Rattle.lx_exprs.specs.Values.{IsBounded, IsRoom, IsValue};
 use crate::leaves::{Reader, read_leaf, read_set, unsupported};
 use crate::tags::{SeenTags, SharedTags};
 use crate::values::{Room, Value};
+use lx_base::limits::BOUND_LIMIT;
 use lx_base::{Fault, Memory, Options, Pos, Stop};
 use lx_forms::lexemes::{Lexeme, Lexemes};
 use lx_forms::steps::{Step, StepSort, expression_steps};
 use lx_parse::Sort;
 use lx_token::{Repeat, repeat_of};
 use std::alloc::Global;
-
-/// The greatest number of a repetition.
-const MOST_BOUND: u64 = 4096;
 
 /// What is read of an expression so far: values that are not yet put together, in order, and the names of all tags.
 #[derive(Drop)]
@@ -72,8 +71,8 @@ fn is_wrong(bounds: Repeat) -> bool
     ensures { result ≡ is_wrong bounds.min bounds.max }
 {
     match bounds.max {
-        Some(most) => bounds.min > MOST_BOUND || most > MOST_BOUND || most < bounds.min,
-        None => bounds.min > MOST_BOUND,
+        Some(most) => bounds.min > BOUND_LIMIT || most > BOUND_LIMIT || most < bounds.min,
+        None => bounds.min > BOUND_LIMIT,
     }
 }
 
@@ -82,8 +81,8 @@ fn checked_bounds(sign: &Lexeme<'_>) -> Result<Repeat, Fault>
     ensures bounds { MatchResult result
         (λ bounds. (bounds ≡ bounds_of (lexeme_view sign.now)) × (bounds_fault (lexeme_view sign.now) ≡ None))
         (λ fault. bounds_fault (lexeme_view sign.now) ≡ Some fault) }
-    ensures least { IfOk result (λ bounds. bounds.min ≤ 4096) }
-    ensures most { IfOk result (λ bounds. IfSome bounds.max (λ most. most ≤ 4096)) }
+    ensures least { IfOk result (λ bounds. bounds.min ≤ BOUND_LIMIT) }
+    ensures most { IfOk result (λ bounds. IfSome bounds.max (λ most. most ≤ BOUND_LIMIT)) }
 {
     let bounds = bounds_at(sign);
     if is_wrong(bounds) {

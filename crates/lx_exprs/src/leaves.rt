@@ -1,5 +1,6 @@
 //! Reads the tokens of an expression that are no signs between others.
 ghost use Rattle.std.specs.Prelude.{◌≡◌, ◌≤◌, ◌∷◌, ◌++◌, ◌^◌, ◌+◌, ℕ, Bool, true, false, List, Some, None, [], IfOk, MatchResult, length, map, max, min, suc};
+ghost use Rattle.lx_base.specs.declared.limits.TheConstants.{SIZE_LIMIT};
 ghost use Rattle.lx_base.specs.declared.faults.Fault.TheVariants.{EmptyClass, UnknownName, Unsupported};
 ghost use Rattle.lx_base.specs.declared.faults.Stop.TheVariants as stop;
 ghost use Rattle.lx_base.specs.declared.places.Pos.{Pos};
@@ -25,7 +26,8 @@ use crate::definitions::{Definitions, Kept};
 use crate::points::points_fault;
 use crate::sets::{character_set, class_set, line_set, ranges_of, single_ranges};
 use crate::tags::{SeenTags, repeated_tag, tag_name};
-use crate::values::{Content, MOST_SIZE, MOST_TAGS, Room, Value, class_of, sum};
+use crate::values::{Content, Room, Value, class_of, sum};
+use lx_base::limits::{SIZE_LIMIT, TAG_LIMIT};
 use lx_base::{ByteText, EmptyPolicy, Fault, Memory, Options, Pos, Stop, SurPolicy};
 use lx_class::ClassSet;
 use lx_forms::lexemes::Lexeme;
@@ -76,7 +78,7 @@ fn string_content(
     characters: &[Character],
 ) -> Result<Content, Memory>
     requires { AreCodePoints characters.now }
-    ensures stands { (is_built : Bool) (count : ℕ) → (4096 + 1 ≤ length characters.now → is_built ≡ false)
+    ensures stands { (is_built : Bool) (count : ℕ) → (SIZE_LIMIT + 1 ≤ length characters.now → is_built ≡ false)
         → IfOk result (IsContent is_built (string_meaning count (map (character_set policy is_caseless) (points_of characters.now)))) }
     ensures size { IfOk result (λ content. content_size content ≤ max 1 (length characters.now)) }
     ensures tags { (bound : ℕ) → IfOk result (AreTagsBelow bound) }
@@ -87,7 +89,7 @@ fn string_content(
             let set = character_set(alloc, policy, is_caseless, character.point)?;
             Ok(Content::One(Expr::Class(set)))
         }
-        _ if characters.len() as u64 <= MOST_SIZE => {
+        _ if characters.len() as u64 <= SIZE_LIMIT => {
             let expr = sequence(alloc, policy, is_caseless, characters)?;
             Ok(Content::One(expr))
         }
@@ -119,7 +121,7 @@ fn kept_content(alloc: Global, kept: &Kept, by: u64) -> Result<Content, Memory>
     let Some(expr) = &kept.expr else {
         return Ok(Content::One(Expr::Empty));
     };
-    if sum(by, kept.tags.len()) > MOST_TAGS {
+    if sum(by, kept.tags.len()) > TAG_LIMIT {
         let class = class_of(alloc, expr)?;
         return Ok(Content::Past(class, false));
     }
@@ -279,7 +281,7 @@ fn tag_content(number: u64) -> Content
     ensures size { content_size result ≤ 1 }
     ensures tags { (before : ℕ) → number ≡ kept before → AreTagsBelow (suc before) result }
 {
-    if number < MOST_TAGS {
+    if number < TAG_LIMIT {
         Content::One(Expr::STag(number as u32))
     } else {
         Content::Past(None, false)

@@ -1,11 +1,13 @@
 //! What is read of an expression.
 ghost use Rattle.std.specs.Prelude.{◌≡◌, ◌++◌, ℕ, ◌+◌, ◌^◌, IfOk, List, Option, map, min};
+ghost use Rattle.lx_base.specs.declared.limits.TheConstants.{BOUND_LIMIT, SIZE_LIMIT};
 ghost use Rattle.lx_regex.specs.Expr.{members_of, size_of, term_of};
 ghost use Rattle.lx_regex.specs.Expr as regex;
 ghost use Rattle.lx_exprs.specs.Defined.{both_classes, class_in, classes_in};
 ghost use Rattle.lx_exprs.specs.Values.{HasPoints};
 
 use crate::sets::Collected;
+use lx_base::limits::NESTING_LIMIT;
 use lx_base::Memory;
 use lx_class::ClassSet;
 use lx_regex::Expr;
@@ -14,15 +16,6 @@ use std::alloc::Global;
 
 /// Where kept sizes end: 2^40 stands for itself and for more.
 const MOST_KEPT: u64 = 1 << 40;
-
-/// The greatest size of a scanner.
-pub const MOST_SIZE: u64 = 4096;
-
-/// The greatest nesting in a scanner.
-pub const MOST_NESTING: u64 = 256;
-
-/// The greatest number of tags in a scanner.
-pub const MOST_TAGS: u64 = 128;
 
 /// What an expression may have at most so that it is built.
 #[derive(Clone, Copy, Debug)]
@@ -39,7 +32,7 @@ impl Room {
     fn fits(self, size: u64, nesting: u64, tags: u64) -> bool
         ensures { result ≡ fits self size nesting tags }
     {
-        size <= self.size && nesting <= MOST_NESTING && tags <= self.tags
+        size <= self.size && nesting <= NESTING_LIMIT && tags <= self.tags
     }
 }
 
@@ -281,8 +274,8 @@ impl Content {
 
     /// The same, repeated.
     fn repeated(self, alloc: Global, bounds: Repeat) -> Result<Content, Memory>
-        requires least { bounds.min ≤ 4096 }
-        requires most { IfSome bounds.max (λ most. most ≤ 4096) }
+        requires least { bounds.min ≤ BOUND_LIMIT }
+        requires most { IfSome bounds.max (λ most. most ≤ BOUND_LIMIT) }
         ensures stands { (is_built is_built_around : Bool) (meaning : Meaning) → IsContent is_built meaning self
             → (is_built ≡ false → is_built_around ≡ false) → IfOk result (IsContent is_built_around (repeated_by bounds meaning)) }
         ensures size { IfOk result (λ around. content_size around ≤ content_size self * times bounds.min bounds.max + 1) }
@@ -335,7 +328,7 @@ impl Value {
     ) -> Result<Value, Memory>
         requires { IsRoom room }
         ensures stands { (meaning : Meaning) → IsCounted meaning size nesting tags → IsContent (is_built room meaning) meaning content → IfOk result (IsValue room meaning) }
-        ensures bounded { (count : ℕ) → 1 ≤ size → (size ≤ 4096 → content_size content ≤ size) → AreTagsBelow count content → IfOk result (IsBounded count) }
+        ensures bounded { (count : ℕ) → 1 ≤ size → (size ≤ SIZE_LIMIT → content_size content ≤ size) → AreTagsBelow count content → IfOk result (IsBounded count) }
     {
         if room.fits(size, nesting, tags) {
             return Ok(Value {
@@ -370,8 +363,8 @@ impl Value {
     /// This, repeated.
     pub fn repeated(self, alloc: Global, room: Room, bounds: Repeat) -> Result<Value, Memory>
         requires room { IsRoom room }
-        requires least { bounds.min ≤ 4096 }
-        requires most { IfSome bounds.max (λ most. most ≤ 4096) }
+        requires least { bounds.min ≤ BOUND_LIMIT }
+        requires most { IfSome bounds.max (λ most. most ≤ BOUND_LIMIT) }
         ensures stands { (meaning : Meaning) → IsValue room meaning self → IfOk result (IsValue room (repeated_by bounds meaning)) }
         ensures bounded { (count : ℕ) → IsBounded count self → IfOk result (IsBounded count) }
     {

@@ -5,6 +5,7 @@ use Rattle.std.specs.Prelude.{◌||◌, nat_le, nat_lt, if◌then◌else◌}
 use Rattle.std.proofs.lemmas.Bool.{OnFalse_from}
 use Rattle.std.proofs.lemmas.List.{length-append, length-map}
 use Rattle.std.proofs.lemmas.List.Elements.{recursion_from_All}
+use Rattle.lx_regex.specs.ClassLimits.{AllClassesFit}
 use Rattle.lx_base.specs.Names.{usual_names}
 use Rattle.lx_base.specs.declared.faults.Fault.TheVariants.{TooManyParts}
 use Rattle.lx_base.specs.declared.places.Pos.{Pos}
@@ -30,7 +31,7 @@ use Rattle.lx_rules.specs.Items.{Goes, RuleOf, State, first_state}
 use Rattle.lx_rules.specs.Keeping.{names_of}
 use Rattle.lx_forms.specs.Lexemes.{Lexeme}
 use Rattle.lx_rules.specs.Soundness.{FitsLimits, IsFit, rules_size}
-use Rattle.lx_exprs.specs.Within.{AllClassesFit, AreDefinedWithin, IsPlain}
+use Rattle.lx_exprs.specs.Within.{AreDefinedWithin, IsPlain}
 use Rattle.lx_rules.specs.Within.{IsScannerWithin}
 use Rattle.lx_rules.proofs.BlockSteps.{AreUsual, conditions_of-usual, in_order, rules_of-usual, scanners_usual, tags_of-in_order}
 use Rattle.lx_exprs.proofs.ClassFits.{classes_fit}

@@ -1,6 +1,7 @@
 //! What a block resolves to, by what is known behind its items.
 ghost use Rattle.std.specs.Prelude.{◌≡◌, ◌↔◌, ◌≤◌, ◌||◌, Bool, IfOk, IsTrue, MatchResult, length, nat_lt};
 ghost use Rattle.std.specs.List.{AllByRecursion};
+ghost use Rattle.lx_base.specs.declared.limits.TheConstants.{NESTING_LIMIT, SIZE_LIMIT, SOURCE_LIMIT, TAG_LIMIT};
 ghost use Rattle.lx_base.specs.Names.{IsTagName};
 ghost use Rattle.lx_rules.specs.Blocks.{BlockChecks};
 ghost use Rattle.lx_rules.specs.Finishing.{AddsDefault, AreScannersOf, IsFinished, IsOneScanner};
@@ -12,10 +13,10 @@ use crate::environment::Env;
 use crate::items::{DefaultRule, Known};
 use crate::resolved::{Config, Resolved, Scanner};
 use crate::rules::simple_rule;
+use lx_base::limits::{NESTING_LIMIT, SIZE_LIMIT, TAG_LIMIT};
 use lx_base::names::{do_not_clash, is_tag_name};
 use lx_base::{ByteText, Fault, Memory, Names, Pos, Sequence, Stop, usual_names};
 use lx_exprs::tags::SharedTags;
-use lx_exprs::values::{MOST_NESTING, MOST_SIZE, MOST_TAGS};
 use lx_regex::{Expr, Kind, Rule, RuleSet};
 use std::alloc::Global;
 
@@ -103,14 +104,14 @@ fn scanners(
 
 /// Whether the scanner is past a limit.
 fn is_too_large(known: &Known) -> bool
-    ensures { result ≡ (nat_lt 4096 known.now.size || nat_lt 256 known.now.nesting || nat_lt 128 (length known.now.tags)) }
+    ensures { result ≡ (nat_lt SIZE_LIMIT known.now.size || nat_lt NESTING_LIMIT known.now.nesting || nat_lt TAG_LIMIT (length known.now.tags)) }
 {
-    known.size > MOST_SIZE || known.nesting > MOST_NESTING || known.tags.len() > MOST_TAGS
+    known.size > SIZE_LIMIT || known.nesting > NESTING_LIMIT || known.tags.len() > TAG_LIMIT
 }
 
 /// What the block resolves to whose opener stands at this place, and what holds behind it.
 pub(crate) fn finish(alloc: Global, known: Known, at: Pos) -> Result<(Env, Resolved), Stop>
-    requires { length known.acts.items ≤ 16777216 }
+    requires { length known.acts.items ≤ SOURCE_LIMIT }
     ensures { (conds : Bool) (state : State) → Holds conds known state → MatchResult result (IsFinished conds at state) (StopsAt (BlockChecks at state)) }
 {
     let names = usual_names(alloc)?;

@@ -1,17 +1,19 @@
 //! Takes the items of a block in order.
 ghost use Rattle.std.specs.Prelude.{◌≡◌, IfOk, Some};
+ghost use Rattle.lx_base.specs.declared.limits.TheConstants.{SOURCE_LIMIT};
 
 use crate::configurations::read_config;
 use crate::environment::Env;
 use crate::heads::{Head, read_head};
 use crate::resolved::Act;
 use crate::rules::{act, simple_rule, tags_with};
+use lx_base::limits::{NESTING_LIMIT, SIZE_LIMIT, TAG_LIMIT};
 use lx_base::{Fault, Memory, Options, Pos, Stop};
 use lx_exprs::definitions::Kept;
 use lx_exprs::expressions::{Reading, read_expression};
 use lx_exprs::leaves::{Reader, unsupported};
 use lx_exprs::tags::{SharedTags, TagNames};
-use lx_exprs::values::{MOST_NESTING, MOST_SIZE, MOST_TAGS, Room, sum};
+use lx_exprs::values::{Room, sum};
 use lx_forms::lexemes::Lexemes;
 use lx_parse::Item;
 use lx_regex::{Kind, Rule};
@@ -85,14 +87,14 @@ impl Known {
         ensures { result ≡ room_behind self.now.size self.now.nesting (length self.now.tags) }
     {
         let tags = self.tags.len();
-        let is_past = self.nesting > MOST_NESTING || tags > MOST_TAGS;
+        let is_past = self.nesting > NESTING_LIMIT || tags > TAG_LIMIT;
         Room {
             size: if is_past {
                 0
             } else {
-                MOST_SIZE.saturating_sub(self.size)
+                SIZE_LIMIT.saturating_sub(self.size)
             },
-            tags: MOST_TAGS.saturating_sub(tags),
+            tags: TAG_LIMIT.saturating_sub(tags),
         }
     }
 
@@ -123,8 +125,8 @@ impl Known {
             options: block.options,
             definitions: &self.env.definitions,
             room: Room {
-                size: MOST_SIZE,
-                tags: MOST_TAGS,
+                size: SIZE_LIMIT,
+                tags: TAG_LIMIT,
             },
         };
         let reading = read_expression(alloc, reader, block.lexemes, from as usize, until as usize)?;
@@ -239,8 +241,8 @@ impl Known {
         goes: Option<u32>,
         code: Option<u32>,
     ) -> Result<(), Stop>
-        requires few { length self.old.acts.items < 16777216 }
-        requires short { length block.lexemes.body.now ≤ 16777216 }
+        requires few { length self.old.acts.items < SOURCE_LIMIT }
+        requires short { length block.lexemes.body.now ≤ SOURCE_LIMIT }
         requires expressions { HasExpressions (sorts_at (lexemes_view block.lexemes)) (item.Rule first head slash until goes code) }
         requires sound { HasFitDefinitions self.old.env }
         ensures few { OnOk result (length self.new.acts.items ≤ suc (length self.old.acts.items)) }
@@ -268,8 +270,8 @@ impl Known {
 
     /// Takes an item.
     pub fn take(&mut self, alloc: Global, block: Block<'_>, item: Item) -> Result<(), Stop>
-        requires few { length self.old.acts.items < 16777216 }
-        requires short { length block.lexemes.body.now ≤ 16777216 }
+        requires few { length self.old.acts.items < SOURCE_LIMIT }
+        requires short { length block.lexemes.body.now ≤ SOURCE_LIMIT }
         requires expressions { HasExpressions (sorts_at (lexemes_view block.lexemes)) item }
         requires sound { HasFitDefinitions self.old.env }
         ensures few { OnOk result (length self.new.acts.items ≤ suc (length self.old.acts.items)) }

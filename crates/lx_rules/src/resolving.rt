@@ -1,6 +1,7 @@
 //! Resolves a block.
 ghost use Rattle.std.specs.Prelude.{◌≡◌, ◌≤◌, length, Ok, IfOk, MatchResult};
 ghost use Rattle.std.specs.List.{AllByRecursion};
+ghost use Rattle.lx_base.specs.declared.limits.TheConstants.{SOURCE_LIMIT};
 ghost use Rattle.lx_base.specs.declared.blocks.BlockKind.TheVariants.{Code};
 ghost use Rattle.lx_base.specs.declared.places.Pos.{Pos};
 ghost use Rattle.lx_parse.specs.Blocks.{IsBody, form_of};
@@ -43,7 +44,7 @@ pub fn resolve(
     env: Env,
     options: &Options,
 ) -> Result<(Env, Resolved), Stop>
-    requires size { length body.now ≤ 16777216 }
+    requires size { length body.now ≤ SOURCE_LIMIT }
     requires tokens { (start : Pos) × (tokens_of body.now start ≡ Ok tokens.now) }
     requires tree { IsBody (form_of Code) (sorts_of Code body.now tokens.now) tree.now.items }
     requires sound { HasFitDefinitions env }
@@ -71,11 +72,11 @@ pub fn resolve(
 
 /// Takes the items of a block.
 fn take_items(alloc: Global, block: Block<'_>, env: Env, items: &[Item]) -> Result<Known, Stop>
-    requires few { length items.now ≤ 16777216 }
-    requires short { length block.lexemes.body.now ≤ 16777216 }
+    requires few { length items.now ≤ SOURCE_LIMIT }
+    requires short { length block.lexemes.body.now ≤ SOURCE_LIMIT }
     requires expressions { EachHasExpressions (sorts_at (lexemes_view block.lexemes)) items.now }
     requires sound { HasFitDefinitions env }
-    ensures few { IfOk result (λ known. length known.acts.items ≤ 16777216) }
+    ensures few { IfOk result (λ known. length known.acts.items ≤ SOURCE_LIMIT) }
     ensures goes { MatchResult result
         (λ known. (state : State) × Goes block.entry.options.now (lexemes_view block.entry.lexemes) (first_state (environment_view env)) items.now (Ok state)
         × Holds block.entry.options.now.conds known state)

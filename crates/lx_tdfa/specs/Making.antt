@@ -1,5 +1,6 @@
 -- What the code of determinization holds.
 use Rattle.std.specs.Prelude.{◌≡◌, ◌≢◌, ℕ, ◌<◌, ◌≤◌, ◌⊎◌, max, List, [], ◌∷◌, ◌++◌, map, length, sum_by, Vec, AllPairs, Contains}
+use Rattle.lx_base.specs.declared.limits.TheConstants.{KERNEL_LIMIT, PLACE_LIMIT}
 use Rattle.lx_base.specs.declared.faults.Fault.TheVariants.{TooManyStates}
 use Rattle.lx_base.specs.declared.faults.Stop.{Stop}
 use Rattle.lx_base.specs.declared.faults.Stop.TheVariants as stop
@@ -20,8 +21,8 @@ most_places (list ∷ lists) = max (length list) (most_places lists)
 
 -- not more lists, and not more places, than an automaton may have
 pub record IsWithin (lists : List (List Place)) : Type 0 where
-  pub few : length lists ≤ 4096
-  pub few_places : sum_by length lists ≤ 1048576
+  pub few : length lists ≤ KERNEL_LIMIT
+  pub few_places : sum_by length lists ≤ PLACE_LIMIT
 
 -- a list came behind the others, or was there
 abbrev pub Adds : (old : List (List Place)) → List Place → (new : List (List Place)) → Type 0
@@ -30,7 +31,7 @@ Adds old list new = ((new ≡ old) × Contains old list) ⊎ ((new ≡ old ++ li
 -- there are too many lists, or too many places in them, and all are different
 pub record AreTooMany (lists : List (List Place)) : Type 0 where
   pub apart : AllPairs (λ list other. list ≢ other) lists
-  pub many : (4096 < length lists) ⊎ (1048576 < sum_by length lists)
+  pub many : (KERNEL_LIMIT < length lists) ⊎ (PLACE_LIMIT < sum_by length lists)
 
 -- it stops where memory runs out, or by the fault of too many states, and then for this reason
 abbrev pub StopsBy : Pos → (reason : Type 0) → Stop → Type 0

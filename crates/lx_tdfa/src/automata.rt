@@ -1,9 +1,10 @@
 //! The automaton of a rule list, state by state.
 ghost use Rattle.std.specs.Prelude.{◌≡◌, ℕ, [], ◌∷◌, IfOk, List, MatchResult, length};
+ghost use Rattle.lx_regex.specs.ClassLimits.{AllClassesFit};
 ghost use Rattle.lx_base.specs.declared.settings.Enc.{Enc};
 ghost use Rattle.lx_regex.specs.Kernel.{HasTooManyKernels};
 ghost use Rattle.lx_regex.specs.Pattern.{Pattern, terms_of};
-ghost use Rattle.lx_tnfa.specs.Tnfa.{AllClassesFit, IsTnfaOf};
+ghost use Rattle.lx_tnfa.specs.Tnfa.{IsTnfaOf};
 ghost use Rattle.lx_tdfa.specs.Building.{AreListed, AreStatesOf, Grows, IsBuilt, IsSourceOfRules, TooManyFound};
 ghost use Rattle.lx_tdfa.specs.Making.{StopsBy};
 ghost use Rattle.lx_tdfa.specs.Promise.{IsAutoOf};

@@ -1,5 +1,6 @@
 //! The state of a list of places.
 ghost use Rattle.std.specs.Prelude.{◌≡◌, ◌<◌, ◌≤◌, ◌*◌, All, IfOk, IfSome, List, MatchResult, None, Some, length, map, option_map, slice_get};
+ghost use Rattle.lx_base.specs.declared.limits.TheConstants.{PLACE_LIMIT};
 ghost use Rattle.lx_auto.specs.Automaton.{AreApart};
 ghost use Rattle.lx_tnfa.specs.Closure.{AllPlaces};
 ghost use Rattle.lx_tnfa.specs.declared.places.Place.{Place};
@@ -50,7 +51,7 @@ impl<'a> Source<'a> {
     /// The first register of the place with this index.
     fn first_of(&self, index: usize) -> u32
         requires narrow { self.now.width ≤ 130 }
-        requires within { index ≤ 1048576 }
+        requires within { index ≤ PLACE_LIMIT }
         ensures { result ≡ first_of self.now.width index }
     {
         (index as u32 + 1) * self.width
@@ -59,8 +60,8 @@ impl<'a> Source<'a> {
     /// The operations of steps.
     fn step_ops(&self, is_first: bool, steps: &[Step<'_>]) -> Result<Ops, Memory>
         requires of_rules { IsSourceOfRules self.now }
-        requires few { length steps.now ≤ 1048576 }
-        requires sources { All (λ step. step.reach.now.from < 1048576) steps.now }
+        requires few { length steps.now ≤ PLACE_LIMIT }
+        requires sources { All (λ step. step.reach.now.from < PLACE_LIMIT) steps.now }
         ensures { IfOk result (λ ops. ops ≡ step_ops self.now.t.now (widest self.now.t.now.rules) is_first 0 (map seen_step steps.now)) }
     {
         let mut ops = Ops::new(self.alloc);
@@ -83,7 +84,7 @@ impl<'a> Source<'a> {
     /// The operations that keep the values of a rule that ends.
     fn ending_ops(&self, is_first: bool, ending: Ending<'_>) -> Result<Ops, Memory>
         requires of_rules { IsSourceOfRules self.now }
-        requires source { ending.reach.now.from < 1048576 }
+        requires source { ending.reach.now.from < PLACE_LIMIT }
         ensures { IfOk result (λ ops. ops ≡ ending_ops self.now.t.now (widest self.now.t.now.rules) is_first (seen_ending ending.entry)) }
     {
         let mut ops = Ops::new(self.alloc);
@@ -121,7 +122,7 @@ impl<'a> Source<'a> {
     /// What a state accepts by its first ending.
     fn accept(&self, is_first: bool, ending: Option<Ending<'_>>) -> Result<Option<Accept>, Memory>
         requires of_rules { IsSourceOfRules self.now }
-        requires source { IfSome ending (λ ending. ending.reach.now.from < 1048576) }
+        requires source { IfSome ending (λ ending. ending.reach.now.from < PLACE_LIMIT) }
         ensures { IfOk result (λ accept. accept ≡ accept_of self.now.t.now is_first (option_map seen_ending ending.entry)) }
     {
         match ending {
@@ -137,7 +138,7 @@ impl<'a> Source<'a> {
     /// What is done where a state is left.
     fn leave(&self, is_first: bool, ending: Option<Ending<'_>>) -> Result<Ops, Memory>
         requires of_rules { IsSourceOfRules self.now }
-        requires source { IfSome ending (λ ending. ending.reach.now.from < 1048576) }
+        requires source { IfSome ending (λ ending. ending.reach.now.from < PLACE_LIMIT) }
         ensures { IfOk result (λ ops. ops ≡ leave_of self.now.t.now is_first (option_map seen_ending ending.entry)) }
     {
         match ending {

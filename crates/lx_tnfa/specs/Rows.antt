@@ -1,9 +1,9 @@
 -- How the program's states stand for those of an automaton.
 use Rattle.std.specs.Prelude.{◌≡◌, ℕ, ◌+◌, ◌*◌, ◌^◌, ◌<◌, ◌≤◌, List, [], ◌∷◌, ◌++◌, map, length}
 use Rattle.lx_base.specs.declared.settings.Enc.{Enc}
-use Rattle.lx_encode.specs.Policy.{FitsEncoding}
 use Rattle.lx_regex.specs.Automaton as spec
 use Rattle.lx_regex.specs.Automaton.{moves, leaf, unit_leaf}
+use Rattle.lx_regex.specs.ClassLimits.{ClassesFit, ClassesFitAmong}
 use Rattle.lx_regex.specs.PartList.{set_of}
 use Rattle.lx_regex.specs.Term.{Term, empty, class, any_unit, cat, alt, repeat, tag, group, Terms, nil, cons}
 use Rattle.lx_tnfa.specs.Classes.{AreClasses, HasClass}
@@ -32,22 +32,6 @@ RepresentEach classes [] [] = Unit {0}
 RepresentEach classes [] (state ∷ states) = ⊥
 RepresentEach classes (row ∷ rows) [] = ⊥
 RepresentEach classes (row ∷ rows) (state ∷ states) = Represents classes row state × RepresentEach classes rows states
-
--- every point of a class of the term is one of the encoding
-abbrev mutual
-  pub ClassesFit : Enc → Term → Type 0
-  ClassesFit enc empty = Unit {0}
-  ClassesFit enc (class ranges) = FitsEncoding enc (set_of ranges)
-  ClassesFit enc any_unit = Unit {0}
-  ClassesFit enc (cat members) = ClassesFitAmong enc members
-  ClassesFit enc (alt members) = ClassesFitAmong enc members
-  ClassesFit enc (repeat body low high) = ClassesFit enc body
-  ClassesFit enc (tag number) = Unit {0}
-  ClassesFit enc (group opening closing body) = ClassesFit enc body
-
-  pub ClassesFitAmong : Enc → Terms → Type 0
-  ClassesFitAmong enc nil = Unit {0}
-  ClassesFitAmong enc (cons member members) = ClassesFit enc member × ClassesFitAmong enc members
 
 -- a term of which the states can be built: its group ends have 32 bits, and its classes fit the encoding
 abbrev pub IsBuildable : Enc → Term → Type 0

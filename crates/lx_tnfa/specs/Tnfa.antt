@@ -10,7 +10,7 @@ use Rattle.lx_regex.specs.Pattern.{Pattern, sorts_of, terms_of}
 use Rattle.lx_regex.specs.Term.{Term, parts}
 use Rattle.lx_tnfa.specs.Classes.{AreClasses}
 use Rattle.lx_tnfa.specs.Live.{AreLive}
-use Rattle.lx_tnfa.specs.Rows.{RepresentEach, ClassesFit}
+use Rattle.lx_tnfa.specs.Rows.{RepresentEach}
 use Rattle.lx_tnfa.specs.declared.classes.ClassGraph.{ClassGraph}
 use Rattle.lx_tnfa.specs.declared.places.Place.{Place}
 use Rattle.lx_tnfa.specs.declared.states.State.{State}
@@ -119,8 +119,3 @@ pub record IsTnfaOf (encoding : Enc) (patterns : List Pattern) (tnfa : Tnfa) : T
   pub begins : tnfa.begins ≡ beginnings_from (terms_of patterns) 1
   pub marks : length tnfa.live ≡ length tnfa.states
   pub live : AreLive tnfa.classes tnfa.states tnfa.live
-
--- every point of a class of the terms is one of the encoding
-abbrev pub AllClassesFit : Enc → List Term → Type 0
-AllClassesFit enc [] = Unit {0}
-AllClassesFit enc (e ∷ terms) = ClassesFit enc e × AllClassesFit enc terms

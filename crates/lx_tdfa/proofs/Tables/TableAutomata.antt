@@ -3,6 +3,7 @@ use Rattle.std.proofs.Common.{◌≡◌, ℕ, ◌<◌, List, [], length, Option,
 use Rattle.std.proofs.lemmas.Option.{get_or_from_slice_get, slice_get-get_or, slice_get_within}
 use Rattle.std.specs.Option.{unwrap_or}
 use Rattle.std.specs.Prelude.{slice_get, slice_index_or}
+use Rattle.lx_regex.specs.ClassLimits.{AllClassesFit}
 use Rattle.lx_auto.specs.declared.automaton.Accept.{Accept}
 use Rattle.lx_auto.specs.declared.automaton.Auto.{Auto}
 use Rattle.lx_auto.specs.declared.automaton.State.{State}
@@ -10,7 +11,7 @@ use Rattle.lx_base.specs.Spelling.{greatest_unit}
 use Rattle.lx_base.specs.declared.settings.Enc.{Enc}
 use Rattle.lx_regex.specs.Pattern.{Pattern, terms_of, with_terms}
 use Rattle.lx_tnfa.specs.Closure.{IsClosureOf}
-use Rattle.lx_tnfa.specs.Tnfa.{AllClassesFit, IsTnfaOf, Tnfa}
+use Rattle.lx_tnfa.specs.Tnfa.{IsTnfaOf, Tnfa}
 use Rattle.lx_tnfa.specs.declared.closure.Reach.{Reach}
 use Rattle.lx_tnfa.specs.declared.places.Place.{Place}
 use Rattle.lx_tdfa.specs.Promise.{IsAutoOf, IsByRule}

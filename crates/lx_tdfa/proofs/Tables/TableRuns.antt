@@ -1,6 +1,7 @@
 -- Where the runs of the automaton of a table stand.
 use Rattle.std.proofs.Common.{◌≡◌, ◌≢◌, ℕ, zero, suc, ◌+◌, ◌<◌, ◌≤◌, List, [], ◌∷◌, ◌++◌, map, length, Option, Some, None, Bool, true, false, Contains, slice_get, slice_index, refl, ap, ◌∙◌, sym, subst, subst₂, arith, append-nil, append_assoc, length-append}
 use Rattle.std.proofs.lemmas.Option.{get_or_from_slice_get, slice_get-get_or, slice_get_within}
+use Rattle.lx_regex.specs.ClassLimits.{AllClassesFit}
 use Rattle.lx_auto.specs.Automaton.{AreOps, edge_on, state_of}
 use Rattle.lx_auto.specs.Bank.{Bank, bank_after}
 use Rattle.lx_auto.specs.Run.{Left, Standing, and_then, behind_edge, by_edge, left_after, run, start_with, step}
@@ -16,7 +17,7 @@ use Rattle.lx_base.specs.declared.settings.Enc.{Enc}
 use Rattle.lx_regex.specs.Pattern.{Pattern, terms_of}
 use Rattle.lx_regex.specs.Term.{Term}
 use Rattle.lx_tnfa.specs.Closure.{IsClosureOf}
-use Rattle.lx_tnfa.specs.Tnfa.{AllClassesFit, IsTnfaOf, Tnfa}
+use Rattle.lx_tnfa.specs.Tnfa.{IsTnfaOf, Tnfa}
 use Rattle.lx_tnfa.specs.declared.closure.Reach.{Reach}
 use Rattle.lx_tnfa.specs.declared.places.Place.{Place}
 use Rattle.lx_tdfa.specs.Graph.{rule_starts}

@@ -2,6 +2,7 @@
 use Rattle.std.proofs.Common.{◌≡◌, ℕ, zero, suc, ◌<◌, arith, Bool, true, false, List, [], ◌∷◌, ◌++◌, map, length, refl, sym, ap, ap₂, ◌∙◌, subst, Some, None, ⊎_elim}
 use Rattle.std.proofs.lemmas.Bool.{false≢true}
 use Rattle.std.specs.Prelude.{◌/◌, ◌%◌, nat_eq, slice_get, slice_index, if◌then◌else◌}
+use Rattle.lx_regex.specs.ClassLimits.{AllClassesFit}
 use Rattle.lx_encode.specs.Graph.{numbered}
 use Rattle.lx_encode.specs.declared.graph.Residual.{Residual}
 use Rattle.lx_regex.specs.Automaton as spec
@@ -16,7 +17,7 @@ use Rattle.lx_tnfa.specs.LeafReadings.{IsNth}
 use Rattle.lx_tnfa.specs.Live.{AreLive, ReachesEnd, mark_at, starts_at, state_of}
 use Rattle.lx_tnfa.specs.Moves.{shown_move}
 use Rattle.lx_tnfa.specs.Rows.{RepresentEach, Represents}
-use Rattle.lx_tnfa.specs.Tnfa.{AllClassesFit, Tnfa}
+use Rattle.lx_tnfa.specs.Tnfa.{Tnfa}
 use Rattle.lx_tnfa.specs.declared.classes.ClassGraph.{ClassGraph}
 use Rattle.lx_tnfa.specs.declared.closure.Stop.TheVariants.{AtState}
 use Rattle.lx_tnfa.specs.declared.states.Event.TheVariants.{Set, Unset}

@@ -1,6 +1,7 @@
 -- States that are built one behind another.
 use Rattle.std.proofs.Common.{◌≡◌, ℕ, zero, suc, ◌+◌, ◌-◌, ◌*◌, ◌<◌, ◌≤◌, arith, List, [], ◌∷◌, ◌++◌, map, length, get_or, drop, refl, sym, ap, ◌∙◌, subst, append_assoc, append-nil, length-append, length-drop, ◌⊎◌, inl, inr, ⊎_elim}
 use Rattle.std.proofs.Math.ListN.{drop_of_length-le}
+use Rattle.lx_regex.specs.ClassLimits.{ClassesFit, ClassesFitAmong}
 use Rattle.lx_base.specs.declared.settings.Enc.{Enc}
 use Rattle.lx_regex.specs.Automaton as spec
 use Rattle.lx_regex.specs.Automaton.{moves, leaf, unit_leaf, table, next_member}
@@ -14,7 +15,7 @@ use Rattle.lx_regex.proofs.PartLists.{IsLeafForm}
 use Rattle.lx_tnfa.specs.Beginnings.{first_state, inner_states}
 use Rattle.lx_tnfa.specs.Classes.{Adds, AreClasses}
 use Rattle.lx_tnfa.specs.Moves.{shown_move}
-use Rattle.lx_tnfa.specs.Rows.{AreBuildable, RepresentEach, Builds, ClassesFit, ClassesFitAmong, HasRoom, IsBuildable, Represents}
+use Rattle.lx_tnfa.specs.Rows.{AreBuildable, RepresentEach, Builds, HasRoom, IsBuildable, Represents}
 use Rattle.lx_tnfa.specs.declared.building.Building.{Building}
 use Rattle.lx_tnfa.specs.declared.classes.ClassGraph.{ClassGraph}
 use Rattle.lx_tnfa.specs.declared.states.Move.{Move}

@@ -4,6 +4,7 @@ use Rattle.std.proofs.lemmas.List.{length-replicate, map-append}
 use Rattle.std.proofs.Math.ListN.{drop_of_length-le}
 use Rattle.std.specs.Bool.{OnFalse}
 use Rattle.std.specs.Prelude.{replicate, slice_get, if◌then◌else◌}
+use Rattle.lx_regex.specs.ClassLimits.{ClassesFit, AllClassesFit}
 use Rattle.lx_base.specs.declared.settings.Enc.{Enc}
 use Rattle.lx_regex.specs.Automaton as spec
 use Rattle.lx_regex.specs.Automaton.{automaton, final, leaf, moves, rules_table, table, unit_leaf}
@@ -17,8 +18,8 @@ use Rattle.lx_regex.proofs.Rows.{table_length}
 use Rattle.lx_tnfa.specs.Classes.{AreClasses}
 use Rattle.lx_tnfa.specs.Live.{AreLive}
 use Rattle.lx_tnfa.specs.Making.{AddsRule, CanAdd, rule_beginning, rule_size, rule_states, seen_owners, seen_tags}
-use Rattle.lx_tnfa.specs.Rows.{RepresentEach, Builds, ClassesFit, Represents}
-use Rattle.lx_tnfa.specs.Tnfa.{AllClassesFit, AreNumbered, IsNumbered, IsTnfaOf, beginnings_from}
+use Rattle.lx_tnfa.specs.Rows.{RepresentEach, Builds, Represents}
+use Rattle.lx_tnfa.specs.Tnfa.{AreNumbered, IsNumbered, IsTnfaOf, beginnings_from}
 use Rattle.lx_tnfa.specs.declared.classes.ClassGraph.{ClassGraph}
 use Rattle.lx_tnfa.specs.declared.making.Making.{Making}
 use Rattle.lx_tnfa.specs.declared.states.State.{State}

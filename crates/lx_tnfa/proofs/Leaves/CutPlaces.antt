@@ -1,5 +1,6 @@
 -- A cut stands at a place: that of its leaf, and of what was read in it.
 use Rattle.std.proofs.Common.{◌≡◌, ℕ, ◌+◌, ◌*◌, arith, List, [], ◌∷◌, ◌++◌, map, refl, sym, ap, ap₂, ◌∙◌, subst, append_assoc}
+use Rattle.lx_regex.specs.ClassLimits.{AllClassesFit}
 use Rattle.lx_base.specs.declared.settings.Enc.{Enc}
 use Rattle.lx_encode.specs.Graph.{numbered}
 use Rattle.lx_regex.specs.Automaton.{automaton}
@@ -21,7 +22,7 @@ use Rattle.lx_tnfa.specs.Live.{state_of}
 use Rattle.lx_tnfa.specs.PlaceNumbers.{rest_left}
 use Rattle.lx_tnfa.specs.Rows.{RepresentEach}
 use Rattle.lx_tnfa.specs.Standing.{StandsAt}
-use Rattle.lx_tnfa.specs.Tnfa.{AllClassesFit, IsRest, IsTnfaOf, Tnfa}
+use Rattle.lx_tnfa.specs.Tnfa.{IsRest, IsTnfaOf, Tnfa}
 use Rattle.lx_tnfa.specs.declared.places.Place.{Place}
 use Rattle.lx_tnfa.proofs.Leaves.FrontLeaves.{front_leaf, front_left, since}
 use Rattle.lx_tnfa.proofs.Leaves.LeafGraphs.{EndsBy}

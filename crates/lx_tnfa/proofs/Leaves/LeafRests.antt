@@ -2,6 +2,7 @@
 use Rattle.std.proofs.Common.{◌≡◌, ℕ, ◌+◌, ◌<◌, List, [], ◌∷◌, ◌++◌, map, refl, sym, ap, ap₂, ◌∙◌, subst, append_assoc, append-nil, Some}
 use Rattle.std.specs.Option.{unwrap_or}
 use Rattle.std.specs.Prelude.{length, slice_get}
+use Rattle.lx_regex.specs.ClassLimits.{AllClassesFit}
 use Rattle.lx_regex.specs.Automaton.{State, automaton}
 use Rattle.lx_regex.specs.Reading.{IsReading}
 use Rattle.lx_regex.specs.Script.{Symbol, choices, reads, units}
@@ -15,7 +16,7 @@ use Rattle.lx_tnfa.specs.LeafReadings.{IsLeft, IsNth}
 use Rattle.lx_tnfa.specs.Live.{state_of}
 use Rattle.lx_tnfa.specs.PlaceNumbers.{leaf_starts, rest_behind, rest_left, start_picked}
 use Rattle.lx_tnfa.specs.Rows.{RepresentEach}
-use Rattle.lx_tnfa.specs.Tnfa.{AllClassesFit, IsRest, Tnfa, rest_after}
+use Rattle.lx_tnfa.specs.Tnfa.{IsRest, Tnfa, rest_after}
 use Rattle.lx_tnfa.proofs.Construction.HeldStates.{held_at}
 use Rattle.lx_tnfa.proofs.Leaves.LeafGraphs.{EndsBy, behind_ends, ends_behind, rest_behind-more}
 use Rattle.lx_tnfa.proofs.Leaves.LeafStarts.{Starts, leaf_rise, start_found, starts_have, starts_read}

@@ -10,8 +10,8 @@ use Rattle.lx_regex.specs.Term.{Term, empty, class, any_unit, cat, alt, repeat, 
 use Rattle.lx_regex.proofs.Cuts.{ArePaired}
 use Rattle.lx_regex.proofs.Readings.{code_row}
 use Rattle.lx_tnfa.specs.Live.{state_of}
-use Rattle.lx_tnfa.specs.Rows.{RepresentEach, ClassesFit, ClassesFitAmong, Represents}
-use Rattle.lx_tnfa.specs.Tnfa.{AllClassesFit}
+use Rattle.lx_tnfa.specs.Rows.{RepresentEach, Represents}
+use Rattle.lx_regex.specs.ClassLimits.{ClassesFit, ClassesFitAmong, AllClassesFit}
 use Rattle.lx_tnfa.specs.declared.classes.ClassGraph.{ClassGraph}
 use Rattle.lx_tnfa.specs.declared.states.State.{State}
 use Rattle.lx_tnfa.specs.declared.states.State.TheVariants as held

@@ -1,6 +1,7 @@
 -- The states from which an end can be reached are those from which a walk leads to the last state of all.
 use Rattle.std.proofs.Common.{◌≡◌, ℕ, zero, suc, ◌+◌, ◌<◌, arith, List, [], ◌∷◌, length, map, get_or, refl, sym, ◌∙◌, subst, Some, ⊎_elim}
 use Rattle.std.specs.Prelude.{Contains, slice_get}
+use Rattle.lx_regex.specs.ClassLimits.{AllClassesFit}
 use Rattle.lx_class.specs.Ranges.{InRanges}
 use Rattle.lx_class.specs.declared.ranges.Range.{Range}
 use Rattle.lx_encode.specs.Graph.{AreStarts, IsGraphOf, parts}
@@ -18,7 +19,7 @@ use Rattle.lx_tnfa.specs.Live.{ReachesEnd, at_end, onward, behind_leaf, leads_to
 use Rattle.lx_tnfa.specs.Moves.{shown_move}
 use Rattle.lx_tnfa.specs.PlaceNumbers.{class_starts, set_at}
 use Rattle.lx_tnfa.specs.Rows.{RepresentEach, Represents}
-use Rattle.lx_tnfa.specs.Tnfa.{AllClassesFit, Tnfa, rows_at}
+use Rattle.lx_tnfa.specs.Tnfa.{Tnfa, rows_at}
 use Rattle.lx_tnfa.specs.declared.states.Move.{Move}
 use Rattle.lx_tnfa.specs.declared.states.State.{State}
 use Rattle.lx_tnfa.specs.declared.states.State.TheVariants as held

@@ -3,7 +3,7 @@ use Rattle.lx_regex.specs.Automaton.{automaton}
 use Rattle.lx_regex.specs.Limits.{IsWithinLimits}
 use Rattle.lx_regex.specs.Pattern.{patterns_of, terms_of}
 use Rattle.lx_tnfa.specs.RuleNumbers.{HaveApartNumbers}
-use Rattle.lx_tnfa.specs.Tnfa.{AllClassesFit}
+use Rattle.lx_regex.specs.ClassLimits.{AllClassesFit}
 use Rattle.lx_tnfa.proofs.Leaves.FormedLeaves.{automaton_formed}
 use Rattle.lx_tnfa.proofs.Liveness.LiveMarks.{live_same}
 use Rattle.lx_tnfa.proofs.Construction.ApartNumbers.{numbers_apart}
