@@ -12,6 +12,3 @@ pub use items::{BlockTree, Item};
 pub use laws::{bodies_are_read_or_refused, bodies_have_one_tree, expressions_stand_in_ranges};
 pub use parsing::parse;
 pub use sorts::{Sort, sort_of};
-
-#[cfg(test)]
-mod tests;
