@@ -2,11 +2,13 @@
 ghost use Rattle.std.specs.Prelude.{◌≡◌, ℕ, ◌≤◌, [], ◌∷◌, IfOk, IfSome, None, length, map};
 ghost use Rattle.lx_base.specs.Spelling.{greatest_point};
 ghost use Rattle.lx_base.specs.declared.settings.Enc.{Enc};
+ghost use Rattle.lx_encode.specs.Graph.{numbered};
 ghost use Rattle.lx_regex.specs.Expr.{members_of, term_of};
 ghost use Rattle.lx_regex.specs.Limits.{HaveLongSequences, numbers_from};
 ghost use Rattle.lx_regex.specs.Script.{merge_tags, tags_among};
 ghost use Rattle.lx_regex.specs.Term.{alt, cat, class, cons, group, nil, repeat, tag};
 ghost use Rattle.lx_tnfa.specs.Rows.{ClassesFitAmong};
+ghost use Rattle.lx_tnfa.specs.Tnfa.{IsPlace};
 ghost use Rattle.lx_tdfa.specs.Building.{IsBuilt};
 
 use lx_base::{Enc, Memory, Sequence};
@@ -80,6 +82,15 @@ pub(super) fn unit() -> Term {
     }
 }
 
+/// The empty string.
+pub(super) fn nothing() -> Term {
+    Term {
+        expr: Expr::Empty,
+        first: 0,
+        count: 0,
+    }
+}
+
 /// The tag with this number: an m-tag where all its values are to be kept.
 pub(super) fn mark(number: u32, many: bool) -> Term {
     let expr = if many {
@@ -106,6 +117,28 @@ fn choice(members: Vec<Expr>) -> Expr
     ensures { (tags : ℕ) → term_of tags result ≡ alt (members_of (map (term_of tags) members.items)) }
 {
     Expr::Alt(members)
+}
+
+/// So many s-tags, numbered from 0.
+fn marks(alloc: Global, count: u32) -> Result<Vec<Expr>, Memory>
+    ensures { IfOk result (λ list. (tags : ℕ) → map (term_of tags) list.items ≡ map tag (numbers_from 0 count)) }
+{
+    let mut list = Vec::new(alloc);
+    for number in 0..count {
+        list.push(Expr::STag(number))?;
+    }
+    Ok(list)
+}
+
+/// One of so many s-tags, numbered from 0.
+pub(super) fn any_mark(alloc: Global, count: u32) -> Result<Term, Memory> {
+    let members = marks(alloc, count)?;
+    let expr = choice(members);
+    Ok(Term {
+        expr,
+        first: 0,
+        count,
+    })
 }
 
 /// An expression repeated.
@@ -353,7 +386,8 @@ pub(super) fn captured(alloc: Global, body: Term, behind: Term) -> Result<Rules,
 /// The tagged automaton of rules.
 pub(super) fn tagged(alloc: Global, rules: &Rules, enc: Enc) -> Result<Tnfa, Memory>
     requires { greatest_point enc ≡ 0x10FFFF }
-    ensures { IfOk result IsBuilt }
+    ensures built { IfOk result IsBuilt }
+    ensures start { IfOk result (λ t. IsPlace t (record { part = 0; rest = numbered 0 })) }
 {
     Tnfa::of(alloc, &rules.set, enc)
 }
