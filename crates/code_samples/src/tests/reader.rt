@@ -1,4 +1,4 @@
-//! The example pieces read back, and how long a large one takes.
+//! The example pieces read back, texts that are none, and how long a large one takes.
 ghost use Rattle.lx_ccode.specs.Validity.{IsValid};
 
 use lx_ccode::{Piece, print};
@@ -38,12 +38,74 @@ fn is_printed(alloc: Global, piece: &Piece, bytes: &[u8]) -> Result<bool, Fail>
 }
 
 /// Each statement stands in one of these pieces.
+const EXAMPLES: [&[u8]; 3] = [CONTEXT, STORED, CHECKED];
+
 #[test]
 fn examples_are_read_back(rt: HostRuntime) -> Result<(), Fail> {
-    for text in [CONTEXT, STORED, CHECKED] {
+    for text in EXAMPLES {
         assert!(rt; is_read(rt.alloc(), text, 0)?);
     }
     Ok(())
+}
+
+#[test]
+fn fronts_are_no_pieces(rt: HostRuntime) -> Result<(), Fail> {
+    for text in EXAMPLES {
+        for end in 0..text.len() {
+            assert!(rt; !is_read(rt.alloc(), &text[..end], 0)?, "{end}");
+        }
+    }
+    Ok(())
+}
+
+/// Whether the text is a piece where the byte at a place is 0.
+fn is_read_without(alloc: Global, text: &[u8], place: usize) -> Result<bool, Fail> {
+    let mut bytes = Vec::from_slice(alloc, text)?;
+    if let Some(byte) = bytes.get_mut(place) {
+        *byte = 0;
+    }
+    is_read(alloc, &bytes, 0)
+}
+
+#[test]
+fn each_byte_counts_but_in_actions_and_names(rt: HostRuntime) -> Result<(), Fail> {
+    for text in EXAMPLES {
+        for place in 0..text.len() {
+            let is_free = is_in_action(text, place) || is_in_name(text, place);
+            assert!(rt;
+                is_read_without(rt.alloc(), text, place)? == is_free,
+                "{place}"
+            );
+        }
+    }
+    Ok(())
+}
+
+/// Whether the place is in one of the actions `{ return N; }`.
+fn is_in_action(text: &[u8], place: usize) -> bool {
+    let first = place.saturating_sub(12);
+    let window = text.get(first..place.saturating_add(13)).unwrap_or(&[]);
+    match memmem::find(window, b"{ return ") {
+        Some(found) => {
+            let start = first.saturating_add(found);
+            start <= place && place < start.saturating_add(13)
+        }
+        None => false,
+    }
+}
+
+/// Whether the place is in the name of a source, at a letter that stands for itself.
+fn is_in_name(text: &[u8], place: usize) -> bool {
+    let first = place.saturating_sub(6);
+    let window = text.get(first..place.saturating_add(7)).unwrap_or(&[]);
+    match memmem::find(window, b"a\\\"b.re") {
+        Some(found) => {
+            let start = first.saturating_add(found);
+            let offset = place.saturating_sub(start);
+            start <= place && offset < 7 && offset != 1 && offset != 2
+        }
+        None => false,
+    }
 }
 
 /// So many copies of the middle of the text: its blocks and actions.
