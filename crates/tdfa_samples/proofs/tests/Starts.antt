@@ -1,5 +1,6 @@
 -- The start of an automaton is a place.
 use Rattle.std.proofs.Common.{◌≡◌, ℕ, ◌<◌, List, [], ◌∷◌, length, arith, refl}
+use Rattle.std.specs.Prelude.{Result, Ok, Err, IfOk}
 use Rattle.lx_base.specs.declared.settings.Enc.{Enc}
 use Rattle.lx_encode.specs.Graph.{numbered}
 use Rattle.lx_regex.specs.Automaton as spec
@@ -27,3 +28,9 @@ pub start_is_place : (enc : Enc) (patterns : List Pattern) (tnfa : Tnfa) → IsT
     → IsPlace tnfa (record { part = 0; rest = numbered 0 })
 start_is_place enc patterns tnfa is =
     let at = first_state tnfa.classes (moves [] ∷ rules_table (terms_of patterns) 1) tnfa.states is.states in record { part = at.0; rest = at.1 }
+
+-- the same of what may be an automaton
+pub start_of_result : {E : Type 0} (enc : Enc) (patterns : List Pattern) (result : Result Tnfa E) → IfOk result (IsTnfaOf enc patterns)
+    → IfOk result (λ t. IsPlace t (record { part = 0; rest = numbered 0 }))
+start_of_result enc patterns (Ok t) is = start_is_place enc patterns t is
+start_of_result enc patterns (Err e) is = tt

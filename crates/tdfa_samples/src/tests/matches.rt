@@ -79,10 +79,16 @@ const GROUPS: [(&[u32], &str); 3] = [
     ),
 ];
 
+/// The rule list of these matches.
+fn in_groups(alloc: Global) -> Result<Rules, Fail> {
+    let body = term_of(alloc, "a-b")?;
+    let behind = term_of(alloc, "b-c")?;
+    captured(alloc, body, behind)
+}
+
 #[test]
 fn groups_and_the_slash_have_values(rt: HostRuntime) -> Result<(), Fail> {
-    let (body, behind) = (term_of(rt.alloc(), "a-b")?, term_of(rt.alloc(), "b-c")?);
-    let rules = captured(rt.alloc(), body, behind)?;
+    let rules = in_groups(rt.alloc())?;
     for (input, want) in GROUPS {
         let names = ["slash", "from", "to", "from", "to"];
         let got = found(rt.alloc(), &rules, input, &names)?;

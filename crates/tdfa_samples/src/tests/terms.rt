@@ -119,13 +119,21 @@ fn choice(members: Vec<Expr>) -> Expr
     Expr::Alt(members)
 }
 
+/// The s-tag with a number.
+fn s_tag(number: u32) -> Expr
+    ensures { (tags : ℕ) → term_of tags result ≡ tag number }
+{
+    Expr::STag(number)
+}
+
 /// So many s-tags, numbered from 0.
 fn marks(alloc: Global, count: u32) -> Result<Vec<Expr>, Memory>
     ensures { IfOk result (λ list. (tags : ℕ) → map (term_of tags) list.items ≡ map tag (numbers_from 0 count)) }
 {
     let mut list = Vec::new(alloc);
     for number in 0..count {
-        list.push(Expr::STag(number))?;
+        let next = s_tag(number);
+        list.push(next)?;
     }
     Ok(list)
 }
