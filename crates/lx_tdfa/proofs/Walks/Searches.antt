@@ -1,10 +1,11 @@
 -- The closure of places and the search from their numbers go on alike.
 use Rattle.std.proofs.Common.{◌≡◌, false, true, List, [], ◌∷◌, map, refl, sym, ◌∙◌, subst}
+use Rattle.lx_regex.specs.ClassLimits.{AllClassesFit}
 use Rattle.lx_base.specs.declared.settings.Enc.{Enc}
 use Rattle.lx_regex.specs.Pattern.{Pattern, terms_of}
 use Rattle.lx_tnfa.specs.Classes.{AreClasses}
 use Rattle.lx_tnfa.specs.Closure.{beginning_of}
-use Rattle.lx_tnfa.specs.Tnfa.{AllClassesFit, IsTnfaOf, Tnfa}
+use Rattle.lx_tnfa.specs.Tnfa.{IsTnfaOf, Tnfa}
 use Rattle.lx_tnfa.specs.declared.closure.Stop.TheVariants.{AtState}
 use Rattle.lx_tnfa.specs.declared.places.Place.{Place}
 use Rattle.lx_tnfa.proofs.Searching.SearchPaths.{Each-from_all}

@@ -8,7 +8,7 @@ use Rattle.lx_regex.specs.Limits.{HaveLongSequences, numbers_from}
 use Rattle.lx_regex.specs.Script.{put_tag, tags_among}
 use Rattle.lx_regex.specs.Term.{Term, alt, tag}
 use Rattle.lx_regex.specs.declared.expr.Expr.{Expr}
-use Rattle.lx_tnfa.specs.Rows.{ClassesFitAmong}
+use Rattle.lx_regex.specs.ClassLimits.{ClassesFitAmong}
 use Rattle.tdfa_samples.proofs.tests.SoundTerms.{IsSound, put_first}
 
 one_number_more : (number count : ℕ) → numbers_from number count ++ (number + count) ∷ [] ≡ numbers_from number (suc count)

@@ -7,18 +7,18 @@ use Rattle.lx_regex.specs.Automaton as spec
 use Rattle.lx_regex.specs.Automaton.{moves, rules_table}
 use Rattle.lx_regex.specs.Pattern.{Pattern, terms_of}
 use Rattle.lx_tnfa.specs.Live.{state_of}
-use Rattle.lx_tnfa.specs.Rows.{AreHeld, IsHeld}
+use Rattle.lx_tnfa.specs.Rows.{RepresentEach, Represents}
 use Rattle.lx_tnfa.specs.Tnfa.{Tnfa, IsPlace, IsRest, IsTnfaOf}
 use Rattle.lx_tnfa.specs.declared.classes.ClassGraph.{ClassGraph}
 use Rattle.lx_tnfa.specs.declared.states.State.{State}
 use Rattle.lx_tnfa.specs.declared.states.State.TheVariants as held
 
-first_rest : (classes : List ClassGraph) (state : State) → IsHeld classes (moves []) state → IsRest classes state 0 0
+first_rest : (classes : List ClassGraph) (state : State) → Represents classes (moves []) state → IsRest classes state 0 0
 first_rest classes (held.Moves ways) h = (refl, refl)
 first_rest classes (held.Class number) h = absurd h
 first_rest classes held.AnyUnit h = absurd h
 
-first_state : (classes : List ClassGraph) (rows : List spec.State) (states : List State) → AreHeld classes (moves [] ∷ rows) states
+first_state : (classes : List ClassGraph) (rows : List spec.State) (states : List State) → RepresentEach classes (moves [] ∷ rows) states
     → (0 < length states) × IsRest classes (state_of states 0) 0 0
 first_state classes rows [] h = absurd h
 first_state classes rows (state ∷ states) h = (omega arith, first_rest classes state h.0)
