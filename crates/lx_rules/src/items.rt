@@ -129,13 +129,7 @@ impl Known {
                 tags: TAG_LIMIT,
             },
         };
-        let reading = read_expression(
-            alloc,
-            reader,
-            block.lexemes,
-            from as usize,
-            until as usize,
-        )?;
+        let reading = read_expression(alloc, reader, block.lexemes, from as usize, until as usize)?;
         let Reading { value, tags } = reading;
         let kept = Kept {
             at: name.at,

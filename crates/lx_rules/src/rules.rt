@@ -46,7 +46,12 @@ pub(crate) fn tags_with(alloc: Global, names: &[ByteText]) -> Result<Sequence<Ta
 }
 
 /// What a rule without a target does.
-pub(crate) fn act(alloc: Global, block: Block<'_>, number: u32, code: Option<u32>) -> Result<Act, Memory>
+pub(crate) fn act(
+    alloc: Global,
+    block: Block<'_>,
+    number: u32,
+    code: Option<u32>,
+) -> Result<Act, Memory>
     ensures { IfOk result (λ act. act ≡ act_of block.entry.options.now (lexemes_view block.entry.lexemes) number None code) }
 {
     match code {

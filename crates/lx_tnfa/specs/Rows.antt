@@ -5,7 +5,7 @@ use Rattle.lx_regex.specs.Automaton as spec
 use Rattle.lx_regex.specs.Automaton.{moves, leaf, unit_leaf}
 use Rattle.lx_regex.specs.ClassLimits.{ClassesFit, ClassesFitAmong}
 use Rattle.lx_regex.specs.PartList.{set_of}
-use Rattle.lx_regex.specs.Term.{Term, empty, class, any_unit, cat, alt, repeat, tag, group, Terms, nil, cons}
+use Rattle.lx_regex.specs.Term.{Term, Terms}
 use Rattle.lx_tnfa.specs.Classes.{AreClasses, HasClass}
 use Rattle.lx_tnfa.specs.Ends.{EndsFit, EndsFitAmong}
 use Rattle.lx_tnfa.specs.Moves.{shown_move}

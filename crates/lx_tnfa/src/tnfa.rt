@@ -42,7 +42,6 @@ pub struct Tnfa {
 
 impl Model for Tnfa {
     ghost use Rattle.std.specs.Prelude.{◌<◌, ◌^◌, length};
-    ghost use Rattle.lx_regex.specs.ClassLimits.{AllClassesFit};
     ghost use Rattle.lx_tnfa.specs.Making.{seen_owners, seen_tags};
     ghost use Rattle.lx_tnfa.specs.RuleNumbers.{HaveApartNumbers};
     ghost use Rattle.lx_tnfa.specs.Tnfa as spec;
@@ -65,6 +64,7 @@ impl Model for Tnfa {
 }
 
 impl Tnfa {
+    ghost use Rattle.lx_regex.specs.ClassLimits.{AllClassesFit};
     ghost use Rattle.lx_tnfa.specs.Tnfa.{FinishesPlace, IsPlace, IsTnfaOf, kinds_for, most_tags, place_after, rest_after, state_at};
 
     /// The automaton of a rule list within the limits of a scanner, of whose classes the encoding has each point.

@@ -23,7 +23,7 @@ read_expression-requires-clause-part c =
 
 pub returns-in_err-reading-clause-read : goal.returns-in_err-reading-clause-read
 returns-in_err-reading-clause-read c = λ state holds.
-    let p = err_from_is_err_and c.from_residual-in_err-reading.result c.from_residual-in_err-reading.ensures.1 in
+    let p = err_from_is_err_and c.from_residual.result c.from_residual.ensures.1 in
     let options = c.args.block.options.now in
     let lexemes = lexemes_view c.args.block.lexemes in
     let stopped = c.in_err-reading.field-0.0 in

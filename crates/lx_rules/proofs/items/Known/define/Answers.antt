@@ -16,7 +16,7 @@ returns-in_err-reading-clause-taken c = λ state holds.
     ap (λ (l : Lexeme). definition_of state.definitions l.text) (sym c.at-name.ensures)
     ∙ ap (λ definitions. definition_of definitions c.at-name.result.text.now) (sym holds.definitions)
     ∙ sym c.get.ensures.found ∙ ap (option_map (λ kept. definition_view c.at-name.result.text.now kept.now)) c.in_default.is in
-    let p = err_from_is_err_and c.from_residual-in_err-reading.result c.from_residual-in_err-reading.ensures.1 in
+    let p = err_from_is_err_and c.from_residual.result c.from_residual.ensures.1 in
     rw (p.1, p.2)
     (define_refused c.args.block.options.now lexemes c.args.self.now state holds c.args.name c.args.from c.args.until c.in_err-reading.field-0.0 none
     c.in_err-reading.ensures.read)
