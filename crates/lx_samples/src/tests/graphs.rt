@@ -96,17 +96,22 @@ const GRAPHS: [(Enc, Ranges, usize, &[Walk]); 12] = [
     (Enc::Utf16, &[], 0, &[]),
 ];
 
+/// The set and one range more.
+fn with_range(alloc: Global, set: &ClassSet, lo: u32, hi: u32) -> Result<ClassSet, Memory> {
+    let range = ClassSet::range(alloc, lo.min(MAX_POINT), hi.min(MAX_POINT))?;
+    set.union(alloc, &range)
+}
+
 /// The set of some ranges.
 fn set_of(alloc: Global, bounds: &[(u32, u32)]) -> Result<ClassSet, Memory> {
     let mut set = ClassSet::none(alloc);
     for (lo, hi) in bounds {
-        let range = ClassSet::range(alloc, (*lo).min(MAX_POINT), (*hi).min(MAX_POINT))?;
-        set = set.union(alloc, &range)?;
+        set = with_range(alloc, &set, *lo, *hi)?;
     }
     Ok(set)
 }
 
-/// The graph of some ranges.
+/// The graph of a class.
 fn graph_of(alloc: Global, enc: Enc, set: &ClassSet) -> Result<UnitGraph, Memory>
     ensures { IfOk result (λ graph. All (λ start. start.0 < length graph.rows) graph.starts) }
 {
@@ -211,6 +216,13 @@ fn residual_count(alloc: Global, graph: &UnitGraph) -> Result<usize, Memory>
     Ok(known.len())
 }
 
+/// How many residuals some ranges have.
+fn residuals_of(alloc: Global, enc: Enc, ranges: &[(u32, u32)]) -> Result<usize, Memory> {
+    let set = set_of(alloc, ranges)?;
+    let graph = graph_of(alloc, enc, &set)?;
+    residual_count(alloc, &graph)
+}
+
 /// The most residuals that some classes have. In the last one two blocks with the same places share a residual: without the start
 /// there are those behind C2 and C3, those behind C4, and the end.
 const RESIDUALS: [(Enc, Ranges, usize); 4] = [
@@ -223,8 +235,7 @@ const RESIDUALS: [(Enc, Ranges, usize); 4] = [
 #[test]
 fn residuals_are_shared(rt: HostRuntime) -> Result<(), Fail> {
     for (enc, ranges, most) in RESIDUALS {
-        let graph = graph_of(rt.alloc(), enc, &set_of(rt.alloc(), ranges)?)?;
-        let count = residual_count(rt.alloc(), &graph)?;
+        let count = residuals_of(rt.alloc(), enc, ranges)?;
         assert!(rt; count <= most, "{enc:?} {ranges:?}");
     }
     Ok(())
