@@ -63,11 +63,12 @@ fn listed(alloc: Global, pieces: &[SourcePiece]) -> Result<String, Memory> {
 }
 
 /// The pieces of a short source, or the place where it is refused.
-fn shown(alloc: Global, source: &str, opts: &Options) -> Result<String, Fail> {
+fn shown(alloc: Global, source: &str, conds: bool, states: bool) -> Result<String, Fail> {
     if source.len() > 1000 {
         return Err("a long source")?;
     }
-    match split(alloc, source.as_bytes(), 7, opts) {
+    let opts = options(alloc, conds, states);
+    match split(alloc, source.as_bytes(), 7, &opts) {
         Ok(pieces) => Ok(listed(alloc, pieces.as_slice())?),
         Err(stop) => Ok(refusal(alloc, &stop)?),
     }
@@ -77,11 +78,12 @@ fn shown(alloc: Global, source: &str, opts: &Options) -> Result<String, Fail> {
 fn compare(
     rt: &impl Abort,
     alloc: Global,
-    opts: &Options,
+    conds: bool,
+    states: bool,
     rows: &[(&str, &str)],
 ) -> Result<(), Fail> {
     for (source, want) in rows {
-        assert_eq!(rt; shown(alloc, source, opts)?.as_str(), *want);
+        assert_eq!(rt; shown(alloc, source, conds, states)?.as_str(), *want);
     }
     Ok(())
 }
@@ -177,19 +179,9 @@ const REFUSED: [(&str, &str); 2] = [
 
 #[test]
 fn sources_have_their_pieces(rt: HostRuntime) -> Result<(), Fail> {
-    compare(
-        &rt,
-        rt.alloc(),
-        &options(rt.alloc(), false, false),
-        &SOURCES,
-    )?;
-    compare(&rt, rt.alloc(), &options(rt.alloc(), true, true), &KINDS)?;
-    compare(
-        &rt,
-        rt.alloc(),
-        &options(rt.alloc(), false, false),
-        &REFUSED,
-    )
+    compare(&rt, rt.alloc(), false, false, &SOURCES)?;
+    compare(&rt, rt.alloc(), true, true, &KINDS)?;
+    compare(&rt, rt.alloc(), false, false, &REFUSED)
 }
 
 /// A line of C.
@@ -232,15 +224,22 @@ const LARGE: [(&str, &[Part], usize); 9] = [
     ("lines", &[(b"/*!re2c \\\"*/", 1_398_101)], 1_398_101),
 ];
 
-/// How many pieces a large source has, and how many microseconds they take.
-fn measured(rt: &HostRuntime, source: &[u8], opts: &Options) -> Result<(usize, u128), Fail> {
+/// How many pieces a large source has, or none where it is refused.
+fn piece_count(alloc: Global, source: &[u8]) -> Option<usize> {
     if source.len() > 16_777_216 {
-        return Err("a source that is too long")?;
+        return None;
     }
+    let opts = options(alloc, true, true);
+    match split(alloc, source, 0, &opts) {
+        Ok(pieces) => Some(pieces.as_slice().len()),
+        Err(_) => None,
+    }
+}
+
+/// How many pieces a large source has, and how many microseconds they take.
+fn measured(rt: &HostRuntime, source: &[u8]) -> Result<(Option<usize>, u128), Fail> {
     let start = Instant::now(rt)?;
-    let pieces = split(rt.alloc(), source, 0, opts)?;
-    let count = pieces.as_slice().len();
-    drop(pieces);
+    let count = piece_count(rt.alloc(), source);
     Ok((count, start.elapsed(rt)?.as_micros()))
 }
 
@@ -249,9 +248,9 @@ fn measured(rt: &HostRuntime, source: &[u8], opts: &Options) -> Result<(usize, u
 fn time_of_large_sources(rt: HostRuntime) -> Result<(), Fail> {
     for (name, parts, want) in LARGE {
         let source = repeated(rt.alloc(), parts)?;
-        let (count, micros) = measured(&rt, &source, &options(rt.alloc(), true, true))?;
+        let (count, micros) = measured(&rt, &source)?;
         println!(rt; "splitting_{name}: {micros} us")?;
-        assert_eq!(rt; count, want);
+        assert!(rt; count == Some(want), "{name}");
     }
     Ok(())
 }
