@@ -1,2 +1,7 @@
-mod encode;
-mod regex;
+mod bodies;
+mod classes;
+mod graphs;
+mod parsing;
+mod splitting;
+mod tokens;
+mod units;
