@@ -5,6 +5,7 @@ pub mod BeginSections
 pub mod Behind
 pub mod Bounds
 pub mod Lengths
+pub mod NameLists
 pub mod ReadLines
 pub mod RoundTrip
 pub mod ReadSections

@@ -4,6 +4,7 @@ pub mod Examples
 pub mod Front
 pub mod Machine
 pub mod Marks
+pub mod NameSets
 pub mod Parts
 pub mod Reading
 pub mod Registers

@@ -5,11 +5,13 @@ pub mod examples;
 pub mod fronts;
 pub mod laws;
 mod lines;
+pub mod name_sets;
 mod numerals;
 pub mod piece;
 pub mod printing;
 mod sections;
 
 pub use fronts::begins_with_piece;
+pub use name_sets::NameSet;
 pub use piece::{CodeBlock, CondCase, LineMark, Piece, StateCase, Stmt};
 pub use printing::{count_statements, print, statements};

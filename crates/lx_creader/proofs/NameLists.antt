@@ -2,48 +2,10 @@
 use Rattle.std.proofs.Common.{◌≡◌, ◌∙◌, sym, ap, subst, refl, ℕ, zero, suc, ◌+◌, ◌<◌, Bool, true, false, ◌||◌, List, [], ◌∷◌, ◌++◌, map, length, take, drop, get_or, not, if◌then◌else◌, arith}
 use Rattle.std.specs.Bool.{MatchBool}
 use Rattle.std.specs.List.{list_any}
-use Rattle.std.specs.Str.{bytes_eq}
 use Rattle.std.proofs.lemmas.Bool.{false≢true}
-use Rattle.std.proofs.lemmas.List.{map-append}
-use Rattle.std.proofs.lemmas.Slice.Eq.{bytes_eq-Decides}
 use Rattle.lx_base.specs.Names.{AreDistinct, IsNoneOf}
 use Rattle.lx_base.specs.Letters.{equal_words}
 use Rattle.lx_ccode.proofs.Words.{equal_words-self, equal_words-true}
-
--- ---- equal words
-
-equal_words-bytes_eq : (word other : List ℕ) → bytes_eq word other ≡ equal_words word other
-equal_words-bytes_eq word other = by (bytes_eq word other) (equal_words word other) refl refl where
-  by : (a b : Bool) → bytes_eq word other ≡ a → equal_words word other ≡ b → a ≡ b
-  by true true p q = refl
-  by true false p q = let same : word ≡ other = (bytes_eq-Decides word other).0 p in sym (sym (ap (equal_words word) same) ∙ equal_words-self word) ∙ q
-  by false true p q = sym p ∙ (bytes_eq-Decides word other).1 (equal_words-true word other q)
-  by false false p q = refl
-
-pub list_any-bytes_eq : {K : Type 0} (items : K → List ℕ) (word : List ℕ) (keys : List K)
-    → list_any (λ key. bytes_eq word (items key)) keys ≡ list_any (equal_words word) (map items keys)
-list_any-bytes_eq items word [] = refl
-list_any-bytes_eq items word (key ∷ keys) =
-    ap (λ (test : Bool). test || list_any (λ key. bytes_eq word (items key)) keys) (equal_words-bytes_eq word (items key))
-    ∙ ap (λ (rest : Bool). equal_words word (items key) || rest) (list_any-bytes_eq items word keys)
-
--- a name that was put to the others, or not
-pub name_added : {K : Type 0} (items : K → List ℕ) (keys after : List K) (name : K) (word : List ℕ) (new : Bool) → items name ≡ word
-    → new ≡ not (list_any (λ key. bytes_eq (items name) (items key)) keys)
-    → after ≡ (if list_any (λ key. bytes_eq (items name) (items key)) keys then keys else keys ++ name ∷ [])
-    → MatchBool new
-    ((list_any (equal_words word) (map items keys) ≡ false) × (map items after ≡ map items keys ++ word ∷ []))
-    ((list_any (equal_words word) (map items keys) ≡ true) × (map items after ≡ map items keys))
-name_added items keys after name word new named is put = by (list_any (λ key. bytes_eq (items name) (items key)) keys) refl is put where
-  same : list_any (λ key. bytes_eq (items name) (items key)) keys ≡ list_any (equal_words word) (map items keys)
-  same = list_any-bytes_eq items (items name) keys ∙ ap (λ one. list_any (equal_words one) (map items keys)) named
-
-  by : (test : Bool) → list_any (λ key. bytes_eq (items name) (items key)) keys ≡ test → new ≡ not test → after ≡ (if test then keys else keys ++ name ∷ [])
-      → MatchBool new
-      ((list_any (equal_words word) (map items keys) ≡ false) × (map items after ≡ map items keys ++ word ∷ []))
-      ((list_any (equal_words word) (map items keys) ≡ true) × (map items after ≡ map items keys))
-  by true test new put = rw new (sym same ∙ test, ap (map items) put)
-  by false test new put = rw new (sym same ∙ test, ap (map items) put ∙ map-append items keys (name ∷ []) ∙ ap (λ one. map items keys ++ one ∷ []) named)
 
 -- ---- different names
 

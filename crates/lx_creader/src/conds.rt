@@ -5,11 +5,10 @@ ghost use Rattle.lx_base.specs.Names.{AreDistinct};
 ghost use Rattle.lx_ccode.specs.Validity.{label_of, labels};
 ghost use Rattle.lx_creader.specs.ValidParts.{IsValidCase, KeepCondRules};
 
-use crate::names::NameSet;
 use crate::statements::is_long;
 use lx_base::Memory;
 use lx_base::letters::{equal_words, is_identifier};
-use lx_ccode::{CodeBlock, CondCase};
+use lx_ccode::{CodeBlock, CondCase, NameSet};
 use std::alloc::Global;
 
 /// Whether the cases have the conditions of the blocks, in order.

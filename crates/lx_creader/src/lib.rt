@@ -7,7 +7,6 @@ pub mod find;
 pub mod laws;
 mod lines;
 mod marks;
-mod names;
 pub mod read;
 mod reading;
 mod rules;

@@ -6,14 +6,13 @@ ghost use Rattle.lx_ccode.specs.Statements.{all_statements, has_register_one, is
 ghost use Rattle.lx_ccode.specs.Validity.{IsLabel, ends_once, last_statements, refill_first, refills_after_states, states_before_refills, tries_after_state};
 ghost use Rattle.lx_creader.specs.ValidParts.{IsValidBlock, IsValidStatement};
 
-use crate::names::NameSet;
 use crate::statements::{
     has_few_groups, has_register_one, has_spelling, is_ending, is_need, is_refill, is_state,
     is_try, jumps_below, names_one_of,
 };
 use lx_base::letters::is_identifier;
 use lx_base::{ByteText, Names};
-use lx_ccode::{CodeBlock, Stmt};
+use lx_ccode::{CodeBlock, NameSet, Stmt};
 
 /// What the rules of statements and blocks depend on.
 #[derive(Clone, Copy)]

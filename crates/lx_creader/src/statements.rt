@@ -3,11 +3,10 @@ ghost use Rattle.std.specs.Prelude.{◌≡◌, ◌↔◌, IsTrue};
 ghost use Rattle.lx_ccode.specs.Statements.{has_register_one, is_ending, is_need, is_refill, is_state, is_try};
 ghost use Rattle.lx_ccode.specs.Validity.{HasFewGroups, HasSpelling, IsLine, IsLong, IsRegister, IsShort, JumpsBelow, NamesOneOf};
 
-use crate::names::NameSet;
 use lx_base::Names;
 use lx_base::letters::is_identifier;
 use lx_base::names::is_tag_name;
-use lx_ccode::{LineMark, Stmt};
+use lx_ccode::{LineMark, NameSet, Stmt};
 
 /// Whether the number has at most 32 bits, as each has that a piece can hold.
 pub(crate) fn is_short(number: u32) -> bool

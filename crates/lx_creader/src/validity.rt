@@ -5,13 +5,12 @@ ghost use Rattle.lx_ccode.specs.Validity.{IsLong, IsValid};
 ghost use Rattle.lx_creader.specs.ValidParts.{HasUnit, KeepsBlockRules, KeepsHeadRules, KeepsKindRules};
 
 use crate::conds::{distinct_conds, keep_cond_rules};
-use crate::names::NameSet;
 use crate::rules::{Rules, blocks_store_states, kinds_in, last_tries_after_state};
 use crate::statements::{is_line, is_long, is_short};
 use crate::states::keep_state_rules;
 use lx_base::names::{are_allowed, do_not_clash};
 use lx_base::{Memory, Names, Sequence};
-use lx_ccode::{CodeBlock, Piece, StateCase, count_statements};
+use lx_ccode::{CodeBlock, NameSet, Piece, StateCase, count_statements};
 use std::alloc::Global;
 
 /// Whether a unit has one, two or four bytes, and the unit at the buffer's end is one.

@@ -3,18 +3,16 @@ use Rattle.std.proofs.Common.{◌≡◌, ◌∙◌, sym, ap, refl, subst, ℕ, B
 use Rattle.std.specs.Bool.{MatchBool}
 use Rattle.std.specs.List.{list_any}
 use Rattle.std.specs.Str.{bytes_eq}
-use Rattle.std.proofs.lemmas.List.{map-append}
+use Rattle.std.proofs.lemmas.List.{map-id}
 use Rattle.std.proofs.Math.Seq.{take-suc}
 use Rattle.std.proofs.lemmas.List.Folds.{list_any-append}
 use Rattle.std.proofs.lemmas.Slice.Eq.{bytes_eq-Decides}
+use Rattle.lx_base.specs.Letters.{equal_words}
+use Rattle.lx_ccode.proofs.NameLists.{list_any-bytes_eq}
 use Rattle.lx_ccode.specs.declared.piece.Stmt.{Stmt}
 use Rattle.lx_ccode.specs.declared.piece.Stmt.TheVariants.{Tag}
 use Rattle.lx_run.specs.Tags.{AreTagsOf, given_tag}
 use Rattle.lx_run.specs.Values.{gives_same}
-
-list_any-map : {K : Type 0} (items : K → List ℕ) (word : List ℕ) (keys : List K) → list_any (λ key. bytes_eq word (items key)) keys ≡ list_any (bytes_eq word) (map items keys)
-list_any-map items word [] = refl
-list_any-map items word (key ∷ keys) = ap (λ (rest : Bool). bytes_eq word (items key) || rest) (list_any-map items word keys)
 
 -- what a set of names does with one more
 abbrev pub WasAdded : (names after : List (List ℕ)) → (name : List ℕ) → (new : Bool) → Type 0
@@ -22,18 +20,20 @@ WasAdded names after name new = MatchBool new
     ((list_any (bytes_eq name) names ≡ false) × (after ≡ names ++ name ∷ []))
     ((list_any (bytes_eq name) names ≡ true) × (after ≡ names))
 
-pub name_added : {K : Type 0} (items : K → List ℕ) (keys after : List K) (key : K) (word : List ℕ) (new : Bool) → items key ≡ word
-    → new ≡ not (list_any (λ other. bytes_eq (items key) (items other)) keys)
-    → after ≡ (if list_any (λ other. bytes_eq (items key) (items other)) keys then keys else keys ++ key ∷ [])
-    → WasAdded (map items keys) (map items after) word new
-name_added items keys after key word new named is put = by (list_any (λ other. bytes_eq (items key) (items other)) keys) refl is put where
-  same : list_any (λ other. bytes_eq (items key) (items other)) keys ≡ list_any (bytes_eq word) (map items keys)
-  same = list_any-map items (items key) keys ∙ ap (λ one. list_any (bytes_eq one) (map items keys)) named
+-- the same by the base's test of equal words, which tells the same words
+abbrev WasPut : (names after : List (List ℕ)) → (name : List ℕ) → (new : Bool) → Type 0
+WasPut names after name new = MatchBool new
+    ((list_any (equal_words name) names ≡ false) × (after ≡ names ++ name ∷ []))
+    ((list_any (equal_words name) names ≡ true) × (after ≡ names))
 
-  by : (test : Bool) → list_any (λ other. bytes_eq (items key) (items other)) keys ≡ test → new ≡ not test → after ≡ (if test then keys else keys ++ key ∷ [])
-      → WasAdded (map items keys) (map items after) word new
-  by true test new put = rw new (sym same ∙ test, ap (map items) put)
-  by false test new put = rw new (sym same ∙ test, ap (map items) put ∙ map-append items keys (key ∷ []) ∙ ap (λ one. map items keys ++ one ∷ []) named)
+WasAdded-put : (names after : List (List ℕ)) (name : List ℕ) (new : Bool) → WasPut names after name new → WasAdded names after name new
+WasAdded-put names after name new put = by new put where
+  same : list_any (bytes_eq name) names ≡ list_any (equal_words name) names
+  same = list_any-bytes_eq (λ key. key) name names ∙ ap (list_any (equal_words name)) (map-id names)
+
+  by : (new : Bool) → WasPut names after name new → WasAdded names after name new
+  by true put = (same ∙ put.0, put.1)
+  by false put = (same ∙ put.0, put.1)
 
 or-false : (a : Bool) → (a || false) ≡ a
 or-false true = refl
@@ -99,24 +99,24 @@ abbrev pub IsPut : (before : List Stmt) → (offsets histories : List (List ℕ)
 IsPut before offsets histories statement new = (new ≡ not (list_any (gives_same statement) before)) × AreTagsOf (before ++ statement ∷ []) offsets histories
 
 pub IsPut-offset : {E : Type 0} (answer : Result Bool E) (before : List Stmt) (offsets after histories : List (List ℕ)) (statement : Stmt) (name : List ℕ)
-    → Some (name, false) ≡ given_tag statement → IfOk answer (WasAdded offsets after name) → AreTagsOf before offsets histories → IfOk answer (IsPut before after histories statement)
+    → Some (name, false) ≡ given_tag statement → IfOk answer (WasPut offsets after name) → AreTagsOf before offsets histories → IfOk answer (IsPut before after histories statement)
 IsPut-offset (Ok new) before offsets after histories (Tag other sort register) name is added tags =
     let both : (name, false) ≡ (other, sort) = cc in
     let names : name ≡ other = ap (λ (tag : List ℕ × Bool). tag.0) both in
     let sorts : sort ≡ false = sym (ap (λ (tag : List ℕ × Bool). tag.1) both) in
     let same : Tag name false register ≡ Tag other sort register = ap (λ (one : List ℕ). Tag one false register) names ∙ ap (λ (one : Bool). Tag other one register) (sym sorts) in
-    subst (λ (one : Stmt). IsPut before after histories one new) same (AreTagsOf-offset before offsets after histories name register new tags added)
+    subst (λ (one : Stmt). IsPut before after histories one new) same (AreTagsOf-offset before offsets after histories name register new tags (WasAdded-put offsets after name new added))
 IsPut-offset (Ok new) before offsets after histories _ name is added tags = absurd cc
 IsPut-offset (Err error) before offsets after histories statement name is added tags = added
 
 pub IsPut-history : {E : Type 0} (answer : Result Bool E) (before : List Stmt) (offsets histories after : List (List ℕ)) (statement : Stmt) (name : List ℕ)
-    → Some (name, true) ≡ given_tag statement → IfOk answer (WasAdded histories after name) → AreTagsOf before offsets histories → IfOk answer (IsPut before offsets after statement)
+    → Some (name, true) ≡ given_tag statement → IfOk answer (WasPut histories after name) → AreTagsOf before offsets histories → IfOk answer (IsPut before offsets after statement)
 IsPut-history (Ok new) before offsets histories after (Tag other sort history) name is added tags =
     let both : (name, true) ≡ (other, sort) = cc in
     let names : name ≡ other = ap (λ (tag : List ℕ × Bool). tag.0) both in
     let sorts : sort ≡ true = sym (ap (λ (tag : List ℕ × Bool). tag.1) both) in
     let same : Tag name true history ≡ Tag other sort history = ap (λ (one : List ℕ). Tag one true history) names ∙ ap (λ (one : Bool). Tag other one history) (sym sorts) in
-    subst (λ (one : Stmt). IsPut before offsets after one new) same (AreTagsOf-history before offsets histories after name history new tags added)
+    subst (λ (one : Stmt). IsPut before offsets after one new) same (AreTagsOf-history before offsets histories after name history new tags (WasAdded-put histories after name new added))
 IsPut-history (Ok new) before offsets histories after _ name is added tags = absurd cc
 IsPut-history (Err error) before offsets histories after statement name is added tags = added
 

@@ -10,6 +10,5 @@ pub mod Sizes
 pub mod LexerParts
 pub mod Steps
 pub mod Streams
-pub mod TagNames
 pub mod WholeRuns
 pub mod Widths

@@ -12,7 +12,6 @@ mod scanner;
 mod sizes;
 mod slots;
 mod step;
-mod tag_names;
 mod units;
 
 pub use answers::{Group, Outcome, StmtAt};

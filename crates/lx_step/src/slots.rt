@@ -5,9 +5,8 @@ ghost use Rattle.lx_base.specs.Letters.{equal_words};
 ghost use Rattle.lx_step.specs.Given.{Given, with_offset, with_history, with_end, offset_in, history_in, onto_offsets, onto_histories, offset_slots, history_slots, nothing_given};
 
 use crate::answers::Group;
-use crate::tag_names::TagNames;
 use lx_base::{ByteText, Memory, Sequence};
-use lx_ccode::{CodeBlock, Stmt};
+use lx_ccode::{CodeBlock, NameSet, Stmt};
 use std::alloc::Global;
 use std::marker::Model;
 
@@ -127,7 +126,7 @@ impl Slots {
 /// The slots of tags that get an offset, each found without a look at all others. Contracts see them as a list.
 #[derive(Debug, Drop)]
 pub(crate) struct OffsetSlots {
-    names: TagNames,
+    names: NameSet,
     slots: Vec<OffsetSlot>,
 }
 
@@ -148,7 +147,7 @@ impl OffsetSlots {
         ensures { result ≡ [] }
     {
         OffsetSlots {
-            names: TagNames::new(alloc),
+            names: NameSet::new(alloc),
             slots: Vec::new(alloc),
         }
     }
@@ -216,7 +215,7 @@ fn append_offset_slots(
 /// The slots of tags that get a history, each found without a look at all others. Contracts see them as a list.
 #[derive(Debug, Drop)]
 pub(crate) struct HistorySlots {
-    names: TagNames,
+    names: NameSet,
     slots: Vec<HistorySlot>,
 }
 
@@ -237,7 +236,7 @@ impl HistorySlots {
         ensures { result ≡ [] }
     {
         HistorySlots {
-            names: TagNames::new(alloc),
+            names: NameSet::new(alloc),
             slots: Vec::new(alloc),
         }
     }
