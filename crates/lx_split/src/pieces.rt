@@ -39,7 +39,7 @@ fn copy(alloc: Global, text: &[u8]) -> Result<ByteText, Memory>
 }
 
 /// The place at which a file begins.
-fn file_start(file: u32) -> Pos
+pub(crate) fn file_start(file: u32) -> Pos
     ensures { result ≡ file_start file }
 {
     Pos {

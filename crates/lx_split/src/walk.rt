@@ -1,0 +1,154 @@
+//! The way through a source and the files that it includes.
+ghost use Rattle.std.specs.Prelude.{◌≡◌, ◌+◌, ◌≤◌, ◌++◌, ◌∷◌, List, [], length, IfOk, MatchResult, Ok, OnOk};
+ghost use Rattle.lx_split.specs.Includes.{found_view, pieces_within};
+ghost use Rattle.lx_split.specs.Pieces.{StopsWith};
+ghost use Rattle.lx_split.specs.Walks.{Advances, Enters, inner_folder, open_files};
+ghost use Rattle.lx_split.specs.declared.pieces.SourcePiece.{SourcePiece};
+
+use crate::includes::{IncludeBlock, folder_of, include_of};
+use crate::library::FoundFile;
+use crate::pieces::{Pieces, SourcePiece, split};
+use lx_base::{Fault, FileName, Memory, Options, Pos, Sequence, Stop};
+use std::alloc::Global;
+use std::collections::VecDeque;
+
+/// The most bytes that a source has with its includes.
+const MOST_BYTES: usize = 16_777_216;
+
+/// A file of which pieces are still to be taken.
+#[derive(Drop)]
+pub struct OpenFile {
+    /// These pieces, in order.
+    rest: VecDeque<SourcePiece>,
+    /// Its folder.
+    folder: FileName,
+    /// The piece that stands behind its last one, if one does.
+    leave: Option<SourcePiece>,
+}
+
+/// The pieces of a source so far, and the files that are open: the main file, then the one that it includes, and so on.
+#[derive(Drop)]
+pub struct Walk {
+    pieces: Pieces,
+    open: Vec<OpenFile>,
+    /// How many bytes the files have that were met so far.
+    total: usize,
+}
+
+/// The pieces of a file, where `before` bytes are met before it.
+fn pieces_within(
+    alloc: Global,
+    opts: &Options,
+    at: Pos,
+    file: u32,
+    before: usize,
+    bytes: &[u8],
+) -> Result<Pieces, Stop>
+    requires { before ≤ 16777216 }
+    ensures { MatchResult result (λ pieces. (pieces_within opts.now at file before bytes.now ≡ Ok pieces) × (length pieces ≤ length bytes.now) × (before + length bytes.now ≤ 16777216)) (StopsWith (pieces_within opts.now at file before bytes.now)) }
+{
+    let total = before + bytes.len();
+    if total > MOST_BYTES {
+        return Err(Stop::Fault(Fault::TooLong {
+            at,
+            total: total as u64,
+        }));
+    }
+    split(alloc, bytes, file, opts)
+}
+
+impl Walk {
+    /// No file is met. It takes no memory.
+    pub(crate) fn new(alloc: Global) -> Walk
+        ensures pieces { result.pieces ≡ [] }
+        ensures open { result.open.items ≡ [] }
+        ensures total { result.total ≡ 0 }
+    {
+        Walk {
+            pieces: Sequence::new(alloc),
+            open: Vec::new(alloc),
+            total: 0,
+        }
+    }
+
+    /// The pieces so far.
+    pub(crate) fn into_pieces(self) -> Pieces
+        ensures { result ≡ self.pieces }
+    {
+        self.pieces
+    }
+
+    /// How many files are open.
+    pub(crate) fn depth(&self) -> usize
+        ensures { result ≡ length self.now.open.items }
+    {
+        self.open.len()
+    }
+
+    /// The folder of the innermost file.
+    pub(crate) fn folder(&self) -> &str
+        ensures { result.now ≡ inner_folder (open_files self.now) }
+    {
+        match self.open.last() {
+            Some(file) => file.folder.as_str(),
+            None => "",
+        }
+    }
+
+    /// Puts a piece behind the pieces so far.
+    pub(crate) fn push(&mut self, piece: SourcePiece) -> Result<(), Memory>
+        ensures { OnOk result (self.new ≡ record self.old { pieces = self.old.pieces ++ piece ∷ [] }) }
+    {
+        self.pieces.push(piece)?;
+        Ok(())
+    }
+
+    /// Enters a file, which is met with this number, and behind whose pieces another may stand. The faults that do not stand
+    /// in it stand at `at`.
+    pub(crate) fn enter(
+        &mut self,
+        alloc: Global,
+        opts: &Options,
+        at: Pos,
+        file: u32,
+        found: FoundFile<'_>,
+        leave: Option<SourcePiece>,
+    ) -> Result<(), Stop>
+        requires { self.old.total ≤ 16777216 }
+        ensures { MatchResult result (λ _. (pieces : List SourcePiece) × (pieces_within opts.now at file self.old.total found.bytes.now ≡ Ok pieces) × Enters self.old self.new (found_view found) pieces leave)
+            (StopsWith (pieces_within opts.now at file self.old.total found.bytes.now)) }
+    {
+        let pieces = pieces_within(alloc, opts, at, file, self.total, found.bytes)?;
+        self.total += found.bytes.len();
+        let folder = String::from_str(alloc, folder_of(found.name))?;
+        self.open.push(OpenFile {
+            rest: VecDeque::from_vec(pieces.into_vec()),
+            folder: FileName::from_string(folder),
+            leave,
+        })?;
+        Ok(())
+    }
+
+    /// Takes pieces up to the next include, and then that, or all if there is none.
+    pub(crate) fn next_include(&mut self) -> Result<Option<IncludeBlock>, Memory>
+        ensures { IfOk result (Advances self.old self.new) }
+    {
+        while let Some(mut file) = self.open.pop() {
+            match file.rest.pop_front() {
+                None => {
+                    if let Some(leave) = file.leave {
+                        self.pieces.push(leave)?;
+                    }
+                }
+                Some(piece) => {
+                    self.open.push(file)?;
+                    match include_of(piece) {
+                        Ok(include) => return Ok(Some(include)),
+                        Err(piece) => self.pieces.push(piece)?,
+                    }
+                }
+            }
+        }
+        Ok(None)
+    }
+}
