@@ -1,5 +1,8 @@
 -- Letters, and words made of them.
-use Rattle.std.specs.Prelude.{◌≡◌, ℕ, Bool, true, false, List, [], ◌∷◌, length, drop, nat_le, ◌==◌, ◌||◌, if◌then◌else◌}
+use Rattle.std.specs.Prelude.{◌≡◌, ℕ, Bool, true, false, List, [], ◌∷◌, length, drop, nat_le, nat_lt, ◌==◌, ◌||◌, if◌then◌else◌}
+use Rattle.std.specs.Char.{digit_value}
+use Rattle.lx_base.specs.declared.letters.Letters.{Letters}
+use Rattle.lx_base.specs.declared.letters.Letters.TheVariants.{Digits, Hexadecimal, Identifier, Spelling, TypeName, Opener}
 
 -- a letter from `first` to `last`
 abbrev pub is_within : ℕ → ℕ → ℕ → Bool
@@ -21,6 +24,44 @@ abbrev pub is_in_spelling : ℕ → Bool
 is_in_spelling letter =
     is_in_identifier letter || (letter == 46) || (letter == 45) || (letter == 62) || (letter == 91) || (letter == 93)
     || (letter == 40) || (letter == 41) || (letter == 38) || (letter == 42)
+
+-- a digit of a hexadecimal number
+abbrev pub is_hexadecimal : ℕ → Bool
+is_hexadecimal letter = nat_lt (digit_value letter) 16
+
+-- a letter, a digit, `_`, or the space between the words of a type
+abbrev pub is_in_type : ℕ → Bool
+is_in_type letter = is_in_identifier letter || (letter == 32)
+
+-- a letter, a digit, `_`, or the `:` in the word that opens a block
+abbrev pub is_in_opener : ℕ → Bool
+is_in_opener letter = is_in_identifier letter || (letter == 58)
+
+-- the letters of a kind of words
+abbrev pub is_letter_of : Letters → ℕ → Bool
+is_letter_of Digits = is_digit
+is_letter_of Hexadecimal = is_hexadecimal
+is_letter_of Identifier = is_in_identifier
+is_letter_of Spelling = is_in_spelling
+is_letter_of TypeName = is_in_type
+is_letter_of Opener = is_in_opener
+
+-- the letters at the front that pass the test
+abbrev pub front_letters : (ℕ → Bool) → List ℕ → List ℕ
+front_letters test [] = []
+front_letters test (letter ∷ text) = if test letter then letter ∷ front_letters test text else []
+
+-- what is left of the text behind the letters at its front that pass the test
+abbrev pub after_letters : (ℕ → Bool) → List ℕ → List ℕ
+after_letters test [] = []
+after_letters test (letter ∷ text) = if test letter then after_letters test text else letter ∷ text
+
+-- the two words are equal
+abbrev pub equal_words : List ℕ → List ℕ → Bool
+equal_words [] [] = true
+equal_words [] (other ∷ others) = false
+equal_words (letter ∷ word) [] = false
+equal_words (letter ∷ word) (other ∷ others) = if letter == other then equal_words word others else false
 
 -- every letter of the word passes the test
 abbrev pub EachLetter : (ℕ → Bool) → List ℕ → Type 0

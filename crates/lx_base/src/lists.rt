@@ -1,5 +1,5 @@
 //! Lists that contracts see as lists, and the one error of want of memory.
-ghost use Rattle.std.specs.Prelude.{◌≡◌, ℕ, List, [], ◌∷◌, ◌++◌, map, OnOk, OnErr};
+ghost use Rattle.std.specs.Prelude.{◌≡◌, ℕ, List, [], ◌∷◌, ◌++◌, map, IfOk, OnOk, OnErr};
 ghost use Rattle.lx_base.specs.Text.{joined};
 
 use std::alloc::{AllocError, AllocFailed, Global};
@@ -79,6 +79,17 @@ impl<T> Sequence<T> {
     {
         self.items.push(item)?;
         Ok(())
+    }
+}
+
+impl<T: Copy> Sequence<T> {
+    /// A list of the same items.
+    pub fn copy_of(alloc: Global, items: &[T]) -> Result<Self, Memory>
+        ensures { IfOk result (λ copy. copy ≡ items.now) }
+    {
+        Ok(Sequence {
+            items: Vec::from_slice(alloc, items)?,
+        })
     }
 }
 

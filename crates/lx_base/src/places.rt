@@ -1,5 +1,6 @@
 //! Places in source files, and the files' names.
-ghost use Rattle.std.specs.Prelude.{◌≡◌, ◌<◌, ◌↔◌, IsTrue, ◌≤◌, [], ◌∷◌, ◌++◌, length, string_bytes, IfOk, OnErr, MatchOption, Some, slice_get};
+ghost use Rattle.std.specs.Prelude.{◌≡◌, ◌+◌, ◌^◌, ◌<◌, ◌↔◌, IsTrue, ◌≤◌, [], ◌∷◌, ◌++◌, length, string_bytes, IfOk, OnErr, MatchOption, Some, slice_get};
+ghost use Rattle.lx_base.specs.Places.{file_start, next_place, place_after};
 
 use crate::lists::Memory;
 use std::alloc::Global;
@@ -14,6 +15,55 @@ pub struct Pos {
     pub file: u32,
     pub line: u32,
     pub col: u32,
+}
+
+impl Pos {
+    /// Line 1, column 1 of a file, by its place in `FileNames`.
+    pub fn start_of(file: u32) -> Pos
+        ensures { result ≡ file_start file }
+    {
+        Pos {
+            file,
+            line: 1,
+            col: 1,
+        }
+    }
+}
+
+/// The place behind a byte.
+fn next_place(at: Pos, letter: u8) -> Pos
+    requires line { at.line + 1 < 2 ^ 32 }
+    requires col { at.col + 1 < 2 ^ 32 }
+    ensures { result ≡ next_place at letter }
+{
+    if letter == b'\n' {
+        Pos {
+            file: at.file,
+            line: at.line + 1,
+            col: 1,
+        }
+    } else {
+        Pos {
+            file: at.file,
+            line: at.line,
+            col: at.col + 1,
+        }
+    }
+}
+
+/// The place behind a text that begins at a place.
+pub fn place_after(at: Pos, text: &[u8]) -> Pos
+    requires line { at.line + length text.now < 2 ^ 32 }
+    requires col { at.col + length text.now < 2 ^ 32 }
+    ensures place { result ≡ place_after at text.now }
+    ensures line { result.line ≤ at.line + length text.now }
+    ensures col { result.col ≤ at.col + length text.now }
+{
+    let mut place = at;
+    for letter in text {
+        place = next_place(place, *letter);
+    }
+    place
 }
 
 /// The name of a file or a folder, as the command line spells it.

@@ -3,12 +3,11 @@ use Rattle.std.proofs.Common.{[], ◌++◌, ◌<◌, ◌^◌, ◌∙◌, ◌∷�
 use Rattle.std.proofs.lemmas.Bool.{eqb-true, false≢true}
 use Rattle.std.specs.Fmt.{decimal}
 use Rattle.std.specs.Prelude.{◌==◌, ◌||◌, codes}
-use Rattle.lx_base.specs.Letters.{EachLetter, begins_with, is_digit, is_in_identifier, is_in_spelling, is_register}
+use Rattle.lx_base.specs.Letters.{EachLetter, begins_with, is_digit, is_in_identifier, is_in_spelling, is_register, equal_words}
 use Rattle.lx_base.specs.Names.{AreAllowed, DoNotClash, IsTagName, Spellings, context_marker, current_unit, cursor, last_accept, marker, tag_prefix}
 use Rattle.lx_ccode.specs.declared.piece.Stmt.TheVariants.{Accept, Back, Backup, Copy, Count, End, MCopy, Peek, Restore, Set, Skip, Tag, Unset}
 use Rattle.lx_ccode.specs.Reading.{assigned, called, goto_at, history_of, if_at, is_context_marker, register_assigned, register_of, statement_at}
 use Rattle.lx_ccode.specs.Registers.{history_text, is_context, register_by}
-use Rattle.lx_ccode.specs.Words.{equal_words}
 use Rattle.lx_ccode.proofs.Words.{EachLetter-append, EachLetter-identifier, EachLetter-spelling, argument-call, begins_with-entry, behind-stop, behind-word, callee-call, decimal_digits, decimal_identifier, decimal_value, drop-front, equal_words-false, equal_words-other, equal_words-self, front-stop, front-word, is_history_register-history, is_history_register-register, is_register-history, is_register-register, no_digit-history, no_digit-register, or-right, other-history, other-register}
 
 -- ---- the shapes of a line

@@ -4,11 +4,10 @@ use Rattle.std.proofs.lemmas.Bool.{eqb-true, false≢true, ne_eqb}
 use Rattle.std.specs.Fmt.{decimal}
 use Rattle.std.specs.List.{list_any}
 use Rattle.std.specs.Prelude.{◌==◌, ◌||◌, codes, if◌then◌else◌}
-use Rattle.lx_base.specs.Letters.{EachLetter, IsIdentifier, IsSpelling, begins_with, is_digit, is_in_identifier, is_in_spelling}
+use Rattle.lx_base.specs.Letters.{EachLetter, IsIdentifier, IsSpelling, begins_with, is_digit, is_in_identifier, is_in_spelling, is_hexadecimal}
 use Rattle.lx_base.specs.Names.{IsWords}
 use Rattle.lx_base.specs.Text.{joined}
 use Rattle.lx_ccode.specs.Marks.{EndsMarks, HasNoBegin, begins_piece}
-use Rattle.lx_ccode.specs.Reading.{is_hexadecimal}
 use Rattle.lx_ccode.specs.Text.{hexadecimal}
 use Rattle.lx_ccode.proofs.Words.{EachLetter-from, EachLetter-identifier, decimal_digits, hexadecimal_digits, is_false}
 

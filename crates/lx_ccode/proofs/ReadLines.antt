@@ -3,17 +3,16 @@ use Rattle.std.proofs.Common.{[], ◌++◌, ◌<◌, ◌^◌, ◌∙◌, ◌∷�
 use Rattle.std.proofs.lemmas.Bool.{eqb-true, false≢true}
 use Rattle.std.specs.Fmt.{decimal}
 use Rattle.std.specs.Prelude.{◌==◌, ◌||◌, codes}
-use Rattle.lx_base.specs.Letters.{EachLetter, IsIdentifier, begins_identifier, is_digit, is_in_identifier, is_in_spelling}
+use Rattle.lx_base.specs.Letters.{EachLetter, IsIdentifier, begins_identifier, is_digit, is_in_identifier, is_in_spelling, is_hexadecimal, equal_words}
 use Rattle.lx_base.specs.Names.{AreAllowed, DoNotClash, Spellings, append_negative, append_offset, condition_prefix, current_unit, cursor, label_prefix, last_accept, limit, marker, refill, set_condition, set_state}
 use Rattle.lx_ccode.specs.declared.piece.LineMark.{LineMark}
 use Rattle.lx_ccode.specs.declared.piece.Stmt.{Stmt}
 use Rattle.lx_ccode.specs.declared.piece.Stmt.TheVariants.{Accept, Back, Backup, Code, Cond, Copy, Count, End, Goto, IfAccept, IfEnd, IfUnit, Jump, Leave, MCopy, MSet, MUnset, Need, Peek, Restore, Set, Skip, State, Tag, Try, Unset}
-use Rattle.lx_ccode.specs.Reading.{called, code_at, goto_at, goto_block, goto_tail, if_at, is_hexadecimal, mark_at, statement_at}
+use Rattle.lx_ccode.specs.Reading.{called, code_at, goto_at, goto_block, goto_tail, if_at, mark_at, statement_at}
 use Rattle.lx_ccode.specs.Registers.{history_text, is_context, register_text}
 use Rattle.lx_ccode.specs.Statements.{has_register_one}
 use Rattle.lx_ccode.specs.Text.{escaped, goto_then, hexadecimal, line_then, statement_then}
 use Rattle.lx_ccode.specs.Validity.{HasSpelling, IsLine}
-use Rattle.lx_ccode.specs.Words.{equal_words}
 use Rattle.lx_ccode.proofs.Assignments.{assigned-accept, assigned-back, assigned-backup, assigned-copy, assigned-count, assigned-end, assigned-mcopy, assigned-mtag, assigned-peek, assigned-restore, assigned-set, assigned-tag, assigned-unset, history_identifier, history_of-history, is_context-true, register_spelling, statement_at-assignment, statement_at-call, statement_at-goto, statement_at-if, statement_at-skip}
 use Rattle.lx_ccode.proofs.Words.{EachLetter-append, EachLetter-identifier, EachLetter-right, EachLetter-spelling, behind-stop, behind-word, decimal_digits, decimal_first, decimal_identifier, decimal_value, drop-front, equal_words-false, equal_words-other, equal_words-self, file_at-escaped, front-stop, front-word, hexadecimal_digits, hexadecimal_value, is_false, take-front}
 

@@ -4,7 +4,7 @@ use Rattle.std.proofs.lemmas.Bool.{eqb-true, false≢true}
 use Rattle.std.proofs.lemmas.List.{append-nil}
 use Rattle.std.specs.Fmt.{decimal}
 use Rattle.std.specs.Prelude.{◌==◌, ◌||◌, codes, if◌then◌else◌}
-use Rattle.lx_base.specs.Letters.{EachLetter, IsIdentifier, begins_identifier, is_digit, is_in_identifier, is_in_spelling}
+use Rattle.lx_base.specs.Letters.{EachLetter, IsIdentifier, begins_identifier, is_digit, is_in_identifier, is_in_spelling, after_letters, front_letters, is_in_type}
 use Rattle.lx_base.specs.Names.{AreAllowed, DoNotClash, EachIsShort, IsWords, Spellings, condition_prefix, current_unit, get_condition, get_state, label_prefix, last_accept, unit_type}
 use Rattle.lx_base.specs.Text.{joined}
 use Rattle.lx_ccode.specs.declared.piece.CodeBlock.{CodeBlock}
@@ -17,7 +17,6 @@ use Rattle.lx_ccode.specs.Reading.{begins_statement, block_at, blocks_at, byte_a
 use Rattle.lx_ccode.specs.Statements.{statement_count}
 use Rattle.lx_ccode.specs.Text.{block_then, blocks_then, cond_cases_then, cond_switch_then, declarations_then, eof_then, goto_then, label_then, line_then, names_then, start_then, state_cases_then, state_switch_then, statement_then, statements_then}
 use Rattle.lx_ccode.specs.Validity.{EachBlockHasSpelling, EachHasSpelling, IsLabel, IsLine}
-use Rattle.lx_ccode.specs.Words.{behind, front, is_in_type}
 use Rattle.lx_ccode.proofs.ReadLines.{goto_block-goto, goto_tail-goto, identifier_no_sign, mark_at-line, names_context, statement_at-statement}
 use Rattle.lx_ccode.proofs.Words.{EachLetter-append, EachLetter-from, EachLetter-identifier, behind-stop, behind-word, decimal_digits, decimal_first, decimal_identifier, decimal_value, drop-front, front-stop, front-word, is_false, is_in_type-identifier, or-left, take-front}
 
@@ -73,7 +72,7 @@ begins_statement-statements number names ctx (s ∷ statements) tail h = begins_
 
 -- a line `yyN_S:`
 behind-block : (number place : ℕ) (tail : List ℕ) → number < 2 ^ 64 → place < 2 ^ 64
-    → behind is_in_identifier (block_then number place (58 ∷ tail)) ≡ 58 ∷ tail
+    → after_letters is_in_identifier (block_then number place (58 ∷ tail)) ≡ 58 ∷ tail
 behind-block number place tail h k = rw (behind-word is_in_identifier (decimal number) (95 ∷ (decimal place ++ 58 ∷ tail)) (decimal_identifier number h), behind-stop is_in_identifier (decimal place) 58 tail (decimal_identifier place k) refl) refl
 
 code_block_at-block : (fuel number : ℕ) (names : Spellings) (ctx : Bool) (place : ℕ) (label : Option (List ℕ)) (statements : List Stmt) (tail : List ℕ)
@@ -91,7 +90,7 @@ code_block_at-block fuel number names ctx place (Some v) statements tail short h
 -- the first line of a block has a colon and a line feed
 first_line : (number : ℕ) (names : Spellings) (place : ℕ) (label : Option (List ℕ)) (tail : List ℕ) → number < 2 ^ 64 → place < 2 ^ 64
     → AreAllowed names → IsLabel label
-    → (byte_at (behind is_in_identifier (label_then names label (block_then number place (codes ":\n" ++ tail)))) 1 == 59) ≡ false
+    → (byte_at (after_letters is_in_identifier (label_then names label (block_then number place (codes ":\n" ++ tail)))) 1 == 59) ≡ false
 first_line number names place None tail short hs allowed hl = rw (behind-block number place (10 ∷ tail) short hs) refl
 first_line number names place (Some v) tail short hs allowed hl =
     let hv : EachLetter is_in_identifier (label_prefix names ++ v) = EachLetter-append is_in_identifier (label_prefix names) v (EachLetter-identifier (label_prefix names) allowed.label_prefix) (EachLetter-identifier v hl) in
@@ -104,7 +103,7 @@ blocks_name_context ctx (b ∷ blocks) = any_names_context ctx b.stmts || blocks
 pub blocks_at-blocks : (k fuel number : ℕ) (names : Spellings) (ctx : Bool) (place : ℕ) (blocks : List CodeBlock) (tail y : List ℕ) → number < 2 ^ 64
     → place + length blocks < 2 ^ 64 → AreAllowed names → DoNotClash names
     → EachBlockHasSpelling names blocks → length blocks ≤ k → statement_count blocks ≤ fuel → begins_statement tail ≡ false
-    → behind is_in_identifier tail ≡ codes ":;" ++ y
+    → after_letters is_in_identifier tail ≡ codes ":;" ++ y
     → blocks_at k fuel names (blocks_then number names ctx place blocks tail) ≡ (blocks, blocks_name_context ctx blocks, tail)
 unfolding blocks_at
 blocks_at-blocks zero fuel number names ctx place [] tail y short hs allowed clash spelled le lc q e = refl
@@ -119,11 +118,11 @@ blocks_at-blocks (suc k) fuel number names ctx place (b ∷ blocks) tail y short
 
 -- ---- the names line
 
-front-until : (p : ℕ → Bool) (word tail : List ℕ) → EachLetter p word → p (byte_at tail 0) ≡ false → front p (word ++ tail) ≡ word
+front-until : (p : ℕ → Bool) (word tail : List ℕ) → EachLetter p word → p (byte_at tail 0) ≡ false → front_letters p (word ++ tail) ≡ word
 front-until p word [] h q = front-word p word [] h ∙ append-nil word
 front-until p word (c ∷ tail) h q = front-stop p word c tail h q
 
-behind-until : (p : ℕ → Bool) (word tail : List ℕ) → EachLetter p word → p (byte_at tail 0) ≡ false → behind p (word ++ tail) ≡ tail
+behind-until : (p : ℕ → Bool) (word tail : List ℕ) → EachLetter p word → p (byte_at tail 0) ≡ false → after_letters p (word ++ tail) ≡ tail
 behind-until p word [] h q = behind-word p word [] h
 behind-until p word (c ∷ tail) h q = behind-stop p word c tail h q
 
@@ -169,7 +168,7 @@ EachLetter-words false (c ∷ word) h = (h.0, EachLetter-words (c == 32) word h.
 
 -- what stands behind the declarations
 pub record NoDeclarations (tail : List ℕ) : Type 0 where
-  pub no_semicolon : (if is_tab tail then byte_at (behind is_in_type (drop 1 tail)) 0 == 59 else false) ≡ false
+  pub no_semicolon : (if is_tab tail then byte_at (after_letters is_in_type (drop 1 tail)) 0 == 59 else false) ≡ false
 
 pub declarations_at-declarations : (names : Spellings) (declares : Bool) (tail : List ℕ) → AreAllowed names → NoDeclarations tail
     → declarations_at (declarations_then names declares tail) ≡ (declares, tail)
@@ -205,7 +204,7 @@ state_cases_at-cases (suc k) number (c ∷ cases) tail short h le q =
     ) refl
 
 behind-start : (number : ℕ) (conds : List CondCase) (tail : List ℕ) → number < 2 ^ 64
-    → behind is_in_identifier (start_then number conds (59 ∷ tail)) ≡ 59 ∷ tail
+    → after_letters is_in_identifier (start_then number conds (59 ∷ tail)) ≡ 59 ∷ tail
 behind-start number [] tail h = rw (behind-word is_in_identifier (decimal number) (95 ∷ (decimal 0 ++ 59 ∷ tail)) (decimal_identifier number h), behind-stop is_in_identifier (decimal 0) 59 tail (decimal_identifier 0 (omega arith)) refl) refl
 behind-start number (c ∷ cases) tail h = rw (behind-word is_in_identifier (decimal number) (codes "_cond" ++ 59 ∷ tail) (decimal_identifier number h)) refl
 

@@ -2,10 +2,8 @@
 use Rattle.std.proofs.Common.{◌≡◌, ℕ, false, List, refl, sym, ap, ◌∙◌, arith}
 use Rattle.std.specs.Prelude.{codes}
 use Rattle.std.proofs.lemmas.Bool.{false≢true}
-use Rattle.lx_base.specs.Letters.{begins_with}
-use Rattle.lx_base.specs.Names.{AreAllowed, DoNotClash, IsFree, IsTagName}
-use Rattle.lx_ccode.specs.Words.{equal_words}
-use Rattle.lx_ccode.specs.Examples.{usual_names}
+use Rattle.lx_base.specs.Letters.{begins_with, equal_words}
+use Rattle.lx_base.specs.Names.{AreAllowed, DoNotClash, IsFree, IsTagName, usual_names}
 use Rattle.lx_ccode.proofs.Words.{equal_words-self}
 
 pub words_differ : (word other : List ℕ) → equal_words word other ≡ false → word ≡ other → ⊥

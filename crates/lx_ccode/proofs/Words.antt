@@ -7,10 +7,9 @@ use Rattle.std.specs.Char.{digit_value}
 use Rattle.std.specs.Fmt.{decimal, digits}
 use Rattle.std.specs.Prelude.{◌==◌, ◌||◌, codes, if◌then◌else◌, nat_lt, not, reverse}
 use Rattle.std.specs.Str.Parse.{AllDigits, digits_value}
-use Rattle.lx_base.specs.Letters.{EachLetter, IsIdentifier, begins_identifier, begins_with, each_letter, is_digit, is_history_numeral, is_history_register, is_in_identifier, is_in_spelling, is_numeral, is_register}
-use Rattle.lx_ccode.specs.Reading.{argument, byte_at, callee, file_at, is_hexadecimal}
+use Rattle.lx_base.specs.Letters.{EachLetter, IsIdentifier, begins_identifier, begins_with, each_letter, is_digit, is_history_numeral, is_history_register, is_in_identifier, is_in_spelling, is_numeral, is_register, is_hexadecimal, after_letters, equal_words, front_letters, is_in_type}
+use Rattle.lx_ccode.specs.Reading.{argument, byte_at, callee, file_at}
 use Rattle.lx_ccode.specs.Text.{escaped, hexadecimal}
-use Rattle.lx_ccode.specs.Words.{behind, equal_words, front, is_in_type}
 
 pub or-left : (a flag : Bool) → a ≡ true → a || flag ≡ true
 or-left true flag h = refl
@@ -59,11 +58,11 @@ EachLetter-spelling word h = EachLetter-from is_in_identifier is_in_spelling is_
 
 -- ---- the front that passes
 
-pub front-word : (test : ℕ → Bool) (word tail : List ℕ) → EachLetter test word → front test (word ++ tail) ≡ word ++ front test tail
+pub front-word : (test : ℕ → Bool) (word tail : List ℕ) → EachLetter test word → front_letters test (word ++ tail) ≡ word ++ front_letters test tail
 front-word test [] tail h = refl
 front-word test (letter ∷ word) tail h = rw h.0 (ap (λ (l : List ℕ). letter ∷ l) (front-word test word tail h.1))
 
-pub behind-word : (test : ℕ → Bool) (word tail : List ℕ) → EachLetter test word → behind test (word ++ tail) ≡ behind test tail
+pub behind-word : (test : ℕ → Bool) (word tail : List ℕ) → EachLetter test word → after_letters test (word ++ tail) ≡ after_letters test tail
 behind-word test [] tail h = refl
 behind-word test (letter ∷ word) tail h = rw h.0 (behind-word test word tail h.1)
 
@@ -264,9 +263,9 @@ other-history word pre register h r e = false≢true (sym r ∙ ap (is_history_r
 -- ---- up to a letter that does not pass
 
 pub front-stop : (test : ℕ → Bool) (word : List ℕ) (letter : ℕ) (tail : List ℕ) → EachLetter test word → test letter ≡ false
-    → front test (word ++ letter ∷ tail) ≡ word
+    → front_letters test (word ++ letter ∷ tail) ≡ word
 front-stop test word letter tail h k = rw (front-word test word (letter ∷ tail) h, k) (append-nil word)
 
 pub behind-stop : (test : ℕ → Bool) (word : List ℕ) (letter : ℕ) (tail : List ℕ) → EachLetter test word → test letter ≡ false
-    → behind test (word ++ letter ∷ tail) ≡ letter ∷ tail
+    → after_letters test (word ++ letter ∷ tail) ≡ letter ∷ tail
 behind-stop test word letter tail h k = rw (behind-word test word (letter ∷ tail) h, k) refl

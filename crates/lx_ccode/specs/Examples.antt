@@ -6,13 +6,6 @@ use Rattle.lx_ccode.specs.declared.piece.Stmt.TheVariants.{Peek, Skip, Backup, R
 use Rattle.lx_ccode.specs.declared.piece.CodeBlock.{CodeBlock}
 use Rattle.lx_ccode.specs.declared.piece.Piece.{Piece}
 
--- the spellings of a source that configures none
-abbrev pub usual_names : Spellings
-usual_names =
-    codes "YYCTYPE" ∷ codes "YYCURSOR" ∷ codes "YYLIMIT" ∷ codes "YYMARKER" ∷ codes "YYCTXMARKER" ∷ codes "YYFILL" ∷ codes "YYGETSTATE"
-    ∷ codes "YYSETSTATE" ∷ codes "YYGETCONDITION" ∷ codes "YYSETCONDITION" ∷ codes "YYMTAGP" ∷ codes "YYMTAGN" ∷ codes "yych" ∷ codes "yyaccept"
-    ∷ codes "yyt" ∷ codes "yyc_" ∷ codes "yyc" ∷ []
-
 -- a block that is the start of no condition
 abbrev pub block : List Stmt → CodeBlock
 block statements = record { cond = None; stmts = statements }

@@ -14,4 +14,3 @@ pub mod States
 pub mod Stuck
 pub mod Text
 pub mod Validity
-pub mod Words

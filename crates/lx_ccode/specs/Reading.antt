@@ -3,7 +3,7 @@
 use Rattle.std.specs.Prelude.{ℕ, zero, suc, Bool, true, false, List, [], ◌∷◌, length, take, drop, reverse, codes, Option, Some, None, slice_index, nat_lt, ◌||◌, ◌==◌, if◌then◌else◌}
 use Rattle.std.specs.Str.Parse.{digits_value}
 use Rattle.std.specs.Char.{digit_value}
-use Rattle.lx_base.specs.Letters.{is_digit, is_in_identifier, is_in_spelling, begins_with, is_register, is_history_register}
+use Rattle.lx_base.specs.Letters.{is_digit, is_in_identifier, is_in_spelling, begins_with, is_register, is_history_register, equal_words, is_hexadecimal, is_in_type, front_letters, after_letters}
 use Rattle.lx_base.specs.Names.{Spellings, cursor, marker, context_marker, set_state, append_offset, append_negative, current_unit, last_accept, tag_prefix, label_prefix, condition_prefix}
 use Rattle.lx_ccode.specs.declared.piece.LineMark.{LineMark}
 use Rattle.lx_ccode.specs.declared.piece.Stmt.{Stmt}
@@ -12,19 +12,14 @@ use Rattle.lx_ccode.specs.declared.piece.StateCase.{StateCase}
 use Rattle.lx_ccode.specs.declared.piece.CondCase.{CondCase}
 use Rattle.lx_ccode.specs.declared.piece.CodeBlock.{CodeBlock}
 use Rattle.lx_ccode.specs.declared.piece.Piece.{Piece}
-use Rattle.lx_ccode.specs.Words.{equal_words, is_in_type, front, behind}
-
--- a digit of a hexadecimal number
-abbrev pub is_hexadecimal : ℕ → Bool
-is_hexadecimal letter = nat_lt (digit_value letter) 16
 
 -- the number at the front
 abbrev pub number_at : List ℕ → ℕ
-number_at bytes = digits_value 10 (front is_digit bytes)
+number_at bytes = digits_value 10 (front_letters is_digit bytes)
 
 -- the hexadecimal number at the front
 abbrev pub hexadecimal_at : List ℕ → ℕ
-hexadecimal_at bytes = digits_value 16 (front is_hexadecimal bytes)
+hexadecimal_at bytes = digits_value 16 (front_letters is_hexadecimal bytes)
 
 -- the byte at a place, or 0 behind the end
 abbrev pub byte_at : List ℕ → ℕ → ℕ
@@ -44,7 +39,7 @@ file_at false (letter ∷ bytes) =
 -- `#line L "FILE"`, at its `#`, and what comes behind its line
 unfoldable pub mark_at : List ℕ → LineMark × List ℕ
 mark_at bytes =
-    let file = file_at false (drop 2 (behind is_digit (drop 6 bytes))) in
+    let file = file_at false (drop 2 (after_letters is_digit (drop 6 bytes))) in
     (record { line = number_at (drop 6 bytes); file = file.0 }, drop 1 file.1)
 
 -- a `#line`, where one stands
@@ -55,7 +50,7 @@ line_at bytes = if byte_at bytes 0 == 35 then (Some (mark_at bytes).0, (mark_at 
 
 -- what comes behind `yyN_`
 abbrev pub block_at : List ℕ → List ℕ
-block_at bytes = drop 1 (behind is_digit (drop 2 bytes))
+block_at bytes = drop 1 (after_letters is_digit (drop 2 bytes))
 
 -- the block of ` goto yyN_S;`
 unfoldable pub goto_block : List ℕ → ℕ
@@ -63,7 +58,7 @@ goto_block bytes = number_at (block_at (drop 6 bytes))
 
 -- what comes behind ` goto yyN_S;` and its line feed
 unfoldable pub goto_tail : List ℕ → List ℕ
-goto_tail bytes = drop 2 (behind is_digit (block_at (drop 6 bytes)))
+goto_tail bytes = drop 2 (after_letters is_digit (block_at (drop 6 bytes)))
 
 -- the word is the context marker
 abbrev pub is_context_marker : Spellings → List ℕ → Bool
@@ -112,11 +107,11 @@ assigned names target source =
 
 -- the word before the last parentheses, which close the word
 unfoldable pub callee : List ℕ → List ℕ
-callee word = reverse (drop 1 (behind is_in_identifier (drop 1 (reverse word))))
+callee word = reverse (drop 1 (after_letters is_in_identifier (drop 1 (reverse word))))
 
 -- the word in the last parentheses, which close the word
 unfoldable pub argument : List ℕ → List ℕ
-argument word = reverse (front is_in_identifier (drop 1 (reverse word)))
+argument word = reverse (front_letters is_in_identifier (drop 1 (reverse word)))
 
 -- the statement `name(value);`
 unfoldable pub called : Spellings → (name value : List ℕ) → Stmt
@@ -129,37 +124,37 @@ called names name value =
 -- a statement, behind its `if (`
 unfoldable pub if_at : Spellings → List ℕ → Read
 if_at names bytes =
-    let word = front is_in_spelling bytes in
-    let rest = behind is_in_spelling bytes in
+    let word = front_letters is_in_spelling bytes in
+    let rest = after_letters is_in_spelling bytes in
     if byte_at rest 1 == 60 then
-    (let next = drop 1 (behind is_hexadecimal (drop 6 rest)) in
+    (let next = drop 1 (after_letters is_hexadecimal (drop 6 rest)) in
     (IfUnit (hexadecimal_at (drop 6 rest)) (goto_block next), false, goto_tail next))
     else if byte_at rest 1 == 62 then
-    (let next = behind is_in_spelling (drop 4 rest) in
+    (let next = after_letters is_in_spelling (drop 4 rest) in
     (IfEnd (goto_block next), false, goto_tail next))
     else if byte_at rest 1 == 45 then
-    (let next = drop 3 (behind is_in_spelling (drop 3 rest)) in
-    (Need (number_at next), false, drop 2 (behind is_in_spelling (drop 2 (behind is_digit next)))))
+    (let next = drop 3 (after_letters is_in_spelling (drop 3 rest)) in
+    (Need (number_at next), false, drop 2 (after_letters is_in_spelling (drop 2 (after_letters is_digit next)))))
     else if equal_words word (last_accept names) then
-    (let next = drop 1 (behind is_digit (drop 4 rest)) in
+    (let next = drop 1 (after_letters is_digit (drop 4 rest)) in
     (IfAccept (number_at (drop 4 rest)) (goto_block next), false, goto_tail next))
     else (Try (goto_block (drop 6 rest)), false, goto_tail (drop 6 rest))
 
 -- a statement, behind its `goto `
 unfoldable pub goto_at : Spellings → List ℕ → Read
 goto_at names bytes =
-    let rest = behind is_in_identifier bytes in
+    let rest = after_letters is_in_identifier bytes in
     if byte_at rest 1 == 32 then
-    (Jump (drop (length (label_prefix names)) (front is_in_identifier bytes)) (number_at (drop 5 rest)), false, drop 4 (behind is_digit (drop 5 rest)))
+    (Jump (drop (length (label_prefix names)) (front_letters is_in_identifier bytes)) (number_at (drop 5 rest)), false, drop 4 (after_letters is_digit (drop 5 rest)))
     else if is_digit (byte_at (block_at bytes) 0) then
-    (Goto (number_at (block_at bytes)), false, drop 2 (behind is_digit (block_at bytes)))
+    (Goto (number_at (block_at bytes)), false, drop 2 (after_letters is_digit (block_at bytes)))
     else (Leave, false, drop 2 rest)
 
 -- a user's action, at the tab before its `/*!code`
 unfoldable pub code_at : Option LineMark → List ℕ → Read
 code_at line bytes =
-    let rest = behind is_digit (drop 14 bytes) in
-    let next = behind is_digit (drop 1 rest) in
+    let rest = after_letters is_digit (drop 14 bytes) in
+    let next = after_letters is_digit (drop 1 rest) in
     (Code (number_at (drop 14 bytes)) line (take (number_at (drop 1 rest)) (drop 2 next)), false, drop 1 (drop (number_at (drop 1 rest)) (drop 2 next)))
 
 -- a statement, at its tab or at the `#` of its `#line`
@@ -167,14 +162,14 @@ unfoldable pub statement_at : Spellings → List ℕ → Read
 statement_at names bytes =
     if byte_at bytes 0 == 35 then code_at (Some (mark_at bytes).0) (mark_at bytes).1
     else
-    let word = front is_in_spelling (drop 1 bytes) in
-    let rest = behind is_in_spelling (drop 1 bytes) in
-    if byte_at rest 0 == 43 then (Skip, false, drop 2 (behind is_in_spelling (drop 2 rest)))
+    let word = front_letters is_in_spelling (drop 1 bytes) in
+    let rest = after_letters is_in_spelling (drop 1 bytes) in
+    if byte_at rest 0 == 43 then (Skip, false, drop 2 (after_letters is_in_spelling (drop 2 rest)))
     else if byte_at rest 0 == 47 then code_at None bytes
     else if byte_at rest 0 == 59 then (called names (callee word) (argument word), false, drop 2 rest)
     else if byte_at rest 1 == 61 then
-    (let source = front is_in_spelling (drop 3 rest) in
-    ((assigned names word source).0, (assigned names word source).1, drop 2 (behind is_in_spelling (drop 3 rest))))
+    (let source = front_letters is_in_spelling (drop 3 rest) in
+    ((assigned names word source).0, (assigned names word source).1, drop 2 (after_letters is_in_spelling (drop 3 rest))))
     else if byte_at rest 1 == 40 then if_at names (drop 2 rest)
     else goto_at names (drop 1 rest)
 
@@ -203,15 +198,15 @@ body_at fuel names cond bytes =
 -- one block; where a statement follows its first line, that line is the block's own label, else it is a condition's
 unfoldable pub code_block_at : (fuel : ℕ) → Spellings → List ℕ → CodeBlock × Bool × List ℕ
 code_block_at fuel names bytes =
-    let rest = drop 2 (behind is_in_identifier bytes) in
+    let rest = drop 2 (after_letters is_in_identifier bytes) in
     if begins_statement rest then body_at fuel names None rest
-    else body_at fuel names (Some (drop (length (label_prefix names)) (front is_in_identifier bytes))) (drop 2 (behind is_in_identifier rest))
+    else body_at fuel names (Some (drop (length (label_prefix names)) (front_letters is_in_identifier bytes))) (drop 2 (after_letters is_in_identifier rest))
 
 -- the blocks up to `yyN_none:;`, at most as many as the first fuel
 unfoldable pub blocks_at : (blocks fuel : ℕ) → Spellings → List ℕ → List CodeBlock × Bool × List ℕ
 blocks_at zero fuel names bytes = ([], false, bytes)
 blocks_at (suc blocks) fuel names bytes =
-    if byte_at (behind is_in_identifier bytes) 1 == 59 then ([], false, bytes)
+    if byte_at (after_letters is_in_identifier bytes) 1 == 59 then ([], false, bytes)
     else
     (let first = code_block_at fuel names bytes in
     let others = blocks_at blocks fuel names first.2 in
@@ -224,13 +219,13 @@ unfoldable pub names_at : (count : ℕ) → List ℕ → Spellings × List ℕ
 names_at zero bytes = ([], bytes)
 names_at (suc count) bytes =
     let size = number_at (drop 1 bytes) in
-    let rest = drop 1 (behind is_digit (drop 1 bytes)) in
+    let rest = drop 1 (after_letters is_digit (drop 1 bytes)) in
     let others = names_at count (drop size rest) in
     (take size rest ∷ others.0, others.1)
 
 -- the unit that the buffer holds at its end, or `-`
 unfoldable pub eof_at : List ℕ → Option ℕ × List ℕ
-eof_at bytes = if byte_at bytes 0 == 45 then (None, drop 1 bytes) else (Some (number_at bytes), behind is_digit bytes)
+eof_at bytes = if byte_at bytes 0 == 45 then (None, drop 1 bytes) else (Some (number_at bytes), after_letters is_digit bytes)
 
 abbrev pub is_tab : List ℕ → Bool
 is_tab bytes = byte_at bytes 0 == 9
@@ -238,8 +233,8 @@ is_tab bytes = byte_at bytes 0 == 9
 -- the declarations, where they stand
 unfoldable pub declarations_at : List ℕ → Bool × List ℕ
 declarations_at bytes =
-    if (if is_tab bytes then byte_at (behind is_in_type (drop 1 bytes)) 0 == 59 else false) then
-    (true, drop 6 (behind is_in_identifier (drop 16 (behind is_in_type (drop 1 bytes)))))
+    if (if is_tab bytes then byte_at (after_letters is_in_type (drop 1 bytes)) 0 == 59 else false) then
+    (true, drop 6 (after_letters is_in_identifier (drop 16 (after_letters is_in_type (drop 1 bytes)))))
     else (false, bytes)
 
 -- the cases of a switch over stored states, at most as many as the fuel
@@ -247,7 +242,7 @@ unfoldable pub state_cases_at : (fuel : ℕ) → List ℕ → List StateCase × 
 state_cases_at zero bytes = ([], bytes)
 state_cases_at (suc fuel) bytes =
     if byte_at bytes 1 == 99 then
-    (let next = drop 1 (behind is_digit (drop 6 bytes)) in
+    (let next = drop 1 (after_letters is_digit (drop 6 bytes)) in
     let others = state_cases_at fuel (goto_tail next) in
     (record { state = number_at (drop 6 bytes); block = goto_block next } ∷ others.0, others.1))
     else ([], bytes)
@@ -256,8 +251,8 @@ state_cases_at (suc fuel) bytes =
 unfoldable pub state_switch_at : (fuel : ℕ) → List ℕ → Option (List StateCase) × List ℕ
 state_switch_at fuel bytes =
     if is_tab bytes then
-    (let cases = state_cases_at fuel (drop 3 (behind is_in_spelling (drop 9 bytes))) in
-    (Some cases.0, drop 5 (behind is_in_identifier (drop 15 cases.1))))
+    (let cases = state_cases_at fuel (drop 3 (after_letters is_in_spelling (drop 9 bytes))) in
+    (Some cases.0, drop 5 (after_letters is_in_identifier (drop 15 cases.1))))
     else (None, bytes)
 
 -- the cases of the switch over conditions, at most as many as the fuel
@@ -265,9 +260,9 @@ unfoldable pub cond_cases_at : (fuel : ℕ) → Spellings → List ℕ → List 
 cond_cases_at zero names bytes = ([], bytes)
 cond_cases_at (suc fuel) names bytes =
     if byte_at bytes 1 == 99 then
-    (let next = drop 1 (behind is_in_identifier (drop 6 bytes)) in
+    (let next = drop 1 (after_letters is_in_identifier (drop 6 bytes)) in
     let others = cond_cases_at fuel names (goto_tail next) in
-    (record { cond = drop (length (condition_prefix names)) (front is_in_identifier (drop 6 bytes)); block = goto_block next } ∷ others.0, others.1))
+    (record { cond = drop (length (condition_prefix names)) (front_letters is_in_identifier (drop 6 bytes)); block = goto_block next } ∷ others.0, others.1))
     else ([], bytes)
 
 -- the switch over conditions, where it stands
@@ -275,7 +270,7 @@ unfoldable pub cond_switch_at : (fuel : ℕ) → Spellings → List ℕ → List
 cond_switch_at fuel names bytes =
     if is_digit (byte_at (block_at bytes) 0) then ([], bytes)
     else
-    (let cases = cond_cases_at fuel names (drop 3 (behind is_in_spelling (drop 15 (block_at bytes)))) in
+    (let cases = cond_cases_at fuel names (drop 3 (after_letters is_in_spelling (drop 15 (block_at bytes)))) in
     (cases.0, drop 3 cases.1))
 
 -- ---- the piece
@@ -284,8 +279,8 @@ cond_switch_at fuel names bytes =
 unfoldable pub reading : (fuel : ℕ) → List ℕ → Piece × List ℕ
 reading fuel bytes =
     let head = drop 14 bytes in
-    let unit = drop 17 (behind is_digit head) in
-    let eof = eof_at (drop 1 (behind is_digit unit)) in
+    let unit = drop 17 (after_letters is_digit head) in
+    let eof = eof_at (drop 1 (after_letters is_digit unit)) in
     let names = names_at 17 eof.1 in
     let declares = declarations_at (drop 5 names.1) in
     let states = state_switch_at fuel declares.1 in

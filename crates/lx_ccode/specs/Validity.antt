@@ -1,7 +1,7 @@
 -- Which pieces are valid: those that the generator may emit and that a reader of outputs takes.
 use Rattle.std.specs.Prelude.{◌≡◌, ℕ, zero, suc, ◌<◌, ◌*◌, ◌≤◌, ◌^◌, ◌⊎◌, IfSome, Bool, true, false, List, [], ◌∷◌, length, map, Option, Some, None, ◌||◌, if◌then◌else◌}
 use Rattle.std.specs.List.{AllByRecursion, list_any}
-use Rattle.lx_base.specs.Letters.{IsIdentifier}
+use Rattle.lx_base.specs.Letters.{IsIdentifier, equal_words}
 use Rattle.lx_base.specs.Names.{Spellings, AreAllowed, DoNotClash, AreDistinct, IsTagName}
 use Rattle.lx_ccode.specs.declared.piece.LineMark.{LineMark}
 use Rattle.lx_ccode.specs.declared.piece.Stmt.{Stmt}
@@ -9,7 +9,6 @@ use Rattle.lx_ccode.specs.declared.piece.Stmt.TheVariants.{Peek, Skip, Backup, R
 use Rattle.lx_ccode.specs.declared.piece.StateCase.{StateCase}
 use Rattle.lx_ccode.specs.declared.piece.CodeBlock.{CodeBlock}
 use Rattle.lx_ccode.specs.declared.piece.Piece.{Piece}
-use Rattle.lx_ccode.specs.Words.{equal_words}
 use Rattle.lx_ccode.specs.States.{states_from, block_of, state_block}
 use Rattle.lx_ccode.specs.Statements.{all_statements, statement_count, is_ending, is_state, is_need, is_try, is_refill, has_register_one}
 

@@ -1,9 +1,10 @@
 //! Worked examples, by computation: pieces that are valid, their texts, and what they do. Each is the
 //! contract of a function with an empty body.
 ghost use Rattle.std.specs.Prelude.{◌≡◌, List, [], ◌∷◌, ◌++◌, Some, None, false, codes};
+ghost use Rattle.lx_base.specs.Names.{usual_names};
 ghost use Rattle.lx_ccode.specs.declared.piece.Stmt.TheVariants.{Leave};
 ghost use Rattle.lx_ccode.specs.Bodies.{body_piece_text, no_body, max_fill, max_groups, registers, histories, conditions, state_switch};
-ghost use Rattle.lx_ccode.specs.Examples.{usual_names, context_example, stored_example, checked_example, spinning_example, copying_example};
+ghost use Rattle.lx_ccode.specs.Examples.{context_example, stored_example, checked_example, spinning_example, copying_example};
 ghost use Rattle.lx_ccode.specs.Machine.{by_rule, by_jump, no_rule, at_end, stuck, looped, unanswered, refilled, left, more, no_more, tag_offset, tag_history, group_count, group_end, condition};
 ghost use Rattle.lx_ccode.specs.Runs.{run_of};
 ghost use Rattle.lx_ccode.specs.Schedules.{IsLegal};

@@ -8,7 +8,7 @@ mod lines;
 pub mod piece;
 pub mod printing;
 mod sections;
-mod spellings;
+mod numerals;
 
 pub use fronts::begins_with_piece;
 pub use piece::{CodeBlock, CondCase, LineMark, Piece, StateCase, Stmt};

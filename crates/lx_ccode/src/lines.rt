@@ -7,8 +7,8 @@ ghost use Rattle.lx_ccode.specs.Registers.{register_text, history_text};
 ghost use Rattle.lx_ccode.specs.Text.{statement_then, statements_then, line_then, goto_then, block_then, escaped, hexadecimal};
 
 use crate::piece::{LineMark, Piece, Stmt};
-use crate::spellings;
-use crate::spellings::{decimal, hexadecimal, history_text, register_text};
+use lx_base::names;
+use crate::numerals::{decimal, hexadecimal, history_text, register_text};
 use lx_base::{Memory, Names, append_parts};
 use std::alloc::Global;
 
@@ -57,11 +57,11 @@ impl Scope<'_> {
     pub fn append_statement(&self, text: &mut Vec<u8>, statement: &Stmt) -> Result<(), Memory>
         ensures { OnOk result (text.new.items ≡ text.old.items ++ statement_then self.now.number self.now.names.now self.now.ctx statement.now []) }
     {
-        let cursor = spellings::cursor(self.names);
-        let marker = spellings::marker(self.names);
-        let last_accept = spellings::last_accept(self.names);
-        let append_offset = spellings::append_offset(self.names);
-        let append_negative = spellings::append_negative(self.names);
+        let cursor = names::cursor(self.names);
+        let marker = names::marker(self.names);
+        let last_accept = names::last_accept(self.names);
+        let append_offset = names::append_offset(self.names);
+        let append_negative = names::append_negative(self.names);
         match statement {
             Stmt::Peek => self.append_peek(text),
             Stmt::Skip => append_parts(text, &[b"\t++", cursor, b";\n"]),
@@ -96,14 +96,14 @@ impl Scope<'_> {
     fn append_peek(&self, text: &mut Vec<u8>) -> Result<(), Memory>
         ensures { OnOk result (text.new.items ≡ text.old.items ++ statement_then self.now.number self.now.names.now self.now.ctx Stmt.Peek []) }
     {
-        let current_unit = spellings::current_unit(self.names);
+        let current_unit = names::current_unit(self.names);
         append_parts(
             text,
             &[
                 b"\t",
                 current_unit,
                 b" = *",
-                spellings::cursor(self.names),
+                names::cursor(self.names),
                 b";\n",
             ],
         )
@@ -192,7 +192,7 @@ impl Scope<'_> {
     fn append_if_unit(&self, text: &mut Vec<u8>, greatest: u32, block: u64) -> Result<(), Memory>
         ensures { OnOk result (text.new.items ≡ text.old.items ++ statement_then self.now.number self.now.names.now self.now.ctx (Stmt.IfUnit greatest block) []) }
     {
-        let current_unit = spellings::current_unit(self.names);
+        let current_unit = names::current_unit(self.names);
         let greatest = hexadecimal(self.alloc, greatest)?;
         let number = decimal(self.alloc, u64::from(self.number))?;
         let block = decimal(self.alloc, block)?;
@@ -215,7 +215,7 @@ impl Scope<'_> {
     fn append_if_accept(&self, text: &mut Vec<u8>, accept: u32, block: u64) -> Result<(), Memory>
         ensures { OnOk result (text.new.items ≡ text.old.items ++ statement_then self.now.number self.now.names.now self.now.ctx (Stmt.IfAccept accept block) []) }
     {
-        let last_accept = spellings::last_accept(self.names);
+        let last_accept = names::last_accept(self.names);
         let accept = decimal(self.alloc, u64::from(accept))?;
         let number = decimal(self.alloc, u64::from(self.number))?;
         let block = decimal(self.alloc, block)?;
@@ -238,8 +238,8 @@ impl Scope<'_> {
     fn append_if_end(&self, text: &mut Vec<u8>, block: u64) -> Result<(), Memory>
         ensures { OnOk result (text.new.items ≡ text.old.items ++ statement_then self.now.number self.now.names.now self.now.ctx (Stmt.IfEnd block) []) }
     {
-        let cursor = spellings::cursor(self.names);
-        let limit = spellings::limit(self.names);
+        let cursor = names::cursor(self.names);
+        let limit = names::limit(self.names);
         let number = decimal(self.alloc, u64::from(self.number))?;
         let block = decimal(self.alloc, block)?;
         append_parts(
@@ -262,15 +262,15 @@ impl Scope<'_> {
         ensures { OnOk result (text.new.items ≡ text.old.items ++ statement_then self.now.number self.now.names.now self.now.ctx (Stmt.State state) []) }
     {
         let state = decimal(self.alloc, state)?;
-        append_call(text, spellings::set_state(self.names), state.as_bytes())
+        append_call(text, names::set_state(self.names), state.as_bytes())
     }
 
     fn append_need(&self, text: &mut Vec<u8>, units: u32) -> Result<(), Memory>
         ensures { OnOk result (text.new.items ≡ text.old.items ++ statement_then self.now.number self.now.names.now self.now.ctx (Stmt.Need units) []) }
     {
-        let limit = spellings::limit(self.names);
-        let cursor = spellings::cursor(self.names);
-        let refill = spellings::refill(self.names);
+        let limit = names::limit(self.names);
+        let cursor = names::cursor(self.names);
+        let refill = names::refill(self.names);
         let units = decimal(self.alloc, u64::from(units))?;
         let units = units.as_bytes();
         append_parts(
@@ -285,7 +285,7 @@ impl Scope<'_> {
     fn append_try(&self, text: &mut Vec<u8>, block: u64) -> Result<(), Memory>
         ensures { OnOk result (text.new.items ≡ text.old.items ++ statement_then self.now.number self.now.names.now self.now.ctx (Stmt.Try block) []) }
     {
-        let refill = spellings::refill(self.names);
+        let refill = names::refill(self.names);
         let number = decimal(self.alloc, u64::from(self.number))?;
         let block = decimal(self.alloc, block)?;
         append_refill_test(text, refill, number.as_bytes(), block.as_bytes())
@@ -294,8 +294,8 @@ impl Scope<'_> {
     fn append_cond(&self, text: &mut Vec<u8>, cond: &[u8]) -> Result<(), Memory>
         ensures { OnOk result (text.new.items ≡ text.old.items ++ statement_then self.now.number self.now.names.now self.now.ctx (Stmt.Cond cond.now) []) }
     {
-        let set_condition = spellings::set_condition(self.names);
-        let condition_prefix = spellings::condition_prefix(self.names);
+        let set_condition = names::set_condition(self.names);
+        let condition_prefix = names::condition_prefix(self.names);
         append_parts(
             text,
             &[b"\t", set_condition, b"(", condition_prefix, cond, b");\n"],
@@ -342,7 +342,7 @@ impl Scope<'_> {
     fn append_cond_jump(&self, text: &mut Vec<u8>, cond: &[u8], rule: u32) -> Result<(), Memory>
         ensures { OnOk result (text.new.items ≡ text.old.items ++ statement_then self.now.number self.now.names.now self.now.ctx (Stmt.Jump cond.now rule) []) }
     {
-        let label_prefix = spellings::label_prefix(self.names);
+        let label_prefix = names::label_prefix(self.names);
         let rule = decimal(self.alloc, u64::from(rule))?;
         append_parts(
             text,

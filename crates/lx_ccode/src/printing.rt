@@ -9,7 +9,7 @@ ghost use Rattle.lx_ccode.specs.Validity.{IsValid};
 
 use crate::lines::{Scope, append_line};
 use crate::piece::{CodeBlock, Piece};
-use crate::spellings::decimal;
+use crate::numerals::decimal;
 use lx_base::{ByteText, Memory, append_parts};
 use std::alloc::Global;
 

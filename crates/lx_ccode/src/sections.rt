@@ -6,8 +6,8 @@ ghost use Rattle.lx_ccode.specs.Text.{label_then, block_then, code_block_then, b
 
 use crate::lines::Scope;
 use crate::piece::{CodeBlock, CondCase, StateCase};
-use crate::spellings;
-use crate::spellings::decimal;
+use lx_base::names;
+use crate::numerals::decimal;
 use lx_base::{ByteText, Memory, Sequence, append_parts};
 
 impl Scope<'_> {
@@ -16,13 +16,13 @@ impl Scope<'_> {
         ensures { OnOk result (text.new.items ≡ text.old.items ++ declarations_then self.now.names.now declares []) }
     {
         if declares {
-            let unit_type = spellings::unit_type(self.names);
-            let current_unit = spellings::current_unit(self.names);
+            let unit_type = names::unit_type(self.names);
+            let current_unit = names::current_unit(self.names);
             append_two_variables(
                 text,
                 unit_type,
                 current_unit,
-                spellings::last_accept(self.names),
+                names::last_accept(self.names),
             )
         } else {
             Ok(())
@@ -54,7 +54,7 @@ impl Scope<'_> {
     {
         append_parts(
             text,
-            &[b"\tswitch (", spellings::get_state(self.names), b"()) {\n"],
+            &[b"\tswitch (", names::get_state(self.names), b"()) {\n"],
         )?;
         self.append_state_cases(text, cases)?;
         append_parts(text, &[b"\tdefault: goto "])?;
@@ -123,7 +123,7 @@ impl Scope<'_> {
         append_cond_head(
             text,
             number.as_bytes(),
-            spellings::get_condition(self.names),
+            names::get_condition(self.names),
         )?;
         self.append_cond_cases(text, conds)?;
         append_parts(text, &[b"\t}\n"])?;
@@ -142,7 +142,7 @@ impl Scope<'_> {
     fn append_cond_case(&self, text: &mut Vec<u8>, case: &CondCase) -> Result<(), Memory>
         ensures { OnOk result (text.new.items ≡ text.old.items ++ cond_case_then self.now.number self.now.names.now case.now []) }
     {
-        let prefix = spellings::condition_prefix(self.names);
+        let prefix = names::condition_prefix(self.names);
         let number = decimal(self.alloc, u64::from(self.number))?;
         let block = decimal(self.alloc, case.block)?;
         append_parts(
@@ -197,7 +197,7 @@ impl Scope<'_> {
             None => Ok(()),
             Some(cond) => append_parts(
                 text,
-                &[spellings::label_prefix(self.names), cond.as_slice(), b":\n"],
+                &[names::label_prefix(self.names), cond.as_slice(), b":\n"],
             ),
         }
     }

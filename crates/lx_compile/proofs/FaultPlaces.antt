@@ -13,12 +13,12 @@ use Rattle.lx_parse.specs.Blocks.{place_of_next}
 use Rattle.lx_rules.specs.Environments.{Environment, first_environment}
 use Rattle.lx_forms.specs.Lexemes.{lexemes_of}
 use Rattle.lx_split.specs.Cuts.{IsFaultOf as IsFaultOfSource, completed, marked, faulty, IsOpenerFault, refused as opener_refused, unclosed, source_text}
-use Rattle.lx_split.specs.Pieces.{Split, file_start, pieces_of}
+use Rattle.lx_split.specs.Pieces.{Split, pieces_of}
 use Rattle.lx_split.specs.declared.pieces.SourcePiece.{SourcePiece}
 use Rattle.lx_split.specs.declared.pieces.SourcePiece.TheVariants as piece
 use Rattle.lx_split.proofs.Cutting.{pieces_of-cut}
 use Rattle.lx_split.proofs.Faults.{pieces_of-fault}
-use Rattle.lx_token.specs.Places.{place_after}
+use Rattle.lx_base.specs.Places.{file_start, place_after}
 use Rattle.lx_token.specs.Spans.{EachStands}
 use Rattle.lx_token.specs.declared.list.Token.{Token}
 use Rattle.lx_token.proofs.Walk.{tokens_stand, fault_is_bad_token}

@@ -1,12 +1,13 @@
 -- Outputs of sources in which no block opens.
 use Rattle.std.proofs.Common.{◌≡◌, ℕ, ◌-◌, ◌≤◌, arith, List, [], ◌∷◌, ◌++◌, length, Option, Some, None, Ok, refl, ap, subst, append-nil, ◌∙◌}
 use Rattle.std.proofs.lemmas.List.{take_all}
+use Rattle.lx_base.specs.Places.{file_start}
 use Rattle.lx_base.specs.declared.places.Pos.{Pos}
 use Rattle.lx_base.specs.declared.settings.Options.{Options}
 use Rattle.lx_rules.specs.Environments.{first_environment}
 use Rattle.lx_split.specs.Marks.{mark_place}
 use Rattle.lx_split.specs.Openers.{from_opener}
-use Rattle.lx_split.specs.Pieces.{file_start, outside, pieces_of, unless_marked, pieces_without_marks}
+use Rattle.lx_split.specs.Pieces.{outside, pieces_of, unless_marked, pieces_without_marks}
 use Rattle.lx_split.specs.declared.pieces.SourcePiece.{SourcePiece}
 use Rattle.lx_compile.specs.Output.{AreTexts, IsOutput}
 use Rattle.lx_compile.specs.Parts.{AreParts}

@@ -4,10 +4,9 @@ use Rattle.std.specs.Prelude.{All, ◌==◌, if◌then◌else◌}
 use Rattle.std.specs.List.{AllByRecursion}
 use Rattle.std.proofs.lemmas.List.Elements.{All-nil, All-cons}
 use Rattle.lx_base.specs.declared.places.Pos.{Pos}
-use Rattle.lx_token.specs.Places.{next_place, place_after}
+use Rattle.lx_base.specs.Places.{next_place, place_after, file_start}
 use Rattle.lx_split.specs.Cuts.{AreApart, AreAtPlaces, AreCut, piece_text, source_text}
 use Rattle.lx_split.specs.Openers.{word_of}
-use Rattle.lx_split.specs.Pieces.{file_start}
 use Rattle.lx_split.specs.declared.pieces.SourcePiece.{SourcePiece}
 use Rattle.lx_split.specs.declared.pieces.SourcePiece.TheVariants.{Outside, Block}
 use Rattle.lx_compile.specs.Ready.{IsNearPiece}

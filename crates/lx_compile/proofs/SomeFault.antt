@@ -1,6 +1,7 @@
 -- A source has a first fault, or it has none: one of both is there, under two negations.
 use Rattle.std.proofs.Common.{◌≡◌, ℕ, Bool, true, false, List, [], ◌∷◌, length, Option, Some, None, Result, Ok, Err, refl, inl, inr}
 use Rattle.std.specs.Prelude.{nat_lt}
+use Rattle.lx_base.specs.Places.{file_start}
 use Rattle.lx_base.specs.declared.blocks.BlockKind.{BlockKind}
 use Rattle.lx_base.specs.declared.blocks.BlockKind.TheVariants.{Code}
 use Rattle.lx_base.specs.declared.faults.Fault.{Fault}
@@ -15,7 +16,7 @@ use Rattle.lx_rules.specs.Environments.{Environment, first_environment}
 use Rattle.lx_forms.specs.Lexemes.{lexemes_of}
 use Rattle.lx_rules.specs.declared.resolved.Resolved.{Resolved}
 use Rattle.lx_rules.proofs.BlockVerdicts.{body_expressions, first_ready, ready_after, verdict_among}
-use Rattle.lx_split.specs.Pieces.{Split, file_start, pieces_of}
+use Rattle.lx_split.specs.Pieces.{Split, pieces_of}
 use Rattle.lx_split.specs.declared.pieces.SourcePiece.{SourcePiece}
 use Rattle.lx_split.specs.declared.pieces.SourcePiece.TheVariants as piece
 use Rattle.lx_token.specs.Tokens.{tokens_of}

@@ -1,12 +1,13 @@
 -- The first fault of a source.
 use Rattle.std.specs.Prelude.{◌≡◌, ℕ, ◌⊎◌, Bool, true, false, List, length, nat_lt, Option, Some, None, Ok, Err}
+use Rattle.lx_base.specs.Places.{file_start}
 use Rattle.lx_base.specs.declared.faults.Fault.{Fault}
 use Rattle.lx_base.specs.declared.faults.Fault.TheVariants.{TooLong}
 use Rattle.lx_base.specs.declared.faults.Stop.{Stop}
 use Rattle.lx_base.specs.declared.faults.Stop.TheVariants as stop
 use Rattle.lx_base.specs.declared.settings.Options.{Options}
 use Rattle.lx_rules.specs.Environments.{first_environment}
-use Rattle.lx_split.specs.Pieces.{Split, file_start, pieces_of}
+use Rattle.lx_split.specs.Pieces.{Split, pieces_of}
 use Rattle.lx_split.specs.declared.pieces.SourcePiece.{SourcePiece}
 use Rattle.lx_compile.specs.Parts.{AreParts, IsFaultAmong, IsKernelFault}
 use Rattle.lx_compile.specs.declared.parts.Part.{Part}

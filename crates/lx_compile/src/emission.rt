@@ -37,7 +37,7 @@ fn action_text(alloc: Global, act: &Act) -> Result<ByteText, Memory>
 {
     match &act.code {
         None => Ok(ByteText::new(alloc)),
-        Some(code) => Ok(ByteText::from_vec(Vec::from_slice(alloc, code.as_slice())?)),
+        Some(code) => ByteText::copy_of(alloc, code.as_slice()),
     }
 }
 

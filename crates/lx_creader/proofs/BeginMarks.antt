@@ -7,13 +7,12 @@ use Rattle.std.specs.Fmt.{decimal, digits}
 use Rattle.std.proofs.lemmas.Str.Parse.{numerals_by_value, tells_digits}
 use Rattle.std.proofs.lemmas.Fmt.{decimal-digits_value, decimal_is_IsNumeral, first_decimal}
 use Rattle.std.proofs.lemmas.Bool.Decides.{nat_tests}
-use Rattle.lx_base.specs.Letters.{is_digit}
-use Rattle.lx_ccode.specs.Words.{front, behind}
+use Rattle.lx_base.specs.Letters.{is_digit, front_letters, after_letters}
+use Rattle.lx_base.proofs.Fronts.{front_letters-after}
 use Rattle.lx_ccode.specs.Reading.{number_at}
 use Rattle.lx_ccode.proofs.Words.{behind-stop, decimal_digits, decimal_value, front-stop}
 use Rattle.lx_creader.specs.Fitted.{long}
 use Rattle.lx_creader.specs.Marks.{BeginsBlock, HasNoNeedlessZero, begin_mark}
-use Rattle.lx_creader.proofs.Fronts.{front-behind}
 
 digit_small : (letter : ℕ) → is_digit letter ≡ true → digit_value letter < 10
 digit_small letter is = grind (arith, nat_tests)
@@ -22,9 +21,9 @@ digits_by : (letter : ℕ) (t : Bool) (digits : List ℕ) → is_digit letter �
 digits_by letter true digits is all = (digit_small letter is, all)
 digits_by letter false digits is all = tt
 
-front_digits : (text : List ℕ) → AllDigits 10 (front is_digit text)
+front_digits : (text : List ℕ) → AllDigits 10 (front_letters is_digit text)
 front_digits [] = tt
-front_digits (letter ∷ text) = digits_by letter (is_digit letter) (front is_digit text) refl (front_digits text)
+front_digits (letter ∷ text) = digits_by letter (is_digit letter) (front_letters is_digit text) refl (front_digits text)
 
 zero_spelled : length (decimal 0) ≡ 1
 unfolding digits
@@ -42,28 +41,28 @@ decimal_spelled : (number : ℕ) → number < 2 ^ 64 → HasNoNeedlessZero (deci
 decimal_spelled number wide = ((decimal_is_IsNumeral number wide).0.0, one_digit number wide (zero_or_more number))
 
 -- a number that is read is spelled so, where it has no needless zero
-pub number_spelled : (text tail rest : List ℕ) (number : ℕ) → HasNoNeedlessZero (front is_digit text) → long (number_at text) ≡ number → number < 2 ^ 32
-    → behind is_digit text ≡ tail ++ rest → text ≡ decimal number ++ (tail ++ rest)
+pub number_spelled : (text tail rest : List ℕ) (number : ℕ) → HasNoNeedlessZero (front_letters is_digit text) → long (number_at text) ≡ number → number < 2 ^ 32
+    → after_letters is_digit text ≡ tail ++ rest → text ≡ decimal number ++ (tail ++ rest)
 number_spelled text tail rest number spelled is small behind_is =
-    let value : digits_value 10 (front is_digit text) ≡ number = omega arith in
-    let word = decimal-digits_value (numerals_by_value _ tells_digits) (front is_digit text) (front_digits text) spelled.0 spelled.1 (omega arith) in
-    sym (front-behind is_digit text) ∙ ap (λ l. l ++ behind is_digit text) (sym word ∙ ap decimal value) ∙ ap (λ l. decimal number ++ l) behind_is
+    let value : digits_value 10 (front_letters is_digit text) ≡ number = omega arith in
+    let word = decimal-digits_value (numerals_by_value _ tells_digits) (front_letters is_digit text) (front_digits text) spelled.0 spelled.1 (omega arith) in
+    sym (front_letters-after is_digit text) ∙ ap (λ l. l ++ after_letters is_digit text) (sym word ∙ ap decimal value) ∙ ap (λ l. decimal number ++ l) behind_is
 
 -- a number that is spelled is read so
 pub record ReadsNumber (text tail : List ℕ) (number : ℕ) : Type 0 where
-  pub digits : HasNoNeedlessZero (front is_digit text)
+  pub digits : HasNoNeedlessZero (front_letters is_digit text)
   pub value : long (number_at text) ≡ number
-  pub rest : behind is_digit text ≡ 42 ∷ tail
+  pub rest : after_letters is_digit text ≡ 42 ∷ tail
 
 pub number_read : (text tail : List ℕ) (number : ℕ) → number < 2 ^ 32 → text ≡ decimal number ++ 42 ∷ tail → ReadsNumber text tail number
 number_read text tail number small is =
     let wide : number < 2 ^ 64 = omega arith in
-    let word : front is_digit text ≡ decimal number = ap (front is_digit) is ∙ front-stop is_digit (decimal number) 42 tail (decimal_digits number wide) refl in
-    let value : digits_value 10 (front is_digit text) ≡ number = ap (digits_value 10) word ∙ decimal_value number wide in
+    let word : front_letters is_digit text ≡ decimal number = ap (front_letters is_digit) is ∙ front-stop is_digit (decimal number) 42 tail (decimal_digits number wide) refl in
+    let value : digits_value 10 (front_letters is_digit text) ≡ number = ap (digits_value 10) word ∙ decimal_value number wide in
     record {
       digits = subst (λ (l : List ℕ). HasNoNeedlessZero l) (sym word) (decimal_spelled number wide);
       value = let v = value in omega arith;
-      rest = ap (behind is_digit) is ∙ behind-stop is_digit (decimal number) 42 tail (decimal_digits number wide) refl;
+      rest = ap (after_letters is_digit) is ∙ behind-stop is_digit (decimal number) 42 tail (decimal_digits number wide) refl;
     }
 
 -- what a test of a front says
@@ -75,8 +74,8 @@ abbrev pub begin : List ℕ
 begin = codes "/*!begin:re2c "
 
 -- the mark of a number, with a line behind it
-pub mark_spelled : (bytes rest line more : List ℕ) (number : ℕ) → bytes ≡ begin ++ drop 14 bytes → HasNoNeedlessZero (front is_digit (drop 14 bytes))
-    → long (number_at (drop 14 bytes)) ≡ number → number < 2 ^ 32 → behind is_digit (drop 14 bytes) ≡ codes "*/" ++ (line ++ more) → bytes ≡ begin_mark number ++ (line ++ more)
+pub mark_spelled : (bytes rest line more : List ℕ) (number : ℕ) → bytes ≡ begin ++ drop 14 bytes → HasNoNeedlessZero (front_letters is_digit (drop 14 bytes))
+    → long (number_at (drop 14 bytes)) ≡ number → number < 2 ^ 32 → after_letters is_digit (drop 14 bytes) ≡ codes "*/" ++ (line ++ more) → bytes ≡ begin_mark number ++ (line ++ more)
 mark_spelled bytes rest line more number begins spelled value small closes =
     begins ∙ ap (λ t. begin ++ t) (number_spelled (drop 14 bytes) (codes "*/") (line ++ more) number spelled value small closes ∙ sym (append_assoc (decimal number) (codes "*/") (line ++ more)))
 
@@ -85,13 +84,13 @@ mark_read bytes more number small is =
     number_read (drop 14 bytes) (47 ∷ more) number small (ap (drop 14) is ∙ append_assoc (decimal number) (codes "*/") more)
 
 pub numbered_decides : (bytes : List ℕ) (number : ℕ) (begins spelled same closes all : Bool) → number < 2 ^ 32 → TellsFront begins bytes begin
-    → IsTrue spelled ↔ HasNoNeedlessZero (front is_digit (drop 14 bytes)) → IsTrue same ↔ (long (number_at (drop 14 bytes)) ≡ number)
-    → TellsFront closes (behind is_digit (drop 14 bytes)) (codes "*/") → IsTrue all ↔ (IsTrue begins × IsTrue spelled × IsTrue same × IsTrue closes)
+    → IsTrue spelled ↔ HasNoNeedlessZero (front_letters is_digit (drop 14 bytes)) → IsTrue same ↔ (long (number_at (drop 14 bytes)) ≡ number)
+    → TellsFront closes (after_letters is_digit (drop 14 bytes)) (codes "*/") → IsTrue all ↔ (IsTrue begins × IsTrue spelled × IsTrue same × IsTrue closes)
     → IsTrue all ↔ BeginsBlock (Some number) bytes
 numbered_decides bytes number begins spelled same closes all small begins_is spelled_is same_is closes_is all_is = (
   λ e.
       let each = all_is.0 e in
-      let more = drop 2 (behind is_digit (drop 14 bytes)) in
+      let more = drop 2 (after_letters is_digit (drop 14 bytes)) in
       (more, mark_spelled bytes more [] more number (begins_is.stands each.0) (spelled_is.0 each.1) (same_is.0 each.2) small (closes_is.stands each.3)),
   λ block.
       let reads = mark_read bytes block.0 number small block.1 in
@@ -99,14 +98,14 @@ numbered_decides bytes number begins spelled same closes all small begins_is spe
 )
 
 pub scanner_decides : (bytes : List ℕ) (value : ℕ) (begins spelled fits closes all : Bool) → TellsFront begins bytes begin
-    → IsTrue spelled ↔ HasNoNeedlessZero (front is_digit (drop 14 bytes)) → value ≡ long (number_at (drop 14 bytes)) → IsTrue fits ↔ (value < 2 ^ 32)
-    → TellsFront closes (behind is_digit (drop 14 bytes)) (codes "*/\n/*!names:re2c ") → IsTrue all ↔ (IsTrue begins × IsTrue spelled × IsTrue fits × IsTrue closes)
+    → IsTrue spelled ↔ HasNoNeedlessZero (front_letters is_digit (drop 14 bytes)) → value ≡ long (number_at (drop 14 bytes)) → IsTrue fits ↔ (value < 2 ^ 32)
+    → TellsFront closes (after_letters is_digit (drop 14 bytes)) (codes "*/\n/*!names:re2c ") → IsTrue all ↔ (IsTrue begins × IsTrue spelled × IsTrue fits × IsTrue closes)
     → IsTrue all ↔ BeginsBlock None bytes
 scanner_decides bytes value begins spelled fits closes all begins_is spelled_is value_is fits_is closes_is all_is =
     let line = codes "\n/*!names:re2c " in (
       λ e.
           let each = all_is.0 e in
-          let more = drop 17 (behind is_digit (drop 14 bytes)) in
+          let more = drop 17 (after_letters is_digit (drop 14 bytes)) in
           (value, fits_is.0 each.2, more, mark_spelled bytes more line more value (begins_is.stands each.0) (spelled_is.0 each.1) (sym value_is) (fits_is.0 each.2) (closes_is.stands each.3)),
       λ block.
           let reads = mark_read bytes (line ++ block.2) block.0 block.1 block.3 in

@@ -7,12 +7,11 @@ use Rattle.std.specs.List.{AllByRecursion}
 use Rattle.std.proofs.Math.Seq.{drop-append_seam}
 use Rattle.std.proofs.lemmas.Bool.{cases_lt, false≢true}
 use Rattle.std.proofs.lemmas.List.{append_cancel_left, length-append}
-use Rattle.lx_base.specs.Letters.{begins_with, is_digit}
+use Rattle.lx_base.specs.Letters.{begins_with, is_digit, after_letters, front_letters}
 use Rattle.lx_ccode.specs.Marks.{HasNoBegin, begins_piece}
 use Rattle.lx_ccode.specs.Reading.{piece_at}
 use Rattle.lx_ccode.specs.Text.{piece_text, piece_then}
 use Rattle.lx_ccode.specs.Validity.{IsShort, IsValid}
-use Rattle.lx_ccode.specs.Words.{behind, front}
 use Rattle.lx_ccode.specs.declared.piece.Piece.{Piece}
 use Rattle.lx_ccode.proofs.RoundTrip.{piece_at-text}
 use Rattle.lx_ccode.proofs.Tails.{piece_text-append}
@@ -22,10 +21,10 @@ use Rattle.lx_creader.specs.Marks.{BeginsBlock, IsFirstBegin, begin_mark}
 
 -- ---- numbers before another byte than a digit
 
-digits-star : (number : ℕ) (tail : List ℕ) → IsShort number → front is_digit (decimal number ++ 42 ∷ tail) ≡ decimal number
+digits-star : (number : ℕ) (tail : List ℕ) → IsShort number → front_letters is_digit (decimal number ++ 42 ∷ tail) ≡ decimal number
 digits-star number tail h = front-stop is_digit (decimal number) 42 tail (decimal_digits number (omega (arith, h))) refl
 
-behind-star : (number : ℕ) (tail : List ℕ) → IsShort number → behind is_digit (decimal number ++ 42 ∷ tail) ≡ 42 ∷ tail
+behind-star : (number : ℕ) (tail : List ℕ) → IsShort number → after_letters is_digit (decimal number ++ 42 ∷ tail) ≡ 42 ∷ tail
 behind-star number tail h = behind-stop is_digit (decimal number) 42 tail (decimal_digits number (omega (arith, h))) refl
 
 decimal-one : (number other : ℕ) → IsShort number → IsShort other → decimal number ≡ decimal other → number ≡ other
@@ -35,8 +34,8 @@ decimal-one number other h k same =
 numbers-one : (number other : ℕ) (tail rest : List ℕ) → IsShort number → IsShort other → decimal number ++ 42 ∷ tail ≡ decimal other ++ 42 ∷ rest
     → (number ≡ other) × (tail ≡ rest)
 numbers-one number other tail rest h k same = (
-  decimal-one number other h k (sym (digits-star number tail h) ∙ ap (front is_digit) same ∙ digits-star other rest k),
-  (let both : 42 ∷ tail ≡ 42 ∷ rest = sym (behind-star number tail h) ∙ ap (behind is_digit) same ∙ behind-star other rest k in cc),
+  decimal-one number other h k (sym (digits-star number tail h) ∙ ap (front_letters is_digit) same ∙ digits-star other rest k),
+  (let both : 42 ∷ tail ≡ 42 ∷ rest = sym (behind-star number tail h) ∙ ap (after_letters is_digit) same ∙ behind-star other rest k in cc),
 )
 
 -- ---- what begins at a place
@@ -59,14 +58,14 @@ not_both bytes letter text after (inl none) same free = let h : [] ≡ letter �
 not_both bytes letter text after (inr begins) same free = false≢true (sym free ∙ subst (λ (l : List ℕ). begins_piece l ≡ true) same begins)
 
 -- texts in which no begin mark begins end where the first one does
-text-one : (text other after behind : List ℕ) → Starts after → Starts behind → HasNoBegin text after → HasNoBegin other behind → text ++ after ≡ other ++ behind → text ≡ other
-text-one [] [] after behind first second none free same = refl
-text-one [] (letter ∷ other) after behind first second none free same = absurd (not_both after letter other behind first same free.0)
-text-one (letter ∷ text) [] after behind first second none free same = absurd (not_both behind letter text after second (sym same) none.0)
-text-one (letter ∷ text) (next ∷ other) after behind first second none free same =
+text-one : (text other after after_letters : List ℕ) → Starts after → Starts after_letters → HasNoBegin text after → HasNoBegin other after_letters → text ++ after ≡ other ++ after_letters → text ≡ other
+text-one [] [] after after_letters first second none free same = refl
+text-one [] (letter ∷ other) after after_letters first second none free same = absurd (not_both after letter other after_letters first same free.0)
+text-one (letter ∷ text) [] after after_letters first second none free same = absurd (not_both after_letters letter text after second (sym same) none.0)
+text-one (letter ∷ text) (next ∷ other) after after_letters first second none free same =
     let head : letter ≡ next = (let h = same in cc) in
-    let tail : text ++ after ≡ other ++ behind = (let h = same in cc) in
-    let rest : text ≡ other = text-one text other after behind first second none.1 free.1 tail in
+    let tail : text ++ after ≡ other ++ after_letters = (let h = same in cc) in
+    let rest : text ≡ other = text-one text other after after_letters first second none.1 free.1 tail in
     ap (λ (l : List ℕ). letter ∷ l) rest ∙ ap (λ (l : ℕ). l ∷ other) head
 
 parts_text-starts : (parts : List OutputPart) → begins_outside parts ≡ false → Starts (parts_text parts)

@@ -4,13 +4,12 @@ use Rattle.std.specs.Prelude.{◌==◌, ◌||◌}
 use Rattle.std.specs.List.{AllByRecursion}
 use Rattle.std.proofs.lemmas.Bool.Decides.{eqb_tells}
 use Rattle.std.proofs.lemmas.Grind.{common_steps}
-use Rattle.lx_base.specs.Letters.{is_digit, is_in_identifier}
+use Rattle.lx_base.specs.Letters.{is_digit, is_in_identifier, front_letters, after_letters}
 use Rattle.lx_base.specs.Names.{Spellings, condition_prefix}
 use Rattle.lx_ccode.specs.declared.piece.StateCase.{StateCase}
 use Rattle.lx_ccode.specs.declared.piece.CondCase.{CondCase}
 use Rattle.lx_ccode.specs.declared.piece.CodeBlock.{CodeBlock}
 use Rattle.lx_ccode.specs.declared.piece.Stmt.{Stmt}
-use Rattle.lx_ccode.specs.Words.{front, behind}
 use Rattle.lx_ccode.specs.Reading.{begins_statement, blocks_at, byte_at, code_block_at, cond_cases_at, cond_switch_at, declarations_at, eof_at, goto_block, goto_tail, names_at, number_at, piece_at, reading, state_cases_at, state_switch_at, statement_at, statements_at}
 use Rattle.lx_ccode.specs.Validity.{EachBlockHasSpelling, IsValid}
 use Rattle.lx_creader.specs.Fitted.{fitted_block, fitted_cond, fitted_state, fitted_statement, long}
@@ -32,7 +31,7 @@ take-long n xs small = grind (arith, common_steps)
 pub drop-long : {A : Type 0} (n : ℕ) (xs : List A) → length xs ≤ 18446744073709551615 → drop (long n) xs ≡ drop n xs
 drop-long n xs small = grind (arith, common_steps)
 
-names_at-value : (left : ℕ) (bytes text : List ℕ) → 0 < left → text ≡ drop 1 (behind is_digit (drop 1 bytes))
+names_at-value : (left : ℕ) (bytes text : List ℕ) → 0 < left → text ≡ drop 1 (after_letters is_digit (drop 1 bytes))
     → names_at left bytes ≡ (
       take (number_at (drop 1 bytes)) text ∷ (names_at (left - 1) (drop (number_at (drop 1 bytes)) text)).0,
       (names_at (left - 1) (drop (number_at (drop 1 bytes)) text)).1,
@@ -41,7 +40,7 @@ unfolding names_at
 names_at-value zero bytes text some is = absurd (omega arith)
 names_at-value (suc k) bytes text some is = let one : suc k - 1 ≡ k = omega arith in rw (one, is) refl
 
-pub names_at-step : (left : ℕ) (bytes text rest name : List ℕ) (done next : List (List ℕ)) → 0 < left → text ≡ drop 1 (behind is_digit (drop 1 bytes))
+pub names_at-step : (left : ℕ) (bytes text rest name : List ℕ) (done next : List (List ℕ)) → 0 < left → text ≡ drop 1 (after_letters is_digit (drop 1 bytes))
     → length text ≤ 18446744073709551615 → name ≡ take (long (number_at (drop 1 bytes))) text → rest ≡ drop (long (number_at (drop 1 bytes))) text
     → next ≡ done ++ name ∷ []
     → (next ++ (names_at (left - 1) rest).0 ≡ done ++ (names_at left bytes).0) × ((names_at (left - 1) rest).1 ≡ (names_at left bytes).1)
@@ -57,47 +56,47 @@ names_at-step left bytes text rest name done next some is small name_is rest_is 
 
 state_cases_at-value : (left : ℕ) (bytes : List ℕ) → 0 < left → byte_at bytes 1 ≡ 99
     → state_cases_at left bytes ≡ (
-      record { state = number_at (drop 6 bytes); block = goto_block (drop 1 (behind is_digit (drop 6 bytes))) }
-          ∷ (state_cases_at (left - 1) (goto_tail (drop 1 (behind is_digit (drop 6 bytes))))).0,
-      (state_cases_at (left - 1) (goto_tail (drop 1 (behind is_digit (drop 6 bytes))))).1,
+      record { state = number_at (drop 6 bytes); block = goto_block (drop 1 (after_letters is_digit (drop 6 bytes))) }
+          ∷ (state_cases_at (left - 1) (goto_tail (drop 1 (after_letters is_digit (drop 6 bytes))))).0,
+      (state_cases_at (left - 1) (goto_tail (drop 1 (after_letters is_digit (drop 6 bytes))))).1,
     )
 unfolding state_cases_at
 state_cases_at-value zero bytes some is = absurd (omega arith)
 state_cases_at-value (suc k) bytes some is = let one : suc k - 1 ≡ k = omega arith in rw (one, is) refl
 
 pub state_cases_at-step : (left : ℕ) (bytes rest : List ℕ) (done next : List StateCase) (case : StateCase) → 0 < left → byte_at bytes 1 ≡ 99
-    → case.state ≡ long (number_at (drop 6 bytes)) → case.block ≡ long (goto_block (drop 1 (behind is_digit (drop 6 bytes))))
-    → rest ≡ goto_tail (drop 1 (behind is_digit (drop 6 bytes))) → next ≡ done ++ case ∷ []
+    → case.state ≡ long (number_at (drop 6 bytes)) → case.block ≡ long (goto_block (drop 1 (after_letters is_digit (drop 6 bytes))))
+    → rest ≡ goto_tail (drop 1 (after_letters is_digit (drop 6 bytes))) → next ≡ done ++ case ∷ []
     → (next ++ map fitted_state (state_cases_at (left - 1) rest).0 ≡ done ++ map fitted_state (state_cases_at left bytes).0)
     × ((state_cases_at (left - 1) rest).1 ≡ (state_cases_at left bytes).1)
 state_cases_at-step left bytes rest done next case some is state block rest_is next_is =
     let whole = state_cases_at-value left bytes some is in
     let others = ap (λ r. state_cases_at (left - 1) r) rest_is in (
-      step fitted_state done next (record { state = number_at (drop 6 bytes); block = goto_block (drop 1 (behind is_digit (drop 6 bytes))) }) case _ _
-          (ap (λ p. p.0) whole ∙ ap (λ (o : List StateCase). record { state = number_at (drop 6 bytes); block = goto_block (drop 1 (behind is_digit (drop 6 bytes))) } ∷ o) (sym (ap (λ p. p.0) others))) (λ i. record { state = state i; block = block i }) next_is,
+      step fitted_state done next (record { state = number_at (drop 6 bytes); block = goto_block (drop 1 (after_letters is_digit (drop 6 bytes))) }) case _ _
+          (ap (λ p. p.0) whole ∙ ap (λ (o : List StateCase). record { state = number_at (drop 6 bytes); block = goto_block (drop 1 (after_letters is_digit (drop 6 bytes))) } ∷ o) (sym (ap (λ p. p.0) others))) (λ i. record { state = state i; block = block i }) next_is,
       ap (λ p. p.1) others ∙ sym (ap (λ p. p.1) whole),
     )
 
 cond_cases_at-value : (left : ℕ) (names : Spellings) (bytes : List ℕ) → 0 < left → byte_at bytes 1 ≡ 99
     → cond_cases_at left names bytes ≡ (
-      record { cond = drop (length (condition_prefix names)) (front is_in_identifier (drop 6 bytes)); block = goto_block (drop 1 (behind is_in_identifier (drop 6 bytes))) }
-          ∷ (cond_cases_at (left - 1) names (goto_tail (drop 1 (behind is_in_identifier (drop 6 bytes))))).0,
-      (cond_cases_at (left - 1) names (goto_tail (drop 1 (behind is_in_identifier (drop 6 bytes))))).1,
+      record { cond = drop (length (condition_prefix names)) (front_letters is_in_identifier (drop 6 bytes)); block = goto_block (drop 1 (after_letters is_in_identifier (drop 6 bytes))) }
+          ∷ (cond_cases_at (left - 1) names (goto_tail (drop 1 (after_letters is_in_identifier (drop 6 bytes))))).0,
+      (cond_cases_at (left - 1) names (goto_tail (drop 1 (after_letters is_in_identifier (drop 6 bytes))))).1,
     )
 unfolding cond_cases_at
 cond_cases_at-value zero names bytes some is = absurd (omega arith)
 cond_cases_at-value (suc k) names bytes some is = let one : suc k - 1 ≡ k = omega arith in rw (one, is) refl
 
 pub cond_cases_at-step : (left : ℕ) (names : Spellings) (bytes rest : List ℕ) (done next : List CondCase) (case : CondCase) → 0 < left → byte_at bytes 1 ≡ 99
-    → case.cond ≡ drop (length (condition_prefix names)) (front is_in_identifier (drop 6 bytes)) → case.block ≡ long (goto_block (drop 1 (behind is_in_identifier (drop 6 bytes))))
-    → rest ≡ goto_tail (drop 1 (behind is_in_identifier (drop 6 bytes))) → next ≡ done ++ case ∷ []
+    → case.cond ≡ drop (length (condition_prefix names)) (front_letters is_in_identifier (drop 6 bytes)) → case.block ≡ long (goto_block (drop 1 (after_letters is_in_identifier (drop 6 bytes))))
+    → rest ≡ goto_tail (drop 1 (after_letters is_in_identifier (drop 6 bytes))) → next ≡ done ++ case ∷ []
     → (next ++ map fitted_cond (cond_cases_at (left - 1) names rest).0 ≡ done ++ map fitted_cond (cond_cases_at left names bytes).0)
     × ((cond_cases_at (left - 1) names rest).1 ≡ (cond_cases_at left names bytes).1)
 cond_cases_at-step left names bytes rest done next case some is cond block rest_is next_is =
     let whole = cond_cases_at-value left names bytes some is in
     let others = ap (λ r. cond_cases_at (left - 1) names r) rest_is in (
-      step fitted_cond done next (record { cond = drop (length (condition_prefix names)) (front is_in_identifier (drop 6 bytes)); block = goto_block (drop 1 (behind is_in_identifier (drop 6 bytes))) }) case _ _
-          (ap (λ p. p.0) whole ∙ ap (λ (o : List CondCase). record { cond = drop (length (condition_prefix names)) (front is_in_identifier (drop 6 bytes)); block = goto_block (drop 1 (behind is_in_identifier (drop 6 bytes))) } ∷ o) (sym (ap (λ p. p.0) others))) (λ i. record { cond = cond i; block = block i }) next_is,
+      step fitted_cond done next (record { cond = drop (length (condition_prefix names)) (front_letters is_in_identifier (drop 6 bytes)); block = goto_block (drop 1 (after_letters is_in_identifier (drop 6 bytes))) }) case _ _
+          (ap (λ p. p.0) whole ∙ ap (λ (o : List CondCase). record { cond = drop (length (condition_prefix names)) (front_letters is_in_identifier (drop 6 bytes)); block = goto_block (drop 1 (after_letters is_in_identifier (drop 6 bytes))) } ∷ o) (sym (ap (λ p. p.0) others))) (λ i. record { cond = cond i; block = block i }) next_is,
       ap (λ p. p.1) others ∙ sym (ap (λ p. p.1) whole),
     )
 
@@ -131,7 +130,7 @@ statements_at-step left names bytes rest done next statement ctx is_context some
       ap (λ p. p.2) others ∙ sym (ap (λ p. p.2) whole),
     )
 
-blocks_at-value : (left fuel : ℕ) (names : Spellings) (bytes : List ℕ) → 0 < left → (byte_at (behind is_in_identifier bytes) 1 ≡ 59 → ⊥)
+blocks_at-value : (left fuel : ℕ) (names : Spellings) (bytes : List ℕ) → 0 < left → (byte_at (after_letters is_in_identifier bytes) 1 ≡ 59 → ⊥)
     → blocks_at left fuel names bytes ≡ (
       (code_block_at fuel names bytes).0 ∷ (blocks_at (left - 1) fuel names (code_block_at fuel names bytes).2).0,
       (code_block_at fuel names bytes).1 || (blocks_at (left - 1) fuel names (code_block_at fuel names bytes).2).1,
@@ -141,19 +140,19 @@ unfolding blocks_at
 blocks_at-value zero fuel names bytes some is = absurd (omega arith)
 blocks_at-value (suc k) fuel names bytes some is =
     let one : suc k - 1 ≡ k = omega arith in
-    let other = not_equal (byte_at (behind is_in_identifier bytes) 1) 59 is in rw (one, other) refl
+    let other = not_equal (byte_at (after_letters is_in_identifier bytes) 1) 59 is in rw (one, other) refl
 
 -- each block has a statement
 abbrev pub AreFilled : List CodeBlock → Type 0
 AreFilled blocks = AllByRecursion (λ block. 0 < length block.stmts) blocks
 
-pub blocks_at-filled : (left fuel : ℕ) (names : Spellings) (bytes : List ℕ) → 0 < left → (byte_at (behind is_in_identifier bytes) 1 ≡ 59 → ⊥)
+pub blocks_at-filled : (left fuel : ℕ) (names : Spellings) (bytes : List ℕ) → 0 < left → (byte_at (after_letters is_in_identifier bytes) 1 ≡ 59 → ⊥)
     → AreFilled (blocks_at left fuel names bytes).0 → 0 < length (code_block_at fuel names bytes).0.stmts
 blocks_at-filled left fuel names bytes some is filled =
     (subst (λ (l : List CodeBlock). AreFilled l) (ap (λ p. p.0) (blocks_at-value left fuel names bytes some is)) filled).0
 
 pub blocks_at-step : (left fuel : ℕ) (names : Spellings) (bytes rest : List ℕ) (done next : List CodeBlock) (block : CodeBlock) (ctx is_context : Bool)
-    → 0 < left → (byte_at (behind is_in_identifier bytes) 1 ≡ 59 → ⊥)
+    → 0 < left → (byte_at (after_letters is_in_identifier bytes) 1 ≡ 59 → ⊥)
     → block ≡ fitted_block (code_block_at fuel names bytes).0 → is_context ≡ (code_block_at fuel names bytes).1 → rest ≡ (code_block_at fuel names bytes).2 → next ≡ done ++ block ∷ []
     → (next ++ map fitted_block (blocks_at (left - 1) fuel names rest).0 ≡ done ++ map fitted_block (blocks_at left fuel names bytes).0)
     × (((ctx || is_context) || (blocks_at (left - 1) fuel names rest).1) ≡ (ctx || (blocks_at left fuel names bytes).1))
@@ -176,12 +175,12 @@ AreFilled-spelled names (block ∷ blocks) spelled = (spelled.0.0, AreFilled-spe
 
 -- where the blocks that are read are not all filled, the piece that is read is not valid
 pub unfilled : (bytes : List ℕ) (names : Spellings) (rest : List ℕ)
-    → names ≡ (names_at 17 (eof_at (drop 1 (behind is_digit (drop 17 (behind is_digit (drop 14 bytes)))))).1).0
-    → rest ≡ (cond_switch_at (length bytes) names (state_switch_at (length bytes) (declarations_at (drop 5 (names_at 17 (eof_at (drop 1 (behind is_digit (drop 17 (behind is_digit (drop 14 bytes)))))).1).1)).1).1).1
+    → names ≡ (names_at 17 (eof_at (drop 1 (after_letters is_digit (drop 17 (after_letters is_digit (drop 14 bytes)))))).1).0
+    → rest ≡ (cond_switch_at (length bytes) names (state_switch_at (length bytes) (declarations_at (drop 5 (names_at 17 (eof_at (drop 1 (after_letters is_digit (drop 17 (after_letters is_digit (drop 14 bytes)))))).1).1)).1).1).1
     → (AreFilled (blocks_at (length bytes) (length bytes) names rest).0 → ⊥) → IsValid (piece_at bytes).0 → ⊥
 unfolding piece_at reading
 unfilled bytes names rest names_is rest_is none valid =
-    let whole = names_at 17 (eof_at (drop 1 (behind is_digit (drop 17 (behind is_digit (drop 14 bytes)))))).1 in
+    let whole = names_at 17 (eof_at (drop 1 (after_letters is_digit (drop 17 (after_letters is_digit (drop 14 bytes)))))).1 in
     let states = (state_switch_at (length bytes) (declarations_at (drop 5 whole.1)).1).1 in
     none (subst (λ (n : Spellings). AreFilled (blocks_at (length bytes) (length bytes) n rest).0) (sym names_is)
     (subst (λ (r : List ℕ). AreFilled (blocks_at (length bytes) (length bytes) whole.0 r).0) (sym (rest_is ∙ ap (λ n. (cond_switch_at (length bytes) n states).1) names_is))

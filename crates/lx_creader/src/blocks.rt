@@ -5,8 +5,8 @@ ghost use Rattle.lx_ccode.specs.Reading.{blocks_at, body_at, code_block_at, stat
 ghost use Rattle.lx_creader.specs.Fitted.{fitted_block, fitted_statement};
 
 use crate::lines::{Scope, begins_statement};
-use crate::words::{behind_identifier, byte_at, front_identifier, skip};
-use lx_base::spellings::spelling;
+use crate::words::{after_identifier, byte_at, front_identifier, skip};
+use lx_base::names;
 use lx_base::{ByteText, Memory, Sequence};
 use lx_ccode::{CodeBlock, Stmt};
 
@@ -62,13 +62,13 @@ impl Scope<'_> {
     ) -> Result<(CodeBlock, bool, &'b [u8]), Memory>
         ensures { IfOk result (λ read. (read.0 ≡ fitted_block (code_block_at fuel self.now.names.now bytes.now).0) × (read.1 ≡ (code_block_at fuel self.now.names.now bytes.now).1) × (read.2.now ≡ (code_block_at fuel self.now.names.now bytes.now).2)) }
     {
-        let rest = skip(behind_identifier(bytes), 2);
+        let rest = skip(after_identifier(bytes), 2);
         if begins_statement(rest) {
             self.body_at(fuel, None, rest)
         } else {
-            let prefix = spelling(self.names, 15);
+            let prefix = names::label_prefix(self.names);
             let cond = self.text(skip(front_identifier(bytes), prefix.len()))?;
-            self.body_at(fuel, Some(cond), skip(behind_identifier(rest), 2))
+            self.body_at(fuel, Some(cond), skip(after_identifier(rest), 2))
         }
     }
 
@@ -87,7 +87,7 @@ impl Scope<'_> {
         let mut ctx = false;
         let mut left = fuel;
         let mut bytes = bytes;
-        while left > 0 && byte_at(behind_identifier(bytes), 1) != b';' {
+        while left > 0 && byte_at(after_identifier(bytes), 1) != b';' {
             left -= 1;
             let (block, is_context, rest) = self.code_block_at(fuel, bytes)?;
             if block.stmts.as_slice().is_empty() {

@@ -7,9 +7,8 @@ ghost use Rattle.lx_creader.specs.Fine.{IsFineCond, KeepCondRules};
 
 use crate::names::NameSet;
 use crate::statements::is_long;
-use crate::words::is_word;
 use lx_base::Memory;
-use lx_base::spellings::is_identifier;
+use lx_base::letters::{equal_words, is_identifier};
 use lx_ccode::{CodeBlock, CondCase};
 use std::alloc::Global;
 
@@ -20,7 +19,7 @@ fn are_labels(conds: &[CondCase], blocks: &[CodeBlock]) -> bool
     let mut place = 0;
     for block in blocks {
         if let Some(cond) = &block.cond {
-            if place >= conds.len() || !is_word(conds[place].cond.as_slice(), cond.as_slice()) {
+            if place >= conds.len() || !equal_words(conds[place].cond.as_slice(), cond.as_slice()) {
                 return false;
             }
             place += 1;
@@ -54,7 +53,7 @@ fn is_start(blocks: &[CodeBlock], case: &CondCase) -> bool
     }
     match &blocks[block].cond {
         None => false,
-        Some(cond) => is_word(cond.as_slice(), case.cond.as_slice()),
+        Some(cond) => equal_words(cond.as_slice(), case.cond.as_slice()),
     }
 }
 

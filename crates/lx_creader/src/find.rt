@@ -2,8 +2,8 @@
 ghost use Rattle.std.specs.Prelude.{◌≡◌, ◌↔◌, ℕ, Some, None, IsTrue, drop, MatchOption};
 ghost use Rattle.lx_creader.specs.Marks.{BeginsBlock, HasNoNeedlessZero, IsFirstBegin};
 
-use crate::read::begins_with;
-use crate::words::{behind_digits, front_digits, long_at, skip};
+use crate::words::{after_digits, front_digits, long_at, skip};
+use lx_base::letters::begins_with;
 use memchr::memmem;
 
 /// Whether the digits are a number without needless zeros.
@@ -30,7 +30,7 @@ fn begins_piece(bytes: &[u8], number: u32) -> bool
     let text = skip(bytes, 14);
     let spelled = has_no_needless_zero(front_digits(text));
     let same = long_at(text) == u64::from(number);
-    let closes = begins_with(behind_digits(text), b"*/");
+    let closes = begins_with(after_digits(text), b"*/");
     are_true(begins, spelled, same, closes)
 }
 
@@ -42,7 +42,7 @@ fn begins_scanner(bytes: &[u8]) -> bool
     let text = skip(bytes, 14);
     let spelled = has_no_needless_zero(front_digits(text));
     let small = long_at(text) < 4_294_967_296;
-    let closes = begins_with(behind_digits(text), b"*/\n/*!names:re2c ");
+    let closes = begins_with(after_digits(text), b"*/\n/*!names:re2c ");
     are_true(begins, spelled, small, closes)
 }
 

@@ -1,18 +1,18 @@
 //! Reads the lines of statements.
 ghost use Rattle.std.specs.Prelude.{◌≡◌, Option, drop, reverse, min, IfOk};
-ghost use Rattle.lx_base.specs.Letters.{begins_with, is_in_identifier};
+ghost use Rattle.lx_base.specs.Letters.{after_letters};
 ghost use Rattle.lx_ccode.specs.declared.piece.LineMark.{LineMark};
-ghost use Rattle.lx_ccode.specs.Words.{behind};
 ghost use Rattle.lx_ccode.specs.Reading.{argument, assigned, begins_statement, callee, called, code_at, goto_at, history_of, if_at, is_context_marker, register_assigned, register_of, statement_at};
 ghost use Rattle.lx_creader.specs.Fitted.{fitted_line, fitted_statement};
 
 use crate::marks::{block_at, goto_block, goto_tail, mark_at};
 use crate::words::{
-    behind_digits, behind_hexadecimal, behind_identifier, behind_spelling, byte_at, count_at,
-    equal_words, front_identifier, front_spelling, hexadecimal_at, long_at, long_of, short_at,
+    after_digits, after_hexadecimal, after_identifier, after_spelling, byte_at, count_at,
+    front_identifier, front_spelling, hexadecimal_at, long_at, long_of, short_at,
     short_of, skip, taken,
 };
-use lx_base::spellings::{is_digit, is_history_register, is_in_identifier, is_register, spelling};
+use lx_base::letters::{begins_with, equal_words, is_digit, is_in_identifier};
+use lx_base::names::{self, is_history_register, is_register};
 use lx_base::{ByteText, Memory, Names};
 use lx_ccode::{LineMark, Stmt};
 use std::alloc::Global;
@@ -32,13 +32,13 @@ impl Scope<'_> {
     pub(crate) fn text(&self, word: &[u8]) -> Result<ByteText, Memory>
         ensures { IfOk result (λ text. text ≡ word.now) }
     {
-        Ok(ByteText::from_vec(Vec::from_slice(self.alloc, word)?))
+        ByteText::copy_of(self.alloc, word)
     }
 
     fn is_context_marker(&self, word: &[u8]) -> bool
         ensures { result ≡ is_context_marker self.now.names.now word.now }
     {
-        equal_words(word, spelling(self.names, 4))
+        equal_words(word, names::context_marker(self.names))
     }
 
     /// The register that a word names.
@@ -49,7 +49,7 @@ impl Scope<'_> {
         if self.is_context_marker(word) {
             1
         } else {
-            short_of(skip(word, spelling(self.names, 14).len()))
+            short_of(skip(word, names::tag_prefix(self.names).len()))
         }
     }
 
@@ -58,7 +58,7 @@ impl Scope<'_> {
     fn history_of(&self, word: &[u8]) -> u32
         ensures { result ≡ min (history_of self.now.names.now word.now) 4294967295 }
     {
-        short_of(skip(skip(word, spelling(self.names, 14).len()), 1))
+        short_of(skip(skip(word, names::tag_prefix(self.names).len()), 1))
     }
 
     /// The statement `target = source;` where the target is a register, a history or a user's tag.
@@ -66,11 +66,11 @@ impl Scope<'_> {
     fn register_assigned(&self, target: &[u8], source: &[u8]) -> Result<(Stmt, bool), Memory>
         ensures { IfOk result (λ read. (read.0 ≡ fitted_statement (register_assigned self.now.names.now target.now source.now).0) × (read.1 ≡ (register_assigned self.now.names.now target.now source.now).1)) }
     {
-        let prefix = spelling(self.names, 14);
+        let prefix = names::tag_prefix(self.names);
         let is_context = self.is_context_marker(target);
         let from_context = self.is_context_marker(source);
         if is_context || is_register(prefix, target) {
-            if equal_words(source, spelling(self.names, 1)) {
+            if equal_words(source, names::cursor(self.names)) {
                 Ok((Stmt::Set(self.register_of(target)), is_context))
             } else if equal_words(source, b"NULL") {
                 Ok((Stmt::Unset(self.register_of(target)), is_context))
@@ -99,14 +99,14 @@ impl Scope<'_> {
         ensures { IfOk result (λ read. (read.0 ≡ fitted_statement (assigned self.now.names.now target.now source.now).0) × (read.1 ≡ (assigned self.now.names.now target.now source.now).1)) }
     {
         let from_context = self.is_context_marker(source);
-        if equal_words(target, spelling(self.names, 12)) {
+        if equal_words(target, names::current_unit(self.names)) {
             Ok((Stmt::Peek, false))
-        } else if equal_words(target, spelling(self.names, 13)) {
+        } else if equal_words(target, names::last_accept(self.names)) {
             Ok((Stmt::Accept(short_of(source)), false))
-        } else if equal_words(target, spelling(self.names, 3)) {
+        } else if equal_words(target, names::marker(self.names)) {
             Ok((Stmt::Backup, false))
-        } else if equal_words(target, spelling(self.names, 1)) {
-            if equal_words(source, spelling(self.names, 3)) {
+        } else if equal_words(target, names::cursor(self.names)) {
+            if equal_words(source, names::marker(self.names)) {
                 Ok((Stmt::Restore, false))
             } else {
                 Ok((Stmt::Back(self.register_of(source)), from_context))
@@ -126,14 +126,14 @@ impl Scope<'_> {
     fn called(&self, name: &[u8], value: &[u8]) -> Result<Stmt, Memory>
         ensures { IfOk result (λ read. read ≡ fitted_statement (called self.now.names.now name.now value.now)) }
     {
-        if equal_words(name, spelling(self.names, 10)) {
+        if equal_words(name, names::append_offset(self.names)) {
             Ok(Stmt::MSet(self.history_of(value)))
-        } else if equal_words(name, spelling(self.names, 11)) {
+        } else if equal_words(name, names::append_negative(self.names)) {
             Ok(Stmt::MUnset(self.history_of(value)))
-        } else if equal_words(name, spelling(self.names, 7)) {
+        } else if equal_words(name, names::set_state(self.names)) {
             Ok(Stmt::State(long_of(value)))
         } else {
-            let prefix = spelling(self.names, 16);
+            let prefix = names::condition_prefix(self.names);
             Ok(Stmt::Cond(self.text(skip(value, prefix.len()))?))
         }
     }
@@ -143,23 +143,23 @@ impl Scope<'_> {
     fn if_at<'b>(&self, bytes: &'b [u8]) -> Read<'b>
         ensures { (result.0 ≡ fitted_statement (if_at self.now.names.now bytes.now).0) × (result.1 ≡ (if_at self.now.names.now bytes.now).1) × (result.2.now ≡ (if_at self.now.names.now bytes.now).2) }
     {
-        let rest = behind_spelling(bytes);
+        let rest = after_spelling(bytes);
         let sign = byte_at(rest, 1);
         if sign == b'<' {
             let number = skip(rest, 6);
-            let next = skip(behind_hexadecimal(number), 1);
+            let next = skip(after_hexadecimal(number), 1);
             let test = Stmt::IfUnit(hexadecimal_at(number), goto_block(next));
             (test, false, goto_tail(next))
         } else if sign == b'>' {
-            let next = behind_spelling(skip(rest, 4));
+            let next = after_spelling(skip(rest, 4));
             (Stmt::IfEnd(goto_block(next)), false, goto_tail(next))
         } else if sign == b'-' {
-            let next = skip(behind_spelling(skip(rest, 3)), 3);
-            let tail = behind_spelling(skip(behind_digits(next), 2));
+            let next = skip(after_spelling(skip(rest, 3)), 3);
+            let tail = after_spelling(skip(after_digits(next), 2));
             (Stmt::Need(short_at(next)), false, skip(tail, 2))
-        } else if equal_words(front_spelling(bytes), spelling(self.names, 13)) {
+        } else if equal_words(front_spelling(bytes), names::last_accept(self.names)) {
             let number = skip(rest, 4);
-            let next = skip(behind_digits(number), 1);
+            let next = skip(after_digits(number), 1);
             let test = Stmt::IfAccept(short_at(number), goto_block(next));
             (test, false, goto_tail(next))
         } else {
@@ -173,17 +173,17 @@ impl Scope<'_> {
     fn goto_at<'b>(&self, bytes: &'b [u8]) -> Result<Read<'b>, Memory>
         ensures { IfOk result (λ read. (read.0 ≡ fitted_statement (goto_at self.now.names.now bytes.now).0) × (read.1 ≡ (goto_at self.now.names.now bytes.now).1) × (read.2.now ≡ (goto_at self.now.names.now bytes.now).2)) }
     {
-        let rest = behind_identifier(bytes);
+        let rest = after_identifier(bytes);
         let block = block_at(bytes);
         if byte_at(rest, 1) == b' ' {
-            let prefix = spelling(self.names, 15);
+            let prefix = names::label_prefix(self.names);
             let cond = self.text(skip(front_identifier(bytes), prefix.len()))?;
             let number = skip(rest, 5);
             let jump = Stmt::Jump(cond, short_at(number));
-            Ok((jump, false, skip(behind_digits(number), 4)))
+            Ok((jump, false, skip(after_digits(number), 4)))
         } else if is_digit(byte_at(block, 0)) {
             let jump = Stmt::Goto(long_at(block));
-            Ok((jump, false, skip(behind_digits(block), 2)))
+            Ok((jump, false, skip(after_digits(block), 2)))
         } else {
             Ok((Stmt::Leave, false, skip(rest, 2)))
         }
@@ -195,8 +195,8 @@ impl Scope<'_> {
         ensures { (mark : Option LineMark) → line ≡ fitted_line mark → IfOk result (λ read. (read.0 ≡ fitted_statement (code_at mark bytes.now).0) × (read.1 ≡ (code_at mark bytes.now).1) × (read.2.now ≡ (code_at mark bytes.now).2)) }
     {
         let number = skip(bytes, 14);
-        let count = skip(behind_digits(number), 1);
-        let text = skip(behind_digits(count), 2);
+        let count = skip(after_digits(number), 1);
+        let text = skip(after_digits(count), 2);
         let size = count_at(count);
         let action = self.text(taken(text, size))?;
         let code = Stmt::Code(short_at(number), line, action);
@@ -213,11 +213,11 @@ impl Scope<'_> {
             return self.code_at(Some(mark), rest);
         }
         let word = front_spelling(skip(bytes, 1));
-        let rest = behind_spelling(skip(bytes, 1));
+        let rest = after_spelling(skip(bytes, 1));
         let first = byte_at(rest, 0);
         let second = byte_at(rest, 1);
         if first == b'+' {
-            let tail = behind_spelling(skip(rest, 2));
+            let tail = after_spelling(skip(rest, 2));
             Ok((Stmt::Skip, false, skip(tail, 2)))
         } else if first == b'/' {
             self.code_at(None, bytes)
@@ -227,20 +227,13 @@ impl Scope<'_> {
         } else if second == b'=' {
             let source = skip(rest, 3);
             let (statement, is_context) = self.assigned(word, front_spelling(source))?;
-            Ok((statement, is_context, skip(behind_spelling(source), 2)))
+            Ok((statement, is_context, skip(after_spelling(source), 2)))
         } else if second == b'(' {
             Ok(self.if_at(skip(rest, 2)))
         } else {
             self.goto_at(skip(rest, 1))
         }
     }
-}
-
-/// Whether the word begins with the front.
-fn begins_with(word: &[u8], front: &[u8]) -> bool
-    ensures { result ≡ begins_with front.now word.now }
-{
-    word.starts_with(front)
 }
 
 /// What stands before the last byte.
@@ -255,7 +248,7 @@ fn without_last(word: &[u8]) -> &[u8]
 
 /// What stands before the letters, digits and `_` at the end.
 fn before_identifier(word: &[u8]) -> &[u8]
-    ensures { reverse result.now ≡ behind is_in_identifier (reverse word.now) }
+    ensures { reverse result.now ≡ after_letters is_in_identifier (reverse word.now) }
 {
     let mut rest = word;
     while let Some((letter, front)) = rest.split_last() {

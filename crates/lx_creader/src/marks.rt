@@ -3,7 +3,7 @@ ghost use Rattle.std.specs.Prelude.{◌≡◌, false, min, IfOk};
 ghost use Rattle.lx_ccode.specs.Reading.{block_at, file_at, goto_block, goto_tail, line_at, mark_at};
 ghost use Rattle.lx_creader.specs.Fitted.{fitted_line, fitted_mark};
 
-use crate::words::{behind_digits, byte_at, long_at, short_at, skip};
+use crate::words::{after_digits, byte_at, long_at, short_at, skip};
 use lx_base::{ByteText, Memory};
 use lx_ccode::LineMark;
 use std::alloc::Global;
@@ -34,7 +34,7 @@ pub(crate) fn mark_at(alloc: Global, bytes: &[u8]) -> Result<(LineMark, &[u8]), 
     ensures { IfOk result (λ mark. (mark.0 ≡ fitted_mark (mark_at bytes.now).0) × (mark.1.now ≡ (mark_at bytes.now).1)) }
 {
     let number = skip(bytes, 6);
-    let (file, rest) = file_at(alloc, skip(behind_digits(number), 2))?;
+    let (file, rest) = file_at(alloc, skip(after_digits(number), 2))?;
     let mark = LineMark {
         line: short_at(number),
         file,
@@ -58,7 +58,7 @@ pub(crate) fn line_at(alloc: Global, bytes: &[u8]) -> Result<(Option<LineMark>, 
 pub(crate) fn block_at(bytes: &[u8]) -> &[u8]
     ensures { result.now ≡ block_at bytes.now }
 {
-    skip(behind_digits(skip(bytes, 2)), 1)
+    skip(after_digits(skip(bytes, 2)), 1)
 }
 
 /// The block of ` goto yyN_S;`.
@@ -74,5 +74,5 @@ pub(crate) fn goto_block(bytes: &[u8]) -> u64
 pub(crate) fn goto_tail(bytes: &[u8]) -> &[u8]
     ensures { result.now ≡ goto_tail bytes.now }
 {
-    skip(behind_digits(block_at(skip(bytes, 6))), 2)
+    skip(after_digits(block_at(skip(bytes, 6))), 2)
 }

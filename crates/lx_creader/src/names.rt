@@ -2,7 +2,7 @@
 ghost use Rattle.std.specs.Prelude.{◌≡◌, [], ◌∷◌, ◌++◌, true, false, IfOk};
 ghost use Rattle.std.specs.Bool.{MatchBool};
 ghost use Rattle.std.specs.List.{list_any};
-ghost use Rattle.lx_ccode.specs.Words.{equal_words};
+ghost use Rattle.lx_base.specs.Letters.{equal_words};
 
 use indexmap::IndexSet;
 use lx_base::Memory;

@@ -34,14 +34,6 @@ impl From<Memory> for PieceStop {
     }
 }
 
-/// Whether the text stands at the front of the bytes.
-pub(crate) fn begins_with(bytes: &[u8], text: &[u8]) -> bool
-    ensures stands { IsTrue result → bytes.now ≡ text.now ++ drop (length text.now) bytes.now }
-    ensures differs { (rest : List ℕ) → bytes.now ≡ text.now ++ rest → IsTrue result }
-{
-    bytes.starts_with(text)
-}
-
 /// The piece whose text stands at the offset, counted in bytes.
 ///
 /// `NotEmitted` comes exactly where no piece's text stands there, and tells the offset.

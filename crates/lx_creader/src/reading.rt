@@ -7,7 +7,7 @@ ghost use Rattle.lx_creader.specs.Fitted.{fitted};
 use crate::lines::Scope;
 use crate::marks::{block_at, line_at};
 use crate::sections::{declarations_at, eof_at, names_at, state_switch_at};
-use crate::words::{behind_digits, short_at, skip};
+use crate::words::{after_digits, short_at, skip};
 use lx_base::Memory;
 use lx_ccode::Piece;
 use std::alloc::Global;
@@ -20,8 +20,8 @@ pub(crate) fn reading(alloc: Global, bytes: &[u8]) -> Result<Option<Piece>, Memo
 {
     let fuel = bytes.len();
     let head = skip(bytes, 14);
-    let unit = skip(behind_digits(head), 17);
-    let (eof, rest) = eof_at(skip(behind_digits(unit), 1));
+    let unit = skip(after_digits(head), 17);
+    let (eof, rest) = eof_at(skip(after_digits(unit), 1));
     let (names, rest) = names_at(alloc, 17, rest)?;
     let (declares, rest) = declarations_at(skip(rest, 5));
     let (states, rest) = state_switch_at(alloc, fuel, rest)?;

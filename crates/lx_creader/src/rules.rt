@@ -11,7 +11,7 @@ use crate::statements::{
     has_few_groups, has_register_one, has_spelling, is_ending, is_need, is_refill, is_state,
     is_try, jumps_below, names_one_of,
 };
-use lx_base::spellings::is_identifier;
+use lx_base::letters::is_identifier;
 use lx_base::{ByteText, Names};
 use lx_ccode::{CodeBlock, Stmt};
 

@@ -6,10 +6,11 @@ ghost use Rattle.lx_creader.specs.Fitted.{fitted_cond, fitted_eof, fitted_state,
 use crate::lines::Scope;
 use crate::marks::{block_at, goto_block, goto_tail};
 use crate::words::{
-    behind_digits, behind_identifier, behind_spelling, behind_type, byte_at, count_at,
+    after_digits, after_identifier, after_spelling, after_type, byte_at, count_at,
     front_identifier, long_at, short_at, skip, taken,
 };
-use lx_base::spellings::{is_digit, spelling};
+use lx_base::letters::is_digit;
+use lx_base::names;
 use lx_base::{ByteText, Memory, Names, Sequence};
 use lx_ccode::{CondCase, StateCase};
 use std::alloc::Global;
@@ -26,7 +27,7 @@ pub(crate) fn names_at(alloc: Global, count: usize, bytes: &[u8]) -> Result<(Nam
         left -= 1;
         let number = skip(bytes, 1);
         let size = count_at(number);
-        let text = skip(behind_digits(number), 1);
+        let text = skip(after_digits(number), 1);
         let name = Vec::from_slice(alloc, taken(text, size))?;
         names.push(ByteText::from_vec(name))?;
         bytes = skip(text, size);
@@ -42,7 +43,7 @@ pub(crate) fn eof_at(bytes: &[u8]) -> (Option<u32>, &[u8])
     if byte_at(bytes, 0) == b'-' {
         (None, skip(bytes, 1))
     } else {
-        (Some(short_at(bytes)), behind_digits(bytes))
+        (Some(short_at(bytes)), after_digits(bytes))
     }
 }
 
@@ -57,9 +58,9 @@ fn is_tab(bytes: &[u8]) -> bool
 pub(crate) fn declarations_at(bytes: &[u8]) -> (bool, &[u8])
     ensures { (result.0 ≡ (declarations_at bytes.now).0) × (result.1.now ≡ (declarations_at bytes.now).1) }
 {
-    let rest = behind_type(skip(bytes, 1));
+    let rest = after_type(skip(bytes, 1));
     if is_tab(bytes) && byte_at(rest, 0) == b';' {
-        (true, skip(behind_identifier(skip(rest, 16)), 6))
+        (true, skip(after_identifier(skip(rest, 16)), 6))
     } else {
         (false, bytes)
     }
@@ -80,7 +81,7 @@ fn state_cases_at(
     while left > 0 && byte_at(bytes, 1) == b'c' {
         left -= 1;
         let number = skip(bytes, 6);
-        let next = skip(behind_digits(number), 1);
+        let next = skip(after_digits(number), 1);
         cases.push(StateCase {
             state: long_at(number),
             block: goto_block(next),
@@ -102,9 +103,9 @@ pub(crate) fn state_switch_at(
     if !is_tab(bytes) {
         return Ok((None, bytes));
     }
-    let start = skip(behind_spelling(skip(bytes, 9)), 3);
+    let start = skip(after_spelling(skip(bytes, 9)), 3);
     let (cases, rest) = state_cases_at(alloc, fuel, start)?;
-    let rest = skip(behind_identifier(skip(rest, 15)), 5);
+    let rest = skip(after_identifier(skip(rest, 15)), 5);
     Ok((Some(Sequence::from_vec(cases)), rest))
 }
 
@@ -124,8 +125,8 @@ impl Scope<'_> {
         while left > 0 && byte_at(bytes, 1) == b'c' {
             left -= 1;
             let word = skip(bytes, 6);
-            let next = skip(behind_identifier(word), 1);
-            let prefix = spelling(self.names, 16);
+            let next = skip(after_identifier(word), 1);
+            let prefix = names::condition_prefix(self.names);
             let cond = self.text(skip(front_identifier(word), prefix.len()))?;
             cases.push(CondCase {
                 cond,
@@ -149,7 +150,7 @@ impl Scope<'_> {
         if is_digit(byte_at(block, 0)) {
             return Ok((Sequence::new(self.alloc), bytes));
         }
-        let start = skip(behind_spelling(skip(block, 15)), 3);
+        let start = skip(after_spelling(skip(block, 15)), 3);
         let (cases, rest) = self.cond_cases_at(fuel, start)?;
         Ok((Sequence::from_vec(cases), skip(rest, 3)))
     }

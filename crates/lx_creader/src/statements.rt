@@ -5,7 +5,8 @@ ghost use Rattle.lx_ccode.specs.Validity.{HasFewGroups, HasSpelling, IsLine, IsL
 
 use crate::names::NameSet;
 use lx_base::Names;
-use lx_base::spellings::{is_identifier, is_tag_name};
+use lx_base::letters::is_identifier;
+use lx_base::names::is_tag_name;
 use lx_ccode::{LineMark, Stmt};
 
 /// Whether the number has at most 32 bits, as each has that a piece can hold.

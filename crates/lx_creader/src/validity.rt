@@ -9,7 +9,7 @@ use crate::names::NameSet;
 use crate::rules::{Rules, are_countable, blocks_store_states, kinds_in, last_tries_after_state};
 use crate::statements::{is_line, is_long, is_short};
 use crate::states::keep_state_rules;
-use lx_base::spellings::{are_allowed, do_not_clash};
+use lx_base::names::{are_allowed, do_not_clash};
 use lx_base::{Memory, Names, Sequence};
 use lx_ccode::{CodeBlock, Piece, StateCase};
 use std::alloc::Global;

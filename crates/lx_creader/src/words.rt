@@ -1,12 +1,11 @@
 //! The words and numbers at the front of bytes.
-ghost use Rattle.std.specs.Prelude.{◌≡◌, ◌-◌, ◌<◌, ◌≤◌, length, take, drop, min, slice_index, ◌↔◌, IsTrue};
-ghost use Rattle.std.specs.Char.{digit_value};
+ghost use Rattle.std.specs.Prelude.{◌≡◌, ◌<◌, ◌≤◌, take, drop, min, slice_index};
 ghost use Rattle.std.specs.Str.Parse.{digits_value};
-ghost use Rattle.lx_base.specs.Letters.{is_digit, is_in_identifier, is_in_spelling};
-ghost use Rattle.lx_ccode.specs.Reading.{byte_at, hexadecimal_at, is_hexadecimal, number_at};
-ghost use Rattle.lx_ccode.specs.Words.{behind, equal_words, front, is_in_type};
+ghost use Rattle.lx_base.specs.Letters.{after_letters, front_letters, is_digit, is_hexadecimal, is_in_identifier, is_in_spelling, is_in_type};
+ghost use Rattle.lx_ccode.specs.Reading.{byte_at, hexadecimal_at, number_at};
 
-use lx_base::spellings::{is_digit, is_in_identifier, is_in_spelling};
+use lx_base::Letters;
+use lx_base::letters::{after_letters, digit_value, front_letters};
 
 /// The byte at a place, or 0 behind the end.
 pub(crate) fn byte_at(bytes: &[u8], place: usize) -> u8
@@ -26,134 +25,67 @@ pub(crate) fn skip(bytes: &[u8], count: usize) -> &[u8]
     }
 }
 
-/// The value of a digit or a letter; 36 for any other byte.
-fn digit_value(letter: u8) -> u8
-    ensures value { result ≡ digit_value letter }
-    ensures small { result ≤ 36 }
-{
-    match letter {
-        b'0'..=b'9' => letter - b'0',
-        b'A'..=b'Z' => letter - 55,
-        b'a'..=b'z' => letter - 87,
-        _ => 36,
-    }
-}
-
-fn is_hexadecimal(letter: u8) -> bool
-    ensures { result ≡ is_hexadecimal letter }
-{
-    digit_value(letter) < 16
-}
-
-fn is_in_type(letter: u8) -> bool
-    ensures { result ≡ is_in_type letter }
-{
-    is_in_identifier(letter) || letter == b' '
-}
-
 /// What comes behind the digits at the front.
-pub(crate) fn behind_digits(bytes: &[u8]) -> &[u8]
-    ensures { result.now ≡ behind is_digit bytes.now }
+pub(crate) fn after_digits(bytes: &[u8]) -> &[u8]
+    ensures { result.now ≡ after_letters is_digit bytes.now }
 {
-    let mut rest = bytes;
-    while let Some((letter, tail)) = rest.split_first() {
-        if !is_digit(*letter) {
-            break;
-        }
-        rest = tail;
-    }
-    rest
+    after_letters(bytes, Letters::Digits)
 }
 
 /// What comes behind the hexadecimal digits at the front.
-pub(crate) fn behind_hexadecimal(bytes: &[u8]) -> &[u8]
-    ensures { result.now ≡ behind is_hexadecimal bytes.now }
+pub(crate) fn after_hexadecimal(bytes: &[u8]) -> &[u8]
+    ensures { result.now ≡ after_letters is_hexadecimal bytes.now }
 {
-    let mut rest = bytes;
-    while let Some((letter, tail)) = rest.split_first() {
-        if !is_hexadecimal(*letter) {
-            break;
-        }
-        rest = tail;
-    }
-    rest
+    after_letters(bytes, Letters::Hexadecimal)
 }
 
 /// What comes behind the letters, digits and `_` at the front.
-pub(crate) fn behind_identifier(bytes: &[u8]) -> &[u8]
-    ensures { result.now ≡ behind is_in_identifier bytes.now }
+pub(crate) fn after_identifier(bytes: &[u8]) -> &[u8]
+    ensures { result.now ≡ after_letters is_in_identifier bytes.now }
 {
-    let mut rest = bytes;
-    while let Some((letter, tail)) = rest.split_first() {
-        if !is_in_identifier(*letter) {
-            break;
-        }
-        rest = tail;
-    }
-    rest
+    after_letters(bytes, Letters::Identifier)
 }
 
 /// What comes behind the letters of a spelling at the front.
-pub(crate) fn behind_spelling(bytes: &[u8]) -> &[u8]
-    ensures { result.now ≡ behind is_in_spelling bytes.now }
+pub(crate) fn after_spelling(bytes: &[u8]) -> &[u8]
+    ensures { result.now ≡ after_letters is_in_spelling bytes.now }
 {
-    let mut rest = bytes;
-    while let Some((letter, tail)) = rest.split_first() {
-        if !is_in_spelling(*letter) {
-            break;
-        }
-        rest = tail;
-    }
-    rest
+    after_letters(bytes, Letters::Spelling)
 }
 
 /// What comes behind the letters of a type at the front.
-pub(crate) fn behind_type(bytes: &[u8]) -> &[u8]
-    ensures { result.now ≡ behind is_in_type bytes.now }
+pub(crate) fn after_type(bytes: &[u8]) -> &[u8]
+    ensures { result.now ≡ after_letters is_in_type bytes.now }
 {
-    let mut rest = bytes;
-    while let Some((letter, tail)) = rest.split_first() {
-        if !is_in_type(*letter) {
-            break;
-        }
-        rest = tail;
-    }
-    rest
-}
-
-/// What stands before the rest.
-fn leading<'a>(bytes: &'a [u8], rest: &[u8]) -> &'a [u8]
-    ensures { result.now ≡ take (length bytes.now - length rest.now) bytes.now }
-{
-    &bytes[..bytes.len().saturating_sub(rest.len())]
+    after_letters(bytes, Letters::TypeName)
 }
 
 /// The digits at the front.
 pub(crate) fn front_digits(bytes: &[u8]) -> &[u8]
-    ensures { result.now ≡ front is_digit bytes.now }
+    ensures { result.now ≡ front_letters is_digit bytes.now }
 {
-    leading(bytes, behind_digits(bytes))
+    front_letters(bytes, Letters::Digits)
 }
 
 /// The hexadecimal digits at the front.
 pub(crate) fn front_hexadecimal(bytes: &[u8]) -> &[u8]
-    ensures { result.now ≡ front is_hexadecimal bytes.now }
+    ensures { result.now ≡ front_letters is_hexadecimal bytes.now }
 {
-    leading(bytes, behind_hexadecimal(bytes))
+    front_letters(bytes, Letters::Hexadecimal)
 }
 
 /// The letters, digits and `_` at the front.
 pub(crate) fn front_identifier(bytes: &[u8]) -> &[u8]
-    ensures { result.now ≡ front is_in_identifier bytes.now }
+    ensures { result.now ≡ front_letters is_in_identifier bytes.now }
 {
-    leading(bytes, behind_identifier(bytes))
+    front_letters(bytes, Letters::Identifier)
 }
 
 /// The letters of a spelling at the front.
 pub(crate) fn front_spelling(bytes: &[u8]) -> &[u8]
-    ensures { result.now ≡ front is_in_spelling bytes.now }
+    ensures { result.now ≡ front_letters is_in_spelling bytes.now }
 {
-    leading(bytes, behind_spelling(bytes))
+    front_letters(bytes, Letters::Spelling)
 }
 
 /// The number that a word writes in a base; the greatest number where it has no room.
@@ -224,18 +156,4 @@ pub(crate) fn taken(bytes: &[u8], count: usize) -> &[u8]
     ensures { result.now ≡ take count bytes.now }
 {
     &bytes[..bytes.len().min(count)]
-}
-
-/// Whether the words are equal.
-pub(crate) fn equal_words(word: &[u8], other: &[u8]) -> bool
-    ensures { result ≡ equal_words word.now other.now }
-{
-    word == other
-}
-
-/// Whether the words are equal.
-pub(crate) fn is_word(word: &[u8], other: &[u8]) -> bool
-    ensures { IsTrue result ↔ (word.now ≡ other.now) }
-{
-    word == other
 }

@@ -14,7 +14,7 @@ ghost use Rattle.lx_encode.specs.Starts.{AreEnded, StartsWith};
 use crate::layers::{Layer, blocks_of};
 use crate::runs::{Run, append_shifted, point_runs, target_at};
 use crate::table::Table;
-use crate::units::greatest;
+use crate::units::greatest_point;
 use lx_base::{Enc, Memory};
 use lx_class::{ClassSet, MAX_POINT};
 use std::alloc::Global;
@@ -138,7 +138,7 @@ fn one_unit_starts(
     ensures starts { IfOk result (λ starts. (set : List Range) → IsCanonical set → AreEnded set points.now →
         AreStarts table.new enc set (parts enc) starts.items) }
 {
-    let start = one_unit_start(alloc, table, points, greatest(enc))?;
+    let start = one_unit_start(alloc, table, points, greatest_point(enc))?;
     let mut starts = Vec::new(alloc);
     push_start(&mut starts, start)?;
     Ok(starts)

@@ -10,5 +10,5 @@ mod table;
 mod units;
 
 pub use graph::{Residual, UnitGraph};
-pub use policies::{PointStop, all_points, apply};
-pub use units::{Units, greatest_unit, unit_bytes, units_of};
+pub use policies::{FIRST_SURROGATE, LAST_SURROGATE, PointStop, REPLACEMENT, all_points, apply};
+pub use units::{Units, greatest_point, greatest_unit, unit_bytes, units_of};

@@ -3,19 +3,21 @@ ghost use Rattle.std.specs.Prelude.{◌≡◌, ℕ, ◌↔◌, ◌+◌, ◌<◌,
 ghost use Rattle.lx_class.specs.Ranges.{InRanges, IsCanonical};
 ghost use Rattle.lx_encode.specs.Policy.{FitsEncoding, IsAllowed, IsApplied, IsLeastWithin, IsPoint, IsPolicyOf, NoneWithin};
 
-use crate::units::greatest;
+use crate::units::greatest_point;
 use lx_base::{Enc, Memory, SurPolicy};
 use lx_class::{ClassSet, Range};
 use std::alloc::Global;
 use thiserror::Error;
 
-/// The first and the last surrogate (The Unicode Standard, section 3.8).
-const FIRST_SURROGATE: u32 = 0xD800;
+/// The first surrogate (The Unicode Standard, section 3.8).
+pub const FIRST_SURROGATE: u32 = 0xD800;
 
-const LAST_SURROGATE: u32 = 0xDFFF;
+/// The last surrogate.
+pub const LAST_SURROGATE: u32 = 0xDFFF;
 
-/// What stands in the place of a surrogate, U+FFFD.
-const REPLACEMENT: u32 = 0xFFFD;
+/// What stands in the place of a surrogate where these are substituted, U+FFFD (The Unicode Standard,
+/// section 23.8).
+pub const REPLACEMENT: u32 = 0xFFFD;
 
 /// Why a class is refused.
 #[derive(Clone, Copy, Debug, PartialEq, Eq, Error)]
@@ -50,7 +52,7 @@ pub fn all_points(alloc: Global, enc: Enc, policy: SurPolicy) -> Result<ClassSet
     ensures canonical { IfOk result IsCanonical }
     ensures points { IfOk result (λ set. (point : ℕ) → InRanges set point ↔ IsPoint enc policy point) }
 {
-    let all = ClassSet::range(alloc, 0, greatest(enc))?;
+    let all = ClassSet::range(alloc, 0, greatest_point(enc))?;
     match policy {
         SurPolicy::Ignore => Ok(all),
         SurPolicy::Substitute | SurPolicy::Fail => {
@@ -90,7 +92,7 @@ fn refusal(enc: Enc, policy: SurPolicy, set: &[Range]) -> Option<PointStop>
     ensures { MatchOption result (FitsEncoding enc set.now × IsAllowed policy set.now)
         (λ stop. IsApplied enc policy set.now (Err stop)) }
 {
-    if let Some(point) = least_within(set, greatest(enc) + 1, u32::MAX) {
+    if let Some(point) = least_within(set, greatest_point(enc) + 1, u32::MAX) {
         return Some(PointStop::TooLarge(point));
     }
     match policy {

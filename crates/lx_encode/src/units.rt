@@ -38,8 +38,8 @@ pub fn unit_bytes(enc: Enc) -> u32
     }
 }
 
-/// The greatest code point that an encoding spells.
-pub(crate) fn greatest(enc: Enc) -> u32
+/// The greatest code point that an encoding spells. It takes no memory.
+pub fn greatest_point(enc: Enc) -> u32
     ensures { result ≡ greatest_point enc }
 {
     match enc {
@@ -140,7 +140,7 @@ pub fn units_of(enc: Enc, point: u32) -> Option<Units>
     ensures count { IfSome result (λ units. units.len ≡ length (spell enc point)) }
     ensures unused { IfSome result (λ units. All (λ unit. unit ≡ 0) (unused units)) }
 {
-    if point > greatest(enc) {
+    if point > greatest_point(enc) {
         return None;
     }
     let units = match enc {

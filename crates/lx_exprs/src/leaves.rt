@@ -24,7 +24,7 @@ use crate::copies::copy;
 use crate::definitions::{Definitions, Kept};
 use crate::points::points_fault;
 use crate::sets::{character_set, class_set, line_set, ranges_of, single_ranges};
-use crate::tags::{SeenTags, repeated_tag, tag_name, text};
+use crate::tags::{SeenTags, repeated_tag, tag_name};
 use crate::values::{Content, MOST_SIZE, MOST_TAGS, Room, Value, class_of, sum};
 use lx_base::{EmptyPolicy, Fault, Memory, Options, Pos, Stop, SurPolicy};
 use lx_class::ClassSet;
@@ -129,7 +129,7 @@ fn kept_content(alloc: Global, kept: &Kept, by: u64) -> Result<Content, Memory>
 fn unknown(alloc: Global, lexeme: &Lexeme<'_>) -> Stop
     ensures { IsStop (Some (UnknownName lexeme.now.at lexeme.now.text.now)) result }
 {
-    match text(alloc, lexeme.text) {
+    match ByteText::copy_of(alloc, lexeme.text) {
         Ok(name) => Stop::Fault(Fault::UnknownName {
             at: lexeme.at,
             name,
@@ -311,7 +311,7 @@ fn read_tag(
     }
     let name = tag_name(lexeme.text);
     if seen.contains(name) {
-        let name = text(alloc, name)?;
+        let name = ByteText::copy_of(alloc, name)?;
         return Err(Stop::Fault(Fault::DuplicateTag {
             at: lexeme.at,
             name,

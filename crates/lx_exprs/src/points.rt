@@ -1,28 +1,10 @@
 //! The faults of the code points that stand in one token.
 ghost use Rattle.std.specs.Prelude.{◌≡◌, IsNone, ◌≤◌, All};
-ghost use Rattle.lx_base.specs.Spelling.{greatest_point};
 ghost use Rattle.lx_exprs.specs.Points.{least_from, least_with, points_fault, replaced, up_to};
 
 use lx_base::{Enc, Fault, Pos, SurPolicy};
 use lx_class::Range;
-
-const FIRST_SURROGATE: u32 = 0xD800;
-
-const LAST_SURROGATE: u32 = 0xDFFF;
-
-/// What stands in the place of a surrogate where these are substituted (Unicode 15, section 23.8).
-const REPLACEMENT: u32 = 0xFFFD;
-
-/// The greatest code point that an encoding spells.
-fn greatest_point(enc: Enc) -> u32
-    ensures { result ≡ greatest_point enc }
-{
-    match enc {
-        Enc::Byte => 0xFF,
-        Enc::Ucs2 => 0xFFFF,
-        Enc::Utf8 | Enc::Utf16 | Enc::Utf32 => 0x10_FFFF,
-    }
-}
+use lx_encode::{FIRST_SURROGATE, LAST_SURROGATE, REPLACEMENT, greatest_point};
 
 /// The lesser of the least point so far and of the least one of a range from a bound on.
 fn least_with(low: u32, range: Range, least: Option<u32>) -> Option<u32>

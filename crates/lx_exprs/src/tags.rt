@@ -63,7 +63,7 @@ impl TagNames {
         ensures { OnOk result (self.new ≡ self.old ++ name.now ∷ []) }
     {
         let key = Vec::from_slice(alloc, name)?;
-        let name = text(alloc, name)?;
+        let name = ByteText::copy_of(alloc, name)?;
         self.names.push(name)?;
         if self.index.insert(key, ()).is_err() {
             let _last = self.names.pop();
@@ -345,14 +345,6 @@ pub fn tag_name(text: &[u8]) -> &[u8]
     }
 }
 
-/// A text with these bytes.
-pub fn text(alloc: Global, bytes: &[u8]) -> Result<ByteText, Memory>
-    ensures { IfOk result (λ text. text ≡ bytes.now) }
-{
-    let bytes = Vec::from_slice(alloc, bytes)?;
-    Ok(ByteText::from_vec(bytes))
-}
-
 /// The fault of the first of some tags that was seen before.
 fn repeated_among(
     alloc: Global,
@@ -364,7 +356,7 @@ fn repeated_among(
 {
     for tag in tags {
         if seen.contains(tag.as_slice()) {
-            let name = text(alloc, tag.as_slice())?;
+            let name = ByteText::copy_of(alloc, tag.as_slice())?;
             return Ok(Some(Fault::DuplicateTag { at, name }));
         }
     }
@@ -392,12 +384,4 @@ pub fn repeated_tag(
         }
     }
     Ok(None)
-}
-
-/// Puts a copy of a name behind others.
-pub fn add_copy(alloc: Global, names: &mut Vec<ByteText>, name: &[u8]) -> Result<(), Memory>
-    ensures { OnOk result (names.new.items ≡ names.old.items ++ name.now ∷ []) }
-{
-    names.push(text(alloc, name)?)?;
-    Ok(())
 }

@@ -62,7 +62,7 @@ impl Bindings {
     {
         let alloc = *self.files.allocator();
         let name = FileName::from_string(String::from_str(alloc, name)?);
-        let bytes = ByteText::from_vec(Vec::from_slice(alloc, bytes)?);
+        let bytes = ByteText::copy_of(alloc, bytes)?;
         self.files.insert(0, HeldFile { name, bytes })?;
         Ok(())
     }

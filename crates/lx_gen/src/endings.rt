@@ -12,20 +12,12 @@ use lx_ccode::Stmt;
 use lx_regex::{Rule, Tag};
 use std::alloc::Global;
 
-/// A copy of a text.
-pub(crate) fn copied_text(alloc: Global, text: &ByteText) -> Result<ByteText, Memory>
-    ensures { IfOk result (λ copy. copy ≡ text.now) }
-{
-    let bytes = Vec::from_slice(alloc, text.as_slice())?;
-    Ok(ByteText::from_vec(bytes))
-}
-
 /// The statement that gives a tag its value. Statements count registers from 1 and histories from 0.
 fn tag_code(alloc: Global, held: Held, name: &ByteText) -> Result<Stmt, Memory>
     requires { IsHeld 1073741824 1073741824 held }
     ensures { IfOk result (λ stmt. stmt ≡ tag_code held name.now) }
 {
-    let name = copied_text(alloc, name)?;
+    let name = ByteText::copy_of(alloc, name.as_slice())?;
     Ok(match held {
         Held::Reg(reg) => Stmt::Tag(name, false, reg + 1),
         Held::MReg(mreg) => Stmt::Tag(name, true, mreg),
@@ -150,7 +142,7 @@ fn rule_code(
     let mut stmts = Vec::new(alloc);
     push_tags(alloc, &mut stmts, rule, values)?;
     push_back(&mut stmts, slash_held(rule.slash, values))?;
-    let text = copied_text(alloc, text)?;
+    let text = ByteText::copy_of(alloc, text.as_slice())?;
     stmts.push(Stmt::Code(rule.number, None, text))?;
     Ok(stmts)
 }

@@ -6,7 +6,6 @@ ghost use Rattle.lx_regex.specs.Pattern.{end_rule, patterns_of};
 ghost use Rattle.lx_tdfa.specs.Promise.{IsAutoOf};
 ghost use Rattle.lx_gen.specs.Scanner.{AreNamed, AreShort, IsScannerOf};
 
-use crate::endings::copied_text;
 use crate::layouts::blocks_of;
 use lx_auto::Auto;
 use lx_base::{ByteText, Enc, Memory, Names, Sequence};
@@ -21,7 +20,7 @@ fn copied_names(alloc: Global, names: &[ByteText]) -> Result<Names, Memory>
 {
     let mut copies = Vec::new(alloc);
     for name in names {
-        copies.push(copied_text(alloc, name)?)?;
+        copies.push(ByteText::copy_of(alloc, name.as_slice())?)?;
     }
     Ok(Names::from_vec(copies))
 }

@@ -6,7 +6,7 @@ use Rattle.lx_base.specs.declared.faults.Fault.TheVariants.{Syntax}
 use Rattle.lx_base.specs.declared.places.Pos.{Pos}
 use Rattle.lx_token.specs.declared.kinds.TokenKind.TheVariants as kinds
 use Rattle.lx_token.specs.declared.list.Token.{Token}
-use Rattle.lx_token.specs.Places.{place_after}
+use Rattle.lx_base.specs.Places.{place_after}
 use Rattle.lx_token.specs.Spans.{AreInOrder}
 use Rattle.lx_parse.specs.declared.items.Item.{Item}
 use Rattle.lx_parse.specs.declared.forms.Form.{Form}

@@ -8,7 +8,7 @@ use Rattle.lx_base.specs.declared.faults.Stop.{Stop}
 use Rattle.lx_base.specs.declared.faults.Stop.TheVariants as stop
 use Rattle.lx_base.specs.declared.places.Pos.{Pos}
 use Rattle.lx_token.specs.declared.list.Token.{Token}
-use Rattle.lx_token.specs.Places.{place_after}
+use Rattle.lx_base.specs.Places.{place_after}
 use Rattle.lx_parse.specs.declared.items.Item.{Item}
 use Rattle.lx_parse.specs.declared.sorts.Sort.{Sort}
 use Rattle.lx_parse.specs.declared.forms.Form.{Form}

@@ -9,8 +9,8 @@ use crate::forms::{Form, form_of};
 use crate::items::BlockTree;
 use crate::sorts::sort_in;
 use crate::states::{State, Step};
-use lx_base::{BlockKind, Fault, Pos, Sequence, Stop};
-use lx_token::{TokenList, place_after, tokens_stand_in_order};
+use lx_base::{BlockKind, Fault, Pos, Sequence, Stop, place_after};
+use lx_token::{TokenList, tokens_stand_in_order};
 use std::alloc::Global;
 
 /// Whether a body may end where the parser stands.

@@ -1,58 +1,19 @@
 //! What a block resolves to, by what is known behind its items.
-ghost use Rattle.std.specs.Prelude.{◌≡◌, ◌↔◌, IfOk, IsTrue, map};
+ghost use Rattle.std.specs.Prelude.{◌≡◌, ◌↔◌, IfOk, IsTrue};
 ghost use Rattle.std.specs.List.{AllByRecursion};
-ghost use Rattle.lx_base.specs.Names.{IsTagName, usual_names};
+ghost use Rattle.lx_base.specs.Names.{IsTagName};
 ghost use Rattle.lx_rules.specs.Finishing.{AddsDefault, AreScannersOf, IsOneScanner};
 
 use crate::environment::Env;
 use crate::items::{DefaultRule, Known};
 use crate::resolved::{Config, Resolved, Scanner};
 use crate::rules::simple_rule;
-use lx_base::spellings::{do_not_clash, is_tag_name};
-use lx_base::{ByteText, Fault, Memory, Names, Pos, Sequence, Stop};
-use lx_exprs::tags::{SharedTags, add_copy};
+use lx_base::names::{do_not_clash, is_tag_name};
+use lx_base::{ByteText, Fault, Memory, Names, Pos, Sequence, Stop, usual_names};
+use lx_exprs::tags::SharedTags;
 use lx_exprs::values::{MOST_NESTING, MOST_SIZE, MOST_TAGS};
 use lx_regex::{Expr, Kind, Rule, RuleSet};
 use std::alloc::Global;
-
-/// Texts with these bytes.
-fn texts(alloc: Global, words: &[&[u8]]) -> Result<Names, Memory>
-    ensures { IfOk result (λ texts. texts ≡ map (λ word. word.now) words.now) }
-{
-    let mut texts = Vec::new(alloc);
-    for word in words {
-        add_copy(alloc, &mut texts, word)?;
-    }
-    Ok(Names::from_vec(texts))
-}
-
-/// The spellings of a source that configures none.
-fn usual_names(alloc: Global) -> Result<Names, Memory>
-    ensures { IfOk result (λ names. names ≡ usual_names) }
-{
-    texts(
-        alloc,
-        &[
-            b"YYCTYPE",
-            b"YYCURSOR",
-            b"YYLIMIT",
-            b"YYMARKER",
-            b"YYCTXMARKER",
-            b"YYFILL",
-            b"YYGETSTATE",
-            b"YYSETSTATE",
-            b"YYGETCONDITION",
-            b"YYSETCONDITION",
-            b"YYMTAGP",
-            b"YYMTAGN",
-            b"yych",
-            b"yyaccept",
-            b"yyt",
-            b"yyc_",
-            b"yyc",
-        ],
-    )
-}
 
 /// Whether each of some names is one that a tag may have beside the spellings.
 fn are_tag_names(names: &Names, tags: &[ByteText]) -> bool

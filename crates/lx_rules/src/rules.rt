@@ -13,7 +13,7 @@ use crate::resolved::Act;
 use lx_base::{ByteText, Fault, Memory, Pos, Sequence, Stop};
 use lx_exprs::expressions::Reading;
 use lx_exprs::leaves::waits;
-use lx_exprs::tags::{TagNames, text};
+use lx_exprs::tags::TagNames;
 use lx_exprs::values::sum;
 use lx_regex::{Expr, Kind, Rule, Tag};
 use std::alloc::Global;
@@ -43,7 +43,7 @@ fn tags_with(alloc: Global, names: &[ByteText]) -> Result<Sequence<Tag>, Memory>
     let mut tags = Vec::new(alloc);
     for name in names {
         tags.push(Tag {
-            name: text(alloc, name.as_slice())?,
+            name: ByteText::copy_of(alloc, name.as_slice())?,
             many: false,
         })?;
     }
@@ -60,7 +60,7 @@ fn act(alloc: Global, block: Block<'_>, number: u32, code: Option<u32>) -> Resul
             Ok(Act {
                 number,
                 goes: None,
-                code: Some(text(alloc, lexeme.text)?),
+                code: Some(ByteText::copy_of(alloc, lexeme.text)?),
                 at: lexeme.at,
             })
         }

@@ -4,7 +4,7 @@ use Rattle.std.proofs.lemmas.List.{length-drop}
 use Rattle.lx_base.specs.declared.blocks.BlockKind.{BlockKind}
 use Rattle.lx_base.specs.declared.places.Pos.{Pos}
 use Rattle.lx_base.specs.declared.settings.Options.{Options}
-use Rattle.lx_token.specs.Places.{place_after}
+use Rattle.lx_base.specs.Places.{place_after, file_start}
 use Rattle.lx_token.specs.Tokens.{place_of_rest}
 use Rattle.lx_token.proofs.Ends.{IsEnd}
 use Rattle.lx_token.proofs.Walk.{IsEnd-drop_is, place_after-append}
@@ -15,7 +15,7 @@ use Rattle.lx_split.specs.Searches.{from_first}
 use Rattle.lx_split.specs.Marks.{begins_mark, mark_place, place_if_any}
 use Rattle.lx_split.specs.Openers.{from_opener, is_present, opener_at, word_of}
 use Rattle.lx_split.specs.Bodies.{after_block}
-use Rattle.lx_split.specs.Pieces.{Split, at_end, at_opener, before, block, body_before, file_start, opener_size, outside, pieces_from, pieces_of, pieces_without_marks, unless_marked}
+use Rattle.lx_split.specs.Pieces.{Split, at_end, at_opener, before, block, body_before, opener_size, outside, pieces_from, pieces_of, pieces_without_marks, unless_marked}
 use Rattle.lx_split.specs.Cuts.{AreApart, AreAtPlaces, AreCut, AreOpened, HasNoMark, piece_text, source_text}
 use Rattle.lx_split.proofs.BlockEnds.{IsEnd-split, after_block-closes}
 use Rattle.lx_split.proofs.Needles.{from_first-end}

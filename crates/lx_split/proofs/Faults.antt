@@ -6,7 +6,7 @@ use Rattle.lx_base.specs.declared.places.Pos.{Pos}
 use Rattle.lx_base.specs.declared.settings.Options.{Options}
 use Rattle.lx_base.specs.declared.faults.Fault.{Fault}
 use Rattle.lx_base.specs.declared.faults.Fault.TheVariants.{Directive, MarkInSource, Unclosed}
-use Rattle.lx_token.specs.Places.{place_after}
+use Rattle.lx_base.specs.Places.{place_after, file_start}
 use Rattle.lx_token.specs.Tokens.{place_of_rest}
 use Rattle.lx_token.proofs.Ends.{IsEnd}
 use Rattle.lx_token.proofs.Walk.{IsEnd-drop_is, place_after-append}
@@ -17,7 +17,7 @@ use Rattle.lx_split.specs.Searches.{from_first}
 use Rattle.lx_split.specs.Marks.{begins_mark, mark_place, place_if_any}
 use Rattle.lx_split.specs.Openers.{from_opener, is_present, opener_at}
 use Rattle.lx_split.specs.Bodies.{after_block}
-use Rattle.lx_split.specs.Pieces.{Split, at_end, at_opener, before, block, file_start, opener_size, outside, pieces_from, pieces_of, pieces_without_marks, unless_marked}
+use Rattle.lx_split.specs.Pieces.{Split, at_end, at_opener, before, block, opener_size, outside, pieces_from, pieces_of, pieces_without_marks, unless_marked}
 use Rattle.lx_split.specs.Cuts.{IsFaultOf, IsFaultBehind, IsOpenerFault, completed, faulty, marked, refused, unclosed, piece_text, source_text}
 use Rattle.lx_split.proofs.BlockEnds.{IsEnd-split}
 use Rattle.lx_split.proofs.Needles.{from_first-end}

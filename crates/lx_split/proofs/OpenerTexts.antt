@@ -1,16 +1,16 @@
 -- An opener is `/*!` and the word of its kind.
-use Rattle.std.proofs.Common.{length-append, ◌≡◌, ℕ, zero, suc, ◌+◌, ◌-◌, ◌≤◌, Bool, true, false, cond, List, [], ◌∷◌, ◌++◌, length, take, drop, codes, Option, Some, None, refl, sym, ◌∙◌, ap, arith}
+use Rattle.std.proofs.Common.{length-append, subst, ◌≡◌, ℕ, zero, suc, ◌+◌, ◌-◌, ◌≤◌, Bool, true, false, cond, List, [], ◌∷◌, ◌++◌, length, take, drop, codes, Option, Some, None, refl, sym, ◌∙◌, ap, arith}
 use Rattle.std.specs.Str.{bytes_eq}
 use Rattle.std.proofs.lemmas.Option.{same_Some}
 use Rattle.std.proofs.lemmas.List.{drop-drop}
 use Rattle.std.proofs.lemmas.Slice.Eq.{bytes_eq-Decides}
 use Rattle.lx_base.specs.declared.blocks.BlockKind.{BlockKind}
 use Rattle.lx_base.specs.declared.settings.Options.{Options}
-use Rattle.lx_base.specs.Letters.{begins_with}
+use Rattle.lx_base.proofs.Fronts.{front_letters-take}
+use Rattle.lx_base.specs.Letters.{begins_with, after_letters, is_in_opener}
 use Rattle.lx_token.proofs.Ties.{begins-split}
-use Rattle.lx_token.specs.Words.{after_letters}
 use Rattle.lx_split.specs.declared.openers.Opener.TheVariants.{Absent, Refused, Opens}
-use Rattle.lx_split.specs.Openers.{word_of, word_at, kind_among, kind_of, is_in_word, block_kinds, names_re2c, is_allowed, opener_of_kind, opener_of, opener_at}
+use Rattle.lx_split.specs.Openers.{word_of, word_at, kind_among, kind_of, block_kinds, names_re2c, is_allowed, opener_of_kind, opener_of, opener_at}
 use Rattle.lx_split.specs.Pieces.{opener_size}
 
 kind_among-word : (kinds : List BlockKind) (word : List ℕ) (kind : BlockKind) → kind_among kinds word ≡ Some kind → word ≡ word_of kind
@@ -56,9 +56,10 @@ opener-text options text kind is = at (begins_with (codes "/*!") text) refl is
         let found = opener_of_kind-opens options word (kind_of word) kind is in
         let same = kind_among-word block_kinds word kind found in
         let tail = drop 3 text in
-        let count = length tail - length (after_letters is_in_word tail) in
+        let count = length tail - length (after_letters is_in_opener tail) in
         rw (drop-three (length (word_of kind)) text, ← same)
-        (begins-split (codes "/*!") text begins ∙ ap (λ (l : List ℕ). codes "/*!" ++ l) (behind_take count tail))
+        (begins-split (codes "/*!") text begins ∙ ap (λ (l : List ℕ). codes "/*!" ++ l)
+        (subst (λ front. tail ≡ front ++ drop (length front) tail) (sym (front_letters-take is_in_opener tail)) (behind_take count tail)))
     at false begins is = absurd (cc)
 
 pub opener-fits : (options : Options) (text : List ℕ) (kind : BlockKind) → opener_at options text ≡ Opens kind → opener_size kind ≤ length text

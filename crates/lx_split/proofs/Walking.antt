@@ -1,5 +1,6 @@
 -- The steps by which a source is cut.
 use Rattle.std.proofs.Common.{◌≡◌, ℕ, zero, suc, ◌<◌, List, [], ◌∷◌, ◌++◌, length, drop, Some, None, Ok, Err, refl, sym, arith}
+use Rattle.lx_base.specs.Places.{file_start}
 use Rattle.lx_base.specs.declared.blocks.BlockKind.{BlockKind}
 use Rattle.lx_base.specs.declared.places.Pos.{Pos}
 use Rattle.lx_base.specs.declared.settings.Options.{Options}
@@ -9,7 +10,7 @@ use Rattle.lx_split.specs.declared.openers.Opener.TheVariants.{Absent, Refused, 
 use Rattle.lx_split.specs.declared.pieces.SourcePiece.{SourcePiece}
 use Rattle.lx_split.specs.Openers.{opener_at, from_opener}
 use Rattle.lx_split.specs.Bodies.{after_block}
-use Rattle.lx_split.specs.Pieces.{Split, before, block, file_start, opener_size, outside, pieces_from, pieces_without_marks}
+use Rattle.lx_split.specs.Pieces.{Split, before, block, opener_size, outside, pieces_from, pieces_without_marks}
 
 -- the pieces of a source are these and then those of the rest
 pub record HasCut (options : Options) (file : ℕ) (bytes : List ℕ) (done : List SourcePiece) (at : Pos) (rest : List ℕ) : Type 0 where

@@ -5,7 +5,7 @@ use Rattle.lx_base.specs.declared.places.Pos.{Pos}
 use Rattle.lx_base.specs.declared.settings.Options.{Options}
 use Rattle.lx_base.specs.declared.faults.Fault.{Fault}
 use Rattle.lx_base.specs.declared.faults.Fault.TheVariants.{Directive, MarkInSource, Unclosed}
-use Rattle.lx_token.specs.Places.{place_after}
+use Rattle.lx_base.specs.Places.{place_after}
 use Rattle.lx_split.specs.declared.pieces.SourcePiece.{SourcePiece}
 use Rattle.lx_split.specs.declared.pieces.SourcePiece.TheVariants.{Outside, Block}
 use Rattle.lx_split.specs.Marks.{begins_mark}

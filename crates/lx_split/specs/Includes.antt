@@ -3,6 +3,7 @@ use Rattle.std.specs.Prelude.{◌≡◌, ℕ, zero, suc, ◌+◌, List, [], ◌�
 use Rattle.lx_base.specs.declared.blocks.BlockKind.{BlockKind}
 use Rattle.lx_base.specs.declared.blocks.BlockKind.TheVariants.{Include, Enter, Leave}
 use Rattle.lx_base.specs.declared.places.Pos.{Pos}
+use Rattle.lx_base.specs.Places.{file_start}
 use Rattle.lx_base.specs.declared.settings.Options.{Options}
 use Rattle.lx_base.specs.declared.faults.Fault.{Fault}
 use Rattle.lx_base.specs.declared.faults.Fault.TheVariants.{IncludeDepth, NoFile, Syntax, TooLong}
@@ -17,7 +18,7 @@ use Rattle.lx_split.specs.declared.library.FoundFile.{FoundFile}
 use Rattle.lx_split.specs.declared.pieces.SourcePiece.{SourcePiece}
 use Rattle.lx_split.specs.declared.pieces.SourcePiece.TheVariants.{Outside, Block}
 use Rattle.lx_split.specs.IncludeNames.{file_name_of, folder_of, names_for}
-use Rattle.lx_split.specs.Pieces.{Split, file_start, pieces_of}
+use Rattle.lx_split.specs.Pieces.{Split, pieces_of}
 
 -- the files met so far: their names, in order, and how many bytes they have
 pub record Met : Type 0 where

@@ -4,19 +4,14 @@ use Rattle.std.specs.Str.{bytes_eq}
 use Rattle.lx_base.specs.declared.blocks.BlockKind.{BlockKind}
 use Rattle.lx_base.specs.declared.blocks.BlockKind.TheVariants.{Code, Rules, Use, Max, MaxNmatch, Stags, Mtags, Types, GetState, Ignore, Include, Enter, Leave}
 use Rattle.lx_base.specs.declared.settings.Options.{Options}
-use Rattle.lx_base.specs.Letters.{is_in_identifier, begins_with}
-use Rattle.lx_token.specs.Words.{after_letters}
+use Rattle.lx_base.specs.Letters.{is_in_opener, begins_with, front_letters}
 use Rattle.lx_split.specs.declared.openers.Opener.{Opener}
 use Rattle.lx_split.specs.declared.openers.Opener.TheVariants.{Absent, Refused, Opens}
 use Rattle.lx_split.specs.Searches.{from_first}
 
--- a letter, a digit, `_` or `:`
-abbrev pub is_in_word : ℕ → Bool
-is_in_word letter = is_in_identifier letter || (letter == 58)
-
 -- the longest run of such letters at the front of the text
 abbrev pub word_at : List ℕ → List ℕ
-word_at text = take (length text - length (after_letters is_in_word text)) text
+word_at text = front_letters is_in_opener text
 
 -- the word of a kind; no word opens the blocks that stand around an included file
 abbrev pub word_of : BlockKind → List ℕ

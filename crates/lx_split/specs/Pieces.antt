@@ -7,7 +7,7 @@ use Rattle.lx_base.specs.declared.faults.Fault.{Fault}
 use Rattle.lx_base.specs.declared.faults.Fault.TheVariants.{Directive, MarkInSource, Unclosed}
 use Rattle.lx_base.specs.declared.faults.Stop.{Stop}
 use Rattle.lx_base.specs.declared.faults.Stop.TheVariants as stop
-use Rattle.lx_token.specs.Places.{place_after}
+use Rattle.lx_base.specs.Places.{file_start, place_after}
 use Rattle.lx_token.specs.Tokens.{place_of_rest}
 use Rattle.lx_split.specs.declared.openers.Opener.{Opener}
 use Rattle.lx_split.specs.declared.openers.Opener.TheVariants.{Absent, Refused, Opens}
@@ -68,10 +68,6 @@ abbrev pub pieces_from : (steps : ℕ) → Options → List SourcePiece → Pos 
 pieces_from zero options done at text = Ok done
 pieces_from (suc steps) options done at text =
     behind_outside (pieces_from steps options) options done at text (from_opener options text)
-
--- the place at which a file begins
-abbrev pub file_start : ℕ → Pos
-file_start file = record { file = file; line = 1; col = 1 }
 
 -- the pieces of a source without marks, in order; or the fault by which it is refused
 abbrev pub pieces_without_marks : Options → (file : ℕ) → List ℕ → Split

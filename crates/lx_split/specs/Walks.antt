@@ -54,7 +54,17 @@ pub record Advances (before after : Walk) (next : Option IncludeBlock) : Type 0 
   pub open : length after.open.items ≤ length before.open.items
   pub inside : IfSome next (λ _. 0 < length after.open.items)
 
--- a file was entered: these are its pieces, and this piece stands behind them, if one does
+-- a file of this name was opened: these are its pieces, and this one stands behind them, if one does
+pub record Opens (before after : Walk) (name : List ℕ) (pieces : List SourcePiece) (leave : Option SourcePiece) : Type 0 where
+  pub file : OpenFile
+  pub open : after.open.items ≡ before.open.items ++ file ∷ []
+  pub folder : file.folder ≡ folder_of name
+  pub rest : file.rest.items ≡ pieces
+  pub leave : file.leave ≡ leave
+  pub pieces : after.pieces ≡ before.pieces
+  pub total : after.total ≡ before.total
+
+-- a file was entered, which is not too long and has no more pieces than bytes
 pub record Enters (before after : Walk) (file : HeldFile) (pieces : List SourcePiece) (leave : Option SourcePiece) : Type 0 where
   pub opened : OpenFile
   pub open : after.open.items ≡ before.open.items ++ opened ∷ []

@@ -9,7 +9,7 @@ ghost use Rattle.lx_split.specs.Walks.{Takes, whole_from, whole_of};
 
 use crate::includes::{IncludeBlock, enter_block, file_name_of, leave_block, names_for};
 use crate::library::{FoundFile, Library};
-use crate::pieces::{Pieces, file_start};
+use crate::pieces::Pieces;
 use crate::walk::Walk;
 use lx_base::{ByteText, Fault, FileNames, Memory, Options, Pos, Stop};
 use lx_files::Files;
@@ -55,12 +55,9 @@ impl From<Stop> for ExpandStop {
 fn no_file(alloc: Global, at: Pos, name: &str) -> ExpandStop
     ensures { IsNoFile at name.now result }
 {
-    match Vec::from_slice(alloc, name.as_bytes()) {
-        Ok(name) => ExpandStop::Fault(Fault::NoFile {
-            at,
-            name: ByteText::from_vec(name),
-        }),
-        Err(_) => ExpandStop::Memory,
+    match ByteText::copy_of(alloc, name.as_bytes()) {
+        Ok(name) => ExpandStop::Fault(Fault::NoFile { at, name }),
+        Err(Memory) => ExpandStop::Memory,
     }
 }
 
@@ -117,10 +114,10 @@ fn take_main<F: Files>(
 {
     library.learn(alloc, files, main)?;
     let Some(bytes) = library.get(main) else {
-        return Err(no_file(alloc, file_start(0), main));
+        return Err(no_file(alloc, Pos::start_of(0), main));
     };
     let found = FoundFile { name: main, bytes };
-    walk.enter(alloc, opts, file_start(0), 0, found, None)?;
+    walk.enter(alloc, opts, Pos::start_of(0), 0, found, None)?;
     Ok(())
 }
 

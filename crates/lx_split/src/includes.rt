@@ -5,7 +5,7 @@ ghost use Rattle.lx_split.specs.IncludeNames.{after_blanks, checked_name, file_n
 ghost use Rattle.lx_split.specs.Includes.{IsIncludeOr, empty_block, enter_block, leave_block};
 
 use crate::bodies::after_file_name;
-use crate::pieces::{SourcePiece, file_start};
+use crate::pieces::SourcePiece;
 use crate::searches::from_opening;
 use lx_base::{BlockKind, ByteText, FileName, Memory, Options, Pos, Sequence};
 use lx_token::after_blank;
@@ -56,7 +56,7 @@ fn empty_block(alloc: Global, kind: BlockKind, at: Pos, end_line: u32) -> Source
 pub(crate) fn enter_block(alloc: Global, file: u32) -> SourcePiece
     ensures { result ≡ enter_block file }
 {
-    empty_block(alloc, BlockKind::Enter, file_start(file), 1)
+    empty_block(alloc, BlockKind::Enter, Pos::start_of(file), 1)
 }
 
 /// The block that stands behind the pieces of an included file.

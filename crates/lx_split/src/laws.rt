@@ -1,10 +1,11 @@
 //! What holds of the pieces of all sources: each law is the contract of a function with an empty body.
 ghost use Rattle.std.specs.Prelude.{◌≡◌, ℕ, List, Ok, Err};
+ghost use Rattle.lx_base.specs.Places.{file_start};
 ghost use Rattle.lx_base.specs.declared.faults.Fault.{Fault};
 ghost use Rattle.lx_base.specs.declared.settings.Options.{Options};
 ghost use Rattle.lx_split.specs.declared.pieces.SourcePiece.{SourcePiece};
 ghost use Rattle.lx_split.specs.Cuts.{AreCut, AreOpened, IsFaultOf};
-ghost use Rattle.lx_split.specs.Pieces.{file_start, pieces_of};
+ghost use Rattle.lx_split.specs.Pieces.{pieces_of};
 
 /// The pieces of a source put together give the source, each block has the places of its opener and its end, and no mark
 /// of emitted text stands in them.

@@ -4,8 +4,7 @@ ghost use Rattle.lx_split.specs.Marks.{begins_mark, mark_place};
 ghost use Rattle.lx_split.specs.Searches.{from_first};
 
 use crate::searches::from_opening;
-use lx_base::Pos;
-use lx_token::place_after;
+use lx_base::{Pos, place_after};
 
 /// Whether the text and a `/` before it begin with a mark.
 fn completes_mark(text: &[u8]) -> bool

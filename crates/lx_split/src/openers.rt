@@ -1,10 +1,10 @@
 //! The openers of blocks.
 ghost use Rattle.std.specs.Prelude.{◌≡◌, ◌≤◌, ◌<◌, length};
-ghost use Rattle.lx_token.specs.Words.{after_letters};
-ghost use Rattle.lx_split.specs.Openers.{from_opener, is_allowed, is_in_word, is_present, kind_among, kind_of, names_re2c, opener_at, opener_of, word_at, word_of};
+ghost use Rattle.lx_split.specs.Openers.{from_opener, is_allowed, is_present, kind_among, kind_of, names_re2c, opener_at, opener_of, word_at, word_of};
 
 use crate::searches::from_opening;
-use lx_base::{BlockKind, Options};
+use lx_base::letters::front_letters;
+use lx_base::{BlockKind, Letters, Options};
 
 /// What stands at a place of outside text.
 #[derive(Clone, Copy, Debug, PartialEq, Eq)]
@@ -32,32 +32,11 @@ const KINDS: [BlockKind; 11] = [
     BlockKind::Include,
 ];
 
-fn is_in_word(letter: u8) -> bool
-    ensures { result ≡ is_in_word letter }
-{
-    letter.is_ascii_alphanumeric() || letter == b'_' || letter == b':'
-}
-
-/// What is left of the text behind the word at its front.
-fn after_word(text: &[u8]) -> &[u8]
-    ensures rest { result.now ≡ after_letters is_in_word text.now }
-    ensures shorter { length result.now ≤ length text.now }
-{
-    let mut rest = text;
-    while let Some((letter, tail)) = rest.split_first() {
-        if !is_in_word(*letter) {
-            break;
-        }
-        rest = tail;
-    }
-    rest
-}
-
 /// The longest run of letters, digits, `_` and `:` at the front of the text.
 fn word_at(text: &[u8]) -> &[u8]
     ensures { result.now ≡ word_at text.now }
 {
-    &text[..text.len() - after_word(text).len()]
+    front_letters(text, Letters::Opener)
 }
 
 /// The word of a block's kind; empty for kinds that no word opens.

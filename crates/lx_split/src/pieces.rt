@@ -1,13 +1,13 @@
 //! The pieces of a source.
 ghost use Rattle.std.specs.Prelude.{◌≡◌, ◌++◌, ◌+◌, ◌<◌, ◌≤◌, ◌^◌, drop, length, IfOk, OnOk, MatchResult, Ok};
+ghost use Rattle.lx_base.specs.Places.{file_start};
 ghost use Rattle.lx_token.specs.Tokens.{place_of_rest};
-ghost use Rattle.lx_split.specs.Pieces.{StopsWith, block, file_start, opener_size, outside, pieces_of, pieces_without_marks};
+ghost use Rattle.lx_split.specs.Pieces.{StopsWith, block, opener_size, outside, pieces_of, pieces_without_marks};
 
 use crate::bodies::{Unclosed, after_block};
 use crate::marks::mark_place;
 use crate::openers::{Opener, from_opener, opener_at, word_of};
-use lx_base::{BlockKind, ByteText, Fault, Memory, Options, Pos, Sequence, Stop};
-use lx_token::place_after;
+use lx_base::{BlockKind, ByteText, Fault, Memory, Options, Pos, Sequence, Stop, place_after};
 use std::alloc::Global;
 
 /// A piece of a source: text outside of blocks, or a block.
@@ -32,29 +32,12 @@ pub enum SourcePiece {
 /// The pieces of a source, in order.
 pub type Pieces = Sequence<SourcePiece>;
 
-fn copy(alloc: Global, text: &[u8]) -> Result<ByteText, Memory>
-    ensures { IfOk result (λ copied. copied ≡ text.now) }
-{
-    Ok(ByteText::from_vec(Vec::from_slice(alloc, text)?))
-}
-
-/// The place at which a file begins.
-pub(crate) fn file_start(file: u32) -> Pos
-    ensures { result ≡ file_start file }
-{
-    Pos {
-        file,
-        line: 1,
-        col: 1,
-    }
-}
-
 /// Puts outside text at the end of the pieces, if it is not empty.
 fn push_outside(alloc: Global, pieces: &mut Pieces, text: &[u8]) -> Result<(), Memory>
     ensures { OnOk result (pieces.new ≡ pieces.old ++ outside text.now) }
 {
     if !text.is_empty() {
-        pieces.push(SourcePiece::Outside(copy(alloc, text)?))?;
+        pieces.push(SourcePiece::Outside(ByteText::copy_of(alloc, text)?))?;
     }
     Ok(())
 }
@@ -77,7 +60,7 @@ fn block_of(
     let (opener, behind) = text.split_at(3 + word_of(kind).len());
     Ok(SourcePiece::Block {
         kind,
-        body: copy(alloc, &behind[..behind.len() - tail.len() - 2])?,
+        body: ByteText::copy_of(alloc, &behind[..behind.len() - tail.len() - 2])?,
         at,
         body_at: place_after(at, opener),
         end_line,
@@ -98,7 +81,7 @@ fn cut(alloc: Global, bytes: &[u8], file: u32, opts: &Options) -> Result<Pieces,
     ensures { MatchResult result (λ pieces. pieces_without_marks opts.now file bytes.now ≡ Ok pieces) (StopsWith (pieces_without_marks opts.now file bytes.now)) }
 {
     let mut pieces = Sequence::new(alloc);
-    let mut at = file_start(file);
+    let mut at = Pos::start_of(file);
     let mut unclosed = Unclosed::new();
     let mut rest = bytes;
     loop {
@@ -137,7 +120,7 @@ pub fn split(alloc: Global, bytes: &[u8], file: u32, opts: &Options) -> Result<P
     requires { length bytes.now ≤ 16777216 }
     ensures { MatchResult result (λ pieces. pieces_of opts.now file bytes.now ≡ Ok pieces) (StopsWith (pieces_of opts.now file bytes.now)) }
 {
-    match mark_place(bytes, file_start(file)) {
+    match mark_place(bytes, Pos::start_of(file)) {
         Some(at) => Err(Stop::Fault(Fault::MarkInSource { at })),
         None => cut(alloc, bytes, file, opts),
     }

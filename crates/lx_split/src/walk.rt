@@ -2,18 +2,16 @@
 ghost use Rattle.std.specs.Prelude.{◌≡◌, ◌+◌, ◌≤◌, ◌++◌, ◌∷◌, List, [], length, IfOk, MatchResult, Ok, OnOk};
 ghost use Rattle.lx_split.specs.Includes.{found_view, pieces_within};
 ghost use Rattle.lx_split.specs.Pieces.{StopsWith};
-ghost use Rattle.lx_split.specs.Walks.{Advances, Enters, inner_folder, open_files};
+ghost use Rattle.lx_split.specs.Walks.{Advances, Enters, Opens, inner_folder, open_files};
 ghost use Rattle.lx_split.specs.declared.pieces.SourcePiece.{SourcePiece};
 
 use crate::includes::{IncludeBlock, folder_of, include_of};
 use crate::library::FoundFile;
 use crate::pieces::{Pieces, SourcePiece, split};
+use lx_base::limits::SOURCE_LIMIT;
 use lx_base::{Fault, FileName, Memory, Options, Pos, Sequence, Stop};
 use std::alloc::Global;
 use std::collections::VecDeque;
-
-/// The most bytes that a source has with its includes.
-const MOST_BYTES: usize = 16_777_216;
 
 /// A file of which pieces are still to be taken.
 #[derive(Drop)]
@@ -48,7 +46,7 @@ fn pieces_within(
     ensures { MatchResult result (λ pieces. (pieces_within opts.now at file before bytes.now ≡ Ok pieces) × (length pieces ≤ length bytes.now) × (before + length bytes.now ≤ 16777216)) (StopsWith (pieces_within opts.now at file before bytes.now)) }
 {
     let total = before + bytes.len();
-    if total > MOST_BYTES {
+    if total > SOURCE_LIMIT {
         return Err(Stop::Fault(Fault::TooLong {
             at,
             total: total as u64,
@@ -103,6 +101,25 @@ impl Walk {
         Ok(())
     }
 
+    /// Opens a file of this name and these pieces, behind which another may stand.
+    fn open(
+        &mut self,
+        alloc: Global,
+        name: &str,
+        pieces: Pieces,
+        leave: Option<SourcePiece>,
+    ) -> Result<(), Memory>
+        ensures { OnOk result (Opens self.old self.new name.now pieces leave) }
+    {
+        let folder = String::from_str(alloc, folder_of(name))?;
+        self.open.push(OpenFile {
+            rest: VecDeque::from_vec(pieces.into_vec()),
+            folder: FileName::from_string(folder),
+            leave,
+        })?;
+        Ok(())
+    }
+
     /// Enters a file, which is met with this number, and behind whose pieces another may stand. The faults that do not stand
     /// in it stand at `at`.
     pub(crate) fn enter(
@@ -119,13 +136,8 @@ impl Walk {
             (StopsWith (pieces_within opts.now at file self.old.total found.bytes.now)) }
     {
         let pieces = pieces_within(alloc, opts, at, file, self.total, found.bytes)?;
+        self.open(alloc, found.name, pieces, leave)?;
         self.total += found.bytes.len();
-        let folder = String::from_str(alloc, folder_of(found.name))?;
-        self.open.push(OpenFile {
-            rest: VecDeque::from_vec(pieces.into_vec()),
-            folder: FileName::from_string(folder),
-            leave,
-        })?;
         Ok(())
     }
 

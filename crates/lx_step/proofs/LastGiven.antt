@@ -2,7 +2,7 @@
 use Rattle.std.proofs.Common.{◌≡◌, ◌∙◌, ap, subst, refl, sym, if◌then◌else◌, ℕ, Bool, true, false, List, [], ◌∷◌, Option, Some, None}
 use Rattle.std.specs.List.{last_or}
 use Rattle.lx_ccode.specs.Machine.{Value, tag_offset, tag_history}
-use Rattle.lx_ccode.specs.Words.{equal_words}
+use Rattle.lx_base.specs.Letters.{equal_words}
 use Rattle.lx_ccode.proofs.Words.{equal_words-true}
 use Rattle.lx_step.specs.declared.slots.OffsetSlot.{OffsetSlot}
 use Rattle.lx_step.specs.declared.slots.HistorySlot.{HistorySlot}

@@ -12,7 +12,7 @@ use Rattle.lx_step.specs.declared.slots.HistorySlot.{HistorySlot}
 use Rattle.lx_step.specs.Given.{Given, after_value, after_values, with_offset, with_history, offset_in, history_in, onto_offsets, onto_histories, offset_slots, history_slots, gives_offset, gives_history}
 use Rattle.lx_step.proofs.Lists.{set-parts}
 use Rattle.std.specs.Bool.{MatchBool}
-use Rattle.lx_ccode.specs.Words.{equal_words}
+use Rattle.lx_base.specs.Letters.{equal_words}
 use Rattle.lx_ccode.proofs.Words.{equal_words-self, equal_words-false, equal_words-true}
 
 or-false : (a : Bool) → (a || false) ≡ a

@@ -7,7 +7,7 @@ use Rattle.std.proofs.lemmas.Bool.{false≢true}
 use Rattle.std.proofs.lemmas.List.{length-map, map-append}
 use Rattle.std.proofs.lemmas.List.Quantifiers.{position-Some}
 use Rattle.std.proofs.lemmas.Slice.Eq.{bytes_eq-Decides}
-use Rattle.lx_ccode.specs.Words.{equal_words}
+use Rattle.lx_base.specs.Letters.{equal_words}
 use Rattle.lx_ccode.proofs.Words.{equal_words-self, equal_words-true}
 use Rattle.lx_step.specs.declared.slots.OffsetSlot.{OffsetSlot}
 use Rattle.lx_step.specs.declared.slots.HistorySlot.{HistorySlot}

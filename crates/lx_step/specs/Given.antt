@@ -3,7 +3,7 @@ use Rattle.std.specs.Prelude.{ℕ, ◌/◌, ◌%◌, Bool, true, false, List, []
 use Rattle.lx_ccode.specs.declared.piece.Stmt.{Stmt}
 use Rattle.lx_ccode.specs.declared.piece.Stmt.TheVariants.{Tag}
 use Rattle.lx_ccode.specs.Machine.{Value, tag_offset, tag_history, group_count, group_end, condition}
-use Rattle.lx_ccode.specs.Words.{equal_words}
+use Rattle.lx_base.specs.Letters.{equal_words}
 use Rattle.lx_step.specs.declared.answers.Group.{Group}
 use Rattle.lx_step.specs.declared.slots.OffsetSlot.{OffsetSlot}
 use Rattle.lx_step.specs.declared.slots.HistorySlot.{HistorySlot}

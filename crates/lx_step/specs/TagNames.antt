@@ -1,6 +1,6 @@
 -- Where a name stands in a list of names.
 use Rattle.std.specs.Prelude.{ℕ, suc, List, [], ◌∷◌, Option, Some, None, option_map, if◌then◌else◌}
-use Rattle.lx_ccode.specs.Words.{equal_words}
+use Rattle.lx_base.specs.Letters.{equal_words}
 
 abbrev pub first_place : List (List ℕ) → (tag : List ℕ) → Option ℕ
 first_place [] tag = None

@@ -1,7 +1,7 @@
 //! What was given to tags and groups.
 ghost use Rattle.std.specs.Prelude.{◌≡◌, ℕ, ◌+◌, ◌/◌, ◌<◌, ◌≤◌, ◌^◌, List, Option, Some, length, take, map, option_map, option_copied, IfOk, OnOk, []};
 ghost use Rattle.lx_ccode.specs.Statements.{all_statements};
-ghost use Rattle.lx_ccode.specs.Words.{equal_words};
+ghost use Rattle.lx_base.specs.Letters.{equal_words};
 ghost use Rattle.lx_step.specs.Given.{Given, with_offset, with_history, with_end, offset_in, history_in, onto_offsets, onto_histories, offset_slots, history_slots, nothing_given};
 
 use crate::answers::Group;
@@ -184,7 +184,7 @@ impl OffsetSlots {
         if self.names.place_of(name).is_some() {
             return Ok(());
         }
-        let word = ByteText::from_vec(Vec::from_slice(alloc, name)?);
+        let word = ByteText::copy_of(alloc, name)?;
         self.slots.reserve(1)?;
         self.names.add(alloc, name)?;
         self.slots.push_reserved(OffsetSlot {
@@ -273,7 +273,7 @@ impl HistorySlots {
         if self.names.place_of(name).is_some() {
             return Ok(());
         }
-        let word = ByteText::from_vec(Vec::from_slice(alloc, name)?);
+        let word = ByteText::copy_of(alloc, name)?;
         self.slots.reserve(1)?;
         self.names.add(alloc, name)?;
         self.slots.push_reserved(HistorySlot {

@@ -1,8 +1,8 @@
 -- What follows a token is an end of the text, and a shorter one.
 use Rattle.std.proofs.Common.{◌≤◌, arith, ◌≡◌, ℕ, zero, suc, ◌-◌, Bool, true, false, cond, ◌==◌, ◌||◌, ◌⊎◌, inl, inr, ⊎_elim, List, [], ◌∷◌, length, drop, codes, Option, Some, None, IfSome, option_and_then, unwrap_or, is_some, refl, sym, subst}
-use Rattle.lx_base.specs.Letters.{begins_identifier, is_in_identifier, is_digit, begins_with}
+use Rattle.lx_base.specs.Letters.{begins_identifier, is_in_identifier, is_digit, begins_with, after_letters}
 use Rattle.lx_token.specs.Blanks.{is_blank, after_line, after_closing, after_comment, after_blank}
-use Rattle.lx_token.specs.Words.{after_letters, after_letter, after_name, is_in_word, begins_word, after_words, after_config, after_numeral, after_number, after_tag}
+use Rattle.lx_token.specs.Words.{after_letter, after_name, is_in_word, begins_word, after_words, after_config, after_numeral, after_number, after_tag}
 use Rattle.lx_token.specs.Quoted.{is_escape, after_close, after_quoted}
 use Rattle.lx_token.specs.Braces.{after_first_bound, after_bounds, after_literal, begins_comment, after_unquoted, after_piece, after_braces, after_code}
 use Rattle.lx_token.specs.Signs.{is_sign, after_sign}

@@ -3,10 +3,10 @@ use Rattle.std.proofs.Common.{◌≡◌, ℕ, ◌<◌, ◌⊎◌, inl, inr, ⊎_
 use Rattle.std.proofs.lemmas.Bool.{eqb-true}
 use Rattle.std.proofs.lemmas.Bool.Decides.{nat_tests}
 use Rattle.std.proofs.lemmas.Option.{same_Some, none-some}
-use Rattle.lx_base.specs.Letters.{begins_identifier, is_in_identifier, is_digit, begins_with}
+use Rattle.lx_base.specs.Letters.{begins_identifier, is_in_identifier, is_digit, begins_with, after_letters}
 use Rattle.lx_token.specs.declared.kinds.TokenKind.{TokenKind}
 use Rattle.lx_token.specs.declared.kinds.TokenKind.TheVariants.{Name, Config, Number, Str, IStr, Class, STag, MTag, Bounds, Code, Signs}
-use Rattle.lx_token.specs.Words.{after_letters, begins_word, after_words, after_numeral, after_config, after_name}
+use Rattle.lx_token.specs.Words.{begins_word, after_words, after_numeral, after_config, after_name}
 use Rattle.lx_token.specs.Quoted.{after_close}
 use Rattle.lx_token.specs.Braces.{after_first_bound, after_bounds, after_braces}
 use Rattle.lx_token.specs.Signs.{is_sign}

@@ -8,7 +8,7 @@ use Rattle.lx_base.specs.declared.faults.Fault.TheVariants.{BadToken}
 use Rattle.lx_token.specs.declared.list.Token.{Token}
 use Rattle.lx_token.specs.declared.kinds.TokenKind.{TokenKind}
 use Rattle.lx_token.specs.Blanks.{after_blank}
-use Rattle.lx_token.specs.Places.{next_place, place_after}
+use Rattle.lx_base.specs.Places.{next_place, place_after}
 use Rattle.lx_token.specs.Rows.{Found, after_token, longest_token}
 use Rattle.lx_token.specs.Spans.{AreInOrder, Stands, EachStands, Covers, AreTokens, IsBadTokenFrom, IsBadToken}
 use Rattle.lx_token.specs.Spans.PassesBlanks.{stay, pass}

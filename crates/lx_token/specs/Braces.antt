@@ -1,7 +1,7 @@
 -- Bounds of repetitions, and actions.
 use Rattle.std.specs.Prelude.{◌≡◌, ℕ, zero, suc, ◌-◌, ◌≤◌, Bool, true, false, List, [], ◌∷◌, ◌++◌, length, codes, Option, Some, None, option_and_then, unwrap_or, is_some, ◌==◌, ◌||◌, if◌then◌else◌}
-use Rattle.lx_base.specs.Letters.{is_digit, begins_with}
-use Rattle.lx_token.specs.Words.{after_letters, after_letter, after_numeral}
+use Rattle.lx_base.specs.Letters.{is_digit, begins_with, after_letters}
+use Rattle.lx_token.specs.Words.{after_letter, after_numeral}
 use Rattle.lx_token.specs.Blanks.{after_comment}
 
 -- what follows bounds behind their first number: `}`, or `,`, another number if there is one, and `}`

@@ -5,7 +5,6 @@ pub mod ClassParts
 pub mod Classes
 pub mod Items
 pub mod Numbers
-pub mod Places
 pub mod Quoted
 pub mod Rows
 pub mod Signs

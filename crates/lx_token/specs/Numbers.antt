@@ -1,9 +1,8 @@
 -- The values of numbers and of bounds.
 use Rattle.std.specs.Prelude.{ℕ, ◌+◌, ◌-◌, ◌*◌, ◌^◌, true, false, List, [], ◌∷◌, min, drop, codes, Option, Some, None, ◌==◌, if◌then◌else◌}
-use Rattle.lx_base.specs.Letters.{is_digit, begins_with}
+use Rattle.lx_base.specs.Letters.{is_digit, begins_with, after_letters}
 use Rattle.lx_token.specs.declared.numbers.Number.{Number}
 use Rattle.lx_token.specs.declared.numbers.Repeat.{Repeat}
-use Rattle.lx_token.specs.Words.{after_letters}
 
 -- the value of the decimal digits at the front of the text, behind digits of this value
 abbrev pub value_behind : ℕ → List ℕ → ℕ

@@ -6,7 +6,7 @@ use Rattle.lx_base.specs.declared.faults.Fault.TheVariants.{BadToken}
 use Rattle.lx_token.specs.declared.kinds.TokenKind.{TokenKind}
 use Rattle.lx_token.specs.declared.list.Token.{Token}
 use Rattle.lx_token.specs.Blanks.{after_blank}
-use Rattle.lx_token.specs.Places.{place_after}
+use Rattle.lx_base.specs.Places.{place_after}
 use Rattle.lx_token.specs.Rows.{after_token}
 
 -- each token begins at `from` or later and where the one before it ends or later, has a byte, and ends within the body

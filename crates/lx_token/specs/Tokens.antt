@@ -7,7 +7,7 @@ use Rattle.lx_base.specs.declared.faults.Stop.{Stop}
 use Rattle.lx_base.specs.declared.faults.Stop.TheVariants as stop
 use Rattle.lx_token.specs.declared.list.Token.{Token}
 use Rattle.lx_token.specs.Blanks.{after_blank}
-use Rattle.lx_token.specs.Places.{place_after}
+use Rattle.lx_base.specs.Places.{place_after}
 use Rattle.lx_token.specs.Rows.{Found, longest_token}
 
 -- the tokens, or the fault at which they end

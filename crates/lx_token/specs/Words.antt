@@ -1,11 +1,6 @@
 -- Names, configuration words, numbers and tags.
 use Rattle.std.specs.Prelude.{ℕ, Bool, false, List, [], ◌∷◌, codes, drop, Option, Some, None, ◌==◌, ◌||◌, if◌then◌else◌}
-use Rattle.lx_base.specs.Letters.{begins_identifier, is_in_identifier, is_digit, begins_with}
-
--- what is left of the text behind the letters at its front that pass the test
-abbrev pub after_letters : (ℕ → Bool) → List ℕ → List ℕ
-after_letters test [] = []
-after_letters test (letter ∷ text) = if test letter then after_letters test text else letter ∷ text
+use Rattle.lx_base.specs.Letters.{begins_identifier, is_in_identifier, is_digit, begins_with, after_letters}
 
 -- what follows the letter, if the text begins with it
 abbrev pub after_letter : ℕ → List ℕ → Option (List ℕ)

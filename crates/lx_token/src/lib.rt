@@ -8,7 +8,6 @@ mod classes;
 mod kinds;
 mod list;
 mod numbers;
-mod places;
 mod quoted;
 mod signs;
 mod words;
@@ -20,7 +19,6 @@ pub use classes::{Class, PointRange, class_of, classes_have_the_ranges_of_their_
 pub use kinds::{TokenKind, quoted_texts_are_items};
 pub use list::{Token, TokenList, tokens, tokens_stand_in_order};
 pub use numbers::{Number, Repeat, number_of, repeat_of};
-pub use places::place_after;
 
 #[cfg(test)]
 mod tests;

@@ -8,8 +8,7 @@ ghost use Rattle.lx_token.specs.Tokens.{StopsWith, tokens_of};
 
 use crate::blanks::after_blank;
 use crate::kinds::{TokenKind, longest_token};
-use crate::places::place_after;
-use lx_base::{Fault, Pos, Sequence, Stop};
+use lx_base::{Fault, Pos, Sequence, Stop, place_after};
 use std::alloc::Global;
 
 /// A token: the bytes of its body from `from` up to `to`.

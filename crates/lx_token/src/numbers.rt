@@ -2,7 +2,8 @@
 ghost use Rattle.std.specs.Prelude.{◌≡◌};
 ghost use Rattle.lx_token.specs.Numbers.{greatest_of, number_of, numeral_value, repeat_of};
 
-use crate::words::{after_digits, is_digit};
+use crate::words::after_digits;
+use lx_base::letters::is_digit;
 
 /// Where kept values end: 2^40 stands for itself and for more.
 const MOST: u64 = 1 << 40;

@@ -1,26 +1,11 @@
 //! Names, configuration words, numbers and tags.
 ghost use Rattle.std.specs.Prelude.{◌≡◌, ◌<◌, ◌≤◌, length, IfSome};
 ghost use Rattle.std.specs.Option.{option_copied};
-ghost use Rattle.lx_base.specs.Letters.{begins_identifier, is_digit, is_in_identifier};
-ghost use Rattle.lx_token.specs.Words.{after_config, after_letter, after_letters, after_name, after_number, after_numeral, after_tag, after_words, begins_word, is_in_word};
+ghost use Rattle.lx_base.specs.Letters.{after_letters, begins_identifier, is_digit, is_in_identifier};
+ghost use Rattle.lx_token.specs.Words.{after_config, after_letter, after_name, after_number, after_numeral, after_tag, after_words, begins_word, is_in_word};
 
-fn begins_identifier(letter: u8) -> bool
-    ensures { result ≡ begins_identifier letter }
-{
-    letter.is_ascii_alphabetic() || letter == b'_'
-}
-
-fn is_in_identifier(letter: u8) -> bool
-    ensures { result ≡ is_in_identifier letter }
-{
-    letter.is_ascii_alphanumeric() || letter == b'_'
-}
-
-pub(crate) fn is_digit(letter: u8) -> bool
-    ensures { result ≡ is_digit letter }
-{
-    letter.is_ascii_digit()
-}
+use lx_base::Letters;
+use lx_base::letters::{after_letters, begins_identifier, is_digit, is_in_identifier};
 
 fn is_in_word(letter: u8) -> bool
     ensures { result ≡ is_in_word letter }
@@ -39,34 +24,12 @@ pub(crate) fn after_letter(text: &[u8], wanted: u8) -> Option<&[u8]>
     }
 }
 
-/// What is left of the text behind the letters, digits and `_` at its front.
-fn after_identifier(text: &[u8]) -> &[u8]
-    ensures rest { result.now ≡ after_letters is_in_identifier text.now }
-    ensures shorter { length result.now ≤ length text.now }
-{
-    let mut rest = text;
-    while let Some((letter, tail)) = rest.split_first() {
-        if !is_in_identifier(*letter) {
-            break;
-        }
-        rest = tail;
-    }
-    rest
-}
-
 /// What is left of the text behind the digits at its front.
 pub(crate) fn after_digits(text: &[u8]) -> &[u8]
     ensures rest { result.now ≡ after_letters is_digit text.now }
     ensures shorter { length result.now ≤ length text.now }
 {
-    let mut rest = text;
-    while let Some((letter, tail)) = rest.split_first() {
-        if !is_digit(*letter) {
-            break;
-        }
-        rest = tail;
-    }
-    rest
+    after_letters(text, Letters::Digits)
 }
 
 /// What follows the longest name that begins here.
@@ -75,7 +38,10 @@ pub(crate) fn after_name(text: &[u8]) -> Option<&[u8]>
     ensures shorter { IfSome result (λ rest. length rest.now < length text.now) }
 {
     match text.split_first() {
-        Some((letter, tail)) if begins_identifier(*letter) => Some(after_identifier(tail)),
+        Some((letter, tail)) if begins_identifier(*letter) => Some(after_letters(
+            tail,
+            Letters::Identifier,
+        )),
         _ => None,
     }
 }

@@ -13,7 +13,7 @@ use Rattle.lx_base.specs.declared.faults.Fault.{Fault}
 use Rattle.lx_base.specs.declared.faults.Fault.TheVariants.{NotEmitted}
 use Rattle.lx_files.specs.declared.files.HeldFile.{HeldFile}
 use Rattle.lx_files.specs.Held.{bytes_of}
-use Rattle.lx_token.specs.Places.{next_place, place_after}
+use Rattle.lx_base.specs.Places.{next_place, place_after, file_start}
 use Rattle.lx_ccode.specs.declared.piece.Piece.{Piece}
 use Rattle.lx_ccode.specs.Front.{BeginsWithPiece}
 use Rattle.lx_ccode.proofs.RoundTrip.{piece_at-front}
@@ -24,7 +24,6 @@ use Rattle.lx_top.specs.FirstFault.{IsFaultOf}
 use Rattle.lx_top.specs.Jobs.{target_of}
 use Rattle.lx_top.specs.Output.{IsJobText}
 use Rattle.lx_top.specs.Outside.{FilesView, Sees, SinkView}
-use Rattle.lx_top.specs.Places.{start_of}
 use Rattle.lx_top.specs.Steps.{HaltsRead, HaltsScan, IsPlacedHalt, JobEnds}
 use Rattle.lx_top.specs.declared.endings.Halt.{Halt}
 use Rattle.lx_top.specs.declared.endings.Halt.TheVariants as halt
@@ -47,7 +46,7 @@ place_after-file at (letter ∷ text) = place_after-file (next_place at letter) 
 pub IsPlacedHalt-not_emitted : (name : List ℕ) (names : List (List ℕ)) (bytes : List ℕ) (offset : ℕ) (halted : Halt)
     → halted ≡ halt.Fault (NotEmitted (place_in bytes offset) offset) → IsPlacedHalt (name ∷ names) halted
 IsPlacedHalt-not_emitted name names bytes offset halted is =
-    let file = place_after-file (start_of 0) (take offset bytes) in
+    let file = place_after-file (file_start 0) (take offset bytes) in
     subst (IsPlacedHalt (name ∷ names)) (sym is) (omega (arith, file))
 
 -- ---- one fault

@@ -19,7 +19,7 @@ use Rattle.lx_top.specs.FirstFault.{IsFaultBehind, IsFirstFault, IsJobFault}
 use Rattle.lx_top.specs.Jobs.{file_names, job_of, names_behind, names_of, options_for, target_of}
 use Rattle.lx_top.specs.Outside.{FilesView, SinkView, files_view}
 use Rattle.lx_top.specs.Output.{IsTextOf}
-use Rattle.lx_top.specs.Places.{start_of}
+use Rattle.lx_base.specs.Places.{file_start}
 use Rattle.lx_top.specs.Puts.{halt_of_stop}
 use Rattle.lx_top.specs.Steps.{Cites, Halts, HaltsRead, JobEnds}
 use Rattle.lx_top.specs.declared.endings.Halt.{Halt}
@@ -33,7 +33,7 @@ Reason IsFault CountRose halt.PutFailed = ⊥
 Reason IsFault CountRose halt.OutOfMemory = Unit {0}
 
 pub Reason-read : (IsFault : Option Fault → Type 0) (CountRose : Type 0) (seen : List HeldFile) (file : ℕ) (name : List ℕ) (halted : Halt)
-    → (bytes_of seen name ≡ None → IsFault (Some (NoFile (start_of file) name))) → HaltsRead seen CountRose file name halted → Reason IsFault CountRose halted
+    → (bytes_of seen name ≡ None → IsFault (Some (NoFile (file_start file) name))) → HaltsRead seen CountRose file name halted → Reason IsFault CountRose halted
 Reason-read IsFault CountRose seen file name (halt.Fault first) known halts = subst (λ fault. IsFault (Some fault)) (sym halts.0) (known halts.1)
 Reason-read IsFault CountRose seen file name halt.ReadFailed known halts = halts
 Reason-read IsFault CountRose seen file name halt.PutFailed known halts = halts

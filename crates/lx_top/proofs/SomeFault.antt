@@ -15,7 +15,7 @@ use Rattle.lx_compile.proofs.SomeFault as sources
 use Rattle.lx_top.specs.Emitted.{IsEmittedFault, IsRunFault, input_fault, place_in}
 use Rattle.lx_top.specs.FirstFault.{IsFaultBehind, IsFaultOf, IsFileFault, IsFirstFault}
 use Rattle.lx_top.specs.Jobs.{options_for}
-use Rattle.lx_top.specs.Places.{start_of}
+use Rattle.lx_base.specs.Places.{file_start}
 
 -- ---- runs
 
@@ -43,13 +43,13 @@ module _ (block : Option ℕ) (name : List ℕ) (given : Option (List ℕ)) (byt
 -- a run has a first fault, or none
 run_fault : (block : Option ℕ) (name : List ℕ) (given : Option (List ℕ)) (emitted : List ℕ) (scanned : Option (List ℕ))
     → ((fault : Option Fault) → IsRunFault block name given emitted scanned fault → ⊥) → ⊥
-run_fault block name given emitted None none = none (Some (NoFile (start_of 0) emitted)) refl
+run_fault block name given emitted None none = none (Some (NoFile (file_start 0) emitted)) refl
 run_fault block name given emitted (Some bytes) none = emitted_fault block name given bytes none
 
 -- ---- jobs
 
 file_fault : (options : Options) (name : List ℕ) (given : Option (List ℕ)) → ((fault : Option Fault) → IsFileFault options name given fault → ⊥) → ⊥
-file_fault options name None none = none (Some (NoFile (start_of 0) name)) refl
+file_fault options name None none = none (Some (NoFile (file_start 0) name)) refl
 file_fault options name (Some bytes) none = sources.IsFirstFault-some options bytes none
 
 job_fault : (options : Options) (job : Job) (files : List HeldFile) → ((fault : Option Fault) → IsFaultOf options job files fault → ⊥) → ⊥

@@ -3,16 +3,15 @@ use Rattle.std.specs.Prelude.{◌≡◌, ◌⊎◌, ℕ, ◌%◌, List, length, 
 use Rattle.lx_base.specs.declared.places.Pos.{Pos}
 use Rattle.lx_base.specs.declared.faults.Fault.{Fault}
 use Rattle.lx_base.specs.declared.faults.Fault.TheVariants.{BadInput, NoFile, NotEmitted}
-use Rattle.lx_token.specs.Places.{place_after}
+use Rattle.lx_base.specs.Places.{place_after, file_start}
 use Rattle.lx_ccode.specs.declared.piece.Piece.{Piece}
 use Rattle.lx_ccode.specs.Front.{BeginsWithPiece}
 use Rattle.lx_creader.specs.Marks.{BeginsBlock, IsFirstBegin}
 use Rattle.lx_run.specs.Texts.{run_text}
-use Rattle.lx_top.specs.Places.{start_of}
 
 -- the place of an offset in the emitted file, which is the first that is met
 abbrev pub place_in : (bytes : List ℕ) → (offset : ℕ) → Pos
-place_in bytes offset = place_after (start_of 0) (take offset bytes)
+place_in bytes offset = place_after (file_start 0) (take offset bytes)
 
 -- the piece stands at the first begin mark of the block with this number, or of a scanner
 pub record Scans (bytes : List ℕ) (block : Option ℕ) (piece : Piece) : Type 0 where
@@ -28,8 +27,8 @@ IsUnread bytes block offset =
 
 -- the fault of an input, the second file that is met: it is not there, or it is no whole number of units of so many bytes
 abbrev pub input_fault : (name : List ℕ) → (unit : ℕ) → Option (List ℕ) → Option Fault
-input_fault name unit None = Some (NoFile (start_of 1) name)
-input_fault name unit (Some input) = if length input % unit == 0 then None else Some (BadInput (start_of 1) (length input))
+input_fault name unit None = Some (NoFile (file_start 1) name)
+input_fault name unit (Some input) = if length input % unit == 0 then None else Some (BadInput (file_start 1) (length input))
 
 -- the first fault of a run, or none, where the emitted file has these bytes: that no scanner is read, or that of the input
 abbrev pub IsEmittedFault : (block : Option ℕ) → (input : List ℕ) → (given : Option (List ℕ)) → (bytes : List ℕ) → Option Fault → Type 0
@@ -39,7 +38,7 @@ IsEmittedFault block input given bytes fault =
 
 -- the first fault of a run, or none, by the emitted file and the input, where they are there
 abbrev pub IsRunFault : (block : Option ℕ) → (input : List ℕ) → (given : Option (List ℕ)) → (emitted : List ℕ) → Option (List ℕ) → Option Fault → Type 0
-IsRunFault block input given emitted None fault = fault ≡ Some (NoFile (start_of 0) emitted)
+IsRunFault block input given emitted None fault = fault ≡ Some (NoFile (file_start 0) emitted)
 IsRunFault block input given emitted (Some bytes) fault = IsEmittedFault block input given bytes fault
 
 -- the text is that of the run of the scanner that is read over the input

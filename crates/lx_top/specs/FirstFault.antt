@@ -11,12 +11,12 @@ use Rattle.lx_words.specs.Options.{words_fault}
 use Rattle.lx_compile.specs.FirstFault as source
 use Rattle.lx_top.specs.Emitted.{IsRunFault}
 use Rattle.lx_top.specs.Jobs.{options_for}
-use Rattle.lx_top.specs.Places.{start_of}
+use Rattle.lx_base.specs.Places.{file_start}
 
 -- the fault of a compilation of the file with this name and these bytes, if it is there: there is no such file, or the source
 -- has one
 abbrev pub IsFileFault : Options → (name : List ℕ) → Option (List ℕ) → Option Fault → Type 0
-IsFileFault options name None fault = fault ≡ Some (NoFile (start_of 0) name)
+IsFileFault options name None fault = fault ≡ Some (NoFile (file_start 0) name)
 IsFileFault options name (Some bytes) fault = source.IsFirstFault options bytes fault
 
 -- the first fault of a job that is asked for with these options, over the files, or none

@@ -5,6 +5,5 @@ pub mod FirstFault
 pub mod Jobs
 pub mod Outside
 pub mod Output
-pub mod Places
 pub mod Puts
 pub mod Steps

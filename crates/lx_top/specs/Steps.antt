@@ -6,7 +6,7 @@ use Rattle.lx_base.specs.declared.faults.Fault.TheVariants.{NoFile, NotEmitted}
 use Rattle.lx_files.specs.Counts.{Rose}
 use Rattle.lx_files.specs.Held.{bytes_of}
 use Rattle.lx_files.specs.declared.files.HeldFile.{HeldFile}
-use Rattle.lx_top.specs.Places.{start_of}
+use Rattle.lx_base.specs.Places.{file_start}
 use Rattle.lx_top.specs.Delivery.{Completes, GivesOut, BreaksOff, DeliversNothing, DeliveryRose}
 use Rattle.lx_top.specs.Emitted.{IsUnread, place_in}
 use Rattle.lx_top.specs.Endings.{TellsMessage, failure_text}
@@ -20,7 +20,7 @@ use Rattle.lx_top.specs.declared.endings.Halt.TheVariants as halt
 -- why a file of this name and number was not read, where the files were seen so, and `CountRose` says that the count of
 -- faults of reads rose
 abbrev pub HaltsRead : List HeldFile → (CountRose : Type 0) → (file : ℕ) → (name : List ℕ) → Halt → Type 0
-HaltsRead seen CountRose file name (halt.Fault fault) = (fault ≡ NoFile (start_of file) name) × (bytes_of seen name ≡ None)
+HaltsRead seen CountRose file name (halt.Fault fault) = (fault ≡ NoFile (file_start file) name) × (bytes_of seen name ≡ None)
 HaltsRead seen CountRose file name halt.ReadFailed = CountRose
 HaltsRead seen CountRose file name halt.PutFailed = ⊥
 HaltsRead seen CountRose file name halt.OutOfMemory = Unit {0}
@@ -61,7 +61,7 @@ IsPlacedHalt names halt.OutOfMemory = Unit {0}
 
 -- there is no file of this name, or memory ran out on the way to say so
 abbrev pub IsNoFile : (file : ℕ) → (name : List ℕ) → Halt → Type 0
-IsNoFile file name (halt.Fault fault) = fault ≡ NoFile (start_of file) name
+IsNoFile file name (halt.Fault fault) = fault ≡ NoFile (file_start file) name
 IsNoFile file name halt.ReadFailed = ⊥
 IsNoFile file name halt.PutFailed = ⊥
 IsNoFile file name halt.OutOfMemory = Unit {0}

@@ -10,13 +10,12 @@ ghost use Rattle.lx_top.specs.Outside.{FilesView, Sees, files_view, sink_view};
 ghost use Rattle.lx_top.specs.Steps.{HaltsScan, IsPlacedHalt, JobEnds};
 
 use crate::endings::Halt;
-use crate::files::{read_file, start_of};
-use lx_base::Fault;
+use crate::files::read_file;
+use lx_base::{Fault, Pos, place_after};
 use lx_ccode::Piece;
 use lx_creader::{PieceStop, find_block, read_piece};
 use lx_files::{Files, Sink};
 use lx_run::run_whole;
-use lx_token::place_after;
 use std::alloc::Global;
 
 /// The most bytes that an emitted file may have, so that each place in it has a line and a column of 32 bits.
@@ -82,7 +81,7 @@ fn not_emitted(bytes: &[u8], offset: usize) -> Halt
 {
     let front = &bytes[..offset.min(bytes.len())];
     Halt::Fault(Fault::NotEmitted {
-        at: place_after(start_of(0), front),
+        at: place_after(Pos::start_of(0), front),
         offset: offset as u64,
     })
 }
@@ -97,7 +96,7 @@ fn run_over<O: Sink>(alloc: Global, piece: &Piece, input: &[u8], out: &mut O) ->
 {
     if input.len() % piece.unit as usize != 0 {
         return Err(Halt::Fault(Fault::BadInput {
-            at: start_of(1),
+            at: Pos::start_of(1),
             length: input.len() as u64,
         }));
     }

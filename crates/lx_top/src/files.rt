@@ -4,24 +4,12 @@ ghost use Rattle.lx_files.specs.Counts.{Rose};
 ghost use Rattle.lx_files.specs.Held.{bytes_of};
 ghost use Rattle.lx_files.specs.declared.files.HeldFile.{HeldFile};
 ghost use Rattle.lx_top.specs.Outside.{Sees};
-ghost use Rattle.lx_top.specs.Places.{start_of};
 ghost use Rattle.lx_top.specs.Steps.{HaltsRead, IsNoFile};
 
 use crate::endings::Halt;
 use lx_base::{ByteText, Fault, Pos};
 use lx_files::{Files, ReadAnswer};
 use std::alloc::Global;
-
-/// Line 1, column 1 of a file, by its number in the order in which the files are met.
-pub fn start_of(file: u32) -> Pos
-    ensures { result ≡ start_of file }
-{
-    Pos {
-        file,
-        line: 1,
-        col: 1,
-    }
-}
 
 /// The bytes of the file with this name, which is met as the one with this number.
 pub fn read_file<F: Files>(
@@ -51,7 +39,7 @@ fn no_file(alloc: Global, file: u32, name: &str) -> Halt
 {
     match Vec::from_slice(alloc, name.as_bytes()) {
         Ok(name) => Halt::Fault(Fault::NoFile {
-            at: start_of(file),
+            at: Pos::start_of(file),
             name: ByteText::from_vec(name),
         }),
         Err(_) => Halt::OutOfMemory,

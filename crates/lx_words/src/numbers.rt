@@ -1,29 +1,17 @@
 //! Numbers of the command line.
 ghost use Rattle.std.specs.Prelude.{◌≡◌, ◌≤◌, ◌^◌, MatchOption, true};
 ghost use Rattle.std.specs.Str.Parse.{digits_value};
-ghost use Rattle.lx_base.specs.Letters.{each_letter, is_digit};
 ghost use Rattle.lx_words.specs.Points.{is_number, number_within};
 
-use lx_base::spellings::is_digit;
-
-/// Whether each byte is a decimal digit.
-fn are_digits(text: &[u8]) -> bool
-    ensures { result ≡ each_letter is_digit text.now }
-{
-    for letter in text {
-        if !is_digit(*letter) {
-            return false;
-        }
-    }
-    true
-}
+use lx_base::Letters;
+use lx_base::letters::are_letters;
 
 /// Whether the text is one to ten digits.
 fn is_number(text: &str) -> bool
     ensures { result ≡ is_number text.now }
 {
     let bytes = text.as_bytes();
-    !bytes.is_empty() && bytes.len() <= 10 && are_digits(bytes)
+    !bytes.is_empty() && bytes.len() <= 10 && are_letters(bytes, Letters::Digits)
 }
 
 /// The number that a text of digits spells, where it has 32 bits.

@@ -1,7 +1,8 @@
 //! The example pieces of `lx_ccode`, built as the generator builds pieces.
 ghost use Rattle.std.specs.Prelude.{◌≡◌, IfOk, Some, codes, slice_get};
+ghost use Rattle.lx_base.specs.Names.{usual_names};
 ghost use Rattle.lx_ccode.specs.Statements.{code_of};
-ghost use Rattle.lx_ccode.specs.Examples.{usual_names, block, start_of, context_example, stored_example, checked_example};
+ghost use Rattle.lx_ccode.specs.Examples.{block, start_of, context_example, stored_example, checked_example};
 
 use lx_base::{ByteText, Memory, Names, Sequence};
 use lx_ccode::{CodeBlock, CondCase, LineMark, Piece, StateCase, Stmt};

@@ -1,6 +1,7 @@
 //! An example piece of `lx_ccode`, whose contract says that it is valid.
 ghost use Rattle.std.specs.Prelude.{◌≡◌, IfOk};
-ghost use Rattle.lx_ccode.specs.Examples.{usual_names, block, checked_example};
+ghost use Rattle.lx_base.specs.Names.{usual_names};
+ghost use Rattle.lx_ccode.specs.Examples.{block, checked_example};
 
 use super::show;
 use lx_base::{ByteText, Memory, Names, Sequence};

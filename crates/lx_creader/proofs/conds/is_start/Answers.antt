@@ -15,9 +15,9 @@ returns-in-None c =
 pub returns-in-Some : goal.returns-in-Some
 returns-in-Some c =
     let is = label_of-at c.args.blocks.now c.args.case.now.block c.index-blocks-block.result c.if-block-blocks.false ∙ c.in-Some.is in (
-      λ e. is ∙ ap Some (sym c.as_slice.ensures ∙ c.is_word.ensures.0 e ∙ c.as_slice-in-Some.ensures),
+      λ e. is ∙ ap Some (sym c.as_slice.ensures ∙ c.equal_words.ensures.decides.0 e ∙ c.as_slice-in-Some.ensures),
       λ some.
           let same : Some c.in-Some.cond ≡ Some c.args.case.now.cond = sym is ∙ some in
           let word : c.in-Some.cond ≡ c.args.case.now.cond = cc same in
-          c.is_word.ensures.1 (c.as_slice.ensures ∙ word ∙ sym c.as_slice-in-Some.ensures),
+          c.equal_words.ensures.decides.1 (c.as_slice.ensures ∙ word ∙ sym c.as_slice-in-Some.ensures),
     )

@@ -1,10 +1,9 @@
 use Rattle.std.proofs.Common.{◌≡◌, length, reverse}
-use Rattle.lx_base.specs.Letters.{is_in_identifier}
-use Rattle.lx_ccode.specs.Words.{behind}
+use Rattle.lx_base.specs.Letters.{is_in_identifier, after_letters}
 use Rattle.lx_creader.proofs.lines.before_identifier.Given as goal
 
 abbrev pub invariant-loop-letter : goal.invariant-loop-letter
-invariant-loop-letter l = behind is_in_identifier (reverse l.rest) ≡ behind is_in_identifier (reverse l.word)
+invariant-loop-letter l = after_letters is_in_identifier (reverse l.rest) ≡ after_letters is_in_identifier (reverse l.word)
 
 abbrev pub decreases-loop-letter : goal.decreases-loop-letter
 decreases-loop-letter l = length l.rest

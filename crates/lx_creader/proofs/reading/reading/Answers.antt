@@ -1,6 +1,5 @@
 use Rattle.std.proofs.Common.{◌≡◌, ◌∙◌, ap, drop, length}
-use Rattle.lx_base.specs.Letters.{is_digit}
-use Rattle.lx_ccode.specs.Words.{behind}
+use Rattle.lx_base.specs.Letters.{is_digit, after_letters}
 use Rattle.lx_ccode.specs.Reading.{cond_switch_at, declarations_at, eof_at, names_at, state_switch_at}
 use Rattle.lx_creader.proofs.Steps.{unfilled}
 use Rattle.lx_creader.proofs.reading.reading.Goals as goal
@@ -8,8 +7,8 @@ use Rattle.lx_creader.proofs.reading.reading.Goals as goal
 pub returns-in-None : goal.returns-in-None
 returns-in-None c =
     let bytes = c.args.bytes.now in
-    let start : c.skip.result.now ≡ drop 1 (behind is_digit (drop 17 (behind is_digit (drop 14 bytes)))) =
-    cc (c.skip.ensures, c.behind_digits-2.ensures, c.skip-unit.ensures, c.behind_digits.ensures, c.skip-head.ensures) in
+    let start : c.skip.result.now ≡ drop 1 (after_letters is_digit (drop 17 (after_letters is_digit (drop 14 bytes)))) =
+    cc (c.skip.ensures, c.after_digits-2.ensures, c.skip-unit.ensures, c.after_digits.ensures, c.skip-head.ensures) in
     let eof = c.eof_at-eof.ensures.1 ∙ ap (λ b. (eof_at b).1) start in
     let rest = c.in_ok-names.ensures.1 ∙ ap (λ b. (names_at 17 b).1) eof in
     let declared = c.declarations_at-declares.ensures.1 ∙ ap (λ b. (declarations_at b).1) (c.skip-2.ensures ∙ ap (drop 5) rest) in

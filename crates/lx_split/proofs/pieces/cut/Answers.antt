@@ -9,7 +9,7 @@ use Rattle.lx_split.proofs.pieces.cut.Goals as goal
 
 pub loop-pieces-init : goal.loop-pieces-init
 loop-pieces-init c =
-    rw (c.new-pieces.ensures, c.file_start-at.ensures)
+    rw (c.new-pieces.ensures, c.start_of-at.ensures)
     (record {
       cut = HasCut-start c.args.opts.now c.args.file c.args.bytes.now;
       known = c.new-unclosed.ensures c.args.bytes.now (omega arith);

@@ -1,0 +1,18 @@
+use Rattle.std.proofs.Common.{List, [], ℕ, map, Bor}
+use Rattle.lx_base.proofs.Deciding.{IsEach, each_next, each_fails}
+use Rattle.std.specs.List.{AllByRecursion}
+use Rattle.lx_base.specs.Letters.{IsIdentifier}
+use Rattle.lx_base.proofs.names.all_identifiers.Goals as goal
+
+each : IsEach {A = Bor (List ℕ)} (λ word _. IsIdentifier word.now) (λ words. AllByRecursion IsIdentifier (map (λ word. word.now) words))
+each = record { join = λ x xs p all. (p, all); head = λ x xs all. all.0; tail = λ x xs all. all.1 }
+
+pub returns-then-not-is_identifier : goal.returns-then-not-is_identifier
+returns-then-not-is_identifier c =
+    each_fails each c.args.words.now c.loop-word.word-index (record { ref_ptr = (0, 0); now = [] })
+    c.loop-word-test.true c.is_identifier.result c.is_identifier.ensures c.if-not-is_identifier.true c.loop-word.invariant
+
+pub loop-word-preserved : goal.loop-word-preserved
+loop-word-preserved c =
+    each_next each c.args.words.now c.loop-word.word-index (record { ref_ptr = (0, 0); now = [] })
+    c.loop-word-test.true c.is_identifier.result c.is_identifier.ensures c.if-not-is_identifier.false c.loop-word.invariant

@@ -1,9 +1,0 @@
-use Rattle.std.proofs.Common.{◌≡◌, length}
-use Rattle.lx_base.specs.Letters.{each_letter, is_in_spelling}
-use Rattle.lx_base.proofs.spellings.all_in_spelling.Given as goal
-
-abbrev pub invariant-loop-letter : goal.invariant-loop-letter
-invariant-loop-letter l = each_letter is_in_spelling l.rest ≡ each_letter is_in_spelling l.word
-
-abbrev pub decreases-loop-letter : goal.decreases-loop-letter
-decreases-loop-letter l = length l.rest
