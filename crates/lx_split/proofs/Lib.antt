@@ -1,11 +1,17 @@
 pub mod BlockEnds
 pub mod Cutting
+pub mod Expansions
 pub mod Faults
 pub mod FirstMark
+pub mod Growth
+pub mod IncludeTexts
 pub mod Known
+pub mod LibraryLemmas
 pub mod Needles
 pub mod OpenerTexts
 pub mod Openings
 pub mod Passing
+pub mod PieceCounts
 pub mod Unclosed
 pub mod Walking
+pub mod Walks

@@ -1,7 +1,7 @@
 -- The file names of includes.
-use Rattle.std.specs.Prelude.{ℕ, zero, suc, ◌-◌, Bool, true, false, not, List, [], ◌∷◌, ◌++◌, length, take, codes, Option, Some, None, ◌==◌, ◌&&◌, if◌then◌else◌}
+use Rattle.std.specs.Prelude.{ℕ, zero, suc, ◌-◌, Bool, not, List, [], ◌∷◌, ◌++◌, length, take, codes, Option, Some, None, ◌==◌, ◌&&◌, if◌then◌else◌}
 use Rattle.std.specs.List.{list_any}
-use Rattle.std.specs.Str.Lossy.{utf8_valid_len}
+use Rattle.std.specs.Str.{is_utf8}
 use Rattle.lx_base.specs.declared.settings.Options.{Options}
 use Rattle.lx_base.specs.Letters.{begins_with}
 use Rattle.lx_token.specs.Blanks.{after_blank}
@@ -20,19 +20,18 @@ after_blanks zero text = text
 after_blanks (suc steps) text = behind_blank (after_blanks steps) text (after_blank text)
 
 abbrev pub is_nothing : List ℕ → Bool
-is_nothing [] = true
-is_nothing (letter ∷ text) = false
+is_nothing text = length text == 0
 
--- whether the bytes between two quotes are the name of a file: some text in UTF-8 without a carriage return and without
--- anything that a mark of emitted text begins with, also behind the `/` of a folder
-abbrev pub is_file_name : List ℕ → Bool
-is_file_name name =
+-- a name is not empty and has no carriage return, and no mark of emitted text can begin in it, also with the `/` of a folder
+-- before it
+abbrev pub is_allowed_name : List ℕ → Bool
+is_allowed_name name =
     not (is_nothing name) && not (list_any (λ letter. letter == 13) name) && not (begins_with (codes "*!") name)
-    && is_nothing (from_first (begins_with (codes "/*!")) name) && (utf8_valid_len name == length name)
+    && is_nothing (from_first (begins_with (codes "/*!")) name)
 
--- these bytes, if they are the name of a file
+-- these bytes, if they are the name of a file: such a name, in UTF-8
 abbrev pub checked_name : List ℕ → Option (List ℕ)
-checked_name name = if is_file_name name then Some name else None
+checked_name name = if is_allowed_name name then (if is_utf8 name then Some name else None) else None
 
 -- the name before its closing quote, of which these follow, if they are blanks and comments
 abbrev pub name_before : (quoted : List ℕ) → Option (List ℕ) → Option (List ℕ)

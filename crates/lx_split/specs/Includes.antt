@@ -193,3 +193,15 @@ StopsRead CountRose stop.ReadFailed = CountRose
 abbrev pub expand_stop : Stop → ExpandStop
 expand_stop split_stop.Memory = stop.Memory
 expand_stop (split_stop.Fault fault) = stop.Fault fault
+
+-- an expansion fails with the fault of this stop, which is one
+abbrev pub FailsAs : Expansion → Met → ExpandStop → Type 0
+FailsAs whole files stop.Memory = ⊥
+FailsAs whole files (stop.Fault fault) = whole ≡ fails files fault
+FailsAs whole files stop.ReadFailed = ⊥
+
+-- the same, or memory ran out
+abbrev pub StopsAs : Expansion → Met → ExpandStop → Type 0
+StopsAs whole files stop.Memory = Unit {0}
+StopsAs whole files (stop.Fault fault) = whole ≡ fails files fault
+StopsAs whole files stop.ReadFailed = ⊥

@@ -1,15 +1,16 @@
 //! Includes: their file names, and the names under which their files are looked for.
-ghost use Rattle.std.specs.Prelude.{◌≡◌, ◌<◌, ◌≤◌, ◌++◌, length, IfOk, IfSome};
+ghost use Rattle.std.specs.Prelude.{◌≡◌, ◌++◌, ◌==◌, length, IfOk};
+ghost use Rattle.std.specs.List.{list_any};
 ghost use Rattle.std.specs.Option.{option_copied};
-ghost use Rattle.lx_split.specs.IncludeNames.{after_blanks, checked_name, file_name_of, folder_of, names_for};
+ghost use Rattle.lx_split.specs.IncludeNames.{after_blanks, checked_name, file_name_of, folder_of, is_allowed_name, names_for};
 ghost use Rattle.lx_split.specs.Includes.{IsIncludeOr, empty_block, enter_block, leave_block};
 
 use crate::bodies::after_file_name;
 use crate::pieces::SourcePiece;
 use crate::searches::from_opening;
-use lx_base::{BlockKind, ByteText, FileName, Memory, Options, Pos, Sequence};
+use lx_base::{BlockKind, ByteText, FileName, Memory, Options, Pos};
 use lx_token::after_blank;
-use memchr::{memchr, memrchr};
+use memchr::memrchr;
 use std::alloc::Global;
 
 /// An include.
@@ -77,15 +78,28 @@ fn after_blanks(text: &[u8]) -> &[u8]
     rest
 }
 
+/// Whether the bytes have a carriage return.
+fn has_return(text: &[u8]) -> bool
+    ensures { result ≡ list_any (λ letter. letter == 13) text.now }
+{
+    text.iter().any(|letter| *letter == b'\r')
+}
+
+/// Whether the bytes between two quotes are the name of a file, if they are text.
+fn is_allowed(quoted: &[u8]) -> bool
+    ensures { result ≡ is_allowed_name quoted.now }
+{
+    !quoted.is_empty()
+        && !has_return(quoted)
+        && !quoted.starts_with(b"*!")
+        && from_opening(quoted).is_empty()
+}
+
 /// The bytes between two quotes as the name of a file, if they are one.
 fn checked_name(quoted: &[u8]) -> Option<&str>
     ensures { option_copied result ≡ checked_name quoted.now }
 {
-    let excluded = quoted.is_empty()
-        || memchr(b'\r', quoted).is_some()
-        || quoted.starts_with(b"*!")
-        || !from_opening(quoted).is_empty();
-    if excluded {
+    if !is_allowed(quoted) {
         return None;
     }
     str::from_utf8(quoted).ok()
@@ -132,10 +146,10 @@ pub(crate) fn names_for(
     opts: &Options,
     folder: &str,
     name: &str,
-) -> Result<Sequence<FileName>, Memory>
-    ensures { IfOk result (λ names. names ≡ names_for opts.now folder.now name.now) }
+) -> Result<Vec<FileName>, Memory>
+    ensures { IfOk result (λ names. names.items ≡ names_for opts.now folder.now name.now) }
 {
-    let mut names = Sequence::new(alloc);
+    let mut names = Vec::new(alloc);
     if name.as_bytes().starts_with(b"/") {
         names.push(joined(alloc, "", "", name)?)?;
         return Ok(names);

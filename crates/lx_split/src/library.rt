@@ -53,6 +53,13 @@ impl Library {
         }
     }
 
+    /// Whether bytes are known of a name.
+    fn has(&self, name: &str) -> bool
+        ensures { result ≡ is_some (known_bytes self.now name.now) }
+    {
+        self.get(name).is_some()
+    }
+
     /// Puts in what stands under a name of which nothing is known. Where memory runs out nothing changed.
     fn add(&mut self, alloc: Global, name: &str, bytes: Option<ByteText>) -> Result<(), Memory>
         requires { known self.old name.now ≡ None }
@@ -92,7 +99,7 @@ impl Library {
     }
 
     /// The first of the names under which there is a file, of which the names before are read.
-    fn find<'n, F: Files>(
+    pub(crate) fn find<'n, F: Files>(
         &mut self,
         alloc: Global,
         files: &mut F,
@@ -107,34 +114,19 @@ impl Library {
     {
         for name in names {
             self.learn(alloc, files, name.as_str())?;
-            if self.get(name.as_str()).is_some() {
+            if self.has(name.as_str()) {
                 return Ok(Some(name));
             }
         }
         Ok(None)
     }
 
-    /// The first file that has one of the names, in their order.
-    pub(crate) fn fetch<'a, F: Files>(
-        &'a mut self,
-        alloc: Global,
-        files: &mut F,
-        names: &'a [FileName],
-    ) -> Result<Option<FoundFile<'a>>, ExpandStop>
-        ensures found { IfOk result (λ found. (seen : List HeldFile) → Agrees seen self.new → first_file seen names.now ≡ option_map found_view found) }
-        ensures reads { ReadsOn (F.held files.old) self.old self.new }
-        ensures refuses { IfErr result (StopsRead (Rose (F.faults files.old) (F.faults files.new))) }
-        ensures never_falls { F.faults files.old ≤ F.faults files.new }
-        ensures held_stays { F.held files.new ≡ F.held files.old }
-        ensures write_faults_stay { F.write_faults files.new ≡ F.write_faults files.old }
+    /// The file of a name, if there is a name and its bytes are known.
+    pub(crate) fn file_of<'a>(&'a self, name: Option<&'a FileName>) -> Option<FoundFile<'a>>
+        ensures { option_map found_view result ≡ known_file self.now (option_copied name.entry) }
     {
-        let Some(name) = self.find(alloc, files, names)? else {
-            return Ok(None);
-        };
-        let name = name.as_str();
-        match self.get(name) {
-            Some(bytes) => Ok(Some(FoundFile { name, bytes })),
-            None => Ok(None),
-        }
+        let name = name?.as_str();
+        let bytes = self.get(name)?;
+        Some(FoundFile { name, bytes })
     }
 }

@@ -1,5 +1,5 @@
 //! The way through a source and the files that it includes.
-ghost use Rattle.std.specs.Prelude.{◌≡◌, ◌+◌, ◌≤◌, ◌++◌, ◌∷◌, List, [], length, IfOk, MatchResult, Ok, OnOk};
+ghost use Rattle.std.specs.Prelude.{◌≡◌, ◌+◌, ◌≤◌, ◌++◌, ◌∷◌, List, [], length, option_to_list, IfOk, MatchResult, Ok, OnOk};
 ghost use Rattle.lx_split.specs.Includes.{found_view, pieces_within};
 ghost use Rattle.lx_split.specs.Pieces.{StopsWith};
 ghost use Rattle.lx_split.specs.Walks.{Advances, Enters, Opens, inner_folder, open_files};
@@ -28,7 +28,7 @@ pub struct OpenFile {
 #[derive(Drop)]
 pub struct Walk {
     pieces: Pieces,
-    open: Vec<OpenFile>,
+    stack: Vec<OpenFile>,
     /// How many bytes the files have that were met so far.
     total: usize,
 }
@@ -59,12 +59,12 @@ impl Walk {
     /// No file is met. It takes no memory.
     pub(crate) fn new(alloc: Global) -> Walk
         ensures pieces { result.pieces ≡ [] }
-        ensures open { result.open.items ≡ [] }
+        ensures stack { result.stack.items ≡ [] }
         ensures total { result.total ≡ 0 }
     {
         Walk {
             pieces: Sequence::new(alloc),
-            open: Vec::new(alloc),
+            stack: Vec::new(alloc),
             total: 0,
         }
     }
@@ -78,16 +78,16 @@ impl Walk {
 
     /// How many files are open.
     pub(crate) fn depth(&self) -> usize
-        ensures { result ≡ length self.now.open.items }
+        ensures { result ≡ length self.now.stack.items }
     {
-        self.open.len()
+        self.stack.len()
     }
 
     /// The folder of the innermost file.
     pub(crate) fn folder(&self) -> &str
         ensures { result.now ≡ inner_folder (open_files self.now) }
     {
-        match self.open.last() {
+        match self.stack.last() {
             Some(file) => file.folder.as_str(),
             None => "",
         }
@@ -101,8 +101,18 @@ impl Walk {
         Ok(())
     }
 
+    /// The same of a piece, if there is one.
+    fn push_if(&mut self, piece: Option<SourcePiece>) -> Result<(), Memory>
+        ensures { OnOk result (self.new ≡ record self.old { pieces = self.old.pieces ++ option_to_list piece }) }
+    {
+        match piece {
+            Some(piece) => self.push(piece),
+            None => Ok(()),
+        }
+    }
+
     /// Opens a file of this name and these pieces, behind which another may stand.
-    fn open(
+    fn open_file(
         &mut self,
         alloc: Global,
         name: &str,
@@ -112,7 +122,7 @@ impl Walk {
         ensures { OnOk result (Opens self.old self.new name.now pieces leave) }
     {
         let folder = String::from_str(alloc, folder_of(name))?;
-        self.open.push(OpenFile {
+        self.stack.push(OpenFile {
             rest: VecDeque::from_vec(pieces.into_vec()),
             folder: FileName::from_string(folder),
             leave,
@@ -132,11 +142,11 @@ impl Walk {
         leave: Option<SourcePiece>,
     ) -> Result<(), Stop>
         requires { self.old.total ≤ 16777216 }
-        ensures { MatchResult result (λ _. (pieces : List SourcePiece) × (pieces_within opts.now at file self.old.total found.bytes.now ≡ Ok pieces) × Enters self.old self.new (found_view found) pieces leave)
-            (StopsWith (pieces_within opts.now at file self.old.total found.bytes.now)) }
+        ensures { MatchResult result (λ _. (pieces : List SourcePiece) × (pieces_within opts.now at file self.old.total found.entry.bytes.now ≡ Ok pieces) × Enters self.old self.new (found_view found.entry) pieces leave)
+            (StopsWith (pieces_within opts.now at file self.old.total found.entry.bytes.now)) }
     {
         let pieces = pieces_within(alloc, opts, at, file, self.total, found.bytes)?;
-        self.open(alloc, found.name, pieces, leave)?;
+        self.open_file(alloc, found.name, pieces, leave)?;
         self.total += found.bytes.len();
         Ok(())
     }
@@ -145,20 +155,15 @@ impl Walk {
     pub(crate) fn next_include(&mut self) -> Result<Option<IncludeBlock>, Memory>
         ensures { IfOk result (Advances self.old self.new) }
     {
-        while let Some(mut file) = self.open.pop() {
-            match file.rest.pop_front() {
-                None => {
-                    if let Some(leave) = file.leave {
-                        self.pieces.push(leave)?;
-                    }
-                }
-                Some(piece) => {
-                    self.open.push(file)?;
-                    match include_of(piece) {
-                        Ok(include) => return Ok(Some(include)),
-                        Err(piece) => self.pieces.push(piece)?,
-                    }
-                }
+        while let Some(mut file) = self.stack.pop() {
+            let Some(piece) = file.rest.pop_front() else {
+                self.push_if(file.leave)?;
+                continue;
+            };
+            self.stack.push(file)?;
+            match include_of(piece) {
+                Ok(include) => return Ok(Some(include)),
+                Err(piece) => self.push(piece)?,
             }
         }
         Ok(None)
