@@ -1,15 +1,14 @@
 -- Expansions one behind another.
-use Rattle.std.proofs.Common.{◌≡◌, ℕ, zero, suc, ◌+◌, ◌-◌, List, [], ◌∷◌, ◌++◌, length, Option, Some, None, Ok, Err, refl, sym, ◌∙◌, ap, append_assoc, append-nil}
+use Rattle.std.proofs.Common.{◌≡◌, ℕ, zero, suc, List, [], ◌∷◌, ◌++◌, length, Some, None, Ok, Err, refl, sym, ap, append_assoc, append-nil}
 use Rattle.lx_base.specs.declared.faults.Fault.{Fault}
-use Rattle.lx_base.specs.declared.faults.Fault.TheVariants.{IncludeDepth, NoFile, Syntax, TooLong}
-use Rattle.lx_base.specs.declared.places.Pos.{Pos}
+use Rattle.lx_base.specs.declared.faults.Fault.TheVariants.{IncludeDepth, NoFile, Syntax}
 use Rattle.lx_base.specs.declared.settings.Options.{Options}
 use Rattle.lx_files.specs.declared.files.HeldFile.{HeldFile}
 use Rattle.lx_split.specs.declared.includes.IncludeBlock.{IncludeBlock}
 use Rattle.lx_split.specs.declared.pieces.SourcePiece.{SourcePiece}
 use Rattle.lx_split.specs.IncludeNames.{file_name_of, folder_of, names_for}
 use Rattle.lx_split.specs.Pieces.{Split}
-use Rattle.lx_split.specs.Includes.{Expansion, Met, and_then, behind, enter_block, expanded, fails, first_file, found_then, gives, include_expansion, leave_block, pieces_expansion, pieces_then, pieces_within, with_file}
+use Rattle.lx_split.specs.Includes.{Expansion, Met, and_then, behind, enter_block, fails, first_file, found_then, gives, include_expansion, leave_block, pieces_expansion, pieces_then, pieces_within, with_file}
 
 -- pieces behind others
 pieces_then-append : (first second : List SourcePiece) (found : Split) → pieces_then first (pieces_then second found) ≡ pieces_then (first ++ second) found
@@ -89,6 +88,6 @@ module _ (options : Options) (seen : List HeldFile) (folder : List ℕ) (files :
         pub include_expansion-pieces : (pieces : List SourcePiece) → pieces_within options include.at (length files.names) files.total file.bytes ≡ Ok pieces →
             include_expansion options seen (suc left) folder files include
             ≡ behind (enter_block (length files.names) ∷ [])
-                (and_then (pieces_expansion options seen left (folder_of file.name) (with_file files file) pieces) (λ later. gives later (leave_block include ∷ [])))
+            (and_then (pieces_expansion options seen left (folder_of file.name) (with_file files file) pieces) (λ later. gives later (leave_block include ∷ [])))
         unfolding include_expansion
         include_expansion-pieces pieces is = rw (named, found, is)

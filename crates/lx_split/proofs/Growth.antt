@@ -1,8 +1,7 @@
 -- The names of the files met, in an expansion.
-use Rattle.std.proofs.Common.{◌≡◌, ℕ, zero, suc, ◌-◌, List, [], ◌∷◌, ◌++◌, length, reverse, Option, Some, None, Ok, Err, refl, sym, ◌∙◌, ap, append_assoc, append-nil}
+use Rattle.std.proofs.Common.{◌≡◌, ℕ, zero, suc, ◌-◌, List, [], ◌∷◌, ◌++◌, length, Option, Some, None, Ok, Err, refl, sym, ◌∙◌, ap, append_assoc, append-nil}
 use Rattle.std.specs.Prelude.{option_to_list}
 use Rattle.lx_base.specs.Places.{file_start}
-use Rattle.lx_base.specs.declared.faults.Fault.{Fault}
 use Rattle.lx_base.specs.declared.faults.Fault.TheVariants.{IncludeDepth, NoFile, Syntax}
 use Rattle.lx_base.specs.declared.places.Pos.{Pos}
 use Rattle.lx_base.specs.declared.settings.Options.{Options}
@@ -14,7 +13,7 @@ use Rattle.lx_split.specs.declared.walk.OpenFile.{OpenFile}
 use Rattle.lx_split.specs.declared.walk.Walk.{Walk}
 use Rattle.lx_split.specs.IncludeNames.{file_name_of, folder_of, names_for}
 use Rattle.lx_split.specs.Pieces.{Split}
-use Rattle.lx_split.specs.Includes.{AreFirstMet, Expansion, Met, and_then, behind, between, expanded, expansion, fails, file_expansion, first_file, found_include, found_then, gives, go_on, if_named, include_expansion, include_of, leave_block, main_expansion, met, piece_then, pieces_expansion, pieces_within, with_file}
+use Rattle.lx_split.specs.Includes.{AreFirstMet, Expansion, Met, and_then, behind, expanded, expansion, fails, file_expansion, first_file, found_include, found_then, gives, go_on, if_named, include_expansion, include_of, leave_block, main_expansion, met, piece_then, pieces_expansion, pieces_within, with_file}
 use Rattle.lx_split.specs.Walks.{from_include, open_files, remaining, whole_from}
 
 -- no name is taken away
@@ -84,7 +83,7 @@ module _ (options : Options) (seen : List HeldFile) where
       (λ name. found_include options seen inner files include name (first_file seen (names_for options folder name)))
       (file_name_of include.body)
       (λ name. Grows-found_include inner (λ folder files pieces. Grows-expanded (include_expansion options seen left folder) (Grows-include_expansion left folder) pieces files)
-        options seen files include name (first_file seen (names_for options folder name)))
+      options seen files include name (first_file seen (names_for options folder name)))
 
   Grows-pieces : (left : ℕ) (folder : List ℕ) (files : Met) (pieces : List SourcePiece) → Grows files (pieces_expansion options seen left folder files pieces)
   Grows-pieces left folder files pieces = Grows-expanded (include_expansion options seen left folder) (Grows-include_expansion left folder) pieces files

@@ -1,5 +1,6 @@
 pub mod BlockEnds
 pub mod Cutting
+pub mod ExpandStops
 pub mod Expansions
 pub mod Faults
 pub mod FirstMark

@@ -7,7 +7,6 @@ use Rattle.std.proofs.lemmas.Slice.Eq.{bytes_eq-Decides}
 use Rattle.std.proofs.Math.Seq.{drop-cons}
 use Rattle.lx_files.specs.Counts.{Rose}
 use Rattle.lx_files.specs.Held.{Sees, bytes_of}
-use Rattle.lx_files.specs.Reading.{Gives}
 use Rattle.lx_files.specs.declared.files.HeldFile.{HeldFile}
 use Rattle.lx_split.specs.declared.library.Library.{Library}
 use Rattle.lx_split.specs.declared.expanding.ExpandStop.{ExpandStop}
@@ -98,8 +97,8 @@ read-more None before after name (Some bytes) unknown added given from =
       sees = tt;
       agrees = agrees-after before after name (Some bytes) unknown added (file ∷ from.seen) (rw ((bytes_eq-Decides name name).1 refl) refl) agrees;
       others = λ is other none.
-        let still = unknown-before before after name (Some bytes) unknown added other none in
-        rw (other_way other name false still.0) (from.others refl other still.1);
+          let still = unknown-before before after name (Some bytes) unknown added other none in
+          rw (other_way other name false still.0) (from.others refl other still.1);
     }
   where
     agrees : Agrees (record { name = name; bytes = bytes } ∷ from.seen) before
@@ -164,20 +163,6 @@ pub unknown_option : (found : Option (Option (List ℕ))) → is_some found ≡ 
 unknown_option None is = refl
 unknown_option (Some answer) is = absurd (cc)
 
--- bytes that were given are read
-pub ReadsOn-given : (held : Option (List HeldFile)) (before after : Library) (name bytes : List ℕ) → is_some (known before name) ≡ false →
-    ((other : List ℕ) → known after other ≡ (if bytes_eq other name then Some (Some bytes) else known before other)) →
-    Gives held name bytes → ReadsOn held before after
-ReadsOn-given held before after name bytes unknown added given =
-    ReadsOn-more held before after name (Some bytes) (unknown_option (known before name) unknown) added given
-
--- what is missing is read
-pub ReadsOn-missing : (held : Option (List HeldFile)) (before after : Library) (name : List ℕ) (CountRose : Type 0) → is_some (known before name) ≡ false →
-    ((other : List ℕ) → known after other ≡ (if bytes_eq other name then Some None else known before other)) →
-    MatchOption held CountRose (λ files. bytes_of files name ≡ None) → ReadsOn held before after
-ReadsOn-missing held before after name CountRose unknown added missing =
-    ReadsOn-more held before after name None (unknown_option (known before name) unknown) added (missing-given held CountRose name missing)
-
 known_none : (found : Option (Option (List ℕ))) → IsSome found → is_some (option_and_then (λ bytes. bytes) found) ≡ false → found ≡ Some None
 known_none None some none = absurd (cc)
 known_none (Some None) some none = refl
@@ -208,3 +193,22 @@ pub drop-here : (names : List (List ℕ)) (i : ℕ) (name : List ℕ) → i < le
 drop-here names i name less is =
     let size : i + 1 ≡ suc i = omega arith in
     rw size (drop-cons names i name less ∙ ap (λ (n : List ℕ). n ∷ drop (suc i) names) (sym is))
+
+bytes_known : (found : Option (Option (List ℕ))) (bytes : List ℕ) → option_and_then (λ bytes. bytes) found ≡ Some bytes → found ≡ Some (Some bytes)
+bytes_known None bytes is = absurd (cc)
+bytes_known (Some answer) bytes is = ap (λ (o : Option (List ℕ)). Some o) is
+
+-- bytes that are known of a name are seen under it
+pub bytes_of-known : (library : Library) (seen : List HeldFile) (name bytes : List ℕ) → Agrees seen library → known_bytes library name ≡ Some bytes →
+    bytes_of seen name ≡ Some bytes
+bytes_of-known library seen name bytes agrees is = agrees name (Some bytes) (bytes_known (known library name) bytes is)
+
+-- the files can be seen
+pub sees_any : (held : Option (List HeldFile)) → (seen : List HeldFile) × Sees held seen
+sees_any None = ([], tt)
+sees_any (Some files) = (files, refl)
+
+-- what was read on from files that hold the same
+pub IsReadFrom-on : (held held' : Option (List HeldFile)) (before after : Library) → held' ≡ held → ReadsOn held' before after → IsReadFrom held before → IsReadFrom held after
+IsReadFrom-on held held' before after same reads from =
+    subst (λ (h : Option (List HeldFile)). IsReadFrom h after) same (reads.read (subst (λ (h : Option (List HeldFile)). IsReadFrom h before) (sym same) from))

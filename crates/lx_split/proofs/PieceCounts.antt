@@ -1,8 +1,7 @@
 -- How many pieces a file has, and how many bytes are met.
-use Rattle.std.proofs.Common.{◌≡◌, ◌≢◌, ℕ, zero, suc, ◌+◌, ◌<◌, ◌≤◌, true, false, cond, List, [], ◌∷◌, ◌++◌, length, codes, nat_lt, Ok, Err, Result, MatchResult, refl, sym, ◌∙◌, ap, arith, length-append}
+use Rattle.std.proofs.Common.{◌≡◌, ◌≢◌, ℕ, ◌+◌, ◌<◌, ◌≤◌, List, [], ◌∷◌, length, Ok, Err, Result, MatchResult, refl, ◌∙◌, ap, arith, length-append}
 use Rattle.std.proofs.lemmas.Bool.{le-ltb}
 use Rattle.lx_base.specs.declared.places.Pos.{Pos}
-use Rattle.lx_base.specs.Places.{file_start}
 use Rattle.lx_base.specs.declared.faults.Stop.{Stop}
 use Rattle.lx_base.specs.declared.faults.Stop.TheVariants as stop
 use Rattle.lx_base.specs.declared.settings.Options.{Options}
@@ -10,7 +9,6 @@ use Rattle.lx_split.specs.declared.pieces.SourcePiece.{SourcePiece}
 use Rattle.lx_split.specs.declared.pieces.SourcePiece.TheVariants.{Outside, Block}
 use Rattle.lx_split.specs.Cuts.{AreApart, piece_text, source_text}
 use Rattle.lx_split.specs.Includes.{pieces_within}
-use Rattle.lx_split.specs.Openers.{word_of}
 use Rattle.lx_split.specs.Pieces.{StopsWith, pieces_of}
 use Rattle.lx_split.proofs.Cutting.{pieces_of-cut}
 

@@ -1,5 +1,5 @@
 -- What is still to be expanded, as files are walked through.
-use Rattle.std.proofs.Common.{◌≡◌, ℕ, zero, suc, ◌+◌, ◌-◌, ◌*◌, ◌<◌, ◌≤◌, List, [], ◌∷◌, ◌++◌, reverse, length, Option, Some, None, Ok, Err, refl, sym, ◌∙◌, ap, subst, arith, append_assoc, append-nil, length-append}
+use Rattle.std.proofs.Common.{◌≡◌, ℕ, suc, ◌+◌, ◌-◌, ◌<◌, ◌≤◌, List, [], ◌∷◌, ◌++◌, reverse, length, Option, Some, None, Ok, Err, refl, sym, ◌∙◌, ap, arith, append-nil, length-append}
 use Rattle.std.specs.Prelude.{option_to_list}
 use Rattle.std.proofs.lemmas.List.{reverse-append, length-reverse}
 use Rattle.lx_base.specs.declared.faults.Fault.{Fault}
@@ -67,8 +67,8 @@ module _ (options : Options) (seen : List HeldFile) (file : OpenFile) (outer : L
         ∙ ap (λ (o : Option IncludeBlock). and_then (and_then (piece_then (include_expansion options seen left file.folder) files piece o) (λ later. pieces_expansion options seen left file.folder later rest)) (λ later. behind (option_to_list file.leave) (remaining options seen outer later))) is
         ∙ and_then-and_then (include_expansion options seen left file.folder files include) (λ later. pieces_expansion options seen left file.folder later rest) (λ later. behind (option_to_list file.leave) (remaining options seen outer later))
         ∙ sym (ap (λ (l : List SourcePiece). behind_include include file'.folder file'.leave l) is_rest.waits
-          ∙ ap (λ (o : Option SourcePiece). behind_include include file'.folder o rest) is_rest.leaves
-          ∙ ap (λ (l : List ℕ). behind_include include l file.leave rest) is_rest.folder)
+        ∙ ap (λ (o : Option SourcePiece). behind_include include file'.folder o rest) is_rest.leaves
+        ∙ ap (λ (l : List ℕ). behind_include include l file.leave rest) is_rest.folder)
 
 -- pieces were taken
 pub record WalksOn (before after : Walk) : Type 0 where
@@ -104,11 +104,11 @@ module _ (before after : Walk) (front : List OpenFile) (file : OpenFile) (top : 
       let size' = ap length stack in
       let no_rest = ap length none in record {
         whole = λ options seen names.
-          let files = met names before.total in
-          ap (λ (l : List OpenFile). behind before.pieces (remaining options seen l files)) opened
-          ∙ ap (behind before.pieces) (remaining-end options seen file (reverse front) files none)
-          ∙ behind-append before.pieces (option_to_list file.leave) (remaining options seen (reverse front) files)
-          ∙ sym (rw (pieces, opened', total));
+            let files = met names before.total in
+            ap (λ (l : List OpenFile). behind before.pieces (remaining options seen l files)) opened
+            ∙ ap (behind before.pieces) (remaining-end options seen file (reverse front) files none)
+            ∙ behind-append before.pieces (option_to_list file.leave) (remaining options seen (reverse front) files)
+            ∙ sym (rw (pieces, opened', total));
         total = total;
         waits = omega arith;
         depth = omega arith;
@@ -133,11 +133,11 @@ module _ (before after : Walk) (front : List OpenFile) (file : OpenFile) (top : 
     pub WalksOn-piece : include_of piece ≡ None → after.pieces ≡ before.pieces ++ piece ∷ [] → WalksOn before after
     WalksOn-piece none pieces = record {
       whole = λ options seen names.
-        let files = met names before.total in
-        ap (λ (l : List OpenFile). behind before.pieces (remaining options seen l files)) (open_files-last before front file top)
-        ∙ ap (behind before.pieces) (remaining-piece options seen file (reverse front) files file' piece rest items is_rest none)
-        ∙ behind-append before.pieces (piece ∷ []) (remaining options seen (file' ∷ reverse front) files)
-        ∙ sym (rw (pieces, open_files-last after front file' stack, total));
+          let files = met names before.total in
+          ap (λ (l : List OpenFile). behind before.pieces (remaining options seen l files)) (open_files-last before front file top)
+          ∙ ap (behind before.pieces) (remaining-piece options seen file (reverse front) files file' piece rest items is_rest none)
+          ∙ behind-append before.pieces (piece ∷ []) (remaining options seen (file' ∷ reverse front) files)
+          ∙ sym (rw (pieces, open_files-last after front file' stack, total));
       total = total;
       waits = let f = is_fewer in omega arith;
       depth = let f = is_fewer in omega arith;
@@ -147,10 +147,10 @@ module _ (before after : Walk) (front : List OpenFile) (file : OpenFile) (top : 
     pub Advances-include : (include : IncludeBlock) → include_of piece ≡ Some include → after.pieces ≡ before.pieces → Advances before after (Some include)
     Advances-include include is pieces = record {
       whole = λ options seen names.
-        let files = met names before.total in
-        ap (λ (l : List OpenFile). behind before.pieces (remaining options seen l files)) (open_files-last before front file top)
-        ∙ ap (behind before.pieces) (remaining-include options seen file (reverse front) files file' piece rest items is_rest include is)
-        ∙ sym (rw (pieces, open_files-last after front file' stack, total));
+          let files = met names before.total in
+          ap (λ (l : List OpenFile). behind before.pieces (remaining options seen l files)) (open_files-last before front file top)
+          ∙ ap (behind before.pieces) (remaining-include options seen file (reverse front) files file' piece rest items is_rest include is)
+          ∙ sym (rw (pieces, open_files-last after front file' stack, total));
       total = total;
       waiting = let f = is_fewer in omega arith;
       stack = let f = is_fewer in omega arith;
@@ -161,8 +161,8 @@ module _ (before after : Walk) (front : List OpenFile) (file : OpenFile) (top : 
 pub Advances-none : (walk : Walk) → walk.stack.items ≡ [] → Advances walk walk None
 Advances-none walk none = record {
   whole = λ options seen names.
-    ap (λ (l : List OpenFile). behind walk.pieces (remaining options seen (reverse l) (met names walk.total))) none
-    ∙ ap (λ (l : List SourcePiece). gives (met names walk.total) l) (append-nil walk.pieces);
+      ap (λ (l : List OpenFile). behind walk.pieces (remaining options seen (reverse l) (met names walk.total))) none
+      ∙ ap (λ (l : List SourcePiece). gives (met names walk.total) l) (append-nil walk.pieces);
   total = refl;
   waiting = omega arith;
   stack = omega arith;
@@ -302,7 +302,7 @@ module _ (options : Options) (seen : List HeldFile) (names : List (List ℕ)) (w
               ∙ ap (λ (e : Expansion). behind walk.pieces (behind enter e)) (and_then-and_then inner (λ later. gives later leave) behind_it)
               ∙ behind-append walk.pieces enter (now_open (folder_of file.name) (Some (leave_block include)) (with_file files file) pieces)
               ∙ sym (ap (λ (l : List SourcePiece). behind l (remaining options seen (open_files after) (met (names ++ file.name ∷ []) after.total))) (enters.before_it ∙ more_pieces)
-                ∙ ap (behind (walk.pieces ++ enter)) now)
+              ∙ ap (behind (walk.pieces ++ enter)) now)
 
         module _ (number total : ℕ) (number_is : number ≡ length names) (total_is : total ≡ walk.total) where
           within_is : pieces_within options include.at number total file.bytes ≡ pieces_within options include.at (length names) walk.total file.bytes
@@ -387,9 +387,9 @@ module _ (walk after : Walk) (file : HeldFile) (pieces : List SourcePiece) (new 
     whole_of-main =
         main-is ∙ sym (and_then-nothing (main_pieces (folder_of file.name) (with_file (met [] 0) file) pieces))
         ∙ sym (ap (λ (l : List SourcePiece). behind l (remaining options seen (open_files after) (met (file.name ∷ []) after.total))) (enters.before_it ∙ new.pieces)
-          ∙ behind-nil (remaining options seen (open_files after) (met (file.name ∷ []) after.total))
-          ∙ ap (λ (l : List OpenFile). remaining options seen l (met (file.name ∷ []) after.total)) main-opened
-          ∙ ap (λ (m : Met). main_open enters.opened.folder enters.opened.leave m enters.opened.rest.items) main-met
-          ∙ ap (λ (l : List ℕ). main_open l enters.opened.leave (with_file (met [] 0) file) enters.opened.rest.items) enters.folder
-          ∙ ap (λ (o : Option SourcePiece). main_open (folder_of file.name) o (with_file (met [] 0) file) enters.opened.rest.items) enters.leaves
-          ∙ ap (λ (l : List SourcePiece). main_open (folder_of file.name) None (with_file (met [] 0) file) l) enters.waits)
+        ∙ behind-nil (remaining options seen (open_files after) (met (file.name ∷ []) after.total))
+        ∙ ap (λ (l : List OpenFile). remaining options seen l (met (file.name ∷ []) after.total)) main-opened
+        ∙ ap (λ (m : Met). main_open enters.opened.folder enters.opened.leave m enters.opened.rest.items) main-met
+        ∙ ap (λ (l : List ℕ). main_open l enters.opened.leave (with_file (met [] 0) file) enters.opened.rest.items) enters.folder
+        ∙ ap (λ (o : Option SourcePiece). main_open (folder_of file.name) o (with_file (met [] 0) file) enters.opened.rest.items) enters.leaves
+        ∙ ap (λ (l : List SourcePiece). main_open (folder_of file.name) None (with_file (met [] 0) file) l) enters.waits)

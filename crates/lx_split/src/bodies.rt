@@ -141,11 +141,7 @@ fn after_include_part<'a>(text: &'a [u8], unclosed: &mut Unclosed) -> Option<&'a
 }
 
 /// What follows the part at the front of the body of a block, which is no `*/`.
-fn after_part_of<'a>(
-    kind: BlockKind,
-    text: &'a [u8],
-    unclosed: &mut Unclosed,
-) -> Option<&'a [u8]>
+fn after_part_of<'a>(kind: BlockKind, text: &'a [u8], unclosed: &mut Unclosed) -> Option<&'a [u8]>
     requires known { AreKnown unclosed.old text.now }
     ensures rest { option_copied result ≡ after_part_of kind text.now }
     ensures shorter { IfSome result (λ rest. length rest.now < length text.now) }
@@ -158,11 +154,7 @@ fn after_part_of<'a>(
 }
 
 /// What follows the first `*/` outside of the strings, classes, comments and actions of a body.
-fn after_body<'a>(
-    kind: BlockKind,
-    text: &'a [u8],
-    unclosed: &mut Unclosed,
-) -> Option<&'a [u8]>
+fn after_body<'a>(kind: BlockKind, text: &'a [u8], unclosed: &mut Unclosed) -> Option<&'a [u8]>
     requires known { AreKnown unclosed.old text.now }
     ensures rest { option_copied result ≡ after_body kind (length text.now) text.now }
     ensures shorter { IfSome result (λ rest. length rest.now < length text.now) }

@@ -1,5 +1,4 @@
-use Rattle.std.proofs.Common.{List, ℕ, sym, ◌∙◌, ap}
-use Rattle.lx_split.specs.IncludeNames.{file_name_of}
+use Rattle.std.proofs.Common.{sym}
 use Rattle.lx_split.proofs.Walks.{has_inner, whole_from-deep, whole_from-unnamed}
 use Rattle.lx_split.proofs.expanding.name_at.Goals as goal
 

@@ -1,4 +1,4 @@
-use Rattle.std.proofs.Common.{◌≡◌, ◌∙◌, ◌∷◌, [], ◌++◌, List, ℕ, ap, sym, subst, None, Some, if◌then◌else◌, true}
+use Rattle.std.proofs.Common.{◌≡◌, ◌∙◌, List, ℕ, ap, sym, subst, None, Some, if◌then◌else◌}
 use Rattle.std.specs.Str.{bytes_eq}
 use Rattle.std.specs.Map.{lookup}
 use Rattle.std.proofs.lemmas.Slice.Eq.{bytes_eq-Decides}
@@ -17,6 +17,6 @@ returns-clause-added c =
     λ other.
     ap (λ entries. lookup (λ key. bytes_eq other key.items) entries) added
     ∙ lookup-last (λ key. bytes_eq other key.items) map.entries key c.args.bytes
-        (λ is. let same = (bytes_eq-Decides other key.items).0 is ∙ named in
-          subst (λ (text : List ℕ). lookup (λ key. bytes_eq text key.items) map.entries ≡ None) (sym same) c.requires)
+    (λ is. let same = (bytes_eq-Decides other key.items).0 is ∙ named in
+    subst (λ (text : List ℕ). lookup (λ key. bytes_eq text key.items) map.entries ≡ None) (sym same) c.requires)
     ∙ ap (λ (text : List ℕ). if bytes_eq other text then Some c.args.bytes else lookup (λ key. bytes_eq other key.items) map.entries) named

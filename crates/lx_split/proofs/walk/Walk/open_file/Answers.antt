@@ -1,4 +1,4 @@
-use Rattle.std.proofs.Common.{sym, ◌∙◌, refl}
+use Rattle.std.proofs.Common.{◌∙◌, refl}
 use Rattle.lx_split.proofs.walk.Walk.open_file.Goals as goal
 
 pub returns : goal.returns
