@@ -74,7 +74,7 @@ impl Ops {
         self.places.as_slice()
     }
 
-    /// Puts an operation at the end. Where memory runs out the list stays as it was.
+    /// Appends an operation. Where memory runs out the list stays as it was.
     pub fn push(&mut self, op: Op) -> Result<(), Memory>
         ensures pushed { OnOk result (self.new ≡ self.old ++ op ∷ []) }
         ensures kept { OnErr result (self.new ≡ self.old) }

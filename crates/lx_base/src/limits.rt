@@ -3,8 +3,11 @@
 /// How many bytes a source may have.
 pub const SOURCE_LIMIT: usize = 16_777_216;
 
-/// How many parts the rules of a scanner may have, and how many bytes a repetition may ask for.
+/// The greatest size that the rules of a scanner may have together.
 pub const SIZE_LIMIT: u64 = 4096;
+
+/// The greatest number in the bounds of a repetition.
+pub const BOUND_LIMIT: u64 = 4096;
 
 /// How deep the expressions of a scanner may be nested.
 pub const NESTING_LIMIT: u64 = 256;

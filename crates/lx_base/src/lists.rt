@@ -70,7 +70,7 @@ impl<T> Sequence<T> {
         self.items.as_slice()
     }
 
-    /// Puts an item at the end. Where memory runs out the list stays as it was, and the item is dropped.
+    /// Appends an item. Where memory runs out the list stays as it was, and the item is dropped.
     pub fn push(&mut self, item: T) -> Result<(), Memory>
     where
         T: Drop,
@@ -96,7 +96,7 @@ impl<T: Copy> Sequence<T> {
 /// Bytes: a text of a source or of an output, which may be in no encoding.
 pub type ByteText = Sequence<u8>;
 
-/// Puts the parts at the end of the text, one behind another.
+/// Appends the parts to the text, one behind another.
 ///
 /// Where memory runs out some of them may stand there.
 pub fn append_parts(text: &mut Vec<u8>, parts: &[&[u8]]) -> Result<(), Memory>

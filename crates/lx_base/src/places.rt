@@ -127,7 +127,7 @@ impl FileNames {
         }
     }
 
-    /// Puts a name at the end and answers its place, counted from 0.
+    /// Appends a name and answers its place, counted from 0.
     ///
     /// Where memory runs out the list stays as it was.
     pub fn add(&mut self, name: &str) -> Result<u32, Memory>

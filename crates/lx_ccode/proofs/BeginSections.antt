@@ -19,7 +19,7 @@ use Rattle.lx_ccode.specs.declared.piece.Piece.{Piece}
 use Rattle.lx_ccode.specs.declared.piece.StateCase.{StateCase}
 use Rattle.lx_ccode.specs.declared.piece.Stmt.{Stmt}
 use Rattle.lx_ccode.proofs.BeginLines.{NamesPass, block_passes, goto_passes, line_passes, names_pass, number_passes, prefixed_passes, short_passes, statements_pass}
-use Rattle.lx_ccode.proofs.BeginMarks.{Passes, Passes-all, Passes-joined, Passes-text, Passes-then, none_begins, none_begins-word}
+use Rattle.lx_ccode.proofs.BeginMarks.{EachPasses, Passes, Passes-all, Passes-joined, Passes-text, Passes-then, none_begins, none_begins-word}
 use Rattle.lx_ccode.proofs.RoundTrip.{statement_count-blocks}
 use Rattle.lx_ccode.proofs.Tails.{joined-append, line_then-append, piece_text-append}
 
@@ -63,11 +63,7 @@ blocks_pass number names ctx place (block ∷ blocks) behind h pass k spelled fr
     (blocks_pass number names ctx (suc place) blocks behind h pass (omega (arith, k)) spelled.1 free.1)
 
 -- no slash stands in the words
-abbrev EachLacks : List (List ℕ) → Type 0
-EachLacks [] = Unit {0}
-EachLacks (word ∷ words) = (none_begins word ≡ true) × EachLacks words
-
-names_then_passes : (words : Spellings) (behind : List ℕ) → EachIsShort words → EachLacks words → Passes (names_then words behind) behind
+names_then_passes : (words : Spellings) (behind : List ℕ) → EachIsShort words → EachPasses words → Passes (names_then words behind) behind
 names_then_passes [] behind h k = Passes-all behind
 names_then_passes (word ∷ words) behind h k =
     Passes-then (names_then (word ∷ words) behind) (names_then words behind) behind
@@ -131,7 +127,7 @@ cond_switch_passes number names (case ∷ cases) behind h pass each =
     (Passes-then (cond_cases_then number names (case ∷ cases) end) end behind (cond_cases_pass number names (case ∷ cases) end h pass each)
     (Passes-joined (codes "\t}\n" ∷ []) behind (refl, tt)))
 
-names_lack : (names : Spellings) → length names ≡ 17 → NamesPass names → EachLacks names
+names_lack : (names : Spellings) → length names ≡ 17 → NamesPass names → EachPasses names
 names_lack (n1 ∷ n2 ∷ n3 ∷ n4 ∷ n5 ∷ n6 ∷ n7 ∷ n8 ∷ n9 ∷ n10 ∷ n11 ∷ n12 ∷ n13 ∷ n14 ∷ n15 ∷ n16 ∷ n17 ∷ []) h pass =
     (pass.unit_type, (pass.cursor, (pass.limit, (pass.marker, (none_begins-word n5 pass.context_lacks, (pass.refill, (pass.get_state, (pass.set_state, (pass.get_condition, (pass.set_condition, (pass.append_offset, (pass.append_negative, (pass.current_unit, (pass.last_accept, (none_begins-word n15 pass.tag_lacks, (none_begins-word n16 pass.label_lacks, (none_begins-word n17 pass.condition_lacks, tt)))))))))))))))))
 names_lack names h pass = absurd (omega (arith, h))

@@ -4,6 +4,7 @@ use Rattle.std.proofs.lemmas.List.{length-append}
 use Rattle.std.specs.Fmt.{decimal}
 use Rattle.std.specs.List.{AllByRecursion, list_any}
 use Rattle.std.specs.Prelude.{◌||◌, ◌⊎◌, IfSome, codes}
+use Rattle.lx_base.specs.declared.limits.TheConstants.{STATEMENT_LIMIT}
 use Rattle.lx_base.specs.Letters.{IsIdentifier, is_digit, is_in_identifier}
 use Rattle.lx_base.specs.Names.{Spellings}
 use Rattle.lx_ccode.specs.declared.piece.CodeBlock.{CodeBlock}
@@ -121,7 +122,7 @@ reading-piece fuel piece tail v le =
     let short : piece.number < 2 ^ 64 = (let h : piece.number < 2 ^ 32 = v.range.number in omega arith) in
     let hc : statement_count piece.blocks ≡ length (all_statements piece.blocks) = statement_count-all piece.blocks in
     let hf : length piece.blocks ≤ statement_count piece.blocks = statement_count-blocks piece.names piece.blocks v.spelled in
-    let hs : statement_count piece.blocks ≤ 4_611_686_018_427_387_904 = v.statements in
+    let hs : statement_count piece.blocks ≤ STATEMENT_LIMIT = v.statements in
     let small : 0 + length piece.blocks < 2 ^ 64 = omega arith in
     let end : List ℕ = codes "/*!end:re2c*/" ++ tail in
     let none : List ℕ = codes "_none:;\n}\n" ++ line_then piece.line end in

@@ -1,6 +1,7 @@
 -- Which pieces are valid: those that the generator may emit and that a reader of outputs takes.
 use Rattle.std.specs.Prelude.{◌≡◌, ℕ, zero, suc, ◌<◌, ◌*◌, ◌≤◌, ◌^◌, ◌⊎◌, IfSome, Bool, true, false, List, [], ◌∷◌, length, map, Option, Some, None, ◌||◌, if◌then◌else◌}
 use Rattle.std.specs.List.{AllByRecursion, list_any}
+use Rattle.lx_base.specs.declared.limits.TheConstants.{STATEMENT_LIMIT}
 use Rattle.lx_base.specs.Letters.{IsIdentifier, equal_words}
 use Rattle.lx_base.specs.Names.{Spellings, AreAllowed, DoNotClash, AreDistinct, IsTagName}
 use Rattle.lx_ccode.specs.declared.piece.LineMark.{LineMark}
@@ -177,7 +178,7 @@ pub record IsValid (piece : Piece) : Type 0 where
   -- there is a block
   pub blocks : 0 < length piece.blocks
   -- there are at most 2^62 statements
-  pub statements : statement_count piece.blocks ≤ 4_611_686_018_427_387_904
+  pub statements : statement_count piece.blocks ≤ STATEMENT_LIMIT
   -- every jump goes to a block of the piece
   pub jumps : AllByRecursion (JumpsBelow (length piece.blocks)) (all_statements piece.blocks)
   -- the last statement of a block, and no other, is Goto, Leave, Code or Jump

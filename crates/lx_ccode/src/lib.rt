@@ -5,11 +5,11 @@ pub mod examples;
 pub mod fronts;
 pub mod laws;
 mod lines;
+mod numerals;
 pub mod piece;
 pub mod printing;
 mod sections;
-mod numerals;
 
 pub use fronts::begins_with_piece;
 pub use piece::{CodeBlock, CondCase, LineMark, Piece, StateCase, Stmt};
-pub use printing::{print, statements};
+pub use printing::{count_statements, print, statements};

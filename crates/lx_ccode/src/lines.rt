@@ -6,10 +6,9 @@ ghost use Rattle.lx_base.specs.Names.{cursor, limit, refill, current_unit, last_
 ghost use Rattle.lx_ccode.specs.Registers.{register_text, history_text};
 ghost use Rattle.lx_ccode.specs.Text.{statement_then, statements_then, line_then, goto_then, block_then, escaped, hexadecimal};
 
-use crate::piece::{LineMark, Piece, Stmt};
-use lx_base::names;
 use crate::numerals::{decimal, hexadecimal, history_text, register_text};
-use lx_base::{Memory, Names, append_parts};
+use crate::piece::{LineMark, Piece, Stmt};
+use lx_base::{Memory, Names, append_parts, names};
 use std::alloc::Global;
 
 /// What the lines of a piece depend on beside their statements.

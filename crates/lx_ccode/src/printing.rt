@@ -1,6 +1,7 @@
 //! Writes pieces, and counts their statements.
-ghost use Rattle.std.specs.Prelude.{◌≡◌, ◌<◌, ◌^◌, ◌++◌, [], ◌∷◌, length, OnOk, IfOk, Some, codes};
+ghost use Rattle.std.specs.Prelude.{◌≡◌, ◌<◌, ◌≤◌, ◌++◌, [], ◌∷◌, length, MatchOption, OnOk, IfOk, Some, codes};
 ghost use Rattle.std.specs.Fmt.{decimal};
+ghost use Rattle.lx_base.specs.declared.limits.TheConstants.{STATEMENT_LIMIT};
 ghost use Rattle.lx_base.specs.Text.{joined};
 ghost use Rattle.lx_ccode.specs.Parts.{closing_then, opening_then};
 ghost use Rattle.lx_ccode.specs.Statements.{statement_count};
@@ -8,8 +9,9 @@ ghost use Rattle.lx_ccode.specs.Text.{name_then, names_then, eof_then, piece_tex
 ghost use Rattle.lx_ccode.specs.Validity.{IsValid};
 
 use crate::lines::{Scope, append_line};
-use crate::piece::{CodeBlock, Piece};
 use crate::numerals::decimal;
+use crate::piece::{CodeBlock, Piece};
+use lx_base::limits::STATEMENT_LIMIT;
 use lx_base::{ByteText, Memory, append_parts};
 use std::alloc::Global;
 
@@ -58,18 +60,23 @@ pub fn statements(piece: &Piece) -> u64
     requires { IsValid piece.now }
     ensures { result ≡ statement_count piece.now.blocks }
 {
-    count_statements(piece.blocks.as_slice())
+    count_statements(piece.blocks.as_slice()).unwrap()
 }
 
-fn count_statements(blocks: &[CodeBlock]) -> u64
-    requires { statement_count blocks.now < 2 ^ 64 }
-    ensures { result ≡ statement_count blocks.now }
+/// How many statements the blocks have; `None` where they are more than a valid piece may have, which is
+/// 2^62. It takes no memory.
+pub fn count_statements(blocks: &[CodeBlock]) -> Option<u64>
+    ensures { MatchOption result (STATEMENT_LIMIT < statement_count blocks.now)
+        (λ count. (count ≡ statement_count blocks.now) × (count ≤ STATEMENT_LIMIT)) }
 {
-    let mut count = 0;
+    let mut count: u64 = 0;
     for block in blocks {
-        count += block.stmts.as_slice().len() as u64;
+        count = count.saturating_add(block.stmts.as_slice().len() as u64);
+        if count > STATEMENT_LIMIT {
+            return None;
+        }
     }
-    count
+    Some(count)
 }
 
 fn append_head(alloc: Global, text: &mut Vec<u8>, number: u32, unit: u32) -> Result<(), Memory>

@@ -5,10 +5,9 @@ ghost use Rattle.lx_base.specs.Text.{joined};
 ghost use Rattle.lx_ccode.specs.Text.{label_then, block_then, code_block_then, blocks_then, declarations_then, state_case_then, state_cases_then, start_then, state_switch_then, cond_case_then, cond_cases_then, cond_switch_then};
 
 use crate::lines::Scope;
-use crate::piece::{CodeBlock, CondCase, StateCase};
-use lx_base::names;
 use crate::numerals::decimal;
-use lx_base::{ByteText, Memory, Sequence, append_parts};
+use crate::piece::{CodeBlock, CondCase, StateCase};
+use lx_base::{ByteText, Memory, Sequence, append_parts, names};
 
 impl Scope<'_> {
     /// Appends the declarations of the two variables, where the piece has them.
@@ -120,11 +119,7 @@ impl Scope<'_> {
             return Ok(());
         }
         let number = decimal(self.alloc, u64::from(self.number))?;
-        append_cond_head(
-            text,
-            number.as_bytes(),
-            names::get_condition(self.names),
-        )?;
+        append_cond_head(text, number.as_bytes(), names::get_condition(self.names))?;
         self.append_cond_cases(text, conds)?;
         append_parts(text, &[b"\t}\n"])?;
         Ok(())

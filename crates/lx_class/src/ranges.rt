@@ -36,7 +36,7 @@ pub(crate) fn holds_point(ranges: &[Range], point: u32) -> bool
     false
 }
 
-/// Puts a range at the end, which begins no earlier than those that are there. One that touches the
+/// Appends a range, which begins no earlier than those that are there. One that touches the
 /// last range is joined to it.
 fn append_range(ranges: &mut Vec<Range>, range: Range) -> Result<(), Memory>
     requires canonical { IsCanonical ranges.old.items }
@@ -63,7 +63,7 @@ fn append_range(ranges: &mut Vec<Range>, range: Range) -> Result<(), Memory>
     Ok(())
 }
 
-/// Puts ranges at the end, which begin no earlier than those that are there.
+/// Appends ranges, which begin no earlier than those that are there.
 fn append_ranges(ranges: &mut Vec<Range>, rest: &[Range]) -> Result<(), Memory>
     requires canonical { IsCanonical ranges.old.items }
     requires canonical_rest { IsCanonical rest.now }
@@ -102,7 +102,7 @@ pub(crate) fn union_of(alloc: Global, left: &[Range], right: &[Range]) -> Result
     Ok(ranges)
 }
 
-/// Puts the points from `from` on and before `until` at the end, if there are any.
+/// Appends the points from `from` on and before `until`, if there are any.
 fn append_points(ranges: &mut Vec<Range>, from: u32, until: u32) -> Result<(), Memory>
     requires canonical { IsCanonical ranges.old.items }
     requires bounded { until ≤ MAX_POINT + 1 }

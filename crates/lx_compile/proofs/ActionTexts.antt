@@ -4,7 +4,7 @@ use Rattle.std.specs.Prelude.{unwrap_or}
 use Rattle.std.specs.List.{AllByRecursion}
 use Rattle.std.proofs.lemmas.List.Elements.{recursion_from_All}
 use Rattle.lx_gen.specs.Scanner.{AreShort}
-use Rattle.lx_rules.specs.Soundness.{IsFine, IsShort}
+use Rattle.lx_rules.specs.Soundness.{FitsLimits, IsShort}
 use Rattle.lx_rules.specs.declared.resolved.Act.{Act}
 use Rattle.lx_rules.specs.declared.resolved.Resolved.{Resolved}
 use Rattle.lx_compile.specs.Output.{actions_of}
@@ -18,6 +18,6 @@ short_actions (act ∷ acts) short = (of_code act.code short.0, short_actions ac
     of_code None is = omega arith
     of_code (Some text) is = omega arith
 
-pub AreShort-of : (resolved : Resolved) → IsFine resolved → AreShort (actions_of resolved.acts)
+pub AreShort-of : (resolved : Resolved) → FitsLimits resolved → AreShort (actions_of resolved.acts)
 AreShort-of resolved fine =
     record { count = omega (arith, length-actions_of resolved.acts, fine.few); each = short_actions resolved.acts (recursion_from_All (λ (act : Act). IsShort act.code) resolved.acts fine.acts) }

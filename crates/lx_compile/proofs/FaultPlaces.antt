@@ -3,6 +3,7 @@ use Rattle.std.proofs.Common.{◌≡◌, ℕ, zero, suc, Bool, true, false, List
 use Rattle.std.specs.Prelude.{nat_lt}
 use Rattle.std.specs.List.{AllByRecursion}
 use Rattle.lx_base.specs.declared.blocks.BlockKind.{BlockKind}
+use Rattle.lx_base.specs.declared.blocks.BlockKind.TheVariants.{Code}
 use Rattle.lx_base.specs.declared.faults.Fault.{Fault}
 use Rattle.lx_base.specs.declared.faults.Fault.TheVariants.{TooLong, TooManyStates}
 use Rattle.lx_base.specs.declared.faults.Stop.{Stop}
@@ -11,7 +12,6 @@ use Rattle.lx_base.specs.declared.places.Pos.{Pos}
 use Rattle.lx_base.specs.declared.settings.Options.{Options}
 use Rattle.lx_parse.specs.Blocks.{place_of_next}
 use Rattle.lx_rules.specs.Environments.{Environment, first_environment}
-use Rattle.lx_forms.specs.Lexemes.{lexemes_of}
 use Rattle.lx_split.specs.Cuts.{IsFaultOf as IsFaultOfSource, completed, marked, faulty, IsOpenerFault, refused as opener_refused, unclosed, source_text}
 use Rattle.lx_split.specs.Pieces.{Split, pieces_of}
 use Rattle.lx_split.specs.declared.pieces.SourcePiece.{SourcePiece}
@@ -26,25 +26,19 @@ use Rattle.lx_compile.specs.Blocks.{IsFaultOf, other_kind, no_token, no_items, r
 use Rattle.lx_compile.specs.FirstFault.{IsFaultOfPieces, IsFirstFault, StopsWith}
 use Rattle.lx_compile.specs.FirstFault.{IsFaultOfSource as IsFaultWithin}
 use Rattle.lx_compile.specs.Parts.{AreParts, IsFaultAmong, IsKernelFault}
+use Rattle.lx_exprs.specs.FaultPlaces.{StandsIn}
 use Rattle.lx_compile.specs.Places.{StandsInFirst, StopsInFirst}
 use Rattle.lx_compile.specs.declared.parts.Part.{Part}
 use Rattle.lx_compile.specs.declared.parts.Part.TheVariants.{Outside, Block}
-use Rattle.lx_compile.proofs.CheckPlaces.{AreTokensInFirst}
-use Rattle.lx_compile.proofs.ItemPlaces.{IsBlockFault-in_first}
-use Rattle.lx_compile.proofs.PiecePlaces.{IsInFile, IsPieceInFile, in_file-cut, place_after-file}
+use Rattle.lx_rules.proofs.FaultPlaces.{block_fault-file}
+use Rattle.lx_forms.proofs.FilePlaces.{place_after-file}
+use Rattle.lx_compile.proofs.PiecePlaces.{IsInFile, IsPieceInFile, in_file-cut}
 
 -- a fault of this form at such a place
 in_first : (fault other : Fault) → fault ≡ other → StandsInFirst other → StandsInFirst fault
 in_first fault other is stands = subst StandsInFirst (sym is) stands
 
--- the tokens of a body that begins in file 0 stand there
-tokens-in_first : (body : List ℕ) (start : Pos) (tokens : List Token) → EachStands body start tokens → start.file ≡ 0
-    → AreTokensInFirst (lexemes_of body tokens)
-tokens-in_first body start [] stand is = tt
-tokens-in_first body start (token ∷ tokens) stand is =
-    (ap (λ (p : Pos). p.file) stand.0.place ∙ place_after-file start (take token.from body) ∙ is, tokens-in_first body start tokens stand.1 is)
-
--- and so does what comes behind some of them
+-- what comes behind some tokens of a body that begins in file 0 stands there
 next-in_first : (body : List ℕ) (start : Pos) (tokens : List Token) (count : ℕ) → EachStands body start tokens → start.file ≡ 0
     → (place_of_next start body (drop count tokens)).file ≡ 0
 next-in_first body start [] zero stand is = place_after-file start body ∙ is
@@ -64,9 +58,8 @@ block-in_first options environment kind body at start fault (no_items tokens cod
     let stand = tokens_stand body start tokens are in
     in_first fault _ syntax.fault_is (next-in_first body start tokens syntax.count stand.each_stands places.start_in)
 block-in_first options environment kind body at start fault (refused tokens items code read found) places =
-    let stand = tokens_stand body start tokens read.tokens_are in
-    IsBlockFault-in_first options (lexemes_of body tokens) (tokens-in_first body start tokens stand.each_stands places.start_in) at places.at_in
-    environment items fault found
+    subst (λ file. StandsIn file fault) places.at_in
+    (block_fault-file options at start environment Code body tokens items fault (places.start_in ∙ sym places.at_in) read.tokens_are read.items_are found)
 block-in_first options environment kind body at start fault (unsupported after resolved code resolves not_supported is) places =
     in_first fault _ is places.at_in
 

@@ -7,10 +7,8 @@ pub mod OutputCuts
 pub mod OutsideTexts
 pub mod PiecePlaces
 pub mod TextRuns
-pub mod CheckPlaces
 pub mod FaultPlaces
 pub mod FoundPieces
-pub mod ItemPlaces
 pub mod KernelRuns
 pub mod WalkRuns
 pub mod OneFault

@@ -5,18 +5,12 @@ use Rattle.std.specs.List.{AllByRecursion}
 use Rattle.std.proofs.lemmas.List.Elements.{All-nil, All-cons}
 use Rattle.lx_base.specs.declared.places.Pos.{Pos}
 use Rattle.lx_base.specs.Places.{next_place, place_after, file_start}
+use Rattle.lx_forms.proofs.FilePlaces.{place_after-file}
 use Rattle.lx_split.specs.Cuts.{AreApart, AreAtPlaces, AreCut, piece_text, source_text}
 use Rattle.lx_split.specs.Openers.{word_of}
 use Rattle.lx_split.specs.declared.pieces.SourcePiece.{SourcePiece}
 use Rattle.lx_split.specs.declared.pieces.SourcePiece.TheVariants.{Outside, Block}
-use Rattle.lx_compile.specs.Ready.{IsNearPiece}
-
-next_place-file : (at : Pos) (letter : ℕ) → (next_place at letter).file ≡ at.file
-next_place-file at letter = by (letter == 10)
-  where
-    by : (ends : Bool) → (if◌then◌else◌ {A = Pos} ends (record { file = at.file; line = at.line + 1; col = 1 }) (record { file = at.file; line = at.line; col = at.col + 1 })).file ≡ at.file
-    by true = refl
-    by false = refl
+use Rattle.lx_compile.specs.Emittable.{IsNearPiece}
 
 next_place-line : (at : Pos) (letter : ℕ) → (next_place at letter).line ≤ at.line + 1
 next_place-line at letter = by (letter == 10)
@@ -31,11 +25,6 @@ next_place-col at letter = by (letter == 10)
     by : (ends : Bool) → (if◌then◌else◌ {A = Pos} ends (record { file = at.file; line = at.line + 1; col = 1 }) (record { file = at.file; line = at.line; col = at.col + 1 })).col ≤ at.col + 1
     by true = omega arith
     by false = omega arith
-
--- a place behind a text is one of the same file
-pub place_after-file : (at : Pos) (text : List ℕ) → (place_after at text).file ≡ at.file
-place_after-file at [] = refl
-place_after-file at (letter ∷ text) = place_after-file (next_place at letter) text ∙ next_place-file at letter
 
 -- no text has more lines and columns than bytes
 place_after-line : (at : Pos) (text : List ℕ) → (place_after at text).line ≤ at.line + length text

@@ -27,7 +27,7 @@ use Rattle.lx_rules.specs.Environments.{Environment}
 use Rattle.lx_rules.specs.Items.{Goes, HeadChecks, HeadSort, IsAfter, IsHead, ItemChecks, ListChecks, RuleOf, State, TargetChecks, act_of, any, conds_of, end, ends, expression, head_sort, next, refused}
 use Rattle.lx_rules.specs.Keeping.{IsUsual}
 use Rattle.lx_forms.specs.Lexemes.{Lexeme, nth_lexeme, sort_at}
-use Rattle.lx_rules.specs.Soundness.{IsFine, IsFit}
+use Rattle.lx_rules.specs.Soundness.{FitsLimits, IsFit}
 use Rattle.lx_rules.specs.Within.{IsScannerWithin}
 use Rattle.lx_rules.specs.declared.resolved.Act.{Act}
 use Rattle.lx_rules.specs.declared.resolved.Resolved.{Resolved}
@@ -36,7 +36,7 @@ use Rattle.lx_rules.proofs.BlockSteps.{AreUsual, conditions_of-usual, in_order, 
 use Rattle.lx_exprs.proofs.ClassForms.{then-none}
 use Rattle.lx_rules.proofs.RuleNumbers.{all_in_order}
 use Rattle.lx_compile.specs.Output.{actions_of}
-use Rattle.lx_compile.specs.Ready.{CanBeEmitted}
+use Rattle.lx_compile.specs.Emittable.{CanBeEmitted}
 
 -- ---- the rules of a block
 
@@ -182,7 +182,7 @@ module _ (enc : Enc) (at : Pos) (state : State) (usual : AreUsual state.rules) (
 
 -- each scanner of a block can be emitted
 pub can_be_emitted : (options : Options) (at : Pos) (environment : Environment) (lexemes : List Lexeme) (items : List Item) (after : Environment)
-    (resolved : Resolved) → Resolves options at environment lexemes items after resolved → IsFine resolved
+    (resolved : Resolved) → Resolves options at environment lexemes items after resolved → FitsLimits resolved
     → AllByRecursion (IsScannerWithin options.enc) resolved.scanners → AllByRecursion (CanBeEmitted options.enc resolved.acts) resolved.scanners
 can_be_emitted options at environment lexemes items after resolved is fine within =
     let state = is.0 in

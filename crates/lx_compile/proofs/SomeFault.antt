@@ -11,7 +11,7 @@ use Rattle.lx_base.specs.declared.settings.Enc.{Enc}
 use Rattle.lx_base.specs.declared.settings.Options.{Options}
 use Rattle.lx_parse.specs.declared.items.Item.{Item}
 use Rattle.lx_parse.proofs.Verdicts.{read_or_refused}
-use Rattle.lx_rules.specs.Buildable.{IsReady}
+use Rattle.lx_rules.specs.Buildable.{HasBuildableDefinitions}
 use Rattle.lx_rules.specs.Environments.{Environment, first_environment}
 use Rattle.lx_forms.specs.Lexemes.{lexemes_of}
 use Rattle.lx_rules.specs.declared.resolved.Resolved.{Resolved}
@@ -41,7 +41,7 @@ kernel_fault enc (Block at resolved ∷ parts) none = kernel_fault enc parts (λ
 module _ (options : Options) where
   -- ---- blocks
 
-  module _ (environment : Environment) (kind : BlockKind) (body : List ℕ) (at start : Pos) (ready : IsReady options.enc environment)
+  module _ (environment : Environment) (kind : BlockKind) (body : List ℕ) (at start : Pos) (ready : HasBuildableDefinitions options.enc environment)
       (no_block : (after : Environment) (resolved : Resolved) → IsBlock options environment kind body at start after resolved → ⊥)
       (no_fault : (fault : Fault) → IsFaultOf options environment kind body at start fault → ⊥) where
     -- what a body resolves to is supported, or that it is not is its fault
@@ -74,7 +74,7 @@ module _ (options : Options) where
   -- ---- sources
 
   -- the pieces of a source all resolve, or one has a fault
-  parts_or_fault : (environment : Environment) (pieces : List SourcePiece) → IsReady options.enc environment
+  parts_or_fault : (environment : Environment) (pieces : List SourcePiece) → HasBuildableDefinitions options.enc environment
       → ((parts : List Part) → AreParts options environment pieces parts → ⊥)
       → ((fault : Fault) → IsFaultAmong options environment pieces fault → ⊥) → ⊥
   parts_or_fault environment [] ready no_parts no_fault = no_parts [] tt

@@ -11,14 +11,14 @@ use Rattle.lx_base.specs.declared.faults.Stop.TheVariants as stop
 use Rattle.lx_base.specs.declared.places.Pos.{Pos}
 use Rattle.lx_base.specs.declared.settings.Options.{Options}
 use Rattle.lx_rules.specs.Environments.{Environment, first_environment}
-use Rattle.lx_rules.specs.Soundness.{IsFine}
+use Rattle.lx_rules.specs.Soundness.{FitsLimits}
 use Rattle.lx_rules.specs.Within.{IsScannerWithin}
 use Rattle.lx_rules.specs.declared.resolved.Resolved.{Resolved}
 use Rattle.lx_split.specs.declared.pieces.SourcePiece.{SourcePiece}
 use Rattle.lx_split.specs.declared.pieces.SourcePiece.TheVariants as piece
 use Rattle.lx_compile.specs.Blocks.{IsBlock, StopsAt}
 use Rattle.lx_compile.specs.Parts.{AreParts, IsFaultAmong, StopsAmong}
-use Rattle.lx_compile.specs.Ready.{IsNearPiece, IsReady, IsReadyPart}
+use Rattle.lx_compile.specs.Emittable.{IsNearPiece, IsEmittable, IsEmittablePart}
 use Rattle.lx_compile.specs.declared.parts.Part.{Part}
 use Rattle.lx_compile.specs.declared.parts.Part.TheVariants.{Outside, Block}
 use Rattle.lx_compile.proofs.OneScanner.{one_scanner}
@@ -26,7 +26,7 @@ use Rattle.lx_compile.proofs.ScannerRules.{can_be_emitted}
 
 -- what holds behind some parts, where this environment holds and these pieces are left
 pub record IsWalked (options : Options) (pieces rest : List SourcePiece) (environment : Environment) (parts : List Part) : Type 0 where
-  pub ready : All (IsReadyPart options.enc) parts
+  pub ready : All (IsEmittablePart options.enc) parts
   pub few : length parts + length rest ≤ length pieces
   pub near : All IsNearPiece rest
   pub continues : (more : List Part) → AreParts options environment rest more → AreParts options first_environment pieces (parts ++ more)
@@ -34,7 +34,7 @@ pub record IsWalked (options : Options) (pieces rest : List SourcePiece) (enviro
 
 pub IsWalked-start : (options : Options) (pieces : List SourcePiece) → All IsNearPiece pieces → IsWalked options pieces pieces first_environment []
 IsWalked-start options pieces near = record {
-  ready = All-nil (IsReadyPart options.enc);
+  ready = All-nil (IsEmittablePart options.enc);
   few = omega arith;
   near = near;
   continues = λ more are. are;
@@ -44,7 +44,7 @@ IsWalked-start options pieces near = record {
 pub IsWalked-outside : (options : Options) (pieces rest : List SourcePiece) (environment : Environment) (parts : List Part) (text : List ℕ)
     → IsWalked options pieces (piece.Outside text ∷ rest) environment parts → IsWalked options pieces rest environment (parts ++ Outside text ∷ [])
 IsWalked-outside options pieces rest environment parts text walked = record {
-  ready = All-push (IsReadyPart options.enc) parts (Outside text) walked.ready tt;
+  ready = All-push (IsEmittablePart options.enc) parts (Outside text) walked.ready tt;
   few = omega (arith, walked.few, length_push parts (Outside text));
   near = All-tail IsNearPiece (piece.Outside text) rest walked.near;
   continues = λ more are. rw append_assoc (walked.continues (Outside text ∷ more) (refl, are));
@@ -52,10 +52,10 @@ IsWalked-outside options pieces rest environment parts text walked = record {
 }
 
 -- what a block of a source resolves to can be emitted
-pub IsReady-block : (options : Options) (environment : Environment) (kind : BlockKind) (body : List ℕ) (at start : Pos) (after : Environment) (resolved : Resolved)
-    → IsBlock options environment kind body at start after resolved → IsFine resolved
-    → AllByRecursion (IsScannerWithin options.enc) resolved.scanners → IsReady options.enc resolved
-IsReady-block options environment kind body at start after resolved block fine within =
+pub IsEmittable-block : (options : Options) (environment : Environment) (kind : BlockKind) (body : List ℕ) (at start : Pos) (after : Environment) (resolved : Resolved)
+    → IsBlock options environment kind body at start after resolved → FitsLimits resolved
+    → AllByRecursion (IsScannerWithin options.enc) resolved.scanners → IsEmittable options.enc resolved
+IsEmittable-block options environment kind body at start after resolved block fine within =
     let resolves = block.resolves.resolves in record {
       fine = fine;
       supported = block.supported;
@@ -67,10 +67,10 @@ IsReady-block options environment kind body at start after resolved block fine w
 pub IsWalked-block : (options : Options) (pieces rest : List SourcePiece) (environment : Environment) (parts : List Part)
     (kind : BlockKind) (body : List ℕ) (at start : Pos) (end_line : ℕ) (after : Environment) (resolved : Resolved)
     → IsWalked options pieces (piece.Block kind body at start end_line ∷ rest) environment parts
-    → IsBlock options environment kind body at start after resolved → IsFine resolved → AllByRecursion (IsScannerWithin options.enc) resolved.scanners
+    → IsBlock options environment kind body at start after resolved → FitsLimits resolved → AllByRecursion (IsScannerWithin options.enc) resolved.scanners
     → IsWalked options pieces rest after (parts ++ Block at resolved ∷ [])
 IsWalked-block options pieces rest environment parts kind body at start end_line after resolved walked block fine within = record {
-  ready = All-push (IsReadyPart options.enc) parts (Block at resolved) walked.ready (IsReady-block options environment kind body at start after resolved block fine within);
+  ready = All-push (IsEmittablePart options.enc) parts (Block at resolved) walked.ready (IsEmittable-block options environment kind body at start after resolved block fine within);
   few = omega (arith, walked.few, length_push parts (Block at resolved));
   near = All-tail IsNearPiece (piece.Block kind body at start end_line) rest walked.near;
   continues = λ more are. rw append_assoc (walked.continues (Block at resolved ∷ more) (refl, (after, block, are)));

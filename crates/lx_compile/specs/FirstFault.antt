@@ -1,5 +1,6 @@
 -- The first fault of a source.
 use Rattle.std.specs.Prelude.{◌≡◌, ℕ, ◌⊎◌, Bool, true, false, List, length, nat_lt, Option, Some, None, Ok, Err}
+use Rattle.lx_base.specs.declared.limits.TheConstants.{SOURCE_LIMIT}
 use Rattle.lx_base.specs.Places.{file_start}
 use Rattle.lx_base.specs.declared.faults.Fault.{Fault}
 use Rattle.lx_base.specs.declared.faults.Fault.TheVariants.{TooLong}
@@ -37,7 +38,7 @@ IsFaultOfSource false options source fault = IsFaultOfPieces options (pieces_of 
 -- cut into pieces; or a block has a fault, of which the first one in the order of the source counts; or a scanner has too many
 -- kernels.
 abbrev pub IsFirstFault : Options → (source : List ℕ) → Option Fault → Type 0
-IsFirstFault options source fault = IsFaultOfSource (nat_lt 16777216 (length source)) options source fault
+IsFirstFault options source fault = IsFaultOfSource (nat_lt SOURCE_LIMIT (length source)) options source fault
 
 -- a call that is to compile a source stops with its first fault, or where memory runs out
 abbrev pub StopsWith : Options → (source : List ℕ) → Stop → Type 0

@@ -5,4 +5,4 @@ pub mod Options
 pub mod Output
 pub mod Parts
 pub mod Places
-pub mod Ready
+pub mod Emittable

@@ -7,12 +7,10 @@ ghost use Rattle.lx_compile.specs.Places.{StopsInFirst};
 
 use crate::emission::emit;
 use crate::walk::resolve_blocks;
+use lx_base::limits::SOURCE_LIMIT;
 use lx_base::{Fault, Options, Pos, Stop};
 use lx_split::split;
 use std::alloc::Global;
-
-/// How many bytes a source may have.
-pub const SOURCE_LIMIT: usize = 16_777_216;
 
 /// The output of a source.
 fn output_of(alloc: Global, source: &[u8], options: &Options) -> Result<Vec<u8>, Stop>
@@ -22,11 +20,7 @@ fn output_of(alloc: Global, source: &[u8], options: &Options) -> Result<Vec<u8>,
         (StopsWith options.now source.now) }
 {
     if source.len() > SOURCE_LIMIT {
-        let at = Pos {
-            file: 0,
-            line: 1,
-            col: 1,
-        };
+        let at = Pos::start_of(0);
         let total = source.len() as u64;
         return Err(Stop::Fault(Fault::TooLong { at, total }));
     }

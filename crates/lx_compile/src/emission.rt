@@ -1,5 +1,6 @@
 //! The texts of the parts of a source.
 ghost use Rattle.std.specs.Prelude.{◌≡◌, ◌≤◌, ◌++◌, ℕ, List, [], All, IfOk, MatchResult, OnOk, length, unwrap_or, None};
+ghost use Rattle.lx_base.specs.declared.limits.TheConstants.{SOURCE_LIMIT};
 ghost use Rattle.lx_base.specs.Names.{usual_names};
 ghost use Rattle.lx_ccode.specs.Bodies.{body_piece_text, no_body};
 ghost use Rattle.lx_regex.specs.Pattern.{patterns_of};
@@ -8,7 +9,7 @@ ghost use Rattle.lx_tdfa.specs.Making.{StopsBy};
 ghost use Rattle.lx_tdfa.specs.Promise.{IsAutoOf};
 ghost use Rattle.lx_compile.specs.Output.{AreTexts, IsTextOf, IsScannerText, actions_of};
 ghost use Rattle.lx_compile.specs.Parts.{HasTooLarge, IsKernelFault, IsTooLarge, StopsByKernels};
-ghost use Rattle.lx_compile.specs.Ready.{CanBeEmitted, IsReady, IsReadyPart};
+ghost use Rattle.lx_compile.specs.Emittable.{CanBeEmitted, IsEmittable, IsEmittablePart};
 
 use crate::parts::Part;
 use lx_auto::Auto;
@@ -61,7 +62,7 @@ fn scanner_text(
     scanner: &Scanner,
     resolved: &Resolved,
 ) -> Result<ByteText, Stop>
-    requires ready { IsReady enc resolved.now }
+    requires ready { IsEmittable enc resolved.now }
     requires scanner { CanBeEmitted enc resolved.now.acts scanner.now }
     ensures { MatchResult result
         (λ text. IsScannerText enc number scanner.now.set.rules (actions_of resolved.now.acts) text × ¬ IsTooLarge enc scanner.now)
@@ -106,7 +107,7 @@ fn append_block(
     at: Pos,
     resolved: &Resolved,
 ) -> Result<(), Stop>
-    requires { IsReady enc resolved.now }
+    requires { IsEmittable enc resolved.now }
     ensures { MatchResult result
         (λ _. (text : List ℕ) × IsTextOf enc number resolved.now.acts resolved.now.scanners text
         × (output.new.items ≡ output.old.items ++ text) × ¬ HasTooLarge enc resolved.now.scanners)
@@ -127,8 +128,8 @@ fn append_block(
 /// It refuses the first block with a scanner that has too many kernels, with `TooManyStates` at its opener; `Memory` may be
 /// answered, also for a piece that would have more than 2^62 statements; no clause ties it to a cause.
 pub(crate) fn emit(alloc: Global, enc: Enc, parts: &[Part]) -> Result<Vec<u8>, Stop>
-    requires ready { All (IsReadyPart enc) parts.now }
-    requires few { length parts.now ≤ 16777216 }
+    requires ready { All (IsEmittablePart enc) parts.now }
+    requires few { length parts.now ≤ SOURCE_LIMIT }
     ensures { MatchResult result
         (λ output. AreTexts enc 1 parts.now output.items × IsKernelFault enc parts.now None)
         (StopsByKernels enc parts.now) }

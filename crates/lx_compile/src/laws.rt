@@ -1,5 +1,6 @@
 //! What holds of the faults and the outputs of all sources: each law is the contract of a function with an empty body.
 ghost use Rattle.std.specs.Prelude.{◌≡◌, ℕ, ◌≤◌, List, [], ◌∷◌, ◌++◌, length, Option, Some};
+ghost use Rattle.lx_base.specs.declared.limits.TheConstants.{SOURCE_LIMIT};
 ghost use Rattle.lx_base.specs.declared.faults.Fault.{Fault};
 ghost use Rattle.lx_base.specs.declared.settings.Options.{Options};
 ghost use Rattle.lx_split.specs.Openers.{from_opener};
@@ -35,14 +36,14 @@ pub fn sources_have_one_first_fault()
 /// where no begin mark stands but at the front of a piece. So what is read back at a mark is what was emitted there: by the
 /// laws of `lx_creader` there is no other cut, and the first begin mark that is asked for is that of the first such piece.
 pub fn outputs_are_cut_as_their_sources()
-    ensures { (options : Options) (source output : List ℕ) → length source ≤ 16777216 → (is : IsOutput options source output) →
+    ensures { (options : Options) (source output : List ℕ) → length source ≤ SOURCE_LIMIT → (is : IsOutput options source output) →
         (cut : List OutputPart) × AreCut cut × (output ≡ parts_text cut) × AreOutputParts options.enc 1 is.parts cut }
 {}
 
 /// The piece of each block is found in an output by its number: its text stands where the first begin mark of that number does.
 /// Without a number the piece of the first scanner is found.
 pub fn emitted_pieces_are_found()
-    ensures { (options : Options) (source output : List ℕ) → length source ≤ 16777216 → (is : IsOutput options source output) →
+    ensures { (options : Options) (source output : List ℕ) → length source ≤ SOURCE_LIMIT → (is : IsOutput options source output) →
         (earlier : List Part) (at : Pos) (resolved : Resolved) (more : List Part) → is.parts ≡ earlier ++ Block at resolved ∷ more →
         IsFound options.enc earlier resolved output }
 {}

@@ -3,7 +3,7 @@ ghost use Rattle.std.specs.Prelude.{◌≡◌, ◌≤◌, All, IfOk, MatchResult
 ghost use Rattle.lx_rules.specs.Environments.{first_environment};
 ghost use Rattle.lx_compile.specs.Options.{ArePlain};
 ghost use Rattle.lx_compile.specs.Parts.{AreParts, StopsAmong};
-ghost use Rattle.lx_compile.specs.Ready.{IsNearPiece, IsReadyPart};
+ghost use Rattle.lx_compile.specs.Emittable.{IsNearPiece, IsEmittablePart};
 
 use crate::blocks::resolve_block;
 use crate::parts::Part;
@@ -23,7 +23,7 @@ pub(crate) fn resolve_blocks(
 ) -> Result<Sequence<Part>, Stop>
     requires plain { ArePlain options.now }
     requires near { All IsNearPiece pieces }
-    ensures ready { IfOk result (λ parts. All (IsReadyPart options.now.enc) parts) }
+    ensures ready { IfOk result (λ parts. All (IsEmittablePart options.now.enc) parts) }
     ensures few { IfOk result (λ parts. length parts ≤ length pieces) }
     ensures parts { MatchResult result
         (λ parts. AreParts options.now first_environment pieces parts)

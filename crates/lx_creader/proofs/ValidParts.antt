@@ -12,7 +12,7 @@ use Rattle.lx_ccode.specs.declared.piece.Stmt.{Stmt}
 use Rattle.lx_ccode.specs.States.{states_from}
 use Rattle.lx_ccode.specs.Statements.{all_statements}
 use Rattle.lx_ccode.specs.Validity.{AreOnce, EachBlockHasSpelling, EachHasSpelling, HasFewGroups, IsLong, IsStateSwitch, IsValid, JumpsBelow, NamesOneOf, ends_once, label_of, refills_after_states}
-use Rattle.lx_creader.specs.Fine.{IsFineBlock, IsFineCond, IsFineStatement, KeepCondRules, KeepsBlockRules, KeepsHeadRules, KeepsKindRules}
+use Rattle.lx_creader.specs.ValidParts.{IsValidBlock, IsValidCase, IsValidStatement, KeepCondRules, KeepsBlockRules, KeepsHeadRules, KeepsKindRules}
 
 all_map : {A : Type 0} {P Q : A → Type 0} → ((x : A) → P x → Q x) → (xs : List A) → AllByRecursion P xs → AllByRecursion Q xs
 all_map f [] all = tt
@@ -30,24 +30,24 @@ all_back : {A : Type 0} (P : A → Type 0) (xs ys : List A) → AllByRecursion P
 all_back P [] ys all = all
 all_back P (x ∷ xs) ys all = all_back P xs ys all.1
 
--- what holds of the statements of fine blocks
-of_statements : {P : Stmt → Type 0} (names : Spellings) (conds : List (List ℕ)) (count : ℕ) → ((s : Stmt) → IsFineStatement names conds count s → P s)
-    → (blocks : List CodeBlock) → AllByRecursion (IsFineBlock names conds count) blocks → AllByRecursion P (all_statements blocks)
-of_statements names conds count f [] fine = tt
-of_statements {P = P} names conds count f (block ∷ blocks) fine =
-    all_append P block.stmts (all_statements blocks) (all_map f block.stmts fine.0.statements) (of_statements names conds count f blocks fine.1)
+-- what holds of the statements of valid blocks
+of_statements : {P : Stmt → Type 0} (names : Spellings) (conds : List (List ℕ)) (count : ℕ) → ((s : Stmt) → IsValidStatement names conds count s → P s)
+    → (blocks : List CodeBlock) → AllByRecursion (IsValidBlock names conds count) blocks → AllByRecursion P (all_statements blocks)
+of_statements names conds count f [] valid = tt
+of_statements {P = P} names conds count f (block ∷ blocks) valid =
+    all_append P block.stmts (all_statements blocks) (all_map f block.stmts valid.0.statements) (of_statements names conds count f blocks valid.1)
 
-each_spelled : (names : Spellings) (conds : List (List ℕ)) (count : ℕ) (statements : List Stmt) → AllByRecursion (IsFineStatement names conds count) statements → EachHasSpelling names statements
-each_spelled names conds count [] fine = tt
-each_spelled names conds count (s ∷ statements) fine = (fine.0.spelled, each_spelled names conds count statements fine.1)
+each_spelled : (names : Spellings) (conds : List (List ℕ)) (count : ℕ) (statements : List Stmt) → AllByRecursion (IsValidStatement names conds count) statements → EachHasSpelling names statements
+each_spelled names conds count [] valid = tt
+each_spelled names conds count (s ∷ statements) valid = (valid.0.spelled, each_spelled names conds count statements valid.1)
 
-blocks_spelled : (names : Spellings) (conds : List (List ℕ)) (count : ℕ) (blocks : List CodeBlock) → AllByRecursion (IsFineBlock names conds count) blocks → EachBlockHasSpelling names blocks
-blocks_spelled names conds count [] fine = tt
-blocks_spelled names conds count (block ∷ blocks) fine =
-    ((fine.0.some, fine.0.label, each_spelled names conds count block.stmts fine.0.statements), blocks_spelled names conds count blocks fine.1)
+blocks_spelled : (names : Spellings) (conds : List (List ℕ)) (count : ℕ) (blocks : List CodeBlock) → AllByRecursion (IsValidBlock names conds count) blocks → EachBlockHasSpelling names blocks
+blocks_spelled names conds count [] valid = tt
+blocks_spelled names conds count (block ∷ blocks) valid =
+    ((valid.0.some, valid.0.label, each_spelled names conds count block.stmts valid.0.statements), blocks_spelled names conds count blocks valid.1)
 
 fine_statements : (names : Spellings) (conds : List (List ℕ)) (count : ℕ) (statements : List Stmt) → AllByRecursion (JumpsBelow count) statements
-    → AllByRecursion (NamesOneOf conds) statements → AllByRecursion HasFewGroups statements → EachHasSpelling names statements → AllByRecursion (IsFineStatement names conds count) statements
+    → AllByRecursion (NamesOneOf conds) statements → AllByRecursion HasFewGroups statements → EachHasSpelling names statements → AllByRecursion (IsValidStatement names conds count) statements
 fine_statements names conds count [] jumps named groups spelled = tt
 fine_statements names conds count (s ∷ statements) jumps named groups spelled =
     (record { jumps = jumps.0; named = named.0; groups = groups.0; spelled = spelled.0 }, fine_statements names conds count statements jumps.1 named.1 groups.1 spelled.1)
@@ -55,7 +55,7 @@ fine_statements names conds count (s ∷ statements) jumps named groups spelled 
 fine_blocks : (names : Spellings) (conds : List (List ℕ)) (count : ℕ) (blocks : List CodeBlock) → AllByRecursion (JumpsBelow count) (all_statements blocks)
     → AllByRecursion (NamesOneOf conds) (all_statements blocks) → AllByRecursion HasFewGroups (all_statements blocks) → EachBlockHasSpelling names blocks
     → AllByRecursion (λ (block : CodeBlock). ends_once block.stmts ≡ true) blocks → AllByRecursion (λ (block : CodeBlock). refills_after_states block.stmts ≡ true) blocks
-    → AllByRecursion (IsFineBlock names conds count) blocks
+    → AllByRecursion (IsValidBlock names conds count) blocks
 fine_blocks names conds count [] jumps named groups spelled ends after = tt
 fine_blocks names conds count (block ∷ blocks) jumps named groups spelled ends after =
     let rest = all_statements blocks in (
@@ -72,7 +72,7 @@ fine_blocks names conds count (block ∷ blocks) jumps named groups spelled ends
     )
 
 fine_conds : (blocks : List CodeBlock) (conds : List CondCase) → AllByRecursion (λ (case : CondCase). IsIdentifier case.cond × IsLong case.block) conds
-    → AllByRecursion (λ (case : CondCase). label_of blocks case.block ≡ Some case.cond) conds → AllByRecursion (IsFineCond blocks) conds
+    → AllByRecursion (λ (case : CondCase). label_of blocks case.block ≡ Some case.cond) conds → AllByRecursion (IsValidCase blocks) conds
 fine_conds blocks [] range starts = tt
 fine_conds blocks (case ∷ conds) range starts =
     (record { identifier = range.0.0; long = range.0.1; start = starts.0 }, fine_conds blocks conds range.1 starts.1)
@@ -82,7 +82,7 @@ names_of conds = map (λ case. case.cond) conds
 
 pub IsValid-from : (piece : Piece) → AreOnce (states_from 0 piece.blocks) → IfSome piece.states (IsStateSwitch piece.blocks) → KeepsHeadRules piece
     → KeepCondRules piece.blocks piece.conds → KeepsBlockRules piece.names (names_of piece.conds) piece.blocks → KeepsKindRules piece.ctx piece.blocks → IsValid piece
-IsValid-from piece once switch head conds fine kinds =
+IsValid-from piece once switch head conds valid kinds =
     let names = piece.names in
     let words = names_of piece.conds in
     let count = length piece.blocks in
@@ -91,29 +91,29 @@ IsValid-from piece once switch head conds fine kinds =
         number = head.number;
         line = head.line;
         states = head.states;
-        conds = all_map {P = IsFineCond piece.blocks} (λ case fine. (fine.identifier, fine.long)) piece.conds conds.fine;
+        conds = all_map {P = IsValidCase piece.blocks} (λ case valid. (valid.identifier, valid.long)) piece.conds conds.valid;
       };
       unit = head.unit.size;
       eof = head.unit.fits;
-      blocks = fine.some;
-      statements = fine.countable;
-      jumps = of_statements names words count (λ s fine. fine.jumps) piece.blocks fine.fine;
-      ends = all_map {P = IsFineBlock names words count} (λ block fine. fine.ends) piece.blocks fine.fine;
+      blocks = valid.some;
+      statements = valid.countable;
+      jumps = of_statements names words count (λ s valid. valid.jumps) piece.blocks valid.valid;
+      ends = all_map {P = IsValidBlock names words count} (λ block valid. valid.ends) piece.blocks valid.valid;
       one_refill = kinds.one_refill;
       states_differ = once;
-      after_states = all_map {P = IsFineBlock names words count} (λ block fine. fine.after_states) piece.blocks fine.fine;
+      after_states = all_map {P = IsValidBlock names words count} (λ block valid. valid.after_states) piece.blocks valid.valid;
       before_refills = kinds.before_refills;
       next_block = kinds.next_block;
       state_switch = switch;
       conds = conds.labels;
       conds_differ = subst (λ (l : List (List ℕ)). AreDistinct l) conds.labels conds.differ;
-      cond_switch = all_map {P = IsFineCond piece.blocks} (λ case fine. fine.start) piece.conds conds.fine;
-      conds_named = subst (λ (l : List (List ℕ)). AllByRecursion (NamesOneOf l) (all_statements piece.blocks)) conds.labels (of_statements names words count (λ s fine. fine.named) piece.blocks fine.fine);
-      groups = of_statements names words count (λ s fine. fine.groups) piece.blocks fine.fine;
+      cond_switch = all_map {P = IsValidCase piece.blocks} (λ case valid. valid.start) piece.conds conds.valid;
+      conds_named = subst (λ (l : List (List ℕ)). AllByRecursion (NamesOneOf l) (all_statements piece.blocks)) conds.labels (of_statements names words count (λ s valid. valid.named) piece.blocks valid.valid);
+      groups = of_statements names words count (λ s valid. valid.groups) piece.blocks valid.valid;
       ctx = kinds.context;
       names = head.names;
       names_differ = head.names_differ;
-      spelled = blocks_spelled names words count piece.blocks fine.fine;
+      spelled = blocks_spelled names words count piece.blocks valid.valid;
     }
 
 pub head_of : (piece : Piece) → IsValid piece → KeepsHeadRules piece
@@ -130,29 +130,29 @@ pub conds_of : (piece : Piece) → IsValid piece → KeepCondRules piece.blocks 
 conds_of piece valid = record {
   labels = valid.conds;
   differ = subst (λ (l : List (List ℕ)). AreDistinct l) (sym valid.conds) valid.conds_differ;
-  fine = fine_conds piece.blocks piece.conds valid.range.conds valid.cond_switch;
+  valid = fine_conds piece.blocks piece.conds valid.range.conds valid.cond_switch;
 }
 
 pub blocks_of : (piece : Piece) → IsValid piece → KeepsBlockRules piece.names (names_of piece.conds) piece.blocks
 blocks_of piece valid = record {
   some = valid.blocks;
   countable = valid.statements;
-  fine = fine_blocks piece.names (names_of piece.conds) (length piece.blocks) piece.blocks valid.jumps
+  valid = fine_blocks piece.names (names_of piece.conds) (length piece.blocks) piece.blocks valid.jumps
       (subst (λ (l : List (List ℕ)). AllByRecursion (NamesOneOf l) (all_statements piece.blocks)) (sym valid.conds) valid.conds_named) valid.groups valid.spelled valid.ends valid.after_states;
 }
 
 pub kinds_of : (piece : Piece) → IsValid piece → KeepsKindRules piece.ctx piece.blocks
 kinds_of piece valid = record { one_refill = valid.one_refill; before_refills = valid.before_refills; next_block = valid.next_block; context = valid.ctx }
 
-pub IsValid-decides : (piece : Piece) (blocks : List CodeBlock) (conds : List CondCase) (head named fine kinds all : Bool) → blocks ≡ piece.blocks → conds ≡ piece.conds
+pub IsValid-decides : (piece : Piece) (blocks : List CodeBlock) (conds : List CondCase) (head named valid kinds all : Bool) → blocks ≡ piece.blocks → conds ≡ piece.conds
     → AreOnce (states_from 0 blocks) × IfSome piece.states (IsStateSwitch blocks) → IsTrue head ↔ KeepsHeadRules piece → IsTrue named ↔ KeepCondRules blocks conds
-    → IsTrue fine ↔ KeepsBlockRules piece.names (names_of conds) blocks → IsTrue kinds ↔ KeepsKindRules piece.ctx blocks
-    → IsTrue all ↔ (IsTrue head × IsTrue named × IsTrue fine × IsTrue kinds) → IsTrue all ↔ IsValid piece
-IsValid-decides piece blocks conds head named fine kinds all blocks_is conds_is states head_is named_is fine_is kinds_is all_is =
+    → IsTrue valid ↔ KeepsBlockRules piece.names (names_of conds) blocks → IsTrue kinds ↔ KeepsKindRules piece.ctx blocks
+    → IsTrue all ↔ (IsTrue head × IsTrue named × IsTrue valid × IsTrue kinds) → IsTrue all ↔ IsValid piece
+IsValid-decides piece blocks conds head named valid kinds all blocks_is conds_is states head_is named_is fine_is kinds_is all_is =
     let states = subst (λ (b : List CodeBlock). AreOnce (states_from 0 b) × IfSome piece.states (IsStateSwitch b)) blocks_is states in
     let named_is = subst (λ (c : List CondCase). IsTrue named ↔ KeepCondRules piece.blocks c) conds_is (subst (λ (b : List CodeBlock). IsTrue named ↔ KeepCondRules b conds) blocks_is named_is) in
-    let fine_is = subst (λ (c : List CondCase). IsTrue fine ↔ KeepsBlockRules piece.names (names_of c) piece.blocks) conds_is
-    (subst (λ (b : List CodeBlock). IsTrue fine ↔ KeepsBlockRules piece.names (names_of conds) b) blocks_is fine_is) in
+    let fine_is = subst (λ (c : List CondCase). IsTrue valid ↔ KeepsBlockRules piece.names (names_of c) piece.blocks) conds_is
+    (subst (λ (b : List CodeBlock). IsTrue valid ↔ KeepsBlockRules piece.names (names_of conds) b) blocks_is fine_is) in
     let kinds_is = subst (λ (b : List CodeBlock). IsTrue kinds ↔ KeepsKindRules piece.ctx b) blocks_is kinds_is in (
       λ e. let each = all_is.0 e in IsValid-from piece states.0 states.1 (head_is.0 each.0) (named_is.0 each.1) (fine_is.0 each.2) (kinds_is.0 each.3),
       λ valid. all_is.1 (head_is.1 (head_of piece valid), named_is.1 (conds_of piece valid), fine_is.1 (blocks_of piece valid), kinds_is.1 (kinds_of piece valid)),

@@ -1,5 +1,5 @@
 pub mod Cut
-pub mod Fine
+pub mod ValidParts
 pub mod Fitted
 pub mod Marks
 pub mod Refusals

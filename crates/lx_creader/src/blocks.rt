@@ -6,8 +6,7 @@ ghost use Rattle.lx_creader.specs.Fitted.{fitted_block, fitted_statement};
 
 use crate::lines::{Scope, begins_statement};
 use crate::words::{after_identifier, byte_at, front_identifier, skip};
-use lx_base::names;
-use lx_base::{ByteText, Memory, Sequence};
+use lx_base::{ByteText, Memory, Sequence, names};
 use lx_ccode::{CodeBlock, Stmt};
 
 impl Scope<'_> {

@@ -3,7 +3,7 @@ ghost use Rattle.std.specs.Prelude.{◌≡◌, ◌↔◌, Some, IfOk, IsTrue, Ma
 ghost use Rattle.std.specs.List.{AllByRecursion};
 ghost use Rattle.lx_base.specs.Names.{AreDistinct};
 ghost use Rattle.lx_ccode.specs.Validity.{label_of, labels};
-ghost use Rattle.lx_creader.specs.Fine.{IsFineCond, KeepCondRules};
+ghost use Rattle.lx_creader.specs.ValidParts.{IsValidCase, KeepCondRules};
 
 use crate::names::NameSet;
 use crate::statements::is_long;
@@ -57,8 +57,8 @@ fn is_start(blocks: &[CodeBlock], case: &CondCase) -> bool
     }
 }
 
-fn is_fine_cond(blocks: &[CodeBlock], case: &CondCase) -> bool
-    ensures { IsTrue result ↔ IsFineCond blocks.now case.now }
+fn is_valid_case(blocks: &[CodeBlock], case: &CondCase) -> bool
+    ensures { IsTrue result ↔ IsValidCase blocks.now case.now }
 {
     let identifier = is_identifier(case.cond.as_slice());
     let long = is_long(case.block);
@@ -66,11 +66,11 @@ fn is_fine_cond(blocks: &[CodeBlock], case: &CondCase) -> bool
     identifier && long && start
 }
 
-fn are_fine_conds(blocks: &[CodeBlock], conds: &[CondCase]) -> bool
-    ensures { IsTrue result ↔ AllByRecursion (IsFineCond blocks.now) conds.now }
+fn are_valid_cases(blocks: &[CodeBlock], conds: &[CondCase]) -> bool
+    ensures { IsTrue result ↔ AllByRecursion (IsValidCase blocks.now) conds.now }
 {
     for case in conds {
-        if !is_fine_cond(blocks, case) {
+        if !is_valid_case(blocks, case) {
             return false;
         }
     }
@@ -83,6 +83,6 @@ pub(crate) fn keep_cond_rules(blocks: &[CodeBlock], conds: &[CondCase]) -> bool
     ensures { IsTrue result ↔ KeepCondRules blocks.now conds.now }
 {
     let labels = are_labels(conds, blocks);
-    let fine = are_fine_conds(blocks, conds);
-    labels && fine
+    let valid = are_valid_cases(blocks, conds);
+    labels && valid
 }

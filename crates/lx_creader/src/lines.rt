@@ -1,6 +1,6 @@
 //! Reads the lines of statements.
 ghost use Rattle.std.specs.Prelude.{◌≡◌, Option, drop, reverse, min, IfOk};
-ghost use Rattle.lx_base.specs.Letters.{after_letters};
+ghost use Rattle.lx_base.specs.Letters.{after_letters, is_in_identifier};
 ghost use Rattle.lx_ccode.specs.declared.piece.LineMark.{LineMark};
 ghost use Rattle.lx_ccode.specs.Reading.{argument, assigned, begins_statement, callee, called, code_at, goto_at, history_of, if_at, is_context_marker, register_assigned, register_of, statement_at};
 ghost use Rattle.lx_creader.specs.Fitted.{fitted_line, fitted_statement};
@@ -8,8 +8,8 @@ ghost use Rattle.lx_creader.specs.Fitted.{fitted_line, fitted_statement};
 use crate::marks::{block_at, goto_block, goto_tail, mark_at};
 use crate::words::{
     after_digits, after_hexadecimal, after_identifier, after_spelling, byte_at, count_at,
-    front_identifier, front_spelling, hexadecimal_at, long_at, long_of, short_at,
-    short_of, skip, taken,
+    front_identifier, front_spelling, hexadecimal_at, long_at, long_of, short_at, short_of, skip,
+    taken,
 };
 use lx_base::letters::{begins_with, equal_words, is_digit, is_in_identifier};
 use lx_base::names::{self, is_history_register, is_register};

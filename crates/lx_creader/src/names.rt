@@ -40,7 +40,7 @@ impl NameSet {
         self.names.contains(name)
     }
 
-    /// Puts a name behind the others, if it is none of them, and says whether it did.
+    /// Appends a name to the others, if it is none of them, and says whether it did.
     pub(crate) fn add(&mut self, alloc: Global, name: &[u8]) -> Result<bool, Memory>
         ensures { IfOk result (λ new. MatchBool new
             ((list_any (equal_words name.now) self.old ≡ false) × (self.new ≡ self.old ++ name.now ∷ []))

@@ -4,7 +4,7 @@ ghost use Rattle.std.specs.List.{AllByRecursion, list_any};
 ghost use Rattle.lx_ccode.specs.States.{try_first};
 ghost use Rattle.lx_ccode.specs.Statements.{all_statements, has_register_one, is_need, is_state, is_try, statement_count};
 ghost use Rattle.lx_ccode.specs.Validity.{IsLabel, ends_once, last_statements, refill_first, refills_after_states, states_before_refills, tries_after_state};
-ghost use Rattle.lx_creader.specs.Fine.{IsFineBlock, IsFineStatement};
+ghost use Rattle.lx_creader.specs.ValidParts.{IsValidBlock, IsValidStatement};
 
 use crate::names::NameSet;
 use crate::statements::{
@@ -25,8 +25,8 @@ pub(crate) struct Rules<'a> {
 }
 
 impl Rules<'_> {
-    fn is_fine_statement(&self, statement: &Stmt) -> bool
-        ensures { IsTrue result ↔ IsFineStatement self.now.names.now self.now.conds.now self.now.blocks statement.now }
+    fn is_valid_statement(&self, statement: &Stmt) -> bool
+        ensures { IsTrue result ↔ IsValidStatement self.now.names.now self.now.conds.now self.now.blocks statement.now }
     {
         let jumps = jumps_below(self.blocks, statement);
         let conds = names_one_of(self.conds, statement);
@@ -35,35 +35,35 @@ impl Rules<'_> {
         jumps && conds && groups && spelled
     }
 
-    fn are_fine_statements(&self, statements: &[Stmt]) -> bool
-        ensures { IsTrue result ↔ AllByRecursion (IsFineStatement self.now.names.now self.now.conds.now self.now.blocks) statements.now }
+    fn are_valid_statements(&self, statements: &[Stmt]) -> bool
+        ensures { IsTrue result ↔ AllByRecursion (IsValidStatement self.now.names.now self.now.conds.now self.now.blocks) statements.now }
     {
         for statement in statements {
-            if !self.is_fine_statement(statement) {
+            if !self.is_valid_statement(statement) {
                 return false;
             }
         }
         true
     }
 
-    fn is_fine_block(&self, block: &CodeBlock) -> bool
-        ensures { IsTrue result ↔ IsFineBlock self.now.names.now self.now.conds.now self.now.blocks block.now }
+    fn is_valid_block(&self, block: &CodeBlock) -> bool
+        ensures { IsTrue result ↔ IsValidBlock self.now.names.now self.now.conds.now self.now.blocks block.now }
     {
         let statements = block.stmts.as_slice();
         let some = !statements.is_empty();
         let label = is_label(&block.cond);
         let ends = ends_once(statements);
         let after_states = refills_after_states(statements);
-        let fine = self.are_fine_statements(statements);
-        some && label && ends && after_states && fine
+        let valid = self.are_valid_statements(statements);
+        some && label && ends && after_states && valid
     }
 
     /// Whether each block keeps the rules that speak of one block or of its statements.
-    pub(crate) fn are_fine_blocks(&self, blocks: &[CodeBlock]) -> bool
-        ensures { IsTrue result ↔ AllByRecursion (IsFineBlock self.now.names.now self.now.conds.now self.now.blocks) blocks.now }
+    pub(crate) fn are_valid_blocks(&self, blocks: &[CodeBlock]) -> bool
+        ensures { IsTrue result ↔ AllByRecursion (IsValidBlock self.now.names.now self.now.conds.now self.now.blocks) blocks.now }
     {
         for block in blocks {
-            if !self.is_fine_block(block) {
+            if !self.is_valid_block(block) {
                 return false;
             }
         }
@@ -208,19 +208,4 @@ pub(crate) fn kinds_in(blocks: &[CodeBlock]) -> Kinds
         kinds = kinds_of(kinds, block.stmts.as_slice());
     }
     kinds
-}
-
-/// Whether there are at most 2^62 statements.
-pub(crate) fn are_countable(blocks: &[CodeBlock]) -> bool
-    ensures { IsTrue result ↔ (statement_count blocks.now ≤ 4611686018427387904) }
-{
-    let mut left: u64 = 4_611_686_018_427_387_904;
-    for block in blocks {
-        let count = block.stmts.as_slice().len() as u64;
-        if count > left {
-            return false;
-        }
-        left -= count;
-    }
-    true
 }

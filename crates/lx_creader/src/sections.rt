@@ -10,8 +10,7 @@ use crate::words::{
     front_identifier, long_at, short_at, skip, taken,
 };
 use lx_base::letters::is_digit;
-use lx_base::names;
-use lx_base::{ByteText, Memory, Names, Sequence};
+use lx_base::{ByteText, Memory, Names, Sequence, names};
 use lx_ccode::{CondCase, StateCase};
 use std::alloc::Global;
 

@@ -2,16 +2,16 @@
 ghost use Rattle.std.specs.Prelude.{◌≡◌, ◌<◌, ◌^◌, ◌*◌, ◌↔◌, ◌⊎◌, IsTrue, IfOk, IfSome};
 ghost use Rattle.std.specs.List.{AllByRecursion};
 ghost use Rattle.lx_ccode.specs.Validity.{IsLong, IsValid};
-ghost use Rattle.lx_creader.specs.Fine.{HasUnit, KeepsBlockRules, KeepsHeadRules, KeepsKindRules};
+ghost use Rattle.lx_creader.specs.ValidParts.{HasUnit, KeepsBlockRules, KeepsHeadRules, KeepsKindRules};
 
 use crate::conds::{distinct_conds, keep_cond_rules};
 use crate::names::NameSet;
-use crate::rules::{Rules, are_countable, blocks_store_states, kinds_in, last_tries_after_state};
+use crate::rules::{Rules, blocks_store_states, kinds_in, last_tries_after_state};
 use crate::statements::{is_line, is_long, is_short};
 use crate::states::keep_state_rules;
 use lx_base::names::{are_allowed, do_not_clash};
 use lx_base::{Memory, Names, Sequence};
-use lx_ccode::{CodeBlock, Piece, StateCase};
+use lx_ccode::{CodeBlock, Piece, StateCase, count_statements};
 use std::alloc::Global;
 
 /// Whether a unit has one, two or four bytes, and the unit at the buffer's end is one.
@@ -70,9 +70,9 @@ fn keep_block_rules(names: &Names, conds: &NameSet, blocks: &[CodeBlock]) -> boo
         blocks: blocks.len(),
     };
     let some = !blocks.is_empty();
-    let countable = are_countable(blocks);
-    let fine = rules.are_fine_blocks(blocks);
-    some && countable && fine
+    let countable = count_statements(blocks).is_some();
+    let valid = rules.are_valid_blocks(blocks);
+    some && countable && valid
 }
 
 fn keep_kind_rules(ctx: bool, blocks: &[CodeBlock]) -> bool
@@ -102,13 +102,13 @@ pub(crate) fn is_valid(alloc: Global, piece: &Piece) -> Result<bool, Memory>
     };
     let head = keeps_head_rules(piece);
     let named = keep_cond_rules(blocks, conds);
-    let fine = keep_block_rules(&piece.names, &names, blocks);
+    let valid = keep_block_rules(&piece.names, &names, blocks);
     let kinds = keep_kind_rules(piece.ctx, blocks);
-    Ok(keep_all(head, named, fine, kinds))
+    Ok(keep_all(head, named, valid, kinds))
 }
 
-fn keep_all(head: bool, named: bool, fine: bool, kinds: bool) -> bool
-    ensures { IsTrue result ↔ (IsTrue head × IsTrue named × IsTrue fine × IsTrue kinds) }
+fn keep_all(head: bool, named: bool, valid: bool, kinds: bool) -> bool
+    ensures { IsTrue result ↔ (IsTrue head × IsTrue named × IsTrue valid × IsTrue kinds) }
 {
-    head && named && fine && kinds
+    head && named && valid && kinds
 }

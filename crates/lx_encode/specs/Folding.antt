@@ -8,7 +8,7 @@ use Rattle.lx_encode.specs.Table.{Rows, row_of}
 use Rattle.lx_encode.specs.Layers.{IsBlock}
 
 -- closed blocks lie before the block that is not closed, and all lead to rows of the table
-pub record IsReady (folding : Folding) (rows : Rows) : Type 0 where
+pub record IsWithinTable (folding : Folding) (rows : Rows) : Type 0 where
   pub closed : IsRow folding.closed.items
   pub passed : (block residual : ℕ) → LeadsTo folding.closed.items block residual → block < folding.block
   pub within : LeadBelow folding.closed.items (length rows)

@@ -112,7 +112,7 @@ fn utf8_start(alloc: Global, table: &mut Table, points: &[Run]) -> Result<u32, M
     Ok(start)
 }
 
-/// Puts a start at the end, unless it is 0.
+/// Appends a start, unless it is 0.
 fn push_start(starts: &mut Vec<Residual>, start: u32) -> Result<(), Memory>
     ensures { OnOk result (starts.new.items ≡ starts.old.items ++ started start) }
 {

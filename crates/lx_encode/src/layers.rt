@@ -4,7 +4,7 @@ ghost use Rattle.std.specs.Prelude.{◌≡◌, ℕ, ◌+◌, ◌*◌, ◌/◌, �
 ghost use Rattle.lx_encode.specs.Runs.{AreSorted, IsRow, LeadBelow, LeadsTo};
 ghost use Rattle.lx_encode.specs.Table.{GrowsBy, Rows};
 ghost use Rattle.lx_encode.specs.Layers.{AreBlocks, AreParts, IsPart};
-ghost use Rattle.lx_encode.specs.Folding.{IsFolding, IsReady};
+ghost use Rattle.lx_encode.specs.Folding.{IsFolding, IsWithinTable};
 ghost use Rattle.lx_encode.specs.declared.runs.Run.{Run};
 ghost use Rattle.lx_encode.specs.declared.layers.Layer.{Layer};
 
@@ -22,7 +22,7 @@ pub struct Layer {
     pub offset: u32,
 }
 
-/// Puts a run at the end, which begins behind those that are there.
+/// Appends a run, which begins behind those that are there.
 fn push_part(parts: &mut Vec<Run>, radix: u32, part: Run) -> Result<(), Memory>
     requires sorted { AreSorted parts.old.items }
     requires parts { AreParts radix parts.old.items }
@@ -39,7 +39,7 @@ fn push_part(parts: &mut Vec<Run>, radix: u32, part: Run) -> Result<(), Memory>
     Ok(())
 }
 
-/// Puts a run at the end that begins where a block does, cut before its last block.
+/// Appends a run that begins where a block does, cut before its last block.
 fn push_blocks(parts: &mut Vec<Run>, radix: u32, run: Run) -> Result<(), Memory>
     requires radix { 2 ≤ radix }
     requires border { run.lo % radix ≡ 0 }
@@ -73,7 +73,7 @@ fn push_blocks(parts: &mut Vec<Run>, radix: u32, run: Run) -> Result<(), Memory>
     Ok(())
 }
 
-/// Puts a run at the end, cut behind its first block and before its last.
+/// Appends a run, cut behind its first block and before its last.
 fn push_parts(parts: &mut Vec<Run>, radix: u32, run: Run) -> Result<(), Memory>
     requires radix { 2 ≤ radix }
     requires sorted { AreSorted parts.old.items }
@@ -134,11 +134,11 @@ pub struct Folding {
 impl Folding {
     /// Closes the block, unless it is the one to go on with.
     fn advance(&mut self, alloc: Global, table: &mut Table, block: u32) -> Result<(), Memory>
-        requires ready { IsReady self.old table.old }
+        requires ready { IsWithinTable self.old table.old }
         requires room { length table.old < 2 ^ 31 }
         requires later { self.old.block ≤ block }
         requires bounded { block ≤ MAX_POINT }
-        ensures ready { OnOk result (IsReady self.new table.new) }
+        ensures ready { OnOk result (IsWithinTable self.new table.new) }
         ensures grows { OnOk result (GrowsBy table.old table.new 1) }
         ensures block { OnOk result (self.new.block ≡ block) }
         ensures behind { OnOk result ((unit target : ℕ) → LeadsTo self.new.row.items unit target →
@@ -165,7 +165,7 @@ impl Folding {
         Ok(())
     }
 
-    /// Puts whole blocks behind those that are there.
+    /// Appends whole blocks to those that are there.
     fn put_blocks(
         &mut self,
         alloc: Global,
@@ -175,7 +175,7 @@ impl Folding {
     ) -> Result<(), Memory>
         requires radix { 2 ≤ layer.radix }
         requires offset { layer.offset + layer.radix ≤ MAX_POINT }
-        requires ready { IsReady self.old table.old }
+        requires ready { IsWithinTable self.old table.old }
         requires room { length table.old < 2 ^ 31 }
         requires ordered { part.lo ≤ part.hi }
         requires bounded { part.hi ≤ MAX_POINT }
@@ -183,7 +183,7 @@ impl Folding {
         requires here { self.old.block ≡ part.lo / layer.radix }
         requires first { part.lo % layer.radix ≡ 0 }
         requires last { part.hi % layer.radix + 1 ≡ layer.radix }
-        ensures ready { OnOk result (IsReady self.new table.new) }
+        ensures ready { OnOk result (IsWithinTable self.new table.new) }
         ensures grows { OnOk result (GrowsBy table.old table.new 1) }
         ensures block { OnOk result (self.new.block ≡ part.hi / layer.radix + 1) }
         ensures folded { OnOk result ((runs : List Run) →
@@ -207,7 +207,7 @@ impl Folding {
         Ok(())
     }
 
-    /// Puts numbers of one block behind those that are there.
+    /// Appends numbers of one block to those that are there.
     fn put_within(&mut self, layer: Layer, part: Run) -> Result<(), Memory>
         requires radix { 2 ≤ layer.radix }
         requires offset { layer.offset + layer.radix ≤ MAX_POINT }
@@ -235,7 +235,7 @@ impl Folding {
         Ok(())
     }
 
-    /// Puts a part behind those that are there.
+    /// Appends a part to those that are there.
     fn put(
         &mut self,
         alloc: Global,
@@ -245,7 +245,7 @@ impl Folding {
     ) -> Result<(), Memory>
         requires radix { 2 ≤ layer.radix }
         requires offset { layer.offset + layer.radix ≤ MAX_POINT }
-        requires ready { IsReady self.old table.old }
+        requires ready { IsWithinTable self.old table.old }
         requires room { length table.old < 2 ^ 30 }
         requires ordered { part.lo ≤ part.hi }
         requires bounded { part.hi ≤ MAX_POINT }
@@ -254,7 +254,7 @@ impl Folding {
         requires later { self.old.block ≤ part.lo / layer.radix }
         requires behind { (unit target : ℕ) → LeadsTo self.old.row.items unit target →
             self.old.block ≡ part.lo / layer.radix → unit < layer.offset + part.lo % layer.radix }
-        ensures ready { OnOk result (IsReady self.new table.new) }
+        ensures ready { OnOk result (IsWithinTable self.new table.new) }
         ensures grows { OnOk result (GrowsBy table.old table.new 2) }
         ensures later { OnOk result ((number : ℕ) → part.hi < number → self.new.block ≤ number / layer.radix) }
         ensures folded { OnOk result ((runs : List Run) →

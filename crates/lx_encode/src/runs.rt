@@ -32,7 +32,7 @@ impl Hash for Run {
     }
 }
 
-/// Puts a run at the end, which begins behind those that are there. One that touches the last run and
+/// Appends a run, which begins behind those that are there. One that touches the last run and
 /// leads to the same target is joined to it.
 pub(crate) fn append_run(row: &mut Vec<Run>, run: Run) -> Result<(), Memory>
     requires row { IsRow row.old.items }
@@ -58,7 +58,7 @@ pub(crate) fn append_run(row: &mut Vec<Run>, run: Run) -> Result<(), Memory>
     Ok(())
 }
 
-/// Puts the numbers from `from` to `to` at the end, counted on from `unit`.
+/// Appends the numbers from `from` to `to`, counted on from `unit`.
 pub(crate) fn append_shifted(
     row: &mut Vec<Run>,
     runs: &[Run],

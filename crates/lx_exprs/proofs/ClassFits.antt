@@ -1,5 +1,6 @@
 -- Terms whose classes fit the encoding.
 use Rattle.std.proofs.Common.{◌≡◌, ℕ, ◌+◌, ◌-◌, ◌≤◌, ◌⊎◌, inl, inr, ⊎_elim, Bool, true, false, List, [], ◌∷◌, ◌++◌, map, Option, None, Some, refl, arith}
+use Rattle.lx_regex.specs.ClassLimits.{ClassesFit, ClassesFitAmong}
 use Rattle.lx_base.specs.Letters.{is_within}
 use Rattle.lx_base.specs.Spelling.{greatest_point}
 use Rattle.lx_base.specs.declared.settings.EmptyPolicy.{EmptyPolicy}
@@ -18,7 +19,7 @@ use Rattle.lx_exprs.specs.Checks.{IsIn, both_cases}
 use Rattle.lx_exprs.specs.Defined.{both_classes, class_in, classes_in}
 use Rattle.lx_exprs.specs.Meanings.{character_set, class_term, set_term, shifted, shifted_all, string_term}
 use Rattle.lx_exprs.specs.Points.{singles}
-use Rattle.lx_exprs.specs.Within.{ClassesFit, ClassesFitAmong, IsPlain, ArePlain}
+use Rattle.lx_exprs.specs.Within.{IsPlain, ArePlain}
 use Rattle.lx_exprs.proofs.ClassForms.{cases_of, character_after, in_ranges_of}
 
 module _ (enc : Enc) where

@@ -23,7 +23,7 @@ use Rattle.lx_forms.specs.Lexemes.{Lexeme, points_in}
 use Rattle.lx_exprs.specs.Points.{replaced, singles}
 use Rattle.lx_exprs.specs.Defined.{Definition, Meaning, Shape, one, both_classes, class_in, classes_in, definition_of, meant_class, whole}
 use Rattle.lx_exprs.specs.Meanings.{IsClassMeaning, IsLeafMeaning, IsMeaning, character_set, copied, shifted, shifted_all, string_term, term_or_empty}
-use Rattle.lx_exprs.specs.Checks.{Check, Checks, HasPoint, IsFilled, IsIn, LeafHas, Then, are_groups, both_cases, defined_points, group_fault, is_class, leaf_is_class, tags_of, waits}
+use Rattle.lx_exprs.specs.Checks.{Check, Checks, HasPoint, IsFilled, IsIn, LeafHas, Then, are_groups, both_cases, defined_points, group_fault, is_class, leaf_is_class, tags_of, unsupported}
 use Rattle.lx_forms.specs.Forms.{Form, leaf, group, repeated, sequence, difference, alternative}
 use Rattle.lx_exprs.proofs.ClassUnions.{class_in-choice}
 
@@ -254,7 +254,7 @@ module _ (options : Options) (definitions : List Definition) where
   no_groups : (opening : Lexeme) → None ≡ group_fault options definitions opening → are_groups options definitions ≡ false
   no_groups opening found = at (are_groups options definitions) found
     where
-      at : (b : Bool) → None ≡ (if b then waits opening else None) → b ≡ false
+      at : (b : Bool) → None ≡ (if b then unsupported opening else None) → b ≡ false
       at true found = absurd (let h : None ≡ Some (Unsupported (Some opening.at)) = found in cc)
       at false found = refl
 

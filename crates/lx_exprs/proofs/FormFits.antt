@@ -23,15 +23,15 @@ use Rattle.lx_exprs.proofs.PointSets.{points_taken}
 
 module _ (options : Options) (definitions : List Definition) (ready : AreDefinedWithin options.enc definitions) where
   -- a meaning is as is asked, and has the tags of its form
-  abbrev pub IsReady : (seen : List (List ℕ)) → (tags : List (List ℕ)) → Meaning → Type 0
-  IsReady seen tags meaning = IsMeantWithin options.enc (length seen) meaning × (meaning.tags ≡ tags)
+  abbrev pub IsMeantWithTags : (seen : List (List ℕ)) → (tags : List (List ℕ)) → Meaning → Type 0
+  IsMeantWithTags seen tags meaning = IsMeantWithin options.enc (length seen) meaning × (meaning.tags ≡ tags)
 
   string_ready : (is_caseless : Bool) (seen : List (List ℕ)) (lexeme : Lexeme) (meaning : Meaning)
       → PointsAre options definitions lexeme (singles (points_in lexeme)) None
-      → meaning ≡ meaning_of_string options definitions is_caseless (length seen) lexeme → IsReady seen [] meaning
+      → meaning ≡ meaning_of_string options definitions is_caseless (length seen) lexeme → IsMeantWithTags seen [] meaning
   string_ready is_caseless seen lexeme meaning checked is =
       let fit = (points_taken options.enc options.surrogates lexeme.at (singles (points_in lexeme)) (sym checked)).0 in
-      subst (IsReady seen []) (sym is) (
+      subst (IsMeantWithTags seen []) (sym is) (
         string_within options.enc (length seen) (map (character_set options.surrogates is_caseless) (points_in lexeme))
             (string_plain options.enc options.surrogates is_caseless (points_in lexeme) fit),
         refl,
@@ -39,9 +39,9 @@ module _ (options : Options) (definitions : List Definition) (ready : AreDefined
 
   class_ready : (operand : Bool) (nesting : ℕ) (seen tags : List (List ℕ)) (count : ℕ) (Has : ℕ → Type 0) (meaning : Meaning)
       → IsClassMeaning options definitions operand nesting tags count Has meaning → ((point : ℕ) → Has point → point ≤ greatest_point options.enc)
-      → tags ≡ [] → count ≡ length seen → IsReady seen tags meaning
+      → tags ≡ [] → count ≡ length seen → IsMeantWithTags seen tags meaning
   class_ready operand nesting seen tags count Has meaning is fit none same =
-      subst (IsReady seen tags) (sym is.2) (
+      subst (IsMeantWithTags seen tags) (sym is.2) (
         class_within options.enc operand options.empty nesting tags count (length seen) is.0 (λ point inside. fit point ((is.1.points point).0 inside))
             none same,
         refl,
@@ -54,7 +54,7 @@ module _ (options : Options) (definitions : List Definition) (ready : AreDefined
 
   leaf_ready : (operand : Bool) (sort : TokenKind) (seen : List (List ℕ)) (lexeme : Lexeme) (meaning : Meaning)
       → LeafChecks options definitions sort operand seen lexeme None → IsLeafMeaning options definitions operand sort seen lexeme meaning
-      → IsReady seen (leaf_tags options definitions sort lexeme) meaning
+      → IsMeantWithTags seen (leaf_tags options definitions sort lexeme) meaning
   leaf_ready operand kind.Str seen lexeme meaning checked is = string_ready false seen lexeme meaning checked is
   leaf_ready operand kind.IStr seen lexeme meaning checked is = string_ready true seen lexeme meaning checked is
   leaf_ready operand kind.Class seen lexeme meaning checked is =
@@ -68,11 +68,11 @@ module _ (options : Options) (definitions : List Definition) (ready : AreDefined
       class_ready operand 0 seen [] (length seen) (LeafHas options definitions kind.Signs lexeme) meaning is
       (λ point has. point_fits options.enc options.surrogates point has.0) refl refl
   leaf_ready operand kind.Name seen lexeme meaning checked is =
-      subst (λ found. IsReady seen (defined_tags options definitions found) meaning) (sym is.1)
-      (subst (IsReady seen is.0.tags) (sym is.2)
+      subst (λ found. IsMeantWithTags seen (defined_tags options definitions found) meaning) (sym is.1)
+      (subst (IsMeantWithTags seen is.0.tags) (sym is.2)
       (copied_within options.enc (length seen) is.0 (definition_within options.enc definitions lexeme.text is.0 ready is.1), refl))
   leaf_ready operand kind.STag seen lexeme meaning checked is =
-      subst (IsReady seen (tag_name lexeme ∷ [])) (sym is) (tag_within options.enc (length seen) (tag_name lexeme), refl)
+      subst (IsMeantWithTags seen (tag_name lexeme ∷ [])) (sym is) (tag_within options.enc (length seen) (tag_name lexeme), refl)
   leaf_ready operand sort seen lexeme meaning checked is = absurd is
 
   -- what stands behind a first meaning begins behind its tags
@@ -82,24 +82,24 @@ module _ (options : Options) (definitions : List Definition) (ready : AreDefined
       subst (λ start. IsMeantWithin options.enc start second) (length-append seen tags ∙ ap (λ l. length seen + length l) (sym same)) is
 
   pub form_ready : (operand : Bool) (seen : List (List ℕ)) (form : Form) (meaning : Meaning) → Checks options definitions operand seen form None
-      → IsMeaning options definitions operand seen form meaning → IsReady seen (tags_of options definitions form) meaning
+      → IsMeaning options definitions operand seen form meaning → IsMeantWithTags seen (tags_of options definitions form) meaning
   form_ready operand seen (leaf lexeme) meaning checked is = leaf_ready operand lexeme.kind seen lexeme meaning checked is
   form_ready operand seen (group opening inner) meaning checked is =
       let found =
       then-none (λ fault. fault ≡ group_fault options definitions opening) (Checks options definitions operand seen inner) checked in
       let inside = form_ready operand seen inner is.0 found.1 is.1 in
-      subst (IsReady seen (tags_of options definitions inner)) (sym is.2) (enclosed_within options.enc (length seen) is.0 inside.0, inside.1)
+      subst (IsMeantWithTags seen (tags_of options definitions inner)) (sym is.2) (enclosed_within options.enc (length seen) is.0 inside.0, inside.1)
   form_ready operand seen (repeated inner sign) meaning checked is =
       let found = then-none (Checks options definitions false seen inner) (λ fault. fault ≡ bounds_fault sign) checked in
       let inside = form_ready false seen inner is.0 found.0 is.1 in
-      subst (IsReady seen (tags_of options definitions inner)) (sym is.2)
+      subst (IsMeantWithTags seen (tags_of options definitions inner)) (sym is.2)
       (repeated_within options.enc (length seen) (bounds_of sign) is.0 inside.0, inside.1)
   form_ready operand seen (sequence front back) meaning checked is =
       let found =
       then-none (Checks options definitions false seen front) (Checks options definitions false (seen ++ tags_of options definitions front) back) checked in
       let one = form_ready false seen front is.0 found.0 is.2 in
       let two = form_ready false (seen ++ tags_of options definitions front) back is.1 found.1 is.3 in
-      subst (IsReady seen (tags_of options definitions (sequence front back))) (sym is.4) (
+      subst (IsMeantWithTags seen (tags_of options definitions (sequence front back))) (sym is.4) (
         followed_within options.enc (length seen) is.0 is.1 one.0 (behind seen (tags_of options definitions front) is.0 is.1 one.1 two.0),
         ap₂ (λ (a b : List (List ℕ)). a ++ b) one.1 two.1,
       )
@@ -134,7 +134,7 @@ module _ (options : Options) (definitions : List Definition) (ready : AreDefined
       then-none (Checks options definitions operand seen left) (Checks options definitions operand (seen ++ tags_of options definitions left) right) checked in
       let one = form_ready operand seen left is.0 found.0 is.2 in
       let two = form_ready operand (seen ++ tags_of options definitions left) right is.1 found.1 is.3 in
-      subst (IsReady seen (tags_of options definitions (alternative left sign right))) (sym is.4) (
+      subst (IsMeantWithTags seen (tags_of options definitions (alternative left sign right))) (sym is.4) (
         alternated_within options.enc (length seen) is.0 is.1 one.0 (behind seen (tags_of options definitions left) is.0 is.1 one.1 two.0),
         ap₂ (λ (a b : List (List ℕ)). a ++ b) one.1 two.1,
       )

@@ -10,7 +10,7 @@ use Rattle.lx_base.specs.declared.settings.Options.{Options}
 use Rattle.lx_token.specs.Classes.{class_of}
 use Rattle.lx_token.specs.declared.kinds.TokenKind.{TokenKind}
 use Rattle.lx_token.specs.declared.kinds.TokenKind.TheVariants as kind
-use Rattle.lx_exprs.specs.Checks.{AreClasses, Check, Checks, Finds, HasPoint, IsFilled, LeafChecks, LeafHas, PointsAre, Then, bounds_fault, bounds_of, class_ranges, group_fault, is_class, name_fault, tag_fault, tag_name, tags_of, waits}
+use Rattle.lx_exprs.specs.Checks.{AreClasses, Check, Checks, Finds, HasPoint, IsFilled, LeafChecks, LeafHas, PointsAre, Then, bounds_fault, bounds_of, class_ranges, group_fault, is_class, name_fault, tag_fault, tag_name, tags_of, unsupported}
 use Rattle.lx_exprs.specs.Defined.{Definition, Meaning, definition_of, whole}
 use Rattle.lx_forms.specs.Forms.{Form, leaf, group, repeated, sequence, difference, alternative}
 use Rattle.lx_forms.specs.Lexemes.{Lexeme}
@@ -58,7 +58,7 @@ module _ (options : Options) (definitions : List Definition) where
       (IsFilled options definitions options.empty operand lexeme.at (LeafHas options definitions kind.Class lexeme))
       (surely (_, refl)) (filled_decides options.empty operand lexeme.at (LeafHas options definitions kind.Class lexeme))
   leaf_decides kind.MTag operand seen lexeme =
-      then_decides (Finds (waits lexeme)) (Finds (tag_fault options definitions lexeme seen)) (surely (_, refl)) (surely (_, refl))
+      then_decides (Finds (unsupported lexeme)) (Finds (tag_fault options definitions lexeme seen)) (surely (_, refl)) (surely (_, refl))
   leaf_decides sort operand seen lexeme = surely (_, refl)
 
   pub form_decides : (operand : Bool) (seen : List (List ℕ)) (form : Form) → Decides (Checks options definitions operand seen form)
@@ -116,7 +116,7 @@ module _ (options : Options) (definitions : List Definition) (ready : AreDefined
       of (Some definition) e none = surely (copied (length seen) definition, (definition, e, refl))
   leaf_means operand kind.STag seen lexeme checked = surely (tag_meaning (length seen) (tag_name lexeme), refl)
   leaf_means operand kind.MTag seen lexeme checked =
-      let found = then-none (Finds (waits lexeme)) (Finds (tag_fault options definitions lexeme seen)) checked in
+      let found = then-none (Finds (unsupported lexeme)) (Finds (tag_fault options definitions lexeme seen)) checked in
       absurd (let h : None ≡ Some (Unsupported (Some lexeme.at)) = found.0 in cc)
   leaf_means operand sort seen lexeme checked = absurd (let h : None ≡ Some (Unsupported (Some lexeme.at)) = checked in cc)
 

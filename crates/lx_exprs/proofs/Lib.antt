@@ -6,6 +6,7 @@ pub mod Classical
 pub mod DefinitionLists
 pub mod ExpressionRanges
 pub mod ExpressionSteps
+pub mod FaultPlaces
 pub mod FormFits
 pub mod FormRuns
 pub mod FormVerdicts

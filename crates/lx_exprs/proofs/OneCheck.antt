@@ -9,7 +9,7 @@ use Rattle.lx_base.specs.declared.settings.EmptyPolicy.TheVariants.{MatchEmpty, 
 use Rattle.lx_base.specs.declared.settings.Options.{Options}
 use Rattle.lx_class.proofs.Law.{same_ranges}
 use Rattle.lx_class.specs.declared.ranges.Range.{Range}
-use Rattle.lx_exprs.specs.Checks.{Check, Then, Finds, waits, Checks, LeafChecks, IsFilled, PointsAre, AreClasses, HasPoint, LeafHas, bounds_fault, bounds_of, class_ranges, group_fault, is_class, name_fault, tag_fault, tags_of}
+use Rattle.lx_exprs.specs.Checks.{Check, Then, Finds, unsupported, Checks, LeafChecks, IsFilled, PointsAre, AreClasses, HasPoint, LeafHas, bounds_fault, bounds_of, class_ranges, group_fault, is_class, name_fault, tag_fault, tags_of}
 use Rattle.lx_regex.specs.Expr.{ranges_of}
 use Rattle.lx_regex.specs.Term.{Term, class}
 use Rattle.lx_exprs.specs.Defined.{Definition, HasClass, IsClassKept, IsDefined, IsTermKept, Meaning, definition_of, is_built, meant_class, whole_room}
@@ -87,8 +87,8 @@ module _ (options : Options) (definitions : List Definition) where
   filled-one Error false at HasPoint =
       FindsOne-by ((point : ℕ) × HasPoint point) ((point : ℕ) → HasPoint point → ⊥) None _ (λ has none. none has.0 has.1)
 
-  pub then_waits-one : (Second : Check) (lexeme : Lexeme) → FindsOne Second → FindsOne (Then (Finds (waits lexeme)) Second)
-  then_waits-one Second lexeme second = FindsOne-Then (Finds (waits lexeme)) Second (FindsOne-Finds (waits lexeme)) second
+  pub then_unsupported-one : (Second : Check) (lexeme : Lexeme) → FindsOne Second → FindsOne (Then (Finds (unsupported lexeme)) Second)
+  then_unsupported-one Second lexeme second = FindsOne-Then (Finds (unsupported lexeme)) Second (FindsOne-Finds (unsupported lexeme)) second
 
   points-one : (lexeme : Lexeme) (ranges : List Range) → FindsOne (PointsAre options definitions lexeme ranges)
   points-one lexeme ranges = FindsOne-Finds (points_fault options.enc options.surrogates lexeme.at ranges)
@@ -99,17 +99,17 @@ module _ (options : Options) (definitions : List Definition) where
   leaf-one kind.Name is_operand seen lexeme = FindsOne-Finds (name_fault options definitions (definition_of definitions lexeme.text) lexeme seen)
   leaf-one kind.STag is_operand seen lexeme = FindsOne-Finds (tag_fault options definitions lexeme seen)
   leaf-one kind.MTag is_operand seen lexeme =
-      then_waits-one (Finds (tag_fault options definitions lexeme seen)) lexeme (FindsOne-Finds (tag_fault options definitions lexeme seen))
+      then_unsupported-one (Finds (tag_fault options definitions lexeme seen)) lexeme (FindsOne-Finds (tag_fault options definitions lexeme seen))
   leaf-one kind.IStr is_operand seen lexeme = points-one lexeme (singles (points_in lexeme))
   leaf-one kind.Class is_operand seen lexeme =
       let Filled = IsFilled options definitions options.empty is_operand lexeme.at (LeafHas options definitions kind.Class lexeme) in
       let Points = PointsAre options definitions lexeme (class_ranges lexeme) in
       FindsOne-Then Points Filled (points-one lexeme (class_ranges lexeme))
       (filled-one options.empty is_operand lexeme.at (LeafHas options definitions kind.Class lexeme))
-  leaf-one kind.Config is_operand seen lexeme = FindsOne-Finds (waits lexeme)
-  leaf-one kind.Number is_operand seen lexeme = FindsOne-Finds (waits lexeme)
-  leaf-one kind.Bounds is_operand seen lexeme = FindsOne-Finds (waits lexeme)
-  leaf-one kind.Code is_operand seen lexeme = FindsOne-Finds (waits lexeme)
+  leaf-one kind.Config is_operand seen lexeme = FindsOne-Finds (unsupported lexeme)
+  leaf-one kind.Number is_operand seen lexeme = FindsOne-Finds (unsupported lexeme)
+  leaf-one kind.Bounds is_operand seen lexeme = FindsOne-Finds (unsupported lexeme)
+  leaf-one kind.Code is_operand seen lexeme = FindsOne-Finds (unsupported lexeme)
   leaf-one kind.Signs is_operand seen lexeme = FindsOne-Finds None
 
   classes-one : (left right : Form) (sign : Lexeme) → FindsOne (AreClasses options definitions left right sign)
@@ -215,7 +215,7 @@ module _ (options : Options) (definitions : List Definition) where
     context-one from slash until = record { one = by }
       where
         Behind : (form behind : Form) → Check
-        Behind form behind = Then (Finds (waits (nth_lexeme lexemes slash))) (Checks options definitions false (tags_of options definitions form) behind)
+        Behind form behind = Then (Finds (unsupported (nth_lexeme lexemes slash))) (Checks options definitions false (tags_of options definitions form) behind)
 
         Both : (form behind : Form) → Check
         Both form behind = Then (Checks options definitions false [] form) (Behind form behind)
@@ -223,7 +223,7 @@ module _ (options : Options) (definitions : List Definition) where
         both-one : (form behind : Form) → FindsOne (Both form behind)
         both-one form behind =
             FindsOne-Then (Checks options definitions false [] form) (Behind form behind) (Checks-one false [] form)
-            (then_waits-one (Checks options definitions false (tags_of options definitions form) behind) (nth_lexeme lexemes slash)
+            (then_unsupported-one (Checks options definitions false (tags_of options definitions form) behind) (nth_lexeme lexemes slash)
             (Checks-one false (tags_of options definitions form) behind))
 
         by : (fault other : Option Fault) → ContextChecks options lexemes definitions from slash until fault

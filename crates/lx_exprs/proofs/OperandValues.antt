@@ -4,30 +4,30 @@ use Rattle.lx_regex.specs.Expr.{members_of, term_of}
 use Rattle.lx_exprs.specs.declared.values.Content.{Content}
 use Rattle.lx_exprs.specs.declared.values.Content.TheVariants as content
 use Rattle.lx_exprs.specs.declared.values.Value.{Value}
-use Rattle.lx_exprs.specs.Reading.{AreHonest}
-use Rattle.lx_exprs.specs.Values.{AreTagsBelow, IsHonest}
+use Rattle.lx_exprs.specs.Reading.{AreBounded}
+use Rattle.lx_exprs.specs.Values.{AreTagsBelow, IsBounded}
 use Rattle.lx_exprs.proofs.TermTags.{HasTagsBelow-greater, HaveTagsBelow-greater}
 
--- the last value of honest ones, and those before it
-pub honest_front : (count : ℕ) (front items : List Value) (value : Value) → items ≡ front ++ value ∷ [] → AreHonest count items → AreHonest count front
-honest_front count front items value same honest = go front (subst (AreHonest count) same honest)
+-- the last value of bounded ones, and those before it
+pub bounded_front : (count : ℕ) (front items : List Value) (value : Value) → items ≡ front ++ value ∷ [] → AreBounded count items → AreBounded count front
+bounded_front count front items value same bounded = go front (subst (AreBounded count) same bounded)
   where
-    go : (l : List Value) → AreHonest count (l ++ value ∷ []) → AreHonest count l
+    go : (l : List Value) → AreBounded count (l ++ value ∷ []) → AreBounded count l
     go [] is = tt
     go (first ∷ l) is = (is.0, go l is.1)
 
-pub honest_last : (count : ℕ) (front items : List Value) (value : Value) → items ≡ front ++ value ∷ [] → AreHonest count items → IsHonest count value
-honest_last count front items value same honest = go front (subst (AreHonest count) same honest)
+pub bounded_last : (count : ℕ) (front items : List Value) (value : Value) → items ≡ front ++ value ∷ [] → AreBounded count items → IsBounded count value
+bounded_last count front items value same bounded = go front (subst (AreBounded count) same bounded)
   where
-    go : (l : List Value) → AreHonest count (l ++ value ∷ []) → IsHonest count value
+    go : (l : List Value) → AreBounded count (l ++ value ∷ []) → IsBounded count value
     go [] is = is.0
     go (first ∷ l) is = go l is.1
 
-pub honest_all : (count : ℕ) (front items : List Value) (value : Value) → items ≡ front ++ value ∷ [] → AreHonest count front → IsHonest count value
-    → AreHonest count items
-honest_all count front items value same before last = subst (AreHonest count) (sym same) (go front before)
+pub bounded_all : (count : ℕ) (front items : List Value) (value : Value) → items ≡ front ++ value ∷ [] → AreBounded count front → IsBounded count value
+    → AreBounded count items
+bounded_all count front items value same before last = subst (AreBounded count) (sym same) (go front before)
   where
-    go : (l : List Value) → AreHonest count l → AreHonest count (l ++ value ∷ [])
+    go : (l : List Value) → AreBounded count l → AreBounded count (l ++ value ∷ [])
     go [] is = (last, tt)
     go (first ∷ l) is = (is.0, go l is.1)
 
@@ -38,9 +38,9 @@ below_greater less more le (content.Row members) below = HaveTagsBelow-greater l
 below_greater less more le (content.Choice members) below = HaveTagsBelow-greater less more (members_of (map (term_of 0) members.items)) le below
 below_greater less more le (content.Past set alternatives) below = tt
 
-pub honest_more : (less more : ℕ) → less ≤ more → (items : List Value) → AreHonest less items → AreHonest more items
-honest_more less more le [] honest = tt
-honest_more less more le (value ∷ items) honest = (
-  record { some = honest.0.some; size = honest.0.size; tags = below_greater less more le value.content honest.0.tags },
-  honest_more less more le items honest.1,
+pub bounded_more : (less more : ℕ) → less ≤ more → (items : List Value) → AreBounded less items → AreBounded more items
+bounded_more less more le [] bounded = tt
+bounded_more less more le (value ∷ items) bounded = (
+  record { some = bounded.0.some; size = bounded.0.size; tags = below_greater less more le value.content bounded.0.tags },
+  bounded_more less more le items bounded.1,
 )

@@ -2,6 +2,7 @@
 use Rattle.std.specs.Prelude.{◌≡◌, ◌≢◌, ℕ, ◌+◌, ◌-◌, ◌⊎◌, Bool, true, false, List, [], ◌∷◌, ◌++◌, length, map, drop, nat_lt, ◌==◌, ◌&&◌, ◌||◌, Option, Some, None, is_some, if◌then◌else◌}
 use Rattle.std.specs.Option.{option_and_then}
 use Rattle.std.specs.Str.{bytes_eq}
+use Rattle.lx_base.specs.declared.limits.TheConstants.{BOUND_LIMIT}
 use Rattle.lx_base.specs.Letters.{is_within}
 use Rattle.lx_base.specs.declared.places.Pos.{Pos}
 use Rattle.lx_base.specs.declared.faults.Fault.{Fault}
@@ -45,8 +46,8 @@ StopsAt Found stop.Memory = Unit {0}
 StopsAt Found (stop.Fault fault) = Found (Some fault)
 
 -- a form that is not supported yet is refused at its token, before the other checks there
-abbrev pub waits : Lexeme → Option Fault
-waits lexeme = Some (Unsupported (Some lexeme.at))
+abbrev pub unsupported : Lexeme → Option Fault
+unsupported lexeme = Some (Unsupported (Some lexeme.at))
 
 -- the class that a token is
 abbrev pub range_of : PointRange → Range
@@ -73,8 +74,8 @@ repeated_tag at (tag ∷ tags) seen = if is_among tag seen then Some (DuplicateT
 
 -- bounds in the wrong order, or with a number over 4,096
 abbrev pub is_wrong : (least : ℕ) → (greatest : Option ℕ) → Bool
-is_wrong least None = nat_lt 4096 least
-is_wrong least (Some greatest) = nat_lt 4096 least || nat_lt 4096 greatest || nat_lt greatest least
+is_wrong least None = nat_lt BOUND_LIMIT least
+is_wrong least (Some greatest) = nat_lt BOUND_LIMIT least || nat_lt BOUND_LIMIT greatest || nat_lt greatest least
 
 -- how often a sign repeats what stands before it
 abbrev pub bounds_at : Sort → Lexeme → Repeat
@@ -154,7 +155,7 @@ module _ (options : Options) (definitions : List Definition) where
 
   -- groups of captures are not supported yet
   abbrev pub group_fault : Lexeme → Option Fault
-  group_fault opening = if are_groups then waits opening else None
+  group_fault opening = if are_groups then unsupported opening else None
 
   -- a form that is a class; parentheses that are a group of captures are none
   abbrev pub is_class : Form → Bool
@@ -202,12 +203,12 @@ module _ (options : Options) (definitions : List Definition) where
   LeafChecks kind.Str is_operand seen lexeme = PointsAre lexeme (singles (points_in lexeme))
   LeafChecks kind.Name is_operand seen lexeme = Finds (name_fault (definition_of definitions lexeme.text) lexeme seen)
   LeafChecks kind.STag is_operand seen lexeme = Finds (tag_fault lexeme seen)
-  LeafChecks kind.MTag is_operand seen lexeme = Then (Finds (waits lexeme)) (Finds (tag_fault lexeme seen))
+  LeafChecks kind.MTag is_operand seen lexeme = Then (Finds (unsupported lexeme)) (Finds (tag_fault lexeme seen))
   LeafChecks kind.IStr is_operand seen lexeme = PointsAre lexeme (singles (points_in lexeme))
   LeafChecks kind.Class is_operand seen lexeme =
       Then (PointsAre lexeme (class_ranges lexeme)) (IsFilled options.empty is_operand lexeme.at (LeafHas kind.Class lexeme))
   LeafChecks kind.Signs is_operand seen lexeme = Finds None
-  LeafChecks kind is_operand seen lexeme = Finds (waits lexeme)
+  LeafChecks kind is_operand seen lexeme = Finds (unsupported lexeme)
 
   -- the checks of an expression, behind tags that were seen before
   abbrev pub Checks : (is_operand : Bool) → (seen : List (List ℕ)) → Form → Check

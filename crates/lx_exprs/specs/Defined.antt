@@ -1,6 +1,7 @@
 -- Definitions, and what the expressions behind them mean.
 use Rattle.std.specs.Prelude.{◌≡◌, ℕ, ◌^◌, ◌↔◌, Bool, true, false, List, [], ◌∷◌, ◌++◌, min, nat_le, ◌&&◌, Option, Some, None, if◌then◌else◌}
 use Rattle.std.specs.Str.{bytes_eq}
+use Rattle.lx_base.specs.declared.limits.TheConstants.{NESTING_LIMIT, SIZE_LIMIT, TAG_LIMIT}
 use Rattle.lx_base.specs.declared.places.Pos.{Pos}
 use Rattle.lx_class.specs.Ranges.{InRanges, IsCanonical}
 use Rattle.lx_class.specs.declared.ranges.Range.{Range}
@@ -38,14 +39,14 @@ kept number = min (2 ^ 40) number
 
 -- an expression is built within a room for its size and the tags of its item, if its nesting is within the limit of 256
 abbrev pub fits : Room → (size nesting count : ℕ) → Bool
-fits room size nesting count = nat_le size room.size && (nat_le nesting 256 && nat_le count room.tags)
+fits room size nesting count = nat_le size room.size && (nat_le nesting NESTING_LIMIT && nat_le count room.tags)
 
 abbrev pub is_built : Room → Meaning → Bool
 is_built room meaning = fits room meaning.size meaning.nesting meaning.count
 
 -- the room of a scanner
 abbrev pub whole_room : Room
-whole_room = record { size = 4096; tags = 128 }
+whole_room = record { size = SIZE_LIMIT; tags = TAG_LIMIT }
 
 -- the points of two classes, or of none
 abbrev pub both_classes : Option (List (ℕ × ℕ)) → Option (List (ℕ × ℕ)) → Option (List (ℕ × ℕ))

@@ -1,5 +1,5 @@
 -- Expressions that stand in a range of tokens, and what is read of them.
-use Rattle.std.specs.Prelude.{◌≡◌, ℕ, suc, ◌-◌, length, false, List, [], drop, None}
+use Rattle.std.specs.Prelude.{◌≡◌, ℕ, suc, length, false, List, [], drop, None}
 use Rattle.lx_base.specs.declared.settings.Options.{Options}
 use Rattle.lx_forms.specs.Lexemes.{Lexeme, nth_lexeme}
 use Rattle.lx_exprs.specs.Defined.{Definition, Meaning}
@@ -11,7 +11,7 @@ use Rattle.lx_exprs.specs.declared.values.Room.{Room}
 use Rattle.lx_exprs.specs.Values.{IsValue}
 use Rattle.lx_parse.specs.Expressions.{alt}
 use Rattle.lx_forms.specs.Forms.{IsForm}
-use Rattle.lx_exprs.specs.Checks.{Check, Then, Finds, waits, tags_of}
+use Rattle.lx_exprs.specs.Checks.{Check, Then, Finds, unsupported, tags_of}
 
 module _ (options : Options) (lexemes : List Lexeme) where
   -- the expression that stands from one place up to another
@@ -28,7 +28,7 @@ module _ (options : Options) (lexemes : List Lexeme) where
   ContextChecks definitions from slash until fault =
       (form behind : Form) × IsExpression from slash form × IsExpression (suc slash) until behind
       × Then (Checks options definitions false [] form)
-      (Then (Finds (waits (nth_lexeme lexemes slash))) (Checks options definitions false (tags_of options definitions form) behind)) fault
+      (Then (Finds (unsupported (nth_lexeme lexemes slash))) (Checks options definitions false (tags_of options definitions form) behind)) fault
 
 -- what is read stands for a meaning, whose item has no tags but its own
 pub record IsReadAs (room : Room) (meaning : Meaning) (reading : Reading) : Type 0 where

@@ -1,6 +1,7 @@
 pub mod Checks
 pub mod Defined
 pub mod Expressions
+pub mod FaultPlaces
 pub mod Meanings
 pub mod Points
 pub mod Reading

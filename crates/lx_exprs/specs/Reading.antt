@@ -1,19 +1,21 @@
 -- The reading of an expression, step by step.
-use Rattle.std.specs.Prelude.{◌≡◌, ◌≤◌, ℕ, suc, ◌-◌, max, Bool, List, [], ◌∷◌, ◌++◌, reverse, Some, None, Result, Ok, Err, ◌&&◌, is_some, if◌then◌else◌}
+use Rattle.std.specs.Prelude.{◌≡◌, ◌≤◌, ℕ, suc, ◌-◌, max, Bool, List, [], ◌∷◌, ◌++◌, reverse, Some, None, Result, Ok, Err, MatchResult, ◌&&◌, is_some, if◌then◌else◌}
 use Rattle.lx_base.specs.declared.faults.Fault.{Fault}
 use Rattle.lx_base.specs.declared.faults.Fault.TheVariants.{NotClass}
 use Rattle.lx_base.specs.declared.faults.Stop.{Stop}
 use Rattle.lx_base.specs.declared.faults.Stop.TheVariants as stop
 use Rattle.lx_base.specs.declared.settings.Options.{Options}
 use Rattle.lx_exprs.specs.declared.expressions.Operands.{Operands as Held}
+use Rattle.lx_exprs.specs.declared.expressions.Pairing.{Pairing}
+use Rattle.lx_exprs.specs.declared.expressions.Pairing.TheVariants.{Alternation, Sequence}
 use Rattle.lx_exprs.specs.declared.values.Room.{Room}
 use Rattle.lx_exprs.specs.declared.values.Value.{Value}
 use Rattle.lx_forms.specs.Lexemes.{Lexeme}
 use Rattle.lx_exprs.specs.Defined.{Definition, Meaning, meant_class}
 use Rattle.lx_exprs.specs.Meanings.{IsClassMeaning, IsLeafMeaning, alternated, enclosed, followed, repeated_by}
-use Rattle.lx_exprs.specs.Checks.{Check, Then, Finds, IsFilled, IsIn, LeafChecks, bounds_fault, bounds_of, group_fault}
+use Rattle.lx_exprs.specs.Checks.{Check, Then, Finds, IsFilled, IsIn, LeafChecks, StopsAt, bounds_fault, bounds_of, group_fault}
 use Rattle.lx_forms.specs.Steps.{Step, reads, opens, closes, repeats, joins, subtracts, chooses}
-use Rattle.lx_exprs.specs.Values.{IsHonest, IsValue}
+use Rattle.lx_exprs.specs.Values.{IsBounded, IsValue}
 
 -- what is read before a step: meanings that are not yet put together, the last one first, and all tags so far
 pub record Operands : Type 0 where
@@ -32,6 +34,11 @@ with_more operands meaning = record { meanings = meaning ∷ operands.meanings; 
 abbrev pub with_last : (Meaning → Meaning) → List Meaning → List Meaning
 with_last change [] = []
 with_last change (last ∷ meanings) = change last ∷ meanings
+
+-- the sequence or the alternation of two meanings
+abbrev pub paired : Pairing → Meaning → Meaning → Meaning
+paired Sequence = followed
+paired Alternation = alternated
 
 -- one meaning in the place of the last two
 abbrev pub with_both : (Meaning → Meaning → Meaning) → List Meaning → List Meaning
@@ -138,10 +145,10 @@ AreValues room [] (value ∷ values) = ⊥
 AreValues room (meaning ∷ meanings) [] = ⊥
 AreValues room (meaning ∷ meanings) (value ∷ values) = IsValue room meaning value × AreValues room meanings values
 
--- each value is honest
-abbrev pub AreHonest : (count : ℕ) → List Value → Type 0
-AreHonest count [] = Unit {0}
-AreHonest count (value ∷ values) = IsHonest count value × AreHonest count values
+-- each value is bounded
+abbrev pub AreBounded : (count : ℕ) → List Value → Type 0
+AreBounded count [] = Unit {0}
+AreBounded count (value ∷ values) = IsBounded count value × AreBounded count values
 
 -- what is held stands for what is read
 pub record AreOperands (room : Room) (operands : Operands) (held : Held) : Type 0 where
@@ -168,3 +175,9 @@ pub record IsLeafRead (options : Options) (definitions : List Definition) (room 
   pub means : IsLeafMeaning options definitions is_operand lexeme.kind before lexeme meaning
   pub stands : IsValue room meaning value
   pub seen : after ≡ before ++ meaning.tags
+
+-- a call reads a token so, or stops with the first fault of its checks
+abbrev pub IsLeafResult : Options → List Definition → Room → (is_operand : Bool) → (before : List (List ℕ)) → Lexeme → (after : List (List ℕ)) → Result Value Stop → Type 0
+IsLeafResult options definitions room is_operand before lexeme after result =
+    MatchResult result (IsLeafRead options definitions room is_operand before lexeme after)
+    (StopsAt (LeafChecks options definitions lexeme.kind is_operand before lexeme))

@@ -11,5 +11,5 @@ FitsKept None size count = 1 ≤ size
 FitsKept (Some expr) size count = (1 ≤ size) × (size_of expr ≤ size) × HasTagsBelow count (term_of 0 expr)
 
 -- each definition has the size and the tags of its expression
-abbrev pub AreSound : Definitions → Type 0
-AreSound definitions = All (λ entry. FitsKept entry.1.expr entry.1.size (length entry.1.tags)) definitions.by_name.entries
+abbrev pub DefinitionsFit : Definitions → Type 0
+DefinitionsFit definitions = All (λ entry. FitsKept entry.1.expr entry.1.size (length entry.1.tags)) definitions.by_name.entries

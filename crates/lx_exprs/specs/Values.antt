@@ -1,5 +1,6 @@
 -- What is kept of what is read of an expression.
 use Rattle.std.specs.Prelude.{◌≡◌, ℕ, ◌+◌, ◌≤◌, ◌<◌, ◌↔◌, Bool, true, false, List, Option, Some, None, map, sum, not}
+use Rattle.lx_base.specs.declared.limits.TheConstants.{SIZE_LIMIT, TAG_LIMIT}
 use Rattle.lx_class.specs.Ranges.{InRanges}
 use Rattle.lx_class.specs.declared.ranges.Range.{Range}
 use Rattle.lx_regex.specs.Expr.{members_of, size_of, term_of}
@@ -59,7 +60,7 @@ pub record IsValue (room : Room) (meaning : Meaning) (value : Value) : Type 0 wh
 
 -- a room is no greater than that of a scanner
 abbrev pub IsRoom : Room → Type 0
-IsRoom room = (room.size ≤ 4096) × (room.tags ≤ 128)
+IsRoom room = (room.size ≤ SIZE_LIMIT) × (room.tags ≤ TAG_LIMIT)
 
 -- the tags of a term have lesser numbers than this, and it has no groups, which are not supported yet
 abbrev mutual
@@ -92,7 +93,7 @@ AreTagsBelow bound (content.Choice members) = HaveTagsBelow bound (members_of (m
 AreTagsBelow bound (content.Past set alternatives) = Unit {0}
 
 -- what is read has at least the size of what is kept, and 1 at least, and its tags have lesser numbers than this
-pub record IsHonest (count : ℕ) (value : Value) : Type 0 where
+pub record IsBounded (count : ℕ) (value : Value) : Type 0 where
   pub some : 1 ≤ value.size
   pub size : content_size value.content ≤ value.size
   pub tags : AreTagsBelow count value.content

@@ -3,34 +3,11 @@ use Rattle.std.specs.Prelude.{◌≡◌, ℕ, ◌≤◌, true, List, [], ◌∷�
 use Rattle.std.specs.Option.{option_and_then}
 use Rattle.lx_base.specs.Spelling.{greatest_point}
 use Rattle.lx_base.specs.declared.settings.Enc.{Enc}
-use Rattle.lx_encode.specs.Policy.{FitsEncoding}
 use Rattle.lx_regex.specs.Limits.{HasLongSequences, numbers_from}
-use Rattle.lx_regex.specs.PartList.{set_of}
 use Rattle.lx_regex.specs.Script.{tags_in}
 use Rattle.lx_regex.specs.Term.{Term, Terms, IsInRanges, empty, class, any_unit, cat, alt, repeat, tag, group, nil, cons}
 use Rattle.lx_exprs.specs.Defined.{Definition, class_in, fits, whole_room}
 use Rattle.lx_exprs.specs.Meanings.{term_or_empty}
-
--- every point of a class of the term is one of the encoding
-abbrev mutual
-  pub ClassesFit : Enc → Term → Type 0
-  ClassesFit enc empty = Unit {0}
-  ClassesFit enc (class ranges) = FitsEncoding enc (set_of ranges)
-  ClassesFit enc any_unit = Unit {0}
-  ClassesFit enc (cat members) = ClassesFitAmong enc members
-  ClassesFit enc (alt members) = ClassesFitAmong enc members
-  ClassesFit enc (repeat body low high) = ClassesFit enc body
-  ClassesFit enc (tag number) = Unit {0}
-  ClassesFit enc (group opening closing body) = ClassesFit enc body
-
-  pub ClassesFitAmong : Enc → Terms → Type 0
-  ClassesFitAmong enc nil = Unit {0}
-  ClassesFitAmong enc (cons member members) = ClassesFit enc member × ClassesFitAmong enc members
-
--- the same of several terms
-abbrev pub AllClassesFit : Enc → List Term → Type 0
-AllClassesFit enc [] = Unit {0}
-AllClassesFit enc (term ∷ terms) = ClassesFit enc term × AllClassesFit enc terms
 
 -- the classes of a definition fit the encoding, and it has no groups, which are not supported yet
 abbrev mutual

@@ -3,7 +3,7 @@ ghost use Rattle.std.specs.Prelude.{◌≡◌, [], ◌∷◌, ◌++◌, None, So
 ghost use Rattle.std.specs.Option.{option_map};
 ghost use Rattle.lx_exprs.specs.Defined.{definition_of};
 ghost use Rattle.lx_exprs.specs.Seen.{definition_view, definitions_view};
-ghost use Rattle.lx_exprs.specs.Soundness.{AreSound, FitsKept};
+ghost use Rattle.lx_exprs.specs.Soundness.{DefinitionsFit, FitsKept};
 
 use crate::tags::SharedTags;
 use indexmap::IndexMap;
@@ -45,16 +45,16 @@ impl Definitions {
     /// The definition of a name.
     pub fn get(&self, name: &[u8]) -> Option<&Kept>
         ensures found { option_map (λ kept. definition_view name.now kept.now) result ≡ definition_of (definitions_view self.now) name.now }
-        ensures sound { AreSound self.now → IfSome result (λ kept. FitsKept kept.now.expr kept.now.size (length kept.now.tags)) }
+        ensures sound { DefinitionsFit self.now → IfSome result (λ kept. FitsKept kept.now.expr kept.now.size (length kept.now.tags)) }
     {
         self.by_name.get(name)
     }
 
-    /// Puts the definition of a name that has none yet behind the others.
+    /// Appends the definition of a name that has none yet.
     pub fn add(&mut self, alloc: Global, name: &[u8], kept: Kept) -> Result<(), Memory>
         requires { definition_of (definitions_view self.old) name.now ≡ None }
         ensures added { OnOk result (definitions_view self.new ≡ definitions_view self.old ++ definition_view name.now kept ∷ []) }
-        ensures sound { AreSound self.old → FitsKept kept.expr kept.size (length kept.tags) → OnOk result (AreSound self.new) }
+        ensures sound { DefinitionsFit self.old → FitsKept kept.expr kept.size (length kept.tags) → OnOk result (DefinitionsFit self.new) }
     {
         let name = Vec::from_slice(alloc, name)?;
         self.by_name.insert(name, kept)?;

@@ -1,5 +1,6 @@
 //! Reads the expressions of definitions and rules.
 ghost use Rattle.std.specs.Prelude.{◌≡◌, ◌<◌, ◌≤◌, ◌^◌, ℕ, List, IfOk, IfSome, MatchResult, None, Some, length, map};
+ghost use Rattle.lx_base.specs.declared.limits.TheConstants.{BOUND_LIMIT};
 ghost use Rattle.lx_base.specs.declared.settings.Options.{Options};
 ghost use Rattle.lx_parse.specs.Expressions.{alt};
 ghost use Rattle.lx_parse.specs.Ranges.{IsPart};
@@ -9,25 +10,23 @@ ghost use Rattle.lx_exprs.specs.Expressions.{ExpressionChecks};
 ghost use Rattle.lx_exprs.specs.Expressions.{IsRead};
 ghost use Rattle.lx_forms.specs.Lexemes as lexical;
 ghost use Rattle.lx_forms.specs.Lexemes.{sort_at, sorts_at};
-ghost use Rattle.lx_exprs.specs.Reading.{AreHonest, AreInOrder, AreTaken, DifferenceChecks, IsDifference, StopsReading, no_operands};
+ghost use Rattle.lx_exprs.specs.Reading.{AreBounded, AreInOrder, AreTaken, DifferenceChecks, IsDifference, StopsReading, no_operands, paired};
 ghost use Rattle.lx_exprs.specs.Seen.{definitions_view};
 ghost use Rattle.lx_forms.specs.Seen.{lexeme_view, lexemes_view};
-ghost use Rattle.lx_exprs.specs.Soundness.{AreSound};
+ghost use Rattle.lx_exprs.specs.Soundness.{DefinitionsFit};
 ghost use Rattle.lx_forms.specs.StepViews.{step_view};
-ghost use Rattle.lx_exprs.specs.Values.{IsHonest, IsRoom, IsValue};
+ghost use Rattle.lx_exprs.specs.Values.{IsBounded, IsRoom, IsValue};
 
-use crate::leaves::{Reader, read_leaf, read_set, waits};
+use crate::leaves::{Reader, read_leaf, read_set, unsupported};
 use crate::tags::{SeenTags, SharedTags};
 use crate::values::{Room, Value};
+use lx_base::limits::BOUND_LIMIT;
 use lx_base::{Fault, Memory, Options, Pos, Stop};
 use lx_forms::lexemes::{Lexeme, Lexemes};
 use lx_forms::steps::{Step, StepSort, expression_steps};
 use lx_parse::Sort;
 use lx_token::{Repeat, repeat_of};
 use std::alloc::Global;
-
-/// The greatest number of a repetition.
-const MOST_BOUND: u64 = 4096;
 
 /// What is read of an expression so far: values that are not yet put together, in order, and the names of all tags.
 #[derive(Drop)]
@@ -41,6 +40,15 @@ pub struct Operands {
 pub struct Reading {
     pub value: Value,
     pub tags: SharedTags,
+}
+
+/// How two values are put together.
+#[derive(Clone, Copy)]
+enum Pairing {
+    /// One behind the other.
+    Sequence,
+    /// The one or the other.
+    Alternation,
 }
 
 /// How often a sign repeats what stands before it.
@@ -63,8 +71,8 @@ fn is_wrong(bounds: Repeat) -> bool
     ensures { result ≡ is_wrong bounds.min bounds.max }
 {
     match bounds.max {
-        Some(most) => bounds.min > MOST_BOUND || most > MOST_BOUND || most < bounds.min,
-        None => bounds.min > MOST_BOUND,
+        Some(most) => bounds.min > BOUND_LIMIT || most > BOUND_LIMIT || most < bounds.min,
+        None => bounds.min > BOUND_LIMIT,
     }
 }
 
@@ -73,8 +81,8 @@ fn checked_bounds(sign: &Lexeme<'_>) -> Result<Repeat, Fault>
     ensures bounds { MatchResult result
         (λ bounds. (bounds ≡ bounds_of (lexeme_view sign.now)) × (bounds_fault (lexeme_view sign.now) ≡ None))
         (λ fault. bounds_fault (lexeme_view sign.now) ≡ Some fault) }
-    ensures least { IfOk result (λ bounds. bounds.min ≤ 4096) }
-    ensures most { IfOk result (λ bounds. IfSome bounds.max (λ most. most ≤ 4096)) }
+    ensures least { IfOk result (λ bounds. bounds.min ≤ BOUND_LIMIT) }
+    ensures most { IfOk result (λ bounds. IfSome bounds.max (λ most. most ≤ BOUND_LIMIT)) }
 {
     let bounds = bounds_at(sign);
     if is_wrong(bounds) {
@@ -103,7 +111,7 @@ fn difference(
         (λ value. DifferenceChecks reader.entry.options.now definitions is_operand first second sign None
         × ((meaning : Meaning) × IsDifference reader.entry.options.now definitions is_operand first second meaning × IsValue reader.entry.room meaning value))
         (StopsAt (DifferenceChecks reader.entry.options.now definitions is_operand first second sign)) }
-    ensures honest { (count : ℕ) → IfOk result (IsHonest count) }
+    ensures bounded { (count : ℕ) → IfOk result (IsBounded count) }
 {
     let nesting = left.nesting.max(right.nesting);
     let tags = left.tags.max(right.tags);
@@ -117,18 +125,36 @@ fn difference(
     read_set(alloc, reader, tags, set, is_operand, nesting, at)
 }
 
+/// The sequence or the alternation of two values.
+fn paired(
+    alloc: Global,
+    room: Room,
+    pairing: Pairing,
+    left: Value,
+    right: Value,
+) -> Result<Value, Memory>
+    requires { IsRoom room }
+    ensures stands { (first second : Meaning) → IsValue room first left → IsValue room second right → IfOk result (IsValue room (paired pairing first second)) }
+    ensures bounded { (count : ℕ) → IsBounded count left → IsBounded count right → IfOk result (IsBounded count) }
+{
+    match pairing {
+        Pairing::Sequence => left.followed_by(alloc, room, right),
+        Pairing::Alternation => left.beside(alloc, room, right),
+    }
+}
+
 impl Operands {
     ghost use Rattle.std.specs.Prelude.{◌≡◌, ◌≤◌, ◌<◌, ◌++◌, ◌∷◌, [], OnOk, MatchResult, length, suc};
     ghost use Rattle.std.specs.Prelude.{ℕ, List};
     ghost use Rattle.lx_base.specs.declared.settings.Options.{Options};
     ghost use Rattle.lx_exprs.specs.Checks.{StopsAt};
     ghost use Rattle.lx_exprs.specs.Defined.{Definition};
-    ghost use Rattle.lx_exprs.specs.Meanings.{alternated, enclosed, followed};
+    ghost use Rattle.lx_exprs.specs.Meanings.{enclosed};
     ghost use Rattle.lx_exprs.specs.Reading as reading;
-    ghost use Rattle.lx_exprs.specs.Reading.{AreHonest, AreOperands, IsStepTaken, Needs, StepChecks, depth_behind, in_place, no_operands, with_both, with_last};
+    ghost use Rattle.lx_exprs.specs.Reading.{AreBounded, AreOperands, IsStepTaken, Needs, StepChecks, depth_behind, in_place, no_operands, paired, with_both, with_last};
     ghost use Rattle.lx_exprs.specs.Seen.{definitions_view};
     ghost use Rattle.lx_forms.specs.Seen.{lexeme_view, lexemes_view};
-    ghost use Rattle.lx_exprs.specs.Soundness.{AreSound};
+    ghost use Rattle.lx_exprs.specs.Soundness.{DefinitionsFit};
     ghost use Rattle.lx_forms.specs.StepViews.{step_view};
     ghost use Rattle.lx_forms.specs.Steps.{reads, repeats, subtracts};
     ghost use Rattle.lx_exprs.specs.Values.{IsRoom};
@@ -137,7 +163,7 @@ impl Operands {
     /// Nothing is read.
     fn new(alloc: Global) -> Operands
         ensures stands { (room : Room) → AreOperands room no_operands result }
-        ensures honest { (count : ℕ) → AreHonest count result.values.items }
+        ensures bounded { (count : ℕ) → AreBounded count result.values.items }
         ensures none { result.values.items ≡ [] }
     {
         Operands {
@@ -146,7 +172,7 @@ impl Operands {
         }
     }
 
-    /// Puts a value behind the others.
+    /// Appends a value.
     fn push(&mut self, value: Value) -> Result<(), Memory>
         ensures values { OnOk result (self.new.values.items ≡ self.old.values.items ++ value ∷ []) }
         ensures seen { self.new.seen ≡ self.old.seen }
@@ -176,18 +202,15 @@ impl Operands {
         is_operand: bool,
     ) -> Result<(), Stop>
         requires room { IsRoom reader.room }
-        requires sound { AreSound reader.definitions.now }
+        requires sound { DefinitionsFit reader.definitions.now }
         ensures stands { let definitions = definitions_view reader.entry.definitions.now in
             (operands : reading.Operands) → AreOperands reader.entry.room operands self.old → MatchResult result
             (λ _. IsStepTaken reader.entry.options.now definitions reader.entry.room operands (reads is_operand (lexeme_view lexeme.now)) self.new)
             (StopsAt (StepChecks reader.entry.options.now definitions operands (reads is_operand (lexeme_view lexeme.now)))) }
-        ensures honest { AreHonest (length self.old.seen) self.old.values.items → OnOk result (AreHonest (length self.new.seen) self.new.values.items) }
+        ensures bounded { AreBounded (length self.old.seen) self.old.values.items → OnOk result (AreBounded (length self.new.seen) self.new.values.items) }
         ensures depth { OnOk result (length self.new.values.items ≡ suc (length self.old.values.items)) }
     {
-        let value = match read_leaf(alloc, reader, &mut self.seen, lexeme, is_operand) {
-            Ok(value) => value,
-            Err(stop) => return Err(stop),
-        };
+        let value = read_leaf(alloc, reader, &mut self.seen, lexeme, is_operand)?;
         self.push(value)?;
         Ok(())
     }
@@ -198,7 +221,7 @@ impl Operands {
         requires depth { 1 ≤ length self.old.values.items }
         ensures stands { (operands : reading.Operands) → AreOperands room operands self.old
             → OnOk result (AreOperands room (in_place operands (with_last enclosed operands.meanings)) self.new) }
-        ensures honest { AreHonest (length self.old.seen) self.old.values.items → OnOk result (AreHonest (length self.new.seen) self.new.values.items) }
+        ensures bounded { AreBounded (length self.old.seen) self.old.values.items → OnOk result (AreBounded (length self.new.seen) self.new.values.items) }
         ensures depth { OnOk result (length self.new.values.items ≡ length self.old.values.items) }
     {
         let value = self.pop().enclosed(alloc, room)?;
@@ -213,7 +236,7 @@ impl Operands {
         ensures stands { (options : Options) (definitions : List Definition) (operands : reading.Operands) → AreOperands room operands self.old → MatchResult result
             (λ _. IsStepTaken options definitions room operands (repeats (lexeme_view sign.now)) self.new)
             (StopsAt (StepChecks options definitions operands (repeats (lexeme_view sign.now)))) }
-        ensures honest { AreHonest (length self.old.seen) self.old.values.items → OnOk result (AreHonest (length self.new.seen) self.new.values.items) }
+        ensures bounded { AreBounded (length self.old.seen) self.old.values.items → OnOk result (AreBounded (length self.new.seen) self.new.values.items) }
         ensures depth { OnOk result (length self.new.values.items ≡ length self.old.values.items) }
     {
         let bounds = match checked_bounds(sign) {
@@ -225,37 +248,23 @@ impl Operands {
         Ok(())
     }
 
-    /// Puts the last two values one behind the other.
-    fn join(&mut self, alloc: Global, room: Room) -> Result<(), Memory>
+    /// Replaces the last two values by a sequence or an alternation of them.
+    fn combine(&mut self, alloc: Global, room: Room, pairing: Pairing) -> Result<(), Memory>
         requires room { IsRoom room }
         requires depth { 2 ≤ length self.old.values.items }
         ensures stands { (operands : reading.Operands) → AreOperands room operands self.old
-            → OnOk result (AreOperands room (in_place operands (with_both followed operands.meanings)) self.new) }
-        ensures honest { AreHonest (length self.old.seen) self.old.values.items → OnOk result (AreHonest (length self.new.seen) self.new.values.items) }
-        ensures depth { OnOk result (suc (length self.new.values.items) ≡ length self.old.values.items) }
-    {
-        let back = self.pop();
-        let value = self.pop().followed_by(alloc, room, back)?;
-        self.push(value)?;
-        Ok(())
-    }
-
-    /// Puts the last two values beside each other.
-    fn choose(&mut self, alloc: Global, room: Room) -> Result<(), Memory>
-        requires room { IsRoom room }
-        requires depth { 2 ≤ length self.old.values.items }
-        ensures stands { (operands : reading.Operands) → AreOperands room operands self.old
-            → OnOk result (AreOperands room (in_place operands (with_both alternated operands.meanings)) self.new) }
-        ensures honest { AreHonest (length self.old.seen) self.old.values.items → OnOk result (AreHonest (length self.new.seen) self.new.values.items) }
+            → OnOk result (AreOperands room (in_place operands (with_both (paired pairing) operands.meanings)) self.new) }
+        ensures bounded { AreBounded (length self.old.seen) self.old.values.items → OnOk result (AreBounded (length self.new.seen) self.new.values.items) }
         ensures depth { OnOk result (suc (length self.new.values.items) ≡ length self.old.values.items) }
     {
         let right = self.pop();
-        let value = self.pop().beside(alloc, room, right)?;
+        let left = self.pop();
+        let value = paired(alloc, room, pairing, left, right)?;
         self.push(value)?;
         Ok(())
     }
 
-    /// Puts the difference of the last two values in their place.
+    /// Replaces the last two values by their difference.
     fn subtract(
         &mut self,
         alloc: Global,
@@ -269,15 +278,12 @@ impl Operands {
             (operands : reading.Operands) → AreOperands reader.entry.room operands self.old → MatchResult result
             (λ _. IsStepTaken reader.entry.options.now definitions reader.entry.room operands (subtracts is_operand (lexeme_view sign.now)) self.new)
             (StopsAt (StepChecks reader.entry.options.now definitions operands (subtracts is_operand (lexeme_view sign.now)))) }
-        ensures honest { AreHonest (length self.old.seen) self.old.values.items → OnOk result (AreHonest (length self.new.seen) self.new.values.items) }
+        ensures bounded { AreBounded (length self.old.seen) self.old.values.items → OnOk result (AreBounded (length self.new.seen) self.new.values.items) }
         ensures depth { OnOk result (suc (length self.new.values.items) ≡ length self.old.values.items) }
     {
         let right = self.pop();
         let left = self.pop();
-        let value = match difference(alloc, reader, left, right, is_operand, sign.at) {
-            Ok(value) => value,
-            Err(stop) => return Err(stop),
-        };
+        let value = difference(alloc, reader, left, right, is_operand, sign.at)?;
         self.push(value)?;
         Ok(())
     }
@@ -291,13 +297,13 @@ impl Operands {
         step: Step,
     ) -> Result<(), Stop>
         requires room { IsRoom reader.room }
-        requires sound { AreSound reader.definitions.now }
+        requires sound { DefinitionsFit reader.definitions.now }
         requires needs { Needs (step_view (lexemes_view lexemes) step) (length self.old.values.items) }
         ensures stands { let definitions = definitions_view reader.entry.definitions.now in
             (operands : reading.Operands) → AreOperands reader.entry.room operands self.old → MatchResult result
             (λ _. IsStepTaken reader.entry.options.now definitions reader.entry.room operands (step_view (lexemes_view lexemes.entry) step) self.new)
             (StopsAt (StepChecks reader.entry.options.now definitions operands (step_view (lexemes_view lexemes.entry) step))) }
-        ensures honest { AreHonest (length self.old.seen) self.old.values.items → OnOk result (AreHonest (length self.new.seen) self.new.values.items) }
+        ensures bounded { AreBounded (length self.old.seen) self.old.values.items → OnOk result (AreBounded (length self.new.seen) self.new.values.items) }
         ensures depth { OnOk result (length self.new.values.items ≡ depth_behind (step_view (lexemes_view lexemes.entry) step) (length self.old.values.items)) }
     {
         let lexeme = lexemes.at(step.place as usize);
@@ -306,9 +312,9 @@ impl Operands {
             StepSort::Open => open(reader.options, &lexeme),
             StepSort::Close => Ok(self.close(alloc, reader.room)?),
             StepSort::Repeat => self.repeat(alloc, reader.room, &lexeme),
-            StepSort::Join => Ok(self.join(alloc, reader.room)?),
+            StepSort::Join => Ok(self.combine(alloc, reader.room, Pairing::Sequence)?),
             StepSort::Subtract => self.subtract(alloc, reader, &lexeme, step.is_operand),
-            StepSort::Choose => Ok(self.choose(alloc, reader.room)?),
+            StepSort::Choose => Ok(self.combine(alloc, reader.room, Pairing::Alternation)?),
         }
     }
 }
@@ -320,7 +326,7 @@ fn open(options: &Options, opening: &Lexeme<'_>) -> Result<(), Stop>
         (StopsAt (Finds (group_fault options.now definitions (lexeme_view opening.now)))) }
 {
     if options.captures || options.posix {
-        return Err(waits(opening.at));
+        return Err(unsupported(opening.at));
     }
     Ok(())
 }
@@ -333,21 +339,18 @@ fn take_steps(
     steps: &[Step],
 ) -> Result<Operands, Stop>
     requires room { IsRoom reader.room }
-    requires sound { AreSound reader.definitions.now }
+    requires sound { DefinitionsFit reader.definitions.now }
     requires order { AreInOrder 0 (map (step_view (lexemes_view lexemes)) steps.now) }
     ensures taken { let definitions = definitions_view reader.entry.definitions.now in
         MatchResult result
         (AreTaken reader.entry.options.now definitions reader.entry.room no_operands (map (step_view (lexemes_view lexemes.entry)) steps.now))
         (StopsReading reader.entry.options.now definitions no_operands (map (step_view (lexemes_view lexemes.entry)) steps.now)) }
-    ensures honest { IfOk result (λ operands. AreHonest (length operands.seen) operands.values.items) }
+    ensures bounded { IfOk result (λ operands. AreBounded (length operands.seen) operands.values.items) }
     ensures one { IfOk result (λ operands. length operands.values.items ≡ 1) }
 {
     let mut operands = Operands::new(alloc);
     for step in steps {
-        match operands.take(alloc, reader, lexemes, *step) {
-            Ok(()) => {}
-            Err(stop) => return Err(stop),
-        }
+        operands.take(alloc, reader, lexemes, *step)?;
     }
     Ok(operands)
 }
@@ -361,20 +364,16 @@ pub fn read_expression(
     until: usize,
 ) -> Result<Reading, Stop>
     requires room { IsRoom reader.room }
-    requires sound { AreSound reader.definitions.now }
+    requires sound { DefinitionsFit reader.definitions.now }
     requires part { IsPart (sorts_at (lexemes_view lexemes)) alt from until }
     requires few { until < 2 ^ 32 }
-    ensures honest { IfOk result (λ reading. IsHonest (length reading.tags) reading.value) }
+    ensures bounded { IfOk result (λ reading. IsBounded (length reading.tags) reading.value) }
     ensures read { let definitions = definitions_view reader.entry.definitions.now in
         MatchResult result (IsRead reader.entry.options.now (lexemes_view lexemes.entry) definitions reader.entry.room from until)
         (StopsAt (ExpressionChecks reader.entry.options.now (lexemes_view lexemes.entry) definitions from until)) }
 {
     let steps = expression_steps(alloc, lexemes, from, until)?;
-    let operands = match take_steps(alloc, reader, lexemes, &steps) {
-        Ok(operands) => operands,
-        Err(stop) => return Err(stop),
-    };
-    let mut operands = operands;
+    let mut operands = take_steps(alloc, reader, lexemes, &steps)?;
     let value = operands.pop();
     let tags = operands.seen.into_shared(alloc)?;
     Ok(Reading { value, tags })

@@ -1,5 +1,6 @@
 //! Reads the tokens of an expression that are no signs between others.
 ghost use Rattle.std.specs.Prelude.{◌≡◌, ◌≤◌, ◌∷◌, ◌++◌, ◌^◌, ◌+◌, ℕ, Bool, true, false, List, Some, None, [], IfOk, MatchResult, length, map, max, min, suc};
+ghost use Rattle.lx_base.specs.declared.limits.TheConstants.{SIZE_LIMIT};
 ghost use Rattle.lx_base.specs.declared.faults.Fault.TheVariants.{EmptyClass, UnknownName, Unsupported};
 ghost use Rattle.lx_base.specs.declared.faults.Stop.TheVariants as stop;
 ghost use Rattle.lx_base.specs.declared.places.Pos.{Pos};
@@ -7,17 +8,17 @@ ghost use Rattle.lx_base.specs.declared.settings.Options.{Options};
 ghost use Rattle.lx_class.specs.Ranges.{InRanges, IsCanonical};
 ghost use Rattle.lx_regex.specs.Expr.{members_of, size_of, term_of};
 ghost use Rattle.lx_regex.specs.Term.{cat};
-ghost use Rattle.lx_exprs.specs.Checks.{IsFilled, LeafChecks, PointsAre, StopsAt};
+ghost use Rattle.lx_exprs.specs.Checks.{IsFilled, PointsAre, StopsAt};
 ghost use Rattle.lx_exprs.specs.Defined.{Definition, is_built, kept};
 ghost use Rattle.lx_forms.specs.Lexemes as lexical;
 ghost use Rattle.lx_forms.specs.Lexemes.{points_in};
 ghost use Rattle.lx_exprs.specs.Meanings.{IsSetOf, character_set, class_meaning, copied, meaning_of_string, set_term, string_meaning, tag_meaning};
 ghost use Rattle.lx_exprs.specs.Points.{singles};
-ghost use Rattle.lx_exprs.specs.Reading.{IsLeafRead};
+ghost use Rattle.lx_exprs.specs.Reading.{IsLeafRead, IsLeafResult};
 ghost use Rattle.lx_exprs.specs.Seen.{AreCodePoints, IsStop, definition_view, definitions_view, points_of};
 ghost use Rattle.lx_forms.specs.Seen.{lexeme_view};
-ghost use Rattle.lx_exprs.specs.Soundness.{AreSound, FitsKept};
-ghost use Rattle.lx_exprs.specs.Values.{AreTagsBelow, IsContent, IsHonest, IsRoom, IsValue, content_size, is_past};
+ghost use Rattle.lx_exprs.specs.Soundness.{DefinitionsFit, FitsKept};
+ghost use Rattle.lx_exprs.specs.Values.{AreTagsBelow, IsContent, IsBounded, IsRoom, IsValue, content_size, is_past};
 ghost use Rattle.lx_token.specs.declared.kinds.TokenKind.TheVariants as kind;
 
 use crate::copies::copy;
@@ -25,8 +26,9 @@ use crate::definitions::{Definitions, Kept};
 use crate::points::points_fault;
 use crate::sets::{character_set, class_set, line_set, ranges_of, single_ranges};
 use crate::tags::{SeenTags, repeated_tag, tag_name};
-use crate::values::{Content, MOST_SIZE, MOST_TAGS, Room, Value, class_of, sum};
-use lx_base::{EmptyPolicy, Fault, Memory, Options, Pos, Stop, SurPolicy};
+use crate::values::{Content, Room, Value, class_of, sum};
+use lx_base::limits::{SIZE_LIMIT, TAG_LIMIT};
+use lx_base::{ByteText, EmptyPolicy, Fault, Memory, Options, Pos, Stop, SurPolicy};
 use lx_class::ClassSet;
 use lx_forms::lexemes::Lexeme;
 use lx_regex::Expr;
@@ -43,7 +45,7 @@ pub struct Reader<'r> {
 }
 
 /// A form that is not supported yet.
-pub fn waits(at: Pos) -> Stop
+pub fn unsupported(at: Pos) -> Stop
     ensures { result ≡ stop.Fault (Unsupported (Some at)) }
 {
     Stop::Fault(Fault::Unsupported { at: Some(at) })
@@ -76,7 +78,7 @@ fn string_content(
     characters: &[Character],
 ) -> Result<Content, Memory>
     requires { AreCodePoints characters.now }
-    ensures stands { (is_built : Bool) (count : ℕ) → (4096 + 1 ≤ length characters.now → is_built ≡ false)
+    ensures stands { (is_built : Bool) (count : ℕ) → (SIZE_LIMIT + 1 ≤ length characters.now → is_built ≡ false)
         → IfOk result (IsContent is_built (string_meaning count (map (character_set policy is_caseless) (points_of characters.now)))) }
     ensures size { IfOk result (λ content. content_size content ≤ max 1 (length characters.now)) }
     ensures tags { (bound : ℕ) → IfOk result (AreTagsBelow bound) }
@@ -87,7 +89,7 @@ fn string_content(
             let set = character_set(alloc, policy, is_caseless, character.point)?;
             Ok(Content::One(Expr::Class(set)))
         }
-        _ if characters.len() as u64 <= MOST_SIZE => {
+        _ if characters.len() as u64 <= SIZE_LIMIT => {
             let expr = sequence(alloc, policy, is_caseless, characters)?;
             Ok(Content::One(expr))
         }
@@ -107,7 +109,8 @@ fn class_content(policy: EmptyPolicy, is_operand: bool, set: ClassSet) -> Conten
     Content::One(Expr::Class(set))
 }
 
-/// A copy of the expression of a definition, behind so many tags. One that was not built is missed nowhere.
+/// A copy of the expression of a definition, behind so many tags. A definition without one is past a limit, and so is each
+/// expression that names it: what stands for it here is dropped when the value is limited.
 fn kept_content(alloc: Global, kept: &Kept, by: u64) -> Result<Content, Memory>
     requires { FitsKept kept.now.expr kept.now.size (length kept.now.tags) }
     ensures stands { (is_built : Bool) (before : ℕ) → by ≡ min (2 ^ 40) before → (128 + 1 ≤ before + length kept.now.tags → is_built ≡ false)
@@ -118,7 +121,7 @@ fn kept_content(alloc: Global, kept: &Kept, by: u64) -> Result<Content, Memory>
     let Some(expr) = &kept.expr else {
         return Ok(Content::One(Expr::Empty));
     };
-    if sum(by, kept.tags.len()) > MOST_TAGS {
+    if sum(by, kept.tags.len()) > TAG_LIMIT {
         let class = class_of(alloc, expr)?;
         return Ok(Content::Past(class, false));
     }
@@ -151,7 +154,7 @@ fn read_string(
         (λ value. PointsAre reader.entry.options.now definitions (lexeme_view lexeme.now) (singles (points_in (lexeme_view lexeme.now))) None
         × IsValue reader.entry.room (meaning_of_string reader.entry.options.now definitions is_caseless before (lexeme_view lexeme.now)) value)
         (StopsAt (PointsAre reader.entry.options.now definitions (lexeme_view lexeme.now) (singles (points_in (lexeme_view lexeme.now))))) }
-    ensures honest { (all : ℕ) → IfOk result (IsHonest all) }
+    ensures bounded { (all : ℕ) → IfOk result (IsBounded all) }
 {
     let options = reader.options;
     let characters = characters_of(alloc, lexeme.text)?;
@@ -190,7 +193,7 @@ pub fn read_set(
         (λ value. IsFilled reader.entry.options.now definitions reader.entry.options.now.empty is_operand at (InRanges set) None
         × IsValue reader.entry.room (class_meaning is_operand reader.entry.options.now.empty depth tags all set) value)
         (StopsAt (IsFilled reader.entry.options.now definitions reader.entry.options.now.empty is_operand at (InRanges set))) }
-    ensures honest { (all : ℕ) → IfOk result (IsHonest all) }
+    ensures bounded { (all : ℕ) → IfOk result (IsBounded all) }
 {
     let policy = reader.options.empty;
     if is_refused(policy, is_operand, &set) {
@@ -210,11 +213,9 @@ fn read_class(
 ) -> Result<Value, Stop>
     requires room { IsRoom reader.room }
     requires sort { (lexeme_view lexeme.now).kind ≡ kind.Class }
-    ensures read { let definitions = definitions_view reader.entry.definitions.now in
-        (before : List (List ℕ)) → count ≡ kept (length before) → MatchResult result
-        (IsLeafRead reader.entry.options.now definitions reader.entry.room is_operand before (lexeme_view lexeme.now) before)
-        (StopsAt (LeafChecks reader.entry.options.now definitions (lexeme_view lexeme.now).kind is_operand before (lexeme_view lexeme.now))) }
-    ensures honest { (all : ℕ) → IfOk result (IsHonest all) }
+    ensures read { (before : List (List ℕ)) → count ≡ kept (length before)
+        → IsLeafResult reader.entry.options.now (definitions_view reader.entry.definitions.now) reader.entry.room is_operand before (lexeme_view lexeme.now) before result }
+    ensures bounded { (all : ℕ) → IfOk result (IsBounded all) }
 {
     let options = reader.options;
     let class = written_class(alloc, lexeme.text)?;
@@ -237,7 +238,7 @@ fn read_line(
     ensures read { let definitions = definitions_view reader.entry.definitions.now in
         (before : List (List ℕ)) (lexeme : lexical.Lexeme) → count ≡ kept (length before) → lexeme.kind ≡ kind.Signs
         → IfOk result (IsLeafRead reader.entry.options.now definitions reader.entry.room is_operand before lexeme before) }
-    ensures honest { (all : ℕ) → IfOk result (IsHonest all) }
+    ensures bounded { (all : ℕ) → IfOk result (IsBounded all) }
 {
     let set = line_set(alloc, reader.options)?;
     let content = class_content(reader.options.empty, is_operand, set);
@@ -254,12 +255,9 @@ fn read_name(
 ) -> Result<Value, Stop>
     requires room { IsRoom reader.room }
     requires sort { (lexeme_view lexeme.now).kind ≡ kind.Name }
-    requires sound { AreSound reader.definitions.now }
-    ensures read { let definitions = definitions_view reader.entry.definitions.now in
-        MatchResult result
-        (IsLeafRead reader.entry.options.now definitions reader.entry.room is_operand seen.old (lexeme_view lexeme.now) seen.new)
-        (StopsAt (LeafChecks reader.entry.options.now definitions (lexeme_view lexeme.now).kind is_operand seen.old (lexeme_view lexeme.now))) }
-    ensures honest { IfOk result (IsHonest (length seen.new)) }
+    requires sound { DefinitionsFit reader.definitions.now }
+    ensures read { IsLeafResult reader.entry.options.now (definitions_view reader.entry.definitions.now) reader.entry.room is_operand seen.old (lexeme_view lexeme.now) seen.new result }
+    ensures bounded { IfOk result (IsBounded (length seen.new)) }
 {
     let Some(kept) = reader.definitions.get(lexeme.text) else {
         return Err(unknown(alloc, lexeme));
@@ -283,7 +281,7 @@ fn tag_content(number: u64) -> Content
     ensures size { content_size result ≤ 1 }
     ensures tags { (before : ℕ) → number ≡ kept before → AreTagsBelow (suc before) result }
 {
-    if number < MOST_TAGS {
+    if number < TAG_LIMIT {
         Content::One(Expr::STag(number as u32))
     } else {
         Content::Past(None, false)
@@ -300,11 +298,8 @@ fn read_tag(
 ) -> Result<Value, Stop>
     requires room { IsRoom reader.room }
     requires sort { (lexeme_view lexeme.now).kind ≡ kind.STag }
-    ensures read { let definitions = definitions_view reader.entry.definitions.now in
-        MatchResult result
-        (IsLeafRead reader.entry.options.now definitions reader.entry.room is_operand seen.old (lexeme_view lexeme.now) seen.new)
-        (StopsAt (LeafChecks reader.entry.options.now definitions (lexeme_view lexeme.now).kind is_operand seen.old (lexeme_view lexeme.now))) }
-    ensures honest { IfOk result (IsHonest (length seen.new)) }
+    ensures read { IsLeafResult reader.entry.options.now (definitions_view reader.entry.definitions.now) reader.entry.room is_operand seen.old (lexeme_view lexeme.now) seen.new result }
+    ensures bounded { IfOk result (IsBounded (length seen.new)) }
 {
     if !reader.options.tags {
         return Err(Stop::Fault(Fault::TagsOff { at: lexeme.at }));
@@ -333,12 +328,9 @@ pub fn read_leaf(
     is_operand: bool,
 ) -> Result<Value, Stop>
     requires room { IsRoom reader.room }
-    requires sound { AreSound reader.definitions.now }
-    ensures read { let definitions = definitions_view reader.entry.definitions.now in
-        MatchResult result
-        (IsLeafRead reader.entry.options.now definitions reader.entry.room is_operand seen.old (lexeme_view lexeme.now) seen.new)
-        (StopsAt (LeafChecks reader.entry.options.now definitions (lexeme_view lexeme.now).kind is_operand seen.old (lexeme_view lexeme.now))) }
-    ensures honest { IfOk result (IsHonest (length seen.new)) }
+    requires sound { DefinitionsFit reader.definitions.now }
+    ensures read { IsLeafResult reader.entry.options.now (definitions_view reader.entry.definitions.now) reader.entry.room is_operand seen.old (lexeme_view lexeme.now) seen.new result }
+    ensures bounded { IfOk result (IsBounded (length seen.new)) }
 {
     match lexeme.kind {
         TokenKind::Str => read_string(alloc, reader, seen.len(), lexeme, false),

@@ -4,6 +4,7 @@
 pub mod copies;
 pub mod definitions;
 pub mod expressions;
+pub mod laws;
 pub mod leaves;
 pub mod points;
 pub mod sets;

@@ -60,7 +60,7 @@ pub fn points_fault(enc: Enc, policy: SurPolicy, at: Pos, ranges: &[Range]) -> O
     }
 }
 
-/// The point that a policy puts in the place of one.
+/// The point that takes the place of one under a policy.
 pub fn replaced(policy: SurPolicy, point: u32) -> u32
     ensures { result ≡ replaced policy point }
 {

@@ -58,7 +58,7 @@ impl TagNames {
         self.index.get(name).is_some()
     }
 
-    /// Puts a copy of a name behind the others.
+    /// Appends a copy of a name.
     pub fn push(&mut self, alloc: Global, name: &[u8]) -> Result<(), Memory>
         ensures { OnOk result (self.new ≡ self.old ++ name.now ∷ []) }
     {
@@ -72,7 +72,7 @@ impl TagNames {
         Ok(())
     }
 
-    /// Puts copies of names behind the others.
+    /// Appends copies of names.
     pub fn push_all(&mut self, alloc: Global, more: &[ByteText]) -> Result<(), Memory>
         ensures { OnOk result (self.new ≡ self.old ++ more.now) }
     {
@@ -143,7 +143,7 @@ impl SharedTags {
         false
     }
 
-    /// Puts a segment behind the others.
+    /// Appends a segment.
     fn push(&mut self, segment: Rc<TagNames>) -> Result<(), Memory>
         ensures { OnOk result (self.new ≡ self.old ++ segment.value) }
     {
@@ -153,7 +153,7 @@ impl SharedTags {
         Ok(())
     }
 
-    /// Puts the segments of others behind these.
+    /// Appends the segments of others.
     pub fn append(&mut self, more: &SharedTags) -> Result<(), Memory>
         ensures { OnOk result (self.new ≡ self.old ++ more.now) }
     {
@@ -209,7 +209,7 @@ impl SharedTags {
         Ok(all)
     }
 
-    /// Puts copies of the names behind others.
+    /// Appends copies of the names to others.
     pub fn copy_to(&self, alloc: Global, names: &mut TagNames) -> Result<(), Memory>
         ensures { OnOk result (names.new ≡ names.old ++ self.now) }
     {
@@ -231,7 +231,7 @@ fn both_names(alloc: Global, front: &[ByteText], back: &[ByteText]) -> Result<Rc
     Ok(Rc::new(alloc, names)?)
 }
 
-/// Puts a segment behind others. It is put together with the last of them where both are short.
+/// Appends a segment. It is joined with the last one where both are short.
 fn join(
     alloc: Global,
     segments: &mut Vec<Rc<TagNames>>,
@@ -292,14 +292,14 @@ impl SeenTags {
         self.shared.contains(name) || self.own.contains(name)
     }
 
-    /// Puts a copy of a name behind the others.
+    /// Appends a copy of a name.
     pub fn push(&mut self, alloc: Global, name: &[u8]) -> Result<(), Memory>
         ensures { OnOk result (self.new ≡ self.old ++ name.now ∷ []) }
     {
         self.own.push(alloc, name)
     }
 
-    /// Puts the names of a definition behind the others. They are copied where they are few, and else shared.
+    /// Appends the names of a definition. They are copied where they are few, and else shared.
     pub fn add(&mut self, alloc: Global, more: &SharedTags) -> Result<(), Memory>
         ensures { OnOk result (self.new ≡ self.old ++ more.now) }
     {

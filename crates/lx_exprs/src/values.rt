@@ -1,11 +1,13 @@
 //! What is read of an expression.
 ghost use Rattle.std.specs.Prelude.{◌≡◌, ◌++◌, ℕ, ◌+◌, ◌^◌, IfOk, List, Option, map, min};
+ghost use Rattle.lx_base.specs.declared.limits.TheConstants.{BOUND_LIMIT, SIZE_LIMIT};
 ghost use Rattle.lx_regex.specs.Expr.{members_of, size_of, term_of};
 ghost use Rattle.lx_regex.specs.Expr as regex;
 ghost use Rattle.lx_exprs.specs.Defined.{both_classes, class_in, classes_in};
 ghost use Rattle.lx_exprs.specs.Values.{HasPoints};
 
 use crate::sets::Collected;
+use lx_base::limits::NESTING_LIMIT;
 use lx_base::Memory;
 use lx_class::ClassSet;
 use lx_regex::Expr;
@@ -14,15 +16,6 @@ use std::alloc::Global;
 
 /// Where kept sizes end: 2^40 stands for itself and for more.
 const MOST_KEPT: u64 = 1 << 40;
-
-/// The greatest size of a scanner.
-pub const MOST_SIZE: u64 = 4096;
-
-/// The greatest nesting in a scanner.
-pub const MOST_NESTING: u64 = 256;
-
-/// The greatest number of tags in a scanner.
-pub const MOST_TAGS: u64 = 128;
 
 /// What an expression may have at most so that it is built.
 #[derive(Clone, Copy, Debug)]
@@ -39,7 +32,7 @@ impl Room {
     fn fits(self, size: u64, nesting: u64, tags: u64) -> bool
         ensures { result ≡ fits self size nesting tags }
     {
-        size <= self.size && nesting <= MOST_NESTING && tags <= self.tags
+        size <= self.size && nesting <= NESTING_LIMIT && tags <= self.tags
     }
 }
 
@@ -281,8 +274,8 @@ impl Content {
 
     /// The same, repeated.
     fn repeated(self, alloc: Global, bounds: Repeat) -> Result<Content, Memory>
-        requires least { bounds.min ≤ 4096 }
-        requires most { IfSome bounds.max (λ most. most ≤ 4096) }
+        requires least { bounds.min ≤ BOUND_LIMIT }
+        requires most { IfSome bounds.max (λ most. most ≤ BOUND_LIMIT) }
         ensures stands { (is_built is_built_around : Bool) (meaning : Meaning) → IsContent is_built meaning self
             → (is_built ≡ false → is_built_around ≡ false) → IfOk result (IsContent is_built_around (repeated_by bounds meaning)) }
         ensures size { IfOk result (λ around. content_size around ≤ content_size self * times bounds.min bounds.max + 1) }
@@ -321,7 +314,7 @@ impl Value {
     ghost use Rattle.lx_regex.specs.Expr.{size_of, term_of};
     ghost use Rattle.lx_exprs.specs.Defined.{HasClass, IsTermKept, Meaning, is_built, meant_class, term_of_meaning, whole_room};
     ghost use Rattle.lx_exprs.specs.Meanings.{alternated, enclosed, followed, repeated_by};
-    ghost use Rattle.lx_exprs.specs.Values.{AreTagsBelow, IsContent, IsCounted, IsHonest, IsRoom, IsValue, content_size};
+    ghost use Rattle.lx_exprs.specs.Values.{AreTagsBelow, IsContent, IsCounted, IsBounded, IsRoom, IsValue, content_size};
     ghost use Rattle.lx_exprs.specs.Soundness.{FitsKept};
 
     /// What is read, where these are its numbers: past a limit only its class is kept.
@@ -335,7 +328,7 @@ impl Value {
     ) -> Result<Value, Memory>
         requires { IsRoom room }
         ensures stands { (meaning : Meaning) → IsCounted meaning size nesting tags → IsContent (is_built room meaning) meaning content → IfOk result (IsValue room meaning) }
-        ensures honest { (count : ℕ) → 1 ≤ size → (size ≤ 4096 → content_size content ≤ size) → AreTagsBelow count content → IfOk result (IsHonest count) }
+        ensures bounded { (count : ℕ) → 1 ≤ size → (size ≤ SIZE_LIMIT → content_size content ≤ size) → AreTagsBelow count content → IfOk result (IsBounded count) }
     {
         if room.fits(size, nesting, tags) {
             return Ok(Value {
@@ -359,7 +352,7 @@ impl Value {
     pub fn enclosed(self, alloc: Global, room: Room) -> Result<Value, Memory>
         requires { IsRoom room }
         ensures stands { (meaning : Meaning) → IsValue room meaning self → IfOk result (IsValue room (enclosed meaning)) }
-        ensures honest { (count : ℕ) → IsHonest count self → IfOk result (IsHonest count) }
+        ensures bounded { (count : ℕ) → IsBounded count self → IfOk result (IsBounded count) }
     {
         let (size, tags) = (self.size, self.tags);
         let nesting = sum(self.nesting, 1);
@@ -370,10 +363,10 @@ impl Value {
     /// This, repeated.
     pub fn repeated(self, alloc: Global, room: Room, bounds: Repeat) -> Result<Value, Memory>
         requires room { IsRoom room }
-        requires least { bounds.min ≤ 4096 }
-        requires most { IfSome bounds.max (λ most. most ≤ 4096) }
+        requires least { bounds.min ≤ BOUND_LIMIT }
+        requires most { IfSome bounds.max (λ most. most ≤ BOUND_LIMIT) }
         ensures stands { (meaning : Meaning) → IsValue room meaning self → IfOk result (IsValue room (repeated_by bounds meaning)) }
-        ensures honest { (count : ℕ) → IsHonest count self → IfOk result (IsHonest count) }
+        ensures bounded { (count : ℕ) → IsBounded count self → IfOk result (IsBounded count) }
     {
         let size = sum(MOST_KEPT.min(self.size.saturating_mul(times(bounds))), 1);
         let nesting = sum(self.nesting, 1);
@@ -386,7 +379,7 @@ impl Value {
     pub fn followed_by(self, alloc: Global, room: Room, back: Value) -> Result<Value, Memory>
         requires { IsRoom room }
         ensures stands { (first second : Meaning) → IsValue room first self → IsValue room second back → IfOk result (IsValue room (followed first second)) }
-        ensures honest { (count : ℕ) → IsHonest count self → IsHonest count back → IfOk result (IsHonest count) }
+        ensures bounded { (count : ℕ) → IsBounded count self → IsBounded count back → IfOk result (IsBounded count) }
     {
         let size = sum(self.size, back.size);
         let nesting = self.nesting.max(back.nesting);
@@ -399,7 +392,7 @@ impl Value {
     pub fn beside(self, alloc: Global, room: Room, right: Value) -> Result<Value, Memory>
         requires { IsRoom room }
         ensures stands { (first second : Meaning) → IsValue room first self → IsValue room second right → IfOk result (IsValue room (alternated first second)) }
-        ensures honest { (count : ℕ) → IsHonest count self → IsHonest count right → IfOk result (IsHonest count) }
+        ensures bounded { (count : ℕ) → IsBounded count self → IsBounded count right → IfOk result (IsBounded count) }
     {
         let more = if self.content.is_choice() { 0 } else { 1 };
         let size = sum(sum(self.size, more), right.size);
@@ -423,7 +416,7 @@ impl Value {
     pub fn into_kept(self, alloc: Global) -> Result<Option<Expr>, Memory>
         ensures term { (tags : ℕ) (meaning : Meaning) → IsValue whole_room meaning self
             → IfOk result (λ found. IsTermKept (is_built whole_room meaning) meaning (option_map (term_of tags) found)) }
-        ensures kept { (count : ℕ) → IsHonest count self → IfOk result (λ found. FitsKept found self.size count) }
+        ensures kept { (count : ℕ) → IsBounded count self → IfOk result (λ found. FitsKept found self.size count) }
     {
         match self.content {
             Content::Past(class, _) => match class {
@@ -439,7 +432,7 @@ impl Value {
         ensures built { (room : Room) (meaning : Meaning) → IsValue room meaning self
             → IfSome result (λ expr. (tags : ℕ) → term_of tags expr ≡ term_of_meaning meaning) }
         ensures past { (room : Room) (meaning : Meaning) → IsValue room meaning self → IfNone result (is_built room meaning ≡ false) }
-        ensures kept { (count : ℕ) → IsHonest count self → FitsKept result self.size count }
+        ensures kept { (count : ℕ) → IsBounded count self → FitsKept result self.size count }
     {
         self.content.into_expr()
     }

@@ -1,3 +1,4 @@
+pub mod FilePlaces
 pub mod FormReading
 pub mod OneForm
 pub mod PlainForms

@@ -1,5 +1,6 @@
 -- The tokens of a block with their texts.
-use Rattle.std.specs.Prelude.{ℕ, ◌-◌, List, [], map, take, drop, slice_index_or}
+use Rattle.std.specs.Prelude.{◌≡◌, ℕ, ◌-◌, List, [], map, take, drop, slice_index_or}
+use Rattle.std.specs.List.{AllByRecursion}
 use Rattle.lx_base.specs.declared.places.Pos.{Pos}
 use Rattle.lx_token.specs.declared.kinds.TokenKind.{TokenKind}
 use Rattle.lx_token.specs.declared.kinds.TokenKind.TheVariants.{Signs}
@@ -21,6 +22,10 @@ lexeme_of body token = record { kind = token.kind; text = take (token.to - token
 
 abbrev pub lexemes_of : (body : List ℕ) → List Token → List Lexeme
 lexemes_of body tokens = map (lexeme_of body) tokens
+
+-- the tokens stand in this file
+abbrev pub StandInFile : (file : ℕ) → List Lexeme → Type 0
+StandInFile file lexemes = AllByRecursion (λ (lexeme : Lexeme). lexeme.at.file ≡ file) lexemes
 
 -- the terminal of the grammar that it is
 abbrev pub sort_at : Lexeme → Sort

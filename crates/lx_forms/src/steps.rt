@@ -1,8 +1,8 @@
 //! The steps in which an expression is read: what stands in a form comes before the form.
 //!
-//! A pass from left to right puts out what is done at each token, with a stack of the parentheses that are open; a pass from
-//! right to left marks what is an operand of a difference. Nothing is called again inside itself, so that parentheses may stand
-//! in one another however deep.
+//! This is operator precedence parsing by a shunting-yard (Dijkstra 1961). Repetitions bind tightest, then sequences, then `\`,
+//! and `|` least. A pass from left to right gives the step of each token, with a stack of the parentheses that are open; a pass
+//! from right to left marks what is an operand of a difference. No function calls itself, so parentheses may nest to any depth.
 ghost use Rattle.std.specs.Prelude.{◌≡◌, ◌≤◌, ◌<◌, ◌-◌, ◌^◌, List, [], ◌∷◌, IfOk, OnOk, drop, false, length, map, reverse, take};
 ghost use Rattle.lx_parse.specs.Expressions.{alt};
 ghost use Rattle.lx_parse.specs.Ranges.{IsPart};
@@ -93,7 +93,7 @@ impl Progress {
     ghost use Rattle.lx_forms.specs.StepRuns.{before_part, behind_alternatives, behind_backslash, behind_bar, behind_difference, behind_sequence, behind_steps, behind_token, inside, outside, owed};
     ghost use Rattle.lx_forms.specs.StepViews.{progress_view, step_of};
 
-    /// Puts a step behind the others.
+    /// Appends a step.
     fn put(&mut self, sort: StepSort, place: u32) -> Result<(), Memory>
         ensures { OnOk result ((lexemes : List lexical.Lexeme) → progress_view lexemes self.new ≡ behind_steps (step_of sort false (nth_lexeme lexemes place) ∷ []) (progress_view lexemes self.old)) }
     {
@@ -105,7 +105,7 @@ impl Progress {
         Ok(())
     }
 
-    /// Puts a step that stands at no token behind the others, where it is owed.
+    /// Appends a step that stands at no token, where it is owed.
     fn put_owed(&mut self, is_owed: bool, sort: StepSort) -> Result<(), Memory>
         ensures { OnOk result ((lexemes : List lexical.Lexeme) → progress_view lexemes self.new ≡ behind_steps (owed is_owed (step_of sort false (nth_lexeme lexemes 0))) (progress_view lexemes self.old)) }
     {

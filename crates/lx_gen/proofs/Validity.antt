@@ -2,9 +2,9 @@
 pub mod ActionCounts
 pub mod CodeFits
 pub mod EachElement
-pub mod FineCodes
-pub mod FineLayouts
-pub mod FinePieces
+pub mod SpelledCodes
+pub mod SpelledLayouts
+pub mod SpelledPieces
 pub mod LayoutFits
 pub mod LayoutLaws
 pub mod PlainCodes

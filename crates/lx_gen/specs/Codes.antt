@@ -10,7 +10,7 @@ use Rattle.lx_auto.specs.declared.ops.Op.{Op}
 use Rattle.lx_auto.specs.declared.ops.Op.TheVariants as act
 use Rattle.lx_ccode.specs.declared.piece.Stmt.{Stmt}
 use Rattle.lx_ccode.specs.declared.piece.Stmt.TheVariants.{Accept as KeepAccept, Backup, Copy, Goto, IfAccept, Leave, MCopy, MSet, MUnset, Restore, Set, Skip, Unset}
-use Rattle.lx_gen.specs.Sequences.{one_by_one}
+use Rattle.lx_gen.specs.ParallelCopies.{sequentialized}
 
 -- an operation; the piece counts registers from 1 and histories from 0
 abbrev pub op_code : Op → Stmt
@@ -28,7 +28,7 @@ ops_code (op ∷ ops) rest = op_code op ∷ ops_code ops rest
 
 -- operations of an automaton, which act at once: the register behind its last one is the spare, of each sort
 abbrev pub list_code : Auto → List Op → List Stmt → List Stmt
-list_code auto ops rest = ops_code (one_by_one auto.regs auto.mregs ops) rest
+list_code auto ops rest = ops_code (sequentialized auto.regs auto.mregs ops) rest
 
 -- ---- the fallback
 

@@ -1,8 +1,8 @@
 -- What definitions see of copies in the code.
 use Rattle.std.specs.Prelude.{◌≡◌, ℕ, List, [], ◌∷◌, ◌++◌, map, true, false, nat_eq, ◌&&◌, not, if◌then◌else◌, Option, Some, None}
-use Rattle.lx_gen.specs.Sequences.{Copies, is_in, sources}
-use Rattle.lx_gen.specs.declared.sequences.CopyOp.{CopyOp}
-use Rattle.lx_gen.specs.declared.sequences.Waiting.{Waiting}
+use Rattle.lx_gen.specs.ParallelCopies.{Copies, is_in, sources}
+use Rattle.lx_gen.specs.declared.parallel_copies.CopyOp.{CopyOp}
+use Rattle.lx_gen.specs.declared.parallel_copies.Waiting.{Waiting}
 
 -- a copy as its target and its source
 abbrev pub seen_copy : CopyOp → ℕ × ℕ
@@ -26,13 +26,13 @@ copy_between before [] = None
 copy_between before (copy ∷ behind) = Some (copy, before ++ behind)
 
 -- what is known of a copy that waits: another one of all the copies reads its target
-abbrev pub IsKnown : (all : Copies) → Waiting → Type 0
-IsKnown all waiting =
+abbrev pub IsReadByOthers : (all : Copies) → Waiting → Type 0
+IsReadByOthers all waiting =
     waiting.is_read ≡ true → (nat_eq waiting.copy.target waiting.copy.source ≡ false) × (is_in waiting.copy.target (sources all) ≡ true)
 
-abbrev pub AreKnown : (all : Copies) → List Waiting → Type 0
-AreKnown all [] = Unit {0}
-AreKnown all (waiting ∷ others) = IsKnown all waiting × AreKnown all others
+abbrev pub AreReadByOthers : (all : Copies) → List Waiting → Type 0
+AreReadByOthers all [] = Unit {0}
+AreReadByOthers all (waiting ∷ others) = IsReadByOthers all waiting × AreReadByOthers all others
 
 -- a copy of which nothing is known yet
 abbrev pub new_waiting : CopyOp → Waiting

@@ -11,7 +11,7 @@ use Rattle.lx_ccode.specs.Machine.{by_rule, no_rule, tag_offset}
 use Rattle.lx_ccode.specs.Runs.{Ended}
 use Rattle.lx_gen.specs.Endings.{Ending}
 use Rattle.lx_gen.specs.Layout.{front_blocks, layout, numbered}
-use Rattle.lx_gen.specs.Sequences.{one_by_one}
+use Rattle.lx_gen.specs.ParallelCopies.{sequentialized}
 use Rattle.lx_gen.specs.Starts.{run_with}
 use Rattle.lx_gen.specs.TestTrees.{balanced}
 use Rattle.lx_gen.specs.Ways.{Stretch}
@@ -99,10 +99,10 @@ pub record TestsAreFew : Type 0 where
 
 -- two registers are swapped by the spare 3, and one of two writes is left out
 pub record SequencesAreShort : Type 0 where
-  pub swap : one_by_one 3 1 (act.Copy 0 1 ∷ act.Copy 1 0 ∷ []) ≡ act.Copy 3 0 ∷ act.Copy 0 1 ∷ act.Copy 1 3 ∷ []
-  pub chain : one_by_one 3 1 (act.Copy 0 1 ∷ act.Copy 1 2 ∷ []) ≡ act.Copy 0 1 ∷ act.Copy 1 2 ∷ []
-  pub turned : one_by_one 3 1 (act.Copy 1 2 ∷ act.Copy 0 1 ∷ []) ≡ act.Copy 0 1 ∷ act.Copy 1 2 ∷ []
-  pub last_counts : one_by_one 3 1 (act.Here 1 ∷ act.Copy 0 1 ∷ act.Null 1 ∷ []) ≡ act.Copy 0 1 ∷ act.Null 1 ∷ []
+  pub swap : sequentialized 3 1 (act.Copy 0 1 ∷ act.Copy 1 0 ∷ []) ≡ act.Copy 3 0 ∷ act.Copy 0 1 ∷ act.Copy 1 3 ∷ []
+  pub chain : sequentialized 3 1 (act.Copy 0 1 ∷ act.Copy 1 2 ∷ []) ≡ act.Copy 0 1 ∷ act.Copy 1 2 ∷ []
+  pub turned : sequentialized 3 1 (act.Copy 1 2 ∷ act.Copy 0 1 ∷ []) ≡ act.Copy 0 1 ∷ act.Copy 1 2 ∷ []
+  pub last_counts : sequentialized 3 1 (act.Here 1 ∷ act.Copy 0 1 ∷ act.Null 1 ∷ []) ≡ act.Copy 0 1 ∷ act.Null 1 ∷ []
 
 -- a piece of these blocks, with the usual spellings
 abbrev pub bytes_piece : Spellings → List (List Stmt) → Piece

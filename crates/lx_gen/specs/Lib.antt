@@ -9,7 +9,7 @@ pub mod Plans
 pub mod Right
 pub mod Rules
 pub mod Scanner
-pub mod Sequences
+pub mod ParallelCopies
 pub mod Serving
 pub mod Starts
 pub mod Stops

@@ -105,18 +105,18 @@ blocks_of_states ends number from states =
 -- ---- the ends of rules
 
 -- the end of an accept's rule is told: it has an action, and each of its tags and groups has a value
-pub record IsTold (endings : ℕ → Ending) (accept : Accept) : Type 0 where
+pub record HasEnding (endings : ℕ → Ending) (accept : Accept) : Type 0 where
   pub action : IsSome (endings accept.rule).action
   pub groups : (endings accept.rule).groups ≤ 65
   pub values : length accept.values ≡ length (endings accept.rule).tags + 2 * (endings accept.rule).groups
 
-abbrev pub AcceptIsTold : (endings : ℕ → Ending) → Option Accept → Type 0
-AcceptIsTold endings None = Unit {0}
-AcceptIsTold endings (Some accept) = IsTold endings accept
+abbrev pub AcceptHasEnding : (endings : ℕ → Ending) → Option Accept → Type 0
+AcceptHasEnding endings None = Unit {0}
+AcceptHasEnding endings (Some accept) = HasEnding endings accept
 
 -- the ends of all rules by which states accept are told
-abbrev pub AreTold : (endings : ℕ → Ending) → List State → Type 0
-AreTold endings states = AllByRecursion (λ (state : State). AcceptIsTold endings state.accept) states
+abbrev pub HaveEndings : (endings : ℕ → Ending) → List State → Type 0
+HaveEndings endings states = AllByRecursion (λ (state : State). AcceptHasEnding endings state.accept) states
 
 -- the ending of a rule that was looked for
 abbrev pub ending_found : Option Rule → (texts : List (List ℕ)) → Ending

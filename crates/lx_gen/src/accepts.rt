@@ -68,7 +68,7 @@ impl<'a> Firsts<'a> {
         }
     }
 
-    /// Puts the first accept by a rule behind others.
+    /// Appends the first accept by a rule.
     fn push(&mut self, accept: &'a Accept) -> Result<(), Memory>
         requires indexed { AreIndexed self.old }
         requires first { rule_index (seen_accepts self.old.list.items) accept.now.rule ≡ None }
@@ -82,7 +82,7 @@ impl<'a> Firsts<'a> {
         Ok(())
     }
 
-    /// Puts an accept behind others, unless one of these is by the same rule.
+    /// Appends an accept, unless one of these is by the same rule.
     fn add(&mut self, accept: &'a Option<Accept>) -> Result<(), Memory>
         requires { AreIndexed self.old }
         ensures added { OnOk result (seen_accepts self.new.list.items ≡ with_accept (seen_accepts self.old.list.items) accept.now) }
@@ -130,7 +130,7 @@ fn is_kept(auto: &Auto, state: &State) -> bool
     false
 }
 
-/// Puts the accept of a state behind others, if a match can fall back to the state and none of them is by the same rule.
+/// Appends the accept of a state, if a match can fall back to the state and none of them is by the same rule.
 fn add_kept<'a>(found: &mut Firsts<'a>, auto: &Auto, state: &'a State) -> Result<(), Memory>
     requires lead { LeadWithin auto.now.regs auto.now.mregs (length auto.now.states) state.now.edges }
     requires indexed { AreIndexed found.old }

@@ -5,8 +5,8 @@ ghost use Rattle.lx_gen.specs.Plans.{unlabelled};
 use lx_base::{Memory, Sequence};
 use lx_ccode::{CodeBlock, Stmt};
 
-/// Puts a block of statements behind others.
-pub(crate) fn push_block(blocks: &mut Vec<CodeBlock>, stmts: Vec<Stmt>) -> Result<(), Memory>
+/// Appends a block of statements.
+pub(crate) fn append_block(blocks: &mut Vec<CodeBlock>, stmts: Vec<Stmt>) -> Result<(), Memory>
     ensures { OnOk result (blocks.new.items ≡ blocks.old.items ++ unlabelled (stmts.items ∷ [])) }
 {
     blocks.push(CodeBlock {

@@ -3,7 +3,7 @@ ghost use Rattle.std.specs.Prelude.{◌≡◌, ℕ, ◌+◌, ◌*◌, ◌≤◌,
 ghost use Rattle.lx_auto.specs.Automaton.{AreHeld, IsHeld};
 ghost use Rattle.lx_ccode.specs.declared.piece.Stmt.TheVariants.{Code};
 ghost use Rattle.lx_gen.specs.Endings.{back_code, ending_code, ends_code, groups_code, is_slash, slash_held, tag_code, tags_code, unless};
-ghost use Rattle.lx_gen.specs.Plans.{IsTold, ending_found};
+ghost use Rattle.lx_gen.specs.Plans.{HasEnding, ending_found};
 ghost use Rattle.lx_gen.specs.Rules.{ending_of, endings_of, names_of, text_of};
 
 use lx_auto::{Accept, Held};
@@ -34,8 +34,8 @@ fn is_slash(slash: Option<u32>, number: usize) -> bool
     }
 }
 
-/// Puts the statements of the ends of groups behind others.
-fn push_group_ends(stmts: &mut Vec<Stmt>, values: &[Held]) -> Result<(), Memory>
+/// Appends the statements of the ends of groups.
+fn append_group_ends(stmts: &mut Vec<Stmt>, values: &[Held]) -> Result<(), Memory>
     requires held { AreHeld 1073741824 1073741824 values.now }
     requires few { length values.now ≤ 130 }
     ensures { OnOk result (stmts.new.items ≡ stmts.old.items ++ ends_code values.now 0 []) }
@@ -48,8 +48,8 @@ fn push_group_ends(stmts: &mut Vec<Stmt>, values: &[Held]) -> Result<(), Memory>
     Ok(())
 }
 
-/// Puts the statements of groups behind others, if the rule has groups.
-fn push_groups(stmts: &mut Vec<Stmt>, groups: u32, values: &[Held]) -> Result<(), Memory>
+/// Appends the statements of groups, if the rule has groups.
+fn append_groups(stmts: &mut Vec<Stmt>, groups: u32, values: &[Held]) -> Result<(), Memory>
     requires held { AreHeld 1073741824 1073741824 values.now }
     requires few { length values.now ≤ 130 }
     ensures { OnOk result (stmts.new.items ≡ stmts.old.items ++ groups_code groups values.now []) }
@@ -58,11 +58,11 @@ fn push_groups(stmts: &mut Vec<Stmt>, groups: u32, values: &[Held]) -> Result<()
         return Ok(());
     }
     stmts.push(Stmt::Count(groups))?;
-    push_group_ends(stmts, values)
+    append_group_ends(stmts, values)
 }
 
-/// Puts the statement that gives a tag its value behind others, unless the tag is that of the trailing context.
-fn push_tag(
+/// Appends the statement that gives a tag its value, unless the tag is that of the trailing context.
+fn append_tag(
     alloc: Global,
     stmts: &mut Vec<Stmt>,
     is_slash: bool,
@@ -78,8 +78,8 @@ fn push_tag(
     Ok(())
 }
 
-/// Puts the statements of a rule's tags behind others, in the order of their numbers, and then those of its groups.
-fn push_tags(
+/// Appends the statements of a rule's tags, in the order of their numbers, and then those of its groups.
+fn append_tags(
     alloc: Global,
     stmts: &mut Vec<Stmt>,
     rule: &Rule,
@@ -93,7 +93,7 @@ fn push_tags(
 {
     let tags = rule.tags.as_slice();
     for (number, tag) in tags.iter().enumerate() {
-        push_tag(
+        append_tag(
             alloc,
             stmts,
             is_slash(rule.slash, number),
@@ -101,7 +101,7 @@ fn push_tags(
             values[number],
         )?;
     }
-    push_groups(stmts, rule.groups, &values[tags.len()..])
+    append_groups(stmts, rule.groups, &values[tags.len()..])
 }
 
 /// What holds the value of the trailing context's tag.
@@ -114,8 +114,8 @@ fn slash_held(slash: Option<u32>, values: &[Held]) -> Option<Held>
     }
 }
 
-/// Puts what puts the cursor back to the trailing context behind statements, if there is one.
-fn push_back(stmts: &mut Vec<Stmt>, held: Option<Held>) -> Result<(), Memory>
+/// Appends the statement that moves the cursor back to the trailing context, if the rule has one.
+fn append_back(stmts: &mut Vec<Stmt>, held: Option<Held>) -> Result<(), Memory>
     requires { IfSome held (IsHeld 1073741824 1073741824) }
     ensures { OnOk result (stmts.new.items ≡ stmts.old.items ++ back_code held []) }
 {
@@ -140,8 +140,8 @@ fn rule_code(
         (back_code (slash_held rule.now.slash values.now) (Code rule.now.number None text.now ∷ []))) }
 {
     let mut stmts = Vec::new(alloc);
-    push_tags(alloc, &mut stmts, rule, values)?;
-    push_back(&mut stmts, slash_held(rule.slash, values))?;
+    append_tags(alloc, &mut stmts, rule, values)?;
+    append_back(&mut stmts, slash_held(rule.slash, values))?;
     let text = ByteText::copy_of(alloc, text.as_slice())?;
     stmts.push(Stmt::Code(rule.number, None, text))?;
     Ok(stmts)
@@ -178,7 +178,7 @@ pub(crate) fn ending_code(
     accept: &Accept,
 ) -> Result<Vec<Stmt>, Memory>
     requires held { AreHeld 1073741824 1073741824 accept.now.values }
-    requires told { IsTold (endings_of rules.now texts.now) accept.now }
+    requires told { HasEnding (endings_of rules.now texts.now) accept.now }
     ensures { IfOk result (λ stmts. stmts.items ≡ ending_code (endings_of rules.now texts.now) accept.now.rule accept.now.values) }
 {
     let Some(rule) = rule_of(rules, accept.rule) else {

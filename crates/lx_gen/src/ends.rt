@@ -8,7 +8,7 @@ ghost use Rattle.lx_gen.specs.Plans.{AreEnds, end_at, rule_at};
 use crate::accepts::{Firsts, accepts_of, kept_of};
 use crate::blocks::sum;
 use crate::plans::{Plan, end_of, plans_of};
-use crate::statements::push_list;
+use crate::statements::append_list;
 use lx_auto::{Accept, Auto};
 use lx_base::Memory;
 use lx_ccode::Stmt;
@@ -94,7 +94,7 @@ impl Ends<'_> {
     {
         let block = self.rule_block(accept.rule)?;
         let mut stmts = Vec::new(alloc);
-        push_list(alloc, &mut stmts, self.auto, accept.ops.as_slice())?;
+        append_list(alloc, &mut stmts, self.auto, accept.ops.as_slice())?;
         stmts.push(Stmt::Goto(block))?;
         Ok(stmts)
     }

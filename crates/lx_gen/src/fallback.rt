@@ -4,7 +4,7 @@ ghost use Rattle.lx_gen.specs.Codes.{choices_code, restore_code};
 ghost use Rattle.lx_gen.specs.Layout.{choices_from, fall_block, kept_of, restore_blocks};
 ghost use Rattle.lx_gen.specs.Plans.{AreEnds, rule_at, unlabelled};
 
-use crate::blocks::{push_block, sum};
+use crate::blocks::{append_block, sum};
 use crate::ends::Ends;
 use lx_base::Memory;
 use lx_ccode::{CodeBlock, Stmt};
@@ -36,21 +36,21 @@ fn restore_code(alloc: Global, block: u64) -> Result<Vec<Stmt>, Memory>
     Ok(stmts)
 }
 
-/// Puts the blocks of what the fallback does by rule behind others.
-fn push_restores(alloc: Global, blocks: &mut Vec<CodeBlock>, ends: &Ends<'_>) -> Result<(), Memory>
+/// Appends the blocks that restore the marker and go to the end of a rule, one for each rule of a saved accept.
+fn append_restores(alloc: Global, blocks: &mut Vec<CodeBlock>, ends: &Ends<'_>) -> Result<(), Memory>
     requires { AreEnds ends.now }
     ensures { OnOk result (blocks.new.items
         ≡ blocks.old.items ++ unlabelled (restore_blocks (rule_at ends.now) (kept_of ends.now.auto.now.states))) }
 {
     for first in &ends.kepts.list {
         let block = ends.rule_block(first.accept.rule)?;
-        push_block(blocks, restore_code(alloc, block)?)?;
+        append_block(blocks, restore_code(alloc, block)?)?;
     }
     Ok(())
 }
 
-/// Puts the blocks of the fallback behind others.
-pub(crate) fn push_fallback(
+/// Appends the blocks of the fallback.
+pub(crate) fn append_fallback(
     alloc: Global,
     blocks: &mut Vec<CodeBlock>,
     ends: &Ends<'_>,
@@ -60,6 +60,6 @@ pub(crate) fn push_fallback(
         (choices_code (choices_from 1 (suc (fall_block ends.now.greatest ends.now.auto.now 0)) (kept_of ends.now.auto.now.states))
         ∷ restore_blocks (rule_at ends.now) (kept_of ends.now.auto.now.states))) }
 {
-    push_block(blocks, choices_code(alloc, ends)?)?;
-    push_restores(alloc, blocks, ends)
+    append_block(blocks, choices_code(alloc, ends)?)?;
+    append_restores(alloc, blocks, ends)
 }

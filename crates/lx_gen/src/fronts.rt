@@ -5,7 +5,7 @@ ghost use Rattle.lx_gen.specs.Plans.{unlabelled};
 ghost use Rattle.lx_gen.specs.TestTrees.{inner_blocks, tree_code};
 ghost use Rattle.lx_gen.specs.Views.{seen_tree};
 
-use crate::blocks::{push_block, sum};
+use crate::blocks::{append_block, sum};
 use crate::test_trees::{TestTree, inner_size};
 use lx_base::Memory;
 use lx_ccode::{CodeBlock, Stmt};
@@ -30,8 +30,8 @@ fn way_block(exits: Exits, way: Option<usize>) -> Result<u64, Memory>
     }
 }
 
-/// Puts the statements of tests behind others. The blocks of the lower tests begin at `next`.
-fn push_tests(stmts: &mut Vec<Stmt>, exits: Exits, next: u64, tree: &TestTree) -> Result<(), Memory>
+/// Appends the statements of tests. The blocks of the lower tests begin at `next`.
+fn append_tests(stmts: &mut Vec<Stmt>, exits: Exits, next: u64, tree: &TestTree) -> Result<(), Memory>
     ensures { OnOk result (stmts.new.items
         ≡ stmts.old.items ++ tree_code next (numbered exits.first exits.end (seen_tree tree.now))) }
 {
@@ -46,7 +46,7 @@ fn push_tests(stmts: &mut Vec<Stmt>, exits: Exits, next: u64, tree: &TestTree) -
             high,
         } => {
             stmts.push(Stmt::IfUnit(*greatest, way_block(exits, *way)?))?;
-            push_tests(stmts, exits, next, high)
+            append_tests(stmts, exits, next, high)
         }
         TestTree::Fork {
             greatest,
@@ -55,13 +55,13 @@ fn push_tests(stmts: &mut Vec<Stmt>, exits: Exits, next: u64, tree: &TestTree) -
         } => {
             stmts.push(Stmt::IfUnit(*greatest, next))?;
             let behind = sum(sum(1, next)?, inner_size(low)?)?;
-            push_tests(stmts, exits, behind, high)
+            append_tests(stmts, exits, behind, high)
         }
     }
 }
 
-/// Puts the blocks of the lower tests behind others. The first of them has the number `next`.
-fn push_lower(
+/// Appends the blocks of the lower tests. The first of them has the number `next`.
+fn append_lower(
     alloc: Global,
     blocks: &mut Vec<CodeBlock>,
     exits: Exits,
@@ -73,21 +73,21 @@ fn push_lower(
 {
     match tree {
         TestTree::Leaf(_) => Ok(()),
-        TestTree::Test { high, .. } => push_lower(alloc, blocks, exits, next, high),
+        TestTree::Test { high, .. } => append_lower(alloc, blocks, exits, next, high),
         TestTree::Fork { low, high, .. } => {
             let inside = sum(1, next)?;
             let mut stmts = Vec::new(alloc);
-            push_tests(&mut stmts, exits, inside, low)?;
-            push_block(blocks, stmts)?;
-            push_lower(alloc, blocks, exits, inside, low)?;
+            append_tests(&mut stmts, exits, inside, low)?;
+            append_block(blocks, stmts)?;
+            append_lower(alloc, blocks, exits, inside, low)?;
             let behind = sum(inside, inner_size(low)?)?;
-            push_lower(alloc, blocks, exits, behind, high)
+            append_lower(alloc, blocks, exits, behind, high)
         }
     }
 }
 
-/// Puts the block that reads the unit and tests it, which has the number `from`, and those of the lower tests behind others.
-fn push_tested(
+/// Appends the block that reads the unit and tests it, which has the number `from`, and those of the lower tests.
+fn append_tested(
     alloc: Global,
     blocks: &mut Vec<CodeBlock>,
     exits: Exits,
@@ -99,13 +99,13 @@ fn push_tested(
 {
     let next = sum(1, from)?;
     let mut stmts = vec![in alloc; Stmt::Peek]?;
-    push_tests(&mut stmts, exits, next, tree)?;
-    push_block(blocks, stmts)?;
-    push_lower(alloc, blocks, exits, next, tree)
+    append_tests(&mut stmts, exits, next, tree)?;
+    append_block(blocks, stmts)?;
+    append_lower(alloc, blocks, exits, next, tree)
 }
 
-/// Puts the blocks of the tests of a state behind others, if there are tests. The first of them has the number `from`.
-pub(crate) fn push_front(
+/// Appends the blocks of the tests of a state, if there are tests. The first of them has the number `from`.
+pub(crate) fn append_front(
     alloc: Global,
     blocks: &mut Vec<CodeBlock>,
     exits: Exits,
@@ -118,7 +118,7 @@ pub(crate) fn push_front(
     match tree {
         TestTree::Leaf(_) => Ok(()),
         TestTree::Test { .. } | TestTree::Fork { .. } => {
-            push_tested(alloc, blocks, exits, from, tree)
+            append_tested(alloc, blocks, exits, from, tree)
         }
     }
 }

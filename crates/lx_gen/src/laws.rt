@@ -1,6 +1,7 @@
 //! What holds of laid-out pieces. Each law is the contract of a function that does nothing.
 ghost use Rattle.std.specs.Prelude.{◌≡◌, ℕ, ◌<◌, ◌≤◌, List, [], All, Option, Some, None, length, drop, false, true};
 ghost use Rattle.std.specs.List.{AllByRecursion, list_any};
+ghost use Rattle.lx_base.specs.declared.limits.TheConstants.{STATEMENT_LIMIT};
 ghost use Rattle.lx_auto.specs.Automaton.{AreOps, IsAuto};
 ghost use Rattle.lx_auto.specs.Bank.{Bank, bank_after};
 ghost use Rattle.lx_auto.specs.Run.{found_behind, start_with};
@@ -28,7 +29,7 @@ ghost use Rattle.lx_gen.specs.Layout.{StandsFrom, layout};
 ghost use Rattle.lx_gen.specs.Right.{AreEndsOf, IsRightUnder, IsSetBy};
 ghost use Rattle.lx_gen.specs.Rules.{AreSimple, endings_of};
 ghost use Rattle.lx_gen.specs.Scanner.{AreNamed, AreShort, IsScannerUnder};
-ghost use Rattle.lx_gen.specs.Sequences.{one_by_one};
+ghost use Rattle.lx_gen.specs.ParallelCopies.{sequentialized};
 ghost use Rattle.lx_gen.specs.Serving.{Serves};
 ghost use Rattle.lx_gen.specs.Starts.{run_with};
 ghost use Rattle.lx_gen.specs.Stops.{Stops, bank_from, last_standing, told_found};
@@ -104,9 +105,9 @@ pub fn actions_stand_once()
 /// Operations one by one do to all registers but the spares what the list does at once.
 pub fn sequences_act_at_once()
     ensures registers { (regs mregs offset : ℕ) (ops : List Op) (bank : Bank) (reg : ℕ) → AreOps regs mregs ops → reg < regs
-        → (after_ops offset (one_by_one regs mregs ops) bank).regs reg ≡ (bank_after offset ops bank).regs reg }
+        → (after_ops offset (sequentialized regs mregs ops) bank).regs reg ≡ (bank_after offset ops bank).regs reg }
     ensures histories { (regs mregs offset : ℕ) (ops : List Op) (bank : Bank) (mreg : ℕ) → AreOps regs mregs ops → mreg < mregs
-        → (after_ops offset (one_by_one regs mregs ops) bank).mregs mreg ≡ (bank_after offset ops bank).mregs mreg }
+        → (after_ops offset (sequentialized regs mregs ops) bank).mregs mreg ≡ (bank_after offset ops bank).mregs mreg }
 {}
 
 /// Rules of which none is `$` have the ends that the law of layouts asks for, whatever their actions are: where they are within the
@@ -129,7 +130,7 @@ pub fn layouts_are_valid()
         → IsShort greatest → AreWritten spellings endings auto.states
         → code_of piece.blocks ≡ layout endings greatest auto 0 → IsUnconditional enc counted spellings piece
         → IsShort counted → AreAllowed spellings → DoNotClash spellings
-        → statement_count piece.blocks ≤ 4_611_686_018_427_387_904 → IsValid piece }
+        → statement_count piece.blocks ≤ STATEMENT_LIMIT → IsValid piece }
 {}
 
 /// A piece without conditions whose blocks are the layout of the automaton of its rules is a scanner of these rules, if none is `$`.
@@ -139,5 +140,5 @@ pub fn layouts_are_scanners()
         → AreShort texts → AreNamed spellings texts rules
         → code_of piece.blocks ≡ layout (endings_of rules texts) (greatest_unit enc) auto 0 → IsUnconditional enc counted spellings piece
         → IsShort counted → AreAllowed spellings → DoNotClash spellings
-        → statement_count piece.blocks ≤ 4_611_686_018_427_387_904 → IsScannerUnder policy enc counted spellings rules texts piece }
+        → statement_count piece.blocks ≤ STATEMENT_LIMIT → IsScannerUnder policy enc counted spellings rules texts piece }
 {}

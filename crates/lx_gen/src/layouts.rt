@@ -1,30 +1,28 @@
 //! The blocks of the scanner of an automaton.
 ghost use Rattle.std.specs.Prelude.{◌≡◌, ◌≤◌, ◌++◌, None, IfOk, OnOk};
 ghost use Rattle.std.specs.List.{AllByRecursion};
+ghost use Rattle.lx_base.specs.declared.limits.TheConstants.{STATEMENT_LIMIT};
 ghost use Rattle.lx_auto.specs.Automaton.{IsAuto};
 ghost use Rattle.lx_ccode.specs.Statements.{code_of, statement_count};
 ghost use Rattle.lx_ccode.specs.declared.piece.CodeBlock.{CodeBlock};
 ghost use Rattle.lx_gen.specs.Layout.{accepts_of, ending_blocks, layout};
-ghost use Rattle.lx_gen.specs.Plans.{AreEnds, AreTold, unlabelled};
+ghost use Rattle.lx_gen.specs.Plans.{AreEnds, HaveEndings, unlabelled};
 ghost use Rattle.lx_gen.specs.Rules.{endings_of};
 
-use crate::blocks::{push_block, sum};
+use crate::blocks::{append_block, sum};
 use crate::endings::ending_code;
 use crate::ends::Ends;
-use crate::fallback::push_fallback;
+use crate::fallback::append_fallback;
 use crate::places::places_of;
-use crate::state_blocks::push_states;
+use crate::state_blocks::append_states;
 use lx_auto::Auto;
 use lx_base::{ByteText, Memory};
-use lx_ccode::CodeBlock;
+use lx_ccode::{CodeBlock, count_statements};
 use lx_regex::Rule;
 use std::alloc::Global;
 
-/// The greatest number of statements that a piece may have.
-const MOST_STATEMENTS: u64 = 4_611_686_018_427_387_904;
-
-/// Puts the blocks of the ends of rules behind others.
-fn push_endings(
+/// Appends the blocks of the ends of rules.
+fn append_endings(
     alloc: Global,
     blocks: &mut Vec<CodeBlock>,
     rules: &[Rule],
@@ -32,25 +30,14 @@ fn push_endings(
     ends: &Ends<'_>,
 ) -> Result<(), Memory>
     requires ends { AreEnds ends.now }
-    requires told { AreTold (endings_of rules.now texts.now) ends.now.auto.now.states }
+    requires told { HaveEndings (endings_of rules.now texts.now) ends.now.auto.now.states }
     ensures { OnOk result (blocks.new.items
         ≡ blocks.old.items ++ unlabelled (ending_blocks (endings_of rules.now texts.now) (accepts_of ends.now.auto.now.states))) }
 {
     for first in &ends.accepts.list {
-        push_block(blocks, ending_code(alloc, rules, texts, first.accept)?)?;
+        append_block(blocks, ending_code(alloc, rules, texts, first.accept)?)?;
     }
     Ok(())
-}
-
-/// How many statements blocks have. A number that has no 64 bits counts as want of memory.
-fn count_statements(blocks: &[CodeBlock]) -> Result<u64, Memory>
-    ensures { IfOk result (λ count. count ≡ statement_count blocks.now) }
-{
-    let mut count = 0;
-    for block in blocks {
-        count = sum(count, block.stmts.as_slice().len() as u64)?;
-    }
-    Ok(count)
 }
 
 /// All blocks of an automaton, however many there are.
@@ -62,14 +49,14 @@ fn all_blocks(
     auto: &Auto,
 ) -> Result<Vec<CodeBlock>, Memory>
     requires formed { IsAuto auto.now }
-    requires told { AreTold (endings_of rules.now texts.now) auto.now.states }
+    requires told { HaveEndings (endings_of rules.now texts.now) auto.now.states }
     ensures { IfOk result (λ blocks. blocks.items ≡ unlabelled (layout (endings_of rules.now texts.now) greatest auto.now 0)) }
 {
     let places = places_of(alloc, greatest, auto)?;
     let mut blocks = Vec::new(alloc);
-    push_states(alloc, &mut blocks, &places)?;
-    push_fallback(alloc, &mut blocks, &places.ends)?;
-    push_endings(alloc, &mut blocks, rules, texts, &places.ends)?;
+    append_states(alloc, &mut blocks, &places)?;
+    append_fallback(alloc, &mut blocks, &places.ends)?;
+    append_endings(alloc, &mut blocks, rules, texts, &places.ends)?;
     Ok(blocks)
 }
 
@@ -85,13 +72,13 @@ pub(crate) fn blocks_of(
     auto: &Auto,
 ) -> Result<Vec<CodeBlock>, Memory>
     requires formed { IsAuto auto.now }
-    requires told { AreTold (endings_of rules.now texts.now) auto.now.states }
+    requires told { HaveEndings (endings_of rules.now texts.now) auto.now.states }
     ensures code { IfOk result (λ blocks. code_of blocks.items ≡ layout (endings_of rules.now texts.now) greatest auto.now 0) }
     ensures labels { IfOk result (λ blocks. AllByRecursion (λ (block : CodeBlock). block.cond ≡ None) blocks.items) }
-    ensures few { IfOk result (λ blocks. statement_count blocks.items ≤ 4_611_686_018_427_387_904) }
+    ensures few { IfOk result (λ blocks. statement_count blocks.items ≤ STATEMENT_LIMIT) }
 {
     let blocks = all_blocks(alloc, greatest, rules, texts, auto)?;
-    if count_statements(&blocks)? > MOST_STATEMENTS {
+    if count_statements(&blocks).is_none() {
         return Err(Memory);
     }
     Ok(blocks)

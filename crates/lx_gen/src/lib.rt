@@ -13,7 +13,7 @@ mod layouts;
 mod places;
 mod plans;
 mod scanner;
-mod sequences;
+mod parallel_copies;
 mod state_blocks;
 mod statements;
 mod test_trees;

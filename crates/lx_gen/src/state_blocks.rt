@@ -7,12 +7,12 @@ ghost use Rattle.lx_gen.specs.Plans.{AreEnds, ArePlaced, IsPlanned, blocks_of_st
 ghost use Rattle.lx_gen.specs.Views.{seen_ways};
 
 use crate::accepts::keeps_on;
-use crate::blocks::{push_block, sum};
+use crate::blocks::{append_block, sum};
 use crate::ends::Ends;
-use crate::fronts::{Exits, push_front};
+use crate::fronts::{Exits, append_front};
 use crate::places::Places;
 use crate::plans::{Plan, state_size};
-use crate::statements::push_list;
+use crate::statements::append_list;
 use crate::test_trees::front_size;
 use crate::ways::Way;
 use lx_auto::{Accept, Auto, Edge, State};
@@ -20,8 +20,8 @@ use lx_base::Memory;
 use lx_ccode::{CodeBlock, Stmt};
 use std::alloc::Global;
 
-/// Puts what keeps a state behind statements, if it is kept.
-fn push_keep(stmts: &mut Vec<Stmt>, keeps: bool, kept: u32) -> Result<(), Memory>
+/// Appends the statements that save an accepting state and the cursor, if they are to be saved.
+fn append_keep(stmts: &mut Vec<Stmt>, keeps: bool, kept: u32) -> Result<(), Memory>
     ensures { OnOk result (stmts.new.items ≡ stmts.old.items ++ keep_code keeps kept []) }
 {
     if keeps {
@@ -48,16 +48,16 @@ fn edge_code(
 {
     let mut stmts = Vec::new(alloc);
     let keeps = keeps_on(auto.states.as_slice(), state, edge);
-    push_keep(&mut stmts, keeps, kept)?;
-    push_list(alloc, &mut stmts, auto, state.leave.as_slice())?;
-    push_list(alloc, &mut stmts, auto, edge.ops.as_slice())?;
+    append_keep(&mut stmts, keeps, kept)?;
+    append_list(alloc, &mut stmts, auto, state.leave.as_slice())?;
+    append_list(alloc, &mut stmts, auto, edge.ops.as_slice())?;
     stmts.push(Stmt::Skip)?;
     stmts.push(Stmt::Goto(block))?;
     Ok(stmts)
 }
 
-/// Puts the blocks of the ways out of a state behind others.
-fn push_ways(
+/// Appends the blocks of the ways out of a state.
+fn append_ways(
     alloc: Global,
     blocks: &mut Vec<CodeBlock>,
     places: &Places<'_>,
@@ -74,7 +74,7 @@ fn push_ways(
     let kept = places.ends.kept_number(&state.accept);
     for way in ways {
         let block = places.states[way.edge.to as usize];
-        push_block(
+        append_block(
             blocks,
             edge_code(alloc, auto, state, kept, way.edge, block)?,
         )?;
@@ -82,8 +82,8 @@ fn push_ways(
     Ok(())
 }
 
-/// Puts the block where a match ends in a state behind others, if it has one of its own.
-fn push_end(
+/// Appends the block where a match ends in a state, if it has one of its own.
+fn append_end(
     alloc: Global,
     blocks: &mut Vec<CodeBlock>,
     ends: &Ends<'_>,
@@ -96,7 +96,7 @@ fn push_end(
 {
     match accept {
         Some(accept) if !accept.ops.as_slice().is_empty() => {
-            push_block(blocks, ends.accept_code(alloc, accept)?)
+            append_block(blocks, ends.accept_code(alloc, accept)?)
         }
         _ => Ok(()),
     }
@@ -118,8 +118,8 @@ fn lone_code(alloc: Global, ends: &Ends<'_>, accept: &Option<Accept>) -> Result<
     }
 }
 
-/// Puts the blocks of a state without edges behind others.
-fn push_lone(
+/// Appends the blocks of a state without edges.
+fn append_lone(
     alloc: Global,
     blocks: &mut Vec<CodeBlock>,
     ends: &Ends<'_>,
@@ -132,13 +132,13 @@ fn push_lone(
         ≡ blocks.old.items ++ unlabelled (lone_blocks ends.now.greatest ends.now.auto.now (rule_at ends.now) (fall_block ends.now.greatest ends.now.auto.now 0) number accept.now)) }
 {
     if number == 0 {
-        return push_block(blocks, lone_code(alloc, ends, accept)?);
+        return append_block(blocks, lone_code(alloc, ends, accept)?);
     }
-    push_end(alloc, blocks, ends, accept)
+    append_end(alloc, blocks, ends, accept)
 }
 
-/// Puts the blocks of a state with edges behind others. The first of them has the number `from`.
-fn push_branches(
+/// Appends the blocks of a state with edges. The first of them has the number `from`.
+fn append_branches(
     alloc: Global,
     blocks: &mut Vec<CodeBlock>,
     places: &Places<'_>,
@@ -156,13 +156,13 @@ fn push_branches(
     let first = sum(from, front_size(&plan.tests)?)?;
     let own = sum(first, plan.ways.len() as u64)?;
     let end = places.ends.end_block(own, &state.accept)?;
-    push_front(alloc, blocks, Exits { first, end }, from, &plan.tests)?;
-    push_ways(alloc, blocks, places, state, plan.ways.as_slice())?;
-    push_end(alloc, blocks, &places.ends, &state.accept)
+    append_front(alloc, blocks, Exits { first, end }, from, &plan.tests)?;
+    append_ways(alloc, blocks, places, state, plan.ways.as_slice())?;
+    append_end(alloc, blocks, &places.ends, &state.accept)
 }
 
-/// Puts the blocks of the state with this number behind others. The first of them has the number `from`.
-fn push_state(
+/// Appends the blocks of the state with this number. The first of them has the number `from`.
+fn append_state(
     alloc: Global,
     blocks: &mut Vec<CodeBlock>,
     places: &Places<'_>,
@@ -178,13 +178,13 @@ fn push_state(
 {
     let state = plan.state;
     if state.edges.as_slice().is_empty() {
-        return push_lone(alloc, blocks, &places.ends, number, &state.accept);
+        return append_lone(alloc, blocks, &places.ends, number, &state.accept);
     }
-    push_branches(alloc, blocks, places, from, plan)
+    append_branches(alloc, blocks, places, from, plan)
 }
 
-/// Puts the blocks of all states behind others.
-pub(crate) fn push_states(
+/// Appends the blocks of all states.
+pub(crate) fn append_states(
     alloc: Global,
     blocks: &mut Vec<CodeBlock>,
     places: &Places<'_>,
@@ -195,7 +195,7 @@ pub(crate) fn push_states(
 {
     let mut from = 0;
     for (number, plan) in places.ends.plans.iter().enumerate() {
-        push_state(alloc, blocks, places, number, from, plan)?;
+        append_state(alloc, blocks, places, number, from, plan)?;
         from = sum(from, state_size(number, plan)?)?;
     }
     Ok(())

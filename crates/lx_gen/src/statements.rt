@@ -1,10 +1,11 @@
 //! The statements of operations.
 ghost use Rattle.std.specs.Prelude.{◌≡◌, ◌≤◌, [], ◌++◌, OnOk};
+ghost use Rattle.lx_base.specs.declared.limits.TheConstants.{REGISTER_LIMIT};
 ghost use Rattle.lx_auto.specs.Automaton.{AreOps};
 ghost use Rattle.lx_gen.specs.Codes.{list_code, op_code, ops_code};
 ghost use Rattle.lx_gen.specs.Numbers.{AreBelow, IsBelow};
 
-use crate::sequences::one_by_one;
+use crate::parallel_copies::sequentialized;
 use lx_auto::{Auto, Op};
 use lx_base::Memory;
 use lx_ccode::Stmt;
@@ -12,7 +13,7 @@ use std::alloc::Global;
 
 /// The statement of an operation. Statements count registers from 1 and histories from 0.
 fn op_code(op: &Op) -> Stmt
-    requires { IsBelow 4294967295 op.now }
+    requires { IsBelow REGISTER_LIMIT op.now }
     ensures { result ≡ op_code op.now }
 {
     match *op {
@@ -25,9 +26,9 @@ fn op_code(op: &Op) -> Stmt
     }
 }
 
-/// Puts the statements of operations that act one by one behind others.
-pub(crate) fn push_ops(stmts: &mut Vec<Stmt>, ops: &[Op]) -> Result<(), Memory>
-    requires { AreBelow 4294967295 ops.now }
+/// Appends the statements of operations that act one by one.
+pub(crate) fn append_ops(stmts: &mut Vec<Stmt>, ops: &[Op]) -> Result<(), Memory>
+    requires { AreBelow REGISTER_LIMIT ops.now }
     ensures { OnOk result (stmts.new.items ≡ stmts.old.items ++ ops_code ops.now []) }
 {
     for op in ops {
@@ -36,8 +37,8 @@ pub(crate) fn push_ops(stmts: &mut Vec<Stmt>, ops: &[Op]) -> Result<(), Memory>
     Ok(())
 }
 
-/// Puts the statements of operations of an automaton, which act at once, behind others.
-pub(crate) fn push_list(
+/// Appends the statements of operations of an automaton, which act at once,.
+pub(crate) fn append_list(
     alloc: Global,
     stmts: &mut Vec<Stmt>,
     auto: &Auto,
@@ -47,6 +48,6 @@ pub(crate) fn push_list(
     requires there { AreOps auto.now.regs auto.now.mregs ops.now }
     ensures { OnOk result (stmts.new.items ≡ stmts.old.items ++ list_code auto.now ops.now []) }
 {
-    let list = one_by_one(alloc, ops, auto.regs, auto.mregs)?;
-    push_ops(stmts, &list)
+    let list = sequentialized(alloc, ops, auto.regs, auto.mregs)?;
+    append_ops(stmts, &list)
 }

@@ -2,6 +2,7 @@ pub mod Begun
 pub mod Behind
 pub mod Completeness
 pub mod Depths
+pub mod ItemPlaces
 pub mod Ranges
 pub mod Reading
 pub mod Refusals

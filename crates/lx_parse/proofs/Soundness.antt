@@ -18,7 +18,7 @@ use Rattle.lx_parse.specs.Items.{place, first_name, next_name, ReadsList, no_lis
 use Rattle.lx_parse.specs.Blocks.{ReadsForm}
 use Rattle.lx_parse.specs.Automaton.{rule_head, when, operand, operator, at_end, after_expression, action, head_start, between, named, next, may_end}
 use Rattle.lx_parse.proofs.Runs.{Items, with_item, follow, at_last, run}
-use Rattle.lx_parse.proofs.Begun.{no_diff, behind_bar, no_cat, behind_backslash, no_post, behind_post, cat_begun, diff_behind, alt_behind, OperandBegun, OperatorBegun, GoalBegun, of_define, of_head, of_trailing, Begun}
+use Rattle.lx_parse.proofs.Begun.{no_diff, behind_bar, no_cat, behind_backslash, no_post, cat_begun, diff_behind, alt_behind, OperandBegun, OperatorBegun, GoalBegun, of_define, of_head, of_trailing, Begun}
 use Rattle.lx_parse.proofs.Begun as front
 
 fresh : (text : List Sort) → OperandBegun 0 text text

@@ -9,7 +9,10 @@ mod sorts;
 mod states;
 
 pub use items::{BlockTree, Item};
-pub use laws::{bodies_are_read_or_refused, bodies_have_one_tree, expressions_stand_in_ranges};
+pub use laws::{
+    bodies_are_read_or_refused, bodies_have_one_tree, expressions_stand_in_ranges,
+    items_name_tokens,
+};
 pub use parsing::parse;
 pub use sorts::{Sort, sort_of};
 

@@ -1,5 +1,6 @@
 //! The block tree of a body.
 ghost use Rattle.std.specs.Prelude.{◌≡◌, ◌≤◌, length, true, MatchResult, Ok};
+ghost use Rattle.lx_base.specs.declared.limits.TheConstants.{SOURCE_LIMIT};
 ghost use Rattle.lx_parse.specs.Automaton.{may_end};
 ghost use Rattle.lx_parse.specs.Blocks.{IsBody, StopsWith, form_of, has_tokens};
 ghost use Rattle.lx_parse.specs.Sorts.{sorts_of};
@@ -35,7 +36,7 @@ pub fn parse(
     kind: BlockKind,
     at: Pos,
 ) -> Result<BlockTree, Stop>
-    requires size { length body.now ≤ 16777216 }
+    requires size { length body.now ≤ SOURCE_LIMIT }
     requires line { at.line ≤ 16777217 }
     requires col { at.col ≤ 16777217 }
     requires tokens { tokens_of body.now at ≡ Ok tokens.now }

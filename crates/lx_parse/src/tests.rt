@@ -185,7 +185,7 @@ fn measured(rt: &HostRuntime, name: &str, body: &[u8]) -> Result<usize, Fail> {
     }
 }
 
-/// Puts the text at the end so many times.
+/// Appends the text so many times.
 fn repeat(body: &mut Vec<u8>, text: &[u8], times: u32) -> Result<(), Fail> {
     for _ in 0..times {
         body.extend_from_slice(text)?;

@@ -1,5 +1,6 @@
 -- Kernels: the places of all cuts at a word, in their order; and the limits on them.
 use Rattle.std.specs.Prelude.{◌≡◌, ◌≢◌, ℕ, ◌<◌, ◌≤◌, ◌⊎◌, List, [], ◌∷◌, length, Some, slice_get, sum_by}
+use Rattle.lx_base.specs.declared.limits.TheConstants.{KERNEL_LIMIT, PLACE_LIMIT}
 use Rattle.lx_base.specs.declared.settings.Enc.{Enc}
 use Rattle.lx_base.specs.Spelling.{greatest_unit}
 use Rattle.lx_regex.specs.Term.{Term}
@@ -50,4 +51,4 @@ module _ (enc : Enc) (rules : List Term) where
   abbrev pub HasTooManyKernels : Type 0
   HasTooManyKernels =
       (words : List (List ℕ)) × (kernels : List (List Cut))
-      × AreKernels words kernels × AllDiffer kernels × ((4096 < length words) ⊎ (1048576 < sum_by length kernels))
+      × AreKernels words kernels × AllDiffer kernels × ((KERNEL_LIMIT < length words) ⊎ (PLACE_LIMIT < sum_by length kernels))

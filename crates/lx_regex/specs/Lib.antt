@@ -1,4 +1,5 @@
 pub mod Automaton
+pub mod ClassLimits
 pub mod Cut
 pub mod Dictionary
 pub mod Examples

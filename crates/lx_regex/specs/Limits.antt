@@ -1,6 +1,7 @@
 -- What is asked of the rule lists that scanners are built from.
 use Rattle.std.specs.Prelude.{◌≡◌, ◌≢◌, ℕ, zero, suc, ◌+◌, ◌-◌, ◌*◌, ◌≤◌, ◌⊎◌, List, [], ◌∷◌, length, Option, Some, None, false, slice_get, if◌then◌else◌}
 use Rattle.std.specs.Bool.{OnFalse}
+use Rattle.lx_base.specs.declared.limits.TheConstants.{SIZE_LIMIT, TAG_LIMIT}
 use Rattle.lx_regex.specs.Term.{Term, empty, class, any_unit, cat, alt, repeat, tag, group, Terms, nil, cons}
 use Rattle.lx_regex.specs.Script.{tags_in}
 use Rattle.lx_regex.specs.Expr.{size_of}
@@ -86,8 +87,8 @@ HaveDifferentNumbers (rule ∷ rules) = NoneHasNumber rule.number rules × HaveD
 
 -- a rule list within the limits of a scanner
 pub record IsWithinLimits (rules : List Rule) : Type 0 where
-  pub size : sizes_of rules ≤ 4096
-  pub tags : tags_of rules ≤ 128
+  pub size : sizes_of rules ≤ SIZE_LIMIT
+  pub tags : tags_of rules ≤ TAG_LIMIT
   pub ends : end_count rules ≤ 1
   pub numbers : HaveDifferentNumbers rules
   pub regular : AreRegular rules

@@ -100,7 +100,7 @@ pub fn copies(low: u32, high: Option<u32>) -> u32
     high.unwrap_or(low.max(1))
 }
 
-/// Puts the parts of members at the end.
+/// Appends the parts of members.
 #[cycle(append)]
 fn append_members(
     alloc: Global,
@@ -118,7 +118,7 @@ fn append_members(
     Ok(())
 }
 
-/// Puts the parts of so many copies of a body at the end.
+/// Appends the parts of so many copies of a body.
 #[cycle(append)]
 fn append_copies(
     alloc: Global,
@@ -138,7 +138,7 @@ fn append_copies(
     Ok(())
 }
 
-/// Puts the parts of an expression at the end.
+/// Appends the parts of an expression.
 #[cycle(append)]
 fn append(
     alloc: Global,
@@ -171,7 +171,7 @@ fn append(
     }
 }
 
-/// Puts the parts of a rule that stands at this place in its list at the end; the rule `$` has none.
+/// Appends the parts of a rule that stands at this place in its list; the rule `$` has none.
 fn append_rule(alloc: Global, list: &mut Vec<Part>, place: u32, rule: &Rule) -> Result<(), Memory>
     requires { OnFalse (is_end rule.now.kind) ((tags : ℕ) → length list.old.items + parts (term_of tags rule.now.expr) < 2 ^ 32) }
     ensures { OnOk result (list.new.items ≡ list.old.items
@@ -224,7 +224,7 @@ impl Parts {
         self.parts.as_slice()
     }
 
-    /// Puts a part at the end. Where memory runs out the list stays as it was, and the part is dropped.
+    /// Appends a part. Where memory runs out the list stays as it was, and the part is dropped.
     pub fn push(&mut self, part: Part) -> Result<(), Memory>
         ensures pushed { OnOk result (self.new ≡ self.old ++ part ∷ []) }
         ensures kept { OnErr result (self.new ≡ self.old) }

@@ -14,7 +14,7 @@ use Rattle.lx_parse.specs.declared.items.Item.{Item}
 use Rattle.lx_parse.proofs.Ranges.{body_has}
 use Rattle.lx_token.specs.declared.list.Token.{Token}
 use Rattle.lx_rules.specs.Blocks.{BlockChecks, ClashCheck, IsBlockFault, NoClash, Resolves, conditions_of, lonely_fault, scanners_fault, targets_fault}
-use Rattle.lx_rules.specs.Buildable.{IsReady}
+use Rattle.lx_rules.specs.Buildable.{HasBuildableDefinitions}
 use Rattle.lx_exprs.specs.Checks.{Check, Finds, Then}
 use Rattle.lx_rules.specs.Environments.{Environment, first_environment}
 use Rattle.lx_rules.specs.Items.{Goes, State, first_state}
@@ -44,7 +44,7 @@ block_decides at state =
     clash (inl free) = (None, inl (free, refl))
     clash (inr clashes) = (Some (BadValue at), inr (clashes, refl))
 
-module _ (options : Options) (at : Pos) (environment : Environment) (lexemes : List Lexeme) (items : List Item) (ready : IsReady options.enc environment) where
+module _ (options : Options) (at : Pos) (environment : Environment) (lexemes : List Lexeme) (items : List Item) (ready : HasBuildableDefinitions options.enc environment) where
   state_within : (state : State) → Goes options lexemes (first_state environment) items (Ok state) → IsStateWithin options.enc state
   state_within state goes =
       goes_within options lexemes (first_state environment) state items (record { definitions = ready.within; rules = tt; numbers = tt; differ = tt }) goes
@@ -55,9 +55,9 @@ module _ (options : Options) (at : Pos) (environment : Environment) (lexemes : L
 
   -- a block leaves what is ready
   pub ready_after : (after : Environment) (resolved : Resolved) → Resolves options at environment lexemes items after resolved
-      → IsReady options.enc after
+      → HasBuildableDefinitions options.enc after
   ready_after after resolved resolves =
-      subst (IsReady options.enc) (sym resolves.3.environment_is) (record {
+      subst (HasBuildableDefinitions options.enc) (sym resolves.3.environment_is) (record {
         within = (state_within resolves.0 resolves.1).definitions;
         buildable = (state_buildable resolves.0 resolves.1).definitions;
       })
@@ -101,5 +101,5 @@ pub body_expressions : (body : List ℕ) (tokens : List Token) (items : List Ite
 body_expressions body tokens items read =
     subst (λ sorts. EachHasExpressions sorts items) (sorts_of-lexemes body tokens) (body_has (form_of Code) (sorts_of Code body tokens) items read)
 
-pub first_ready : (enc : Enc) → IsReady enc first_environment
+pub first_ready : (enc : Enc) → HasBuildableDefinitions enc first_environment
 first_ready enc = record { within = tt; buildable = tt }

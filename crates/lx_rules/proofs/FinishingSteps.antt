@@ -27,7 +27,7 @@ use Rattle.lx_rules.specs.Blocks as blocks
 use Rattle.lx_rules.specs.Blocks.{BlockChecks}
 use Rattle.lx_exprs.specs.Defined.{fits, kept, whole_room}
 use Rattle.lx_rules.specs.Keeping.{Holds, HoldsDefault, DefaultWithin, default_count, names_of}
-use Rattle.lx_rules.specs.Soundness.{IsFit, IsSound, rules_size}
+use Rattle.lx_rules.specs.Soundness.{IsFit, HasFitDefinitions, rules_size}
 use Rattle.lx_rules.specs.Seen.{environment_view}
 use Rattle.lx_rules.specs.Finishing.{AddsDefault, AreScannersOf, IsFinished}
 use Rattle.lx_rules.proofs.BlockSteps.{AreUsual, all_names, block_checked, block_clashes, conditions_of-usual, each_name, in_order, over, rules_of-usual}
@@ -219,7 +219,7 @@ module _ (conds : Bool) (known : Known) (state : State) (holds : Holds conds kno
           eof = eof;
           fill = fill ∙ holds.fill;
         },
-        subst IsSound (sym env) holds.sound,
+        subst HasFitDefinitions (sym env) holds.sound,
         record {
           scanners = rw (acts) scanners.1;
           acts = rw (acts) holds.short;

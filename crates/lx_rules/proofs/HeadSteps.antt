@@ -128,9 +128,9 @@ module _ (options : Options) (lexemes : List Lexeme) (known : Known) (state : St
       (kind.Default, any_meaning, subst (λ s. IsHead options lexemes state.definitions (head_sort s) from slash until kind.Default any_meaning) (sym star) (refl, refl), (refl, refl)),
     )
 
-    -- `$` waits
-    pub dollar_waits : sort_at start ≡ sort.Dollar → Heads (sort_at start) (Some (Unsupported (Some start.at)))
-    dollar_waits dollar = subst (λ s. Heads s (Some (Unsupported (Some start.at)))) (sym dollar) (inr (Unsupported (Some start.at), refl, refl))
+    -- `$` is not supported
+    pub dollar_unsupported : sort_at start ≡ sort.Dollar → Heads (sort_at start) (Some (Unsupported (Some start.at)))
+    dollar_unsupported dollar = subst (λ s. Heads s (Some (Unsupported (Some start.at)))) (sym dollar) (inr (Unsupported (Some start.at), refl, refl))
 
     module _ (no_star : sort_at start ≡ sort.Star → ⊥) (no_dollar : sort_at start ≡ sort.Dollar → ⊥) where
       is_other : head_sort (sort_at start) ≡ expression
@@ -180,13 +180,13 @@ module _ (options : Options) (lexemes : List Lexeme) (known : Known) (state : St
       subst (λ s. HeadChecks options lexemes state s ([] ∷ []) from (Some slash) until (Some fault)) (sym (is_other from (Some slash) until no_star no_dollar))
       (front.0, back.0, front.1, back.1, inr (fault, front.2, refl))
 
-  -- a trailing context waits
-  pub context_waits :
+  -- a trailing context is not supported
+  pub context_unsupported :
       (from slash until : ℕ) (no_star : sort_at (nth_lexeme lexemes from) ≡ sort.Star → ⊥) (no_dollar : sort_at (nth_lexeme lexemes from) ≡ sort.Dollar → ⊥)
       → HasExpressions (sorts_at lexemes) (item.Rule from from (Some slash) until None None) → (room : Room) (reading : Reading)
       → IsRead options lexemes (definitions_view known.env.definitions) room from slash reading
       → StopsHead options lexemes state from (Some slash) until (stop.Fault (Unsupported (Some (nth_lexeme lexemes slash).at)))
-  context_waits from slash until no_star no_dollar has room reading given =
+  context_unsupported from slash until no_star no_dollar has room reading given =
       let read = read_known options lexemes known state holds room from slash reading given in
       let back = part_form options lexemes (suc slash) until has.1 in
       let fault = Unsupported (Some (nth_lexeme lexemes slash).at) in

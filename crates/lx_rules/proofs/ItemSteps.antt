@@ -22,7 +22,7 @@ use Rattle.lx_rules.specs.Items.{State, ItemChecks, is_default, twice}
 use Rattle.lx_exprs.specs.Expressions.{IsRead}
 use Rattle.lx_rules.specs.Keeping.{Holds, HoldsDefault, IsTaken}
 use Rattle.lx_rules.specs.Blocks.{given_names, of_kind}
-use Rattle.lx_rules.specs.Soundness.{IsSound}
+use Rattle.lx_rules.specs.Soundness.{HasFitDefinitions}
 use Rattle.lx_exprs.specs.Seen.{definition_view, definitions_view}
 
 -- the checks of an expression that is read find nothing
@@ -99,7 +99,7 @@ module _ (options : Options) (lexemes : List Lexeme) (known : Known) (state : St
       → (read : IsRead options lexemes state.definitions whole_room from until reading)
       → IsDefined (nth_lexeme lexemes name).text (nth_lexeme lexemes name).at read.meaning (definition_view (nth_lexeme lexemes name).text given)
       → definitions_view after.env.definitions ≡ definitions_view known.env.definitions ++ definition_view (nth_lexeme lexemes name).text given ∷ []
-      → IsSound after.env → after.env.fill ≡ known.env.fill → after.rules ≡ known.rules → after.default ≡ known.default → after.acts ≡ known.acts
+      → HasFitDefinitions after.env → after.env.fill ≡ known.env.fill → after.rules ≡ known.rules → after.default ≡ known.default → after.acts ≡ known.acts
       → after.size ≡ known.size → after.nesting ≡ known.nesting → after.tags ≡ known.tags
       → IsTaken options lexemes state (Define name from until) after
   define_taken name from until after given reading none read defined added sound fill rules default acts size nesting tags = record {

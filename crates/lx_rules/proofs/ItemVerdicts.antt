@@ -16,7 +16,7 @@ use Rattle.lx_regex.specs.Term.{IsInRanges, Term}
 use Rattle.lx_regex.specs.declared.rules.Kind.{Kind}
 use Rattle.lx_regex.specs.declared.rules.Kind.TheVariants as kind
 use Rattle.lx_rules.specs.Buildable.{IsBuildable}
-use Rattle.lx_exprs.specs.Checks.{Check, Checks, Finds, IsIn, Then, is_among, tags_of, waits}
+use Rattle.lx_exprs.specs.Checks.{Check, Checks, Finds, IsIn, Then, is_among, tags_of, unsupported}
 use Rattle.lx_rules.specs.Configurations.{config_fault, define_words, fill_word, other_words, switch_fault, switch_of}
 use Rattle.lx_exprs.specs.Defined.{Definition, IsClassKept, IsDefined, IsTermKept, Meaning, definition_of, is_built, kept, meant_class, term_of_meaning, whole, whole_room}
 use Rattle.lx_exprs.specs.Expressions.{ContextChecks, ExpressionChecks}
@@ -68,7 +68,7 @@ switched name value none = by (bytes_eq name.text fill_word) (is_among name.text
     of (Some fill) none = (fill, refl)
 
     by : (is_fill is_known : Bool)
-        → None ≡ (if is_fill then switch_fault value else (if is_known then waits name else Some (UnknownConfig name.at name.text)))
+        → None ≡ (if is_fill then switch_fault value else (if is_known then unsupported name else Some (UnknownConfig name.at name.text)))
         → (fill : Bool) × (switch_of value.kind value.text ≡ Some fill)
     by true is_known none = of (switch_of value.kind value.text) none
     by false true none = absurd (let h : None ≡ Some (Unsupported (Some name.at)) = none in cc)
@@ -87,11 +87,11 @@ module _ (options : Options) (lexemes : List Lexeme) where
       let form = part_form options lexemes from slash part in
       let behind = part_form options lexemes (suc slash) until later in
       let First : Check = Checks options definitions false [] form.0 in
-      let Waits : Check = Finds (waits (nth_lexeme lexemes slash)) in
+      let Waits : Check = Finds (unsupported (nth_lexeme lexemes slash)) in
       let Second : Check = Checks options definitions false (tags_of options definitions form.0) behind.0 in
       and_then
       (then_decides First (Then Waits Second) (form_decides options definitions false [] form.0)
-      (then_decides Waits Second (finds_decides (waits (nth_lexeme lexemes slash)))
+      (then_decides Waits Second (finds_decides (unsupported (nth_lexeme lexemes slash)))
       (form_decides options definitions false (tags_of options definitions form.0) behind.0)))
       (λ found. surely (found.0, (form.0, behind.0, form.1, behind.1, found.1)))
 
@@ -104,8 +104,8 @@ module _ (options : Options) (lexemes : List Lexeme) where
   target_decides : (goes : Option ℕ) → Decides (TargetChecks options lexemes goes)
   target_decides None = finds_decides None
   target_decides (Some goes) =
-      then_decides (Finds (waits (nth_lexeme lexemes (goes - 1)))) (Finds (unless options.conds (nth_lexeme lexemes (goes - 1)).at))
-      (finds_decides (waits (nth_lexeme lexemes (goes - 1)))) (finds_decides (unless options.conds (nth_lexeme lexemes (goes - 1)).at))
+      then_decides (Finds (unsupported (nth_lexeme lexemes (goes - 1)))) (Finds (unless options.conds (nth_lexeme lexemes (goes - 1)).at))
+      (finds_decides (unsupported (nth_lexeme lexemes (goes - 1)))) (finds_decides (unless options.conds (nth_lexeme lexemes (goes - 1)).at))
 
   head_decides : (state : State) (sort : HeadSort) (conds : List (List ℕ)) (head : ℕ) (slash : Option ℕ) (until : ℕ)
       → head_sort (sort_at (nth_lexeme lexemes head)) ≡ sort → HasExpressions (sorts_at lexemes) (Rule head head slash until None None)
@@ -113,8 +113,8 @@ module _ (options : Options) (lexemes : List Lexeme) where
   head_decides state any conds head slash until is has =
       finds_decides (twice (nth_lexeme lexemes head).at (first_of is_default conds state.rules))
   head_decides state end conds head slash until is has =
-      then_decides (Finds (waits (nth_lexeme lexemes head))) (Finds (twice (nth_lexeme lexemes head).at (first_of is_end conds state.rules)))
-      (finds_decides (waits (nth_lexeme lexemes head))) (finds_decides (twice (nth_lexeme lexemes head).at (first_of is_end conds state.rules)))
+      then_decides (Finds (unsupported (nth_lexeme lexemes head))) (Finds (twice (nth_lexeme lexemes head).at (first_of is_end conds state.rules)))
+      (finds_decides (unsupported (nth_lexeme lexemes head))) (finds_decides (twice (nth_lexeme lexemes head).at (first_of is_end conds state.rules)))
   head_decides state expression conds head None until is has =
       expression_decides state.definitions head until
       (head_part lexemes head None until
@@ -153,14 +153,14 @@ module _ (options : Options) (lexemes : List Lexeme) where
   head_means state ready any conds head slash until checked = surely (kind.Default, any_meaning, (refl, refl))
   head_means state ready end conds head slash until checked =
       let found =
-      then-none (Finds (waits (nth_lexeme lexemes head))) (Finds (twice (nth_lexeme lexemes head).at (first_of is_end conds state.rules))) checked in
+      then-none (Finds (unsupported (nth_lexeme lexemes head))) (Finds (twice (nth_lexeme lexemes head).at (first_of is_end conds state.rules))) checked in
       absurd (let h : None ≡ Some (Unsupported (Some (nth_lexeme lexemes head).at)) = found.0 in cc)
   head_means state ready expression conds head None until checked =
       and_then (form_means options state.definitions ready false [] checked.0 checked.2)
       (λ means. surely (kind.Plain, means.0, (refl, (checked.0, checked.1, means.1))))
   head_means state ready expression conds head (Some slash) until checked =
       let First : Check = Checks options state.definitions false [] checked.0 in
-      let Waits : Check = Finds (waits (nth_lexeme lexemes slash)) in
+      let Waits : Check = Finds (unsupported (nth_lexeme lexemes slash)) in
       let Second : Check = Checks options state.definitions false (tags_of options state.definitions checked.0) checked.1 in
       let found = then-none First (Then Waits Second) checked.4 in
       let later = then-none Waits Second found.1 in

@@ -3,6 +3,7 @@ pub mod BlockVerdicts
 pub mod BuildableMeanings
 pub mod BuiltScanners
 pub mod BuiltTerms
+pub mod FaultPlaces
 pub mod FinishingSteps
 pub mod HeadSteps
 pub mod ItemFits

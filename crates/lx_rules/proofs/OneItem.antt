@@ -10,7 +10,6 @@ use Rattle.lx_base.specs.declared.settings.Options.{Options}
 use Rattle.lx_parse.specs.declared.items.Item.{Item}
 use Rattle.lx_parse.specs.declared.items.Item.TheVariants.{Define, Configure, Rule, Text}
 use Rattle.lx_regex.specs.declared.rules.Kind.{Kind}
-use Rattle.lx_regex.specs.Pattern.{patterns_of}
 use Rattle.lx_rules.specs.Blocks.{AreScanners, BlockChecks, ClashCheck, IsBlockFault, IsResolved, NoClash, Resolves, conditions_of, lonely_fault, scanners_fault, targets_fault}
 use Rattle.lx_exprs.specs.Checks.{Then, Finds}
 use Rattle.lx_rules.specs.Configurations.{config_fault}
@@ -22,7 +21,7 @@ use Rattle.lx_forms.specs.Lexemes.{Lexeme, nth_lexeme, sort_at}
 use Rattle.lx_rules.specs.declared.resolved.Resolved.{Resolved}
 use Rattle.lx_rules.specs.declared.resolved.Scanner.{Scanner}
 use Rattle.lx_rules.specs.Likeness.{AreAlike, HaveSameRules}
-use Rattle.lx_exprs.proofs.OneCheck.{FindsOne, FindsOne-Finds, FindsOne-Then, FindsOne-by, context-one, definition-one, expression-one, expression_meaning-one, then_waits-one}
+use Rattle.lx_exprs.proofs.OneCheck.{FindsOne, FindsOne-Finds, FindsOne-Then, FindsOne-by, context-one, definition-one, expression-one, expression_meaning-one, then_unsupported-one}
 
 scanners-alike : (named : Bool) (rules : List RuleOf) (conds : List (List ℕ)) (scanners others : List Scanner) → AreScanners named rules conds scanners
     → AreScanners named rules conds others → HaveSameRules scanners others
@@ -45,7 +44,7 @@ module _ (options : Options) (lexemes : List Lexeme) where
   target-one None = FindsOne-Finds None
   target-one (Some goes) =
       let lexeme = nth_lexeme lexemes (goes - 1) in
-      then_waits-one options [] (Finds (unless options.conds lexeme.at)) lexeme (FindsOne-Finds (unless options.conds lexeme.at))
+      then_unsupported-one options [] (Finds (unless options.conds lexeme.at)) lexeme (FindsOne-Finds (unless options.conds lexeme.at))
 
   head-one : (state : State) (given : HeadSort) (conds : List (List ℕ)) (head : ℕ) (slash : Option ℕ) (until : ℕ)
       → FindsOne (HeadChecks options lexemes state given conds head slash until)
@@ -53,7 +52,7 @@ module _ (options : Options) (lexemes : List Lexeme) where
       FindsOne-Finds (twice (nth_lexeme lexemes head).at (first_of is_default conds state.rules))
   head-one state end conds head slash until =
       let found = twice (nth_lexeme lexemes head).at (first_of is_end conds state.rules) in
-      then_waits-one options [] (Finds found) (nth_lexeme lexemes head) (FindsOne-Finds found)
+      then_unsupported-one options [] (Finds found) (nth_lexeme lexemes head) (FindsOne-Finds found)
   head-one state expression conds head None until = expression-one options state.definitions lexemes head until
   head-one state expression conds head (Some slash) until = context-one options state.definitions lexemes head slash until
 

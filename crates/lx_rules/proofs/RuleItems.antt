@@ -14,7 +14,7 @@ use Rattle.lx_exprs.specs.declared.values.Room.{Room}
 use Rattle.lx_forms.specs.Lexemes.{Lexeme, nth_lexeme, lexemes_of}
 use Rattle.lx_exprs.specs.Defined.{Meaning}
 use Rattle.lx_rules.specs.Items.{RuleOf, State, ListChecks, act_of, unless}
-use Rattle.lx_rules.specs.Keeping.{Holds, IsFresh, IsHeadOf, IsHeadRead, IsNew, IsSoundHead, IsTaken, room_behind, with_rule}
+use Rattle.lx_rules.specs.Keeping.{Holds, IsFresh, IsHeadOf, IsHeadRead, IsNew, IsBoundedHead, IsTaken, room_behind, with_rule}
 use Rattle.lx_rules.specs.Soundness.{IsShort}
 
 -- a head that was read is not `$`
@@ -61,7 +61,7 @@ module _ (options : Options) (body : List ℕ) (tokens : List Token) (known : Kn
     counted : length known.acts.items ≡ length state.rules
     counted = ap length holds.acts ∙ length-map state.rules (λ (r : RuleOf). r.act)
 
-    pub taken_new : length body ≤ 16777216 → options.conds ≡ false → IsFresh known.default read → IsSoundHead read
+    pub taken_new : length body ≤ 16777216 → options.conds ≡ false → IsFresh known.default read → IsBoundedHead read
         → IsNew options.conds known read (nth_lexeme lexemes from).at taken.act taken
     taken_new few unconditional fresh sound = record {
       without_conds = unconditional;

@@ -22,7 +22,7 @@ use Rattle.lx_rules.specs.Items.{RuleOf, State, any_meaning, is_default}
 use Rattle.lx_rules.specs.Blocks.{given_names, of_kind, not_of_kind, pattern_of, size_of, nesting_of}
 use Rattle.lx_exprs.specs.Expressions.{IsReadAs}
 use Rattle.lx_rules.specs.Keeping.{Holds, HoldsDefault, DefaultWithin, AddsPlain, IsNew, IsUsual, default_count, default_pattern, names_of, plain_pattern, room_behind, with_rule}
-use Rattle.lx_rules.specs.Soundness.{IsShort, IsSound, rules_size}
+use Rattle.lx_rules.specs.Soundness.{IsShort, HasFitDefinitions, rules_size}
 use Rattle.lx_exprs.specs.Seen.{definitions_view}
 use Rattle.lx_exprs.proofs.DefinitionLists.{All-one}
 
@@ -140,7 +140,7 @@ module _ (conds : Bool) (known after : Known) (state : State) (rule : RuleOf) (h
     tags = tags ∙ ap₂ (λ a b. a ++ b) holds.tags read.tags ∙ sym (names_of-snoc state.rules rule);
     rules = λ fit. rules_of_all fit adds;
     names = λ fit. names_of_all fit adds;
-    sound = subst IsSound (sym env) holds.sound;
+    sound = subst HasFitDefinitions (sym env) holds.sound;
     within = λ small. (bounds small).0;
     few = λ small. (bounds small).1;
     numbers = numbers_of adds;
@@ -259,7 +259,7 @@ module _ (conds : Bool) (known after : Known) (state : State) (rule : RuleOf) (h
     names = λ fit.
         ap (λ (l : Vec Rule Global). map given_names l.items) rules ∙ holds.names (fit_front fit)
         ∙ ap (map (λ (r : RuleOf). r.meaning.tags)) (sym others);
-    sound = subst IsSound (sym env) holds.sound;
+    sound = subst HasFitDefinitions (sym env) holds.sound;
     within = λ low.
         let h = holds.size in
         let below : known.size ≤ 4096 = omega (arith, low, size, h) in

@@ -5,6 +5,7 @@ use Rattle.std.specs.Prelude.{◌||◌, nat_le, nat_lt, if◌then◌else◌}
 use Rattle.std.proofs.lemmas.Bool.{OnFalse_from}
 use Rattle.std.proofs.lemmas.List.{length-append, length-map}
 use Rattle.std.proofs.lemmas.List.Elements.{recursion_from_All}
+use Rattle.lx_regex.specs.ClassLimits.{AllClassesFit}
 use Rattle.lx_base.specs.Names.{usual_names}
 use Rattle.lx_base.specs.declared.faults.Fault.TheVariants.{TooManyParts}
 use Rattle.lx_base.specs.declared.places.Pos.{Pos}
@@ -12,9 +13,9 @@ use Rattle.lx_base.specs.declared.settings.Enc.{Enc}
 use Rattle.lx_base.specs.declared.settings.Options.{Options}
 use Rattle.lx_parse.specs.declared.items.Item.{Item}
 use Rattle.lx_regex.specs.Limits as limits
-use Rattle.lx_regex.specs.Limits.{AreRegular, HaveDifferentNumbers, IsRegular, IsWithinLimits, NoneHasNumber, end_count, sizes_of}
+use Rattle.lx_regex.specs.Limits.{AreRegular, HaveDifferentNumbers, IsRegular, NoneHasNumber, end_count, sizes_of}
 use Rattle.lx_regex.specs.Pattern as regex
-use Rattle.lx_regex.specs.Pattern.{Pattern, patterns_of, terms_of}
+use Rattle.lx_regex.specs.Pattern.{Pattern, terms_of}
 use Rattle.lx_regex.specs.declared.rules.Kind.{Kind}
 use Rattle.lx_regex.specs.declared.rules.Kind.TheVariants as kind
 use Rattle.lx_regex.specs.declared.rules.Rule.{Rule}
@@ -22,15 +23,15 @@ use Rattle.lx_regex.specs.declared.rules.Tag.{Tag}
 use Rattle.lx_rules.specs.declared.resolved.Resolved.{Resolved}
 use Rattle.lx_rules.specs.declared.resolved.Scanner.{Scanner}
 use Rattle.lx_rules.specs.Blocks as blocks
-use Rattle.lx_rules.specs.Blocks.{AreScanners, BlockChecks, ClashCheck, IsResolved, IsScanner, conditions_of, limits_fault, lonely_fault, nesting_of, rules_of, scanners_fault, targets_fault}
+use Rattle.lx_rules.specs.Blocks.{AreScanners, BlockChecks, ClashCheck, IsResolved, IsScanner, conditions_of, limits_fault, lonely_fault, nesting_of, scanners_fault, targets_fault}
 use Rattle.lx_exprs.specs.Checks.{Check, Finds, Then}
 use Rattle.lx_exprs.specs.Defined.{Meaning, is_built, kept, whole, whole_room}
 use Rattle.lx_rules.specs.Environments.{Environment}
 use Rattle.lx_rules.specs.Items.{Goes, RuleOf, State, first_state}
 use Rattle.lx_rules.specs.Keeping.{names_of}
 use Rattle.lx_forms.specs.Lexemes.{Lexeme}
-use Rattle.lx_rules.specs.Soundness.{IsFine, IsFit, rules_size}
-use Rattle.lx_exprs.specs.Within.{AllClassesFit, AreDefinedWithin, IsPlain}
+use Rattle.lx_rules.specs.Soundness.{FitsLimits, IsFit, rules_size}
+use Rattle.lx_exprs.specs.Within.{AreDefinedWithin, IsPlain}
 use Rattle.lx_rules.specs.Within.{IsScannerWithin}
 use Rattle.lx_rules.proofs.BlockSteps.{AreUsual, conditions_of-usual, in_order, rules_of-usual, scanners_usual, tags_of-in_order}
 use Rattle.lx_exprs.proofs.ClassFits.{classes_fit}
@@ -237,7 +238,7 @@ module _ (options : Options) (place : Pos) (state : State) (usual : AreUsual sta
 pub resolved_within :
     (options : Options) (place : Pos) (environment after : Environment) (lexemes : List Lexeme) (items : List Item) (state : State) (resolved : Resolved)
     → Goes options lexemes (first_state environment) items (Ok state) → AreUsual state.rules → BlockChecks place state None
-    → IsResolved options.conds state after resolved → IsFine resolved → AreDefinedWithin options.enc environment.definitions
+    → IsResolved options.conds state after resolved → FitsLimits resolved → AreDefinedWithin options.enc environment.definitions
     → AreDefinedWithin options.enc after.definitions × AllByRecursion (IsScannerWithin options.enc) resolved.scanners
 resolved_within options place environment after lexemes items state resolved goes usual checked is fine ready =
     let within =

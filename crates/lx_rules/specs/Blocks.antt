@@ -2,6 +2,7 @@
 use Rattle.std.specs.Prelude.{◌≡◌, ℕ, ◌+◌, ◌⊎◌, Bool, true, false, List, [], ◌∷◌, ◌++◌, map, max, length, nat_lt, ◌||◌, Option, Some, None, Ok, Err, not, codes, if◌then◌else◌}
 use Rattle.std.specs.List.{AllByRecursion, list_any, filter}
 use Rattle.std.specs.Option.{option_or}
+use Rattle.lx_base.specs.declared.limits.TheConstants.{NESTING_LIMIT, SIZE_LIMIT, TAG_LIMIT}
 use Rattle.lx_base.specs.declared.places.Pos.{Pos}
 use Rattle.lx_base.specs.declared.faults.Fault.{Fault}
 use Rattle.lx_base.specs.declared.faults.Fault.TheVariants.{NoRules, EofPair, Condition, BadValue, TooManyParts}
@@ -117,7 +118,7 @@ tags_of (rule ∷ rules) = length rule.meaning.tags + tags_of rules
 -- a scanner is within the limits on these
 abbrev pub limits_fault : Pos → (size nesting tags : ℕ) → Option Fault
 limits_fault at size nesting tags =
-    if nat_lt 4096 size || nat_lt 256 nesting || nat_lt 128 tags then Some (TooManyParts at (kept size) (kept nesting) (kept tags)) else None
+    if nat_lt SIZE_LIMIT size || nat_lt NESTING_LIMIT nesting || nat_lt TAG_LIMIT tags then Some (TooManyParts at (kept size) (kept nesting) (kept tags)) else None
 
 -- a scanner has another rule than `$`
 abbrev pub is_bare : List RuleOf → Bool

@@ -30,7 +30,7 @@ abbrev mutual
 abbrev pub IsBuildable : Definition → Type 0
 IsBuildable definition = (1 ≤ definition.size) × IsExpressible (term_or_empty definition.term)
 
--- the definitions of an environment are ready for copies, and can be built
-pub record IsReady (enc : Enc) (environment : Environment) : Type 0 where
+-- the definitions of an environment can be copied within the limits, and expressions can stand for them
+pub record HasBuildableDefinitions (enc : Enc) (environment : Environment) : Type 0 where
   pub within : AreDefinedWithin enc environment.definitions
   pub buildable : AllByRecursion IsBuildable environment.definitions

@@ -8,7 +8,7 @@ use Rattle.lx_token.specs.declared.kinds.TokenKind.TheVariants as kind
 use Rattle.lx_token.specs.declared.numbers.Number.{Number}
 use Rattle.lx_token.specs.Numbers.{number_of}
 use Rattle.lx_forms.specs.Lexemes.{Lexeme}
-use Rattle.lx_exprs.specs.Checks.{is_among, waits}
+use Rattle.lx_exprs.specs.Checks.{is_among, unsupported}
 
 -- the configurations that spell the names of a scanner
 abbrev pub define_words : List (List ℕ)
@@ -47,4 +47,4 @@ switch_fault value = if is_some (switch_of value.kind value.text) then None else
 abbrev pub config_fault : (name value : Lexeme) → Option Fault
 config_fault name value =
     if bytes_eq name.text fill_word then switch_fault value
-    else (if is_among name.text define_words || is_among name.text other_words then waits name else Some (UnknownConfig name.at name.text))
+    else (if is_among name.text define_words || is_among name.text other_words then unsupported name else Some (UnknownConfig name.at name.text))

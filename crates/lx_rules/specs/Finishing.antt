@@ -12,7 +12,7 @@ use Rattle.lx_rules.specs.Items.{State}
 use Rattle.lx_rules.specs.Blocks.{BlockChecks, IsResolved, given_names}
 use Rattle.lx_rules.specs.Keeping.{default_pattern}
 use Rattle.lx_rules.specs.Seen.{environment_view}
-use Rattle.lx_rules.specs.Soundness.{IsFine, IsSound}
+use Rattle.lx_rules.specs.Soundness.{FitsLimits, HasFitDefinitions}
 
 -- the rule `*` stands behind the others, if there is one
 abbrev pub AddsDefault : Option DefaultRule → (rules all : List Rule) → Type 0
@@ -34,4 +34,4 @@ AreScannersOf false default rules scanners = IsOneScanner default rules scanners
 -- the block resolves so, and all is within the limits
 abbrev pub IsFinished : Bool → Pos → State → Env × Resolved → Type 0
 IsFinished conds at state answer =
-    BlockChecks at state None × IsResolved conds state (environment_view answer.0) answer.1 × IsSound answer.0 × IsFine answer.1
+    BlockChecks at state None × IsResolved conds state (environment_view answer.0) answer.1 × HasFitDefinitions answer.0 × FitsLimits answer.1

@@ -21,7 +21,7 @@ use Rattle.lx_exprs.specs.Defined.{Definition, Meaning, IsDefined, definition_of
 use Rattle.lx_rules.specs.Environments.{Environment}
 use Rattle.lx_exprs.specs.Meanings.{IsMeaning}
 use Rattle.lx_rules.specs.Configurations.{config_fault, switch_of}
-use Rattle.lx_exprs.specs.Checks.{Check, Then, Finds, waits, is_among}
+use Rattle.lx_exprs.specs.Checks.{Check, Then, Finds, unsupported, is_among}
 
 -- A rule: its conditions, its kind, the place of its head, what that means, the place of its target, and its action. Where
 -- conditions are not in use it has one without a name; and that of `<*>` is named so.
@@ -102,7 +102,7 @@ module _ (options : Options) (lexemes : List Lexeme) where
   abbrev pub HeadChecks : State → HeadSort → (conds : List (List ℕ)) → (head : ℕ) → (slash : Option ℕ) → (until : ℕ) → Check
   HeadChecks state any conds head slash until = Finds (twice (lexeme_at head).at (first_of is_default conds state.rules))
   HeadChecks state end conds head slash until =
-      Then (Finds (waits (lexeme_at head))) (Finds (twice (lexeme_at head).at (first_of is_end conds state.rules)))
+      Then (Finds (unsupported (lexeme_at head))) (Finds (twice (lexeme_at head).at (first_of is_end conds state.rules)))
   HeadChecks state expression conds head None until = ExpressionChecks options lexemes state.definitions head until
   HeadChecks state expression conds head (Some slash) until = ContextChecks options lexemes state.definitions head slash until
 
@@ -110,7 +110,7 @@ module _ (options : Options) (lexemes : List Lexeme) where
   abbrev pub TargetChecks : (goes : Option ℕ) → Check
   TargetChecks None = Finds None
   TargetChecks (Some goes) =
-      Then (Finds (waits (lexeme_at (goes - 1)))) (Finds (unless options.conds (lexeme_at (goes - 1)).at))
+      Then (Finds (unsupported (lexeme_at (goes - 1)))) (Finds (unless options.conds (lexeme_at (goes - 1)).at))
 
   -- the checks of an item
   abbrev pub ItemChecks : State → Item → Check

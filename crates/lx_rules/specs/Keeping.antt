@@ -1,4 +1,5 @@
 -- What the code knows behind some items of a block.
+use Rattle.lx_base.specs.declared.limits.TheConstants.{NESTING_LIMIT, SIZE_LIMIT, TAG_LIMIT}
 use Rattle.lx_exprs.specs.Expressions.{IsReadAs}
 use Rattle.std.specs.Prelude.{◌≡◌, ℕ, suc, ◌+◌, ◌-◌, ◌<◌, ◌≤◌, ◌⊎◌, nat_lt, ◌||◌, length, All, Bool, true, false, if◌then◌else◌, List, [], ◌∷◌, ◌++◌, map, Option, Some, None, Err}
 use Rattle.std.specs.List.{AllByRecursion}
@@ -26,14 +27,14 @@ use Rattle.lx_rules.specs.Items.{RuleOf, State, Goes, HeadChecks, head_sort, IsH
 use Rattle.lx_rules.specs.Blocks.{given_names, of_kind, not_of_kind, pattern_of, size_of, nesting_of}
 use Rattle.lx_exprs.specs.declared.expressions.Reading.{Reading}
 use Rattle.lx_exprs.specs.declared.values.Room.{Room}
-use Rattle.lx_exprs.specs.Values.{IsHonest}
+use Rattle.lx_exprs.specs.Values.{IsBounded}
 use Rattle.lx_exprs.specs.Seen.{definitions_view}
-use Rattle.lx_rules.specs.Soundness.{IsSound, IsShort, rules_size}
+use Rattle.lx_rules.specs.Soundness.{HasFitDefinitions, IsShort, rules_size}
 
 -- what a rule may have behind rules of this size and nesting, and with so many tags
 abbrev pub room_behind : (size nesting tags : ℕ) → Room
 room_behind size nesting tags =
-    record { size = if nat_lt 256 nesting || nat_lt 128 tags then 0 else 4096 - size; tags = 128 - tags }
+    record { size = if nat_lt NESTING_LIMIT nesting || nat_lt TAG_LIMIT tags then 0 else SIZE_LIMIT - size; tags = TAG_LIMIT - tags }
 
 -- a rule of the kinds that are supported: it has the one condition without a name and no target, and is not `$`
 pub record IsUsual (rule : RuleOf) : Type 0 where
@@ -80,9 +81,9 @@ pub record Holds (conds : Bool) (known : Known) (state : State) : Type 0 where
       → map regex.pattern_of known.rules.items ≡ map pattern_of (not_of_kind is_default state.rules)
   pub names : fits whole_room (size_of state.rules) (nesting_of state.rules) (length (names_of state.rules)) ≡ true
       → map given_names known.rules.items ≡ map (λ (rule : RuleOf). rule.meaning.tags) (not_of_kind is_default state.rules)
-  pub sound : IsSound known.env
-  pub within : known.size ≤ 4096 → rules_size known.rules.items + default_count known.default ≤ known.size
-  pub few : known.size ≤ 4096 → length known.rules.items + default_count known.default ≤ known.size
+  pub sound : HasFitDefinitions known.env
+  pub within : known.size ≤ SIZE_LIMIT → rules_size known.rules.items + default_count known.default ≤ known.size
+  pub few : known.size ≤ SIZE_LIMIT → length known.rules.items + default_count known.default ≤ known.size
   pub numbers : All (λ (rule : regex_rules.Rule). (0 < rule.number) × (rule.number ≤ length known.acts.items)) known.rules.items
   pub default_number : DefaultWithin known.default (length known.acts.items)
   pub short : All (λ (act : Act). IsShort act.code) known.acts.items
@@ -117,9 +118,9 @@ IsFresh default head.Default = default ≡ None
 IsFresh default (head.Plain reading) = Unit {0}
 
 -- an expression that was read has the size and the tags of what is kept of it
-abbrev pub IsSoundHead : Head → Type 0
-IsSoundHead head.Default = Unit {0}
-IsSoundHead (head.Plain reading) = IsHonest (length reading.tags) reading.value
+abbrev pub IsBoundedHead : Head → Type 0
+IsBoundedHead head.Default = Unit {0}
+IsBoundedHead (head.Plain reading) = IsBounded (length reading.tags) reading.value
 
 -- what is known behind one rule more
 abbrev pub with_rule : State → RuleOf → State
@@ -146,7 +147,7 @@ pub record IsNew (conds : Bool) (known : Known) (read : Head) (at : Pos) (act : 
   pub act_is : rule.act ≡ act
   pub head_of : IsHeadOf (room_behind known.size known.nesting (length known.tags)) rule.kind rule.meaning read
   pub fresh : IsFresh known.default read
-  pub sound : IsSoundHead read
+  pub sound : IsBoundedHead read
   pub number : act.number ≡ suc (length known.acts.items)
   pub short : IsShort act.code
 

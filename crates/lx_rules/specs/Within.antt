@@ -1,5 +1,5 @@
 -- What rule lists have so that scanners can be built from them: the limits, and classes that fit the encoding.
-use Rattle.lx_exprs.specs.Within.{AllClassesFit}
+use Rattle.lx_regex.specs.ClassLimits.{AllClassesFit}
 use Rattle.lx_base.specs.declared.settings.Enc.{Enc}
 use Rattle.lx_regex.specs.Limits.{IsWithinLimits}
 use Rattle.lx_regex.specs.Pattern.{patterns_of, terms_of}

@@ -2,7 +2,7 @@
 ghost use Rattle.std.specs.Prelude.{◌≡◌};
 ghost use Rattle.lx_rules.specs.Environments.{first_environment};
 ghost use Rattle.lx_rules.specs.Seen.{environment_view};
-ghost use Rattle.lx_rules.specs.Soundness.{IsSound};
+ghost use Rattle.lx_rules.specs.Soundness.{HasFitDefinitions};
 
 use lx_exprs::definitions::Definitions;
 use std::alloc::Global;
@@ -19,7 +19,7 @@ impl Env {
     /// What holds before the first block: no definitions, and the default configuration. It takes no memory.
     pub fn new(alloc: Global) -> Env
         ensures first { environment_view result ≡ first_environment }
-        ensures sound { IsSound result }
+        ensures sound { HasFitDefinitions result }
     {
         Env {
             definitions: Definitions::new(alloc),

@@ -1,17 +1,22 @@
 //! What a block resolves to, by what is known behind its items.
-ghost use Rattle.std.specs.Prelude.{◌≡◌, ◌↔◌, IfOk, IsTrue};
+ghost use Rattle.std.specs.Prelude.{◌≡◌, ◌↔◌, ◌≤◌, ◌||◌, Bool, IfOk, IsTrue, MatchResult, length, nat_lt};
 ghost use Rattle.std.specs.List.{AllByRecursion};
+ghost use Rattle.lx_base.specs.declared.limits.TheConstants.{NESTING_LIMIT, SIZE_LIMIT, SOURCE_LIMIT, TAG_LIMIT};
 ghost use Rattle.lx_base.specs.Names.{IsTagName};
-ghost use Rattle.lx_rules.specs.Finishing.{AddsDefault, AreScannersOf, IsOneScanner};
+ghost use Rattle.lx_rules.specs.Blocks.{BlockChecks};
+ghost use Rattle.lx_rules.specs.Finishing.{AddsDefault, AreScannersOf, IsFinished, IsOneScanner};
+ghost use Rattle.lx_rules.specs.Items.{State};
+ghost use Rattle.lx_rules.specs.Keeping.{Holds};
+ghost use Rattle.lx_exprs.specs.Checks.{StopsAt};
 
 use crate::environment::Env;
 use crate::items::{DefaultRule, Known};
 use crate::resolved::{Config, Resolved, Scanner};
 use crate::rules::simple_rule;
+use lx_base::limits::{NESTING_LIMIT, SIZE_LIMIT, TAG_LIMIT};
 use lx_base::names::{do_not_clash, is_tag_name};
 use lx_base::{ByteText, Fault, Memory, Names, Pos, Sequence, Stop, usual_names};
 use lx_exprs::tags::SharedTags;
-use lx_exprs::values::{MOST_NESTING, MOST_SIZE, MOST_TAGS};
 use lx_regex::{Expr, Kind, Rule, RuleSet};
 use std::alloc::Global;
 
@@ -97,53 +102,44 @@ fn scanners(
     one_scanner(alloc, rules, default)
 }
 
-impl Known {
-    ghost use Rattle.std.specs.Prelude.{◌≡◌, ◌≤◌, ◌||◌, Bool, MatchResult, length, nat_lt};
-    ghost use Rattle.lx_rules.specs.Blocks.{BlockChecks, IsResolved};
-    ghost use Rattle.lx_rules.specs.Items.{State};
-    ghost use Rattle.lx_rules.specs.Keeping.{Holds};
-    ghost use Rattle.lx_exprs.specs.Checks.{StopsAt};
-    ghost use Rattle.lx_rules.specs.Finishing.{IsFinished};
+/// Whether the scanner is past a limit.
+fn is_too_large(known: &Known) -> bool
+    ensures { result ≡ (nat_lt SIZE_LIMIT known.now.size || nat_lt NESTING_LIMIT known.now.nesting || nat_lt TAG_LIMIT (length known.now.tags)) }
+{
+    known.size > SIZE_LIMIT || known.nesting > NESTING_LIMIT || known.tags.len() > TAG_LIMIT
+}
 
-    /// Whether the scanner is past a limit.
-    fn is_too_large(&self) -> bool
-        ensures { result ≡ (nat_lt 4096 self.now.size || nat_lt 256 self.now.nesting || nat_lt 128 (length self.now.tags)) }
-    {
-        self.size > MOST_SIZE || self.nesting > MOST_NESTING || self.tags.len() > MOST_TAGS
+/// What the block resolves to whose opener stands at this place, and what holds behind it.
+pub(crate) fn finish(alloc: Global, known: Known, at: Pos) -> Result<(Env, Resolved), Stop>
+    requires { length known.acts.items ≤ SOURCE_LIMIT }
+    ensures { (conds : Bool) (state : State) → Holds conds known state → MatchResult result (IsFinished conds at state) (StopsAt (BlockChecks at state)) }
+{
+    let names = usual_names(alloc)?;
+    if !do_not_clash(&names) || !are_all_tag_names(&names, &known.tags) {
+        return Err(Stop::Fault(Fault::BadValue { at }));
     }
-
-    /// What the block resolves to whose opener stands at this place, and what holds behind it.
-    pub fn finish(self, alloc: Global, at: Pos) -> Result<(Env, Resolved), Stop>
-        requires { length self.acts.items ≤ 16777216 }
-        ensures { (conds : Bool) (state : State) → Holds conds self state → MatchResult result (IsFinished conds at state) (StopsAt (BlockChecks at state)) }
-    {
-        let names = usual_names(alloc)?;
-        if !do_not_clash(&names) || !are_all_tag_names(&names, &self.tags) {
-            return Err(Stop::Fault(Fault::BadValue { at }));
-        }
-        if self.is_too_large() {
-            return Err(Stop::Fault(Fault::TooManyParts {
-                at,
-                size: self.size,
-                nesting: self.nesting,
-                tags: self.tags.len(),
-            }));
-        }
-        let env = self.env;
-        let fill = env.fill;
-        let acts = self.acts;
-        let rules = self.rules;
-        let default = self.default;
-        let scanners = scanners(alloc, acts.as_slice().is_empty(), rules, default)?;
-        let resolved = Resolved {
-            scanners,
-            acts: Sequence::from_vec(acts),
-            config: Config {
-                names,
-                eof: None,
-                fill,
-            },
-        };
-        Ok((env, resolved))
+    if is_too_large(&known) {
+        return Err(Stop::Fault(Fault::TooManyParts {
+            at,
+            size: known.size,
+            nesting: known.nesting,
+            tags: known.tags.len(),
+        }));
     }
+    let env = known.env;
+    let fill = env.fill;
+    let acts = known.acts;
+    let rules = known.rules;
+    let default = known.default;
+    let scanners = scanners(alloc, acts.as_slice().is_empty(), rules, default)?;
+    let resolved = Resolved {
+        scanners,
+        acts: Sequence::from_vec(acts),
+        config: Config {
+            names,
+            eof: None,
+            fill,
+        },
+    };
+    Ok((env, resolved))
 }

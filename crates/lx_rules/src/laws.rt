@@ -1,5 +1,6 @@
 //! What holds of all blocks: each law is the contract of a function with an empty body.
-ghost use Rattle.std.specs.Prelude.{◌≡◌, ℕ, List};
+ghost use Rattle.std.specs.Prelude.{◌≡◌, ℕ, List, Ok};
+ghost use Rattle.lx_base.specs.declared.blocks.BlockKind.{BlockKind};
 ghost use Rattle.lx_base.specs.declared.blocks.BlockKind.TheVariants.{Code};
 ghost use Rattle.lx_base.specs.declared.faults.Fault.{Fault};
 ghost use Rattle.lx_base.specs.declared.places.Pos.{Pos};
@@ -8,28 +9,30 @@ ghost use Rattle.lx_base.specs.declared.settings.Options.{Options};
 ghost use Rattle.lx_parse.specs.Blocks.{IsBody, form_of};
 ghost use Rattle.lx_parse.specs.Sorts.{sorts_of};
 ghost use Rattle.lx_parse.specs.declared.items.Item.{Item};
+ghost use Rattle.lx_token.specs.Tokens.{tokens_of};
 ghost use Rattle.lx_token.specs.declared.list.Token.{Token};
+ghost use Rattle.lx_exprs.specs.FaultPlaces.{StandsIn};
 ghost use Rattle.lx_rules.specs.declared.resolved.Resolved.{Resolved};
 ghost use Rattle.lx_rules.specs.Blocks.{IsBlockFault, Resolves};
-ghost use Rattle.lx_rules.specs.Buildable.{IsReady};
+ghost use Rattle.lx_rules.specs.Buildable.{HasBuildableDefinitions};
 ghost use Rattle.lx_rules.specs.Environments.{Environment, first_environment};
 ghost use Rattle.lx_rules.specs.Likeness.{AreAlike};
 ghost use Rattle.lx_forms.specs.Lexemes.{Lexeme, lexemes_of};
 
-/// A block resolves or has a fault: that neither holds cannot be. The definitions before it are ready for copies and can be
-/// built, as `environments_stay_ready` says that they are.
+/// A block resolves or has a fault: that neither holds cannot be. The definitions before it can be copied within the limits and
+/// built, as `environments_stay_buildable` says that they can.
 pub fn blocks_resolve_or_have_a_fault()
     ensures { (options : Options) (at : Pos) (environment : Environment) (body : List ℕ) (tokens : List Token) (items : List Item) →
-        IsReady options.enc environment → IsBody (form_of Code) (sorts_of Code body tokens) items →
+        HasBuildableDefinitions options.enc environment → IsBody (form_of Code) (sorts_of Code body tokens) items →
         ((after : Environment) (resolved : Resolved) → Resolves options at environment (lexemes_of body tokens) items after resolved → ⊥) →
         ((fault : Fault) → IsBlockFault options at environment (lexemes_of body tokens) items fault → ⊥) → ⊥ }
 {}
 
-/// The environment before the first block is ready for what blocks say, and a block that resolves leaves one that is, too.
-pub fn environments_stay_ready()
-    ensures first { (enc : Enc) → IsReady enc first_environment }
+/// The definitions before the first block can be copied and built, and so can those behind a block that resolves.
+pub fn environments_stay_buildable()
+    ensures first { (enc : Enc) → HasBuildableDefinitions enc first_environment }
     ensures kept { (options : Options) (at : Pos) (environment after : Environment) (lexemes : List Lexeme) (items : List Item) (resolved : Resolved) →
-        IsReady options.enc environment → Resolves options at environment lexemes items after resolved → IsReady options.enc after }
+        HasBuildableDefinitions options.enc environment → Resolves options at environment lexemes items after resolved → HasBuildableDefinitions options.enc after }
 {}
 
 /// A block resolves in one way, as far as definitions tell results apart, or it has one fault, and not both.
@@ -41,4 +44,11 @@ pub fn blocks_resolve_in_one_way()
         IsBlockFault options at environment lexemes items fault → IsBlockFault options at environment lexemes items other → fault ≡ other }
     ensures apart { (options : Options) (at : Pos) (environment after : Environment) (lexemes : List Lexeme) (items : List Item) (resolved : Resolved) (fault : Fault) →
         Resolves options at environment lexemes items after resolved → IsBlockFault options at environment lexemes items fault → ⊥ }
+{}
+
+/// The fault of a block stands in the file of its opener, whichever file that is, if its body begins in this file.
+pub fn block_faults_stand_in_the_file_of_the_opener()
+    ensures { (options : Options) (at start : Pos) (environment : Environment) (kind : BlockKind) (body : List ℕ) (tokens : List Token) (items : List Item) (fault : Fault) →
+        start.file ≡ at.file → tokens_of body start ≡ Ok tokens → IsBody (form_of kind) (sorts_of kind body tokens) items →
+        IsBlockFault options at environment (lexemes_of body tokens) items fault → StandsIn at.file fault }
 {}

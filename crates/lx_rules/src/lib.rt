@@ -13,7 +13,7 @@ mod rules;
 
 pub use environment::Env;
 pub use laws::{
-    blocks_resolve_in_one_way, blocks_resolve_or_have_a_fault, environments_stay_ready,
+    blocks_resolve_in_one_way, blocks_resolve_or_have_a_fault, environments_stay_buildable,
 };
 pub use resolved::{Act, Config, Resolved, Scanner};
 pub use resolving::resolve;

@@ -1,6 +1,7 @@
 //! Resolves a block.
 ghost use Rattle.std.specs.Prelude.{◌≡◌, ◌≤◌, length, Ok, IfOk, MatchResult};
 ghost use Rattle.std.specs.List.{AllByRecursion};
+ghost use Rattle.lx_base.specs.declared.limits.TheConstants.{SOURCE_LIMIT};
 ghost use Rattle.lx_base.specs.declared.blocks.BlockKind.TheVariants.{Code};
 ghost use Rattle.lx_base.specs.declared.places.Pos.{Pos};
 ghost use Rattle.lx_parse.specs.Blocks.{IsBody, form_of};
@@ -13,11 +14,12 @@ ghost use Rattle.lx_rules.specs.Keeping.{Holds, StopsGoing};
 ghost use Rattle.lx_forms.specs.Lexemes.{lexemes_of, sorts_at};
 ghost use Rattle.lx_forms.specs.Seen.{lexemes_view};
 ghost use Rattle.lx_rules.specs.Seen.{environment_view};
-ghost use Rattle.lx_rules.specs.Soundness.{IsFine, IsSound};
+ghost use Rattle.lx_rules.specs.Soundness.{FitsLimits, HasFitDefinitions};
 ghost use Rattle.lx_exprs.specs.Within.{AreDefinedWithin};
 ghost use Rattle.lx_rules.specs.Within.{IsScannerWithin};
 
 use crate::environment::Env;
+use crate::finishing::finish;
 use crate::items::{Block, Known};
 use crate::resolved::Resolved;
 use lx_base::{Options, Pos, Stop};
@@ -42,11 +44,11 @@ pub fn resolve(
     env: Env,
     options: &Options,
 ) -> Result<(Env, Resolved), Stop>
-    requires size { length body.now ≤ 16777216 }
+    requires size { length body.now ≤ SOURCE_LIMIT }
     requires tokens { (start : Pos) × (tokens_of body.now start ≡ Ok tokens.now) }
     requires tree { IsBody (form_of Code) (sorts_of Code body.now tokens.now) tree.now.items }
-    requires sound { IsSound env }
-    ensures sound { IfOk result (λ answer. IsSound answer.0 × IsFine answer.1) }
+    requires sound { HasFitDefinitions env }
+    ensures sound { IfOk result (λ answer. HasFitDefinitions answer.0 × FitsLimits answer.1) }
     ensures within { AreDefinedWithin options.now.enc (environment_view env).definitions
         → IfOk result (λ answer. AreDefinedWithin options.now.enc (environment_view answer.0).definitions
         × AllByRecursion (IsScannerWithin options.now.enc) answer.1.scanners) }
@@ -65,16 +67,16 @@ pub fn resolve(
         },
     };
     let known = take_items(alloc, block, env, tree.items.as_slice())?;
-    known.finish(alloc, at)
+    finish(alloc, known, at)
 }
 
 /// Takes the items of a block.
 fn take_items(alloc: Global, block: Block<'_>, env: Env, items: &[Item]) -> Result<Known, Stop>
-    requires few { length items.now ≤ 16777216 }
-    requires short { length block.lexemes.body.now ≤ 16777216 }
+    requires few { length items.now ≤ SOURCE_LIMIT }
+    requires short { length block.lexemes.body.now ≤ SOURCE_LIMIT }
     requires expressions { EachHasExpressions (sorts_at (lexemes_view block.lexemes)) items.now }
-    requires sound { IsSound env }
-    ensures few { IfOk result (λ known. length known.acts.items ≤ 16777216) }
+    requires sound { HasFitDefinitions env }
+    ensures few { IfOk result (λ known. length known.acts.items ≤ SOURCE_LIMIT) }
     ensures goes { MatchResult result
         (λ known. (state : State) × Goes block.entry.options.now (lexemes_view block.entry.lexemes) (first_state (environment_view env)) items.now (Ok state)
         × Holds block.entry.options.now.conds known state)
@@ -82,47 +84,7 @@ fn take_items(alloc: Global, block: Block<'_>, env: Env, items: &[Item]) -> Resu
 {
     let mut known = Known::new(alloc, env);
     for item in items {
-        match known.take(alloc, block, *item) {
-            Ok(()) => {}
-            Err(stop) => return Err(stop),
-        }
+        known.take(alloc, block, *item)?;
     }
     Ok(known)
-}
-
-impl Known {
-    ghost use Rattle.std.specs.Prelude.{◌≡◌, ◌≤◌, ◌<◌, suc, length, MatchResult, OnOk};
-    ghost use Rattle.lx_parse.specs.Ranges.{HasExpressions};
-    ghost use Rattle.lx_rules.specs.Items.{State, ItemChecks};
-    ghost use Rattle.lx_exprs.specs.Checks.{StopsAt};
-    ghost use Rattle.lx_rules.specs.Keeping.{Holds, IsTaken};
-    ghost use Rattle.lx_forms.specs.Lexemes.{sorts_at};
-    ghost use Rattle.lx_forms.specs.Seen.{lexemes_view};
-    ghost use Rattle.lx_rules.specs.Soundness.{IsSound};
-
-    /// Takes an item.
-    fn take(&mut self, alloc: Global, block: Block<'_>, item: Item) -> Result<(), Stop>
-        requires few { length self.old.acts.items < 16777216 }
-        requires short { length block.lexemes.body.now ≤ 16777216 }
-        requires expressions { HasExpressions (sorts_at (lexemes_view block.lexemes)) item }
-        requires sound { IsSound self.old.env }
-        ensures few { OnOk result (length self.new.acts.items ≤ suc (length self.old.acts.items)) }
-        ensures taken { (state : State) → Holds block.entry.options.now.conds self.old state → MatchResult result
-            (λ _. IsTaken block.entry.options.now (lexemes_view block.entry.lexemes) state item self.new)
-            (StopsAt (ItemChecks block.entry.options.now (lexemes_view block.entry.lexemes) state item)) }
-    {
-        match item {
-            Item::Define { name, from, until } => self.define(alloc, block, name, from, until),
-            Item::Configure { name, value } => self.configure(alloc, block, name, value),
-            Item::Rule {
-                first,
-                head,
-                slash,
-                until,
-                goes,
-                code,
-            } => self.take_rule(alloc, block, first, head, slash, until, goes, code),
-            Item::Text { .. } => Ok(()),
-        }
-    }
 }

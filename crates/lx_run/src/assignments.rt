@@ -38,7 +38,7 @@ fn assignments<'p>(
     Ok(statements)
 }
 
-/// Puts what a statement gave a tag at the end of the text, unless one of those before it gave the tag a value of the same sort.
+/// Appends the value that a statement gave a tag, unless a statement before it gave the tag a value of the same kind.
 fn append_new_tag(
     alloc: Global,
     text: &mut Vec<u8>,
@@ -57,7 +57,7 @@ fn append_new_tag(
     append_tag(alloc, text, lexer, statement)
 }
 
-/// Puts the tags that the statements give values at the end of the text, each once.
+/// Appends the tags that the statements give values, each once.
 fn append_tags(
     alloc: Global,
     text: &mut Vec<u8>,
@@ -95,7 +95,7 @@ fn has_cond(statements: &[&Stmt]) -> bool
     false
 }
 
-/// Puts the values of the last match at the end of the text.
+/// Appends the values of the last match to the text.
 pub fn append_values(
     alloc: Global,
     text: &mut Vec<u8>,

@@ -53,7 +53,7 @@ pub fn end_line(alloc: Global, word: &[u8], start: u64, cursor: u64) -> Result<V
     Ok(line)
 }
 
-/// Puts the line of a run that stops at the end of the text.
+/// Appends the line of a run that stops to the text.
 pub fn append_stop(alloc: Global, text: &mut Vec<u8>, cursor: u64) -> Result<(), Memory>
     ensures { OnOk result (text.new.items ≡ text.old.items ++ stop_line cursor) }
 {

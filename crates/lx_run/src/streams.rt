@@ -44,7 +44,7 @@ pub struct InputEnd {
     pub stops: bool,
 }
 
-/// Puts bytes 0 at the end of the text.
+/// Appends bytes 0 to the text.
 fn append_zeros(text: &mut Vec<u8>, count: u64) -> Result<(), Memory>
     ensures { OnOk result (text.new.items ≡ text.old.items ++ replicate count 0) }
 {

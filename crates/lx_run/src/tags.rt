@@ -37,7 +37,7 @@ impl NameSet {
         }
     }
 
-    /// Puts a name behind the others, if it is none of them, and says whether it did.
+    /// Appends a name to the others, if it is none of them, and says whether it did.
     fn add(&mut self, alloc: Global, name: &[u8]) -> Result<bool, Memory>
         ensures { IfOk result (λ new. MatchBool new
             ((list_any (bytes_eq name.now) self.old ≡ false) × (self.new ≡ self.old ++ name.now ∷ []))
@@ -67,7 +67,7 @@ impl GivenTags {
         }
     }
 
-    /// Puts the tag of a statement to those of the statements before, and says whether none of these gave it a value of the
+    /// Adds the tag of a statement to those of the statements before, and says whether none of these gave it a value of the
     /// same sort.
     pub fn add(&mut self, alloc: Global, statement: &Stmt) -> Result<bool, Memory>
         ensures { (before : List Stmt) → AreTagsOf before self.old.offsets self.old.histories

@@ -7,7 +7,7 @@ use lx_ccode::Stmt;
 use lx_step::{Group, Lexer};
 use std::alloc::Global;
 
-/// Puts an offset at the end of the text, or `-` for none.
+/// Appends an offset to the text, or `-` for none.
 fn append_offset(alloc: Global, text: &mut Vec<u8>, offset: Option<u64>) -> Result<(), Memory>
     ensures { OnOk result (text.new.items ≡ text.old.items ++ offset_text offset) }
 {
@@ -20,7 +20,7 @@ fn append_offset(alloc: Global, text: &mut Vec<u8>, offset: Option<u64>) -> Resu
     }
 }
 
-/// Puts entries of a history at the end of the text, each behind a comma.
+/// Appends entries of a history to the text, each behind a comma.
 fn append_entries(alloc: Global, text: &mut Vec<u8>, entries: &[Option<u64>]) -> Result<(), Memory>
     ensures { OnOk result (text.new.items ≡ text.old.items ++ entries_text entries.now) }
 {
@@ -31,7 +31,7 @@ fn append_entries(alloc: Global, text: &mut Vec<u8>, entries: &[Option<u64>]) ->
     Ok(())
 }
 
-/// Puts a history at the end of the text, with commas between its entries.
+/// Appends a history to the text, with commas between its entries.
 fn append_history(alloc: Global, text: &mut Vec<u8>, entries: &[Option<u64>]) -> Result<(), Memory>
     ensures { OnOk result (text.new.items ≡ text.old.items ++ history_text entries.now) }
 {
@@ -44,7 +44,7 @@ fn append_history(alloc: Global, text: &mut Vec<u8>, entries: &[Option<u64>]) ->
     }
 }
 
-/// Puts what a statement gave a tag at the end of the text.
+/// Appends the value that a statement gave a tag.
 pub fn append_tag(
     alloc: Global,
     text: &mut Vec<u8>,
@@ -69,7 +69,7 @@ pub fn append_tag(
     }
 }
 
-/// Puts the ends of a group at the end of the text.
+/// Appends the ends of a group to the text.
 fn append_group(alloc: Global, text: &mut Vec<u8>, group: Group) -> Result<(), Memory>
     ensures { OnOk result (text.new.items ≡ text.old.items ++ group_text group) }
 {
@@ -80,7 +80,7 @@ fn append_group(alloc: Global, text: &mut Vec<u8>, group: Group) -> Result<(), M
     append_parts(text, &[b")"])
 }
 
-/// Puts the ends of groups at the end of the text.
+/// Appends the ends of groups to the text.
 pub fn append_groups(alloc: Global, text: &mut Vec<u8>, groups: &[Group]) -> Result<(), Memory>
     ensures { OnOk result (text.new.items ≡ text.old.items ++ groups_text groups.now) }
 {

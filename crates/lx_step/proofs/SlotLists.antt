@@ -23,10 +23,6 @@ or-assoc : (a b d : Bool) → ((a || b) || d) ≡ (a || (b || d))
 or-assoc true b d = refl
 or-assoc false b d = refl
 
-pub equal_words-decided : (word other : List ℕ) (same : Bool) → MatchBool same (word ≡ other) (word ≢ other) → same ≡ equal_words word other
-equal_words-decided word other true h = sym (subst (λ (one : List ℕ). equal_words word one ≡ true) h (equal_words-self word))
-equal_words-decided word other false h = sym (equal_words-false word other h)
-
 pub with_offset-here : (slots : List OffsetSlot) (place : ℕ) (slot : OffsetSlot) (tag : List ℕ) (value : Option ℕ) → place < length slots → slot ≡ get_or slots place slot → equal_words slot.name tag ≡ true
     → take place slots ++ with_offset tag value (drop place slots) ≡ with_offset tag value slots → set slots place (record slot { value = value }) ≡ with_offset tag value slots
 with_offset-here slots place slot tag value h is same e =

@@ -1,6 +1,7 @@
 -- What holds of lexers, at first and after each match.
 use Rattle.std.proofs.Common.{◌≡◌, ◌∙◌, sym, ap, subst, refl, ℕ, ◌≤◌, ◌^◌, ◌⊎◌, Bool, true, List, [], length, is_some, Result, Ok, Err, IfOk, OnErr, arith}
 use Rattle.std.proofs.lemmas.List.{length-replicate}
+use Rattle.lx_base.specs.declared.limits.TheConstants.{STATEMENT_LIMIT}
 use Rattle.lx_base.specs.declared.lists.Memory.{Memory}
 use Rattle.lx_ccode.specs.declared.piece.Piece.{Piece}
 use Rattle.lx_ccode.specs.Runs.{Ended}
@@ -19,7 +20,7 @@ use Rattle.lx_step.specs.Numbers.{Numbering}
 use Rattle.lx_step.specs.Places.{AreRoomy}
 use Rattle.lx_step.specs.Reached.{reaches}
 use Rattle.lx_step.specs.Sizes.{sizes_of_all}
-use Rattle.lx_step.specs.Sound.{IsSound, told}
+use Rattle.lx_step.specs.LexerParts.{IsLexerOf, told}
 use Rattle.lx_step.specs.Steps.{HasRoom}
 use Rattle.lx_step.specs.Streams.{stream_units}
 use Rattle.lx_step.specs.WholeRuns.{whole_run}
@@ -27,9 +28,9 @@ use Rattle.lx_step.proofs.Places.{length-places_from}
 use Rattle.lx_step.proofs.SlotLists.{offset_slots-in, history_slots-in, after_values-offset_in, after_values-history_in}
 
 pub IsSound-fresh : (program : Program) (scanner : Scanner) (given : Given) (room : ℕ) (sizes : Sizes) (numbering : Numbering) → program.statements ≡ statement_count program.piece.now.blocks
-    → statement_count program.piece.now.blocks ≤ 2 ^ 62 → (program.piece.now.unit ≡ 1) ⊎ ((program.piece.now.unit ≡ 2) ⊎ (program.piece.now.unit ≡ 4))
+    → statement_count program.piece.now.blocks ≤ STATEMENT_LIMIT → (program.piece.now.unit ≡ 1) ⊎ ((program.piece.now.unit ≡ 2) ⊎ (program.piece.now.unit ≡ 4))
     → sizes ≡ sizes_of_all numbering (all_statements program.piece.now.blocks) → scanner.numbering ≡ numbering → length scanner.registers.items ≡ sizes.registers → length scanner.histories ≡ sizes.histories
-    → given ≡ nothing_given (all_statements program.piece.now.blocks) sizes.groups → program.statements ≤ room → IsSound program scanner given room
+    → given ≡ nothing_given (all_statements program.piece.now.blocks) sizes.groups → program.statements ≤ room → IsLexerOf program scanner given room
 IsSound-fresh program scanner given room sizes numbering count few unit s same registers histories g r =
     let entries : length given.entries ≡ sizes.groups = ap (λ (one : Given). length one.entries) g ∙ length-replicate sizes.groups _ in
     record {
@@ -42,8 +43,8 @@ IsSound-fresh program scanner given room sizes numbering count few unit s same r
       histories = λ tag. ap (λ (one : Given). is_some (history_in one.histories tag)) g ∙ history_slots-in (all_statements program.piece.now.blocks) [] tag;
     }
 
-pub IsSound-kept : (program : Program) (old new : Scanner) (given more : Given) (room other : ℕ) → IsSound program old given room
-    → HasRoom (sizes_of_all new.numbering (all_statements program.piece.now.blocks)) new more → AreRoomy program.piece.now.blocks other → IsAfterValues given more → IsSound program new more other
+pub IsSound-kept : (program : Program) (old new : Scanner) (given more : Given) (room other : ℕ) → IsLexerOf program old given room
+    → HasRoom (sizes_of_all new.numbering (all_statements program.piece.now.blocks)) new more → AreRoomy program.piece.now.blocks other → IsAfterValues given more → IsLexerOf program new more other
 IsSound-kept program old new given more room other sound tables places after = record {
   statements = sound.statements;
   few = sound.few;

@@ -19,7 +19,7 @@ use Rattle.lx_step.specs.Held.{Tells, is_on_histories}
 use Rattle.lx_step.specs.Matches.{whole_from, whole_on, code_of, StartsIn, IsUnderway, GoesTo, HasEnded}
 use Rattle.lx_step.specs.Places.{StandsAt, place_of}
 use Rattle.lx_step.specs.Reached.{reaches, reaches_from, reaches_in, reaches_on}
-use Rattle.lx_step.specs.Steps.{machine_of, outcome_of, values_after, given_after, IsTold, IsStep}
+use Rattle.lx_step.specs.Steps.{machine_of, outcome_of, values_after, given_after, IsAnswer, IsStep}
 use Rattle.lx_step.specs.WholeRuns.{whole_run, whole_step}
 use Rattle.lx_step.proofs.Lists.{drop-slice_get, drop-slice_get_none}
 use Rattle.lx_step.proofs.WholeRuns.{whole_run-none, whole_run-some}
@@ -37,7 +37,7 @@ kept-step (End place register) scanner values given = sym (after_values-append v
 kept-step (Cond cond) scanner values given = sym (after_values-append values _ given)
 kept-step _ scanner values given = refl
 
-tells : (told : Outcome) (end : machine.Outcome) → IsTold told → outcome_of told ≡ end → Tells told end
+tells : (told : Outcome) (end : machine.Outcome) → IsAnswer told → outcome_of told ≡ end → Tells told end
 tells (outcome.Rule number) end t e = sym e
 tells (outcome.Jump number) end t e = sym e
 tells outcome.NoRule end t e = sym e
@@ -48,7 +48,7 @@ tells outcome.Spent end t e = t
 tells outcome.Memory end t e = t
 
 ends_as : (piece : Piece) (stream : List ℕ) (old : Scanner) (before : Given) (told : Outcome) (new : Scanner) (given : Given) (assigned : List StmtAt) (values : List Value)
-    → IsTold told → ended (outcome_of told) (machine_of new values) ≡ whole_run piece stream old.cursor old.cond.now → given ≡ after_values values before
+    → IsAnswer told → ended (outcome_of told) (machine_of new values) ≡ whole_run piece stream old.cursor old.cond.now → given ≡ after_values values before
     → assigned ≡ assigned_of piece stream old.cursor old.cond.now → HasEnded piece stream old before told new given assigned
 ends_as piece stream old before told new given assigned values t run kept places = record {
   told = tells told (whole_run piece stream old.cursor old.cond.now).outcome t (ap (λ (end : Ended). end.outcome) run);

@@ -7,7 +7,7 @@ pub mod Numbers
 pub mod Places
 pub mod Reached
 pub mod Sizes
-pub mod Sound
+pub mod LexerParts
 pub mod Steps
 pub mod Streams
 pub mod TagNames

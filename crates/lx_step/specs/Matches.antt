@@ -15,7 +15,7 @@ use Rattle.lx_step.specs.Given.{Given, after_values}
 use Rattle.lx_step.specs.Held.{Tells, is_on_histories}
 use Rattle.lx_step.specs.Places.{place_of}
 use Rattle.lx_step.specs.Reached.{reaches_from}
-use Rattle.lx_step.specs.Steps.{machine_of, next_of, outcome_of, Leads, IsTold}
+use Rattle.lx_step.specs.Steps.{machine_of, next_of, outcome_of, Leads, IsAnswer}
 use Rattle.lx_step.specs.WholeRuns.{whole_run, whole_step}
 
 module _ (piece : Piece) (stream : List ℕ) where
@@ -57,7 +57,7 @@ GoesTo blocks at going (Ok next) =
     × ((block : Option ℕ) → Leads going block → place_of next ≡ place_after (place_of at) block)
 GoesTo blocks at going (Err outcome) =
     ((machine : Machine) → next_of blocks (drop (at.stmt + 1) at.code.now) going machine ≡ ends (outcome_of outcome) machine)
-    × ((block : Option ℕ) → Leads going block → IsTold outcome)
+    × ((block : Option ℕ) → Leads going block → IsAnswer outcome)
 
 -- the match has ended as its run says
 pub record HasEnded (piece : Piece) (stream : List ℕ) (old : Scanner) (given_before : Given) (outcome : Outcome) (new : Scanner) (given : Given) (assigned : List StmtAt) : Type 0 where

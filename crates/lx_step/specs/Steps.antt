@@ -65,16 +65,16 @@ next_of blocks rest (going.To block) machine = jump (code_at blocks (Some block)
 next_of blocks rest (going.Ends outcome) machine = ends (outcome_of outcome) machine
 
 -- an outcome that a match may tell
-abbrev pub IsTold : Outcome → Type 0
-IsTold outcome.Spent = ⊥
-IsTold outcome.Memory = ⊥
-IsTold _ = Unit {0}
+abbrev pub IsAnswer : Outcome → Type 0
+IsAnswer outcome.Spent = ⊥
+IsAnswer outcome.Memory = ⊥
+IsAnswer _ = Unit {0}
 
 -- the step goes to this block, to the next statement where there is none, or it ends the match
 abbrev pub Leads : Going → Option ℕ → Type 0
 Leads going.Next block = block ≡ None
 Leads (going.To other) block = block ≡ Some other
-Leads (going.Ends outcome) block = IsTold outcome
+Leads (going.Ends outcome) block = IsAnswer outcome
 
 -- the values with that which the statement gives
 abbrev pub values_after : Stmt → Machine → List Value → List Value

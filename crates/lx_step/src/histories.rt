@@ -52,7 +52,7 @@ impl Histories {
         self.lasts.fill(None);
     }
 
-    /// Puts an entry at the end of a history.
+    /// Appends an entry to a history.
     pub(crate) fn append(&mut self, history: usize, entry: Option<u64>) -> Result<(), Memory>
         requires { history < length self.old }
         ensures appended { OnOk result (self.new ≡ slice_set self.old history (slice_index_or self.old history [] ++ entry ∷ [])) }

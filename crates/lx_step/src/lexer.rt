@@ -1,11 +1,12 @@
 //! A lexer: a piece, and what it holds from match to match.
-ghost use Rattle.std.specs.Prelude.{◌≡◌, ◌%◌, ◌≤◌, ◌^◌, ◌⊎◌, length, take, option_map, IfOk, is_some, true, false};
+ghost use Rattle.std.specs.Prelude.{◌≡◌, ◌%◌, ◌≤◌, ◌⊎◌, length, take, option_map, IfOk, is_some, true, false};
 ghost use Rattle.std.specs.List.{list_any};
+ghost use Rattle.lx_base.specs.declared.limits.TheConstants.{STATEMENT_LIMIT};
 ghost use Rattle.lx_ccode.specs.Statements.{all_statements, statement_count};
 ghost use Rattle.lx_ccode.specs.Validity.{IsValid};
 ghost use Rattle.lx_step.specs.Given.{gives_history, gives_offset, history_in, offset_in};
 ghost use Rattle.lx_step.specs.Held.{IsMatch, cond_of, first_cond, fresh};
-ghost use Rattle.lx_step.specs.Sound.{told};
+ghost use Rattle.lx_step.specs.LexerParts.{told};
 ghost use Rattle.lx_step.specs.Streams.{stream_units};
 
 use crate::answers::{Group, Outcome, StmtAt};
@@ -42,7 +43,7 @@ impl<'p> Model for Lexer<'p> {
 
     ghost Value = { Held };
 
-    ghost use Rattle.lx_step.specs.Sound.{IsSound};
+    ghost use Rattle.lx_step.specs.LexerParts.{IsLexerOf};
 
     ghost view = { λ lexer. record {
       piece = lexer.program.piece.now;
@@ -54,7 +55,7 @@ impl<'p> Model for Lexer<'p> {
       assigned = lexer.assigned.keys;
     } };
 
-    ghost invariant = { λ lexer. IsSound lexer.program lexer.scanner lexer.slots (room_of lexer.assigned) };
+    ghost invariant = { λ lexer. IsLexerOf lexer.program lexer.scanner lexer.slots (room_of lexer.assigned) };
 }
 
 impl<'p> Lexer<'p> {
@@ -71,7 +72,7 @@ impl<'p> Lexer<'p> {
     pub(crate) fn of(alloc: Global, piece: &'p Piece, statements: u64) -> Result<Lexer<'p>, Memory>
         requires unit { (piece.now.unit ≡ 1) ⊎ ((piece.now.unit ≡ 2) ⊎ (piece.now.unit ≡ 4)) }
         requires statements { statements ≡ statement_count piece.now.blocks }
-        requires few { statements ≤ 2 ^ 62 }
+        requires few { statements ≤ STATEMENT_LIMIT }
         ensures { IfOk result (λ lexer. lexer ≡ fresh piece.now) }
     {
         let blocks = piece.blocks.as_slice();

@@ -1,5 +1,6 @@
 //! A match: steps from the start to an outcome.
-ghost use Rattle.std.specs.Prelude.{◌≡◌, ◌≤◌, ◌<◌, ◌+◌, ◌*◌, ◌^◌, Some, [], length, true, option_map, slice_get, IfOk, OnErr};
+ghost use Rattle.std.specs.Prelude.{◌≡◌, ◌≤◌, ◌<◌, ◌+◌, ◌*◌, Some, [], length, true, option_map, slice_get, IfOk, OnErr};
+ghost use Rattle.lx_base.specs.declared.limits.TheConstants.{STATEMENT_LIMIT};
 ghost use Rattle.lx_ccode.specs.Machine.{code_at};
 ghost use Rattle.lx_ccode.specs.Runs.{cond_block, entry_block, fresh_machine};
 ghost use Rattle.lx_ccode.specs.Statements.{all_statements, statement_count};
@@ -13,11 +14,12 @@ ghost use Rattle.lx_step.specs.Steps.{HasRoom, machine_of};
 
 use crate::answers::{Outcome, StmtAt};
 use crate::scanner::{Going, Scanner};
-use crate::slots::{Slots, same_words};
+use crate::slots::Slots;
 use crate::step::step;
 use crate::units::Units;
 use indexmap::IndexSet;
 use lx_base::Memory;
+use lx_base::letters::equal_words;
 use lx_ccode::{CodeBlock, CondCase, Piece, Stmt};
 use std::alloc::Global;
 
@@ -47,7 +49,7 @@ impl<'p> Program<'p> {
         assigned: &mut IndexSet<StmtAt>,
     ) -> Result<Outcome, Memory>
         requires statements { self.now.statements ≡ statement_count self.now.piece.now.blocks }
-        requires few { self.now.statements ≤ 2 ^ 62 }
+        requires few { self.now.statements ≤ STATEMENT_LIMIT }
         requires fresh { machine_of scanner.old [] ≡ fresh_machine scanner.old.cursor (length (U.stream units.now)) scanner.old.cond.now }
         requires start { scanner.old.cursor ≤ scanner.old.limit }
         requires room { HasRoom (sizes_of_all scanner.old.numbering (all_statements self.now.piece.now.blocks)) scanner.old slots.old }
@@ -81,7 +83,7 @@ impl<'p> Program<'p> {
 
     /// The steps after which a match that has so many units before it has looped.
     fn most_steps(&self, units: u64) -> u128
-        requires { self.now.statements ≤ 2 ^ 62 }
+        requires { self.now.statements ≤ STATEMENT_LIMIT }
         ensures { result ≡ 2 * (units + 2) * self.now.statements }
     {
         2 * (u128::from(units) + 2) * u128::from(self.statements)
@@ -116,7 +118,7 @@ fn cond_block(conds: &[CondCase], cond: &[u8]) -> Option<u64>
     ensures { result ≡ cond_block conds.now cond.now }
 {
     for case in conds {
-        if same_words(case.cond.as_slice(), cond) {
+        if equal_words(case.cond.as_slice(), cond) {
             return Some(case.block);
         }
     }

@@ -37,7 +37,7 @@ impl Numbers {
         }
     }
 
-    /// Puts a number behind the others, if it is none of them.
+    /// Appends a number to the others, if it is none of them.
     fn add(&mut self, number: u32) -> Result<(), Memory> {
         if self.numbers.len() < MOST_NUMBERS {
             self.numbers.insert(number)?;

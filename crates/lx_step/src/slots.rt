@@ -124,13 +124,6 @@ impl Slots {
     }
 }
 
-/// Whether two words are equal.
-pub(crate) fn same_words(word: &[u8], other: &[u8]) -> bool
-    ensures { result ≡ equal_words word.now other.now }
-{
-    word == other
-}
-
 /// The slots of tags that get an offset, each found without a look at all others. Contracts see them as a list.
 #[derive(Debug, Drop)]
 pub(crate) struct OffsetSlots {
@@ -177,7 +170,7 @@ impl OffsetSlots {
         }
     }
 
-    /// Puts a slot for a tag behind the others, unless it has one.
+    /// Appends a slot for a tag to the others, unless it has one.
     fn add(&mut self, alloc: Global, name: &[u8]) -> Result<(), Memory>
         ensures { OnOk result (self.new ≡ onto_offsets name.now self.old) }
     {
@@ -266,7 +259,7 @@ impl HistorySlots {
         }
     }
 
-    /// Puts a slot for a tag behind the others, unless it has one.
+    /// Appends a slot for a tag to the others, unless it has one.
     fn add(&mut self, alloc: Global, name: &[u8]) -> Result<(), Memory>
         ensures { OnOk result (self.new ≡ onto_histories name.now self.old) }
     {

@@ -39,7 +39,7 @@ impl TagNames {
         self.names.get_index_of(name)
     }
 
-    /// Puts a name that is none of them behind the others.
+    /// Appends a name that is none of them to the others.
     pub(crate) fn add(&mut self, alloc: Global, name: &[u8]) -> Result<(), Memory>
         requires { first_place self.old name.now ≡ None }
         ensures added { OnOk result (self.new ≡ self.old ++ name.now ∷ []) }

@@ -2,7 +2,6 @@
 pub mod ApartNumbers
 pub mod KeptRules
 pub mod OwnedEnds
-pub mod PartSorts
 pub mod RuleStates
 pub mod RuleSteps
 pub mod RuleWalks

@@ -1,5 +1,7 @@
 -- What holds while an automaton is built.
 use Rattle.std.specs.Prelude.{◌≡◌, ℕ, suc, ◌<◌, ◌≤◌, List, [], ◌∷◌, ◌++◌, Option, Some, None, Bool, All, slice_get}
+use Rattle.lx_base.specs.declared.limits.TheConstants.{PLACE_LIMIT}
+use Rattle.lx_regex.specs.ClassLimits.{AllClassesFit}
 use Rattle.lx_base.specs.Spelling.{greatest_unit}
 use Rattle.lx_base.specs.declared.settings.Enc.{Enc}
 use Rattle.lx_auto.specs.Automaton.{AreApart}
@@ -9,10 +11,10 @@ use Rattle.lx_regex.specs.Limits.{IsWithinLimits}
 use Rattle.lx_regex.specs.Pattern.{Pattern, patterns_of, terms_of}
 use Rattle.lx_regex.specs.declared.rules.Rule.{Rule}
 use Rattle.lx_tnfa.specs.Closure.{IsClosureOf}
-use Rattle.lx_tnfa.specs.Tnfa.{AllClassesFit, IsTnfaOf, Tnfa}
+use Rattle.lx_tnfa.specs.Tnfa.{IsTnfaOf, Tnfa}
 use Rattle.lx_tnfa.specs.declared.closure.Reach.{Reach}
 use Rattle.lx_tnfa.specs.declared.places.Place.{Place}
-use Rattle.lx_tdfa.specs.Making.{AreSortsOf, AreTooMany, IsWithin}
+use Rattle.lx_tdfa.specs.Making.{AreTooMany, IsWithin}
 use Rattle.lx_tdfa.specs.Registers.{widest}
 use Rattle.lx_tdfa.specs.Steps.{IsFound, IsInLeaf, next_steps, start_place}
 use Rattle.lx_tdfa.specs.Table.{IsEdgeOf, IsStateOf, is_first}
@@ -25,9 +27,8 @@ IsBuilt tnfa =
     (enc : Enc) × (rules : List Rule) × IsWithinLimits rules × AllClassesFit enc (terms_of (patterns_of rules))
     × IsTnfaOf enc (patterns_of rules) tnfa
 
--- what states are made from is right
-pub record IsReady (source : Source) : Type 0 where
-  pub sorts : AreSortsOf source.t.now source.sorts.now
+-- states are made from the automaton of a rule list, and the width is the most tags that a rule has
+pub record IsSourceOfRules (source : Source) : Type 0 where
   pub width : source.width ≡ widest source.t.now.rules
   pub narrow : widest source.t.now.rules ≤ 130
   pub enc : Enc
@@ -55,7 +56,7 @@ module _ (tnfa : Tnfa) where
     pub kernel : List Place
     pub found : IsFound tnfa greatest_of kernel
     pub closure : IsClosureOf tnfa kernel reaches
-    pub sources : All (λ (reach : Reach). reach.from < 1048576) reaches
+    pub sources : All (λ (reach : Reach). reach.from < PLACE_LIMIT) reaches
 
   -- more lists may have come behind the others
   pub record Grows (old new : List (List Place)) : Type 0 where

@@ -6,7 +6,6 @@ pub mod Kernels
 pub mod Making
 pub mod Promise
 pub mod Registers
-pub mod RuleNumbers
 pub mod Steps
 pub mod Table
 pub mod Values

@@ -1,14 +1,13 @@
 -- What the code of determinization holds.
-use Rattle.std.specs.Prelude.{◌≡◌, ◌≢◌, ℕ, ◌<◌, ◌≤◌, ◌⊎◌, max, List, [], ◌∷◌, ◌++◌, map, length, sum_by, Vec, Some, Bool, AllPairs, Contains, slice_get, slice_index}
+use Rattle.std.specs.Prelude.{◌≡◌, ◌≢◌, ℕ, ◌<◌, ◌≤◌, ◌⊎◌, max, List, [], ◌∷◌, ◌++◌, map, length, sum_by, Vec, AllPairs, Contains}
+use Rattle.lx_base.specs.declared.limits.TheConstants.{KERNEL_LIMIT, PLACE_LIMIT}
 use Rattle.lx_base.specs.declared.faults.Fault.TheVariants.{TooManyStates}
 use Rattle.lx_base.specs.declared.faults.Stop.{Stop}
 use Rattle.lx_base.specs.declared.faults.Stop.TheVariants as stop
 use Rattle.lx_base.specs.declared.places.Pos.{Pos}
-use Rattle.lx_tnfa.specs.Tnfa.{Tnfa}
 use Rattle.lx_tnfa.specs.declared.places.Place.{Place}
 use Rattle.lx_tdfa.specs.declared.steps.Ending as held
 use Rattle.lx_tdfa.specs.declared.steps.Step as held_step
-use Rattle.lx_tdfa.specs.Registers.{sorts_of_rule}
 use Rattle.lx_tdfa.specs.Steps.{Ending, Step}
 
 -- the lists that a set holds
@@ -22,8 +21,8 @@ most_places (list ∷ lists) = max (length list) (most_places lists)
 
 -- not more lists, and not more places, than an automaton may have
 pub record IsWithin (lists : List (List Place)) : Type 0 where
-  pub few : length lists ≤ 4096
-  pub few_places : sum_by length lists ≤ 1048576
+  pub few : length lists ≤ KERNEL_LIMIT
+  pub few_places : sum_by length lists ≤ PLACE_LIMIT
 
 -- a list came behind the others, or was there
 abbrev pub Adds : (old : List (List Place)) → List Place → (new : List (List Place)) → Type 0
@@ -32,17 +31,12 @@ Adds old list new = ((new ≡ old) × Contains old list) ⊎ ((new ≡ old ++ li
 -- there are too many lists, or too many places in them, and all are different
 pub record AreTooMany (lists : List (List Place)) : Type 0 where
   pub apart : AllPairs (λ list other. list ≢ other) lists
-  pub many : (4096 < length lists) ⊎ (1048576 < sum_by length lists)
+  pub many : (KERNEL_LIMIT < length lists) ⊎ (PLACE_LIMIT < sum_by length lists)
 
 -- it stops where memory runs out, or by the fault of too many states, and then for this reason
 abbrev pub StopsBy : Pos → (reason : Type 0) → Stop → Type 0
 StopsBy at reason stop.Memory = Unit {0}
 StopsBy at reason (stop.Fault fault) = (fault ≡ TooManyStates at) × reason
-
--- the sorts of tags of each part's rule
-abbrev pub AreSortsOf : Tnfa → List (List Bool) → Type 0
-AreSortsOf tnfa lists = (part : ℕ) (list : List Bool) → slice_get lists part ≡ Some list
-    → list ≡ sorts_of_rule tnfa (slice_index tnfa.owners part)
 
 -- what the definitions see of a step and of an ending
 abbrev pub seen_step : held_step.Step → Step

@@ -33,7 +33,7 @@ is_history (Reg number) = false
 is_history (MReg number) = true
 
 module _ (enc : Enc) (patterns : List Pattern) where
-  -- a state accepts by a rule of the list, with a value of its sort for each tag
+  -- a state accepts by a rule of the list, with a value of its kind for each tag
   abbrev pub IsByRule : Option Accept → Type 0
   IsByRule None = Unit {0}
   IsByRule (Some accept) =

@@ -10,7 +10,7 @@ use Rattle.lx_tnfa.specs.Closure.{IsClosureOf}
 use Rattle.lx_tnfa.specs.Tnfa.{Tnfa}
 use Rattle.lx_tnfa.specs.declared.closure.Reach.{Reach}
 use Rattle.lx_tnfa.specs.declared.places.Place.{Place}
-use Rattle.lx_tdfa.specs.Registers.{ending_ops, held_from, sorts_of_rule, step_ops, widest}
+use Rattle.lx_tdfa.specs.Registers.{ending_ops, held_from, kinds_of_rule, step_ops, widest}
 use Rattle.lx_tdfa.specs.Steps.{Ending, IsInLeaf, Step, first_ending, next_steps, places_of, start_place}
 
 -- the state with this number is the first one
@@ -24,7 +24,7 @@ accept_of tnfa first None = None
 accept_of tnfa first (Some ending) = Some (record {
   rule = ending.rule;
   ops = ending_ops tnfa (widest tnfa.rules) first ending;
-  values = held_from 0 (sorts_of_rule tnfa ending.rule);
+  values = held_from 0 (kinds_of_rule tnfa ending.rule);
 })
 
 -- what is done where the state is left

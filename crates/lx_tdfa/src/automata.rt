@@ -1,17 +1,17 @@
 //! The automaton of a rule list, state by state.
 ghost use Rattle.std.specs.Prelude.{◌≡◌, ℕ, [], ◌∷◌, IfOk, List, MatchResult, length};
+ghost use Rattle.lx_regex.specs.ClassLimits.{AllClassesFit};
 ghost use Rattle.lx_base.specs.declared.settings.Enc.{Enc};
 ghost use Rattle.lx_regex.specs.Kernel.{HasTooManyKernels};
 ghost use Rattle.lx_regex.specs.Pattern.{Pattern, terms_of};
-ghost use Rattle.lx_tnfa.specs.Tnfa.{AllClassesFit, IsTnfaOf};
-ghost use Rattle.lx_tdfa.specs.Building.{AreListed, AreStatesOf, Grows, IsBuilt, IsReady, TooManyFound};
+ghost use Rattle.lx_tnfa.specs.Tnfa.{IsTnfaOf};
+ghost use Rattle.lx_tdfa.specs.Building.{AreListed, AreStatesOf, Grows, IsBuilt, IsSourceOfRules, TooManyFound};
 ghost use Rattle.lx_tdfa.specs.Making.{StopsBy};
 ghost use Rattle.lx_tdfa.specs.Promise.{IsAutoOf};
 ghost use Rattle.lx_tdfa.specs.Steps.{start_place};
 
 use crate::kernels::Kernels;
 use crate::seen::Seen;
-use crate::sorts::Sorts;
 use crate::states::{Buffers, Source};
 use lx_auto::{Auto, State};
 use lx_base::{Memory, Pos, Sequence, Stop};
@@ -33,7 +33,7 @@ fn start(alloc: Global) -> Result<Kernels, Memory>
 
 /// A state for each list of places, in the order in which the lists are found.
 fn states(source: &Source<'_>, kernels: &mut Kernels) -> Result<Sequence<State>, Stop>
-    requires ready { IsReady source.now }
+    requires of_rules { IsSourceOfRules source.now }
     requires listed { AreListed source.now.t.now kernels.old }
     ensures { MatchResult result (λ states. Grows source.now.t.now kernels.old kernels.new × (length states ≡ length kernels.new)
         × AreStatesOf source.now.t.now kernels.new states)
@@ -63,11 +63,9 @@ pub fn determinize(alloc: Global, t: &Tnfa, at: Pos) -> Result<Auto, Stop>
         → MatchResult result (λ auto. IsAutoOf enc patterns auto × ¬ HasTooManyKernels enc (terms_of patterns))
         (StopsBy at (HasTooManyKernels enc (terms_of patterns))) }
 {
-    let sorts = Sorts::of(alloc, t)?;
     let source = Source {
         alloc,
         t,
-        sorts: &sorts,
         width: t.most_tags() as u32,
         at,
     };

@@ -16,7 +16,7 @@ fn goes_on(edge: &Edge, next: &Edge) -> bool
         && edge.ops.as_slice() == next.ops.as_slice()
 }
 
-/// Puts an edge behind all others, or where it goes on with the last one makes that longer.
+/// Appends an edge, or makes the last one longer where the edge goes on with it.
 pub(crate) fn push_edge(edges: &mut Vec<Edge>, edge: Edge) -> Result<(), Memory>
     requires { AreApart (edges.old.items ++ edge ∷ []) }
     ensures { OnOk result (AreSameEdges (edges.old.items ++ edge ∷ []) edges.new.items) }

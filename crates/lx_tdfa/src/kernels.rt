@@ -3,16 +3,11 @@ ghost use Rattle.std.specs.Prelude.{◌≡◌, ◌<◌, [], ◌∷◌, ◌++◌,
 ghost use Rattle.lx_tdfa.specs.Making.{Adds, AreTooMany, IsWithin, StopsBy, most_places};
 
 use indexmap::IndexSet;
+use lx_base::limits::{KERNEL_LIMIT, PLACE_LIMIT};
 use lx_base::{Fault, Memory, Pos, Stop};
 use lx_tnfa::Place;
 use std::alloc::Global;
 use std::marker::Model;
-
-/// How many states an automaton may have.
-pub(crate) const STATE_LIMIT: usize = 4096;
-
-/// How many places the lists of all states may have together.
-pub(crate) const PLACE_LIMIT: usize = 1048576;
 
 /// Lists of places, all different, each by its number. A list is found by its places in constant time.
 #[derive(Drop)]
@@ -77,8 +72,8 @@ impl Kernels {
         }
     }
 
-    /// The number of a list, which is put behind the others where it is not there. With more lists or places than the limits
-    /// nothing goes on.
+    /// The number of a list, which is appended where it is not there yet. It refuses a list with which there are more lists or
+    /// places than the limits.
     pub(crate) fn add(&mut self, places: Vec<Place>, at: Pos) -> Result<usize, Stop>
         requires { IsWithin self.old }
         ensures { MatchResult result (λ number. Adds self.old places.items self.new × (slice_get self.new number ≡ Some places.items) × IsWithin self.new)
@@ -92,7 +87,7 @@ impl Kernels {
         if is_new {
             self.places += count;
             self.most = self.most.max(count);
-            if self.lists.len() > STATE_LIMIT || self.places > PLACE_LIMIT {
+            if self.lists.len() > KERNEL_LIMIT || self.places > PLACE_LIMIT {
                 return Err(Stop::Fault(Fault::TooManyStates { at }));
             }
         }

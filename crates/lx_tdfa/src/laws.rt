@@ -1,6 +1,7 @@
 //! What holds of the lists of places that are computed for words, and of automata of rule lists. Each law is the contract of a
 //! function that does nothing.
 ghost use Rattle.std.specs.Prelude.{◌≡◌, ◌≢◌, ◌++◌, ◌↔◌, ℕ, List, [], ◌∷◌, None, length, map};
+ghost use Rattle.lx_regex.specs.ClassLimits.{AllClassesFit};
 ghost use Rattle.lx_auto.specs.SameRun.{HasSameRun};
 ghost use Rattle.lx_auto.specs.declared.automaton.Auto.{Auto};
 ghost use Rattle.lx_base.specs.declared.settings.Enc.{Enc};
@@ -13,7 +14,7 @@ ghost use Rattle.lx_regex.specs.Script.{script};
 ghost use Rattle.lx_regex.specs.Term.{Term};
 ghost use Rattle.lx_regex.specs.Values.{all_events, last_event};
 ghost use Rattle.lx_tnfa.specs.LeafReadings.{IsNth};
-ghost use Rattle.lx_tnfa.specs.Tnfa.{AllClassesFit, IsTnfaOf, Tnfa};
+ghost use Rattle.lx_tnfa.specs.Tnfa.{IsTnfaOf, Tnfa};
 ghost use Rattle.lx_tdfa.specs.Accepts.{Accepts, IsAccepted, accept_after};
 ghost use Rattle.lx_tdfa.specs.Graph.{path_symbols};
 ghost use Rattle.lx_tdfa.specs.Kernels.{Entry, cut_of, kernel_after, places, places_step, rule_of};

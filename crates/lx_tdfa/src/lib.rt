@@ -8,7 +8,6 @@ mod kernels;
 pub mod laws;
 mod operations;
 mod seen;
-mod sorts;
 mod states;
 mod steps;
 

@@ -29,7 +29,7 @@ fn last_mark(events: &[Event], tag: u32) -> Option<bool>
     mark
 }
 
-/// Puts what becomes of a register behind the operations.
+/// Appends the operation that gives a register its value after a step, where it does not hold that already.
 fn push_single(ops: &mut Ops, transfer: Transfer, mark: Option<bool>) -> Result<(), Memory>
     ensures { OnOk result (ops.new ≡ ops.old ++ single_ops transfer.is_first transfer.source transfer.target mark) }
 {
@@ -42,7 +42,7 @@ fn push_single(ops: &mut Ops, transfer: Transfer, mark: Option<bool>) -> Result<
     }
 }
 
-/// Puts the copy of a history behind the operations. M-registers have the numbers behind those of registers.
+/// Appends the copy of a history to the operations. M-registers have the numbers behind those of registers.
 fn push_history(ops: &mut Ops, transfer: Transfer) -> Result<(), Memory>
     requires { (transfer.source + 1 < 2 ^ 32) × (transfer.target + 1 < 2 ^ 32) }
     ensures { OnOk result (ops.new ≡ ops.old ++ history_copy_ops transfer.is_first transfer.source transfer.target) }
@@ -56,7 +56,7 @@ fn push_history(ops: &mut Ops, transfer: Transfer) -> Result<(), Memory>
     }
 }
 
-/// Puts what events add to a tag's history behind the operations.
+/// Appends the operations that enter the events of a tag in its history.
 fn push_marks(ops: &mut Ops, target: u32, tag: u32, events: &[Event]) -> Result<(), Memory>
     requires { target + 1 < 2 ^ 32 }
     ensures { OnOk result (ops.new ≡ ops.old ++ history_mark_ops target tag events.now) }
@@ -71,7 +71,7 @@ fn push_marks(ops: &mut Ops, target: u32, tag: u32, events: &[Event]) -> Result<
     Ok(())
 }
 
-/// Puts the operations of one tag behind those that are there.
+/// Appends the operations of one tag, of which `many` tells the kind.
 fn push_tag(
     ops: &mut Ops,
     transfer: Transfer,
@@ -90,17 +90,17 @@ fn push_tag(
     }
 }
 
-/// Puts the operations of all tags of a rule behind those that are there; `transfer` is that of its first tag.
+/// Appends the operations of all tags of a rule, of these kinds; `transfer` is that of its first tag.
 pub(crate) fn push_tags(
     ops: &mut Ops,
     transfer: Transfer,
     events: &[Event],
-    sorts: &[bool],
+    kinds: &[bool],
 ) -> Result<(), Memory>
-    requires { (transfer.source + length sorts.now < 2 ^ 32) × (transfer.target + length sorts.now < 2 ^ 32) }
-    ensures { OnOk result (ops.new ≡ ops.old ++ all_tag_ops transfer.is_first transfer.source transfer.target 0 events.now sorts.now) }
+    requires { (transfer.source + length kinds.now < 2 ^ 32) × (transfer.target + length kinds.now < 2 ^ 32) }
+    ensures { OnOk result (ops.new ≡ ops.old ++ all_tag_ops transfer.is_first transfer.source transfer.target 0 events.now kinds.now) }
 {
-    for (tag, many) in sorts.iter().enumerate() {
+    for (tag, many) in kinds.iter().enumerate() {
         let tag = tag as u32;
         let transfer = Transfer {
             is_first: transfer.is_first,

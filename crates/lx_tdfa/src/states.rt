@@ -1,9 +1,10 @@
 //! The state of a list of places.
 ghost use Rattle.std.specs.Prelude.{◌≡◌, ◌<◌, ◌≤◌, ◌*◌, All, IfOk, IfSome, List, MatchResult, None, Some, length, map, option_map, slice_get};
+ghost use Rattle.lx_base.specs.declared.limits.TheConstants.{PLACE_LIMIT};
 ghost use Rattle.lx_auto.specs.Automaton.{AreApart};
 ghost use Rattle.lx_tnfa.specs.Closure.{AllPlaces};
 ghost use Rattle.lx_tnfa.specs.declared.places.Place.{Place};
-ghost use Rattle.lx_tdfa.specs.Building.{AreListed, AreTargets, Grows, IsEdgeMade, IsReady, TooManyFound, greatest_of};
+ghost use Rattle.lx_tdfa.specs.Building.{AreListed, AreTargets, Grows, IsEdgeMade, IsSourceOfRules, TooManyFound, greatest_of};
 ghost use Rattle.lx_tdfa.specs.Edges.{AreEdgesBefore};
 ghost use Rattle.lx_tdfa.specs.Making.{StopsBy, seen_ending, seen_step};
 ghost use Rattle.lx_tdfa.specs.Registers.{ending_ops, first_of, held_from, step_ops, widest};
@@ -15,7 +16,6 @@ use crate::edges::push_edge;
 use crate::kernels::Kernels;
 use crate::operations::{Transfer, push_tags};
 use crate::seen::Seen;
-use crate::sorts::Sorts;
 use crate::steps::{Ending, Step, first_ending, next_steps};
 use lx_auto::{Accept, Edge, Held, Ops, State};
 use lx_base::{Memory, Pos, Sequence, Stop};
@@ -27,7 +27,6 @@ use std::alloc::Global;
 pub(crate) struct Source<'a> {
     pub alloc: Global,
     pub t: &'a Tnfa,
-    pub sorts: &'a Sorts,
     /// The most tags that a rule has: so many registers hold the values at a place.
     pub width: u32,
     /// Where the scanner stands that would have too many states.
@@ -52,7 +51,7 @@ impl<'a> Source<'a> {
     /// The first register of the place with this index.
     fn first_of(&self, index: usize) -> u32
         requires narrow { self.now.width ≤ 130 }
-        requires within { index ≤ 1048576 }
+        requires within { index ≤ PLACE_LIMIT }
         ensures { result ≡ first_of self.now.width index }
     {
         (index as u32 + 1) * self.width
@@ -60,9 +59,9 @@ impl<'a> Source<'a> {
 
     /// The operations of steps.
     fn step_ops(&self, is_first: bool, steps: &[Step<'_>]) -> Result<Ops, Memory>
-        requires ready { IsReady self.now }
-        requires few { length steps.now ≤ 1048576 }
-        requires sources { All (λ step. step.reach.now.from < 1048576) steps.now }
+        requires of_rules { IsSourceOfRules self.now }
+        requires few { length steps.now ≤ PLACE_LIMIT }
+        requires sources { All (λ step. step.reach.now.from < PLACE_LIMIT) steps.now }
         ensures { IfOk result (λ ops. ops ≡ step_ops self.now.t.now (widest self.now.t.now.rules) is_first 0 (map seen_step steps.now)) }
     {
         let mut ops = Ops::new(self.alloc);
@@ -76,7 +75,7 @@ impl<'a> Source<'a> {
                 &mut ops,
                 transfer,
                 step.reach.events.as_slice(),
-                self.sorts.at(self.t, step.to.part),
+                self.t.tags_at(step.to.part),
             )?;
         }
         Ok(ops)
@@ -84,8 +83,8 @@ impl<'a> Source<'a> {
 
     /// The operations that keep the values of a rule that ends.
     fn ending_ops(&self, is_first: bool, ending: Ending<'_>) -> Result<Ops, Memory>
-        requires ready { IsReady self.now }
-        requires source { ending.reach.now.from < 1048576 }
+        requires of_rules { IsSourceOfRules self.now }
+        requires source { ending.reach.now.from < PLACE_LIMIT }
         ensures { IfOk result (λ ops. ops ≡ ending_ops self.now.t.now (widest self.now.t.now.rules) is_first (seen_ending ending.entry)) }
     {
         let mut ops = Ops::new(self.alloc);
@@ -104,12 +103,12 @@ impl<'a> Source<'a> {
     }
 
     /// What holds the values of a rule's tags where it was accepted.
-    fn held(&self, sorts: &[bool]) -> Result<Sequence<Held>, Memory>
-        requires { length sorts.now ≤ 130 }
-        ensures { IfOk result (λ values. values ≡ held_from 0 sorts.now) }
+    fn held(&self, kinds: &[bool]) -> Result<Sequence<Held>, Memory>
+        requires { length kinds.now ≤ 130 }
+        ensures { IfOk result (λ values. values ≡ held_from 0 kinds.now) }
     {
         let mut values = Sequence::new(self.alloc);
-        for (tag, many) in sorts.iter().enumerate() {
+        for (tag, many) in kinds.iter().enumerate() {
             let tag = tag as u32;
             values.push(if *many {
                 Held::MReg(tag + 1)
@@ -122,8 +121,8 @@ impl<'a> Source<'a> {
 
     /// What a state accepts by its first ending.
     fn accept(&self, is_first: bool, ending: Option<Ending<'_>>) -> Result<Option<Accept>, Memory>
-        requires ready { IsReady self.now }
-        requires source { IfSome ending (λ ending. ending.reach.now.from < 1048576) }
+        requires of_rules { IsSourceOfRules self.now }
+        requires source { IfSome ending (λ ending. ending.reach.now.from < PLACE_LIMIT) }
         ensures { IfOk result (λ accept. accept ≡ accept_of self.now.t.now is_first (option_map seen_ending ending.entry)) }
     {
         match ending {
@@ -138,8 +137,8 @@ impl<'a> Source<'a> {
 
     /// What is done where a state is left.
     fn leave(&self, is_first: bool, ending: Option<Ending<'_>>) -> Result<Ops, Memory>
-        requires ready { IsReady self.now }
-        requires source { IfSome ending (λ ending. ending.reach.now.from < 1048576) }
+        requires of_rules { IsSourceOfRules self.now }
+        requires source { IfSome ending (λ ending. ending.reach.now.from < PLACE_LIMIT) }
         ensures { IfOk result (λ ops. ops ≡ leave_of self.now.t.now is_first (option_map seen_ending ending.entry)) }
     {
         match ending {
@@ -168,7 +167,7 @@ impl<'a> Source<'a> {
         reaches: &[Reach],
         units: Units,
     ) -> Result<Option<Edge>, Stop>
-        requires ready { IsReady self.now }
+        requires of_rules { IsSourceOfRules self.now }
         requires listed { AreListed self.now.t.now kernels.old }
         requires targets { AreTargets self.now.t.now reaches.now × AllPlaces self.now.t.now reaches.now }
         requires unit { units.lo ≤ greatest_of self.now.t.now }
@@ -196,7 +195,7 @@ impl<'a> Source<'a> {
         is_first: bool,
         reaches: &[Reach],
     ) -> Result<Sequence<Edge>, Stop>
-        requires ready { IsReady self.now }
+        requires of_rules { IsSourceOfRules self.now }
         requires listed { AreListed self.now.t.now kernels.old }
         requires targets { AreTargets self.now.t.now reaches.now × AllPlaces self.now.t.now reaches.now }
         ensures { MatchResult result (λ edges. Grows self.now.t.now kernels.old kernels.new
@@ -226,7 +225,7 @@ impl<'a> Source<'a> {
         buffers: &mut Buffers,
         number: usize,
     ) -> Result<State, Stop>
-        requires ready { IsReady self.now }
+        requires of_rules { IsSourceOfRules self.now }
         requires listed { AreListed self.now.t.now kernels.old }
         requires there { number < length kernels.old }
         ensures { MatchResult result (λ state. Grows self.now.t.now kernels.old kernels.new

@@ -1,4 +1,5 @@
 -- States, shapes and tags, as they are built rule by rule.
+pub mod ApartNumbers
 pub mod BuiltCopies
 pub mod BuiltStates
 pub mod FirstStates
@@ -8,6 +9,7 @@ pub mod Members
 pub mod Membership
 pub mod NthLists
 pub mod RuleLists
+pub mod RuleOwners
 pub mod RuleTagLists
 pub mod ShapeFacts
 pub mod TagBounds

@@ -10,6 +10,7 @@ pub mod Moves
 pub mod PlaceNumbers
 pub mod PlainWalks
 pub mod Rows
+pub mod RuleNumbers
 pub mod Search
 pub mod Shapes
 pub mod Standing

@@ -1,11 +1,11 @@
--- What the program holds of the states of an automaton.
+-- How the program's states stand for those of an automaton.
 use Rattle.std.specs.Prelude.{◌≡◌, ℕ, ◌+◌, ◌*◌, ◌^◌, ◌<◌, ◌≤◌, List, [], ◌∷◌, ◌++◌, map, length}
 use Rattle.lx_base.specs.declared.settings.Enc.{Enc}
-use Rattle.lx_encode.specs.Policy.{FitsEncoding}
 use Rattle.lx_regex.specs.Automaton as spec
 use Rattle.lx_regex.specs.Automaton.{moves, leaf, unit_leaf}
+use Rattle.lx_regex.specs.ClassLimits.{ClassesFit, ClassesFitAmong}
 use Rattle.lx_regex.specs.PartList.{set_of}
-use Rattle.lx_regex.specs.Term.{Term, empty, class, any_unit, cat, alt, repeat, tag, group, Terms, nil, cons}
+use Rattle.lx_regex.specs.Term.{Term, Terms}
 use Rattle.lx_tnfa.specs.Classes.{AreClasses, HasClass}
 use Rattle.lx_tnfa.specs.Ends.{EndsFit, EndsFitAmong}
 use Rattle.lx_tnfa.specs.Moves.{shown_move}
@@ -14,40 +14,24 @@ use Rattle.lx_tnfa.specs.declared.classes.ClassGraph.{ClassGraph}
 use Rattle.lx_tnfa.specs.declared.states.State.{State}
 use Rattle.lx_tnfa.specs.declared.states.State.TheVariants.{Moves, Class, AnyUnit}
 
--- what is held of a state: its moves, or for a leaf the number of its class
-abbrev pub IsHeld : List ClassGraph → spec.State → State → Type 0
-IsHeld classes (moves ways) (Moves held) = held ≡ map shown_move ways
-IsHeld classes (moves ways) (Class number) = ⊥
-IsHeld classes (moves ways) AnyUnit = ⊥
-IsHeld classes (leaf ranges) (Moves held) = ⊥
-IsHeld classes (leaf ranges) (Class number) = HasClass classes number (set_of ranges)
-IsHeld classes (leaf ranges) AnyUnit = ⊥
-IsHeld classes unit_leaf (Moves held) = ⊥
-IsHeld classes unit_leaf (Class number) = ⊥
-IsHeld classes unit_leaf AnyUnit = Unit {0}
+-- the program's state stands for one of the definition: by the same moves, or for a leaf by the number of its class
+abbrev pub Represents : List ClassGraph → spec.State → State → Type 0
+Represents classes (moves ways) (Moves held) = held ≡ map shown_move ways
+Represents classes (moves ways) (Class number) = ⊥
+Represents classes (moves ways) AnyUnit = ⊥
+Represents classes (leaf ranges) (Moves held) = ⊥
+Represents classes (leaf ranges) (Class number) = HasClass classes number (set_of ranges)
+Represents classes (leaf ranges) AnyUnit = ⊥
+Represents classes unit_leaf (Moves held) = ⊥
+Represents classes unit_leaf (Class number) = ⊥
+Represents classes unit_leaf AnyUnit = Unit {0}
 
 -- the same of states one by one
-abbrev pub AreHeld : List ClassGraph → List spec.State → List State → Type 0
-AreHeld classes [] [] = Unit {0}
-AreHeld classes [] (state ∷ states) = ⊥
-AreHeld classes (row ∷ rows) [] = ⊥
-AreHeld classes (row ∷ rows) (state ∷ states) = IsHeld classes row state × AreHeld classes rows states
-
--- every point of a class of the term is one of the encoding
-abbrev mutual
-  pub ClassesFit : Enc → Term → Type 0
-  ClassesFit enc empty = Unit {0}
-  ClassesFit enc (class ranges) = FitsEncoding enc (set_of ranges)
-  ClassesFit enc any_unit = Unit {0}
-  ClassesFit enc (cat members) = ClassesFitAmong enc members
-  ClassesFit enc (alt members) = ClassesFitAmong enc members
-  ClassesFit enc (repeat body low high) = ClassesFit enc body
-  ClassesFit enc (tag number) = Unit {0}
-  ClassesFit enc (group opening closing body) = ClassesFit enc body
-
-  pub ClassesFitAmong : Enc → Terms → Type 0
-  ClassesFitAmong enc nil = Unit {0}
-  ClassesFitAmong enc (cons member members) = ClassesFit enc member × ClassesFitAmong enc members
+abbrev pub RepresentEach : List ClassGraph → List spec.State → List State → Type 0
+RepresentEach classes [] [] = Unit {0}
+RepresentEach classes [] (state ∷ states) = ⊥
+RepresentEach classes (row ∷ rows) [] = ⊥
+RepresentEach classes (row ∷ rows) (state ∷ states) = Represents classes row state × RepresentEach classes rows states
 
 -- a term of which the states can be built: its group ends have 32 bits, and its classes fit the encoding
 abbrev pub IsBuildable : Enc → Term → Type 0
@@ -71,4 +55,4 @@ pub record Builds (old new : Building) (rows : List spec.State) : Type 0 where
   pub few : 2 * length later ≤ length rows
   pub more : List State
   pub states : new.states.items ≡ old.states.items ++ more
-  pub held : AreHeld new.classes.list.items rows more
+  pub held : RepresentEach new.classes.list.items rows more

@@ -10,7 +10,7 @@ use Rattle.lx_regex.specs.Pattern.{Pattern, sorts_of, terms_of}
 use Rattle.lx_regex.specs.Term.{Term, parts}
 use Rattle.lx_tnfa.specs.Classes.{AreClasses}
 use Rattle.lx_tnfa.specs.Live.{AreLive}
-use Rattle.lx_tnfa.specs.Rows.{AreHeld, ClassesFit}
+use Rattle.lx_tnfa.specs.Rows.{RepresentEach}
 use Rattle.lx_tnfa.specs.declared.classes.ClassGraph.{ClassGraph}
 use Rattle.lx_tnfa.specs.declared.places.Place.{Place}
 use Rattle.lx_tnfa.specs.declared.states.State.{State}
@@ -68,10 +68,10 @@ FinishesRest classes AnyUnit rest units = length units ≡ rest
 abbrev pub FinishesPlace : Tnfa → Place → List ℕ → Type 0
 FinishesPlace tnfa place units = FinishesRest tnfa.classes (state_at tnfa place) place.rest.0 units
 
--- the sorts of the tags of the rule with this number
-abbrev pub sorts_for : List (ℕ × List Bool) → (number : ℕ) → Option (List Bool)
-sorts_for [] number = None
-sorts_for (rule ∷ rules) number = if nat_eq rule.0 number then Some rule.1 else sorts_for rules number
+-- of each tag of the rule with this number, whether it is an m-tag
+abbrev pub kinds_for : List (ℕ × List Bool) → (number : ℕ) → Option (List Bool)
+kinds_for [] number = None
+kinds_for (rule ∷ rules) number = if nat_eq rule.0 number then Some rule.1 else kinds_for rules number
 
 -- the most tags that a rule has
 abbrev pub most_tags : List (ℕ × List Bool) → ℕ
@@ -112,15 +112,10 @@ beginnings_from (e ∷ rules) part = 2 * part ∷ beginnings_from rules (part + 
 -- the automaton of a rule list
 pub record IsTnfaOf (encoding : Enc) (patterns : List Pattern) (tnfa : Tnfa) : Type 0 where
   pub enc : tnfa.enc ≡ encoding
-  pub states : AreHeld tnfa.classes (automaton (terms_of patterns)) tnfa.states
+  pub states : RepresentEach tnfa.classes (automaton (terms_of patterns)) tnfa.states
   pub classes : AreClasses encoding tnfa.classes
   pub owners : tnfa.owners ≡ map (λ (part : Part). part.rule) (parts_of patterns)
   pub rules : tnfa.rules ≡ map (λ (pattern : Pattern). (pattern.number, sorts_of pattern)) patterns
   pub begins : tnfa.begins ≡ beginnings_from (terms_of patterns) 1
   pub marks : length tnfa.live ≡ length tnfa.states
   pub live : AreLive tnfa.classes tnfa.states tnfa.live
-
--- every point of a class of the terms is one of the encoding
-abbrev pub AllClassesFit : Enc → List Term → Type 0
-AllClassesFit enc [] = Unit {0}
-AllClassesFit enc (e ∷ terms) = ClassesFit enc e × AllClassesFit enc terms

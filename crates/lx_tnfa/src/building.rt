@@ -7,7 +7,7 @@ ghost use Rattle.lx_regex.specs.Term.{copies, parts, parts_of_all};
 ghost use Rattle.lx_tnfa.specs.Beginnings.{first_state};
 ghost use Rattle.lx_tnfa.specs.Classes.{Adds, AreClasses};
 ghost use Rattle.lx_tnfa.specs.Moves.{counted_size, shown_move};
-ghost use Rattle.lx_tnfa.specs.Rows.{AreBuildable, Builds, HasRoom, IsBuildable, IsHeld};
+ghost use Rattle.lx_tnfa.specs.Rows.{AreBuildable, Builds, HasRoom, IsBuildable, Represents};
 ghost use Rattle.lx_tnfa.specs.Shapes.{HasShape, HaveShapes};
 
 use crate::classes::Classes;
@@ -47,7 +47,7 @@ fn beginning(
     requires shape { HasShape (term_of site.tags expr.now) shape.now }
     ensures adds { OnOk result (Adds classes.old classes.new 1) }
     ensures sound { OnOk result (AreClasses classes.new.enc classes.new.list.items) }
-    ensures held { IfOk result (IsHeld classes.new.list.items (first_state (term_of site.tags expr.now) site.part)) }
+    ensures held { IfOk result (Represents classes.new.list.items (first_state (term_of site.tags expr.now) site.part)) }
 {
     let end = 2 * site.part + 1;
     match expr {
@@ -77,7 +77,7 @@ fn beginning(
     }
 }
 
-/// Puts the states of the members of a sequence at the end, of which the first is this part and the last leads to this state.
+/// Appends the states of the members of a sequence, of which the first is this part and the last leads to this state.
 #[cycle(build)]
 fn build_members(
     alloc: Global,
@@ -108,7 +108,7 @@ fn build_members(
     Ok(())
 }
 
-/// Puts the states of the members of an alternation at the end, of which the first is this part and each leads to this state.
+/// Appends the states of the members of an alternation, of which the first is this part and each leads to this state.
 #[cycle(build)]
 fn build_alternatives(
     alloc: Global,
@@ -133,7 +133,7 @@ fn build_alternatives(
     Ok(())
 }
 
-/// Puts the states of all copies of the body of a repetition at the end.
+/// Appends the states of all copies of the body of a repetition.
 #[cycle(build)]
 fn build_copies(
     alloc: Global,
@@ -161,7 +161,7 @@ fn build_copies(
     Ok(())
 }
 
-/// Puts the states of an expression at the end, from whose end these moves lead on.
+/// Appends the states of an expression, from whose end these moves lead on.
 #[cycle(build)]
 pub(crate) fn build(
     alloc: Global,

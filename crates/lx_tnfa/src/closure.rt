@@ -68,7 +68,7 @@ impl Tnfa {
         Ok(())
     }
 
-    /// Puts the stops one step on behind those that wait, the last step first.
+    /// Appends the stops one step on to those that wait, the last step first.
     fn push_steps(&self, waiting: &mut Vec<Entry>, branch: Branch) -> Result<(), Memory>
         ensures pushed { OnOk result (waiting.new.items ≡ waiting.old.items ++ reverse (entries_at self.now branch branch.state (state_of self.now.states branch.state))) }
         ensures targets { LeadToTargets self.now (steps_at self.now branch.state (state_of self.now.states branch.state)) }
@@ -79,11 +79,7 @@ impl Tnfa {
         let part = branch.state / 2;
         match self.states.get(branch.state as usize) {
             Some(State::Moves(ways)) => {
-                let rule = match self.owners.get(part as usize) {
-                    Some(rule) => *rule,
-                    None => 0,
-                };
-                push_moves(waiting, branch, rule, ways.as_slice())
+                push_moves(waiting, branch, self.rule_of(part), ways.as_slice())
             }
             Some(State::Class(class)) => match self.classes.get(*class as usize) {
                 Some(class) => push_starts(waiting, branch, part, class.graph.starts()),
@@ -134,7 +130,7 @@ impl Tnfa {
         }
     }
 
-    /// Puts the stops at which the walks from places begin behind those that wait, the last place first.
+    /// Appends the stops at which the walks from places begin to those that wait, the last place first.
     fn push_beginnings(&self, waiting: &mut Vec<Entry>, places: &[Place]) -> Result<(), Memory>
         requires places { All (IsPlace self.now) places.now }
         requires few { length places.now + 1 < 2 ^ 32 }

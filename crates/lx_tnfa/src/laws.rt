@@ -1,5 +1,6 @@
 //! What holds of places. Each law is the contract of a function that does nothing.
 ghost use Rattle.std.specs.Prelude.{◌≡◌, ◌≢◌, ◌↔◌, ℕ, ◌/◌, ◌<◌, List, [], ◌++◌, Some, map, slice_get, slice_index, All, AllPairs};
+ghost use Rattle.lx_regex.specs.ClassLimits.{AllClassesFit};
 ghost use Rattle.lx_base.specs.declared.settings.Enc.{Enc};
 ghost use Rattle.lx_regex.specs.Automaton as spec;
 ghost use Rattle.lx_regex.specs.Automaton.{automaton, moves};
@@ -17,7 +18,7 @@ ghost use Rattle.lx_tnfa.specs.PlainWalks.{VisitsOnce};
 ghost use Rattle.lx_tnfa.specs.PlaceNumbers.{number_behind, numbers_after, symbols_added};
 ghost use Rattle.lx_tnfa.specs.Standing.{StandsAt};
 ghost use Rattle.lx_tnfa.specs.TakenWalks.{GoesOnAt, ReadsAt, Takes, first_events};
-ghost use Rattle.lx_tnfa.specs.Tnfa.{AllClassesFit, IsTnfaOf, Tnfa};
+ghost use Rattle.lx_tnfa.specs.Tnfa.{IsTnfaOf, Tnfa};
 ghost use Rattle.lx_tnfa.specs.declared.closure.Reach.{Reach};
 ghost use Rattle.lx_tnfa.specs.declared.closure.Stop.{Stop};
 ghost use Rattle.lx_tnfa.specs.declared.closure.Stop.TheVariants.{AtState, AtTarget};

@@ -8,7 +8,7 @@ use crate::states::{Move, State};
 use lx_base::{Memory, Sequence};
 use std::alloc::Global;
 
-/// Puts a state on the list of those that lead to another one, if that is there.
+/// Appends a state to the list of those that lead to another one, if that is there.
 fn put(before: &mut [Sequence<usize>], number: usize, next: usize) -> Result<(), Memory>
     ensures { OnOk result (before.new ≡ put_one before.old number next) }
 {
@@ -18,7 +18,7 @@ fn put(before: &mut [Sequence<usize>], number: usize, next: usize) -> Result<(),
     Ok(())
 }
 
-/// Puts a state on the lists of those to which its moves lead.
+/// Appends a state to the lists of those to which its moves lead.
 fn put_moves(before: &mut [Sequence<usize>], number: usize, ways: &[Move]) -> Result<(), Memory>
     ensures { OnOk result (before.new ≡ put_each before.old number (map (λ (way : Way). way.to) ways.now)) }
 {
@@ -28,7 +28,7 @@ fn put_moves(before: &mut [Sequence<usize>], number: usize, ways: &[Move]) -> Re
     Ok(())
 }
 
-/// Puts a state on the lists of those to which it leads: by a move, or by a spelling of its leaf.
+/// Appends a state to the lists of those to which it leads: by a move, or by a spelling of its leaf.
 fn put_state(
     before: &mut [Sequence<usize>],
     classes: &[ClassGraph],
@@ -92,7 +92,7 @@ fn first_mark(alloc: Global, others: usize) -> Result<Vec<bool>, Memory>
     Ok(marks)
 }
 
-/// Marks states, and puts those that had no mark behind the ones that wait.
+/// Marks states, and appends those that had no mark to the ones that wait.
 fn mark_each(numbers: &[usize], marks: &mut [bool], waiting: &mut Vec<usize>) -> Result<(), Memory>
     requires { All (λ number. number < length marks.old) numbers.now }
     ensures marks { OnOk result (marks.new ≡ marks_each marks.old numbers.now) }

@@ -1,5 +1,5 @@
 //! Making the automaton of a rule list, rule by rule.
-ghost use Rattle.std.specs.Prelude.{◌≡◌, ◌++◌, [], ◌∷◌, length, replicate, IfOk, OnOk};
+ghost use Rattle.std.specs.Prelude.{◌≡◌, ◌++◌, [], ◌∷◌, length, replicate, IfOk, None, OnOk, Some};
 ghost use Rattle.std.specs.Bool.{OnFalse};
 ghost use Rattle.lx_regex.specs.Pattern.{is_end, pattern_of, sorts_of};
 ghost use Rattle.lx_regex.specs.Values.{group_ends};
@@ -17,27 +17,28 @@ use lx_regex::{Kind, Rule};
 use std::alloc::Global;
 use std::collections::HashMap;
 
-/// An automaton that is made: its states, for each part the number of its rule, and the tags and beginnings of its rules.
+/// An automaton that is made: its states, and of its rules the parts, the tags and the beginnings.
 #[derive(Drop)]
 pub(crate) struct Making {
     pub building: Building,
-    pub owners: Vec<u32>,
+    /// For each part the index of its rule; none for the rule list itself.
+    pub owners: Vec<Option<u32>>,
     pub rules: Vec<RuleTags>,
     /// The states at the beginnings of rules.
     pub begins: Vec<u32>,
 }
 
-/// Puts a rule's number at the end, so many times.
-fn push_owners(owners: &mut Vec<u32>, number: u32, count: u32) -> Result<(), Memory>
-    ensures { OnOk result (owners.new.items ≡ owners.old.items ++ replicate count number) }
+/// Appends the index of a rule, so many times.
+fn push_owners(owners: &mut Vec<Option<u32>>, index: u32, count: u32) -> Result<(), Memory>
+    ensures { OnOk result (owners.new.items ≡ owners.old.items ++ replicate count (Some index)) }
 {
     for _ in 0..count {
-        owners.push(number)?;
+        owners.push(Some(index))?;
     }
     Ok(())
 }
 
-/// Puts the sorts of the ends of so many groups at the end.
+/// Appends the kinds of the ends of so many groups: none is an m-tag.
 fn push_group_ends(many: &mut Vec<bool>, groups: u32) -> Result<(), Memory>
     ensures { OnOk result (many.new.items ≡ many.old.items ++ group_ends groups) }
 {
@@ -48,7 +49,7 @@ fn push_group_ends(many: &mut Vec<bool>, groups: u32) -> Result<(), Memory>
     Ok(())
 }
 
-/// The number of a rule and the sorts of its tags.
+/// The number of a rule and the kinds of its tags.
 fn rule_tags(alloc: Global, rule: &Rule) -> Result<RuleTags, Memory>
     ensures number { IfOk result (λ tags. tags.number ≡ rule.now.number) }
     ensures many { IfOk result (λ tags. tags.many.items ≡ sorts_of (pattern_of rule.now)) }
@@ -70,7 +71,7 @@ impl Making {
         ensures states { IfOk result (λ making. making.building.states.items ≡ Moves [] ∷ Moves [] ∷ []) }
         ensures enc { IfOk result (λ making. making.building.classes.enc ≡ enc) }
         ensures classes { IfOk result (λ making. making.building.classes.list.items ≡ []) }
-        ensures owners { IfOk result (λ making. making.owners.items ≡ 0 ∷ []) }
+        ensures owners { IfOk result (λ making. making.owners.items ≡ None ∷ []) }
         ensures rules { IfOk result (λ making. making.rules.items ≡ []) }
         ensures begins { IfOk result (λ making. making.begins.items ≡ []) }
     {
@@ -83,7 +84,7 @@ impl Making {
             numbers: HashMap::new(alloc),
         };
         let mut owners = Vec::new(alloc);
-        owners.push(0)?;
+        owners.push(None)?;
         Ok(Making {
             building: Building { states, classes },
             owners,
@@ -92,12 +93,13 @@ impl Making {
         })
     }
 
-    /// Puts a rule at the end; the rule `$` has no states.
+    /// Appends a rule; the rule `$` has no states.
     pub fn add_rule(&mut self, alloc: Global, rule: &Rule) -> Result<(), Memory>
         requires sound { AreClasses self.old.building.classes.enc self.old.building.classes.list.items }
         requires can { OnFalse (is_end rule.now.kind) (CanAdd self.old rule.now) }
         ensures { OnOk result (AddsRule self.old self.new rule.now) }
     {
+        let index = self.rules.len();
         self.rules.push(rule_tags(alloc, rule)?)?;
         match rule.kind {
             Kind::Eof => Ok(()),
@@ -109,7 +111,8 @@ impl Making {
                 self.begins.push(2 * part)?;
                 let exits = one_move(alloc, 0, None)?;
                 build(alloc, &mut self.building, site, &rule.expr, &shape, exits)?;
-                push_owners(&mut self.owners, rule.number, shape.parts)
+                let owner = index as u32;
+                push_owners(&mut self.owners, owner, shape.parts)
             }
         }
     }

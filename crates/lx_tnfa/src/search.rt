@@ -84,7 +84,7 @@ fn stop_at(rule: u32, number: u32) -> Stop
     }
 }
 
-/// Puts the beginnings of rules behind the stops that wait, the last one first.
+/// Appends the beginnings of rules to the stops that wait, the last one first.
 pub(crate) fn push_begins(
     waiting: &mut Vec<Entry>,
     branch: Branch,
@@ -98,7 +98,7 @@ pub(crate) fn push_begins(
     Ok(())
 }
 
-/// Puts where moves lead, in the rule with this number, behind the stops that wait, the last one first.
+/// Appends where moves lead, in the rule with this number, to the stops that wait, the last one first.
 pub(crate) fn push_moves(
     waiting: &mut Vec<Entry>,
     branch: Branch,
@@ -117,7 +117,7 @@ pub(crate) fn push_moves(
     Ok(())
 }
 
-/// Puts places in a leaf behind the stops that wait, the last one first.
+/// Appends places in a leaf to the stops that wait, the last one first.
 pub(crate) fn push_starts(
     waiting: &mut Vec<Entry>,
     branch: Branch,

@@ -1,5 +1,5 @@
 //! The automaton of a rule list.
-ghost use Rattle.std.specs.Prelude.{◌≡◌, ◌↔◌, [], ◌∷◌, ℕ, List, length, IfOk, IfSome, IsNone, slice_index};
+ghost use Rattle.std.specs.Prelude.{◌≡◌, ◌↔◌, [], ◌∷◌, ℕ, List, length, IfOk, IfSome, IsNone, MatchOption, Some, slice_index};
 ghost use Rattle.std.specs.Option.{unwrap_or};
 ghost use Rattle.std.specs.List.Sorted.{IsStrictlyIncreasing};
 ghost use Rattle.lx_base.specs.Spelling.{greatest_unit};
@@ -33,17 +33,19 @@ pub struct Tnfa {
     pub(crate) enc: Enc,
     pub(crate) states: Vec<State>,
     pub(crate) classes: Vec<ClassGraph>,
-    pub(crate) owners: Vec<u32>,
+    /// For each part the index of its rule; none for the rule list itself.
+    pub(crate) owners: Vec<Option<u32>>,
     pub(crate) rules: Vec<RuleTags>,
     pub(crate) begins: Vec<u32>,
     pub(crate) live: Vec<bool>,
 }
 
 impl Model for Tnfa {
-    ghost use Rattle.std.specs.Prelude.{◌<◌, ◌^◌, map, length};
+    ghost use Rattle.std.specs.Prelude.{◌<◌, ◌^◌, length};
+    ghost use Rattle.lx_tnfa.specs.Making.{seen_owners, seen_tags};
+    ghost use Rattle.lx_tnfa.specs.RuleNumbers.{HaveApartNumbers};
     ghost use Rattle.lx_tnfa.specs.Tnfa as spec;
     ghost use Rattle.lx_tnfa.specs.Tnfa.{AreNumbered, IsFormed};
-    ghost use Rattle.lx_tnfa.specs.declared.tnfa.RuleTags.{RuleTags};
 
     ghost Value = { spec.Tnfa };
 
@@ -51,18 +53,19 @@ impl Model for Tnfa {
       enc = t.enc;
       states = t.states.items;
       classes = t.classes.items;
-      owners = t.owners.items;
-      rules = map (λ (rule : RuleTags). (rule.number, rule.many.items)) t.rules.items;
+      owners = seen_owners (seen_tags t.rules.items) t.owners.items;
+      rules = seen_tags t.rules.items;
       begins = t.begins.items;
       live = t.live.items;
     } };
 
     ghost invariant = { λ t. AreNumbered (length t.classes.items) t.states.items × (length t.states.items < 2 ^ 32)
-        × IsFormed t.enc t.classes.items t.states.items };
+        × IsFormed t.enc t.classes.items t.states.items × HaveApartNumbers (seen_tags t.rules.items) };
 }
 
 impl Tnfa {
-    ghost use Rattle.lx_tnfa.specs.Tnfa.{AllClassesFit, FinishesPlace, IsPlace, IsTnfaOf, most_tags, place_after, rest_after, sorts_for, state_at};
+    ghost use Rattle.lx_regex.specs.ClassLimits.{AllClassesFit};
+    ghost use Rattle.lx_tnfa.specs.Tnfa.{FinishesPlace, IsPlace, IsTnfaOf, kinds_for, most_tags, place_after, rest_after, state_at};
 
     /// The automaton of a rule list within the limits of a scanner, of whose classes the encoding has each point.
     /// Want of memory may be answered in its place, and no clause ties it to a cause.
@@ -136,20 +139,42 @@ impl Tnfa {
         }
     }
 
-    /// The number of the rule of a part; 0 where there is no such part. It takes no memory.
+    /// The rule of a part; nothing for the rule list itself, and where there is no such part.
+    fn rule_at(&self, part: u32) -> Option<&RuleTags>
+        ensures number { MatchOption result (slice_index self.now.owners part ≡ 0) (λ rule. rule.now.number ≡ slice_index self.now.owners part) }
+        ensures tags { IfSome result (λ rule. kinds_for self.now.rules rule.now.number ≡ Some rule.now.many.items) }
+    {
+        match self.owners.get(part as usize) {
+            Some(Some(index)) => self.rules.get(*index as usize),
+            Some(None) | None => None,
+        }
+    }
+
+    /// The number of the rule of a part; 0 for the rule list itself, and where there is no such part. It takes no memory.
     pub fn rule_of(&self, part: u32) -> u32
         ensures { result ≡ slice_index self.now.owners part }
     {
-        match self.owners.get(part as usize) {
-            Some(rule) => *rule,
+        match self.rule_at(part) {
+            Some(rule) => rule.number,
             None => 0,
+        }
+    }
+
+    /// What `tags_of` answers for the number that `rule_of` gives for a part. Where a rule has the part, it takes constant time. It
+    /// takes no memory.
+    pub fn tags_at(&self, part: u32) -> &[bool]
+        ensures { result.now ≡ unwrap_or (kinds_for self.now.rules (slice_index self.now.owners part)) [] }
+    {
+        match self.rule_at(part) {
+            Some(rule) => &rule.many,
+            None => self.tags_of(0),
         }
     }
 
     /// Of each tag number of a rule, the ends of its groups included, whether it is an m-tag; none where no rule has the number. It
     /// takes no memory.
     pub fn tags_of(&self, rule: u32) -> &[bool]
-        ensures { result.now ≡ unwrap_or (sorts_for self.now.rules rule) [] }
+        ensures { result.now ≡ unwrap_or (kinds_for self.now.rules rule) [] }
     {
         for known in &self.rules {
             if known.number == rule {

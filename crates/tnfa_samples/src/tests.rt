@@ -8,8 +8,7 @@ ghost use Rattle.lx_regex.specs.Limits.{HasLongSequences, IsWithinLimits, number
 ghost use Rattle.lx_regex.specs.Pattern.{patterns_of, terms_of};
 ghost use Rattle.lx_regex.specs.Script.{tags_in};
 ghost use Rattle.lx_regex.specs.Term.{Term, alt, cat, class, cons, empty, group, nil, repeat, tag};
-ghost use Rattle.lx_tnfa.specs.Rows.{ClassesFit};
-ghost use Rattle.lx_tnfa.specs.Tnfa.{AllClassesFit};
+ghost use Rattle.lx_regex.specs.ClassLimits.{ClassesFit, AllClassesFit};
 
 mod closures;
 mod places;

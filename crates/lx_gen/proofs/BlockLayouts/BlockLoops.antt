@@ -16,7 +16,7 @@ use Rattle.lx_gen.specs.Codes.{choices_code, edge_code, keep_code, keeps_on, lis
 use Rattle.lx_gen.specs.Endings.{Ending}
 use Rattle.lx_gen.specs.Layout.{accepts_of, choices_from, ending_blocks, fall_block, kept_number, kept_of, layout, place_in, place_of, restore_blocks, state_size}
 use Rattle.lx_gen.specs.Plans.{blocks_of_states, blocks_of_ways, places_from, rule_at, unlabelled}
-use Rattle.lx_gen.specs.Sequences.{one_by_one}
+use Rattle.lx_gen.specs.ParallelCopies.{sequentialized}
 use Rattle.lx_gen.specs.Views.{seen_ways}
 use Rattle.lx_gen.specs.Ways.{has_way, ways_of, ways_onto}
 use Rattle.lx_gen.specs.declared.ends.Ends.{Ends}
@@ -26,7 +26,7 @@ use Rattle.lx_gen.proofs.Operations.SequenceBounds.{ops_code-append}
 -- ---- statements
 
 pub list_code-append : (auto : Auto) (ops : List Op) (rest : List Stmt) → list_code auto ops rest ≡ list_code auto ops [] ++ rest
-list_code-append auto ops rest = ops_code-append (one_by_one auto.regs auto.mregs ops) rest
+list_code-append auto ops rest = ops_code-append (sequentialized auto.regs auto.mregs ops) rest
 
 keep_code-append : (keeps : Bool) (kept : ℕ) (rest : List Stmt) → keep_code keeps kept rest ≡ keep_code keeps kept [] ++ rest
 keep_code-append false kept rest = refl

@@ -7,9 +7,9 @@ use Rattle.lx_auto.specs.declared.automaton.Held.{Held}
 use Rattle.lx_auto.specs.declared.automaton.Held.TheVariants.{Reg, MReg}
 use Rattle.lx_auto.specs.declared.ops.Op.{Op}
 use Rattle.lx_auto.specs.declared.ops.Op.TheVariants.{Here, Null, Copy, MHere, MNull, MCopy}
-use Rattle.lx_gen.specs.Sequences.{one_by_one}
+use Rattle.lx_gen.specs.ParallelCopies.{sequentialized}
 use Rattle.lx_gen.specs.Turns.{after_ops}
-use Rattle.lx_gen.proofs.Operations.OneByOne.{mregs-one_by_one, regs-one_by_one}
+use Rattle.lx_gen.proofs.Operations.OneByOne.{mregs-sequentialized, regs-sequentialized}
 use Rattle.lx_gen.proofs.Operations.OpBounds.{AllClear-ops}
 
 module _ (regs mregs : ℕ) where
@@ -37,16 +37,16 @@ module _ (regs mregs : ℕ) where
   history_copied-agrees (_ ∷ ops) k b r v w are h e = history_copied-agrees ops k b r v w are.1 h e
 
   pub Agrees-after : (at : ℕ) (ops : List Op) (k b : Bank) → AreOps regs mregs ops → Agrees k b
-      → Agrees (after_ops at (one_by_one regs mregs ops) k) (bank_after at ops b)
+      → Agrees (after_ops at (sequentialized regs mregs ops) k) (bank_after at ops b)
   Agrees-after at ops k b are h =
       let clear = AllClear-ops regs mregs ops are in
       record {
         same = λ r lt.
             let ne : r ≢ regs = λ e. omega arith in
-            regs-one_by_one regs mregs at ops clear k r ne ∙ value_after-agrees at ops k b r (k.regs r) (b.regs r) are h (h.same r lt);
+            regs-sequentialized regs mregs at ops clear k r ne ∙ value_after-agrees at ops k b r (k.regs r) (b.regs r) are h (h.same r lt);
         alike = λ r lt.
             let ne : r ≢ mregs = λ e. omega arith in
-            mregs-one_by_one regs mregs at ops clear k r ne
+            mregs-sequentialized regs mregs at ops clear k r ne
             ∙ ap (λ l. l ++ history_added at ops r) (history_copied-agrees ops k b r (k.mregs r) (b.mregs r) are h (h.alike r lt));
       }
 

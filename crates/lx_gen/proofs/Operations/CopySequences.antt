@@ -3,7 +3,7 @@ use Rattle.std.specs.Prelude.{◌≡◌, ◌≢◌, ℕ, zero, suc, ◌+◌, ◌
 use Rattle.std.proofs.Common.{sym, ap, ◌∙◌, subst, arith, inl, inr, ⊎_elim, eqb-true, eq-eqb, true≢false, length-append, append_assoc}
 use Rattle.std.proofs.lemmas.Bool.{ne_eqb}
 use Rattle.lx_ccode.specs.Machine.{updated}
-use Rattle.lx_gen.specs.Sequences.{Copies, targets, sources, is_in, read_from, unread_target, next_copies, in_sequence}
+use Rattle.lx_gen.specs.ParallelCopies.{Copies, targets, sources, is_in, read_from, unread_target, next_copies, in_sequence}
 
 -- a number is none of a list
 abbrev pub Fresh : ℕ → List ℕ → Type 0

@@ -4,7 +4,7 @@ use Rattle.std.proofs.Common.{sym, ap, ◌∙◌, arith, eq-eqb, true≢false}
 use Rattle.lx_auto.specs.Bank.{Bank, bank_after, history_added, history_copied}
 use Rattle.lx_auto.specs.declared.ops.Op.{Op}
 use Rattle.lx_auto.specs.declared.ops.Op.TheVariants.{Here, Null, Copy, MHere, MNull, MCopy}
-use Rattle.lx_gen.specs.Sequences.{targets, in_sequence, writes, copies_into, unless_later, copies, marks, mcopies, added_marks, copy_ops, mcopy_ops, one_by_one}
+use Rattle.lx_gen.specs.ParallelCopies.{targets, in_sequence, writes, copies_into, unless_later, copies, marks, mcopies, added_marks, copy_ops, mcopy_ops, sequentialized}
 use Rattle.lx_gen.specs.Turns.{after_op, after_ops}
 use Rattle.lx_gen.proofs.Operations.CopySequences.{Fresh, AllApart, at_once, each_copy-in_sequence}
 use Rattle.lx_gen.proofs.Operations.OpParts.{after_ops-append, after_ops-copy_ops, after_ops-mcopy_ops, after_ops-marks, after_ops-added_marks, marked, or_copy, at_once-or_copy, value_after-parts, history_copied-parts}
@@ -117,7 +117,7 @@ module _ (sp msp at : ℕ) (os : List Op) (clear : AllClear sp msp os) (k : Bank
   mcopied : List Op
   mcopied = mcopy_ops (in_sequence (length (mcopies os)) msp (mcopies os))
 
-  parts : after_ops at (one_by_one sp msp os) k ≡ after_ops at (added_marks os)
+  parts : after_ops at (sequentialized sp msp os) k ≡ after_ops at (added_marks os)
       (after_ops at mcopied (after_ops at (marks os) (after_ops at copied k)))
   unfolding copied mcopied
   parts =
@@ -126,9 +126,9 @@ module _ (sp msp at : ℕ) (os : List Op) (clear : AllClear sp msp os) (k : Bank
       ∙ after_ops-append at mcopied (added_marks os) (after_ops at (marks os) (after_ops at copied k))
 
   -- the registers
-  pub regs-one_by_one : (r : ℕ) → r ≢ sp → (after_ops at (one_by_one sp msp os) k).regs r ≡ (bank_after at os k).regs r
+  pub regs-sequentialized : (r : ℕ) → r ≢ sp → (after_ops at (sequentialized sp msp os) k).regs r ≡ (bank_after at os k).regs r
   unfolding copied mcopied
-  regs-one_by_one r ne =
+  regs-sequentialized r ne =
       let k1 : Bank = after_ops at copied k in
       let k2 : Bank = after_ops at (marks os) k1 in
       let k3 : Bank = after_ops at mcopied k2 in
@@ -144,9 +144,9 @@ module _ (sp msp at : ℕ) (os : List Op) (clear : AllClear sp msp os) (k : Bank
       ∙ sym (value_after-parts at k.regs r k.mregs os (k.regs r))
 
   -- the m-registers
-  pub mregs-one_by_one : (r : ℕ) → r ≢ msp → (after_ops at (one_by_one sp msp os) k).mregs r ≡ (bank_after at os k).mregs r
+  pub mregs-sequentialized : (r : ℕ) → r ≢ msp → (after_ops at (sequentialized sp msp os) k).mregs r ≡ (bank_after at os k).mregs r
   unfolding copied mcopied
-  mregs-one_by_one r ne =
+  mregs-sequentialized r ne =
       let k1 : Bank = after_ops at copied k in
       let k2 : Bank = after_ops at (marks os) k1 in
       let k3 : Bank = after_ops at mcopied k2 in

@@ -4,7 +4,7 @@ use Rattle.std.proofs.Common.{subst, arith}
 use Rattle.lx_auto.specs.Automaton.{AreOps, IsWritable}
 use Rattle.lx_auto.specs.declared.ops.Op.{Op}
 use Rattle.lx_auto.specs.declared.ops.Op.TheVariants.{Here, Null, Copy, MHere, MNull, MCopy}
-use Rattle.lx_gen.specs.Sequences.{Copies, sources, is_in, read_from, unread_target, next_copies, in_sequence, writes, copies_into, unless_later, copies, marks, mcopies, added_marks, copy_ops, mcopy_ops, one_by_one}
+use Rattle.lx_gen.specs.ParallelCopies.{Copies, sources, is_in, read_from, unread_target, next_copies, in_sequence, writes, copies_into, unless_later, copies, marks, mcopies, added_marks, copy_ops, mcopy_ops, sequentialized}
 use Rattle.lx_gen.proofs.Runs.RunMachines.{ArePositive}
 use Rattle.lx_gen.proofs.Operations.OneByOne.{AllClear}
 
@@ -96,8 +96,8 @@ ArePositive-mcopy_ops (suc count) mregs l h = by (unread_target [] l) refl l h (
     by None e [] g again = tt
     by None e (c ∷ k) g again = (omega (arith, g.0.0, g.0.1), (g.0.0, again (read_from mregs c.0 k) (AreWritable-read_from mregs mregs c.0 k g.1)))
 
-pub ArePositive-one_by_one : (regs mregs : ℕ) (ops : List Op) → AreOps regs mregs ops → ArePositive (one_by_one regs mregs ops)
-ArePositive-one_by_one regs mregs ops are =
+pub ArePositive-sequentialized : (regs mregs : ℕ) (ops : List Op) → AreOps regs mregs ops → ArePositive (sequentialized regs mregs ops)
+ArePositive-sequentialized regs mregs ops are =
     ArePositive-append (copy_ops (in_sequence (length (copies ops)) regs (copies ops)))
     (marks ops ++ (mcopy_ops (in_sequence (length (mcopies ops)) mregs (mcopies ops)) ++ added_marks ops))
     (ArePositive-copy_ops (in_sequence (length (copies ops)) regs (copies ops)))

@@ -4,7 +4,7 @@ use Rattle.std.proofs.Common.{sym, ap, ◌∙◌, eqb-true, true≢false, append
 use Rattle.lx_auto.specs.Bank.{Bank, history_added, history_copied, value_after}
 use Rattle.lx_auto.specs.declared.ops.Op.{Op}
 use Rattle.lx_auto.specs.declared.ops.Op.TheVariants.{Here, Null, Copy, MHere, MNull, MCopy}
-use Rattle.lx_gen.specs.Sequences.{Copies, writes, copies_into, unless_later, copies, marks, mcopies, added_marks, copy_ops, mcopy_ops}
+use Rattle.lx_gen.specs.ParallelCopies.{Copies, writes, copies_into, unless_later, copies, marks, mcopies, added_marks, copy_ops, mcopy_ops}
 use Rattle.lx_gen.specs.Turns.{after_op, after_ops}
 use Rattle.lx_gen.proofs.Operations.CopySequences.{at_once, each_copy}
 

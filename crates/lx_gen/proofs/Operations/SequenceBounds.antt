@@ -7,7 +7,7 @@ use Rattle.lx_auto.specs.declared.ops.Op.TheVariants.{Here, Null, Copy, MHere, M
 use Rattle.lx_ccode.specs.declared.piece.Stmt.{Stmt}
 use Rattle.lx_gen.specs.Codes.{op_code, ops_code}
 use Rattle.lx_gen.specs.Numbers.{AreBelow}
-use Rattle.lx_gen.specs.Sequences.{Copies, sources, is_in, read_from, unread_target, next_copies, in_sequence, writes, unless_later, copies, marks, mcopies, added_marks, copy_ops, mcopy_ops, one_by_one}
+use Rattle.lx_gen.specs.ParallelCopies.{Copies, sources, is_in, read_from, unread_target, next_copies, in_sequence, writes, unless_later, copies, marks, mcopies, added_marks, copy_ops, mcopy_ops, sequentialized}
 
 -- statements of operations, and then others
 pub ops_code-append : (ops : List Op) (rest : List Stmt) → ops_code ops rest ≡ ops_code ops [] ++ rest
@@ -100,8 +100,8 @@ module _ (bound : ℕ) where
       by false g = (h.0, g)
   Within-copies (_ ∷ ops) h = Within-copies ops h.1
 
-  pub AreBelow-one_by_one : (spare mspare : ℕ) (ops : List Op) → spare < bound → AreBelow bound ops → AreBelow bound (one_by_one spare mspare ops)
-  AreBelow-one_by_one spare mspare ops lt h =
+  pub AreBelow-sequentialized : (spare mspare : ℕ) (ops : List Op) → spare < bound → AreBelow bound ops → AreBelow bound (sequentialized spare mspare ops)
+  AreBelow-sequentialized spare mspare ops lt h =
       AreBelow-append (copy_ops (in_sequence (length (copies ops)) spare (copies ops)))
       (marks ops ++ (mcopy_ops (in_sequence (length (mcopies ops)) mspare (mcopies ops)) ++ added_marks ops))
       (AreBelow-copy_ops (in_sequence (length (copies ops)) spare (copies ops)) (Within-in_sequence (length (copies ops)) spare (copies ops) lt (Within-copies ops h)))

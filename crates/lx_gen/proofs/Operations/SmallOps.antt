@@ -4,7 +4,7 @@ use Rattle.std.proofs.Common.{arith}
 use Rattle.lx_auto.specs.Automaton.{AreOps}
 use Rattle.lx_auto.specs.declared.ops.Op.{Op}
 use Rattle.lx_auto.specs.declared.ops.Op.TheVariants.{Here, Null, Copy, MHere, MNull, MCopy}
-use Rattle.lx_gen.specs.Sequences.{Copies, sources, is_in, read_from, unread_target, next_copies, in_sequence, writes, copies_into, unless_later, copies, marks, mcopies, added_marks, copy_ops, mcopy_ops, one_by_one}
+use Rattle.lx_gen.specs.ParallelCopies.{Copies, sources, is_in, read_from, unread_target, next_copies, in_sequence, writes, copies_into, unless_later, copies, marks, mcopies, added_marks, copy_ops, mcopy_ops, sequentialized}
 
 module _ (n : ℕ) where
   abbrev pub IsSmall : Op → Type 0
@@ -125,8 +125,8 @@ module _ (n : ℕ) where
       by None [] f g again = tt
       by None (c ∷ k) f g again = ((lt, g.0.0), (g.0, again (read_from spare c.0 k) (read_from-below spare c.0 k lt g.1)))
 
-  pub one_by_one-small : (spare mspare : ℕ) (ops : List Op) → spare < n → mspare < n → AreSmall ops → AreSmall (one_by_one spare mspare ops)
-  one_by_one-small spare mspare ops lt mlt h =
+  pub sequentialized-small : (spare mspare : ℕ) (ops : List Op) → spare < n → mspare < n → AreSmall ops → AreSmall (sequentialized spare mspare ops)
+  sequentialized-small spare mspare ops lt mlt h =
       AreSmall-append (copy_ops (in_sequence (length (copies ops)) spare (copies ops)))
       (marks ops ++ (mcopy_ops (in_sequence (length (mcopies ops)) mspare (mcopies ops)) ++ added_marks ops))
       (copy_ops-small (in_sequence (length (copies ops)) spare (copies ops))

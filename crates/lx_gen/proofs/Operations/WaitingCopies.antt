@@ -2,10 +2,10 @@
 use Rattle.std.proofs.Common.{◌≡◌, ℕ, zero, suc, ◌+◌, ◌<◌, arith, Bool, true, false, not, ◌&&◌, ◌||◌, nat_eq, if◌then◌else◌, List, [], ◌∷◌, ◌++◌, length, drop, take, set, get_or, map, Some, refl, sym, ap, ◌∙◌, true≢false}
 use Rattle.std.proofs.lemmas.Bool.{eqb-true}
 use Rattle.std.proofs.lemmas.List.{drop-map, drop_more, get_or_default, length-map, map-append, take-map, take-append-drop, take_more}
-use Rattle.lx_gen.specs.CopyOps.{AreKnown, IsKnown, copy_between, forgotten, new_waiting, renamed, seen_copies, seen_copy, waiting_copies}
-use Rattle.lx_gen.specs.Sequences.{Copies, is_in, read_from, sources, unread_target}
-use Rattle.lx_gen.specs.declared.sequences.CopyOp.{CopyOp}
-use Rattle.lx_gen.specs.declared.sequences.Waiting.{Waiting}
+use Rattle.lx_gen.specs.CopyOps.{AreReadByOthers, IsReadByOthers, copy_between, forgotten, new_waiting, renamed, seen_copies, seen_copy, waiting_copies}
+use Rattle.lx_gen.specs.ParallelCopies.{Copies, is_in, read_from, sources, unread_target}
+use Rattle.lx_gen.specs.declared.parallel_copies.CopyOp.{CopyOp}
+use Rattle.lx_gen.specs.declared.parallel_copies.Waiting.{Waiting}
 
 is_in-append : (number : ℕ) (front back : Copies) → is_in number (sources (front ++ back)) ≡ (is_in number (sources front) || is_in number (sources back))
 is_in-append number [] back = refl
@@ -93,36 +93,36 @@ module _ (copies : Copies) (index : ℕ) (copy : ℕ × ℕ) (here : drop index 
       is_in-append number front back ∙ sym (is_in-without number front copy back ne) ∙ ap (λ l. is_in number (sources l)) split ∙ e
 
 module _ (all : Copies) where
-  AreKnown-append : (list other : List Waiting) → AreKnown all list → AreKnown all other → AreKnown all (list ++ other)
+  AreKnown-append : (list other : List Waiting) → AreReadByOthers all list → AreReadByOthers all other → AreReadByOthers all (list ++ other)
   AreKnown-append [] other h g = g
   AreKnown-append (w ∷ list) other h g = (h.0, AreKnown-append list other h.1 g)
 
-  AreKnown-take : (n : ℕ) (list : List Waiting) → AreKnown all list → AreKnown all (take n list)
+  AreKnown-take : (n : ℕ) (list : List Waiting) → AreReadByOthers all list → AreReadByOthers all (take n list)
   AreKnown-take zero list h = tt
   AreKnown-take (suc n) [] h = tt
   AreKnown-take (suc n) (w ∷ list) h = (h.0, AreKnown-take n list h.1)
 
-  AreKnown-drop : (n : ℕ) (list : List Waiting) → AreKnown all list → AreKnown all (drop n list)
+  AreKnown-drop : (n : ℕ) (list : List Waiting) → AreReadByOthers all list → AreReadByOthers all (drop n list)
   AreKnown-drop zero list h = h
   AreKnown-drop (suc n) [] h = tt
   AreKnown-drop (suc n) (w ∷ list) h = AreKnown-drop n list h.1
 
-  pub AreKnown-left : (n : ℕ) (list : List Waiting) → AreKnown all list → AreKnown all (take n list ++ drop (n + 1) list)
+  pub AreKnown-left : (n : ℕ) (list : List Waiting) → AreReadByOthers all list → AreReadByOthers all (take n list ++ drop (n + 1) list)
   AreKnown-left n list h = AreKnown-append (take n list) (drop (n + 1) list) (AreKnown-take n list h) (AreKnown-drop (n + 1) list h)
 
-  pub AreKnown-at : (n : ℕ) (list : List Waiting) (w : Waiting) → n < length list → AreKnown all list → IsKnown all (get_or list n w)
+  pub AreKnown-at : (n : ℕ) (list : List Waiting) (w : Waiting) → n < length list → AreReadByOthers all list → IsReadByOthers all (get_or list n w)
   AreKnown-at n [] w lt h = absurd (omega (arith, lt))
   AreKnown-at zero (v ∷ list) w lt h = h.0
   AreKnown-at (suc n) (v ∷ list) w lt h = AreKnown-at n list w (omega (arith, lt)) h.1
 
-  pub AreKnown-set : (n : ℕ) (list : List Waiting) (w : Waiting) → IsKnown all w → AreKnown all list → AreKnown all (set list n w)
+  pub AreKnown-set : (n : ℕ) (list : List Waiting) (w : Waiting) → IsReadByOthers all w → AreReadByOthers all list → AreReadByOthers all (set list n w)
   AreKnown-set n [] w k h = tt
   AreKnown-set zero (v ∷ list) w k h = (k, h.1)
   AreKnown-set (suc n) (v ∷ list) w k h = (h.0, AreKnown-set n list w k h.1)
 
   pub AreKnown-forgotten : (others : Copies) (reg : ℕ)
       → ((number : ℕ) → nat_eq number reg ≡ false → is_in number (sources all) ≡ true → is_in number (sources others) ≡ true)
-      → (list : List Waiting) → AreKnown all list → AreKnown others (map (forgotten reg) list)
+      → (list : List Waiting) → AreReadByOthers all list → AreReadByOthers others (map (forgotten reg) list)
   AreKnown-forgotten others reg on [] h = tt
   AreKnown-forgotten others reg on (w ∷ list) h = (
     (λ e.
@@ -134,7 +134,7 @@ module _ (all : Copies) where
 
   pub AreKnown-renamed : (others : Copies) (other old : ℕ)
       → ((number : ℕ) → nat_eq number old ≡ false → is_in number (sources all) ≡ true → is_in number (sources others) ≡ true)
-      → (list : List Waiting) → AreKnown all list → AreKnown others (map (renamed other old) list)
+      → (list : List Waiting) → AreReadByOthers all list → AreReadByOthers others (map (renamed other old) list)
   AreKnown-renamed others other old on [] h = tt
   AreKnown-renamed others other old on (w ∷ list) h = (
     (λ e.
@@ -213,7 +213,7 @@ pub waiting_copies-new : (copies : List CopyOp) → waiting_copies (map new_wait
 waiting_copies-new [] = refl
 waiting_copies-new (copy ∷ copies) = ap (λ l. seen_copy copy ∷ l) (waiting_copies-new copies)
 
-pub AreKnown-new : (all : Copies) (copies : List CopyOp) → AreKnown all (map new_waiting copies)
+pub AreKnown-new : (all : Copies) (copies : List CopyOp) → AreReadByOthers all (map new_waiting copies)
 AreKnown-new all [] = tt
 AreKnown-new all (copy ∷ copies) = ((λ e. absurd (true≢false (sym e))), AreKnown-new all copies)
 

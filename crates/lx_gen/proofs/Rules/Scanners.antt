@@ -1,6 +1,7 @@
 -- A piece whose blocks are the layout of the automaton of rules is a scanner of these rules.
 use Rattle.std.specs.Prelude.{◌≡◌, ℕ, zero, suc, ◌-◌, ◌<◌, ◌≤◌, List, None, Some, slice_get}
 use Rattle.std.proofs.Common.{sym, ap, ◌∙◌, subst, arith}
+use Rattle.lx_base.specs.declared.limits.TheConstants.{STATEMENT_LIMIT}
 use Rattle.lx_auto.specs.declared.automaton.Auto.{Auto}
 use Rattle.lx_base.specs.Names.{AreAllowed, DoNotClash, Spellings}
 use Rattle.lx_base.specs.Spelling.{greatest_unit}
@@ -26,8 +27,8 @@ use Rattle.lx_gen.specs.Scanner.{AreNamed, AreShort, IsScannerUnder}
 use Rattle.lx_gen.specs.Written.{AreWritten, IsUnconditional}
 use Rattle.lx_gen.proofs.Validity.ActionCounts.{actions_once, actions_own}
 use Rattle.lx_gen.proofs.Validity.EachElement.{each-both}
-use Rattle.lx_gen.proofs.Validity.FineCodes.{IsFine}
-use Rattle.lx_gen.proofs.Validity.FinePieces.{all_fine}
+use Rattle.lx_gen.proofs.Validity.SpelledCodes.{CanBeSpelled}
+use Rattle.lx_gen.proofs.Validity.SpelledPieces.{all_fine}
 use Rattle.lx_gen.proofs.Validity.LayoutLaws.{layout_right}
 use Rattle.lx_gen.proofs.Validity.QuietCodes.{layout_asks_nothing}
 use Rattle.lx_gen.proofs.Rules.RuleEndings.{endings-action, endings-no_line, limited_ends}
@@ -52,7 +53,7 @@ text_at texts (suc place) action e =
 
 -- an action that is its rule's own is the rule's text
 HasAction-own : (names : Spellings) (rules : List Rule) (texts : List (List ℕ)) (statement : Stmt) → IsOwnAction (endings_of rules texts) statement
-    → IsFine names statement → HasAction texts statement
+    → CanBeSpelled names statement → HasAction texts statement
 HasAction-own names rules texts (Code number line action) own fine =
     let at : (0 < number) × (slice_get texts (number - 1) ≡ Some action) =
     text_at texts number action (endings-action rules texts number action own.0) in
@@ -65,7 +66,7 @@ module _ (policy : Policy) (enc : Enc) (counted : ℕ) (spellings : Spellings) (
     (short : AreShort texts) (named : AreNamed spellings texts rules)
     (same : code_of piece.blocks ≡ layout (endings_of rules texts) (greatest_unit enc) auto 0) (bare : IsUnconditional enc counted spellings piece)
     (number : IsShort counted) (allowed : AreAllowed spellings) (differ : DoNotClash spellings)
-    (few : statement_count piece.blocks ≤ 4611686018427387904) where
+    (few : statement_count piece.blocks ≤ STATEMENT_LIMIT) where
   written : AreWritten spellings (endings_of rules texts) auto.states
   written = rules_written spellings enc rules texts auto.states limits short named is.fits.rules
 
@@ -80,7 +81,7 @@ module _ (policy : Policy) (enc : Enc) (counted : ℕ) (spellings : Spellings) (
         fields = bare;
         no_refill = quiet.0;
         no_state = quiet.1;
-        actions = each-both (IsOwnAction endings) (IsFine spellings) (HasAction texts) (HasAction-own spellings rules texts)
+        actions = each-both (IsOwnAction endings) (CanBeSpelled spellings) (HasAction texts) (HasAction-own spellings rules texts)
             (all_statements piece.blocks) (actions_own endings greatest auto 0 piece.blocks same)
             (all_fine spellings piece.blocks (blocks_fine enc counted spellings endings greatest auto piece is.fits.formed is.fits.units
             (greatest_unit-short enc) written same bare number allowed differ few));

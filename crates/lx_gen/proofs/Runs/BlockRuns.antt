@@ -18,22 +18,22 @@ use Rattle.lx_ccode.specs.Statements.{code_of, statement_count}
 use Rattle.lx_tdfa.specs.Promise.{tag_value}
 use Rattle.lx_gen.specs.Codes.{accept_code, choices_code, edge_code, is_kept, keep_code, keeps_by, keeps_on, list_code, restore_code}
 use Rattle.lx_gen.specs.Endings.{Ending, ending_code}
-use Rattle.lx_gen.specs.Sequences.{one_by_one}
+use Rattle.lx_gen.specs.ParallelCopies.{sequentialized}
 use Rattle.lx_gen.specs.Serving.{HasCode, IsEnd, IsTarget, Serves}
 use Rattle.lx_gen.specs.Stops.{told_found}
 use Rattle.lx_gen.specs.Told.{told_at}
 use Rattle.lx_gen.specs.Turns.{after_ops}
 use Rattle.lx_gen.proofs.Operations.Agreeing.{Agrees, Agrees-after, read_all-agrees}
 use Rattle.lx_gen.proofs.Runs.RunMachines.{choices_end, choices_run, keep_size, length-keep_code, length-ops_code, machine_at, ops_run}
-use Rattle.lx_gen.proofs.Operations.OpBounds.{ArePositive-one_by_one}
+use Rattle.lx_gen.proofs.Operations.OpBounds.{ArePositive-sequentialized}
 use Rattle.lx_gen.proofs.Rules.RuleEnds.{ending_run, goto_run}
 use Rattle.lx_gen.proofs.BlockLayouts.StandingCodes.{length-block}
 use Rattle.lx_gen.proofs.Runs.PartialRuns.{EndsIn, LeadsIn, end_in, stays_in, step_in, then_in, widen_end}
 
 -- the accepting state that the piece kept last is one that is found again
-abbrev pub IsHeldWell : Auto → Option Left → Type 0
-IsHeldWell auto None = Unit {0}
-IsHeldWell auto (Some left) =
+abbrev pub IsFoundAgain : Auto → Option Left → Type 0
+IsFoundAgain auto None = Unit {0}
+IsFoundAgain auto (Some left) =
     (left.state < length auto.states) × (is_kept auto.states (state_of auto.states left.state) ≡ true)
     × ((state_of auto.states left.state).accept ≡ Some left.accept)
 
@@ -76,11 +76,11 @@ module _ (p : Piece) (x : List ℕ) (start : ℕ) (endings : ℕ → Ending) (gr
 
   list_run : (ops : List Op) → AreOps auto.regs auto.mregs ops
       → (rest : List Stmt) (pos : ℕ) (held : Option Left) (u : Option ℕ) (k : Bank) (q : List Answer)
-      → LeadsIn p x start (length (one_by_one auto.regs auto.mregs ops)) (list_code auto ops rest) (at pos held u k) q rest
-      (at pos held u (after_ops pos (one_by_one auto.regs auto.mregs ops) k)) q
+      → LeadsIn p x start (length (sequentialized auto.regs auto.mregs ops)) (list_code auto ops rest) (at pos held u k) q rest
+      (at pos held u (after_ops pos (sequentialized auto.regs auto.mregs ops) k)) q
   list_run ops are rest pos held u k q =
-      ops_run p x start pos (marker_of start held) lim u (number_of kept held) first cond [] q (one_by_one auto.regs auto.mregs ops)
-      (ArePositive-one_by_one auto.regs auto.mregs ops are) rest k
+      ops_run p x start pos (marker_of start held) lim u (number_of kept held) first cond [] q (sequentialized auto.regs auto.mregs ops)
+      (ArePositive-sequentialized auto.regs auto.mregs ops are) rest k
 
   -- ---- where no unit is passed any more
 
@@ -117,15 +117,15 @@ module _ (p : Piece) (x : List ℕ) (start : ℕ) (endings : ℕ → Ending) (gr
       (told_at endings cond accept.rule pos (map tag_value (read_all (bank_after pos accept.ops b) accept.values)))
   accept_run accept pos held u k b q has is agree =
       let rest : List Stmt = Goto (rules accept.rule) ∷ [] in
-      let l = length-ops_code (one_by_one auto.regs auto.mregs accept.ops) rest in
+      let l = length-ops_code (sequentialized auto.regs auto.mregs accept.ops) rest in
       let h = list_run accept.ops is.0 rest pos held u k q in
-      let g = jump_run accept pos held u (after_ops pos (one_by_one auto.regs auto.mregs accept.ops) k) (bank_after pos accept.ops b) q has is
+      let g = jump_run accept pos held u (after_ops pos (sequentialized auto.regs auto.mregs accept.ops) k) (bank_after pos accept.ops b) q has is
       (Agrees-after auto.regs auto.mregs pos accept.ops k b is.0 agree) in
       end_in p x start (length (accept_code auto accept.ops (rules accept.rule)) + length (ending_code endings accept.rule accept.values)) h g
       (omega (arith, l))
 
   -- by the fallback
-  fall_run : (pos : ℕ) (left : Option Left) (u : Option ℕ) (k b : Bank) (q : List Answer) → Agree k b → IsHeldWell auto left
+  fall_run : (pos : ℕ) (left : Option Left) (u : Option ℕ) (k b : Bank) (q : List Answer) → Agree k b → IsFoundAgain auto left
       → EndsIn p x start (3 * all) (choices_code serves.choices) (at pos left u k) q (told_found endings cond (found_left b left) pos)
   fall_run pos None u k b q agree ok =
       let n = length-block (code_of p.blocks) fall (choices_code serves.choices) serves.falls in
@@ -146,7 +146,7 @@ module _ (p : Piece) (x : List ℕ) (start : ℕ) (endings : ℕ → Ending) (gr
 
   -- From the block where a match ends. What was kept counts only where the state does not accept, and there it is what was left last.
   pub stop_run : (s block pos : ℕ) (code : List Stmt) (left held : Option Left) (u : Option ℕ) (k b : Bank) (q : List Answer)
-      → s < length auto.states → Target s None block → Has block code → Agree k b → IsHeldWell auto held
+      → s < length auto.states → Target s None block → Has block code → Agree k b → IsFoundAgain auto held
       → ((state_at s).accept ≡ None → held ≡ left)
       → EndsIn p x start (3 * all) code (at pos held u k) q
       (told_found endings cond (or_else (found_by (state_at s).accept (record { state = s; offset = pos; bank = b; left = left }))
@@ -170,7 +170,7 @@ module _ (p : Piece) (x : List ℕ) (start : ℕ) (endings : ℕ → Ending) (gr
           ap (λ n. slice_get (code_of p.blocks) n) (sym e.0) ∙ has in cc in
           let n = length-block (code_of p.blocks) (rules accept.rule) (ending_code endings accept.rule accept.values) ends in
           let still : Agree k (bank_after pos accept.ops b) = subst (λ k. Agree k (bank_after pos accept.ops b))
-          (ap (λ l. after_ops pos (one_by_one auto.regs auto.mregs l) k) e.1)
+          (ap (λ l. after_ops pos (sequentialized auto.regs auto.mregs l) k) e.1)
           (Agrees-after auto.regs auto.mregs pos accept.ops k b is.0 agree) in
           subst (λ z. EndsIn p x start (3 * all) z (at pos held u k) q
           (told_at endings cond accept.rule pos (map tag_value (read_all (bank_after pos accept.ops b) accept.values)))) (sym c)
@@ -201,8 +201,8 @@ module _ (p : Piece) (x : List ℕ) (start : ℕ) (endings : ℕ → Ending) (gr
 
   -- the registers of the machine behind an edge
   abbrev pub behind : (s pos : ℕ) → Edge → Bank → Bank
-  behind s pos edge k = after_ops pos (one_by_one auto.regs auto.mregs edge.ops)
-      (after_ops pos (one_by_one auto.regs auto.mregs (state_at s).leave) k)
+  behind s pos edge k = after_ops pos (sequentialized auto.regs auto.mregs edge.ops)
+      (after_ops pos (sequentialized auto.regs auto.mregs (state_at s).leave) k)
 
   -- what is kept behind it
   abbrev pub held_behind : (s pos : ℕ) → Edge → (held : Option Left) → Option Left
@@ -219,10 +219,10 @@ module _ (p : Piece) (x : List ℕ) (start : ℕ) (endings : ℕ → Ending) (gr
       let b3 : List Stmt = Skip ∷ Goto (place edge.to) ∷ [] in
       let b2 : List Stmt = list_code auto edge.ops (Skip ∷ Goto (place edge.to) ∷ []) in
       let b1 : List Stmt = list_code auto (state_at s).leave (list_code auto edge.ops (Skip ∷ Goto (place edge.to) ∷ [])) in
-      let k1 : Bank = after_ops pos (one_by_one auto.regs auto.mregs (state_at s).leave) k in
+      let k1 : Bank = after_ops pos (sequentialized auto.regs auto.mregs (state_at s).leave) k in
       let l1 = length-keep_code (keeps_on auto.states state edge) (kept s) b1 in
-      let l2 = length-ops_code (one_by_one auto.regs auto.mregs (state_at s).leave) b2 in
-      let l3 = length-ops_code (one_by_one auto.regs auto.mregs edge.ops) b3 in
+      let l2 = length-ops_code (sequentialized auto.regs auto.mregs (state_at s).leave) b2 in
+      let l3 = length-ops_code (sequentialized auto.regs auto.mregs edge.ops) b3 in
       let h1 = keep_run (state_at s).accept (state_at edge.to).accept s pos held b1 u k q in
       let h2 = list_run (state_at s).leave (state_formed auto s formed).leave b2 pos held' u k q in
       let h3 = list_run edge.ops are b3 pos held' u k1 q in

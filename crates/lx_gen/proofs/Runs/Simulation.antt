@@ -25,7 +25,7 @@ use Rattle.lx_gen.specs.Starts.{machine_with, run_with}
 use Rattle.lx_gen.specs.Stops.{Stops, bank_from, last_standing, or_here, or_later, told_found}
 use Rattle.lx_gen.specs.TestTrees.{inner_blocks, picked, tree_code}
 use Rattle.lx_gen.proofs.Operations.Agreeing.{Agrees, Agrees-after}
-use Rattle.lx_gen.proofs.Runs.BlockRuns.{Has, IsHeldWell, Target, all, at, behind, edge_run, held_after, held_behind, stop_run}
+use Rattle.lx_gen.proofs.Runs.BlockRuns.{Has, IsFoundAgain, Target, all, at, behind, edge_run, held_after, held_behind, stop_run}
 use Rattle.lx_gen.proofs.Runs.RunMachines.{machine_at, raised-shift, tree_run}
 use Rattle.lx_gen.proofs.BlockLayouts.StandingCodes.{length-block, length-with_row}
 use Rattle.lx_gen.proofs.Runs.PartialRuns.{EndsIn, LeadsIn, end_in, loop_count-mono, stays_in, step_in, then_in, widen}
@@ -55,7 +55,7 @@ list_any-edge_on test (first ∷ edges) unit edge on passes =
 -- what is kept on an edge is found again, too
 IsHeldWell-after : (auto : Auto) (s pos : ℕ) (o next : Option Accept) (held : Option Left) → s < length auto.states
     → (keeps_by o next ≡ true → is_kept auto.states (state_of auto.states s) ≡ true) → (state_of auto.states s).accept ≡ o
-    → IsHeldWell auto held → IsHeldWell auto (held_after o next s pos held)
+    → IsFoundAgain auto held → IsFoundAgain auto (held_after o next s pos held)
 IsHeldWell-after auto s pos None next held lt keeps e ok = ok
 IsHeldWell-after auto s pos (Some accept) None held lt keeps e ok = (lt, keeps refl, e)
 IsHeldWell-after auto s pos (Some accept) (Some other) held lt keeps e ok = ok
@@ -157,7 +157,7 @@ module _ (p : Piece) (x : List ℕ) (start : ℕ) (endings : ℕ → Ending) (gr
   -- the end of the run from a state's block on
   abbrev Simulated : List ℕ → Standing → Type 0
   Simulated w st = (code : List Stmt) (held : Option Left) (u : Option ℕ) (k : Bank) (q : List Answer) → Have (place st.state) code
-      → st.state < length auto.states → IsHeldWell auto held → ((state_of auto.states st.state).accept ≡ None → held ≡ st.left)
+      → st.state < length auto.states → IsFoundAgain auto held → ((state_of auto.states st.state).accept ≡ None → held ≡ st.left)
       → Agrees auto.regs auto.mregs k st.bank → w ≡ drop st.offset x → AllByRecursion (λ unit. unit ≤ greatest) w → Stops auto st w
       → EndsIn p x start (length w * (2 * size) + 2 * size) code (mach st.offset held u k) q
       (told_found endings cond (found_behind auto (last_standing auto st w)) (last_standing auto st w).offset)

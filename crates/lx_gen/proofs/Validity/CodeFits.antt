@@ -16,7 +16,7 @@ use Rattle.lx_ccode.specs.declared.piece.Stmt.TheVariants.{Accept as KeepAccept,
 use Rattle.lx_gen.specs.Codes.{Choice, accept_code, choices_code, edge_code, keep_code, keeps_on, list_code, op_code, ops_code, restore_code}
 use Rattle.lx_gen.specs.Endings.{Ending, action_code, back_code, cond_code, ending_code, ends_code, groups_code, is_slash, last_code, rule_code, slash_held, tag_code, tags_code, unless}
 use Rattle.lx_gen.specs.Layout.{front_blocks, front_size}
-use Rattle.lx_gen.specs.Sequences.{one_by_one}
+use Rattle.lx_gen.specs.ParallelCopies.{sequentialized}
 use Rattle.lx_gen.specs.TestTrees.{TestTree}
 use Rattle.lx_gen.proofs.BlockLayouts.BalancedTrees.{EachTest}
 use Rattle.lx_gen.proofs.BlockLayouts.TreeCodes.{each-front_blocks}
@@ -51,7 +51,7 @@ module _ (n : ℕ) where
   ops_fits (op ∷ ops) rest h = op_fits op (ops_code ops rest) (ops_fits ops rest h)
 
   list_fits : (auto : Auto) (ops : List Op) (rest : List Stmt) → Fits rest → Fits (list_code auto ops rest)
-  list_fits auto ops rest h = ops_fits (one_by_one auto.regs auto.mregs ops) rest h
+  list_fits auto ops rest h = ops_fits (sequentialized auto.regs auto.mregs ops) rest h
 
   pub front_fits : (from : ℕ) (tree : TestTree ℕ) → EachTest (λ greatest. Unit {0}) (λ block. block < n) tree → from + front_size tree ≤ n
       → AllByRecursion Fits (front_blocks from tree)

@@ -20,7 +20,7 @@ use Rattle.lx_tdfa.specs.Promise.{IsAutoUnder}
 use Rattle.lx_gen.specs.Endings.{Ending}
 use Rattle.lx_gen.specs.Layout.{StandsFrom, fall_block, layout, place_by, place_in, place_of, rule_block}
 use Rattle.lx_gen.specs.Right.{AreEndsOf, IsRightUnder}
-use Rattle.lx_gen.specs.Sequences.{one_by_one}
+use Rattle.lx_gen.specs.ParallelCopies.{sequentialized}
 use Rattle.lx_gen.specs.Starts.{run_with}
 use Rattle.lx_gen.specs.Turns.{after_ops}
 use Rattle.lx_gen.proofs.Operations.Agreeing.{Agrees-after}
@@ -56,11 +56,11 @@ unfolding run_of run_with
 run_of-fresh piece stream start cond schedule = refl
 
 pub regs-at_once : (regs mregs offset : ℕ) (ops : List Op) (bank : Bank) (reg : ℕ) → AreOps regs mregs ops → reg < regs
-    → (after_ops offset (one_by_one regs mregs ops) bank).regs reg ≡ (bank_after offset ops bank).regs reg
+    → (after_ops offset (sequentialized regs mregs ops) bank).regs reg ≡ (bank_after offset ops bank).regs reg
 regs-at_once regs mregs offset ops bank reg are lt =
     (Agrees-after regs mregs offset ops bank bank are (record { same = λ r lt. refl; alike = λ r lt. refl })).same reg lt
 
 pub mregs-at_once : (regs mregs offset : ℕ) (ops : List Op) (bank : Bank) (mreg : ℕ) → AreOps regs mregs ops → mreg < mregs
-    → (after_ops offset (one_by_one regs mregs ops) bank).mregs mreg ≡ (bank_after offset ops bank).mregs mreg
+    → (after_ops offset (sequentialized regs mregs ops) bank).mregs mreg ≡ (bank_after offset ops bank).mregs mreg
 mregs-at_once regs mregs offset ops bank mreg are lt =
     (Agrees-after regs mregs offset ops bank bank are (record { same = λ r lt. refl; alike = λ r lt. refl })).alike mreg lt

@@ -15,7 +15,7 @@ use Rattle.lx_ccode.specs.declared.piece.Stmt.TheVariants.{Back, Code, Cond, Cou
 use Rattle.lx_gen.specs.Codes.{Choice, accept_code, choices_code, edge_code, keep_code, keeps_on, list_code, op_code, ops_code}
 use Rattle.lx_gen.specs.Endings.{Ending, back_code, ends_code, groups_code, is_slash, rule_code, slash_held, tag_code, tags_code, unless}
 use Rattle.lx_gen.specs.Layout.{blocks_by, end_block, end_blocks, front_blocks, front_size, kept_number, lone_blocks, numbered, own_blocks, restore_blocks, state_size, states_blocks, way_blocks}
-use Rattle.lx_gen.specs.Sequences.{one_by_one}
+use Rattle.lx_gen.specs.ParallelCopies.{sequentialized}
 use Rattle.lx_gen.specs.TestTrees.{TestTree, edge_tree, fork, leaf, test}
 use Rattle.lx_gen.specs.Ways.{ways_of}
 use Rattle.lx_gen.proofs.BlockLayouts.BalancedTrees.{EachTest}
@@ -53,7 +53,7 @@ ops_plain [] rest h = h
 ops_plain (op ∷ ops) rest h = (op_plain op, ops_plain ops rest h)
 
 list_plain : (auto : Auto) (ops : List Op) (rest : List Stmt) → Plain rest → Plain (list_code auto ops rest)
-list_plain auto ops rest h = ops_plain (one_by_one auto.regs auto.mregs ops) rest h
+list_plain auto ops rest h = ops_plain (sequentialized auto.regs auto.mregs ops) rest h
 
 pub choices_plain : (choices : List Choice) → Plain (choices_code choices)
 choices_plain [] = (refl, tt)

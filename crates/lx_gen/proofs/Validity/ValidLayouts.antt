@@ -4,6 +4,7 @@ use Rattle.std.proofs.Common.{inl, inr, sym, ap, ◌∙◌, subst, arith}
 use Rattle.std.proofs.lemmas.Bool.{false≢true}
 use Rattle.std.proofs.lemmas.List.{length-map}
 use Rattle.std.specs.List.{AllByRecursion, list_any}
+use Rattle.lx_base.specs.declared.limits.TheConstants.{STATEMENT_LIMIT}
 use Rattle.lx_auto.specs.Automaton.{IsAuto}
 use Rattle.lx_auto.specs.declared.automaton.Auto.{Auto}
 use Rattle.lx_auto.specs.declared.automaton.Edge.{Edge}
@@ -23,9 +24,9 @@ use Rattle.lx_gen.specs.Endings.{Ending}
 use Rattle.lx_gen.specs.Layout.{layout}
 use Rattle.lx_gen.specs.Written.{AreWritten, IsUnconditional}
 use Rattle.lx_gen.proofs.Validity.EachElement.{each-map}
-use Rattle.lx_gen.proofs.Validity.FineCodes.{Fine, IsFine}
-use Rattle.lx_gen.proofs.Validity.FineLayouts.{layout_fine}
-use Rattle.lx_gen.proofs.Validity.FinePieces.{FineBlocks, FineBlocks-codes, HasFewGroups-fine, NamesOneOf-fine, after_states-fine, all_fine, blocks-few, blocks_spelled, labels-none, last_statements-fine, no_need, states_from-fine}
+use Rattle.lx_gen.proofs.Validity.SpelledCodes.{CodeCanBeSpelled, CanBeSpelled}
+use Rattle.lx_gen.proofs.Validity.SpelledLayouts.{layout_fine}
+use Rattle.lx_gen.proofs.Validity.SpelledPieces.{BlocksCanBeSpelled, FineBlocks-codes, HasFewGroups-fine, NamesOneOf-fine, after_states-fine, all_fine, blocks-few, blocks_spelled, labels-none, last_statements-fine, no_need, states_from-fine}
 use Rattle.lx_gen.proofs.Validity.LayoutFits.{layout_ends, layout_jumps}
 use Rattle.lx_gen.proofs.BlockLayouts.LayoutLengths.{length-layout}
 use Rattle.lx_gen.proofs.Validity.QuietCodes.{layout_asks_nothing}
@@ -42,10 +43,10 @@ module _ (enc : Enc) (counted : ℕ) (spellings : Spellings) (endings : ℕ → 
     (short : IsShort greatest) (written : AreWritten spellings endings auto.states)
     (same : code_of piece.blocks ≡ layout endings greatest auto 0) (bare : IsUnconditional enc counted spellings piece)
     (number : IsShort counted) (allowed : AreAllowed spellings) (differ : DoNotClash spellings)
-    (few : statement_count piece.blocks ≤ 4611686018427387904) where
-  pub blocks_fine : FineBlocks spellings piece.blocks
+    (few : statement_count piece.blocks ≤ STATEMENT_LIMIT) where
+  pub blocks_fine : BlocksCanBeSpelled spellings piece.blocks
   blocks_fine = FineBlocks-codes spellings piece.blocks
-      (subst (λ l. AllByRecursion (Fine spellings) l) (sym same) (layout_fine spellings endings greatest auto 0 short formed units written))
+      (subst (λ l. AllByRecursion (CodeCanBeSpelled spellings) l) (sym same) (layout_fine spellings endings greatest auto 0 short formed units written))
 
   ends : AllByRecursion (λ (block : CodeBlock). ends_once block.stmts ≡ true) piece.blocks
   ends = layout_ends endings greatest auto piece.blocks same
@@ -63,7 +64,7 @@ module _ (enc : Enc) (counted : ℕ) (spellings : Spellings) (endings : ℕ → 
       ∙ length-map piece.blocks (λ (block : CodeBlock). block.stmts) in
       omega (arith, count, e)
 
-  few_blocks : length piece.blocks ≤ 4611686018427387904
+  few_blocks : length piece.blocks ≤ STATEMENT_LIMIT
   few_blocks = let h : length piece.blocks ≤ statement_count piece.blocks = blocks-few piece.blocks ends in omega (arith, h, few)
 
   no_labels : labels piece.blocks ≡ []
@@ -93,9 +94,9 @@ module _ (enc : Enc) (counted : ℕ) (spellings : Spellings) (endings : ℕ → 
     conds = ap (λ (l : List CondCase). map (λ case. case.cond) l) bare.conds ∙ sym no_labels;
     conds_differ = subst AreDistinct (sym no_labels) tt;
     cond_switch = subst (λ (l : List CondCase). AllByRecursion (λ case. label_of piece.blocks case.block ≡ Some case.cond) l) (sym bare.conds) tt;
-    conds_named = each-map (IsFine spellings) (NamesOneOf (labels piece.blocks)) (NamesOneOf-fine spellings (labels piece.blocks))
+    conds_named = each-map (CanBeSpelled spellings) (NamesOneOf (labels piece.blocks)) (NamesOneOf-fine spellings (labels piece.blocks))
         (all_statements piece.blocks) (all_fine spellings piece.blocks blocks_fine);
-    groups = each-map (IsFine spellings) HasFewGroups (HasFewGroups-fine spellings) (all_statements piece.blocks)
+    groups = each-map (CanBeSpelled spellings) HasFewGroups (HasFewGroups-fine spellings) (all_statements piece.blocks)
         (all_fine spellings piece.blocks blocks_fine);
     ctx = λ e. absurd (false≢true (sym bare.ctx ∙ e));
     names = subst AreAllowed (sym bare.names) allowed;

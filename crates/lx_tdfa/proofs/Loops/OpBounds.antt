@@ -8,7 +8,7 @@ use Rattle.lx_tnfa.specs.Tnfa.{Tnfa}
 use Rattle.lx_tnfa.specs.declared.states.Event.{Event}
 use Rattle.lx_tnfa.specs.declared.states.Event.TheVariants.{Set, Unset}
 use Rattle.lx_tnfa.proofs.Searching.SearchBasics.{Each}
-use Rattle.lx_tdfa.specs.Registers.{all_tag_ops, copy_ops, ending_ops, first_of, held_from, history_copy_ops, history_mark_ops, last_mark, single_ops, sorts_at, sorts_of_rule, step_ops, tag_ops}
+use Rattle.lx_tdfa.specs.Registers.{all_tag_ops, copy_ops, ending_ops, first_of, held_from, history_copy_ops, history_mark_ops, last_mark, single_ops, kinds_at, kinds_of_rule, step_ops, tag_ops}
 use Rattle.lx_tdfa.specs.Steps.{Ending, Step}
 
 -- the registers of an index are behind those of a lower one
@@ -75,52 +75,52 @@ module _ (regs mregs : ℕ) (one_more : mregs ≡ regs + 1) where
       AreOps-append (history_copy_ops first source target) (history_mark_ops target tag events)
       (history_copy_ops-bound first source target from to) (history_mark_ops-bound target tag events to)
 
-  pub all_tag_ops-bound : (first : Bool) (source target tag : ℕ) (events : List Event) (sorts : List Bool) → source + length sorts ≤ regs
-      → target + length sorts ≤ regs → AreOps regs mregs (all_tag_ops first source target tag events sorts)
+  pub all_tag_ops-bound : (first : Bool) (source target tag : ℕ) (events : List Event) (kinds : List Bool) → source + length kinds ≤ regs
+      → target + length kinds ≤ regs → AreOps regs mregs (all_tag_ops first source target tag events kinds)
   all_tag_ops-bound first source target tag events [] from to = tt
-  all_tag_ops-bound first source target tag events (many ∷ sorts) from to =
-      AreOps-append (tag_ops first source target tag events many) (all_tag_ops first (suc source) (suc target) (suc tag) events sorts)
+  all_tag_ops-bound first source target tag events (many ∷ kinds) from to =
+      AreOps-append (tag_ops first source target tag events many) (all_tag_ops first (suc source) (suc target) (suc tag) events kinds)
       (tag_ops-bound first source target tag events many (omega arith) (omega arith))
-      (all_tag_ops-bound first (suc source) (suc target) (suc tag) events sorts (omega arith) (omega arith))
+      (all_tag_ops-bound first (suc source) (suc target) (suc tag) events kinds (omega arith) (omega arith))
 
-  pub held_from-bound : (tag : ℕ) (sorts : List Bool) → tag + length sorts ≤ regs → AreHeld regs mregs (held_from tag sorts)
+  pub held_from-bound : (tag : ℕ) (kinds : List Bool) → tag + length kinds ≤ regs → AreHeld regs mregs (held_from tag kinds)
   held_from-bound tag [] within = tt
-  held_from-bound tag (many ∷ sorts) within = (at many, held_from-bound (suc tag) sorts (omega arith))
+  held_from-bound tag (many ∷ kinds) within = (at many, held_from-bound (suc tag) kinds (omega arith))
     where
       at : (b : Bool) → IsHeld regs mregs (if b then MReg (suc tag) else Reg tag)
       at true = omega arith
       at false = omega arith
 
   -- with registers for so many places, and for the values of a rule
-  module _ (tnfa : Tnfa) (width most : ℕ) (narrow : (rule : ℕ) → length (sorts_of_rule tnfa rule) ≤ width) (all : regs ≡ (most + 1) * width) where
+  module _ (tnfa : Tnfa) (width most : ℕ) (narrow : (rule : ℕ) → length (kinds_of_rule tnfa rule) ≤ width) (all : regs ≡ (most + 1) * width) where
     room : first_of width most ≡ regs
     room = let e : suc most * width ≡ most * width + width = suc-mul most width in omega (arith, all, e)
 
-    index_room : (index rule : ℕ) → index < most → first_of width index + length (sorts_of_rule tnfa rule) ≤ regs
+    index_room : (index rule : ℕ) → index < most → first_of width index + length (kinds_of_rule tnfa rule) ≤ regs
     index_room index rule below =
         let le : first_of width index + width ≤ first_of width most = first_of-below width index most below in
-        let short : length (sorts_of_rule tnfa rule) ≤ width = narrow rule in omega (arith, le, short, room)
+        let short : length (kinds_of_rule tnfa rule) ≤ width = narrow rule in omega (arith, le, short, room)
 
-    rule_room : (rule : ℕ) → 0 + length (sorts_of_rule tnfa rule) ≤ regs
+    rule_room : (rule : ℕ) → 0 + length (kinds_of_rule tnfa rule) ≤ regs
     rule_room rule =
         let le : width ≤ first_of width most = first_of-room width most in
-        let short : length (sorts_of_rule tnfa rule) ≤ width = narrow rule in omega (arith, le, short, room)
+        let short : length (kinds_of_rule tnfa rule) ≤ width = narrow rule in omega (arith, le, short, room)
 
     pub step_ops-bound : (first : Bool) (index : ℕ) (steps : List Step) → Each (λ (step : Step). step.from < most) steps
         → index + length steps ≤ most → AreOps regs mregs (step_ops tnfa width first index steps)
     step_ops-bound first index [] each few = tt
     step_ops-bound first index (step ∷ steps) each few =
-        AreOps-append (all_tag_ops first (first_of width step.from) (first_of width index) 0 step.events (sorts_at tnfa step.to))
+        AreOps-append (all_tag_ops first (first_of width step.from) (first_of width index) 0 step.events (kinds_at tnfa step.to))
         (step_ops tnfa width first (suc index) steps)
-        (all_tag_ops-bound first (first_of width step.from) (first_of width index) 0 step.events (sorts_at tnfa step.to)
+        (all_tag_ops-bound first (first_of width step.from) (first_of width index) 0 step.events (kinds_at tnfa step.to)
         (index_room step.from (slice_index tnfa.owners step.to.part) each.0)
         (index_room index (slice_index tnfa.owners step.to.part) (omega arith)))
         (step_ops-bound first (suc index) steps each.1 (omega arith))
 
     pub ending_ops-bound : (first : Bool) (ending : Ending) → ending.from < most → AreOps regs mregs (ending_ops tnfa width first ending)
     ending_ops-bound first ending from =
-        all_tag_ops-bound first (first_of width ending.from) 0 0 ending.events (sorts_of_rule tnfa ending.rule)
+        all_tag_ops-bound first (first_of width ending.from) 0 0 ending.events (kinds_of_rule tnfa ending.rule)
         (index_room ending.from ending.rule from) (rule_room ending.rule)
 
-    pub values-bound : (rule : ℕ) → AreHeld regs mregs (held_from 0 (sorts_of_rule tnfa rule))
-    values-bound rule = held_from-bound 0 (sorts_of_rule tnfa rule) (rule_room rule)
+    pub values-bound : (rule : ℕ) → AreHeld regs mregs (held_from 0 (kinds_of_rule tnfa rule))
+    values-bound rule = held_from-bound 0 (kinds_of_rule tnfa rule) (rule_room rule)

@@ -2,9 +2,9 @@
 use Rattle.std.specs.Prelude.{List}
 use Rattle.lx_base.specs.declared.settings.Enc.{Enc}
 use Rattle.lx_regex.specs.Pattern.{Pattern}
+use Rattle.lx_tnfa.specs.RuleNumbers.{HaveApartNumbers}
 use Rattle.lx_tnfa.specs.Tnfa.{IsTnfaOf, Tnfa}
-use Rattle.lx_tdfa.specs.RuleNumbers.{HaveApartNumbers}
-use Rattle.lx_tdfa.proofs.Rules.ApartNumbers.{sorts_kept}
+use Rattle.lx_tdfa.proofs.Rules.ApartNumbers.{kinds_kept}
 use Rattle.lx_tdfa.proofs.Walks.ClosureSearches.{RulesKept}
 use Rattle.lx_tdfa.proofs.WordKernels.EndingRules.{script-ending_rule}
 use Rattle.lx_tdfa.proofs.Walks.NumbersApart.{number_of-apart}
@@ -17,5 +17,5 @@ rules_kept enc patterns tnfa of apart = record {
   steps = next_steps-kept enc patterns tnfa of;
   endings = first_ending-kept enc patterns tnfa of;
   ending_rules = script-ending_rule enc patterns tnfa of;
-  sorts = λ pattern has. sorts_kept patterns tnfa.rules pattern of.rules apart has;
+  kinds = λ pattern has. kinds_kept patterns tnfa.rules pattern of.rules apart has;
 }

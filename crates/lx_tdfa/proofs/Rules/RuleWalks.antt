@@ -13,10 +13,10 @@ use Rattle.lx_regex.specs.Term.{Term, parts}
 use Rattle.lx_regex.specs.Walk.{IsAmong, first, next}
 use Rattle.lx_regex.proofs.Cuts.{rule_positive}
 use Rattle.lx_tnfa.specs.Closure as closure
-use Rattle.lx_tnfa.specs.Closure.{Arrival, IsClosureOf, IsPlainWalk, IsWalk, beginning_at, beginning_of, behind_or_at, leaf_step, steps_from, steps_of, stop_at}
+use Rattle.lx_tnfa.specs.Closure.{Arrival, IsPlainWalk, IsWalk, beginning_at, beginning_of, behind_or_at, leaf_step, steps_from, steps_of, stop_at}
 use Rattle.lx_tnfa.specs.Live.{starts_at, state_of}
 use Rattle.lx_tnfa.specs.Moves.{shown_move}
-use Rattle.lx_tnfa.specs.Rows.{IsHeld}
+use Rattle.lx_tnfa.specs.Rows.{Represents}
 use Rattle.lx_tnfa.specs.Tnfa.{IsRest, IsTnfaOf, Tnfa, rows_at, state_at}
 use Rattle.lx_tnfa.specs.declared.closure.Stop.{Stop}
 use Rattle.lx_tnfa.specs.declared.closure.Stop.TheVariants.{AtState, AtTarget}
@@ -87,7 +87,7 @@ module _ (enc : Enc) (patterns : List Pattern) (tnfa : Tnfa) (of : IsTnfaOf enc 
   by_starts part is (start ∷ starts) = (is, by_starts part is starts)
 
   by_row : (number : ℕ) → IsOwnState number → (row : spec.State) → slice_get (automaton (terms_of patterns)) number ≡ Some row
-      → (state : State) → IsHeld tnfa.classes row state → Each StepStays (steps_of tnfa.classes pattern.number (number / 2) state)
+      → (state : State) → Represents tnfa.classes row state → Each StepStays (steps_of tnfa.classes pattern.number (number / 2) state)
   by_row number is (moves ways) stands (Moves held) holds =
       subst (λ l. Each StepStays (map (λ (way : Move). record { to = stop_at pattern.number way.to; events = way.events }) l)) (sym holds)
       (by_moves ways (λ way among. moves_within (terms_of patterns) index pattern.term at number ways way is stands among))

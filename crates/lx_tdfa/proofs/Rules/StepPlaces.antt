@@ -13,7 +13,7 @@ use Rattle.lx_tnfa.specs.Classes.{AreClasses}
 use Rattle.lx_tnfa.specs.Closure as closure
 use Rattle.lx_tnfa.specs.Closure.{AllPlaces, Arrival, IsClosureOf, IsPlainWalk, IsTarget, IsTargetAt, IsWalk, LeadToTargets, beginning_at, beginning_of, behind_or_at, steps_at, steps_from}
 use Rattle.lx_tnfa.specs.Live.{state_of}
-use Rattle.lx_tnfa.specs.Rows.{AreHeld}
+use Rattle.lx_tnfa.specs.Rows.{RepresentEach}
 use Rattle.lx_tnfa.specs.Tnfa.{IsPlace, IsRest, IsTnfaOf, Tnfa, place_after, rest_after, rows_at, state_at}
 use Rattle.lx_tnfa.specs.declared.closure.Reach.{Reach}
 use Rattle.lx_tnfa.specs.declared.closure.Stop.{Stop}
@@ -125,7 +125,7 @@ module _ (enc : Enc) (patterns : List Pattern) (tnfa : Tnfa) (of : IsTnfaOf enc 
     rest = subst (λ s. IsRest tnfa.classes s 0 0) (sym start_moves) (refl, refl);
   }
     where
-      some : (states : List State) → AreHeld tnfa.classes (automaton (terms_of patterns)) states → 0 < length states
+      some : (states : List State) → RepresentEach tnfa.classes (automaton (terms_of patterns)) states → 0 < length states
       some [] held = absurd held
       some (state ∷ states) held = omega arith
 

@@ -2,6 +2,7 @@
 use Rattle.std.proofs.Common.{◌≡◌, ◌≤◌, arith, List, [], ◌∷◌, length, refl, sym, ap, subst}
 use Rattle.std.proofs.lemmas.List.Elements.{All-cons, All-nil}
 use Rattle.std.specs.Prelude.{All}
+use Rattle.lx_regex.specs.ClassLimits.{AllClassesFit}
 use Rattle.lx_base.specs.Spelling.{greatest_unit}
 use Rattle.lx_base.specs.declared.faults.Stop.{Stop}
 use Rattle.lx_base.specs.declared.faults.Stop.TheVariants as stop
@@ -11,16 +12,17 @@ use Rattle.lx_auto.specs.Automaton.{IsAuto}
 use Rattle.lx_auto.specs.declared.automaton.Auto.{Auto}
 use Rattle.lx_regex.specs.Kernel.{HasTooManyKernels}
 use Rattle.lx_regex.specs.Pattern.{Pattern, terms_of}
-use Rattle.lx_tnfa.specs.Tnfa.{AllClassesFit, IsTnfaOf, Tnfa}
+use Rattle.lx_tnfa.specs.RuleNumbers.{HaveApartNumbers}
+use Rattle.lx_tnfa.specs.Tnfa.{IsTnfaOf, Tnfa}
 use Rattle.lx_tnfa.specs.declared.places.Place.{Place}
 use Rattle.lx_tdfa.specs.Building.{AreListed, AreStatesOf, IsBuilt, TooManyFound, greatest_of}
 use Rattle.lx_tdfa.specs.Making.{StopsBy}
 use Rattle.lx_tdfa.specs.Promise.{IsAutoOf}
 use Rattle.lx_tdfa.specs.Registers.{widest}
-use Rattle.lx_tdfa.specs.RuleNumbers.{HaveApartNumbers}
 use Rattle.lx_tdfa.specs.Steps.{IsFound, at_start, start_place}
 use Rattle.lx_tdfa.specs.Table.{IsStateOf, IsTable, is_first}
-use Rattle.lx_tdfa.proofs.Rules.ApartNumbers.{numbers_apart, widest_bound}
+use Rattle.lx_tnfa.proofs.Construction.ApartNumbers.{numbers_apart}
+use Rattle.lx_tdfa.proofs.Rules.ApartNumbers.{widest_bound}
 use Rattle.lx_tdfa.proofs.Walks.ClosureSearches.{RulesKept, SearchesAlike}
 use Rattle.lx_tdfa.proofs.WordKernels.FewKernels.{few_found}
 use Rattle.lx_tdfa.proofs.Rules.KeptRules.{rules_kept}

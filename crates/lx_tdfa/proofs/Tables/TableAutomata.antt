@@ -3,6 +3,7 @@ use Rattle.std.proofs.Common.{◌≡◌, ℕ, ◌<◌, List, [], length, Option,
 use Rattle.std.proofs.lemmas.Option.{get_or_from_slice_get, slice_get-get_or, slice_get_within}
 use Rattle.std.specs.Option.{unwrap_or}
 use Rattle.std.specs.Prelude.{slice_get, slice_index_or}
+use Rattle.lx_regex.specs.ClassLimits.{AllClassesFit}
 use Rattle.lx_auto.specs.declared.automaton.Accept.{Accept}
 use Rattle.lx_auto.specs.declared.automaton.Auto.{Auto}
 use Rattle.lx_auto.specs.declared.automaton.State.{State}
@@ -10,15 +11,15 @@ use Rattle.lx_base.specs.Spelling.{greatest_unit}
 use Rattle.lx_base.specs.declared.settings.Enc.{Enc}
 use Rattle.lx_regex.specs.Pattern.{Pattern, terms_of, with_terms}
 use Rattle.lx_tnfa.specs.Closure.{IsClosureOf}
-use Rattle.lx_tnfa.specs.Tnfa.{AllClassesFit, IsTnfaOf, Tnfa}
+use Rattle.lx_tnfa.specs.Tnfa.{IsTnfaOf, Tnfa}
 use Rattle.lx_tnfa.specs.declared.closure.Reach.{Reach}
 use Rattle.lx_tnfa.specs.declared.places.Place.{Place}
 use Rattle.lx_tdfa.specs.Promise.{IsAutoOf, IsByRule}
-use Rattle.lx_tdfa.specs.Registers.{held_from, sorts_of_rule}
+use Rattle.lx_tdfa.specs.Registers.{held_from, kinds_of_rule}
 use Rattle.lx_tdfa.specs.Steps.{Ending, first_ending}
 use Rattle.lx_tdfa.specs.Table.{IsStateOf, IsTable, accept_of, is_first}
 use Rattle.lx_tdfa.proofs.Walks.ClosureSearches.{RulesKept, SearchesAlike}
-use Rattle.lx_tdfa.proofs.Values.HeldValues.{held_from-sorts}
+use Rattle.lx_tdfa.proofs.Values.HeldValues.{held_from-kinds}
 use Rattle.lx_tdfa.proofs.Tables.TableBegins.{table-begins}
 use Rattle.lx_tdfa.proofs.Tables.TableBest.{table-best}
 use Rattle.lx_tdfa.proofs.Tables.TableKept.{table-kept}
@@ -52,19 +53,19 @@ module _ (enc : Enc) (patterns : List Pattern) (tnfa : Tnfa) (kernels : List (Li
         by.0,
         by.1,
         sym by.2,
-        held_from-sorts 0 (sorts_of_rule tnfa ending.rule) ∙ ap (sorts_of_rule tnfa) (sym by.2) ∙ given.kept.sorts by.0 by.1,
+        held_from-kinds 0 (kinds_of_rule tnfa ending.rule) ∙ ap (kinds_of_rule tnfa) (sym by.2) ∙ given.kept.kinds by.0 by.1,
       )
 
   -- what an accept names holds the values in the first registers
   accept_values : (first : Bool) (ending : Option Ending) (accept : Accept) → accept_of tnfa first ending ≡ Some accept
-      → accept.values ≡ held_from 0 (sorts_of_rule tnfa accept.rule)
+      → accept.values ≡ held_from 0 (kinds_of_rule tnfa accept.rule)
   accept_values first None accept e = cc
   accept_values first (Some ending) accept e =
       let made : unwrap_or (accept_of tnfa first (Some ending)) accept ≡ accept = ap (λ (o : Option Accept). unwrap_or o accept) e in
-      subst (λ (a : Accept). a.values ≡ held_from 0 (sorts_of_rule tnfa a.rule)) made refl
+      subst (λ (a : Accept). a.values ≡ held_from 0 (kinds_of_rule tnfa a.rule)) made refl
 
   state_values : (number : ℕ) (state : State) (accept : Accept) → slice_get auto.states number ≡ Some state → state.accept ≡ Some accept
-      → accept.values ≡ held_from 0 (sorts_of_rule tnfa accept.rule)
+      → accept.values ≡ held_from 0 (kinds_of_rule tnfa accept.rule)
   state_values number state accept there accepts =
       let within : number < length auto.states = slice_get_within auto.states number state there in
       let made = each_state number state within in
@@ -82,7 +83,7 @@ module _ (enc : Enc) (patterns : List Pattern) (tnfa : Tnfa) (kernels : List (Li
           subst (λ (accept : Option Accept). IsByRule enc patterns accept) (sym state.1.accept)
           (accept_by state.0 state.1.reaches (is_first number) state.1.closure (first_ending state.1.reaches) refl);
       agreed = λ number other first second accept same there here accepts also rule.
-          state_values number first accept there accepts ∙ ap (λ r. held_from 0 (sorts_of_rule tnfa r)) rule
+          state_values number first accept there accepts ∙ ap (λ r. held_from 0 (kinds_of_rule tnfa r)) rule
           ∙ sym (state_values other second same here also);
     };
     begins = table-begins enc patterns tnfa kernels auto given;

@@ -28,7 +28,7 @@ use Rattle.lx_tdfa.specs.Accepts.{Accepts, IsAccepted, accept_after, none, some}
 use Rattle.lx_tdfa.specs.Graph.{path_symbols}
 use Rattle.lx_tdfa.specs.Kernels.{Entry, kernel_after, places, rule_of}
 use Rattle.lx_tdfa.specs.Promise.{FindsBest, IsBest, tag_value}
-use Rattle.lx_tdfa.specs.Registers.{ending_ops, first_of, held_from, last_mark, sorts_of_rule, tag_ops, widest}
+use Rattle.lx_tdfa.specs.Registers.{ending_ops, first_of, held_from, last_mark, kinds_of_rule, tag_ops, widest}
 use Rattle.lx_tdfa.specs.Steps.{Ending, first_ending}
 use Rattle.lx_tdfa.specs.Table.{IsStateOf, accept_of}
 use Rattle.lx_tdfa.specs.Values.{all_values_after, last_values_after, value_at}
@@ -37,7 +37,7 @@ use Rattle.lx_tdfa.proofs.Values.HeldValues.{read_all-values}
 use Rattle.lx_tdfa.proofs.WordKernels.ProgramAccepts.{accept_after-accepts, all_accepted, last_accepted}
 use Rattle.lx_tdfa.proofs.Values.RegisterWrites.{mregs-alone, regs-alone}
 use Rattle.lx_tdfa.proofs.Values.StepHolds.{IsHeldAt, all_values-bare, last_values-bare}
-use Rattle.lx_tdfa.proofs.Values.StepOps.{ending_ops-alone, sorts_of_rule-widest}
+use Rattle.lx_tdfa.proofs.Values.StepOps.{ending_ops-alone, kinds_of_rule-widest}
 use Rattle.lx_tdfa.proofs.Values.StepValues.{source_value, value_at-source}
 use Rattle.lx_tdfa.proofs.Values.SymbolValues.{all_events-from, all_events-marks, from_start, last_event-from, last_event-marked, marked-from, marks-from}
 use Rattle.lx_tdfa.proofs.Tables.TableRuns.{IsGiven, Stands, contained, ending_held, ends_alike, stands-run, stands-start, state_at}
@@ -103,8 +103,8 @@ module _ (enc : Enc) (patterns : List Pattern) (tnfa : Tnfa) (kernels : List (Li
         alike.rule
         ∙ ap₂ (λ (p : ℕ) (w : List ℕ). slice_index tnfa.owners (last_state (automaton rules) p w / 2)) place_same way_same ∙ sym of_rule.2
 
-    sorts_are : sorts_of_rule tnfa ending.rule ≡ sorts_of of_rule.0
-    sorts_are = ap (sorts_of_rule tnfa) rule_is ∙ given.kept.sorts of_rule.0 (contained (with_terms patterns) (rule_of entry.keys) of_rule.0 of_rule.1)
+    kinds_are : kinds_of_rule tnfa ending.rule ≡ sorts_of of_rule.0
+    kinds_are = ap (kinds_of_rule tnfa) rule_is ∙ given.kept.kinds of_rule.0 (contained (with_terms patterns) (rule_of entry.keys) of_rule.0 of_rule.1)
 
     term_is : (of_rule.0).term ≡ accepted.term
     term_is =
@@ -116,9 +116,9 @@ module _ (enc : Enc) (patterns : List Pattern) (tnfa : Tnfa) (kernels : List (Li
     abbrev ops : List Op
     ops = ending_ops tnfa (widest tnfa.rules) stands.first ending
 
-    found_value : (t : ℕ) → slice_get (sorts_of_rule tnfa ending.rule) t ≡ Some false
+    found_value : (t : ℕ) → slice_get (kinds_of_rule tnfa ending.rule) t ≡ Some false
         → (bank_after behind.offset ops behind.bank).regs t ≡ last_event t start None whole
-    found_value t sort =
+    found_value t kind =
         let from_reg : ℕ = first_of (widest tnfa.rules) ending.from + t in
         let mark : Option Bool = last_mark t ending.events None in
         let before : List (Option ℕ) = last_values_after tnfa rules word t in
@@ -126,9 +126,9 @@ module _ (enc : Enc) (patterns : List Pattern) (tnfa : Tnfa) (kernels : List (Li
         let value : Option ℕ = value_at None before from in
         let read : (bank_after behind.offset ops behind.bank).regs t ≡ from_start start (marked (length word) mark kept) =
         regs-alone behind.bank behind.offset t ops (tag_ops stands.first from_reg t t ending.events false)
-        (ending_ops-alone tnfa (widest tnfa.rules) (sorts_of_rule-widest tnfa) stands.first ending t false sort)
+        (ending_ops-alone tnfa (widest tnfa.rules) (kinds_of_rule-widest tnfa) stands.first ending t false kind)
         ∙ tag_ops-value behind.bank behind.offset stands.first from_reg t t ending.events
-        ∙ ap₂ (λ (n : ℕ) (v : Option ℕ). marked n mark v) stands.offset (stands.holds.values ending.from ending.rule t held sort)
+        ∙ ap₂ (λ (n : ℕ) (v : Option ℕ). marked n mark v) stands.offset (stands.holds.values ending.from ending.rule t held kind)
         ∙ marked-from start (length word) mark kept in
         let z : start ≡ start + 0 = omega arith in
         let said : last_event t start None whole ≡ from_start start (marked (length word) mark kept) =
@@ -139,18 +139,18 @@ module _ (enc : Enc) (patterns : List Pattern) (tnfa : Tnfa) (kernels : List (Li
         (value_at-source None stands.first before from ending.from (last_values-bare tnfa rules stands.first word t stands.empty) source)) in
         read ∙ sym said
 
-    found_history : (t : ℕ) → slice_get (sorts_of_rule tnfa ending.rule) t ≡ Some true
+    found_history : (t : ℕ) → slice_get (kinds_of_rule tnfa ending.rule) t ≡ Some true
         → (bank_after behind.offset ops behind.bank).mregs (suc t) ≡ all_events t start whole
-    found_history t sort =
+    found_history t kind =
         let from_reg : ℕ = first_of (widest tnfa.rules) ending.from + t in
         let before : List (List (Option ℕ)) = all_values_after tnfa rules word t in
         let kept : List (Option ℕ) = source_value [] stands.first before ending.from in
         let more : List (Option ℕ) = marks (length word) t ending.events in
         let read : (bank_after behind.offset ops behind.bank).mregs (suc t) ≡ map (from_start start) (kept ++ more) =
         mregs-alone behind.bank behind.offset t ops (tag_ops stands.first from_reg t t ending.events true)
-        (ending_ops-alone tnfa (widest tnfa.rules) (sorts_of_rule-widest tnfa) stands.first ending t true sort)
+        (ending_ops-alone tnfa (widest tnfa.rules) (kinds_of_rule-widest tnfa) stands.first ending t true kind)
         ∙ tag_ops-history behind.bank behind.offset stands.first from_reg t t ending.events stands.zero_empty
-        ∙ ap₂ (λ (a b : List (Option ℕ)). a ++ b) (stands.holds.histories ending.from ending.rule t held sort)
+        ∙ ap₂ (λ (a b : List (Option ℕ)). a ++ b) (stands.holds.histories ending.from ending.rule t held kind)
         (ap (λ n. marks n t ending.events) stands.offset ∙ marks-from start (length word) t ending.events)
         ∙ sym (map-append (from_start start) kept more) in
         let z : start ≡ start + 0 = omega arith in
@@ -165,16 +165,16 @@ module _ (enc : Enc) (patterns : List Pattern) (tnfa : Tnfa) (kernels : List (Li
     abbrev match : machine.Found
     match = record {
       rule = ending.rule;
-      values = read_all (bank_after behind.offset ops behind.bank) (held_from 0 (sorts_of_rule tnfa ending.rule));
+      values = read_all (bank_after behind.offset ops behind.bank) (held_from 0 (kinds_of_rule tnfa ending.rule));
       offset = behind.offset;
     }
 
     values_are : map tag_value match.values ≡ values_of start whole 0 (sorts_of of_rule.0)
     values_are =
-        read_all-values (bank_after behind.offset ops behind.bank) start whole 0 (sorts_of_rule tnfa ending.rule)
-        (λ k t e at. let same : k ≡ t = omega arith in found_value t (subst (λ n. slice_get (sorts_of_rule tnfa ending.rule) n ≡ Some false) same at))
-        (λ k t e at. let same : k ≡ t = omega arith in found_history t (subst (λ n. slice_get (sorts_of_rule tnfa ending.rule) n ≡ Some true) same at))
-        ∙ ap (values_of start whole 0) sorts_are
+        read_all-values (bank_after behind.offset ops behind.bank) start whole 0 (kinds_of_rule tnfa ending.rule)
+        (λ k t e at. let same : k ≡ t = omega arith in found_value t (subst (λ n. slice_get (kinds_of_rule tnfa ending.rule) n ≡ Some false) same at))
+        (λ k t e at. let same : k ≡ t = omega arith in found_history t (subst (λ n. slice_get (kinds_of_rule tnfa ending.rule) n ≡ Some true) same at))
+        ∙ ap (values_of start whole 0) kinds_are
 
     best_by : (term : Term) → (of_rule.0).term ≡ term → (tree : Tree term)
         → IsLeast greedy enc (rule_part rules (rule_of entry.keys)) term word tree

@@ -21,7 +21,7 @@ use Rattle.lx_tdfa.specs.Table.{IsEdgeOf, IsStateOf, accept_of, is_first, leave_
 use Rattle.lx_tdfa.proofs.Loops.EdgesMade.{steps_from}
 use Rattle.lx_tdfa.proofs.Loops.OpBounds.{ending_ops-bound, step_ops-bound, values-bound}
 use Rattle.lx_tdfa.proofs.Loops.StatesMade.{closure_sources, first_ending-source}
-use Rattle.lx_tdfa.proofs.Values.StepOps.{sorts_of_rule-widest}
+use Rattle.lx_tdfa.proofs.Values.StepOps.{kinds_of_rule-widest}
 use Rattle.lx_tdfa.proofs.Rules.StepPlaces.{first_steps-each}
 use Rattle.lx_tdfa.proofs.Tables.TableBounds.{most_places-sum}
 
@@ -72,22 +72,22 @@ module _ (tnfa : Tnfa) (kernels : List (List Place)) (regs mregs : ℕ) (regs_ar
       let few : 0 + length (step ∷ steps) ≤ most_places kernels = omega (arith, long, same) in (
         slice_get_within kernels edge.to (places_of (step ∷ steps)) is.0,
         subst (AreOps regs mregs) (sym is.1)
-            (step_ops-bound regs mregs mregs_are tnfa (widest tnfa.rules) (most_places kernels) (sorts_of_rule-widest tnfa) regs_are first 0 (step ∷ steps) each few),
+            (step_ops-bound regs mregs mregs_are tnfa (widest tnfa.rules) (most_places kernels) (kinds_of_rule-widest tnfa) regs_are first 0 (step ∷ steps) each few),
       )
 
   accept_formed : (first : Bool) (ending : Option Ending) → ((e : Ending) → ending ≡ Some e → e.from < most_places kernels)
       → IsAccept regs mregs (accept_of tnfa first ending)
   accept_formed first None from = tt
   accept_formed first (Some ending) from = (
-    ending_ops-bound regs mregs mregs_are tnfa (widest tnfa.rules) (most_places kernels) (sorts_of_rule-widest tnfa) regs_are first ending (from ending refl),
-    values-bound regs mregs mregs_are tnfa (widest tnfa.rules) (most_places kernels) (sorts_of_rule-widest tnfa) regs_are ending.rule,
+    ending_ops-bound regs mregs mregs_are tnfa (widest tnfa.rules) (most_places kernels) (kinds_of_rule-widest tnfa) regs_are first ending (from ending refl),
+    values-bound regs mregs mregs_are tnfa (widest tnfa.rules) (most_places kernels) (kinds_of_rule-widest tnfa) regs_are ending.rule,
   )
 
   leave_formed : (first : Bool) (ending : Option Ending) → ((e : Ending) → ending ≡ Some e → e.from < most_places kernels)
       → AreOps regs mregs (leave_of tnfa first ending)
   leave_formed first None from = tt
   leave_formed first (Some ending) from =
-      ending_ops-bound regs mregs mregs_are tnfa (widest tnfa.rules) (most_places kernels) (sorts_of_rule-widest tnfa) regs_are first ending (from ending refl)
+      ending_ops-bound regs mregs mregs_are tnfa (widest tnfa.rules) (most_places kernels) (kinds_of_rule-widest tnfa) regs_are first ending (from ending refl)
 
   pub state_formed : (greatest : ℕ) (first : Bool) (list : List Place) (state : State) → length list ≤ most_places kernels
       → IsStateOf tnfa greatest kernels first list state → AreApartFrom 0 state.edges → IsState regs mregs (length kernels) state

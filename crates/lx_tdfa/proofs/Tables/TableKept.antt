@@ -13,12 +13,12 @@ use Rattle.lx_base.specs.declared.settings.Enc.{Enc}
 use Rattle.lx_regex.specs.Pattern.{Pattern, terms_of}
 use Rattle.lx_tnfa.specs.Tnfa.{Tnfa}
 use Rattle.lx_tnfa.specs.declared.places.Place.{Place}
-use Rattle.lx_tdfa.specs.Registers.{ending_ops, sorts_of_rule, widest}
+use Rattle.lx_tdfa.specs.Registers.{ending_ops, kinds_of_rule, widest}
 use Rattle.lx_tdfa.specs.Steps.{Ending, first_ending}
 use Rattle.lx_tdfa.specs.Table.{IsStateOf, accept_of, leave_of}
 use Rattle.lx_tdfa.proofs.Values.HeldValues.{found_left-same, read_all-same}
 use Rattle.lx_tdfa.proofs.Values.RegisterWrites.{AllAvoid, mregs-avoid, regs-avoid}
-use Rattle.lx_tdfa.proofs.Values.StepOps.{sorts_of_rule-widest}
+use Rattle.lx_tdfa.proofs.Values.StepOps.{kinds_of_rule-widest}
 use Rattle.lx_tdfa.proofs.Tables.TableRuns.{IsGiven, IsLeft, Stands, edge_ops, stands-run, stands-start, state_at}
 
 -- operations that leave the first registers alone
@@ -37,13 +37,13 @@ module _ (tnfa : Tnfa) (first : Bool) (behind : Standing) (ops : List Op)
       tnfa behind.left (omega arith) left
   left_of (Some ending) =
       let leave : List Op = ending_ops tnfa (widest tnfa.rules) first ending in
-      let short : length (sorts_of_rule tnfa ending.rule) ≤ widest tnfa.rules = sorts_of_rule-widest tnfa ending.rule in
-      let fits : 0 + length (sorts_of_rule tnfa ending.rule) ≤ widest tnfa.rules = omega arith in
+      let short : length (kinds_of_rule tnfa ending.rule) ≤ widest tnfa.rules = kinds_of_rule-widest tnfa ending.rule in
+      let fits : 0 + length (kinds_of_rule tnfa ending.rule) ≤ widest tnfa.rules = omega arith in
       ap (λ l. Some (record { rule = ending.rule; values = l; offset = behind.offset }))
       (read_all-same (behind_ops leave) (bank_after behind.offset leave behind.bank) (widest tnfa.rules)
       (λ reg within. regs-avoid (bank_after behind.offset leave behind.bank) behind.offset ops reg (avoids reg within))
       (λ reg within. mregs-avoid (bank_after behind.offset leave behind.bank) behind.offset ops reg (avoids reg within))
-      0 (sorts_of_rule tnfa ending.rule) fits)
+      0 (kinds_of_rule tnfa ending.rule) fits)
 
 module _ (enc : Enc) (patterns : List Pattern) (tnfa : Tnfa) (kernels : List (List Place)) (auto : Auto) (given : IsGiven enc patterns tnfa kernels auto) where
   module _ (start : ℕ) (word : List ℕ) (behind : Standing) (stands : Stands tnfa (terms_of patterns) kernels start word behind) where

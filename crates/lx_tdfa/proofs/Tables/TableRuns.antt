@@ -1,6 +1,7 @@
 -- Where the runs of the automaton of a table stand.
 use Rattle.std.proofs.Common.{◌≡◌, ◌≢◌, ℕ, zero, suc, ◌+◌, ◌<◌, ◌≤◌, List, [], ◌∷◌, ◌++◌, map, length, Option, Some, None, Bool, true, false, Contains, slice_get, slice_index, refl, ap, ◌∙◌, sym, subst, subst₂, arith, append-nil, append_assoc, length-append}
 use Rattle.std.proofs.lemmas.Option.{get_or_from_slice_get, slice_get-get_or, slice_get_within}
+use Rattle.lx_regex.specs.ClassLimits.{AllClassesFit}
 use Rattle.lx_auto.specs.Automaton.{AreOps, edge_on, state_of}
 use Rattle.lx_auto.specs.Bank.{Bank, bank_after}
 use Rattle.lx_auto.specs.Run.{Left, Standing, and_then, behind_edge, by_edge, left_after, run, start_with, step}
@@ -16,12 +17,12 @@ use Rattle.lx_base.specs.declared.settings.Enc.{Enc}
 use Rattle.lx_regex.specs.Pattern.{Pattern, terms_of}
 use Rattle.lx_regex.specs.Term.{Term}
 use Rattle.lx_tnfa.specs.Closure.{IsClosureOf}
-use Rattle.lx_tnfa.specs.Tnfa.{AllClassesFit, IsTnfaOf, Tnfa}
+use Rattle.lx_tnfa.specs.Tnfa.{IsTnfaOf, Tnfa}
 use Rattle.lx_tnfa.specs.declared.closure.Reach.{Reach}
 use Rattle.lx_tnfa.specs.declared.places.Place.{Place}
 use Rattle.lx_tdfa.specs.Graph.{rule_starts}
 use Rattle.lx_tdfa.specs.Kernels.{Candidate, first_entries, kernel_after, places}
-use Rattle.lx_tdfa.specs.Registers.{first_of, held_from, sorts_of_rule, step_ops, widest}
+use Rattle.lx_tdfa.specs.Registers.{first_of, held_from, kinds_of_rule, step_ops, widest}
 use Rattle.lx_tdfa.specs.Steps.{Ending, Step, first_ending, next_steps, places_of, start_place}
 use Rattle.lx_tdfa.specs.Table.{IsEdgeOf, IsStateOf, IsTable, accept_of, is_first, leave_of}
 use Rattle.lx_tdfa.proofs.Walks.ClosureSearches.{AreAlike, AreEndsAlike, RulesKept, SearchesAlike, candidates_from, end_from, number_of}
@@ -29,7 +30,7 @@ use Rattle.lx_tdfa.proofs.WordKernels.ProgramKernels.{kernel_after-step}
 use Rattle.lx_tdfa.proofs.Values.RegisterWrites.{AllAvoid}
 use Rattle.lx_tdfa.proofs.Rules.StartUnreached.{next_steps-start}
 use Rattle.lx_tdfa.proofs.Values.StepHolds.{Holds, IsHeldAt, holds-avoid, holds-start, holds-step}
-use Rattle.lx_tdfa.proofs.Values.StepOps.{ending_ops-avoid, first_of-width, sorts_of_rule-widest, step_ops-avoid}
+use Rattle.lx_tdfa.proofs.Values.StepOps.{ending_ops-avoid, first_of-width, kinds_of_rule-widest, step_ops-avoid}
 use Rattle.lx_tdfa.proofs.Values.StepValues.{alike-numbers}
 
 -- what is known of a table
@@ -48,7 +49,7 @@ kernel_numbers tnfa rules false kernel = map (number_of tnfa) kernel
 -- values of the state that was left last are held in the first registers
 abbrev pub IsLeft : Tnfa → Option Left → Type 0
 IsLeft tnfa None = Unit {0}
-IsLeft tnfa (Some left) = (sorts : List Bool) × (left.accept.values ≡ held_from 0 sorts) × (length sorts ≤ widest tnfa.rules)
+IsLeft tnfa (Some left) = (kinds : List Bool) × (left.accept.values ≡ held_from 0 kinds) × (length kinds ≤ widest tnfa.rules)
 
 -- a run stands behind a word in the state of a list of places, and registers hold the values beside these
 pub record Stands (tnfa : Tnfa) (rules : List Term) (kernels : List (List Place)) (start : ℕ) (word : List ℕ) (behind : Standing) : Type 0 where
@@ -75,12 +76,12 @@ contained xs index x at = (index, slice_get_within xs index x at, get_or_from_sl
 pub leave_of-avoid : (tnfa : Tnfa) (first : Bool) (ending : Option Ending) (reg : ℕ) → widest tnfa.rules ≤ reg → AllAvoid reg (leave_of tnfa first ending)
 leave_of-avoid tnfa first None reg above = tt
 leave_of-avoid tnfa first (Some ending) reg above =
-    ending_ops-avoid tnfa (widest tnfa.rules) (sorts_of_rule-widest tnfa) first ending reg above
+    ending_ops-avoid tnfa (widest tnfa.rules) (kinds_of_rule-widest tnfa) first ending reg above
 
 left_after-left : (tnfa : Tnfa) (first : Bool) (ending : Option Ending) (behind : Standing) → IsLeft tnfa behind.left
     → IsLeft tnfa (left_after (accept_of tnfa first ending) behind)
 left_after-left tnfa first None behind left = left
-left_after-left tnfa first (Some ending) behind left = (sorts_of_rule tnfa ending.rule, refl, sorts_of_rule-widest tnfa ending.rule)
+left_after-left tnfa first (Some ending) behind left = (kinds_of_rule tnfa ending.rule, refl, kinds_of_rule-widest tnfa ending.rule)
 
 module _ (enc : Enc) (patterns : List Pattern) (tnfa : Tnfa) (kernels : List (List Place)) (auto : Auto) (given : IsGiven enc patterns tnfa kernels auto) where
   abbrev rules : List Term
@@ -246,7 +247,7 @@ module _ (enc : Enc) (patterns : List Pattern) (tnfa : Tnfa) (kernels : List (Li
             let wide : widest tnfa.rules ≤ first_of (widest tnfa.rules) 0 = first_of-width (widest tnfa.rules) 0 in
             let below : reg < first_of (widest tnfa.rules) 0 = omega arith in
             subst (λ l. AllAvoid reg l) (sym is.1)
-            (step_ops-avoid tnfa (widest tnfa.rules) (sorts_of_rule-widest tnfa) stands.first 0 (s ∷ ss) reg below)
+            (step_ops-avoid tnfa (widest tnfa.rules) (kinds_of_rule-widest tnfa) stands.first 0 (s ∷ ss) reg below)
 
     pub stands-step : (unit : ℕ) (next : Standing) → step auto behind unit ≡ Some next → Stands tnfa (terms_of patterns) kernels start (word ++ unit ∷ []) next
     stands-step unit next stepped = by_edges (edge_on state.edges unit) refl stepped

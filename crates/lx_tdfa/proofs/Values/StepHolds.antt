@@ -13,12 +13,12 @@ use Rattle.lx_tnfa.specs.declared.places.Place.{Place}
 use Rattle.lx_tnfa.proofs.Construction.NthLists.{mapped_from}
 use Rattle.lx_tdfa.specs.Graph.{graph_of, rule_starts}
 use Rattle.lx_tdfa.specs.Kernels.{kernel_after, kernel_list, kernel_step, places, segment_symbols}
-use Rattle.lx_tdfa.specs.Registers.{first_of, last_mark, sorts_at, sorts_of_rule, step_ops, tag_ops, widest}
+use Rattle.lx_tdfa.specs.Registers.{first_of, last_mark, kinds_at, kinds_of_rule, step_ops, tag_ops, widest}
 use Rattle.lx_tdfa.specs.Steps.{Step, places_of}
 use Rattle.lx_tdfa.specs.Values.{all_values_after, last_values_after, value_at, values_beside}
 use Rattle.lx_tdfa.proofs.Walks.ClosureSearches.{AreAlike, candidates_from}
 use Rattle.lx_tdfa.proofs.Values.RegisterWrites.{AllAvoid, mregs-alone, mregs-avoid, regs-alone, regs-avoid}
-use Rattle.lx_tdfa.proofs.Values.StepOps.{first_of-width, sorts_of_rule-widest, step_ops-alone}
+use Rattle.lx_tdfa.proofs.Values.StepOps.{first_of-width, kinds_of_rule-widest, step_ops-alone}
 use Rattle.lx_tdfa.proofs.Values.StepValues.{IsBare, all_on, all_on-step, last_on, last_on-step, source_value}
 use Rattle.lx_tdfa.proofs.Values.SymbolValues.{from_start, marked-from, marks-from}
 use Rattle.lx_tdfa.proofs.Values.TagOps.{history_held, marked, marks, tag_ops-history, tag_ops-value, value_held}
@@ -84,15 +84,15 @@ IsHeldAt tnfa false kernel from rule =
 
 -- registers hold the values that are kept beside places, from a start on
 pub record Holds (tnfa : Tnfa) (rules : List Term) (first : Bool) (start : ℕ) (kernel : List Place) (word : List ℕ) (bank : Bank) : Type 0 where
-  pub values : (from rule t : ℕ) → IsHeldAt tnfa first kernel from rule → slice_get (sorts_of_rule tnfa rule) t ≡ Some false
+  pub values : (from rule t : ℕ) → IsHeldAt tnfa first kernel from rule → slice_get (kinds_of_rule tnfa rule) t ≡ Some false
       → value_held first bank (first_of (widest tnfa.rules) from + t)
       ≡ from_start start (source_value None first (last_values_after tnfa rules word t) from)
-  pub histories : (from rule t : ℕ) → IsHeldAt tnfa first kernel from rule → slice_get (sorts_of_rule tnfa rule) t ≡ Some true
+  pub histories : (from rule t : ℕ) → IsHeldAt tnfa first kernel from rule → slice_get (kinds_of_rule tnfa rule) t ≡ Some true
       → history_held first bank (first_of (widest tnfa.rules) from + t)
       ≡ map (from_start start) (source_value [] first (all_values_after tnfa rules word t) from)
 
 pub holds-start : (tnfa : Tnfa) (rules : List Term) (start : ℕ) (kernel : List Place) (word : List ℕ) (bank : Bank) → Holds tnfa rules true start kernel word bank
-holds-start tnfa rules start kernel word bank = record { values = λ from rule t at sort. refl; histories = λ from rule t at sort. refl }
+holds-start tnfa rules start kernel word bank = record { values = λ from rule t at kind. refl; histories = λ from rule t at kind. refl }
 
 module _ (tnfa : Tnfa) (rules : List Term) (first : Bool) (start : ℕ) (kernel : List Place) (word : List ℕ) (bank : Bank)
     (holds : Holds tnfa rules first start kernel word bank) where
@@ -100,14 +100,14 @@ module _ (tnfa : Tnfa) (rules : List Term) (first : Bool) (start : ℕ) (kernel 
   pub holds-avoid : (offset : ℕ) (ops : List Op) → ((reg : ℕ) → widest tnfa.rules ≤ reg → AllAvoid reg ops)
       → Holds tnfa rules first start kernel word (bank_after offset ops bank)
   holds-avoid offset ops avoids = record {
-    values = λ from rule t at sort.
+    values = λ from rule t at kind.
         let reg : ℕ = first_of (widest tnfa.rules) from + t in
         value_held-same first (bank_after offset ops bank) bank reg (regs-avoid bank offset ops reg (avoids reg (within from t)))
-        ∙ holds.values from rule t at sort;
-    histories = λ from rule t at sort.
+        ∙ holds.values from rule t at kind;
+    histories = λ from rule t at kind.
         let reg : ℕ = first_of (widest tnfa.rules) from + t in
         history_held-same first (bank_after offset ops bank) bank reg (mregs-avoid bank offset ops reg (avoids reg (within from t)))
-        ∙ holds.histories from rule t at sort;
+        ∙ holds.histories from rule t at kind;
   }
     where
       within : (from t : ℕ) → widest tnfa.rules ≤ first_of (widest tnfa.rules) from + t
@@ -138,31 +138,31 @@ module _ (tnfa : Tnfa) (rules : List Term) (first : Bool) (start : ℕ) (kernel 
       reg_is : reg ≡ first_of (widest tnfa.rules) (0 + from) + t
       reg_is = let e : from ≡ 0 + from = omega arith in ap (λ n. first_of (widest tnfa.rules) n + t) e
 
-      step_value : slice_get (sorts_at tnfa step.to) t ≡ Some false
+      step_value : slice_get (kinds_at tnfa step.to) t ≡ Some false
           → (bank_after offset ops bank).regs reg ≡ from_start start (value_at None (last_values_after tnfa rules (word ++ unit ∷ []) t) from)
-      step_value sort =
+      step_value kind =
           let before : List (Option ℕ) = last_values_after tnfa rules word t in
           let kept : Option ℕ = source_value None first before step.from in
           let mark : Option Bool = last_mark t step.events None in
           regs-alone bank offset reg ops (tag_ops first source reg t step.events false)
-          (step_ops-alone tnfa (widest tnfa.rules) (sorts_of_rule-widest tnfa) first 0 steps from step t reg false at sort reg_is)
+          (step_ops-alone tnfa (widest tnfa.rules) (kinds_of_rule-widest tnfa) first 0 steps from step t reg false at kind reg_is)
           ∙ tag_ops-value bank offset first source reg t step.events
-          ∙ ap (marked offset mark) (holds.values step.from (slice_index tnfa.owners step.to.part) t source_held sort)
+          ∙ ap (marked offset mark) (holds.values step.from (slice_index tnfa.owners step.to.part) t source_held kind)
           ∙ marked-from start (length word) mark kept
           ∙ ap (from_start start) (sym (ap (λ l. value_at None l from) (last_values_after-more tnfa rules word unit first t)
           ∙ last_on-step tnfa rules first unit (length word) t (kernel_after tnfa rules word) before
           (candidates_from tnfa rules (places (kernel_after tnfa rules word)) unit) steps from step alike (last_values-bare tnfa rules first word t empty) at))
 
-      step_history : slice_get (sorts_at tnfa step.to) t ≡ Some true
+      step_history : slice_get (kinds_at tnfa step.to) t ≡ Some true
           → (bank_after offset ops bank).mregs (suc reg)
           ≡ map (from_start start) (value_at [] (all_values_after tnfa rules (word ++ unit ∷ []) t) from)
-      step_history sort =
+      step_history kind =
           let before : List (List (Option ℕ)) = all_values_after tnfa rules word t in
           let kept : List (Option ℕ) = source_value [] first before step.from in
           mregs-alone bank offset reg ops (tag_ops first source reg t step.events true)
-          (step_ops-alone tnfa (widest tnfa.rules) (sorts_of_rule-widest tnfa) first 0 steps from step t reg true at sort reg_is)
+          (step_ops-alone tnfa (widest tnfa.rules) (kinds_of_rule-widest tnfa) first 0 steps from step t reg true at kind reg_is)
           ∙ tag_ops-history bank offset first source reg t step.events zero_empty
-          ∙ ap₂ (λ (a b : List (Option ℕ)). a ++ b) (holds.histories step.from (slice_index tnfa.owners step.to.part) t source_held sort)
+          ∙ ap₂ (λ (a b : List (Option ℕ)). a ++ b) (holds.histories step.from (slice_index tnfa.owners step.to.part) t source_held kind)
           (marks-from start (length word) t step.events)
           ∙ sym (map-append (from_start start) kept (marks (length word) t step.events))
           ∙ ap (map (from_start start)) (sym (ap (λ l. value_at [] l from) (all_values_after-more tnfa rules word unit first t)
@@ -178,10 +178,10 @@ module _ (tnfa : Tnfa) (rules : List Term) (first : Bool) (start : ℕ) (kernel 
 
     pub holds-step : Holds tnfa rules false start (places_of steps) (word ++ unit ∷ []) (bank_after offset ops bank)
     holds-step = record {
-      values = λ from rule t held sort.
+      values = λ from rule t held kind.
           let to = leading from rule held in
-          step_value from t to.0 to.1 (ap (λ r. slice_get (sorts_of_rule tnfa r) t) to.2 ∙ sort);
-      histories = λ from rule t held sort.
+          step_value from t to.0 to.1 (ap (λ r. slice_get (kinds_of_rule tnfa r) t) to.2 ∙ kind);
+      histories = λ from rule t held kind.
           let to = leading from rule held in
-          step_history from t to.0 to.1 (ap (λ r. slice_get (sorts_of_rule tnfa r) t) to.2 ∙ sort);
+          step_history from t to.0 to.1 (ap (λ r. slice_get (kinds_of_rule tnfa r) t) to.2 ∙ kind);
     }

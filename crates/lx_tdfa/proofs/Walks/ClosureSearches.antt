@@ -18,7 +18,7 @@ use Rattle.lx_tnfa.specs.declared.states.Event.TheVariants.{Set, Unset}
 use Rattle.lx_tdfa.specs.Accepts.{first_final}
 use Rattle.lx_tdfa.specs.Graph.{graph_of, move_at, path_symbols, rule_starts}
 use Rattle.lx_tdfa.specs.Kernels.{Candidate, Key, next_candidates, segment_symbols}
-use Rattle.lx_tdfa.specs.Registers.{sorts_of_rule}
+use Rattle.lx_tdfa.specs.Registers.{kinds_of_rule}
 use Rattle.lx_tdfa.specs.Steps.{Ending, IsInLeaf, Step, first_ending, next_steps, start_place}
 use Rattle.lx_tdfa.specs.Values.{value_at}
 
@@ -120,4 +120,4 @@ pub record RulesKept (enc : Enc) (patterns : List Pattern) (tnfa : Tnfa) : Type 
       → script enc (rule_part (terms_of patterns) index) tree ≡ front ++ path_symbols (automaton (terms_of patterns)) place way []
       → (pattern : Pattern) × (slice_get (with_terms patterns) index ≡ Some pattern)
       × (pattern.number ≡ slice_index tnfa.owners (last_state (automaton (terms_of patterns)) place way / 2))
-  pub sorts : (pattern : Pattern) → Contains (with_terms patterns) pattern → sorts_of_rule tnfa pattern.number ≡ sorts_of pattern
+  pub kinds : (pattern : Pattern) → Contains (with_terms patterns) pattern → kinds_of_rule tnfa pattern.number ≡ sorts_of pattern

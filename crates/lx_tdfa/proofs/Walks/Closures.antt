@@ -6,7 +6,7 @@ use Rattle.lx_tnfa.specs.DepthFirst.{Found, IsIn, search_within, visited, search
 use Rattle.lx_tnfa.proofs.Searching.SimplePaths.{SimplePathFrom, unvisited}
 use Rattle.lx_tnfa.proofs.Searching.SearchBasics.{Each, IsClosed-SimplePath, IsClosed-self}
 use Rattle.lx_tnfa.proofs.Searching.SearchBounds.{enough}
-use Rattle.lx_tnfa.proofs.Searching.SearchLaws.{Covers, IsAscending, search_each-ascending, search_each-complete, search_each-least, search_each-sound, search_within-ascending, search_within-complete, search_within-least, search_within-sound}
+use Rattle.lx_tnfa.proofs.Searching.SearchLaws.{Covers, IsAscending, search_each-ascending, search_each-complete, search_each-least, search_each-simple, search_within-ascending, search_within-complete, search_within-least, search_within-simple}
 use Rattle.lx_tdfa.proofs.WordKernels.OrderedLists.{IsMember, each_member}
 
 pub record IsSearchList (graph : List (List ℕ)) (starts : List ℕ) (es : List Found) : Type 0 where
@@ -32,12 +32,12 @@ search_from-list graph starts =
     let c : Covers graph [] (visited [] es) 0 starts =
     search_each-complete graph k (search_within graph k) (search_within-complete graph k) [] [] (IsClosed-self graph []) starts 0 (λ w d a. b) in
     let l : Each (λ e. (ws : List ℕ) → SimplePathFrom graph [] 0 starts ws e.state → IsBefore ws e.choices → ⊥) es =
-    search_each-least graph k (search_within graph k) (search_within-sound graph k) (search_within-complete graph k) (search_within-least graph k) [] [] (IsClosed-self graph []) starts 0 (λ w d a. b) in
-    let s : Each (λ e. SimplePathFrom graph [] 0 starts e.choices e.state) es = search_each-sound graph (search_within graph k) (search_within-sound graph k) [] [] (λ x m. m) starts 0 in
+    search_each-least graph k (search_within graph k) (search_within-simple graph k) (search_within-complete graph k) (search_within-least graph k) [] [] (IsClosed-self graph []) starts 0 (λ w d a. b) in
+    let s : Each (λ e. SimplePathFrom graph [] 0 starts e.choices e.state) es = search_each-simple graph (search_within graph k) (search_within-simple graph k) [] [] (λ x m. m) starts 0 in
     record {
       sound = λ e m. each_member (λ e. SimplePathFrom graph [] 0 starts e.choices e.state) es e s m;
       complete = λ ws t p. reach_list es c l ws t p;
-      order = search_each-ascending graph (search_within graph k) (search_within-sound graph k) (search_within-ascending graph k) [] starts 0;
+      order = search_each-ascending graph (search_within graph k) (search_within-simple graph k) (search_within-ascending graph k) [] starts 0;
     }
   where
     reach_list : (es : List Found) → Covers graph [] (visited [] es) 0 starts

@@ -18,7 +18,7 @@ use Rattle.lx_regex.proofs.Readings.{code_quiet}
 use Rattle.lx_tnfa.specs.LeafReadings.{IsNth}
 use Rattle.lx_tnfa.specs.Live.{ReachesEnd, at_end, behind_leaf, leads_to, mark_at, onward, starts_at, state_of}
 use Rattle.lx_tnfa.specs.PlaceNumbers.{class_starts, leaf_starts, numbers_after, numbers_from, place_number, set_at, symbols_added, ways_to_read}
-use Rattle.lx_tnfa.specs.Rows.{IsHeld}
+use Rattle.lx_tnfa.specs.Rows.{Represents}
 use Rattle.lx_tnfa.specs.Tnfa.{Tnfa, rest_after, rows_at}
 use Rattle.lx_tnfa.specs.declared.classes.ClassGraph.{ClassGraph}
 use Rattle.lx_tnfa.specs.declared.states.State.{State}
@@ -97,7 +97,7 @@ module _ (tnfa : Tnfa) (rules : List Term) (is : Holds tnfa rules) where
       one zero nth = ([], ap (λ (r : Residual). ([], r.0)) nth)
       one (suc index) nth = absurd nth
 
-      at : (row : spec.State) (state : State) → IsHeld tnfa.classes row state → IsNth (starts_in tnfa.classes state) index rest
+      at : (row : spec.State) (state : State) → Represents tnfa.classes row state → IsNth (starts_in tnfa.classes state) index rest
           → (choice : List Symbol) × IsNth (leaf_starts tnfa state) index (choice, rest.0)
       at row (held.Moves ways) h nth = absurd nth
       at (moves ways) (held.Class class) h nth = absurd h

@@ -13,7 +13,7 @@ use Rattle.lx_regex.specs.Term.{Term, parts}
 use Rattle.lx_regex.proofs.Rows.{table_length}
 use Rattle.lx_tnfa.specs.Live.{state_of}
 use Rattle.lx_tnfa.specs.PlaceNumbers.{is_finished, is_last}
-use Rattle.lx_tnfa.specs.Rows.{AreHeld}
+use Rattle.lx_tnfa.specs.Rows.{RepresentEach}
 use Rattle.lx_tnfa.specs.Tnfa.{IsRest, IsTnfaOf, Tnfa, rows_at, state_at}
 use Rattle.lx_tnfa.specs.Classes.{AreClasses}
 use Rattle.lx_tnfa.specs.declared.classes.ClassGraph.{ClassGraph}
@@ -34,7 +34,7 @@ rules_table-length (e ∷ rules) part =
     let rest = rules_table-length rules (part + parts e) in
     omega (arith, length-append (table e part final) (rules_table rules (part + parts e)))
 
-pub held_length : (classes : List ClassGraph) (rows : List spec.State) (states : List State) → AreHeld classes rows states
+pub held_length : (classes : List ClassGraph) (rows : List spec.State) (states : List State) → RepresentEach classes rows states
     → length rows ≡ length states
 held_length classes [] [] held = refl
 held_length classes [] (state ∷ states) held = absurd held

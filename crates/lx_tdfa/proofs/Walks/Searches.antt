@@ -1,10 +1,11 @@
 -- The closure of places and the search from their numbers go on alike.
 use Rattle.std.proofs.Common.{◌≡◌, false, true, List, [], ◌∷◌, map, refl, sym, ◌∙◌, subst}
+use Rattle.lx_regex.specs.ClassLimits.{AllClassesFit}
 use Rattle.lx_base.specs.declared.settings.Enc.{Enc}
 use Rattle.lx_regex.specs.Pattern.{Pattern, terms_of}
 use Rattle.lx_tnfa.specs.Classes.{AreClasses}
 use Rattle.lx_tnfa.specs.Closure.{beginning_of}
-use Rattle.lx_tnfa.specs.Tnfa.{AllClassesFit, IsTnfaOf, Tnfa}
+use Rattle.lx_tnfa.specs.Tnfa.{IsTnfaOf, Tnfa}
 use Rattle.lx_tnfa.specs.declared.closure.Stop.TheVariants.{AtState}
 use Rattle.lx_tnfa.specs.declared.places.Place.{Place}
 use Rattle.lx_tnfa.proofs.Searching.SearchPaths.{Each-from_all}
@@ -18,8 +19,8 @@ use Rattle.lx_tdfa.proofs.Walks.StopPlaces.{begins_are, begins_positive, places_
 use Rattle.lx_tdfa.proofs.Walks.StopSteps.{Holds}
 
 -- numbers tell the places in leaves apart
-abbrev pub AreTold : Tnfa → Type 0
-AreTold tnfa =
+abbrev pub AreApartByNumber : Tnfa → Type 0
+AreApartByNumber tnfa =
     (place other : Place) → IsInLeaf tnfa place → IsInLeaf tnfa other → number_of tnfa place ≡ number_of tnfa other → place ≡ other
 
 module _ (enc : Enc) (patterns : List Pattern) (tnfa : Tnfa) (of : IsTnfaOf enc patterns tnfa) (fits : AllClassesFit enc (terms_of patterns)) where
@@ -35,7 +36,7 @@ module _ (enc : Enc) (patterns : List Pattern) (tnfa : Tnfa) (of : IsTnfaOf enc 
   rules_begins : tnfa.begins ≡ rule_starts (terms_of patterns)
   rules_begins = of.begins ∙ begins_are tnfa (terms_of patterns) automaton_holds 0 1 (terms_of patterns) refl
 
-  pub searches_alike : AreTold tnfa → SearchesAlike patterns tnfa
+  pub searches_alike : AreApartByNumber tnfa → SearchesAlike patterns tnfa
   searches_alike told = record {
     steps = λ kernel reaches unit within closure.
         steps_alike tnfa (terms_of patterns) automaton_holds kernel false (map (beginning_of tnfa) kernel) (map (number_of tnfa) kernel) full_key

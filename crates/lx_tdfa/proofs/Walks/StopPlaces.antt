@@ -13,7 +13,7 @@ use Rattle.lx_tnfa.specs.Closure.{beginning_at, beginning_of, behind_or_at}
 use Rattle.lx_tnfa.specs.LeafReadings.{IsNth}
 use Rattle.lx_tnfa.specs.Live.{state_of}
 use Rattle.lx_tnfa.specs.PlaceNumbers.{is_finished, is_last}
-use Rattle.lx_tnfa.specs.Rows.{IsHeld}
+use Rattle.lx_tnfa.specs.Rows.{Represents}
 use Rattle.lx_tnfa.specs.Tnfa.{IsRest, Tnfa, beginnings_from, rows_at, state_at}
 use Rattle.lx_tnfa.specs.declared.classes.ClassGraph.{ClassGraph}
 use Rattle.lx_tnfa.specs.declared.closure.Stop.{Stop}
@@ -50,7 +50,7 @@ IsLeafRow (moves ways) = ⊥
 IsLeafRow (leaf ranges) = Unit {0}
 IsLeafRow unit_leaf = Unit {0}
 
-held_leaf : (classes : List ClassGraph) (row : spec.State) (state : State) → IsHeld classes row state → IsLeafState state → IsLeafRow row
+held_leaf : (classes : List ClassGraph) (row : spec.State) (state : State) → Represents classes row state → IsLeafState state → IsLeafRow row
 held_leaf classes (moves ways) (held.Moves others) h l = l
 held_leaf classes (moves ways) (held.Class number) h l = h
 held_leaf classes (moves ways) held.AnyUnit h l = h

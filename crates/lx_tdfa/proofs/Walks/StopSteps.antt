@@ -2,6 +2,7 @@
 use Rattle.std.proofs.Common.{◌≡◌, ℕ, zero, suc, ◌<◌, arith, Bool, true, false, List, [], ◌∷◌, ◌++◌, map, length, refl, sym, ap, ap₂, ◌∙◌, subst, Some, None, ⊎_elim}
 use Rattle.std.proofs.lemmas.Bool.{false≢true}
 use Rattle.std.specs.Prelude.{◌/◌, ◌%◌, nat_eq, slice_get, slice_index, if◌then◌else◌}
+use Rattle.lx_regex.specs.ClassLimits.{AllClassesFit}
 use Rattle.lx_encode.specs.Graph.{numbered}
 use Rattle.lx_encode.specs.declared.graph.Residual.{Residual}
 use Rattle.lx_regex.specs.Automaton as spec
@@ -15,8 +16,8 @@ use Rattle.lx_tnfa.specs.DepthFirst.{successors}
 use Rattle.lx_tnfa.specs.LeafReadings.{IsNth}
 use Rattle.lx_tnfa.specs.Live.{AreLive, ReachesEnd, mark_at, starts_at, state_of}
 use Rattle.lx_tnfa.specs.Moves.{shown_move}
-use Rattle.lx_tnfa.specs.Rows.{AreHeld, IsHeld}
-use Rattle.lx_tnfa.specs.Tnfa.{AllClassesFit, Tnfa}
+use Rattle.lx_tnfa.specs.Rows.{RepresentEach, Represents}
+use Rattle.lx_tnfa.specs.Tnfa.{Tnfa}
 use Rattle.lx_tnfa.specs.declared.classes.ClassGraph.{ClassGraph}
 use Rattle.lx_tnfa.specs.declared.closure.Stop.TheVariants.{AtState}
 use Rattle.lx_tnfa.specs.declared.states.Event.TheVariants.{Set, Unset}
@@ -92,7 +93,7 @@ start_within classes (state ∷ states) (suc number) index rest nth =
 -- an automaton of rules, as far as walks are concerned
 pub record Holds (tnfa : Tnfa) (rules : List Term) : Type 0 where
   pub are : AreClasses tnfa.enc tnfa.classes
-  pub states : AreHeld tnfa.classes (automaton rules) tnfa.states
+  pub states : RepresentEach tnfa.classes (automaton rules) tnfa.states
   pub fits : AllClassesFit tnfa.enc rules
   pub live : AreLive tnfa.classes tnfa.states tnfa.live
   pub marks : length tnfa.live ≡ length tnfa.states
@@ -144,7 +145,7 @@ module _ (tnfa : Tnfa) (rules : List Term) (is : Holds tnfa rules) where
       ∙ shown_step (rule_at number) way.0 ∙ ap (move_step (rule_at number) (target way.0)) (sym same))
 
   kind : (number choice : ℕ) (step : Step) (row : spec.State) (state : State) → slice_get (automaton rules) number ≡ Some row
-      → IsHeld tnfa.classes row state → state_of tnfa.states number ≡ state
+      → Represents tnfa.classes row state → state_of tnfa.states number ≡ state
       → slice_get (steps_of tnfa.classes (rule_at number) (number / 2) state) choice ≡ Some step → IsStep number choice step
   kind number choice step (moves ways) (held.Moves others) at h same get =
       ways_kind number choice step ways at

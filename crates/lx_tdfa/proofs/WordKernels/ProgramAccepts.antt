@@ -2,6 +2,7 @@
 use Rattle.std.proofs.Common.{ap, ◌∙◌, subst}
 use Rattle.std.proofs.lemmas.List.{length-reverse}
 use Rattle.std.specs.Prelude.{◌≡◌, ℕ, List, [], ◌++◌, length, reverse, None}
+use Rattle.lx_regex.specs.ClassLimits.{AllClassesFit}
 use Rattle.lx_base.specs.declared.settings.Enc.{Enc}
 use Rattle.lx_regex.specs.Automaton.{automaton}
 use Rattle.lx_regex.specs.Cut.{rule_part}
@@ -11,7 +12,7 @@ use Rattle.lx_regex.specs.Term.{Term}
 use Rattle.lx_regex.specs.Values.{all_events, last_event}
 use Rattle.lx_tnfa.specs.LeafReadings.{IsNth, NumbersLeaves}
 use Rattle.lx_tnfa.specs.PlaceNumbers.{number_behind, numbers_after, symbols_added}
-use Rattle.lx_tnfa.specs.Tnfa.{AllClassesFit, IsTnfaOf, Tnfa}
+use Rattle.lx_tnfa.specs.Tnfa.{IsTnfaOf, Tnfa}
 use Rattle.lx_tnfa.proofs.Leaves.LeafNumbering.{automaton_numbers}
 use Rattle.lx_tdfa.specs.Accepts.{Accepts, IsAccepted, accept_after}
 use Rattle.lx_tdfa.specs.Graph.{graph_of, path_symbols, rule_starts}

@@ -2,6 +2,7 @@
 use Rattle.std.proofs.Common.{sym, ap, ◌∙◌, subst, inl, inr}
 use Rattle.std.proofs.lemmas.List.{reverse-append, reverse-reverse}
 use Rattle.std.specs.Prelude.{◌≡◌, ◌≢◌, ◌↔◌, ℕ, List, [], ◌∷◌, ◌++◌, map, reverse, Some, slice_get, refl}
+use Rattle.lx_regex.specs.ClassLimits.{AllClassesFit}
 use Rattle.lx_base.specs.declared.settings.Enc.{Enc}
 use Rattle.lx_regex.specs.Automaton.{automaton}
 use Rattle.lx_regex.specs.Cut.{BeginsMatch, Precedes}
@@ -11,7 +12,7 @@ use Rattle.lx_regex.specs.Script.{Symbol}
 use Rattle.lx_regex.specs.Term.{Term}
 use Rattle.lx_tnfa.specs.LeafReadings.{NumbersLeaves}
 use Rattle.lx_tnfa.specs.PlaceNumbers.{number_behind, numbers_after, symbols_added}
-use Rattle.lx_tnfa.specs.Tnfa.{AllClassesFit, IsTnfaOf, Tnfa}
+use Rattle.lx_tnfa.specs.Tnfa.{IsTnfaOf, Tnfa}
 use Rattle.lx_tnfa.proofs.Leaves.LeafNumbering.{automaton_numbers}
 use Rattle.lx_tdfa.specs.Graph.{graph_of, rule_starts}
 use Rattle.lx_tdfa.specs.Kernels.{Entry, cut_of, kernel_after, kernel_list, next_candidates, places, places_step, segment_symbols}

@@ -1,9 +1,10 @@
 -- States that are built one behind another.
 use Rattle.std.proofs.Common.{◌≡◌, ℕ, zero, suc, ◌+◌, ◌-◌, ◌*◌, ◌<◌, ◌≤◌, arith, List, [], ◌∷◌, ◌++◌, map, length, get_or, drop, refl, sym, ap, ◌∙◌, subst, append_assoc, append-nil, length-append, length-drop, ◌⊎◌, inl, inr, ⊎_elim}
 use Rattle.std.proofs.Math.ListN.{drop_of_length-le}
+use Rattle.lx_regex.specs.ClassLimits.{ClassesFit, ClassesFitAmong}
 use Rattle.lx_base.specs.declared.settings.Enc.{Enc}
 use Rattle.lx_regex.specs.Automaton as spec
-use Rattle.lx_regex.specs.Automaton.{moves, leaf, unit_leaf, table, members_table, alternatives_table, copies_table, next_member, move}
+use Rattle.lx_regex.specs.Automaton.{moves, leaf, unit_leaf, table, next_member}
 use Rattle.lx_regex.specs.Expr.{term_of}
 use Rattle.lx_regex.specs.Term.{Term, empty, class, any_unit, cat, alt, repeat, tag, group, Terms, nil, cons, parts, parts_of_all}
 use Rattle.lx_regex.specs.declared.expr.Expr.{Expr}
@@ -14,7 +15,7 @@ use Rattle.lx_regex.proofs.PartLists.{IsLeafForm}
 use Rattle.lx_tnfa.specs.Beginnings.{first_state, inner_states}
 use Rattle.lx_tnfa.specs.Classes.{Adds, AreClasses}
 use Rattle.lx_tnfa.specs.Moves.{shown_move}
-use Rattle.lx_tnfa.specs.Rows.{AreBuildable, AreHeld, Builds, ClassesFit, ClassesFitAmong, HasRoom, IsBuildable, IsHeld}
+use Rattle.lx_tnfa.specs.Rows.{AreBuildable, RepresentEach, Builds, HasRoom, IsBuildable, Represents}
 use Rattle.lx_tnfa.specs.declared.building.Building.{Building}
 use Rattle.lx_tnfa.specs.declared.classes.ClassGraph.{ClassGraph}
 use Rattle.lx_tnfa.specs.declared.states.Move.{Move}
@@ -24,7 +25,7 @@ use Rattle.lx_tnfa.proofs.Leaves.ClassLists.{class_front}
 use Rattle.lx_tnfa.proofs.Construction.Members.{ends_at, parts_next}
 
 -- states stay held when classes come
-is_held_more : (classes later : List ClassGraph) (row : spec.State) (state : State) → IsHeld classes row state → IsHeld (classes ++ later) row state
+is_held_more : (classes later : List ClassGraph) (row : spec.State) (state : State) → Represents classes row state → Represents (classes ++ later) row state
 is_held_more classes later (moves ways) (held.Moves list) h = h
 is_held_more classes later (moves ways) (held.Class number) h = absurd h
 is_held_more classes later (moves ways) held.AnyUnit h = absurd h
@@ -35,16 +36,16 @@ is_held_more classes later unit_leaf (held.Moves list) h = absurd h
 is_held_more classes later unit_leaf (held.Class number) h = absurd h
 is_held_more classes later unit_leaf held.AnyUnit h = tt
 
-held_more : (classes later : List ClassGraph) (rows : List spec.State) (states : List State) → AreHeld classes rows states
-    → AreHeld (classes ++ later) rows states
+held_more : (classes later : List ClassGraph) (rows : List spec.State) (states : List State) → RepresentEach classes rows states
+    → RepresentEach (classes ++ later) rows states
 held_more classes later [] [] h = tt
 held_more classes later [] (state ∷ states) h = absurd h
 held_more classes later (row ∷ rows) [] h = absurd h
 held_more classes later (row ∷ rows) (state ∷ states) h =
     (is_held_more classes later row state h.0, held_more classes later rows states h.1)
 
-held_append : (classes : List ClassGraph) (rows others : List spec.State) (states more : List State) → AreHeld classes rows states
-    → AreHeld classes others more → AreHeld classes (rows ++ others) (states ++ more)
+held_append : (classes : List ClassGraph) (rows others : List spec.State) (states more : List State) → RepresentEach classes rows states
+    → RepresentEach classes others more → RepresentEach classes (rows ++ others) (states ++ more)
 held_append classes [] others [] more h k = k
 held_append classes [] others (state ∷ states) more h k = absurd h
 held_append classes (row ∷ rows) others [] more h k = absurd h
@@ -73,7 +74,7 @@ builds_then a b c rows others first then = record {
   states = then.states ∙ ap (λ l. l ++ then.more) first.states ∙ append_assoc a.states.items first.more then.more;
   held =
       held_append c.classes.list.items rows others first.more then.more
-      (subst (λ l. AreHeld l rows first.more) (sym then.classes) (held_more b.classes.list.items then.later rows first.more first.held)) then.held;
+      (subst (λ l. RepresentEach l rows first.more) (sym then.classes) (held_more b.classes.list.items then.later rows first.more first.held)) then.held;
 }
 
 pub room_then : (a b : Building) (part front back : ℕ) (rows : List spec.State) → HasRoom a part (front + back) → Builds a b rows
@@ -90,7 +91,7 @@ room_front a part front back room = record { parts = omega (arith, room.parts); 
 -- the state at the beginning of a part and the one at its end
 pub builds_ends :
     (old new : Building) (row : spec.State) (ways : List spec.Move) (state : State) (exits : List Move) → Adds old.classes new.classes 1
-    → AreClasses new.classes.enc new.classes.list.items → IsHeld new.classes.list.items row state
+    → AreClasses new.classes.enc new.classes.list.items → Represents new.classes.list.items row state
     → exits ≡ map shown_move ways → new.states.items ≡ old.states.items ++ state ∷ held.Moves exits ∷ []
     → Builds old new (row ∷ moves ways ∷ [])
 builds_ends old new row ways state exits adds sound is out pushed = record {
@@ -188,7 +189,7 @@ leads_on tags members i part last to (inr none) =
 -- an expression's two ends and then what stands in it
 pub built : (old mid new : Building) (tags part : ℕ) (e form : Expr) (term : Term) (state : State) (exits : List Move) (ways : List spec.Move)
     → e ≡ form → term_of tags form ≡ term → Adds old.classes mid.classes 1 → AreClasses mid.classes.enc mid.classes.list.items
-    → IsHeld mid.classes.list.items (first_state (term_of tags e) part) state
+    → Represents mid.classes.list.items (first_state (term_of tags e) part) state
     → mid.states.items ≡ old.states.items ++ state ∷ held.Moves exits ∷ []
     → Builds mid new (inner_states term part) → exits ≡ map shown_move ways → Builds old new (table (term_of tags e) part ways)
 built old mid new tags part e form term state exits ways is folds adds sound first pushed inner out =
@@ -202,7 +203,7 @@ built old mid new tags part e form term state exits ways is folds adds sound fir
 
 pub built_leaf : (old mid : Building) (tags part : ℕ) (e : Expr) (state : State) (exits : List Move) (ways : List spec.Move) → IsLeafForm e
     → Adds old.classes mid.classes 1 → AreClasses mid.classes.enc mid.classes.list.items
-    → IsHeld mid.classes.list.items (first_state (term_of tags e) part) state
+    → Represents mid.classes.list.items (first_state (term_of tags e) part) state
     → mid.states.items ≡ old.states.items ++ state ∷ held.Moves exits ∷ []
     → exits ≡ map shown_move ways → Builds old mid (table (term_of tags e) part ways)
 built_leaf old mid tags part e state exits ways alone adds sound first pushed out =

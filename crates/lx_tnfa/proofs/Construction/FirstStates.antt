@@ -18,7 +18,7 @@ use Rattle.lx_tnfa.proofs.Construction.Members.{not_zero}
 use Rattle.lx_tnfa.specs.Beginnings.{first_state}
 use Rattle.lx_tnfa.specs.Classes.{HasClass}
 use Rattle.lx_tnfa.specs.Moves.{counted_size, shown_move, sized_moves}
-use Rattle.lx_tnfa.specs.Rows.{IsBuildable, IsHeld}
+use Rattle.lx_tnfa.specs.Rows.{IsBuildable, Represents}
 use Rattle.lx_tnfa.specs.declared.classes.ClassGraph.{ClassGraph}
 use Rattle.lx_tnfa.specs.declared.states.Move.{Move}
 use Rattle.lx_tnfa.specs.declared.states.Repeat.{Repeat}
@@ -78,9 +78,9 @@ class_fits enc tags e set is term =
     subst (FitsEncoding enc) (set_of-ranges_of set) (from_form (IsBuildable enc) tags e (Class set) _ is (term_of-class tags set) term).1
 
 pub class_held : (classes : List ClassGraph) (tags part : ℕ) (e : Expr) (set : List Range) (number : ℕ) → e ≡ Class set
-    → HasClass classes number set → IsHeld classes (first_state (term_of tags e) part) (held.Class number)
+    → HasClass classes number set → Represents classes (first_state (term_of tags e) part) (held.Class number)
 class_held classes tags part e set number is has =
-    for_form (λ t. IsHeld classes (first_state t part) (held.Class number)) tags e (Class set) _ is (term_of-class tags set)
+    for_form (λ t. Represents classes (first_state t part) (held.Class number)) tags e (Class set) _ is (term_of-class tags set)
     (subst (HasClass classes number) (sym (set_of-ranges_of set)) has)
 
 next_of : (members : List Expr) (tags part last to : ℕ) (b : Bool) → b ≡ nat_eq (length members) 0
@@ -92,22 +92,22 @@ next_of (x ∷ members) tags part last to b e is =
 pub cat_held : (classes : List ClassGraph) (tags part : ℕ) (e : Expr) (members : Vec Expr Global) (to : ℕ) (b : Bool) (ways : List Move) → e ≡ Cat members
     → b ≡ nat_eq (length members.items) 0 → to ≡ (if b then 2 * part + 1 else 2 * (part + 1))
     → ways ≡ map shown_move (move None [] [] to ∷ [])
-    → IsHeld classes (first_state (term_of tags e) part) (held.Moves ways)
+    → Represents classes (first_state (term_of tags e) part) (held.Moves ways)
 cat_held classes tags part e members to b ways is empty goes ways-are =
-    for_form (λ t. IsHeld classes (first_state t part) (held.Moves ways)) tags e (Cat members) _ is (term_of-cat tags members)
+    for_form (λ t. Represents classes (first_state t part) (held.Moves ways)) tags e (Cat members) _ is (term_of-cat tags members)
     (ways-are ∙ ap (λ n. map shown_move (move None [] [] n ∷ [])) (sym (next_of members.items tags (part + 1) (2 * part + 1) to b empty goes)))
 
 pub alt_held : (classes : List ClassGraph) (tags part : ℕ) (e : Expr) (members : Vec Expr Global) (ways : List Move) → e ≡ Alt members
     → ways ≡ map shown_move (member_moves (terms_in tags members.items) 0 (part + 1) (λ tags. tags))
-    → IsHeld classes (first_state (term_of tags e) part) (held.Moves ways)
+    → Represents classes (first_state (term_of tags e) part) (held.Moves ways)
 alt_held classes tags part e members ways is ways-are =
-    for_form (λ t. IsHeld classes (first_state t part) (held.Moves ways)) tags e (Alt members) _ is (term_of-alt tags members) ways-are
+    for_form (λ t. Represents classes (first_state t part) (held.Moves ways)) tags e (Alt members) _ is (term_of-alt tags members) ways-are
 
 pub rep_held : (classes : List ClassGraph) (tags : ℕ) (e : Expr) (body : Box Expr Global) (r : Repeat) (unset : List ℕ) (ways : List Move)
     → e ≡ Rep body r.low r.high → r.size ≡ counted_size r.low r.high (term_of tags body.value)
     → unset ≡ tags_in (term_of tags body.value) → ways ≡ map shown_move (sized_moves r 0 unset)
-    → IsHeld classes (first_state (term_of tags e) r.part) (held.Moves ways)
+    → Represents classes (first_state (term_of tags e) r.part) (held.Moves ways)
 rep_held classes tags e body r unset ways is size none ways-are =
     for_form
-    (λ t. IsHeld classes (first_state t r.part) (held.Moves ways)) tags e (Rep body r.low r.high) _ is (term_of-rep tags body r.low r.high)
+    (λ t. Represents classes (first_state t r.part) (held.Moves ways)) tags e (Rep body r.low r.high) _ is (term_of-rep tags body r.low r.high)
     (ways-are ∙ ap (λ l. map shown_move (sized_moves r 0 l)) none ∙ ap (map shown_move) (sym (moves_sized r (term_of tags body.value) 0 size)))

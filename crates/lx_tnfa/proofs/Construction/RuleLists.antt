@@ -1,5 +1,5 @@
 -- Rules that are added one by one.
-use Rattle.std.proofs.Common.{◌≡◌, ℕ, suc, ◌-◌, ◌*◌, ◌<◌, ◌≤◌, arith, Bool, true, false, List, [], ◌∷◌, ◌++◌, length, sym, ap, ap₂, ◌∙◌, subst, append_assoc, append-nil, ◌⊎◌, ⊎_elim}
+use Rattle.std.proofs.Common.{◌≡◌, ℕ, suc, ◌-◌, ◌*◌, ◌<◌, ◌≤◌, arith, Bool, true, false, List, [], ◌∷◌, ◌++◌, length, sym, ap, ap₂, ◌∙◌, subst, append_assoc, append-nil, Some, ◌⊎◌, ⊎_elim}
 use Rattle.std.proofs.lemmas.List.{map-append}
 use Rattle.std.specs.Prelude.{replicate, if◌then◌else◌}
 use Rattle.lx_regex.specs.Automaton.{table, final}
@@ -17,18 +17,13 @@ use Rattle.lx_tnfa.specs.declared.tnfa.RuleTags.{RuleTags}
 use Rattle.lx_tnfa.proofs.Construction.BuiltStates.{builds_none}
 
 -- an item more of some that are alike
-pub replicate_next : (x : ℕ) (now new all : List ℕ) (count counter : ℕ) → counter < count → new ≡ now ++ x ∷ []
+pub replicate_next : {A : Type 0} (x : A) (now new all : List A) (count counter : ℕ) → counter < count → new ≡ now ++ x ∷ []
     → now ++ replicate (count - counter) x ≡ all → new ++ replicate (count - suc counter) x ≡ all
-replicate_next x now new all count counter lt pushed so =
+replicate_next {A} x now new all count counter lt pushed so =
     let next : suc (count - suc counter) ≡ count - counter = omega arith in
     ap (λ l. l ++ replicate (count - suc counter) x) pushed
     ∙ append_assoc now (x ∷ []) (replicate (count - suc counter) x)
     ∙ ap (λ n. now ++ replicate n x) next ∙ so
-
-pub replicate_done : (x : ℕ) (now all : List ℕ) (count counter : ℕ) → count ≤ counter → now ++ replicate (count - counter) x ≡ all → now ≡ all
-replicate_done x now all count counter le so =
-    let none : 0 ≡ count - counter = omega arith in
-    sym (append-nil now) ∙ ap (λ n. now ++ replicate n x) none ∙ so
 
 -- the ends of a group more
 pub ends_next : (now mid new all : List Bool) (groups counter : ℕ) → counter < groups → mid ≡ now ++ false ∷ [] → new ≡ mid ++ false ∷ []
@@ -61,7 +56,7 @@ adds_end old new rule ends sound rules owners begins same = record {
   rules = rules;
   owners =
       owners ∙ sym (append-nil old.owners.items)
-      ∙ ap (λ b. old.owners.items ++ replicate (if b then 0 else parts (pattern_of rule).term) rule.number) (sym ends);
+      ∙ ap (λ b. old.owners.items ++ replicate (if b then 0 else parts (pattern_of rule).term) (Some (length old.rules.items))) (sym ends);
   begins =
       begins ∙ sym (append-nil old.begins.items)
       ∙ ap (λ b. old.begins.items ++ (if b then [] else 2 * length old.owners.items ∷ [])) (sym ends);
@@ -73,12 +68,12 @@ adds_end old new rule ends sound rules owners begins same = record {
 -- another rule adds its states, and its number for each of its parts
 pub adds_rule : (old new : Making) (rule : Rule) → is_end rule.kind ≡ false
     → seen_tags new.rules.items ≡ seen_tags old.rules.items ++ (rule.number, sorts_of (pattern_of rule)) ∷ []
-    → new.owners.items ≡ old.owners.items ++ replicate (parts (pattern_of rule).term) rule.number
+    → new.owners.items ≡ old.owners.items ++ replicate (parts (pattern_of rule).term) (Some (length old.rules.items))
     → new.begins.items ≡ old.begins.items ++ 2 * length old.owners.items ∷ []
     → Builds old.building new.building (table (pattern_of rule).term (length old.owners.items) final) → AddsRule old new rule
 adds_rule old new rule plain rules owners begins states = record {
   rules = rules;
-  owners = owners ∙ ap (λ b. old.owners.items ++ replicate (if b then 0 else parts (pattern_of rule).term) rule.number) (sym plain);
+  owners = owners ∙ ap (λ b. old.owners.items ++ replicate (if b then 0 else parts (pattern_of rule).term) (Some (length old.rules.items))) (sym plain);
   begins = begins ∙ ap (λ b. old.begins.items ++ (if b then [] else 2 * length old.owners.items ∷ [])) (sym plain);
   states = subst (λ b. Builds old.building new.building (if b then [] else table (pattern_of rule).term (length old.owners.items) final)) (sym plain) states;
 }

@@ -1,9 +1,10 @@
 -- The whole automaton, rule by rule.
-use Rattle.std.proofs.Common.{◌≡◌, ℕ, zero, suc, ◌+◌, ◌*◌, ◌^◌, ◌<◌, ◌≤◌, arith, Bool, true, false, List, [], ◌∷◌, ◌++◌, map, length, get_or, drop, refl, sym, ap, ap₂, ◌∙◌, subst, append_assoc, append-nil, length-append, Some}
+use Rattle.std.proofs.Common.{◌≡◌, ℕ, zero, suc, ◌+◌, ◌*◌, ◌^◌, ◌<◌, ◌≤◌, arith, Bool, true, false, List, [], ◌∷◌, ◌++◌, map, length, get_or, drop, refl, sym, ap, ap₂, ◌∙◌, subst, append_assoc, append-nil, length-append, Option, Some, None}
 use Rattle.std.proofs.lemmas.List.{length-replicate, map-append}
 use Rattle.std.proofs.Math.ListN.{drop_of_length-le}
 use Rattle.std.specs.Bool.{OnFalse}
 use Rattle.std.specs.Prelude.{replicate, slice_get, if◌then◌else◌}
+use Rattle.lx_regex.specs.ClassLimits.{ClassesFit, AllClassesFit}
 use Rattle.lx_base.specs.declared.settings.Enc.{Enc}
 use Rattle.lx_regex.specs.Automaton as spec
 use Rattle.lx_regex.specs.Automaton.{automaton, final, leaf, moves, rules_table, table, unit_leaf}
@@ -12,18 +13,19 @@ use Rattle.lx_regex.specs.Parts.{Part, parts_of, parts_of_rules}
 use Rattle.lx_regex.specs.Pattern.{Pattern, is_end, pattern_of, patterns_of, sorts_of, terms_of, with_terms}
 use Rattle.lx_regex.specs.Term.{parts}
 use Rattle.lx_regex.specs.declared.rules.Rule.{Rule}
-use Rattle.lx_regex.proofs.RuleParts.{few_ends, few_tags, length-numbers_from, next_rule, regular_at, rule_alike, rule_counted, rule_room, rules_part, sizes_next}
+use Rattle.lx_regex.proofs.RuleParts.{few_ends, few_rules, few_tags, length-numbers_from, next_rule, regular_at, rule_alike, rule_counted, rule_room, rules_part, sizes_next}
 use Rattle.lx_regex.proofs.Rows.{table_length}
 use Rattle.lx_tnfa.specs.Classes.{AreClasses}
 use Rattle.lx_tnfa.specs.Live.{AreLive}
-use Rattle.lx_tnfa.specs.Making.{AddsRule, CanAdd, rule_beginning, rule_size, rule_states, seen_tags}
-use Rattle.lx_tnfa.specs.Rows.{AreHeld, Builds, ClassesFit, IsHeld}
-use Rattle.lx_tnfa.specs.Tnfa.{AllClassesFit, AreNumbered, IsNumbered, IsTnfaOf, beginnings_from}
+use Rattle.lx_tnfa.specs.Making.{AddsRule, CanAdd, rule_beginning, rule_size, rule_states, seen_owners, seen_tags}
+use Rattle.lx_tnfa.specs.Rows.{RepresentEach, Builds, Represents}
+use Rattle.lx_tnfa.specs.Tnfa.{AreNumbered, IsNumbered, IsTnfaOf, beginnings_from}
 use Rattle.lx_tnfa.specs.declared.classes.ClassGraph.{ClassGraph}
 use Rattle.lx_tnfa.specs.declared.making.Making.{Making}
 use Rattle.lx_tnfa.specs.declared.states.State.{State}
 use Rattle.lx_tnfa.specs.declared.states.State.TheVariants as held
 use Rattle.lx_tnfa.proofs.Construction.BuiltStates.{builds_none, builds_then}
+use Rattle.lx_tnfa.proofs.Construction.RuleOwners.{AreWithin, owners_more, rules_count, within-append, within-replicate, within_more}
 use Rattle.lx_tnfa.proofs.Construction.TagBounds.{ends_fit}
 
 abbrev owner : Part → ℕ
@@ -71,7 +73,7 @@ states_count pattern part = at (is_end pattern.kind)
     at true = refl
     at false = table_length pattern.term part final
 
-pub held_length : (classes : List ClassGraph) (rows : List spec.State) (states : List State) → AreHeld classes rows states → length states ≡ length rows
+pub held_length : (classes : List ClassGraph) (rows : List spec.State) (states : List State) → RepresentEach classes rows states → length states ≡ length rows
 held_length classes [] [] h = refl
 held_length classes [] (state ∷ states) h = absurd h
 held_length classes (row ∷ rows) [] h = absurd h
@@ -82,8 +84,10 @@ pub record RulesMade (rules : List Rule) (start now : Making) (place : ℕ) : Ty
   pub done : List spec.State
   pub builds : Builds start.building now.building done
   pub left : done ++ rules_table (terms_of (patterns_of (drop place rules))) (length now.owners.items) ≡ rules_table (terms_of (patterns_of rules)) 1
-  pub owners : now.owners.items ++ map owner (parts_of_rules place (length now.owners.items) (patterns_of (drop place rules)))
+  pub owners : seen_owners (seen_tags now.rules.items) now.owners.items ++ map owner (parts_of_rules place (length now.owners.items) (patterns_of (drop place rules)))
       ≡ map owner (parts_of (patterns_of rules))
+  pub within : AreWithin (length now.rules.items) now.owners.items
+  pub counted : length now.rules.items ≡ place
   pub tags : seen_tags now.rules.items ++ map tags_pair (patterns_of (drop place rules)) ≡ map tags_pair (patterns_of rules)
   pub begins : now.begins.items ++ beginnings_from (terms_of (patterns_of (drop place rules))) (length now.owners.items)
       ≡ beginnings_from (terms_of (patterns_of rules)) 1
@@ -91,14 +95,16 @@ pub record RulesMade (rules : List Rule) (start now : Making) (place : ℕ) : Ty
   pub count : length now.building.states.items ≡ 2 * length now.owners.items
   pub classes : length now.building.classes.list.items ≤ length now.owners.items
 
-pub made_begin : (rules : List Rule) (start : Making) → IsWithinLimits rules → start.building.classes.list.items ≡ [] → start.owners.items ≡ 0 ∷ []
+pub made_begin : (rules : List Rule) (start : Making) → IsWithinLimits rules → start.building.classes.list.items ≡ [] → start.owners.items ≡ None ∷ []
     → start.rules.items ≡ [] → start.begins.items ≡ [] → start.building.states.items ≡ held.Moves [] ∷ held.Moves [] ∷ [] → RulesMade rules start start 0
 made_begin rules start limits classes owners none nowhere states = record {
   count = omega (arith, ap length owners, ap length states);
   done = [];
   builds = builds_none start.building (subst (AreClasses start.building.classes.enc) (sym classes) tt);
   left = ap (λ l. rules_table (terms_of (patterns_of rules)) (length l)) owners;
-  owners = ap (λ l. l ++ map owner (parts_of_rules 0 (length l) (patterns_of rules))) owners;
+  owners = ap (λ l. seen_owners (seen_tags start.rules.items) l ++ map owner (parts_of_rules 0 (length l) (patterns_of rules))) owners;
+  within = subst (AreWithin (length start.rules.items)) (sym owners) (tt, tt);
+  counted = ap length none;
   tags = ap (λ l. seen_tags l ++ map tags_pair (patterns_of rules)) none;
   begins = ap₂ (λ b l. b ++ beginnings_from (terms_of (patterns_of rules)) (length l)) nowhere owners;
   room = omega (arith, ap length owners, limits.size);
@@ -112,9 +118,11 @@ made_more rules start now new place rule lt is limits made adds =
     let rest = patterns_of (drop (suc place) rules) in
     let part = length now.owners.items in
     let size = rule_size pattern in
+    let index : Option ℕ = Some (length now.rules.items) in
     let next : patterns_of (drop place rules) ≡ pattern ∷ rest = ap patterns_of (next_rule rules place rule lt is) in
     let count : length new.owners.items ≡ part + size =
-    ap length adds.owners ∙ length-append now.owners.items (replicate size rule.number) ∙ ap (λ n. part + n) (length-replicate size rule.number) in
+    ap length adds.owners ∙ length-append now.owners.items (replicate size index) ∙ ap (λ n. part + n) (length-replicate size index) in
+    let seen = seen_owners (seen_tags now.rules.items) now.owners.items in
     let own = rule_states pattern part in
     let fits = rule_room (is_end rule.kind) rules place rule refl lt is limits in record {
       done = made.done ++ own;
@@ -125,12 +133,18 @@ made_more rules start now new place rule lt is limits made adds =
           ∙ ap (λ l. made.done ++ l) (sym (rules_states pattern rest part) ∙ ap (λ l. rules_table (terms_of l) part) (sym next))
           ∙ made.left;
       owners =
-          ap₂ (λ a n. a ++ map owner (parts_of_rules (suc place) n rest)) adds.owners count
-          ∙ append_assoc now.owners.items (replicate size rule.number) (map owner (parts_of_rules (suc place) (part + size) rest))
-          ∙ ap (λ l. now.owners.items ++ (l ++ map owner (parts_of_rules (suc place) (part + size) rest))) (sym (own_owners place part pattern))
-          ∙ ap (λ l. now.owners.items ++ l) (sym (map-append owner (parts_of_rules place part (pattern ∷ [])) (parts_of_rules (suc place) (part + size) rest)))
-          ∙ ap (λ l. now.owners.items ++ map owner l) (sym (rules_part place part pattern rest) ∙ ap (parts_of_rules place part) (sym next))
+          ap₂ (λ a n. a ++ map owner (parts_of_rules (suc place) n rest)) (owners_more now new rule size adds.rules adds.owners made.within) count
+          ∙ append_assoc seen (replicate size rule.number) (map owner (parts_of_rules (suc place) (part + size) rest))
+          ∙ ap (λ l. seen ++ (l ++ map owner (parts_of_rules (suc place) (part + size) rest))) (sym (own_owners place part pattern))
+          ∙ ap (λ l. seen ++ l) (sym (map-append owner (parts_of_rules place part (pattern ∷ [])) (parts_of_rules (suc place) (part + size) rest)))
+          ∙ ap (λ l. seen ++ map owner l) (sym (rules_part place part pattern rest) ∙ ap (parts_of_rules place part) (sym next))
           ∙ made.owners;
+      within =
+          subst (AreWithin (length new.rules.items)) (sym adds.owners)
+          (within-append (length new.rules.items) now.owners.items (replicate size index)
+          (within_more now.owners.items (omega (arith, rules_count now new rule adds.rules)) made.within)
+          (within-replicate size (omega (arith, rules_count now new rule adds.rules))));
+      counted = omega (arith, rules_count now new rule adds.rules, made.counted);
       tags =
           ap (λ l. l ++ map tags_pair rest) adds.rules
           ∙ append_assoc (seen_tags now.rules.items) (tags_pair pattern ∷ []) (map tags_pair rest)
@@ -197,6 +211,7 @@ made_can enc rules start now place rule lt is limits fit encoding made = at (is_
         let all = ap length regular.tags ∙ length-numbers_from 0 (length (sorts_of pattern)) in
         record {
           tags = omega (arith, few, limits.tags);
+          rules = omega (arith, made.counted, few_rules rules limits);
           room = record {
             parts = omega (arith, fits, count, sizes_next rules place rule lt is, made.room);
             classes = made.classes;
@@ -214,14 +229,14 @@ get_within (y ∷ xs) zero x e = omega arith
 get_within (y ∷ xs) (suc i) x e = let lt : i < length xs = get_within xs i x e in omega arith
 
 -- states that are held name classes that are there
-pub held_numbered : (classes : List ClassGraph) (rows : List spec.State) (states : List State) → AreHeld classes rows states
+pub held_numbered : (classes : List ClassGraph) (rows : List spec.State) (states : List State) → RepresentEach classes rows states
     → AreNumbered (length classes) states
 held_numbered classes [] [] h = tt
 held_numbered classes [] (state ∷ states) h = absurd h
 held_numbered classes (row ∷ rows) [] h = absurd h
 held_numbered classes (row ∷ rows) (state ∷ states) h = (one row state h.0, held_numbered classes rows states h.1)
   where
-    one : (row : spec.State) (state : State) → IsHeld classes row state → IsNumbered (length classes) state
+    one : (row : spec.State) (state : State) → Represents classes row state → IsNumbered (length classes) state
     one row (held.Moves ways) h = tt
     one row held.AnyUnit h = tt
     one (moves ways) (held.Class number) h = absurd h
@@ -235,7 +250,7 @@ pub made_end : (enc : Enc) (rules : List Rule) (start now : Making) (place : ℕ
       enc = enc;
       states = now.building.states.items;
       classes = now.building.classes.list.items;
-      owners = now.owners.items;
+      owners = seen_owners (seen_tags now.rules.items) now.owners.items;
       rules = seen_tags now.rules.items;
       begins = now.begins.items;
       live = live;
@@ -248,12 +263,12 @@ made_end enc rules start now place live le states encoding made marks marked =
     made.builds.states ∙ ap (λ l. l ++ made.builds.more) states in record {
       enc = refl;
       states =
-          subst (AreHeld now.building.classes.list.items (automaton (terms_of (patterns_of rules)))) (sym all)
-          (refl, (refl, subst (λ l. AreHeld now.building.classes.list.items l made.builds.more) whole made.builds.held));
+          subst (RepresentEach now.building.classes.list.items (automaton (terms_of (patterns_of rules)))) (sym all)
+          (refl, (refl, subst (λ l. RepresentEach now.building.classes.list.items l made.builds.more) whole made.builds.held));
       classes = subst (λ n. AreClasses n now.building.classes.list.items) (made.builds.enc ∙ encoding) made.builds.sound;
       owners =
-          sym (append-nil now.owners.items)
-          ∙ ap (λ l. now.owners.items ++ map owner (parts_of_rules place (length now.owners.items) l)) (sym none) ∙ made.owners;
+          sym (append-nil (seen_owners (seen_tags now.rules.items) now.owners.items))
+          ∙ ap (λ l. seen_owners (seen_tags now.rules.items) now.owners.items ++ map owner (parts_of_rules place (length now.owners.items) l)) (sym none) ∙ made.owners;
       rules = sym (append-nil (seen_tags now.rules.items)) ∙ ap (λ l. seen_tags now.rules.items ++ map tags_pair l) (sym none) ∙ made.tags;
       begins =
           sym (append-nil now.begins.items)

@@ -1,5 +1,6 @@
 -- A cut stands at a place: that of its leaf, and of what was read in it.
 use Rattle.std.proofs.Common.{◌≡◌, ℕ, ◌+◌, ◌*◌, arith, List, [], ◌∷◌, ◌++◌, map, refl, sym, ap, ap₂, ◌∙◌, subst, append_assoc}
+use Rattle.lx_regex.specs.ClassLimits.{AllClassesFit}
 use Rattle.lx_base.specs.declared.settings.Enc.{Enc}
 use Rattle.lx_encode.specs.Graph.{numbered}
 use Rattle.lx_regex.specs.Automaton.{automaton}
@@ -19,9 +20,9 @@ use Rattle.lx_tnfa.specs.Classes.{AreClasses}
 use Rattle.lx_tnfa.specs.LeafReadings.{IsLeft}
 use Rattle.lx_tnfa.specs.Live.{state_of}
 use Rattle.lx_tnfa.specs.PlaceNumbers.{rest_left}
-use Rattle.lx_tnfa.specs.Rows.{AreHeld}
+use Rattle.lx_tnfa.specs.Rows.{RepresentEach}
 use Rattle.lx_tnfa.specs.Standing.{StandsAt}
-use Rattle.lx_tnfa.specs.Tnfa.{AllClassesFit, IsRest, IsTnfaOf, Tnfa}
+use Rattle.lx_tnfa.specs.Tnfa.{IsRest, IsTnfaOf, Tnfa}
 use Rattle.lx_tnfa.specs.declared.places.Place.{Place}
 use Rattle.lx_tnfa.proofs.Leaves.FrontLeaves.{front_leaf, front_left, since}
 use Rattle.lx_tnfa.proofs.Leaves.LeafGraphs.{EndsBy}
@@ -29,7 +30,7 @@ use Rattle.lx_tnfa.proofs.Leaves.LeafRests.{left_below, left_ends, left_rest, re
 use Rattle.lx_tnfa.proofs.Leaves.RestPlaces.{StepsStay, rest_ends, steps_stay}
 use Rattle.lx_tnfa.proofs.Construction.WholeTable.{held_length}
 
-module _ (tnfa : Tnfa) (rules : List Term) (are : AreClasses tnfa.enc tnfa.classes) (states : AreHeld tnfa.classes (automaton rules) tnfa.states) (fits : AllClassesFit tnfa.enc rules) (stay : StepsStay tnfa.classes) (cut : Cut) (after : EndsInUnit cut.front) where
+module _ (tnfa : Tnfa) (rules : List Term) (are : AreClasses tnfa.enc tnfa.classes) (states : RepresentEach tnfa.classes (automaton rules) tnfa.states) (fits : AllClassesFit tnfa.enc rules) (stay : StepsStay tnfa.classes) (cut : Cut) (after : EndsInUnit cut.front) where
   -- the part in which the cut stands, the state at its beginning, and the residual of what was read in it
   abbrev part : ℕ
   part = last_part 0 cut.front

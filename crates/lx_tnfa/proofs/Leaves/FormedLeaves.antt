@@ -7,12 +7,12 @@ use Rattle.lx_encode.specs.Graph.{AreStarts, parts as encoded_parts}
 use Rattle.lx_encode.specs.Table.{Rows}
 use Rattle.lx_encode.specs.declared.graph.Residual.{Residual}
 use Rattle.lx_regex.specs.Automaton as spec
-use Rattle.lx_regex.specs.Automaton.{alternatives_table, automaton, copies_table, final, leaf, members_table, move, moves, moves_after, next_member, rules_table, table, unit_leaf}
+use Rattle.lx_regex.specs.Automaton.{alternatives_table, automaton, copies_table, final, leaf, members_table, moves, moves_after, rules_table, table, unit_leaf}
 use Rattle.lx_regex.specs.Term.{Term, empty, class, any_unit, cat, alt, repeat, tag, group, Terms, nil, cons, copies, parts}
 use Rattle.lx_tnfa.specs.Classes.{AreClasses}
 use Rattle.lx_tnfa.specs.Closure.{IsTargetAt, LeadToTargets, leaf_step, steps_at, steps_of, stop_at}
 use Rattle.lx_tnfa.specs.Live.{starts_at, state_of}
-use Rattle.lx_tnfa.specs.Rows.{AreHeld, IsHeld}
+use Rattle.lx_tnfa.specs.Rows.{RepresentEach, Represents}
 use Rattle.lx_tnfa.specs.Tnfa.{Tnfa, HasMoves, IsFormed, IsPlace, IsRest, NoEndIsLeaf, rows_at}
 use Rattle.lx_tnfa.specs.declared.classes.ClassGraph.{ClassGraph}
 use Rattle.lx_tnfa.specs.declared.closure.Stop.TheVariants.{AtState}
@@ -72,7 +72,7 @@ rules_twos : (rules : List Term) (part : ℕ) → AreTwos (rules_table rules par
 rules_twos [] part = tt
 rules_twos (e ∷ rules) part = twos_append (table e part final) _ (table_twos e part final) (rules_twos rules (part + parts e))
 
-held_ends : (classes : List ClassGraph) (rows : List spec.State) (states : List State) → AreTwos rows → AreHeld classes rows states → NoEndIsLeaf states
+held_ends : (classes : List ClassGraph) (rows : List spec.State) (states : List State) → AreTwos rows → RepresentEach classes rows states → NoEndIsLeaf states
 held_ends classes [] [] twos h = tt
 held_ends classes [] (state ∷ states) twos h = absurd h
 held_ends classes (row ∷ []) states twos h = absurd twos
@@ -81,7 +81,7 @@ held_ends classes (row ∷ last ∷ rows) (state ∷ []) twos h = absurd h.1
 held_ends classes (row ∷ last ∷ rows) (state ∷ end ∷ states) twos h =
     (one last end twos.0 h.1.0, held_ends classes rows states twos.1 h.1.1)
   where
-    one : (row : spec.State) (state : State) → HasWays row → IsHeld classes row state → HasMoves state
+    one : (row : spec.State) (state : State) → HasWays row → Represents classes row state → HasMoves state
     one (moves ways) (held.Moves list) w h = tt
     one (moves ways) (held.Class number) w h = absurd h
     one (moves ways) held.AnyUnit w h = absurd h
@@ -89,7 +89,7 @@ held_ends classes (row ∷ last ∷ rows) (state ∷ end ∷ states) twos h =
     one unit_leaf state w h = absurd w
 
 -- the states of an automaton are formed so
-pub automaton_formed : (enc : Enc) (classes : List ClassGraph) (rules : List Term) (states : List State) → AreHeld classes (automaton rules) states
+pub automaton_formed : (enc : Enc) (classes : List ClassGraph) (rules : List Term) (states : List State) → RepresentEach classes (automaton rules) states
     → AreClasses enc classes → IsFormed enc classes states
 unfolding IsFormed
 automaton_formed enc classes rules states h graphs = (held_ends classes (automaton rules) states (tt, rules_twos rules 1) h, graphs)

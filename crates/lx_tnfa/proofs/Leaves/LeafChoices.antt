@@ -3,6 +3,7 @@ use Rattle.std.proofs.Common.{◌≡◌, ℕ, zero, suc, ◌/◌, Bool, true, fa
 use Rattle.std.specs.Option.{option_map}
 use Rattle.std.specs.Prelude.{if◌then◌else◌, slice_get, slice_index}
 use Rattle.std.proofs.lemmas.Option.{slice_get-map}
+use Rattle.lx_regex.specs.ClassLimits.{AllClassesFit}
 use Rattle.lx_base.specs.declared.settings.Enc.{Enc}
 use Rattle.lx_class.specs.declared.ranges.Range.{Range}
 use Rattle.lx_encode.specs.Graph.{numbered, parts}
@@ -20,7 +21,7 @@ use Rattle.lx_tnfa.specs.LeafReadings.{IsNth}
 use Rattle.lx_tnfa.specs.Live.{starts_at, state_of}
 use Rattle.lx_tnfa.specs.PlaceNumbers.{class_starts, has_point, leaf_starts, set_at}
 use Rattle.lx_tnfa.specs.TakenWalks.{FinishesAt, IsLeafChoice, ReadsAt, Takes, index_among}
-use Rattle.lx_tnfa.specs.Tnfa.{AllClassesFit, FinishesRest, HasMoves, IsTnfaOf, Tnfa}
+use Rattle.lx_tnfa.specs.Tnfa.{FinishesRest, HasMoves, IsTnfaOf, Tnfa}
 use Rattle.lx_tnfa.specs.declared.closure.Target.{Target}
 use Rattle.lx_tnfa.specs.declared.closure.Target.TheVariants.{End, Leaf}
 use Rattle.lx_tnfa.specs.declared.states.State.{State}

@@ -3,6 +3,7 @@ use Rattle.std.proofs.Common.{◌≡◌, ℕ, zero, suc, ◌+◌, ◌/◌, ◌%�
 use Rattle.std.proofs.lemmas.Bool.{false≢true}
 use Rattle.std.specs.Option.{option_map, unwrap_or}
 use Rattle.std.specs.Prelude.{option_to_list, slice_get, if◌then◌else◌}
+use Rattle.lx_regex.specs.ClassLimits.{AllClassesFit}
 use Rattle.lx_base.specs.declared.settings.Enc.{Enc}
 use Rattle.lx_regex.specs.Automaton as spec
 use Rattle.lx_regex.specs.Automaton.{automaton}
@@ -18,8 +19,8 @@ use Rattle.lx_tnfa.specs.Classes.{AreClasses}
 use Rattle.lx_tnfa.specs.LeafReadings.{HasBegun, IsLeft, IsNth, NumbersLeaves}
 use Rattle.lx_tnfa.specs.Live.{AreLive, mark_at, state_of}
 use Rattle.lx_tnfa.specs.PlaceNumbers.{is_finished, leaf_starts, number_behind, numbers_after, numbers_from, place_number, rest_left, symbols_added, symbols_from, ways_to_read}
-use Rattle.lx_tnfa.specs.Rows.{AreHeld}
-use Rattle.lx_tnfa.specs.Tnfa.{AllClassesFit, IsTnfaOf, Tnfa, rest_after}
+use Rattle.lx_tnfa.specs.Rows.{RepresentEach}
+use Rattle.lx_tnfa.specs.Tnfa.{IsTnfaOf, Tnfa, rest_after}
 use Rattle.lx_tnfa.specs.declared.states.State.{State}
 use Rattle.lx_tnfa.proofs.Construction.HeldStates.{held_at}
 use Rattle.lx_tnfa.proofs.Leaves.LeafGraphs.{EndsBy, ends_step, finished_only, goes_unfinished, residuals_same, some_finish, step_ends}
@@ -31,7 +32,7 @@ use Rattle.lx_tnfa.proofs.Construction.NthLists.{kept_from, kept_has, kept_order
 use Rattle.lx_tnfa.proofs.Leaves.TableLeaves.{leaf_below, leaf_fits, row_or_none}
 use Rattle.lx_tnfa.proofs.Construction.WholeTable.{held_length}
 
-module _ (tnfa : Tnfa) (rules : List Term) (are : AreClasses tnfa.enc tnfa.classes) (states : AreHeld tnfa.classes (automaton rules) tnfa.states) (fits : AllClassesFit tnfa.enc rules) (live : AreLive tnfa.classes tnfa.states tnfa.live) where
+module _ (tnfa : Tnfa) (rules : List Term) (are : AreClasses tnfa.enc tnfa.classes) (states : RepresentEach tnfa.classes (automaton rules) tnfa.states) (fits : AllClassesFit tnfa.enc rules) (live : AreLive tnfa.classes tnfa.states tnfa.live) where
   -- the state of the program at a number
   abbrev at_number : ℕ → State
   at_number number = state_of tnfa.states number

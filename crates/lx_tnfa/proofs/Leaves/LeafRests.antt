@@ -2,6 +2,7 @@
 use Rattle.std.proofs.Common.{◌≡◌, ℕ, ◌+◌, ◌<◌, List, [], ◌∷◌, ◌++◌, map, refl, sym, ap, ap₂, ◌∙◌, subst, append_assoc, append-nil, Some}
 use Rattle.std.specs.Option.{unwrap_or}
 use Rattle.std.specs.Prelude.{length, slice_get}
+use Rattle.lx_regex.specs.ClassLimits.{AllClassesFit}
 use Rattle.lx_regex.specs.Automaton.{State, automaton}
 use Rattle.lx_regex.specs.Reading.{IsReading}
 use Rattle.lx_regex.specs.Script.{Symbol, choices, reads, units}
@@ -14,8 +15,8 @@ use Rattle.lx_tnfa.specs.Classes.{AreClasses}
 use Rattle.lx_tnfa.specs.LeafReadings.{IsLeft, IsNth}
 use Rattle.lx_tnfa.specs.Live.{state_of}
 use Rattle.lx_tnfa.specs.PlaceNumbers.{leaf_starts, rest_behind, rest_left, start_picked}
-use Rattle.lx_tnfa.specs.Rows.{AreHeld}
-use Rattle.lx_tnfa.specs.Tnfa.{AllClassesFit, IsRest, Tnfa, rest_after}
+use Rattle.lx_tnfa.specs.Rows.{RepresentEach}
+use Rattle.lx_tnfa.specs.Tnfa.{IsRest, Tnfa, rest_after}
 use Rattle.lx_tnfa.proofs.Construction.HeldStates.{held_at}
 use Rattle.lx_tnfa.proofs.Leaves.LeafGraphs.{EndsBy, behind_ends, ends_behind, rest_behind-more}
 use Rattle.lx_tnfa.proofs.Leaves.LeafStarts.{Starts, leaf_rise, start_found, starts_have, starts_read}
@@ -63,7 +64,7 @@ module _ (tnfa : Tnfa) (are : AreClasses tnfa.enc tnfa.classes) where
       ∙ rest_behind-more tnfa.classes (state_of tnfa.states leaf)
       (start_picked (leaf_starts tnfa (state_of tnfa.states leaf)) (choices symbols)) (units symbols) unit
 
-  module _ (rules : List Term) (states : AreHeld tnfa.classes (automaton rules) tnfa.states) (fits : AllClassesFit tnfa.enc rules) where
+  module _ (rules : List Term) (states : RepresentEach tnfa.classes (automaton rules) tnfa.states) (fits : AllClassesFit tnfa.enc rules) where
     starts_of : (leaf : ℕ) (symbols : List Symbol) (left : List ℕ) → (so : IsLeft tnfa.enc rules leaf symbols left)
         → Starts tnfa (state_of tnfa.states leaf) so.choice (so.read ++ left)
     starts_of leaf symbols left so =

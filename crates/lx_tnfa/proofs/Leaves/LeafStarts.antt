@@ -20,7 +20,7 @@ use Rattle.lx_tnfa.specs.Classes.{AreClasses, HasClass}
 use Rattle.lx_tnfa.specs.LeafReadings.{IsNth}
 use Rattle.lx_tnfa.specs.Live.{starts_at}
 use Rattle.lx_tnfa.specs.PlaceNumbers.{class_starts, leaf_starts, set_at, start_picked}
-use Rattle.lx_tnfa.specs.Rows.{IsHeld}
+use Rattle.lx_tnfa.specs.Rows.{Represents}
 use Rattle.lx_tnfa.specs.Tnfa.{Tnfa, rows_at}
 use Rattle.lx_tnfa.specs.declared.classes.ClassGraph.{ClassGraph}
 use Rattle.lx_tnfa.specs.declared.states.State.{State}
@@ -111,7 +111,7 @@ module _ (tnfa : Tnfa) (are : AreClasses tnfa.enc tnfa.classes) where
       class_starts_of set = class_starts tnfa.enc set (parts tnfa.enc) (starts_at tnfa.classes number)
 
   -- what is read in a leaf begins with a start
-  pub starts_have : (row : spec.State) (state : State) (choice : List Symbol) (units : List ℕ) → IsHeld tnfa.classes row state
+  pub starts_have : (row : spec.State) (state : State) (choice : List Symbol) (units : List ℕ) → Represents tnfa.classes row state
       → RowFits tnfa.enc row → IsReading tnfa.enc row choice units → Starts tnfa state choice units
   starts_have (moves ways) state choice units held fits reading = absurd (code_row tnfa.enc reading ways refl)
   starts_have (leaf ranges) (Moves ways) choice units held fits reading = absurd held
@@ -160,7 +160,7 @@ module _ (tnfa : Tnfa) (are : AreClasses tnfa.enc tnfa.classes) where
 
   -- and a start with units that finish it can be read
   pub starts_read : (row : spec.State) (state : State) (index : ℕ) (choice : List Symbol) (rest : ℕ) (units : List ℕ)
-      → IsHeld tnfa.classes row state → IsNth (leaf_starts tnfa state) index (choice, rest) → EndsBy tnfa.classes state rest units
+      → Represents tnfa.classes row state → IsNth (leaf_starts tnfa state) index (choice, rest) → EndsBy tnfa.classes state rest units
       → IsReading tnfa.enc row choice units
   starts_read (moves ways) (Moves others) index choice rest units held nth ends = absurd nth
   starts_read (moves ways) (Class number) index choice rest units held nth ends = absurd held

@@ -13,7 +13,7 @@ use Rattle.lx_tnfa.specs.Classes.{AreClasses}
 use Rattle.lx_tnfa.specs.LeafReadings.{IsNth}
 use Rattle.lx_tnfa.specs.Live.{starts_at}
 use Rattle.lx_tnfa.specs.PlaceNumbers.{class_starts, leaf_starts, rest_behind}
-use Rattle.lx_tnfa.specs.Rows.{IsHeld}
+use Rattle.lx_tnfa.specs.Rows.{Represents}
 use Rattle.lx_tnfa.specs.Tnfa.{FinishesRest, IsRest, Tnfa, rest_after, rows_at}
 use Rattle.lx_tnfa.specs.declared.classes.ClassGraph.{ClassGraph}
 use Rattle.lx_tnfa.specs.declared.states.State.{State}
@@ -65,7 +65,7 @@ behind_rest classes state part rest (unit ∷ units) left stay is ends =
 
 -- a start is one of them
 pub start_rest : (tnfa : Tnfa) → AreClasses tnfa.enc tnfa.classes → (row : spec.State) (state : State) (part index rest : ℕ) (choice : List Symbol)
-    → IsHeld tnfa.classes row state → IsNth (leaf_starts tnfa state) index (choice, rest) → IsRest tnfa.classes state part rest
+    → Represents tnfa.classes row state → IsNth (leaf_starts tnfa state) index (choice, rest) → IsRest tnfa.classes state part rest
 start_rest tnfa are row (Moves ways) part index rest choice held nth = absurd nth
 start_rest tnfa are (moves ways) (Class number) part index rest choice held nth = absurd held
 start_rest tnfa are (leaf ranges) (Class number) part index rest choice held nth =

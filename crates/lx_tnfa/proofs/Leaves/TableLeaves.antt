@@ -10,8 +10,8 @@ use Rattle.lx_regex.specs.Term.{Term, empty, class, any_unit, cat, alt, repeat, 
 use Rattle.lx_regex.proofs.Cuts.{ArePaired}
 use Rattle.lx_regex.proofs.Readings.{code_row}
 use Rattle.lx_tnfa.specs.Live.{state_of}
-use Rattle.lx_tnfa.specs.Rows.{AreHeld, ClassesFit, ClassesFitAmong, IsHeld}
-use Rattle.lx_tnfa.specs.Tnfa.{AllClassesFit}
+use Rattle.lx_tnfa.specs.Rows.{RepresentEach, Represents}
+use Rattle.lx_regex.specs.ClassLimits.{ClassesFit, ClassesFitAmong, AllClassesFit}
 use Rattle.lx_tnfa.specs.declared.classes.ClassGraph.{ClassGraph}
 use Rattle.lx_tnfa.specs.declared.states.State.{State}
 use Rattle.lx_tnfa.specs.declared.states.State.TheVariants as held
@@ -86,8 +86,8 @@ leaf_below enc (first ∷ leaf ranges ∷ rows) number row paired at reading = a
 leaf_below enc (first ∷ unit_leaf ∷ rows) number row paired at reading = absurd paired
 
 -- each number has a row, of which the program holds the state, or it is beyond the states
-pub row_or_none : (classes : List ClassGraph) (rows : List spec.State) (states : List State) (number : ℕ) → AreHeld classes rows states
-    → ((row : spec.State) × (slice_get rows number ≡ Some row) × IsHeld classes row (state_of states number))
+pub row_or_none : (classes : List ClassGraph) (rows : List spec.State) (states : List State) (number : ℕ) → RepresentEach classes rows states
+    → ((row : spec.State) × (slice_get rows number ≡ Some row) × Represents classes row (state_of states number))
     ⊎ (state_of states number ≡ held.Moves [])
 row_or_none classes [] [] number h = inr refl
 row_or_none classes [] (state ∷ states) number h = absurd h

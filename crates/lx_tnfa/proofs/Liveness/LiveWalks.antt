@@ -1,6 +1,7 @@
 -- The states from which an end can be reached are those from which a walk leads to the last state of all.
 use Rattle.std.proofs.Common.{◌≡◌, ℕ, zero, suc, ◌+◌, ◌<◌, arith, List, [], ◌∷◌, length, map, get_or, refl, sym, ◌∙◌, subst, Some, ⊎_elim}
 use Rattle.std.specs.Prelude.{Contains, slice_get}
+use Rattle.lx_regex.specs.ClassLimits.{AllClassesFit}
 use Rattle.lx_class.specs.Ranges.{InRanges}
 use Rattle.lx_class.specs.declared.ranges.Range.{Range}
 use Rattle.lx_encode.specs.Graph.{AreStarts, IsGraphOf, parts}
@@ -17,8 +18,8 @@ use Rattle.lx_tnfa.specs.LeafReadings.{IsNth}
 use Rattle.lx_tnfa.specs.Live.{ReachesEnd, at_end, onward, behind_leaf, leads_to, starts_at, state_of}
 use Rattle.lx_tnfa.specs.Moves.{shown_move}
 use Rattle.lx_tnfa.specs.PlaceNumbers.{class_starts, set_at}
-use Rattle.lx_tnfa.specs.Rows.{AreHeld, IsHeld}
-use Rattle.lx_tnfa.specs.Tnfa.{AllClassesFit, Tnfa, rows_at}
+use Rattle.lx_tnfa.specs.Rows.{RepresentEach, Represents}
+use Rattle.lx_tnfa.specs.Tnfa.{Tnfa, rows_at}
 use Rattle.lx_tnfa.specs.declared.states.Move.{Move}
 use Rattle.lx_tnfa.specs.declared.states.State.{State}
 use Rattle.lx_tnfa.specs.declared.states.State.TheVariants as held
@@ -54,12 +55,12 @@ only_one x y c = at c.0 c.1 c.2
     at zero lt is = is
     at (suc k) lt is = absurd (omega arith)
 
-module _ (tnfa : Tnfa) (rules : List Term) (are : AreClasses tnfa.enc tnfa.classes) (states : AreHeld tnfa.classes (automaton rules) tnfa.states) where
+module _ (tnfa : Tnfa) (rules : List Term) (are : AreClasses tnfa.enc tnfa.classes) (states : RepresentEach tnfa.classes (automaton rules) tnfa.states) where
   walk_at : (number to : ℕ) → suc number ≡ to → Walk (automaton rules) 0 to → Walk (automaton rules) 0 (number + 1)
   walk_at number to e walk = let same : to ≡ number + 1 = omega arith in subst (Walk (automaton rules) 0) same walk
 
   -- a step to where an end is reached
-  step_walk : (number to : ℕ) (row : spec.State) (state : State) → IsHeld tnfa.classes row state
+  step_walk : (number to : ℕ) (row : spec.State) (state : State) → Represents tnfa.classes row state
       → slice_get (automaton rules) number ≡ Some row → Contains (leads_to tnfa.classes number state) to → Walk (automaton rules) 0 to
       → Walk (automaton rules) 0 number
   step_walk number to (moves ways) (held.Moves others) h at leads walk =
@@ -101,7 +102,7 @@ module _ (tnfa : Tnfa) (rules : List Term) (are : AreClasses tnfa.enc tnfa.class
 
   module _ (fits : AllClassesFit tnfa.enc rules) where
     -- behind a leaf that can be read
-    leaf_leads : (number : ℕ) (row : spec.State) (state : State) (choice : List Symbol) (units : List ℕ) → IsHeld tnfa.classes row state
+    leaf_leads : (number : ℕ) (row : spec.State) (state : State) (choice : List Symbol) (units : List ℕ) → Represents tnfa.classes row state
         → slice_get (automaton rules) number ≡ Some row → IsReading tnfa.enc row choice units
         → Contains (leads_to tnfa.classes number state) (number + 1)
     leaf_leads number row (held.Moves ways) choice units h at reading =

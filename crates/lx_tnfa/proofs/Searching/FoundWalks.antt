@@ -16,7 +16,7 @@ use Rattle.lx_tnfa.specs.DepthFirst.{IsIn, decide_in}
 use Rattle.lx_tnfa.specs.Live.{mark_at, starts_at, state_of}
 use Rattle.lx_tnfa.specs.Moves.{shown_move}
 use Rattle.lx_tnfa.specs.PlainWalks.{VisitsOnce, first_states}
-use Rattle.lx_tnfa.specs.Rows.{IsHeld}
+use Rattle.lx_tnfa.specs.Rows.{Represents}
 use Rattle.lx_tnfa.specs.TakenWalks.{Takes, first_events, index_among}
 use Rattle.lx_tnfa.specs.Tnfa.{HasMoves, IsTnfaOf, Tnfa}
 use Rattle.lx_tnfa.specs.declared.classes.ClassGraph.{ClassGraph}
@@ -214,7 +214,7 @@ module _ (enc : Enc) (patterns : List Pattern) (tnfa : Tnfa) (is : IsTnfaOf enc 
         (by_move rule number ways found.0 at found.1 later others more to once
         (deeper (target found.0) (subst (λ (s : Step). IsWalk tnfa s.to later others more (AtTarget to)) found.3 walk))))
 
-    from_row : (row : spec.State) (state : State) → slice_get (automaton (terms_of patterns)) (suc number) ≡ Some row → IsHeld tnfa.classes row state
+    from_row : (row : spec.State) (state : State) → slice_get (automaton (terms_of patterns)) (suc number) ≡ Some row → Represents tnfa.classes row state
         → state_of tnfa.states (suc number) ≡ state → (IsDead tnfa (AtState (suc number)) → ⊥)
         → slice_get (steps_from tnfa (AtState (suc number))) choice ≡ Some step
         → AllPairs (λ (stop other : Stop). stop ≢ other) (AtState (suc number) ∷ others) → IsWalk tnfa step.to later others more (AtTarget to)

@@ -10,18 +10,18 @@ use Rattle.lx_tnfa.proofs.Searching.SearchBasics.{Each, Each-append, Each-weaker
 abbrev pub begun : ℕ → Found
 begun s = record { state = s; choices = [] }
 
--- soundness
+-- what is found has simple paths
 
 -- each listed state has a path of its choices
-abbrev pub IsSound : List (List ℕ) → List ℕ → ℕ → List Found → Type 0
-IsSound graph avoided s es = Each (λ e. SimplePath graph avoided s e.choices e.state) es
+abbrev pub AreBySimplePaths : List (List ℕ) → List ℕ → ℕ → List Found → Type 0
+AreBySimplePaths graph avoided s es = Each (λ e. SimplePath graph avoided s e.choices e.state) es
 
-abbrev pub IsSoundFrom : List (List ℕ) → List ℕ → ℕ → List ℕ → List Found → Type 0
-IsSoundFrom graph avoided i cs es = Each (λ e. SimplePathFrom graph avoided i cs e.choices e.state) es
+abbrev pub AreBySimplePathsFrom : List (List ℕ) → List ℕ → ℕ → List ℕ → List Found → Type 0
+AreBySimplePathsFrom graph avoided i cs es = Each (λ e. SimplePathFrom graph avoided i cs e.choices e.state) es
 
-pub search_each-sound : (graph : List (List ℕ)) (E : List ℕ → ℕ → List Found) → ((seen : List ℕ) (s : ℕ) → IsSound graph seen s (E seen s)) → (avoided seen : List ℕ) → IsWithin avoided seen → (cs : List ℕ) (i : ℕ) → IsSoundFrom graph avoided i cs (search_each E seen cs i)
-search_each-sound graph E S avoided seen f [] i = tt
-search_each-sound graph E S avoided seen f (c ∷ cs) i =
+pub search_each-simple : (graph : List (List ℕ)) (E : List ℕ → ℕ → List Found) → ((seen : List ℕ) (s : ℕ) → AreBySimplePaths graph seen s (E seen s)) → (avoided seen : List ℕ) → IsWithin avoided seen → (cs : List ℕ) (i : ℕ) → AreBySimplePathsFrom graph avoided i cs (search_each E seen cs i)
+search_each-simple graph E S avoided seen f [] i = tt
+search_each-simple graph E S avoided seen f (c ∷ cs) i =
     let P : Found → Type 0 = λ e. SimplePathFrom graph avoided i (c ∷ cs) e.choices e.state in
     let Q : Found → Type 0 = λ e. SimplePath graph seen c e.choices e.state in
     let R : Found → Type 0 = λ e. SimplePathFrom graph avoided (suc i) cs e.choices e.state in
@@ -30,13 +30,13 @@ search_each-sound graph E S avoided seen f (c ∷ cs) i =
     (Each-all_with_choice P i (E seen c)
     (Each-weaker Q (λ e. P (with_choice i e)) (λ e p. (c, inl (refl, refl), SimplePath-fewer graph avoided seen f c e.choices e.state p)) (E seen c) (S seen c)))
     (Each-weaker R P (λ e p. SimplePathFrom-later graph avoided i c cs e.choices e.state p) (search_each E (visited seen (E seen c)) cs (suc i))
-    (search_each-sound graph E S avoided (visited seen (E seen c)) sub cs (suc i)))
+    (search_each-simple graph E S avoided (visited seen (E seen c)) sub cs (suc i)))
 
-pub search_within-sound : (graph : List (List ℕ)) (k : ℕ) (seen : List ℕ) (s : ℕ) → IsSound graph seen s (search_within graph k seen s)
-search_within-sound graph zero seen s = tt
-search_within-sound graph (suc k) seen s = go (decide_in seen s) (search_each-sound graph (search_within graph k) (search_within-sound graph k) (s ∷ seen) (s ∷ seen) (λ x m. m) (successors graph s) 0)
+pub search_within-simple : (graph : List (List ℕ)) (k : ℕ) (seen : List ℕ) (s : ℕ) → AreBySimplePaths graph seen s (search_within graph k seen s)
+search_within-simple graph zero seen s = tt
+search_within-simple graph (suc k) seen s = go (decide_in seen s) (search_each-simple graph (search_within graph k) (search_within-simple graph k) (s ∷ seen) (s ∷ seen) (λ x m. m) (successors graph s) 0)
   where
-    go : (d : Dec (IsIn seen s)) → IsSoundFrom graph (s ∷ seen) 0 (successors graph s) (search_each (search_within graph k) (s ∷ seen) (successors graph s) 0) → IsSound graph seen s (unless_in d (λ u. begun s ∷ search_each (search_within graph k) (s ∷ seen) (successors graph s) 0))
+    go : (d : Dec (IsIn seen s)) → AreBySimplePathsFrom graph (s ∷ seen) 0 (successors graph s) (search_each (search_within graph k) (s ∷ seen) (successors graph s) 0) → AreBySimplePaths graph seen s (unless_in d (λ u. begun s ∷ search_each (search_within graph k) (s ∷ seen) (successors graph s) 0))
     go (yes h) f = tt
     go (no h) f = (
       (h, refl),
@@ -159,7 +159,7 @@ tail_least graph avoided U C i c cs t ch m n L (w ∷ ws) p b = go p.1
     go (inl e) = n (IsClosed-SimplePath graph avoided U C c ws t m (subst (λ x. SimplePath graph avoided x ws t) (sym e.1) p.2))
     go (inr a) = L (w ∷ ws) (p.0, a, p.2) b
 
-pub search_each-least : (graph : List (List ℕ)) (k : ℕ) (E : List ℕ → ℕ → List Found) → ((seen : List ℕ) (s : ℕ) → IsSound graph seen s (E seen s)) → IsComplete graph k E → ((seen : List ℕ) (s : ℕ) → unvisited seen (length graph) < k → IsLeast graph seen s (E seen s)) → (avoided seen : List ℕ) → IsClosed graph avoided seen → (cs : List ℕ) (i : ℕ) → ((w c : ℕ) → IsAt i cs w c → unvisited seen (length graph) < k) → IsLeastFrom graph avoided i cs (search_each E seen cs i)
+pub search_each-least : (graph : List (List ℕ)) (k : ℕ) (E : List ℕ → ℕ → List Found) → ((seen : List ℕ) (s : ℕ) → AreBySimplePaths graph seen s (E seen s)) → IsComplete graph k E → ((seen : List ℕ) (s : ℕ) → unvisited seen (length graph) < k → IsLeast graph seen s (E seen s)) → (avoided seen : List ℕ) → IsClosed graph avoided seen → (cs : List ℕ) (i : ℕ) → ((w c : ℕ) → IsAt i cs w c → unvisited seen (length graph) < k) → IsLeastFrom graph avoided i cs (search_each E seen cs i)
 search_each-least graph k E S M L avoided seen C [] i B = tt
 search_each-least graph k E S M L avoided seen C (c ∷ cs) i B =
     let seen1 : List ℕ = visited seen (E seen c) in
@@ -176,7 +176,7 @@ search_each-least graph k E S M L avoided seen C (c ∷ cs) i B =
     (E seen c) (S seen c) (L seen c b)))
     (Each-both (λ e. SimplePathFrom graph seen1 (suc i) cs e.choices e.state) (λ e. (ws : List ℕ) → SimplePathFrom graph avoided (suc i) cs ws e.state → IsBefore ws e.choices → ⊥) P
     (λ e p q. tail_least graph avoided seen1 C1 i c cs e.state e.choices m.1 (SimplePathFrom-end graph seen1 (suc i) cs e.choices e.state p) q)
-    (search_each E seen1 cs (suc i)) (search_each-sound graph E S seen1 seen1 (λ x n. n) cs (suc i))
+    (search_each E seen1 cs (suc i)) (search_each-simple graph E S seen1 seen1 (λ x n. n) cs (suc i))
     (search_each-least graph k E S M L avoided seen1 C1 cs (suc i) (λ w d a. b1)))
 
 pub IsBefore-nil : (ws : List ℕ) → IsBefore ws [] → ⊥
@@ -190,13 +190,13 @@ step_least graph seen s t ch n L (w ∷ ws) p b = L (w ∷ ws) p.1 b
 pub search_within-least : (graph : List (List ℕ)) (k : ℕ) (seen : List ℕ) (s : ℕ) → unvisited seen (length graph) < k → IsLeast graph seen s (search_within graph k seen s)
 search_within-least graph zero seen s b = tt
 search_within-least graph (suc k) seen s b = go (decide_in seen s)
-    (search_each-sound graph (search_within graph k) (search_within-sound graph k) (s ∷ seen) (s ∷ seen) (λ x m. m) (successors graph s) 0)
-    (λ B. search_each-least graph k (search_within graph k) (search_within-sound graph k) (search_within-complete graph k) (search_within-least graph k) (s ∷ seen) (s ∷ seen) (IsClosed-self graph (s ∷ seen)) (successors graph s) 0 B)
+    (search_each-simple graph (search_within graph k) (search_within-simple graph k) (s ∷ seen) (s ∷ seen) (λ x m. m) (successors graph s) 0)
+    (λ B. search_each-least graph k (search_within graph k) (search_within-simple graph k) (search_within-complete graph k) (search_within-least graph k) (s ∷ seen) (s ∷ seen) (IsClosed-self graph (s ∷ seen)) (successors graph s) 0 B)
   where
     K : List Found
     K = search_each (search_within graph k) (s ∷ seen) (successors graph s) 0
 
-    go : (d : Dec (IsIn seen s)) → IsSoundFrom graph (s ∷ seen) 0 (successors graph s) K → (((w c : ℕ) → IsAt 0 (successors graph s) w c → unvisited (s ∷ seen) (length graph) < k) → IsLeastFrom graph (s ∷ seen) 0 (successors graph s) K) → IsLeast graph seen s (unless_in d (λ u. begun s ∷ K))
+    go : (d : Dec (IsIn seen s)) → AreBySimplePathsFrom graph (s ∷ seen) 0 (successors graph s) K → (((w c : ℕ) → IsAt 0 (successors graph s) w c → unvisited (s ∷ seen) (length graph) < k) → IsLeastFrom graph (s ∷ seen) 0 (successors graph s) K) → IsLeast graph seen s (unless_in d (λ u. begun s ∷ K))
     go (yes h) f g = tt
     go (no h) f g = (
       (λ ws p b. IsBefore-nil ws b),
@@ -235,7 +235,7 @@ pub Each-always : {X : Type 0} (P : X → Type 0) → ((x : X) → P x) → (xs 
 Each-always P f [] = tt
 Each-always P f (x ∷ xs) = (f x, Each-always P f xs)
 
-pub search_each-ascending : (graph : List (List ℕ)) (E : List ℕ → ℕ → List Found) → ((seen : List ℕ) (s : ℕ) → IsSound graph seen s (E seen s)) → ((seen : List ℕ) (s : ℕ) → IsAscending (E seen s)) → (seen cs : List ℕ) (i : ℕ) → IsAscending (search_each E seen cs i)
+pub search_each-ascending : (graph : List (List ℕ)) (E : List ℕ → ℕ → List Found) → ((seen : List ℕ) (s : ℕ) → AreBySimplePaths graph seen s (E seen s)) → ((seen : List ℕ) (s : ℕ) → IsAscending (E seen s)) → (seen cs : List ℕ) (i : ℕ) → IsAscending (search_each E seen cs i)
 search_each-ascending graph E S A seen [] i = tt
 search_each-ascending graph E S A seen (c ∷ cs) i =
     let seen1 : List ℕ = visited seen (E seen c) in
@@ -246,19 +246,19 @@ search_each-ascending graph E S A seen (c ∷ cs) i =
     (Each-always (λ e. P (with_choice i e))
     (λ e. Each-weaker (λ y. SimplePathFrom graph seen1 (suc i) cs y.choices y.state) (λ y. IsBefore (i ∷ e.choices) y.choices)
     (λ y p. IsBefore-headed i e.choices y.choices (SimplePathFrom-headed graph seen1 (suc i) cs y.choices y.state p))
-    K (search_each-sound graph E S seen1 seen1 (λ x m. m) cs (suc i)))
+    K (search_each-simple graph E S seen1 seen1 (λ x m. m) cs (suc i)))
     (E seen c)))
 
 pub search_within-ascending : (graph : List (List ℕ)) (k : ℕ) (seen : List ℕ) (s : ℕ) → IsAscending (search_within graph k seen s)
 search_within-ascending graph zero seen s = tt
 search_within-ascending graph (suc k) seen s = go (decide_in seen s)
-    (search_each-sound graph (search_within graph k) (search_within-sound graph k) (s ∷ seen) (s ∷ seen) (λ x m. m) (successors graph s) 0)
-    (search_each-ascending graph (search_within graph k) (search_within-sound graph k) (search_within-ascending graph k) (s ∷ seen) (successors graph s) 0)
+    (search_each-simple graph (search_within graph k) (search_within-simple graph k) (s ∷ seen) (s ∷ seen) (λ x m. m) (successors graph s) 0)
+    (search_each-ascending graph (search_within graph k) (search_within-simple graph k) (search_within-ascending graph k) (s ∷ seen) (successors graph s) 0)
   where
     K : List Found
     K = search_each (search_within graph k) (s ∷ seen) (successors graph s) 0
 
-    go : (d : Dec (IsIn seen s)) → IsSoundFrom graph (s ∷ seen) 0 (successors graph s) K → IsAscending K → IsAscending (unless_in d (λ u. begun s ∷ K))
+    go : (d : Dec (IsIn seen s)) → AreBySimplePathsFrom graph (s ∷ seen) 0 (successors graph s) K → IsAscending K → IsAscending (unless_in d (λ u. begun s ∷ K))
     go (yes h) f a = tt
     go (no h) f a = (
       Each-weaker (λ y. SimplePathFrom graph (s ∷ seen) 0 (successors graph s) y.choices y.state) (λ y. IsBefore [] y.choices)

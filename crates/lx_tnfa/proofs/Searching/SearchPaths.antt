@@ -6,7 +6,7 @@ use Rattle.lx_regex.specs.Dictionary.{IsBefore}
 use Rattle.lx_tnfa.specs.DepthFirst.{IsIn, decide_in, successors, Found, visited, search_within, search_each_within}
 use Rattle.lx_tnfa.proofs.Searching.SimplePaths.{IsAt, SimplePath, SimplePathFrom, unvisited}
 use Rattle.lx_tnfa.proofs.Searching.SearchBasics.{Each, Each-weaker, IsClosed, IsClosed-self}
-use Rattle.lx_tnfa.proofs.Searching.SearchLaws.{IsSoundFrom, AreFresh, IsLeastFrom, IsAscending, Covers, search_each-sound, search_each-fresh, search_each-complete, search_each-least, search_each-ascending, search_within-sound, search_within-fresh, search_within-complete, search_within-least, search_within-ascending}
+use Rattle.lx_tnfa.proofs.Searching.SearchLaws.{AreBySimplePathsFrom, AreFresh, IsLeastFrom, IsAscending, Covers, search_each-simple, search_each-fresh, search_each-complete, search_each-least, search_each-ascending, search_within-simple, search_within-fresh, search_within-complete, search_within-least, search_within-ascending}
 
 -- a path from s to t, by the choices ws, which visits the states ss
 abbrev pub Path : List (List ℕ) → ℕ → List ℕ → List ℕ → ℕ → Type 0
@@ -180,7 +180,7 @@ search_within-is_search graph k avoided s b =
       path =
           All-from_each (λ e. (ss : List ℕ) × Path graph s e.choices ss e.state × IsSimple ss × Avoids avoided ss) es
           (Each-weaker (λ e. SimplePath graph avoided s e.choices e.state) (λ e. (ss : List ℕ) × Path graph s e.choices ss e.state × IsSimple ss × Avoids avoided ss)
-          (λ e p. Path-from_simple graph avoided s e.choices e.state p) es (search_within-sound graph k avoided s));
+          (λ e p. Path-from_simple graph avoided s e.choices e.state p) es (search_within-simple graph k avoided s));
       once = AreFresh-once avoided es (search_within-fresh graph k avoided s);
       outside =
           All-from_each (λ e. Contains avoided e.state → ⊥) es
@@ -220,9 +220,9 @@ search_each_within-is_search graph k avoided starts b =
     let c : Covers graph avoided (visited avoided es) 0 starts =
     search_each-complete graph k (search_within graph k) (search_within-complete graph k) avoided avoided (IsClosed-self graph avoided) starts 0 (λ w d a. b) in
     let f : AreFresh avoided es = search_each-fresh (search_within graph k) (search_within-fresh graph k) avoided starts 0 in
-    let u : IsSoundFrom graph avoided 0 starts es = search_each-sound graph (search_within graph k) (search_within-sound graph k) avoided avoided (λ x m. m) starts 0 in
+    let u : AreBySimplePathsFrom graph avoided 0 starts es = search_each-simple graph (search_within graph k) (search_within-simple graph k) avoided avoided (λ x m. m) starts 0 in
     let l : IsLeastFrom graph avoided 0 starts es =
-    search_each-least graph k (search_within graph k) (search_within-sound graph k) (search_within-complete graph k) (search_within-least graph k) avoided avoided (IsClosed-self graph avoided) starts 0 (λ w d a. b) in
+    search_each-least graph k (search_within graph k) (search_within-simple graph k) (search_within-complete graph k) (search_within-least graph k) avoided avoided (IsClosed-self graph avoided) starts 0 (λ w d a. b) in
     record {
       path =
           All-from_each (λ e. (ss : List ℕ) × PathFrom graph starts e.choices ss e.state × IsSimple ss × Avoids avoided ss) es
@@ -237,7 +237,7 @@ search_each_within-is_search graph k avoided starts b =
           All-from_each (λ e. (ws ss : List ℕ) → PathFrom graph starts ws ss e.state → IsSimple ss → Avoids avoided ss → IsBefore ws e.choices → ⊥) es
           (Each-weaker (λ e. (ws : List ℕ) → SimplePathFrom graph avoided 0 starts ws e.state → IsBefore ws e.choices → ⊥) (λ e. (ws ss : List ℕ) → PathFrom graph starts ws ss e.state → IsSimple ss → Avoids avoided ss → IsBefore ws e.choices → ⊥)
           (λ e g ws ss p q r. g ws (SimplePathFrom-from_path graph avoided starts ws ss e.state p q r)) es l);
-      order = IsAscending-pairs es (search_each-ascending graph (search_within graph k) (search_within-sound graph k) (search_within-ascending graph k) avoided starts 0);
+      order = IsAscending-pairs es (search_each-ascending graph (search_within graph k) (search_within-simple graph k) (search_within-ascending graph k) avoided starts 0);
     }
   where
     all_reached : (graph : List (List ℕ)) (avoided starts : List ℕ) (es : List Found) → Covers graph avoided (visited avoided es) 0 starts → (ws ss : List ℕ) (t : ℕ) → PathFrom graph starts ws ss t → Avoids avoided ss → Contains (map (λ e. e.state) es) t

@@ -4,9 +4,10 @@ use Rattle.std.specs.Prelude.{◌≢◌, AllPairs, slice_get, slice_index}
 use Rattle.std.specs.Option.{option_map}
 use Rattle.std.proofs.lemmas.List.Kept.{AllPairs-cons}
 use Rattle.std.proofs.lemmas.Option.{slice_get-map}
+use Rattle.lx_regex.specs.ClassLimits.{AllClassesFit}
 use Rattle.lx_base.specs.declared.settings.Enc.{Enc}
 use Rattle.lx_regex.specs.Automaton as spec
-use Rattle.lx_regex.specs.Automaton.{automaton, leaf, moves, target, unit_leaf}
+use Rattle.lx_regex.specs.Automaton.{automaton, moves, target}
 use Rattle.lx_regex.specs.Pattern.{Pattern, terms_of}
 use Rattle.lx_regex.specs.Term.{Term, parts}
 use Rattle.lx_regex.specs.Walk.{IsAmong, first, next, Walk, stay, moved, at_point, at_unit}
@@ -15,7 +16,7 @@ use Rattle.lx_tnfa.specs.Closure.{IsDead, IsPlainWalk, IsWalk, Step, beginning_o
 use Rattle.lx_tnfa.specs.Moves.{shown_move}
 use Rattle.lx_tnfa.specs.PlainWalks.{VisitsOnce, first_states}
 use Rattle.lx_tnfa.specs.TakenWalks.{GoesOnAt, IsLeafChoice, Takes, first_events, index_among}
-use Rattle.lx_tnfa.specs.Tnfa.{AllClassesFit, IsTnfaOf, Tnfa, beginnings_from}
+use Rattle.lx_tnfa.specs.Tnfa.{IsTnfaOf, Tnfa, beginnings_from}
 use Rattle.lx_tnfa.specs.declared.classes.ClassGraph.{ClassGraph}
 use Rattle.lx_tnfa.specs.declared.closure.Stop.{Stop}
 use Rattle.lx_tnfa.specs.declared.closure.Stop.TheVariants.{AtState, AtTarget}

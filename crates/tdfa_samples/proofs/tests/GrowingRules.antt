@@ -12,8 +12,7 @@ use Rattle.lx_regex.specs.declared.expr.Expr.{Expr}
 use Rattle.lx_regex.specs.declared.rules.Rule.{Rule}
 use Rattle.lx_regex.specs.declared.rules.Tag.{Tag}
 use Rattle.lx_regex.proofs.OneRule.{limits_of_one, plain}
-use Rattle.lx_tnfa.specs.Rows.{ClassesFit}
-use Rattle.lx_tnfa.specs.Tnfa.{AllClassesFit}
+use Rattle.lx_regex.specs.ClassLimits.{ClassesFit, AllClassesFit}
 use Rattle.tdfa_samples.proofs.tests.SoundTerms.{IsSound}
 
 abbrev numbers_of : List Rule → List ℕ

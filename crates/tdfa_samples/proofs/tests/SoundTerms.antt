@@ -8,7 +8,7 @@ use Rattle.lx_regex.specs.Expr.{members_of}
 use Rattle.lx_regex.specs.Limits.{HasLongSequences, HaveLongSequences, member_count, numbers_from}
 use Rattle.lx_regex.specs.Script.{merge_tags, put_tag, tags_among, tags_in}
 use Rattle.lx_regex.specs.Term.{Term, Terms, alt, cat, class, cons, nil, repeat}
-use Rattle.lx_tnfa.specs.Rows.{ClassesFit, ClassesFitAmong}
+use Rattle.lx_regex.specs.ClassLimits.{ClassesFit, ClassesFitAmong}
 
 -- its sequences are long, these are its tags, and encodings with all points have its classes
 abbrev pub IsSound : Term → (told : List ℕ) → Type 0

@@ -6,7 +6,7 @@ ghost use Rattle.lx_regex.specs.Expr.{members_of, term_of};
 ghost use Rattle.lx_regex.specs.Limits.{HaveLongSequences, numbers_from};
 ghost use Rattle.lx_regex.specs.Script.{merge_tags, tags_among};
 ghost use Rattle.lx_regex.specs.Term.{alt, cat, class, cons, group, nil, repeat, tag};
-ghost use Rattle.lx_tnfa.specs.Rows.{ClassesFitAmong};
+    ghost use Rattle.lx_regex.specs.ClassLimits.{AllClassesFit, ClassesFit, ClassesFitAmong};
 ghost use Rattle.lx_tdfa.specs.Building.{IsBuilt};
 
 use lx_base::{Enc, Memory, Sequence};
@@ -32,7 +32,6 @@ impl Model for Term {
     ghost use Rattle.lx_regex.specs.Expr.{term_of};
     ghost use Rattle.lx_regex.specs.Limits.{HasLongSequences, numbers_from};
     ghost use Rattle.lx_regex.specs.Script.{tags_in};
-    ghost use Rattle.lx_tnfa.specs.Rows.{ClassesFit};
 
     ghost Value = { ℕ };
 
@@ -238,7 +237,6 @@ impl Model for Rules {
     ghost use Rattle.lx_regex.specs.Limits.{IsWithinLimits, numbers_from, sizes_of, tags_of};
     ghost use Rattle.lx_regex.specs.Pattern.{patterns_of, terms_of};
     ghost use Rattle.lx_regex.specs.declared.rules.Rule.{Rule};
-    ghost use Rattle.lx_tnfa.specs.Tnfa.{AllClassesFit};
 
     ghost Value = { ℕ };
 

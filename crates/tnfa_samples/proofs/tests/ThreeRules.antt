@@ -10,7 +10,7 @@ use Rattle.lx_regex.specs.Expr.{size_of, term_of}
 use Rattle.lx_regex.specs.Limits.{IsWithinLimits}
 use Rattle.lx_regex.specs.Pattern.{patterns_of, terms_of}
 use Rattle.lx_regex.specs.Term.{any_unit, class, empty}
-use Rattle.lx_tnfa.specs.Tnfa.{AllClassesFit}
+use Rattle.lx_regex.specs.ClassLimits.{AllClassesFit}
 
 -- a rule without tags
 abbrev pub untagged : (number : ℕ) → Kind → Expr → Rule

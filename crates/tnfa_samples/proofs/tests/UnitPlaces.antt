@@ -8,25 +8,25 @@ use Rattle.lx_regex.specs.Automaton.{automaton, moves, rules_table, unit_leaf}
 use Rattle.lx_regex.specs.Pattern.{Pattern, terms_of}
 use Rattle.lx_regex.specs.Term.{Term, alt, any_unit, cat, cons, empty, nil, repeat}
 use Rattle.lx_tnfa.specs.Live.{state_of}
-use Rattle.lx_tnfa.specs.Rows.{AreHeld, IsHeld}
+use Rattle.lx_tnfa.specs.Rows.{RepresentEach, Represents}
 use Rattle.lx_tnfa.specs.Tnfa.{Tnfa, IsPlace, IsRest, IsTnfaOf}
 use Rattle.lx_tnfa.specs.declared.classes.ClassGraph.{ClassGraph}
 use Rattle.lx_tnfa.specs.declared.places.Place.{Place}
 use Rattle.lx_tnfa.specs.declared.states.State.{State}
 use Rattle.lx_tnfa.specs.declared.states.State.TheVariants as held
 
-unit_state : (classes : List ClassGraph) (state : State) → IsHeld classes unit_leaf state → state ≡ held.AnyUnit
+unit_state : (classes : List ClassGraph) (state : State) → Represents classes unit_leaf state → state ≡ held.AnyUnit
 unit_state classes (held.Moves ways) h = absurd h
 unit_state classes (held.Class number) h = absurd h
 unit_state classes held.AnyUnit h = refl
 
-unit_at : (classes : List ClassGraph) (rows : List spec.State) (states : List State) (number : ℕ) → AreHeld classes rows states
+unit_at : (classes : List ClassGraph) (rows : List spec.State) (states : List State) (number : ℕ) → RepresentEach classes rows states
     → slice_get rows number ≡ Some unit_leaf → (number < length states) × (state_of states number ≡ held.AnyUnit)
 unit_at classes [] states number h e = cc
 unit_at classes (first ∷ rows) [] number h e = absurd h
 unit_at classes (first ∷ rows) (state ∷ states) zero h e =
     let same : first ≡ unit_leaf = cc in
-    (omega arith, unit_state classes state (subst (λ r. IsHeld classes r state) same h.0))
+    (omega arith, unit_state classes state (subst (λ r. Represents classes r state) same h.0))
 unit_at classes (first ∷ rows) (state ∷ states) (suc number) h e =
     let more = unit_at classes rows states number h.1 e in let lt = more.0 in (omega (arith, lt), more.1)
 
@@ -37,12 +37,12 @@ unit_place enc patterns tnfa part rest is e le =
     let at = unit_at tnfa.classes (automaton (terms_of patterns)) tnfa.states (2 * part) is.states e in
     record { part = at.0; rest = subst (λ (s : State). IsRest tnfa.classes s part rest) (sym at.1) le }
 
-first_rest : (classes : List ClassGraph) (state : State) → IsHeld classes (moves []) state → IsRest classes state 0 0
+first_rest : (classes : List ClassGraph) (state : State) → Represents classes (moves []) state → IsRest classes state 0 0
 first_rest classes (held.Moves ways) h = (refl, refl)
 first_rest classes (held.Class number) h = absurd h
 first_rest classes held.AnyUnit h = absurd h
 
-first_state : (classes : List ClassGraph) (rows : List spec.State) (states : List State) → AreHeld classes (moves [] ∷ rows) states
+first_state : (classes : List ClassGraph) (rows : List spec.State) (states : List State) → RepresentEach classes (moves [] ∷ rows) states
     → (0 < length states) × IsRest classes (state_of states 0) 0 0
 first_state classes rows [] h = absurd h
 first_state classes rows (state ∷ states) h = (omega arith, first_rest classes state h.0)

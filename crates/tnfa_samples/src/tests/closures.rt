@@ -1,12 +1,13 @@
 //! Closures as text, and those of small automata.
 ghost use Rattle.std.specs.Prelude.{◌≡◌, ◌∷◌, [], ℕ, ◌≤◌, IfOk, IfSome, None, Some};
+ghost use Rattle.lx_regex.specs.ClassLimits.{AllClassesFit};
 ghost use Rattle.lx_base.specs.declared.settings.Enc.TheVariants.{Utf8};
 ghost use Rattle.lx_regex.specs.Expr.{size_of, term_of};
 ghost use Rattle.lx_regex.specs.Limits.{IsWithinLimits};
 ghost use Rattle.lx_regex.specs.Pattern.{patterns_of, terms_of};
 ghost use Rattle.lx_regex.specs.Term.{alt, cat, class, cons, empty, nil, repeat, tag};
 ghost use Rattle.lx_tnfa.specs.Closure.{AllPlaces};
-ghost use Rattle.lx_tnfa.specs.Tnfa.{AllClassesFit, IsPlace};
+ghost use Rattle.lx_tnfa.specs.Tnfa.{IsPlace};
 
 use super::{both, either, mark, nothing, points, repeated, scanner};
 use lx_base::{Enc, Memory, Sequence};

@@ -5,7 +5,7 @@ ghost use Rattle.lx_regex.specs.Expr.{size_of, term_of};
 ghost use Rattle.lx_regex.specs.Limits.{IsWithinLimits};
 ghost use Rattle.lx_regex.specs.Pattern.{patterns_of, terms_of};
 ghost use Rattle.lx_regex.specs.Term.{alt, any_unit, cat, cons, empty, nil, repeat};
-ghost use Rattle.lx_tnfa.specs.Tnfa.{AllClassesFit};
+ghost use Rattle.lx_regex.specs.ClassLimits.{AllClassesFit};
 
 use super::closures::shown;
 use super::units::unit;

@@ -3,7 +3,7 @@ ghost use Rattle.std.specs.Prelude.{◌≡◌, ◌∷◌, [], IfOk, None};
 ghost use Rattle.lx_base.specs.declared.settings.Enc.TheVariants.{Utf8};
 ghost use Rattle.lx_regex.specs.Limits.{IsWithinLimits};
 ghost use Rattle.lx_regex.specs.Pattern.{patterns_of, terms_of};
-ghost use Rattle.lx_tnfa.specs.Tnfa.{AllClassesFit};
+ghost use Rattle.lx_regex.specs.ClassLimits.{AllClassesFit};
 
 use super::closures::from_start;
 use super::units::unit;

@@ -1,11 +1,12 @@
 //! Spellings of several units.
 ghost use Rattle.std.specs.Prelude.{◌≡◌, ◌∷◌, [], IfOk, IfSome};
+ghost use Rattle.lx_regex.specs.ClassLimits.{AllClassesFit};
 ghost use Rattle.lx_base.specs.declared.settings.Enc.TheVariants.{Utf8};
 ghost use Rattle.lx_regex.specs.Expr.{size_of, term_of};
 ghost use Rattle.lx_regex.specs.Limits.{IsWithinLimits};
 ghost use Rattle.lx_regex.specs.Pattern.{patterns_of, terms_of};
 ghost use Rattle.lx_regex.specs.Term.{class};
-ghost use Rattle.lx_tnfa.specs.Tnfa.{AllClassesFit, IsPlace};
+ghost use Rattle.lx_tnfa.specs.Tnfa.{IsPlace};
 
 use super::closures::shown;
 use super::{points, scanner};

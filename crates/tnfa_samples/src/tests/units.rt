@@ -5,7 +5,7 @@ ghost use Rattle.lx_regex.specs.Expr.{size_of, term_of};
 ghost use Rattle.lx_regex.specs.Limits.{IsWithinLimits};
 ghost use Rattle.lx_regex.specs.Pattern.{patterns_of, terms_of};
 ghost use Rattle.lx_regex.specs.Term.{any_unit};
-ghost use Rattle.lx_tnfa.specs.Tnfa.{AllClassesFit};
+ghost use Rattle.lx_regex.specs.ClassLimits.{AllClassesFit};
 
 use super::scanner;
 use lx_base::{Enc, Memory};

@@ -1,4 +1,5 @@
 use Rattle.std.proofs.Common.{◌∙◌, map, subst}
+use Rattle.std.proofs.lemmas.Result.{err_from_is_err_and}
 use Rattle.lx_exprs.specs.Reading.{AreTaken, StopsReading, no_operands}
 use Rattle.lx_exprs.specs.Seen.{definitions_view}
 use Rattle.lx_forms.specs.Seen.{lexemes_view}
@@ -12,14 +13,17 @@ take_steps-requires-clause-order c =
     (part_in_order c.args.reader.options.now (definitions_view c.args.reader.definitions.now) (lexemes_view c.args.lexemes) c.args.from c.args.until c.requires.part
     (map (step_view (lexemes_view c.args.lexemes)) c.in_ok-steps.steps.items) c.in_ok-steps.ensures)
 
-pub returns-in-Err-clause-read : goal.returns-in-Err-clause-read
-returns-in-Err-clause-read c =
+pub returns-in_err-operands-clause-read : goal.returns-in_err-operands-clause-read
+returns-in_err-operands-clause-read c =
     let options = c.args.reader.options.now in
     let definitions = definitions_view c.args.reader.definitions.now in
     let view = step_view (lexemes_view c.args.lexemes) in
-    part_stops options definitions (lexemes_view c.args.lexemes) c.args.from c.args.until c.requires.part
-    (map view c.in_ok-steps.steps.items) c.in_ok-steps.ensures c.in-Err.stop
-    (subst (λ l. StopsReading options definitions no_operands (map view l) c.in-Err.stop) c.deref.ensures.value c.in-Err.ensures.taken)
+    let stopped = c.in_err-operands.field-0.0 in
+    let p = err_from_is_err_and c.from_residual-in_err-operands.result c.from_residual-in_err-operands.ensures.1 in
+    rw (p.1, p.2)
+    (part_stops options definitions (lexemes_view c.args.lexemes) c.args.from c.args.until c.requires.part
+    (map view c.in_ok-steps.steps.items) c.in_ok-steps.ensures stopped
+    (subst (λ l. StopsReading options definitions no_operands (map view l) stopped) c.deref.ensures.value c.in_err-operands.ensures.taken))
 
 pub returns-clause-read : goal.returns-clause-read
 returns-clause-read c =
@@ -27,7 +31,7 @@ returns-clause-read c =
     let definitions = definitions_view c.args.reader.definitions.now in
     let view = step_view (lexemes_view c.args.lexemes) in
     part_read options definitions (lexemes_view c.args.lexemes) c.args.from c.args.until c.requires.part
-    (map view c.in_ok-steps.steps.items) c.in_ok-steps.ensures c.args.reader.room c.in-Ok.operands c.pop-value.new.self.values.items
+    (map view c.in_ok-steps.steps.items) c.in_ok-steps.ensures c.args.reader.room c.in_ok-operands.operands c.pop-value.new.self.values.items
     (record { value = c.pop-value.result; tags = c.in_ok-tags.tags })
-    (subst (λ l. AreTaken options definitions c.args.reader.room no_operands (map view l) c.in-Ok.operands) c.deref.ensures.value c.in-Ok.ensures.taken)
+    (subst (λ l. AreTaken options definitions c.args.reader.room no_operands (map view l) c.in_ok-operands.operands) c.deref.ensures.value c.in_ok-operands.ensures.taken)
     c.pop-value.ensures.values (c.in_ok-tags.ensures ∙ c.pop-value.ensures.seen)

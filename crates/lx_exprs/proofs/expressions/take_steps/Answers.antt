@@ -1,4 +1,5 @@
 use Rattle.std.proofs.Common.{◌≡◌, ◌∙◌, ◌+◌, ◌++◌, ◌∷◌, Ok, false, suc, arith, ap, get_or, length, map, take, drop, subst, sym}
+use Rattle.std.proofs.lemmas.Result.{err_from_is_err_and}
 use Rattle.std.proofs.lemmas.List.{take-append-drop}
 use Rattle.lx_exprs.specs.Reading.{AreInOrder, Goes, StopsReading, ends, no_operands}
 use Rattle.lx_exprs.specs.Seen.{definitions_view}
@@ -13,7 +14,7 @@ loop-step-init c =
     let none = ap length c.new-operands.ensures.none in record {
       taken = record { after = no_operands; goes = ends; stands = c.new-operands.ensures.stands c.args.reader.room };
       order = subst (λ n. AreInOrder n (map (step_view (lexemes_view c.args.lexemes)) c.args.steps.now)) (sym none) c.requires.order;
-      honest = c.new-operands.ensures.honest (length c.new-operands.result.seen);
+      bounded = c.new-operands.ensures.bounded (length c.new-operands.result.seen);
     }
 
 pub take-requires-clause-needs : goal.take-requires-clause-needs
@@ -23,8 +24,8 @@ take-requires-clause-needs c =
     (drop-next view c.loop-step.step-index c.args.steps.now (record { sort = Read; place = 0; is_operand = false }) c.loop-step-test.true)
     c.loop-step.invariant.order).0
 
-pub returns-in-Err-clause-taken : goal.returns-in-Err-clause-taken
-returns-in-Err-clause-taken c =
+pub returns-in_err-take-clause-taken : goal.returns-in_err-take-clause-taken
+returns-in_err-take-clause-taken c =
     let options = c.args.reader.options.now in
     let definitions = definitions_view c.args.reader.definitions.now in
     let place = c.loop-step.step-index in
@@ -35,9 +36,12 @@ returns-in-Err-clause-taken c =
     let whole : take place (map view steps) ++ view step ∷ drop (suc place) (map view steps) ≡ map view steps =
     ap (λ l. take place (map view steps) ++ l) (sym (drop-next view place steps (record { sort = Read; place = 0; is_operand = false }) c.loop-step-test.true))
     ∙ take-append-drop place (map view steps) in
-    subst (λ l. StopsReading options definitions no_operands l c.in-Err.stop) whole
-    (goes-stops options definitions no_operands taken.after (take place (map view steps)) (view step) (drop (suc place) (map view steps)) c.in-Err.stop
-    taken.goes (c.in-Err.ensures.stands taken.after taken.stands))
+    let stopped = c.in_err-take.field-0.0 in
+    let p = err_from_is_err_and c.from_residual.result c.from_residual.ensures.1 in
+    rw (p.1, p.2)
+    (subst (λ l. StopsReading options definitions no_operands l stopped) whole
+    (goes-stops options definitions no_operands taken.after (take place (map view steps)) (view step) (drop (suc place) (map view steps)) stopped
+    taken.goes (c.in_err-take.ensures.stands taken.after taken.stands)))
 
 pub loop-step-preserved : goal.loop-step-preserved
 loop-step-preserved c =
@@ -48,7 +52,7 @@ loop-step-preserved c =
     let view = step_view (lexemes_view c.args.lexemes) in
     let taken = c.loop-step.invariant.taken in
     let step = get_or steps place (record { sort = Read; place = 0; is_operand = false }) in
-    let more = c.in-Ok.ensures.stands taken.after taken.stands in
+    let more = c.in_ok-take.ensures.stands taken.after taken.stands in
     let order = subst (AreInOrder (length c.loop-step.operands.values.items))
     (drop-next view place steps (record { sort = Read; place = 0; is_operand = false }) c.loop-step-test.true) c.loop-step.invariant.order in
     let next : place + 1 ≡ suc place = omega arith in
@@ -61,6 +65,6 @@ loop-step-preserved c =
             (goes-snoc options definitions no_operands taken.after more.after (take place (map view steps)) (view step) taken.goes more.checked more.stepped);
         stands = more.stands;
       };
-      order = subst (λ n. AreInOrder n (drop (suc place) (map view steps))) (sym c.in-Ok.ensures.depth) order.1;
-      honest = c.in-Ok.ensures.honest c.loop-step.invariant.honest;
+      order = subst (λ n. AreInOrder n (drop (suc place) (map view steps))) (sym c.in_ok-take.ensures.depth) order.1;
+      bounded = c.in_ok-take.ensures.bounded c.loop-step.invariant.bounded;
     }

@@ -1,5 +1,5 @@
 use Rattle.std.proofs.Common.{length, map, take, drop}
-use Rattle.lx_exprs.specs.Reading.{AreHonest, AreInOrder, AreTaken, no_operands}
+use Rattle.lx_exprs.specs.Reading.{AreBounded, AreInOrder, AreTaken, no_operands}
 use Rattle.lx_exprs.specs.Seen.{definitions_view}
 use Rattle.lx_forms.specs.Seen.{lexemes_view}
 use Rattle.lx_forms.specs.StepViews.{step_view}
@@ -10,5 +10,5 @@ invariant-loop-step l = record {
   taken : AreTaken l.reader.options.now (definitions_view l.reader.definitions.now) l.reader.room no_operands
       (take l.step-index (map (step_view (lexemes_view l.lexemes)) l.steps)) l.operands;
   order : AreInOrder (length l.operands.values.items) (drop l.step-index (map (step_view (lexemes_view l.lexemes)) l.steps));
-  honest : AreHonest (length l.operands.seen) l.operands.values.items;
+  bounded : AreBounded (length l.operands.seen) l.operands.values.items;
 }

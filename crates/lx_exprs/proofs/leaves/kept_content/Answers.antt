@@ -8,28 +8,28 @@ use Rattle.lx_exprs.specs.Values.{HasPoints, HasTagsBelow}
 use Rattle.lx_exprs.proofs.TermTags.{HasTagsBelow-greater, HasTagsBelow-shifted, class_in-shifted}
 use Rattle.lx_exprs.proofs.leaves.kept_content.Goals as goal
 
-pub returns-then-sum-gt-MOST_TAGS-clause-stands : goal.returns-then-sum-gt-MOST_TAGS-clause-stands
-returns-then-sum-gt-MOST_TAGS-clause-stands c built before by past =
+pub returns-then-sum-gt-TAG_LIMIT-clause-stands : goal.returns-then-sum-gt-TAG_LIMIT-clause-stands
+returns-then-sum-gt-TAG_LIMIT-clause-stands c built before by past =
     let is = ap (λ expr. class_in (shifted before (term_or_empty (option_map (term_of 0) expr)))) c.in-Some.is in
     let class = sym (is ∙ class_in-shifted before (term_of 0 c.in-Some.expr)) in
-    (past (omega (arith, by, c.len.ensures, c.sum.ensures, c.if-sum-gt-MOST_TAGS.true)), subst (HasPoints c.in_ok-class.class) class c.in_ok-class.ensures, refl)
+    (past (omega (arith, by, c.len.ensures, c.sum.ensures, c.if-sum-gt-TAG_LIMIT.true)), subst (HasPoints c.in_ok-class.class) class c.in_ok-class.ensures, refl)
 
 pub copy-requires-clause-tags : goal.copy-requires-clause-tags
 copy-requires-clause-tags c =
     let tags = c.args.kept.now.tags in
     let fits = subst (λ expr. FitsKept expr c.args.kept.now.size (length tags)) c.in-Some.is c.requires in
-    HasTagsBelow-greater (length tags) 128 (term_of 0 c.in-Some.expr) (omega (arith, c.len.ensures, c.sum.ensures, c.if-sum-gt-MOST_TAGS.false)) fits.2
+    HasTagsBelow-greater (length tags) 128 (term_of 0 c.in-Some.expr) (omega (arith, c.len.ensures, c.sum.ensures, c.if-sum-gt-TAG_LIMIT.false)) fits.2
 
 pub returns-clause-stands : goal.returns-clause-stands
 returns-clause-stands c built before by past tags =
-    let same : c.args.by ≡ before = omega (arith, by, c.len.ensures, c.sum.ensures, c.if-sum-gt-MOST_TAGS.false) in
+    let same : c.args.by ≡ before = omega (arith, by, c.len.ensures, c.sum.ensures, c.if-sum-gt-TAG_LIMIT.false) in
     ap one
     (ap (λ expr. shifted before (term_or_empty (option_map (term_of 0) expr))) c.in-Some.is
     ∙ ap (λ by. shifted by (term_of 0 c.in-Some.expr)) (sym same) ∙ sym (c.in_ok-copy.ensures.term tags))
 
 pub returns-clause-tags : goal.returns-clause-tags
 returns-clause-tags c before by =
-    let same : c.args.by ≡ before = omega (arith, by, c.len.ensures, c.sum.ensures, c.if-sum-gt-MOST_TAGS.false) in
+    let same : c.args.by ≡ before = omega (arith, by, c.len.ensures, c.sum.ensures, c.if-sum-gt-TAG_LIMIT.false) in
     let tags = c.args.kept.now.tags in
     let fits = subst (λ expr. FitsKept expr c.args.kept.now.size (length tags)) c.in-Some.is c.requires in
     subst (HasTagsBelow _) (sym (c.in_ok-copy.ensures.term 0))

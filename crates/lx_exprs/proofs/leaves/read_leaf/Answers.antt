@@ -20,5 +20,5 @@ returns-in-IStr-clause-read c =
     caseless-reads reader.options.now definitions reader.room c.args.is_operand before (lexeme_view c.args.lexeme.now) c.read_string-in-IStr.result
     c.in-IStr.is (c.read_string-in-IStr.ensures.read definitions (length before) c.len-in-IStr.ensures)
 
-pub returns-in_ok-read_line-in-Signs-clause-honest : goal.returns-in_ok-read_line-in-Signs-clause-honest
-returns-in_ok-read_line-in-Signs-clause-honest c = c.in_ok-read_line-in-Signs.ensures.honest (length c.args.seen.now)
+pub returns-in_ok-read_line-in-Signs-clause-bounded : goal.returns-in_ok-read_line-in-Signs-clause-bounded
+returns-in_ok-read_line-in-Signs-clause-bounded c = c.in_ok-read_line-in-Signs.ensures.bounded (length c.args.seen.now)

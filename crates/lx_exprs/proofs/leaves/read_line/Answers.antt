@@ -23,7 +23,7 @@ returns-clause-read c before lexeme count sort =
     (c.in_ok-set.set, c.in_ok-set.ensures, refl) before (sym (append-nil before)) value one)
     stands stands
 
-pub returns-clause-honest : goal.returns-clause-honest
-returns-clause-honest c all =
+pub returns-clause-bounded : goal.returns-clause-bounded
+returns-clause-bounded c all =
     let size = c.class_content-content.ensures.size in
-    c.limited.ensures.honest all (omega arith) (λ small. omega (arith, size)) (c.class_content-content.ensures.tags all)
+    c.limited.ensures.bounded all (omega arith) (λ small. omega (arith, size)) (c.class_content-content.ensures.tags all)

@@ -38,8 +38,8 @@ returns-clause-read c =
     (definition, found, refl) c.add.new.self added c.in_ok-limited.field-0
     (c.in_ok-limited.ensures.stands meaning counted content)
 
-pub returns-clause-honest : goal.returns-clause-honest
-returns-clause-honest c =
+pub returns-clause-bounded : goal.returns-clause-bounded
+returns-clause-bounded c =
     let before = c.args.seen.now in
     let held = c.in-Some.kept.now in
     let some = size-some held.expr held.size (length held.tags) (c.in-Some.ensures.sound c.requires.sound) in
@@ -47,7 +47,7 @@ returns-clause-honest c =
     let added : c.add.new.self ≡ before ++ held.tags = c.in_ok-add.ensures in
     let many : length c.add.new.self ≡ length before + length held.tags =
     ap length added ∙ length-append before held.tags in
-    c.in_ok-limited.ensures.honest (length c.add.new.self) (omega (arith, some, c.sum-size.ensures))
+    c.in_ok-limited.ensures.bounded (length c.add.new.self) (omega (arith, some, c.sum-size.ensures))
     (λ small. omega (arith, size, small, c.sum-size.ensures))
     (subst (λ count. AreTagsBelow count c.in_ok-content.content) (sym many)
     (c.in_ok-content.ensures.tags (length before) c.len-by.ensures))

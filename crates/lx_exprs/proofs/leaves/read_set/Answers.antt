@@ -16,7 +16,7 @@ returns-clause-read c definitions depth all tags nesting count =
           (c.class_content-content.ensures.stands (is_built c.args.reader.room meaning) depth all tags),
     )
 
-pub returns-clause-honest : goal.returns-clause-honest
-returns-clause-honest c all =
+pub returns-clause-bounded : goal.returns-clause-bounded
+returns-clause-bounded c all =
     let size = c.class_content-content.ensures.size in
-    c.in_ok-limited.ensures.honest all (omega arith) (λ small. omega (arith, size)) (c.class_content-content.ensures.tags all)
+    c.in_ok-limited.ensures.bounded all (omega arith) (λ small. omega (arith, size)) (c.class_content-content.ensures.tags all)

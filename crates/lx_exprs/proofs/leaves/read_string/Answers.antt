@@ -45,8 +45,8 @@ returns-clause-read c definitions before count =
           (c.in_ok-limited.ensures.stands (meaning (points_of characters)) (record { size_is = size; nesting_is = refl; tags_is = count }) content),
     )
 
-pub returns-clause-honest : goal.returns-clause-honest
-returns-clause-honest c all =
+pub returns-clause-bounded : goal.returns-clause-bounded
+returns-clause-bounded c all =
     let size = c.in_ok-content.ensures.size in
-    c.in_ok-limited.ensures.honest all (omega (arith, c.sum-size.ensures, c.max.ensures))
+    c.in_ok-limited.ensures.bounded all (omega (arith, c.sum-size.ensures, c.max.ensures))
     (λ small. omega (arith, size, small, c.sum-size.ensures, c.max.ensures)) (c.in_ok-content.ensures.tags all)

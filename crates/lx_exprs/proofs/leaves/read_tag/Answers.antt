@@ -29,11 +29,11 @@ returns-clause-read c =
     (c.in_ok-push.ensures ∙ ap (λ name. before ++ name ∷ []) c.tag_name-name.ensures) c.in_ok-limited.field-0
     (c.in_ok-limited.ensures.stands meaning (record { size_is = refl; nesting_is = refl; tags_is = tags }) content)
 
-pub returns-clause-honest : goal.returns-clause-honest
-returns-clause-honest c =
+pub returns-clause-bounded : goal.returns-clause-bounded
+returns-clause-bounded c =
     let size = c.tag_content-content.ensures.size in
     let more : length c.push.new.self ≡ suc (length c.args.seen.now) =
     ap length c.in_ok-push.ensures ∙ length-append c.args.seen.now (c.tag_name-name.result.now ∷ []) ∙ omega arith in
-    c.in_ok-limited.ensures.honest (length c.push.new.self) (omega arith) (λ small. omega (arith, size))
+    c.in_ok-limited.ensures.bounded (length c.push.new.self) (omega arith) (λ small. omega (arith, size))
     (subst (λ count. AreTagsBelow count c.tag_content-content.result) (sym more)
     (c.tag_content-content.ensures.tags (length c.args.seen.now) c.len-number.ensures))

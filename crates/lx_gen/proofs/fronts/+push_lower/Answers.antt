@@ -6,7 +6,7 @@ use Rattle.lx_gen.specs.Plans.{unlabelled}
 use Rattle.lx_gen.specs.TestTrees.{TestTree, fork, inner_blocks, inner_size, tree_code}
 use Rattle.lx_gen.specs.Views.{seen_tree}
 use Rattle.lx_gen.proofs.BlockLayouts.TreeLoops.{lower-more, seen_tree-fork}
-use Rattle.lx_gen.proofs.fronts.+push_lower.Goals as goal
+use Rattle.lx_gen.proofs.fronts.+append_lower.Goals as goal
 
 pub returns-in_ok-behind-in-Fork : goal.returns-in_ok-behind-in-Fork
 returns-in_ok-behind-in-Fork t c =
@@ -22,14 +22,14 @@ returns-in_ok-behind-in-Fork t c =
     c.in_ok-inner_size-in-Fork.ensures ∙ ap (λ tree. inner_size (seen_tree tree)) c.deref-in-Fork-3.ensures in
     let behind : last ≡ (1 + next) + inner_size (seen_tree low) =
     c.in_ok-behind-in-Fork.ensures ∙ ap₂ (λ n k. n + k) c.in_ok-inside-in-Fork.ensures size in
-    let code = c.in_ok-push_tests-in-Fork.ensures
+    let code = c.in_ok-append_tests-in-Fork.ensures
     ∙ ap₂ (λ l tree. l ++ tree_code inside (numbered first end (seen_tree tree))) c.new-stmts.ensures.items c.deref-in-Fork.ensures in
-    let lower = c.in_ok-push_lower-in-Fork.ensures
-    ∙ ap (λ tree. c.push_block.new.blocks.items ++ unlabelled (inner_blocks inside (numbered first end (seen_tree tree)))) c.deref-in-Fork-2.ensures in
+    let lower = c.in_ok-append_lower-in-Fork.ensures
+    ∙ ap (λ tree. c.append_block.new.blocks.items ++ unlabelled (inner_blocks inside (numbered first end (seen_tree tree)))) c.deref-in-Fork-2.ensures in
     let more = lower-more first end next last (seen_tree low) (seen_tree high) behind c.in-Fork.greatest inside front
-    c.push_block.new.blocks.items c.push_lower-in-Fork.new.blocks.items c.push_tests.new.stmts.items c.in_ok-inside-in-Fork.ensures
-    code c.in_ok-push_block-in-Fork.ensures lower in
+    c.append_block.new.blocks.items c.append_lower-in-Fork.new.blocks.items c.append_tests.new.stmts.items c.in_ok-inside-in-Fork.ensures
+    code c.in_ok-append_block-in-Fork.ensures lower in
     let written : TestTree (Option ℕ) → List CodeBlock = λ tree. front ++ unlabelled (inner_blocks next (numbered first end tree)) in
     let whole = more ∙ ap (λ tree. written (fork c.in-Fork.greatest (seen_tree low) (seen_tree tree))) c.deref-in-Fork-4.ensures
     ∙ ap written (sym (seen_tree-fork c.in-Fork.greatest c.in-Fork.low c.in-Fork.high)) ∙ ap (λ tree. written (seen_tree tree)) (sym c.in-Fork.is) in
-    subst (λ l. OnOk c.push_lower-in-Fork-2.result (c.push_lower-in-Fork-2.new.blocks.items ≡ l)) whole c.push_lower-in-Fork-2.ensures
+    subst (λ l. OnOk c.append_lower-in-Fork-2.result (c.append_lower-in-Fork-2.new.blocks.items ≡ l)) whole c.append_lower-in-Fork-2.ensures

@@ -4,7 +4,7 @@ use Rattle.lx_gen.specs.Layout.{numbered}
 use Rattle.lx_gen.specs.TestTrees.{TestTree, fork, tree_code}
 use Rattle.lx_gen.specs.Views.{seen_tree}
 use Rattle.lx_gen.proofs.BlockLayouts.TreeLoops.{seen_tree-fork, tests-more}
-use Rattle.lx_gen.proofs.fronts.+push_tests.Goals as goal
+use Rattle.lx_gen.proofs.fronts.+append_tests.Goals as goal
 
 pub returns-in_ok-behind-in-Fork : goal.returns-in_ok-behind-in-Fork
 returns-in_ok-behind-in-Fork t c =
@@ -20,4 +20,4 @@ returns-in_ok-behind-in-Fork t c =
     let whole = more ∙ ap₂ (λ low high. written (numbered first end (fork c.in-Fork.greatest (seen_tree low) (seen_tree high)))) c.deref-in-Fork.ensures c.deref-in-Fork-2.ensures
     ∙ ap (λ tree. written (numbered first end tree)) (sym (seen_tree-fork c.in-Fork.greatest c.in-Fork.low c.in-Fork.high))
     ∙ ap (λ tree. written (numbered first end (seen_tree tree))) (sym c.in-Fork.is) in
-    subst (λ l. OnOk c.push_tests-in-Fork.result (c.push_tests-in-Fork.new.stmts.items ≡ l)) whole c.push_tests-in-Fork.ensures
+    subst (λ l. OnOk c.append_tests-in-Fork.result (c.append_tests-in-Fork.new.stmts.items ≡ l)) whole c.append_tests-in-Fork.ensures

@@ -12,8 +12,8 @@ returns c =
     let ends = c.in_ok-places.places.ends in
     let kepts = kept_of ends.auto.now.states in
     let choices = choices_code (choices_from 1 (suc (fall_block ends.greatest ends.auto.now 0)) kepts) in
-    let states = c.in_ok-push_states.ensures
+    let states = c.in_ok-append_states.ensures
     ∙ ap (λ l. l ++ unlabelled (blocks_of_states ends 0 0 ends.auto.now.states)) c.new-blocks.ensures.items in
-    let falls = c.in_ok-push_fallback.ensures ∙ ap (λ l. l ++ unlabelled (choices ∷ restore_blocks (rule_at ends) kepts)) states in
-    c.in_ok-push_endings.ensures ∙ ap (λ l. l ++ unlabelled (ending_blocks endings (accepts_of ends.auto.now.states))) falls
+    let falls = c.in_ok-append_fallback.ensures ∙ ap (λ l. l ++ unlabelled (choices ∷ restore_blocks (rule_at ends) kepts)) states in
+    c.in_ok-append_endings.ensures ∙ ap (λ l. l ++ unlabelled (ending_blocks endings (accepts_of ends.auto.now.states))) falls
     ∙ layout-parts endings ends c.args.greatest c.args.auto.now c.in_ok-places.ensures.greatest c.in_ok-places.ensures.auto

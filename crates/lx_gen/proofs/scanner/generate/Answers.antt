@@ -1,5 +1,6 @@
 use Rattle.std.proofs.Common.{◌≡◌, ℕ, ◌+◌, ◌≤◌, ◌^◌, List, None, arith, ap, refl, subst, sym, ◌∙◌}
 use Rattle.std.specs.List.{AllByRecursion}
+use Rattle.lx_base.specs.declared.limits.TheConstants.{STATEMENT_LIMIT}
 use Rattle.lx_base.specs.Spelling.{greatest_unit}
 use Rattle.lx_base.specs.declared.settings.Enc.{Enc}
 use Rattle.lx_base.specs.declared.settings.Enc.TheVariants.{Byte, Ucs2, Utf8, Utf16, Utf32}
@@ -46,4 +47,4 @@ returns c =
       labels = subst (λ (l : List CodeBlock). AllByRecursion (λ (block : CodeBlock). block.cond ≡ None) l) (sym blocks) c.in_ok-blocks.ensures.labels;
     })
     (omega (arith, c.ranges.number)) c.requires.allowed c.requires.differ
-    (subst (λ l. statement_count l ≤ 4611686018427387904) (sym blocks) c.in_ok-blocks.ensures.few)
+    (subst (λ l. statement_count l ≤ STATEMENT_LIMIT) (sym blocks) c.in_ok-blocks.ensures.few)

@@ -10,9 +10,9 @@ returns c =
     let state = c.args.state.now in
     let edge = c.args.edge.now in
     let keeps = c.keeps_on-keeps.ensures ∙ ap (λ states. keeps_on states state edge) c.as_slice.ensures in
-    let kept = c.in_ok-push_keep.ensures ∙ ap₂ (λ l k. l ++ keep_code k c.args.kept []) c.new-stmts.ensures.items keeps in
-    let left = c.in_ok-push_list.ensures ∙ ap₂ (λ l ops. l ++ list_code auto ops []) kept c.as_slice-2.ensures in
-    let done = c.in_ok-push_list-2.ensures ∙ ap₂ (λ l ops. l ++ list_code auto ops []) left c.as_slice-3.ensures in
+    let kept = c.in_ok-append_keep.ensures ∙ ap₂ (λ l k. l ++ keep_code k c.args.kept []) c.new-stmts.ensures.items keeps in
+    let left = c.in_ok-append_list.ensures ∙ ap₂ (λ l ops. l ++ list_code auto ops []) kept c.as_slice-2.ensures in
+    let done = c.in_ok-append_list-2.ensures ∙ ap₂ (λ l ops. l ++ list_code auto ops []) left c.as_slice-3.ensures in
     c.in_ok-push-2.ensures.items
     ∙ ap (λ l. l ++ Goto c.args.block ∷ []) (c.in_ok-push.ensures.items ∙ ap (λ l. l ++ Skip ∷ []) done)
     ∙ edge_code-parts auto state c.args.kept edge c.args.block

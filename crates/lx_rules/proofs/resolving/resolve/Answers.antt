@@ -10,7 +10,7 @@ use Rattle.lx_exprs.specs.Checks.{StopsAt}
 use Rattle.lx_forms.specs.Lexemes.{lexemes_of, sorts_at}
 use Rattle.lx_rules.specs.Items.{Goes, first_state}
 use Rattle.lx_rules.specs.Seen.{environment_view}
-use Rattle.lx_rules.specs.Soundness.{IsFine, IsSound}
+use Rattle.lx_rules.specs.Soundness.{FitsLimits, HasFitDefinitions}
 use Rattle.lx_exprs.specs.Within.{AreDefinedWithin}
 use Rattle.lx_rules.specs.Within.{IsScannerWithin}
 use Rattle.lx_rules.proofs.ScannerFits.{resolved_within}
@@ -35,7 +35,7 @@ take_items-requires-clause-expressions c =
 pub returns-clause-sound : goal.returns-clause-sound
 returns-clause-sound c =
     let goes = c.in_ok-known.ensures.goes in
-    if_ok_so (IsFinished c.args.options.now.conds c.args.at goes.0) (λ answer. IsSound answer.0 × IsFine answer.1) (StopsAt (BlockChecks c.args.at goes.0)) c.finish.result
+    if_ok_so (IsFinished c.args.options.now.conds c.args.at goes.0) (λ answer. HasFitDefinitions answer.0 × FitsLimits answer.1) (StopsAt (BlockChecks c.args.at goes.0)) c.finish.result
     (c.finish.ensures c.args.options.now.conds goes.0 goes.2) (λ answer is. (is.2, is.3))
 
 pub returns-clause-within : goal.returns-clause-within

@@ -10,9 +10,8 @@ use Rattle.lx_tdfa.proofs.automata.determinize.Goals as goal
 pub overflow_cast-source : goal.overflow_cast-source
 overflow_cast-source c = let narrow = built-narrow c.args.t.now c.requires in omega (arith, narrow, c.most_tags.ensures)
 
-pub states-requires-clause-ready : goal.states-requires-clause-ready
-states-requires-clause-ready c = record {
-  sorts = c.in_ok-sorts.ensures;
+pub states-requires-clause-of_rules : goal.states-requires-clause-of_rules
+states-requires-clause-of_rules c = record {
   width = c.most_tags.ensures;
   narrow = built-narrow c.args.t.now c.requires;
   enc = c.requires.0;

@@ -3,7 +3,7 @@ use Rattle.lx_base.specs.declared.settings.Enc.TheVariants.{Utf8}
 use Rattle.lx_regex.specs.Expr.{size_of, term_of}
 use Rattle.lx_regex.specs.Limits.{HasLongSequences}
 use Rattle.lx_regex.specs.Script.{tags_in}
-use Rattle.lx_tnfa.specs.Rows.{ClassesFit}
+use Rattle.lx_regex.specs.ClassLimits.{ClassesFit}
 use Rattle.tnfa_samples.proofs.tests.nested.Given as goal
 
 abbrev pub invariant-loop-level : goal.invariant-loop-level

@@ -1,33 +1,36 @@
 use Rattle.std.proofs.Common.{length, refl}
+use Rattle.std.proofs.lemmas.Result.{err_from_is_err_and}
 use Rattle.lx_exprs.specs.Seen.{definitions_view}
 use Rattle.lx_forms.specs.Seen.{lexeme_view}
 use Rattle.lx_exprs.proofs.ExpressionSteps.{last_two, subtract_stops, subtract_taken}
-use Rattle.lx_exprs.proofs.OperandValues.{honest_all, honest_front}
+use Rattle.lx_exprs.proofs.OperandValues.{bounded_all, bounded_front}
 use Rattle.lx_exprs.proofs.expressions.Operands.subtract.Goals as goal
 
-pub returns-in-Err-clause-stands : goal.returns-in-Err-clause-stands
-returns-in-Err-clause-stands c operands are =
+pub returns-in_err-value-clause-stands : goal.returns-in_err-value-clause-stands
+returns-in_err-value-clause-stands c operands are =
     let two = last_two c.args.reader.room operands.meanings c.args.self.now.values.items c.pop-right.new.self.values.items c.pop-left.new.self.values.items
     c.pop-left.result c.pop-right.result c.pop-right.ensures.values c.pop-left.ensures.values are.values in
-    subtract_stops c.args.reader.options.now (definitions_view c.args.reader.definitions.now) c.args.reader.room operands.meanings c.args.is_operand
-    (lexeme_view c.args.sign.now) c.pop-left.new.self.values.items c.pop-left.result c.pop-right.result c.in-Err.stop two
-    (c.in-Err.ensures.read two.first two.second (lexeme_view c.args.sign.now) refl two.left_is two.right_is)
+    let p = err_from_is_err_and c.from_residual.result c.from_residual.ensures.1 in
+    rw (p.1, p.2)
+    (subtract_stops c.args.reader.options.now (definitions_view c.args.reader.definitions.now) c.args.reader.room operands.meanings c.args.is_operand
+    (lexeme_view c.args.sign.now) c.pop-left.new.self.values.items c.pop-left.result c.pop-right.result c.in_err-value.field-0.0 two
+    (c.in_err-value.ensures.read two.first two.second (lexeme_view c.args.sign.now) refl two.left_is two.right_is))
 
 pub returns-clause-stands : goal.returns-clause-stands
 returns-clause-stands c operands are =
     let two = last_two c.args.reader.room operands.meanings c.args.self.now.values.items c.pop-right.new.self.values.items c.pop-left.new.self.values.items
     c.pop-left.result c.pop-right.result c.pop-right.ensures.values c.pop-left.ensures.values are.values in
     subtract_taken c.args.reader.options.now (definitions_view c.args.reader.definitions.now) c.args.reader.room operands c.args.self.now c.push.new.self
-    c.args.is_operand (lexeme_view c.args.sign.now) c.pop-left.new.self.values.items c.pop-left.result c.pop-right.result c.in-Ok.value are two
+    c.args.is_operand (lexeme_view c.args.sign.now) c.pop-left.new.self.values.items c.pop-left.result c.pop-right.result c.in_ok-value.value are two
     c.in_ok-push.ensures.values (rw c.in_ok-push.ensures.seen (rw c.pop-left.ensures.seen (rw c.pop-right.ensures.seen refl)))
-    (c.in-Ok.ensures.read two.first two.second (lexeme_view c.args.sign.now) refl two.left_is two.right_is)
+    (c.in_ok-value.ensures.read two.first two.second (lexeme_view c.args.sign.now) refl two.left_is two.right_is)
 
-pub returns-clause-honest : goal.returns-clause-honest
-returns-clause-honest c honest =
+pub returns-clause-bounded : goal.returns-clause-bounded
+returns-clause-bounded c bounded =
     let count = length c.args.self.now.seen in
     let middle = c.pop-right.new.self.values.items in
     let front = c.pop-left.new.self.values.items in
-    let rest = honest_front count middle c.args.self.now.values.items c.pop-right.result c.pop-right.ensures.values honest in
+    let rest = bounded_front count middle c.args.self.now.values.items c.pop-right.result c.pop-right.ensures.values bounded in
     rw c.in_ok-push.ensures.seen (rw c.pop-left.ensures.seen (rw c.pop-right.ensures.seen
-    (honest_all count front c.push.new.self.values.items c.in-Ok.value c.in_ok-push.ensures.values
-    (honest_front count front middle c.pop-left.result c.pop-left.ensures.values rest) (c.in-Ok.ensures.honest count))))
+    (bounded_all count front c.push.new.self.values.items c.in_ok-value.value c.in_ok-push.ensures.values
+    (bounded_front count front middle c.pop-left.result c.pop-left.ensures.values rest) (c.in_ok-value.ensures.bounded count))))

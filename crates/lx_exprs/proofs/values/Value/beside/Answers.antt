@@ -23,8 +23,8 @@ returns-clause-stands c first second is is' =
     (grows c.args.room first (alternated first second) (omega arith) (omega arith) (omega arith))
     (grows c.args.room second (alternated first second) (omega arith) (omega arith) (omega arith)))
 
-pub returns-clause-honest : goal.returns-clause-honest
-returns-clause-honest c count is is' =
+pub returns-clause-bounded : goal.returns-clause-bounded
+returns-clause-bounded c count is is' =
     let some = is.some in
     let left = is.size in
     let right = is'.size in
@@ -38,4 +38,4 @@ returns-clause-honest c count is is' =
           let less = c.in_ok-content.ensures.size in
           let more : c.if-is_choice.more ≡ 1 = w.more-is in omega (arith, sum, less, left, right, small, more)
     ] in
-    c.limited.ensures.honest count (omega (arith, sum, some)) size (c.in_ok-content.ensures.tags count is.tags is'.tags)
+    c.limited.ensures.bounded count (omega (arith, sum, some)) size (c.in_ok-content.ensures.tags count is.tags is'.tags)

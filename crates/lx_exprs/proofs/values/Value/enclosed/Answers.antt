@@ -13,8 +13,8 @@ returns-clause-stands c meaning is =
     (c.enclosed-content.ensures.stands (is_built c.args.room meaning) (is_built c.args.room (enclosed meaning)) meaning is.content
     (grows c.args.room meaning (enclosed meaning) (omega arith) (omega arith) (omega arith)))
 
-pub returns-clause-honest : goal.returns-clause-honest
-returns-clause-honest c count is =
+pub returns-clause-bounded : goal.returns-clause-bounded
+returns-clause-bounded c count is =
     let less = c.enclosed-content.ensures.size in
     let size = is.size in
-    c.limited.ensures.honest count is.some (λ small. omega (arith, less, size)) (c.enclosed-content.ensures.tags count is.tags)
+    c.limited.ensures.bounded count is.some (λ small. omega (arith, less, size)) (c.enclosed-content.ensures.tags count is.tags)

@@ -14,11 +14,11 @@ returns-clause-stands c first second is is' =
     (grows c.args.room first (followed first second) (omega arith) (omega arith) (omega arith))
     (grows c.args.room second (followed first second) (omega arith) (omega arith) (omega arith)))
 
-pub returns-clause-honest : goal.returns-clause-honest
-returns-clause-honest c count is is' =
+pub returns-clause-bounded : goal.returns-clause-bounded
+returns-clause-bounded c count is is' =
     let less = c.in_ok-content.ensures.size in
     let some = is.some in
     let size = is.size in
     let more = is'.size in
-    c.limited.ensures.honest count (omega (arith, some, c.sum-size.ensures)) (λ small. omega (arith, less, size, more, small, c.sum-size.ensures))
+    c.limited.ensures.bounded count (omega (arith, some, c.sum-size.ensures)) (λ small. omega (arith, less, size, more, small, c.sum-size.ensures))
     (c.in_ok-content.ensures.tags count is.tags is'.tags)

@@ -7,7 +7,7 @@ use Rattle.lx_gen.proofs.ends.Ends.accept_code.Goals as goal
 pub returns : goal.returns
 returns c =
     let auto = c.args.self.now.auto.now in
-    let put = c.in_ok-push_list.ensures
+    let put = c.in_ok-append_list.ensures
     ∙ ap₂ (λ l ops. l ++ list_code auto ops []) c.new-stmts.ensures.items c.as_slice.ensures in
     c.in_ok-push.ensures.items ∙ ap (λ l. l ++ Goto c.in_ok-block.block ∷ []) put
     ∙ sym (list_code-append auto c.args.accept.now.ops (Goto c.in_ok-block.block ∷ []))

@@ -1,4 +1,5 @@
 use Rattle.std.proofs.Common.{◌≡◌, ◌∙◌, ◌++◌, ◌∷◌, [], ap, length, sym, subst, refl, None}
+use Rattle.std.proofs.lemmas.Result.{err_from_is_err_and}
 use Rattle.std.specs.Option.{option_map}
 use Rattle.lx_exprs.specs.declared.definitions.Kept.{Kept}
 use Rattle.lx_forms.specs.Lexemes.{Lexeme, nth_lexeme}
@@ -8,14 +9,17 @@ use Rattle.lx_forms.specs.Seen.{lexemes_view}
 use Rattle.lx_rules.proofs.ItemSteps.{define_refused, define_taken, read_known}
 use Rattle.lx_rules.proofs.items.Known.define.Goals as goal
 
-pub returns-in-Err-clause-taken : goal.returns-in-Err-clause-taken
-returns-in-Err-clause-taken c = λ state holds.
+pub returns-in_err-reading-clause-taken : goal.returns-in_err-reading-clause-taken
+returns-in_err-reading-clause-taken c = λ state holds.
     let lexemes = lexemes_view c.args.block.lexemes in
     let none : definition_of state.definitions (nth_lexeme lexemes c.args.name).text ≡ None =
     ap (λ (l : Lexeme). definition_of state.definitions l.text) (sym c.at-name.ensures)
     ∙ ap (λ definitions. definition_of definitions c.at-name.result.text.now) (sym holds.definitions)
     ∙ sym c.get.ensures.found ∙ ap (option_map (λ kept. definition_view c.at-name.result.text.now kept.now)) c.in_default.is in
-    define_refused c.args.block.options.now lexemes c.args.self.now state holds c.args.name c.args.from c.args.until c.in-Err.stop none c.in-Err.ensures.read
+    let p = err_from_is_err_and c.from_residual.result c.from_residual.ensures.1 in
+    rw (p.1, p.2)
+    (define_refused c.args.block.options.now lexemes c.args.self.now state holds c.args.name c.args.from c.args.until c.in_err-reading.field-0.0 none
+    c.in_err-reading.ensures.read)
 
 pub returns-clause-taken : goal.returns-clause-taken
 returns-clause-taken c = λ state holds.
@@ -24,8 +28,8 @@ returns-clause-taken c = λ state holds.
     ap (λ (l : Lexeme). definition_of state.definitions l.text) (sym c.at-name.ensures)
     ∙ ap (λ definitions. definition_of definitions c.at-name.result.text.now) (sym holds.definitions)
     ∙ sym c.get.ensures.found ∙ ap (option_map (λ kept. definition_view c.at-name.result.text.now kept.now)) c.in_default.is in
-    let reading = c.in-Ok.reading in
-    let read = read_known c.args.block.options.now lexemes c.args.self.now state holds whole_room c.args.from c.args.until reading c.in-Ok.ensures.read in
+    let reading = c.in_ok-reading.reading in
+    let read = read_known c.args.block.options.now lexemes c.args.self.now state holds whole_room c.args.from c.args.until reading c.in_ok-reading.ensures.read in
     let counted = read.stands.value.counted in
     let given : Kept = record { at = c.at-name.result.at; size = reading.value.size; nesting = reading.value.nesting; tags = reading.tags; expr = c.in_ok-into_kept.field-0 } in
     let defined : IsDefined (nth_lexeme lexemes c.args.name).text (nth_lexeme lexemes c.args.name).at read.meaning (definition_view (nth_lexeme lexemes c.args.name).text given) =
@@ -40,5 +44,5 @@ returns-clause-taken c = λ state holds.
     define_taken c.args.block.options.now lexemes c.args.self.now state holds c.args.name c.args.from c.args.until _ given reading none read defined
     (subst (λ (l : Lexeme). definitions_view c.add.new.self ≡ definitions_view c.args.self.now.env.definitions ++ definition_view l.text given ∷ []) c.at-name.ensures c.in_ok-add.ensures.added)
     (c.in_ok-add.ensures.sound holds.sound
-    (c.in_ok-into_kept.ensures.kept (length reading.tags) c.in-Ok.ensures.honest))
+    (c.in_ok-into_kept.ensures.kept (length reading.tags) c.in_ok-reading.ensures.bounded))
     refl refl refl refl refl refl refl

@@ -9,5 +9,5 @@ pub returns : goal.returns
 returns c =
     let new = onto_histories-new c.self.inside.slots.items c.args.name.now c.self.inside.names c.place_of.result c.self.invariant c.place_of.ensures.place (sym c.is_some.ensures ∙ c.if-is_some.false) in
     rw (← c.self.view_is)
-    (pushed_history c.self.inside.slots.items c.reserve.new.self.items c.push_reserved.new.self.items c.from_vec-word.result c.args.name.now c.new.result c.push_reserved.ensures.items
-    c.in_ok-reserve.ensures.items (c.from_vec-word.ensures ∙ c.in_ok-from_slice.ensures.items) c.new.ensures ∙ new)
+    (pushed_history c.self.inside.slots.items c.reserve.new.self.items c.push_reserved.new.self.items c.in_ok-word.word c.args.name.now c.new.result c.push_reserved.ensures.items
+    c.in_ok-reserve.ensures.items c.in_ok-word.ensures c.new.ensures ∙ new)

@@ -6,7 +6,7 @@ use Rattle.lx_tnfa.specs.declared.places.Place.{Place}
 use Rattle.lx_tdfa.specs.Making.{Adds, AreTooMany, IsWithin, lists_of}
 use Rattle.lx_tdfa.proofs.Loops.ListSets.{adds_kept, adds_put, is_kept, is_put, kept_with, stored_list}
 use Rattle.lx_tdfa.proofs.kernels.Kernels.add.Goals as goal
-use Rattle.lx_tdfa.proofs.kernels.Kernels.add.Goals.{then-len-gt-STATE_LIMIT-via-then-len-gt-STATE_LIMIT, then-len-gt-STATE_LIMIT-via-else-len-gt-STATE_LIMIT+then-self-gt-PLACE_LIMIT, then-is_new+else-len-gt-STATE_LIMIT+else-self-gt-PLACE_LIMIT, else-is_new}
+use Rattle.lx_tdfa.proofs.kernels.Kernels.add.Goals.{then-len-gt-KERNEL_LIMIT-via-then-len-gt-KERNEL_LIMIT, then-len-gt-KERNEL_LIMIT-via-else-len-gt-KERNEL_LIMIT+then-self-gt-PLACE_LIMIT, then-is_new+else-len-gt-KERNEL_LIMIT+else-self-gt-PLACE_LIMIT, else-is_new}
 
 -- what the result says of the lists before and after
 abbrev IsAdded : (old : List (List Place)) → (list : List Place) → (index : ℕ) → (new : List (List Place)) → Type 0
@@ -17,16 +17,16 @@ seen_as old view new seen list index o n is =
     subst (λ (seen : List (List Place)). IsAdded view list index seen) (sym n)
     (subst (λ (view : List (List Place)). IsAdded view list index new) o is)
 
-pub invariant_of-self-then-len-gt-STATE_LIMIT : goal.invariant_of-self-then-len-gt-STATE_LIMIT
-invariant_of-self-then-len-gt-STATE_LIMIT c =
+pub invariant_of-self-then-len-gt-KERNEL_LIMIT : goal.invariant_of-self-then-len-gt-KERNEL_LIMIT
+invariant_of-self-then-len-gt-KERNEL_LIMIT c =
     let inside = c.self.inside in
     let told = c.in-Ok.ensures in
     let kept = kept_with inside.lists.keys c.insert_full.new.self.keys c.args.places c.in-Ok.inserted.1 told.added told.keys inside.places inside.most
     c.len-count.result c.if-is_new.true c.self.invariant (omega (arith, c.args.places.ok.0)) in
     (kept.0, kept.1, c.max-self-inside.ensures ∙ kept.2)
 
-pub returns-then-len-gt-STATE_LIMIT : goal.returns-then-len-gt-STATE_LIMIT
-returns-then-len-gt-STATE_LIMIT c =
+pub returns-then-len-gt-KERNEL_LIMIT : goal.returns-then-len-gt-KERNEL_LIMIT
+returns-then-len-gt-KERNEL_LIMIT c =
     let inside = c.self.inside in
     let told = c.in-Ok.ensures in
     let new : List (List Place) = lists_of c.insert_full.new.self.keys in
@@ -35,9 +35,9 @@ returns-then-len-gt-STATE_LIMIT c =
     let put = is_put inside.lists.keys c.insert_full.new.self.keys c.args.places c.in-Ok.inserted.1 told.added told.keys c.if-is_new.true in
     let count : length new ≡ c.len.result = length-map c.insert_full.new.self.keys _ ∙ sym c.len.ensures.len in
     let many : (4096 < length new) ⊎ (1048576 < sum_by length new) =
-    elim c.then-len-gt-STATE_LIMIT.branch [
-      | then-len-gt-STATE_LIMIT-via-then-len-gt-STATE_LIMIT w ↦ inl (omega (arith, w.if-len-gt-STATE_LIMIT.true))
-      | then-len-gt-STATE_LIMIT-via-else-len-gt-STATE_LIMIT+then-self-gt-PLACE_LIMIT w ↦ inr (omega (arith, kept.1, w.if-self-gt-PLACE_LIMIT.true))
+    elim c.then-len-gt-KERNEL_LIMIT.branch [
+      | then-len-gt-KERNEL_LIMIT-via-then-len-gt-KERNEL_LIMIT w ↦ inl (omega (arith, w.if-len-gt-KERNEL_LIMIT.true))
+      | then-len-gt-KERNEL_LIMIT-via-else-len-gt-KERNEL_LIMIT+then-self-gt-PLACE_LIMIT w ↦ inr (omega (arith, kept.1, w.if-self-gt-PLACE_LIMIT.true))
     ] in (
       refl,
       subst (λ (lists : List (List Place)). AreTooMany lists) (put.1 ∙ ap (λ (old : List (List Place)). old ++ c.args.places.items ∷ []) c.self.view_is)
@@ -59,13 +59,13 @@ returns c =
     let new : List (List Place) = lists_of c.insert_full.new.self.keys in
     let stored = stored_list c.insert_full.new.self.keys c.args.places.items c.in-Ok.inserted.0 told.stored in
     elim c.if-is_new.branch [
-      | then-is_new+else-len-gt-STATE_LIMIT+else-self-gt-PLACE_LIMIT w ↦
+      | then-is_new+else-len-gt-KERNEL_LIMIT+else-self-gt-PLACE_LIMIT w ↦
           let kept = kept_with inside.lists.keys c.insert_full.new.self.keys c.args.places c.in-Ok.inserted.1 told.added told.keys inside.places inside.most
           c.len-count.result w.if-is_new.true c.self.invariant (omega (arith, c.args.places.ok.0)) in
           let put = adds_put inside.lists.keys c.insert_full.new.self.keys c.args.places c.in-Ok.inserted.1 told.added told.keys w.if-is_new.true in
           let count : length new ≡ w.len.result = length-map c.insert_full.new.self.keys _ ∙ sym w.len.ensures.len in
           let within : IsWithin new = record {
-            few = omega (arith, w.if-len-gt-STATE_LIMIT.false);
+            few = omega (arith, w.if-len-gt-KERNEL_LIMIT.false);
             few_places = omega (arith, kept.1, w.if-self-gt-PLACE_LIMIT.false);
           } in
           seen_as _ _ _ _ _ _ c.self.view_is w.self-is (put, stored, within)

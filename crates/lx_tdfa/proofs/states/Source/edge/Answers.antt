@@ -10,9 +10,9 @@ use Rattle.lx_tdfa.proofs.states.Source.edge.Goals as goal
 
 pub step_ops-requires-clause-sources : goal.step_ops-requires-clause-sources
 step_ops-requires-clause-sources c =
-    let ready = c.requires.ready in
+    let of_rules = c.requires.of_rules in
     subst (λ (l : List held.Step). All (λ (step : held.Step). step.reach.now.from < 1048576) l) (sym c.deref-2.ensures.value)
-    (steps-sources ready.enc ready.patterns c.args.self.now.t.now ready.of c.args.kernels.now c.requires.listed c.args.reaches.now c.requires.targets.0
+    (steps-sources of_rules.enc of_rules.patterns c.args.self.now.t.now of_rules.of c.args.kernels.now c.requires.listed c.args.reaches.now c.requires.targets.0
     c.args.units.lo c.requires.unit c.in_ok-steps.steps.items c.in_ok-steps.ensures)
 
 pub overflow_cast-result : goal.overflow_cast-result
@@ -23,24 +23,24 @@ overflow_cast-result c =
 
 pub returns-in_err-to : goal.returns-in_err-to
 returns-in_err-to c =
-    let ready = c.requires.ready in
+    let of_rules = c.requires.of_rules in
     let some : c.in_ok-steps.steps.items ≢ [] = search (rules, c.is_empty.ensures, c.if-is_empty.false) in
     let p = err_from_is_err_and c.from_residual-in_err-to.result c.from_residual-in_err-to.ensures.1 in
     rw (p.1, p.2)
-    (too_many-found ready.enc ready.patterns c.args.self.now.t.now ready.of c.args.kernels.now c.requires.listed c.args.reaches.now
+    (too_many-found of_rules.enc of_rules.patterns c.args.self.now.t.now of_rules.of c.args.kernels.now c.requires.listed c.args.reaches.now
     c.requires.targets.0 c.args.units.lo c.requires.unit c.in_ok-steps.steps.items c.in_ok-steps.ensures some c.in_ok-places.field-0.items
     (c.in_ok-places.ensures ∙ ap (λ l. places_of (map seen_step l)) c.deref.ensures.value) c.args.self.now.at c.in_err-to.field-0.0 c.in_err-to.ensures)
 
 pub returns : goal.returns
 returns c =
-    let ready = c.requires.ready in
+    let of_rules = c.requires.of_rules in
     let some : c.in_ok-steps.steps.items ≢ [] = search (rules, c.is_empty.ensures, c.if-is_empty.false) in
     let lead = c.in_ok-places.ensures ∙ ap (λ l. places_of (map seen_step l)) c.deref.ensures.value in (
-      adds-grows ready.enc ready.patterns c.args.self.now.t.now ready.of c.args.kernels.now c.requires.listed c.args.reaches.now
+      adds-grows of_rules.enc of_rules.patterns c.args.self.now.t.now of_rules.of c.args.kernels.now c.requires.listed c.args.reaches.now
           c.requires.targets.0 c.args.units.lo c.requires.unit c.in_ok-steps.steps.items c.in_ok-steps.ensures some c.in_ok-places.field-0.items
           lead c.add.new.self c.in_ok-to.ensures.0 c.in_ok-to.ensures.2,
       (
-        edge-made ready.enc ready.patterns c.args.self.now.t.now ready.of c.args.kernels.now c.requires.listed c.args.reaches.now
+        edge-made of_rules.enc of_rules.patterns c.args.self.now.t.now of_rules.of c.args.kernels.now c.requires.listed c.args.reaches.now
             c.requires.targets.0 c.args.units.lo c.requires.unit c.in_ok-steps.steps.items c.in_ok-steps.ensures c.add.new.self c.args.is_first _
             c.in_ok-places.field-0.items some c.in_ok-to.ensures.1 lead
             (c.in_ok-step_ops.ensures

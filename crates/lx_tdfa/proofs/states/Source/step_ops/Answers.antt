@@ -9,8 +9,8 @@ push_tags-requires c =
     let near : c.index-steps-index.result.reach.now.from < 1048576 =
     subst (λ (step : Step). step.reach.now.from < 1048576) (sym c.index-steps-index.is)
     (c.requires.sources c.loop-index.index c.index-steps-index.result few) in (
-      first_of-room c.args.self.now.t.now c.args.self.now.width c.index-steps-index.result.reach.now.from _ c.first_of.result c.at.result.now
-          c.requires.ready.width c.requires.ready.narrow (omega (arith, near)) c.first_of.ensures c.at.ensures,
-      first_of-room c.args.self.now.t.now c.args.self.now.width c.loop-index.index _ c.first_of-in-loop-index.result c.at.result.now
-          c.requires.ready.width c.requires.ready.narrow (omega (arith, few, c.requires.few)) c.first_of-in-loop-index.ensures c.at.ensures,
+      first_of-room c.args.self.now.t.now c.args.self.now.width c.index-steps-index.result.reach.now.from _ c.first_of.result c.tags_at.result.now
+          c.requires.of_rules.width c.requires.of_rules.narrow (omega (arith, near)) c.first_of.ensures c.tags_at.ensures,
+      first_of-room c.args.self.now.t.now c.args.self.now.width c.loop-index.index _ c.first_of-in-loop-index.result c.tags_at.result.now
+          c.requires.of_rules.width c.requires.of_rules.narrow (omega (arith, few, c.requires.few)) c.first_of-in-loop-index.ensures c.tags_at.ensures,
     )

@@ -2,9 +2,11 @@ use Rattle.std.proofs.Common.{◌≡◌, ◌∙◌, ◌+◌, suc, sym, ap, subst
 use Rattle.lx_regex.specs.Automaton.{automaton}
 use Rattle.lx_regex.specs.Limits.{IsWithinLimits}
 use Rattle.lx_regex.specs.Pattern.{patterns_of, terms_of}
-use Rattle.lx_tnfa.specs.Tnfa.{AllClassesFit}
+use Rattle.lx_tnfa.specs.RuleNumbers.{HaveApartNumbers}
+use Rattle.lx_regex.specs.ClassLimits.{AllClassesFit}
 use Rattle.lx_tnfa.proofs.Leaves.FormedLeaves.{automaton_formed}
 use Rattle.lx_tnfa.proofs.Liveness.LiveMarks.{live_same}
+use Rattle.lx_tnfa.proofs.Construction.ApartNumbers.{numbers_apart}
 use Rattle.lx_tnfa.proofs.Construction.WholeTable.{RulesMade, made_begin, made_can, made_more, made_end, made_few, made_some, held_numbered}
 use Rattle.lx_tnfa.proofs.tnfa.Tnfa.of.Goals as goal
 
@@ -43,6 +45,7 @@ invariant_of-result c =
       made_few c.as_slice-rule-items.result.now c.in_ok-making.making c.loop-rule.making c.loop-rule.rule-index c.loop-rule.invariant,
       automaton_formed c.args.enc c.loop-rule.making.building.classes.list.items (terms_of (patterns_of c.as_slice-rule-items.result.now))
           c.loop-rule.making.building.states.items whole.states whole.classes,
+      subst HaveApartNumbers (sym whole.rules) (numbers_apart c.as_slice-rule-items.result.now (subst IsWithinLimits (sym c.as_slice-rule-items.ensures) c.requires.limits).numbers),
     )
 
 pub returns : goal.returns

@@ -1,0 +1,66 @@
+-- The rules of a valid piece, in groups that are tested together.
+use Rattle.std.specs.Prelude.{◌≡◌, ℕ, ◌<◌, ◌≤◌, ◌*◌, ◌^◌, ◌⊎◌, Bool, false, true, List, length, map, Option, Some, IfSome}
+use Rattle.std.specs.List.{AllByRecursion, list_any}
+use Rattle.lx_base.specs.declared.limits.TheConstants.{STATEMENT_LIMIT}
+use Rattle.lx_base.specs.Letters.{IsIdentifier}
+use Rattle.lx_base.specs.Names.{AreAllowed, AreDistinct, DoNotClash, Spellings}
+use Rattle.lx_ccode.specs.declared.piece.Stmt.{Stmt}
+use Rattle.lx_ccode.specs.declared.piece.CodeBlock.{CodeBlock}
+use Rattle.lx_ccode.specs.declared.piece.CondCase.{CondCase}
+use Rattle.lx_ccode.specs.declared.piece.Piece.{Piece}
+use Rattle.lx_ccode.specs.Statements.{all_statements, has_register_one, is_need, is_state, is_try, statement_count}
+use Rattle.lx_ccode.specs.Validity.{HasFewGroups, HasSpelling, IsLabel, IsLine, IsLong, IsShort, JumpsBelow, NamesOneOf, ends_once, label_of, labels, last_statements, refills_after_states, states_before_refills, tries_after_state}
+
+-- the statement keeps the rules in a piece with these spellings, these conditions and so many blocks
+pub record IsValidStatement (names : Spellings) (conds : List (List ℕ)) (blocks : ℕ) (statement : Stmt) : Type 0 where
+  pub jumps : JumpsBelow blocks statement
+  pub named : NamesOneOf conds statement
+  pub groups : HasFewGroups statement
+  pub spelled : HasSpelling names statement
+
+-- the block keeps the rules
+pub record IsValidBlock (names : Spellings) (conds : List (List ℕ)) (blocks : ℕ) (block : CodeBlock) : Type 0 where
+  pub some : 0 < length block.stmts
+  pub label : IsLabel block.cond
+  pub ends : ends_once block.stmts ≡ true
+  pub after_states : refills_after_states block.stmts ≡ true
+  pub statements : AllByRecursion (IsValidStatement names conds blocks) block.stmts
+
+-- the case of a condition is an identifier and goes to the block that is its start
+pub record IsValidCase (blocks : List CodeBlock) (case : CondCase) : Type 0 where
+  pub identifier : IsIdentifier case.cond
+  pub long : IsLong case.block
+  pub start : label_of blocks case.block ≡ Some case.cond
+
+-- the rules of conditions
+pub record KeepCondRules (blocks : List CodeBlock) (conds : List CondCase) : Type 0 where
+  pub labels : map (λ case. case.cond) conds ≡ labels blocks
+  pub differ : AreDistinct (map (λ case. case.cond) conds)
+  pub valid : AllByRecursion (IsValidCase blocks) conds
+
+-- a unit has one, two or four bytes, and the unit at the buffer's end is one
+pub record HasUnit (unit : ℕ) (eof : Option ℕ) : Type 0 where
+  pub size : (unit ≡ 1) ⊎ ((unit ≡ 2) ⊎ (unit ≡ 4))
+  pub fits : IfSome eof (λ eof. eof < 2 ^ (8 * unit))
+
+-- the rules of what stands beside the blocks and the conditions
+pub record KeepsHeadRules (piece : Piece) : Type 0 where
+  pub number : IsShort piece.number
+  pub line : IsLine piece.line
+  pub states : IfSome piece.states (λ cases. AllByRecursion (λ case. IsLong case.state × IsLong case.block) cases)
+  pub unit : HasUnit piece.unit piece.eof
+  pub names : AreAllowed piece.names
+  pub names_differ : DoNotClash piece.names
+
+-- the rules of blocks one by one
+pub record KeepsBlockRules (names : Spellings) (conds : List (List ℕ)) (blocks : List CodeBlock) : Type 0 where
+  pub some : 0 < length blocks
+  pub countable : statement_count blocks ≤ STATEMENT_LIMIT
+  pub valid : AllByRecursion (IsValidBlock names conds (length blocks)) blocks
+
+-- the rules of refills, states and the context marker
+pub record KeepsKindRules (ctx : Bool) (blocks : List CodeBlock) : Type 0 where
+  pub one_refill : (list_any is_need (all_statements blocks) ≡ false) ⊎ (list_any is_try (all_statements blocks) ≡ false)
+  pub before_refills : list_any is_state (all_statements blocks) ≡ true → AllByRecursion (λ block. states_before_refills false block.stmts ≡ true) blocks
+  pub next_block : tries_after_state false (last_statements blocks) ≡ false
+  pub context : ctx ≡ true → list_any has_register_one (all_statements blocks) ≡ true

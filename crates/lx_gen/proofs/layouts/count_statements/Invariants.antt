@@ -1,6 +1,0 @@
-use Rattle.std.proofs.Common.{◌≡◌, ◌+◌, drop}
-use Rattle.lx_ccode.specs.Statements.{statement_count}
-use Rattle.lx_gen.proofs.layouts.count_statements.Given as goal
-
-abbrev pub invariant-loop-block : goal.invariant-loop-block
-invariant-loop-block l = l.count + statement_count (drop l.block-index l.blocks) ≡ statement_count l.blocks
