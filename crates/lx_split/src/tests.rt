@@ -1,4 +1,6 @@
 //! Worked sources, and how long large ones take.
+mod includes;
+
 ghost use Rattle.std.specs.Prelude.{◌≤◌, length};
 
 use super::*;
@@ -34,6 +36,10 @@ fn push_fault(alloc: Global, text: &mut String, fault: &Fault) -> Result<(), All
         Fault::MarkInSource { .. } => "MarkInSource",
         Fault::Directive { .. } => "Directive",
         Fault::Unclosed { .. } => "Unclosed",
+        Fault::NoFile { .. } => "NoFile",
+        Fault::IncludeDepth { .. } => "IncludeDepth",
+        Fault::Syntax { .. } => "Syntax",
+        Fault::TooLong { .. } => "TooLong",
         _ => "?",
     })?;
     if let Some(at) = fault.place() {
