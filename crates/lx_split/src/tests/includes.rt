@@ -25,7 +25,10 @@ fn push_piece(alloc: Global, text: &mut String, piece: &SourcePiece) -> Result<(
             text.push_str(format!(in alloc; "[{outside}]")?.as_str())
         }
         SourcePiece::Block {
-            kind, at, end_line, ..
+            kind,
+            at,
+            end_line,
+            ..
         } => {
             let (file, line, col) = (at.file, at.line, at.col);
             text.push_str(format!(in alloc; "({kind:?} {file}:{line}:{col} {end_line})")?.as_str())
@@ -59,12 +62,7 @@ fn push_placed(
 }
 
 /// How many names there are, a `;`, and the pieces of the main file with its includes put in, or why there are none.
-fn shown(
-    alloc: Global,
-    files: &mut MemFiles,
-    opts: &Options,
-    main: &str,
-) -> Result<String, Fail> {
+fn shown(alloc: Global, files: &mut MemFiles, opts: &Options, main: &str) -> Result<String, Fail> {
     let mut names = FileNames::new(alloc);
     let expanded = expand(alloc, files, &mut names, opts, main);
     let count = names.len();
@@ -146,7 +144,10 @@ fn an_include_stands_for_its_file(rt: HostRuntime) -> Result<(), Fail> {
         ("+/*!include:re2c */", "1; Syntax 1:2 in m.re"),
         ("/*!include:re2c \"\" */", "1; Syntax 1:1 in m.re"),
         ("/*!include:re2c 'i.h' */", "1; Syntax 1:1 in m.re"),
-        ("/*!include:re2c \"i.h\" \"i.h\" */", "1; Syntax 1:1 in m.re"),
+        (
+            "/*!include:re2c \"i.h\" \"i.h\" */",
+            "1; Syntax 1:1 in m.re",
+        ),
         ("/*!include:re2c \"i\r.h\" */", "1; Syntax 1:1 in m.re"),
         ("/*!include:re2c \"*!i.h\" */", "1; Syntax 1:1 in m.re"),
         ("/*!include:re2c \"d/*!i.h\" */", "1; Syntax 1:1 in m.re"),
@@ -244,14 +245,20 @@ fn reads_and_bytes_are_counted(rt: HostRuntime) -> Result<(), Fail> {
     broken.add("m.re", main.as_bytes())?;
     broken.add("a.h", b"1")?;
     broken.fail_call(1)?;
-    assert_eq!(rt; shown(alloc, &mut broken, &opts, "m.re")?.as_str(), "1; read failed");
+    assert_eq!(rt;
+        shown(alloc, &mut broken, &opts, "m.re")?.as_str(),
+        "1; read failed"
+    );
     let mut none = MemFiles::new(alloc);
     assert_eq!(rt;
         shown(alloc, &mut none, &opts, "m.re")?.as_str(),
         "1; NoFile 1:1 in m.re: m.re"
     );
     let mut long = MemFiles::new(alloc);
-    long.add("m.re", b"/*!include:re2c \"a.h\" */\n/*!include:re2c \"b.h\" */")?;
+    long.add(
+        "m.re",
+        b"/*!include:re2c \"a.h\" */\n/*!include:re2c \"b.h\" */",
+    )?;
     long.add("a.h", b"1")?;
     long.add("b.h", large(alloc, b"", b"12345678", b"")?.as_slice())?;
     assert_eq!(rt;
