@@ -1,8 +1,8 @@
 #!/bin/sh
 # Measures the items of 4,000,000 nested parentheses, of the same where they are not closed or no action follows, and of
 # 16 MiB of rules, and fails where one of them takes 1 s or more.
-cd "$(dirname "$0")/../crates/lx_parse" || exit 1
-figures=$(rt test | sed -n 's/^ *\([a-z]*\): \([0-9][0-9]*\) us$/\1 \2/p')
+cd "$(dirname "$0")/../crates/lx_samples" || exit 1
+figures=$(rt test | sed -n 's/^ *parsing_\([a-z]*\): \([0-9][0-9]*\) us$/\1 \2/p')
 [ -n "$figures" ] || { echo "parsing: no figure (rt test failed)" >&2; exit 1; }
 echo "$figures" | {
     status=0

@@ -1,8 +1,8 @@
 #!/bin/sh
 # Measures the pieces of 16 MiB of outside text and of one block of 16 MiB, and fails where they take 100 ms and 1 s or
 # more; and those of sources that are made to be slow, at 1 s each.
-cd "$(dirname "$0")/../crates/lx_split" || exit 1
-figures=$(rt test | sed -n 's/^ *\([a-z]*\): \([0-9][0-9]*\) us$/\1 \2/p')
+cd "$(dirname "$0")/../crates/lx_samples" || exit 1
+figures=$(rt test | sed -n 's/^ *splitting_\([a-z]*\): \([0-9][0-9]*\) us$/\1 \2/p')
 [ -n "$figures" ] || { echo "splitting: no figure (rt test failed)" >&2; exit 1; }
 echo "$figures" | {
     status=0

@@ -9,7 +9,7 @@ rt test > "$log" 2>&1 || { tail -5 "$log" >&2; exit 1; }
 python3 - out/tdfa_samples_tests <<'PYTHON'
 import re, resource, subprocess, sys
 limits = {
-    'lexer::time_of_a_lexer': {'lexer': 50_000},
+    'limits::time_of_a_lexer': {'lexer': 50_000},
     'limits::time_of_many_states': {'states': 1_000_000, 'states_refused': 1_000_000},
     'limits::time_of_a_string': {'string': 1_000_000, 'string_refused': 1_000_000},
     'limits::time_of_many_places': {'places': 20_000_000, 'places_refused': 20_000_000},

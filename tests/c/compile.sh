@@ -1,18 +1,18 @@
 #!/bin/sh
-# Compiles the printed example pieces as C. They stand in crates/piece_samples/stdout, which the gate
-# compares with what the program prints. Each piece goes into a function, behind a user's declarations.
+# Compiles the example pieces as C. They stand in the cases of crates/cases/data/pieces.txt in which a piece is run, so
+# the gate reads and prints the same texts. Each piece goes into a function, behind a user's declarations.
 #
 # Usage: tests/c/compile.sh, from anywhere; CC names the compiler (cc where it is unset).
 . "$(dirname "$0")/setup.sh"
 
 here=$root/tests/c
-pieces=$root/crates/piece_samples/stdout
+cases=$root/crates/cases/data/pieces.txt
 
-awk -v work="$work" '
+sed -n '/^case a piece with .* is run$/,/^run /s/^[|>] //p' "$cases" | awk -v work="$work" '
     /^\/\*!begin:re2c / { split($2, part, "*"); file = work "/piece" part[1] ".inc" }
     file != "" { print > file }
     /^\/\*!end:re2c\*\// { close(file); file = "" }
-' "$pieces"
+'
 
 count=0
 for piece in "$work"/piece*.inc; do

@@ -107,6 +107,3 @@ pub fn same_points_same_ranges()
     ensures { (left right : List Range) →
         IsCanonical left → IsCanonical right → HaveSamePoints left right → left ≡ right }
 {}
-
-#[cfg(test)]
-mod tests;

@@ -251,12 +251,12 @@ fn read_name(
     reader: Reader<'_>,
     seen: &mut SeenTags,
     lexeme: &Lexeme<'_>,
-    is_operand: bool,
 ) -> Result<Value, Stop>
-    requires room { IsRoom reader.room }
     requires sort { (lexeme_view lexeme.now).kind ≡ kind.Name }
+    requires room { IsRoom reader.room }
     requires sound { DefinitionsFit reader.definitions.now }
-    ensures read { IsLeafResult reader.entry.options.now (definitions_view reader.entry.definitions.now) reader.entry.room is_operand seen.old (lexeme_view lexeme.now) seen.new result }
+    ensures read { (is_operand : Bool)
+        → IsLeafResult reader.entry.options.now (definitions_view reader.entry.definitions.now) reader.entry.room is_operand seen.old (lexeme_view lexeme.now) seen.new result }
     ensures bounded { IfOk result (IsBounded (length seen.new)) }
 {
     let Some(kept) = reader.definitions.get(lexeme.text) else {
@@ -294,11 +294,11 @@ fn read_tag(
     reader: Reader<'_>,
     seen: &mut SeenTags,
     lexeme: &Lexeme<'_>,
-    is_operand: bool,
 ) -> Result<Value, Stop>
-    requires room { IsRoom reader.room }
     requires sort { (lexeme_view lexeme.now).kind ≡ kind.STag }
-    ensures read { IsLeafResult reader.entry.options.now (definitions_view reader.entry.definitions.now) reader.entry.room is_operand seen.old (lexeme_view lexeme.now) seen.new result }
+    requires room { IsRoom reader.room }
+    ensures read { (is_operand : Bool)
+        → IsLeafResult reader.entry.options.now (definitions_view reader.entry.definitions.now) reader.entry.room is_operand seen.old (lexeme_view lexeme.now) seen.new result }
     ensures bounded { IfOk result (IsBounded (length seen.new)) }
 {
     if !reader.options.tags {
@@ -337,8 +337,8 @@ pub fn read_leaf(
         TokenKind::IStr => read_string(alloc, reader, seen.len(), lexeme, true),
         TokenKind::Class => read_class(alloc, reader, seen.len(), lexeme, is_operand),
         TokenKind::Signs => Ok(read_line(alloc, reader, seen.len(), is_operand)?),
-        TokenKind::Name => read_name(alloc, reader, seen, lexeme, is_operand),
-        TokenKind::STag => read_tag(alloc, reader, seen, lexeme, is_operand),
+        TokenKind::Name => read_name(alloc, reader, seen, lexeme),
+        TokenKind::STag => read_tag(alloc, reader, seen, lexeme),
         _ => Err(Stop::Fault(Fault::Unsupported {
             at: Some(lexeme.at),
         })),

@@ -7,8 +7,8 @@ ghost use Rattle.lx_exprs.specs.Defined.{both_classes, class_in, classes_in};
 ghost use Rattle.lx_exprs.specs.Values.{HasPoints};
 
 use crate::sets::Collected;
-use lx_base::limits::NESTING_LIMIT;
 use lx_base::Memory;
+use lx_base::limits::NESTING_LIMIT;
 use lx_class::ClassSet;
 use lx_regex::Expr;
 use lx_token::Repeat;

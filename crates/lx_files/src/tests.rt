@@ -1,82 +1,67 @@
-//! What no clause says: that calls succeed, and what happens over real files and broken devices.
+//! What no clause says: what happens over real files and broken devices, and that files which never fail succeed. Files and sinks of
+//! which chosen calls fail are tried by `crates/cases`.
 use crate::files::{Files, ReadAnswer, WriteAnswer};
-use crate::memory_files::{MemFiles, QuietFiles};
-use crate::memory_sinks::{MemSink, QuietSink};
+use crate::memory_files::QuietFiles;
+use crate::memory_sinks::QuietSink;
 use crate::real::{RealFiles, RealSink, read_to_end};
 use crate::sinks::{PutAnswer, Sink};
+use std::alloc::Global;
 use std::io::{Read, Write};
 use std::test::Fail;
 use std::{env, fs, io, process};
 
-#[test]
-fn memory_files_hold_what_was_put(rt: HostRuntime) -> Result<(), Fail> {
-    let mut files = MemFiles::new(rt.alloc());
-    files.add("a.re", b"old")?;
-    files.write("a.re", b"new")?;
-    files.write("b.re", b"")?;
-    assert_eq!(rt;
-        files.read(rt.alloc(), "a.re")?.as_slice(),
-        b"new".as_slice()
-    );
-    assert_eq!(rt; files.read(rt.alloc(), "b.re")?.as_slice(), b"".as_slice());
-    assert_eq!(rt;
-        files.read(rt.alloc(), "c.re").err(),
-        Some(ReadAnswer::Missing)
-    );
-    Ok(())
+/// Whether a file holds these bytes.
+fn holds<F: Files>(files: &mut F, alloc: Global, name: &str, want: &[u8]) -> bool {
+    match files.read(alloc, name) {
+        Ok(bytes) => bytes.as_slice() == want,
+        Err(_) => false,
+    }
+}
+
+/// Why there are no bytes of a file.
+fn refusal<F: Files>(files: &mut F, alloc: Global, name: &str) -> Option<ReadAnswer> {
+    files.read(alloc, name).err()
 }
 
 #[test]
-fn memory_files_fail_the_chosen_calls(rt: HostRuntime) -> Result<(), Fail> {
-    let mut files = MemFiles::new(rt.alloc());
-    files.add("a.re", b"kept")?;
-    files.fail_call(1)?;
-    files.fail_call(2)?;
-    assert!(rt; files.read(rt.alloc(), "a.re").is_ok());
-    assert_eq!(rt;
-        files.write("a.re", b"lost").err(),
-        Some(WriteAnswer::Failed)
-    );
-    assert_eq!(rt;
-        files.read(rt.alloc(), "a.re").err(),
-        Some(ReadAnswer::Failed)
-    );
-    assert_eq!(rt;
-        files.read(rt.alloc(), "a.re")?.as_slice(),
-        b"kept".as_slice()
-    );
-    Ok(())
-}
-
-#[test]
-fn quiet_files_hold_what_was_put(rt: HostRuntime) -> Result<(), Fail> {
+fn files_and_sinks_that_never_fail(rt: HostRuntime) -> Result<(), Fail> {
     let mut files = QuietFiles::new(rt.alloc());
     files.add("a.re", b"old")?;
     files.write("a.re", b"new")?;
-    assert_eq!(rt;
-        files.read(rt.alloc(), "a.re")?.as_slice(),
-        b"new".as_slice()
-    );
-    assert_eq!(rt;
-        files.read(rt.alloc(), "b.re").err(),
-        Some(ReadAnswer::Missing)
-    );
+    assert!(rt; holds(&mut files, rt.alloc(), "a.re", b"new"));
+    let missing = refusal(&mut files, rt.alloc(), "b.re");
+    assert!(rt; missing == Some(ReadAnswer::Missing));
+    let mut sink = QuietSink::new(rt.alloc());
+    let count = sink.put(b"ab")?;
+    assert!(rt; count == 2 && sink.bytes() == b"ab".as_slice());
     Ok(())
 }
 
-#[test]
-fn memory_sinks_take_all(rt: HostRuntime) -> Result<(), Fail> {
-    let mut sink = MemSink::new(rt.alloc());
-    sink.fail_call(1)?;
-    assert_eq!(rt; sink.put(b"ab")?, 2);
-    assert_eq!(rt; sink.put(b"lost").err(), Some(PutAnswer::Failed));
-    assert_eq!(rt; sink.put(b"c")?, 1);
-    assert_eq!(rt; sink.bytes(), b"abc".as_slice());
-    let mut sink = QuietSink::new(rt.alloc());
-    assert_eq!(rt; sink.put(b"ab")?, 2);
-    assert_eq!(rt; sink.put(b"")?, 0);
-    assert_eq!(rt; sink.bytes(), b"ab".as_slice());
-    Ok(())
+/// Whether a file of the system that is not there can be written and read.
+fn is_kept(rt: &HostRuntime, name: &str) -> Result<bool, Fail> {
+    let mut files = RealFiles::new(rt);
+    if refusal(&mut files, rt.alloc(), name) != Some(ReadAnswer::Missing) {
+        return Ok(false);
+    }
+    files.write(name, b"int x;\n")?;
+    Ok(holds(&mut files, rt.alloc(), name, b"int x;\n"))
+}
+
+/// Whether a file of the system can be put to as a sink; it is removed then.
+fn is_put(rt: &HostRuntime, name: &str) -> Result<bool, Fail> {
+    let mut sink = RealSink::new(fs::create(rt, name)?);
+    let count = sink.put(b"int y;\n")?;
+    let mut files = RealFiles::new(rt);
+    let is_held = holds(&mut files, rt.alloc(), name, b"int y;\n");
+    fs::remove_file(rt, name)?;
+    Ok(count == 7 && is_held)
+}
+
+/// Whether a folder can be neither read nor written.
+fn is_refused(rt: &HostRuntime, folder: &str) -> bool {
+    let mut files = RealFiles::new(rt);
+    refusal(&mut files, rt.alloc(), folder) == Some(ReadAnswer::Failed)
+        && files.write(folder, b"x").err() == Some(WriteAnswer::Failed)
 }
 
 #[test]
@@ -87,29 +72,9 @@ fn real_files_are_written_and_read(rt: HostRuntime) -> Result<(), Fail> {
         .to_str()
         .ok_or("a folder whose name is text")?;
     let name = format!(in rt.alloc(); "{folder}/lx_files_{}", process::id(rt.process()))?;
-    let name = name.as_str();
-    let mut files = RealFiles::new(&rt);
-    assert_eq!(rt;
-        files.read(rt.alloc(), name).err(),
-        Some(ReadAnswer::Missing)
-    );
-    files.write(name, b"int x;\n")?;
-    assert_eq!(rt;
-        files.read(rt.alloc(), name)?.as_slice(),
-        b"int x;\n".as_slice()
-    );
-    let mut sink = RealSink::new(fs::create(&rt, name)?);
-    assert_eq!(rt; sink.put(b"int y;\n")?, 7);
-    assert_eq!(rt;
-        files.read(rt.alloc(), name)?.as_slice(),
-        b"int y;\n".as_slice()
-    );
-    fs::remove_file(&rt, name)?;
-    assert_eq!(rt;
-        files.read(rt.alloc(), folder).err(),
-        Some(ReadAnswer::Failed)
-    );
-    assert_eq!(rt; files.write(folder, b"x").err(), Some(WriteAnswer::Failed));
+    assert!(rt; is_refused(&rt, folder));
+    assert!(rt; is_kept(&rt, name.as_str())?);
+    assert!(rt; is_put(&rt, name.as_str())?);
     Ok(())
 }
 
@@ -142,13 +107,13 @@ fn a_full_device_and_a_failed_flush_are_faults(rt: HostRuntime) -> Result<(), Fa
         room: 3,
         flushes: true,
     });
-    assert_eq!(rt; sink.put(b"abcd")?, 3);
-    assert_eq!(rt; sink.put(b"d").err(), Some(PutAnswer::Failed));
+    let count = sink.put(b"abcd")?;
+    assert!(rt; count == 3 && sink.put(b"d").err() == Some(PutAnswer::Failed));
     let mut sink = RealSink::new(Device {
         room: 3,
         flushes: false,
     });
-    assert_eq!(rt; sink.put(b"a").err(), Some(PutAnswer::Failed));
+    assert!(rt; sink.put(b"a").err() == Some(PutAnswer::Failed));
     Ok(())
 }
 
@@ -171,20 +136,22 @@ impl Read for Tape {
     }
 }
 
+/// Lengths of files, and whether a file may be so long.
+const LENGTHS: [(usize, bool); 4] = [
+    (0, true),
+    (20_000, true),
+    (268_435_456, true),
+    (268_435_457, false),
+];
+
 #[test]
-fn a_file_has_a_longest_length(rt: HostRuntime) -> Result<(), Fail> {
-    for (length, fits) in [
-        (0, true),
-        (20_000, true),
-        (268_435_456, true),
-        (268_435_457, false),
-    ] {
+fn a_file_has_a_longest_length(rt: HostRuntime) {
+    for (length, fits) in LENGTHS {
         let mut tape = Tape {
             interrupted: false,
             left: length,
         };
-        let read = read_to_end(rt.alloc(), &mut tape);
-        assert_eq!(rt; read.is_ok(), fits, "{length} bytes");
+        let read = read_to_end(rt.alloc(), &mut tape).is_ok();
+        assert!(rt; read == fits, "{length} bytes");
     }
-    Ok(())
 }

@@ -115,8 +115,8 @@ AcceptHasEnding endings None = Unit {0}
 AcceptHasEnding endings (Some accept) = HasEnding endings accept
 
 -- the ends of all rules by which states accept are told
-abbrev pub HaveEndings : (endings : ℕ → Ending) → List State → Type 0
-HaveEndings endings states = AllByRecursion (λ (state : State). AcceptHasEnding endings state.accept) states
+abbrev pub AcceptsHaveEndings : (endings : ℕ → Ending) → List State → Type 0
+AcceptsHaveEndings endings states = AllByRecursion (λ (state : State). AcceptHasEnding endings state.accept) states
 
 -- the ending of a rule that was looked for
 abbrev pub ending_found : Option Rule → (texts : List (List ℕ)) → Ending

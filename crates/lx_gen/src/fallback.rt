@@ -37,7 +37,11 @@ fn restore_code(alloc: Global, block: u64) -> Result<Vec<Stmt>, Memory>
 }
 
 /// Appends the blocks that restore the marker and go to the end of a rule, one for each rule of a saved accept.
-fn append_restores(alloc: Global, blocks: &mut Vec<CodeBlock>, ends: &Ends<'_>) -> Result<(), Memory>
+fn append_restores(
+    alloc: Global,
+    blocks: &mut Vec<CodeBlock>,
+    ends: &Ends<'_>,
+) -> Result<(), Memory>
     requires { AreEnds ends.now }
     ensures { OnOk result (blocks.new.items
         ≡ blocks.old.items ++ unlabelled (restore_blocks (rule_at ends.now) (kept_of ends.now.auto.now.states))) }

@@ -31,7 +31,12 @@ fn way_block(exits: Exits, way: Option<usize>) -> Result<u64, Memory>
 }
 
 /// Appends the statements of tests. The blocks of the lower tests begin at `next`.
-fn append_tests(stmts: &mut Vec<Stmt>, exits: Exits, next: u64, tree: &TestTree) -> Result<(), Memory>
+fn append_tests(
+    stmts: &mut Vec<Stmt>,
+    exits: Exits,
+    next: u64,
+    tree: &TestTree,
+) -> Result<(), Memory>
     ensures { OnOk result (stmts.new.items
         ≡ stmts.old.items ++ tree_code next (numbered exits.first exits.end (seen_tree tree.now))) }
 {

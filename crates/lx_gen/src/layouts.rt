@@ -6,7 +6,7 @@ ghost use Rattle.lx_auto.specs.Automaton.{IsAuto};
 ghost use Rattle.lx_ccode.specs.Statements.{code_of, statement_count};
 ghost use Rattle.lx_ccode.specs.declared.piece.CodeBlock.{CodeBlock};
 ghost use Rattle.lx_gen.specs.Layout.{accepts_of, ending_blocks, layout};
-ghost use Rattle.lx_gen.specs.Plans.{AreEnds, HaveEndings, unlabelled};
+ghost use Rattle.lx_gen.specs.Plans.{AreEnds, AcceptsHaveEndings, unlabelled};
 ghost use Rattle.lx_gen.specs.Rules.{endings_of};
 
 use crate::blocks::{append_block, sum};
@@ -30,7 +30,7 @@ fn append_endings(
     ends: &Ends<'_>,
 ) -> Result<(), Memory>
     requires ends { AreEnds ends.now }
-    requires told { HaveEndings (endings_of rules.now texts.now) ends.now.auto.now.states }
+    requires told { AcceptsHaveEndings (endings_of rules.now texts.now) ends.now.auto.now.states }
     ensures { OnOk result (blocks.new.items
         ≡ blocks.old.items ++ unlabelled (ending_blocks (endings_of rules.now texts.now) (accepts_of ends.now.auto.now.states))) }
 {
@@ -49,7 +49,7 @@ fn all_blocks(
     auto: &Auto,
 ) -> Result<Vec<CodeBlock>, Memory>
     requires formed { IsAuto auto.now }
-    requires told { HaveEndings (endings_of rules.now texts.now) auto.now.states }
+    requires told { AcceptsHaveEndings (endings_of rules.now texts.now) auto.now.states }
     ensures { IfOk result (λ blocks. blocks.items ≡ unlabelled (layout (endings_of rules.now texts.now) greatest auto.now 0)) }
 {
     let places = places_of(alloc, greatest, auto)?;
@@ -72,7 +72,7 @@ pub(crate) fn blocks_of(
     auto: &Auto,
 ) -> Result<Vec<CodeBlock>, Memory>
     requires formed { IsAuto auto.now }
-    requires told { HaveEndings (endings_of rules.now texts.now) auto.now.states }
+    requires told { AcceptsHaveEndings (endings_of rules.now texts.now) auto.now.states }
     ensures code { IfOk result (λ blocks. code_of blocks.items ≡ layout (endings_of rules.now texts.now) greatest auto.now 0) }
     ensures labels { IfOk result (λ blocks. AllByRecursion (λ (block : CodeBlock). block.cond ≡ None) blocks.items) }
     ensures few { IfOk result (λ blocks. statement_count blocks.items ≤ STATEMENT_LIMIT) }

@@ -15,6 +15,3 @@ pub use laws::{
 };
 pub use parsing::parse;
 pub use sorts::{Sort, sort_of};
-
-#[cfg(test)]
-mod tests;

@@ -1,4 +1,4 @@
-//! Tests over the public calls of several crates. They stand here and not in those crates, where to prove the tests is to prove the
+//! Tests over the public calls of the lower crates. They stand here and not in those crates, where to prove the tests is to prove the
 //! whole crate once more.
 #![tactic(auto)]
 

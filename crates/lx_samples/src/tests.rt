@@ -1,2 +1,8 @@
-mod encode;
-mod regex;
+mod bodies;
+mod classes;
+mod graphs;
+mod includes;
+mod parsing;
+mod splitting;
+mod tokens;
+mod units;

@@ -15,6 +15,3 @@ mod walk;
 pub use expanding::{ExpandStop, expand};
 pub use laws::{faults_stand_in_the_source, openers_begin_blocks, pieces_are_the_source};
 pub use pieces::{Pieces, SourcePiece, split};
-
-#[cfg(test)]
-mod tests;

@@ -14,6 +14,3 @@ pub mod run;
 pub use endings::{Ending, Halt};
 pub use lx_files::put_all;
 pub use run::{re2c, refuse_words};
-
-#[cfg(test)]
-mod tests;

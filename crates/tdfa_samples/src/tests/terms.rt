@@ -2,11 +2,13 @@
 ghost use Rattle.std.specs.Prelude.{◌≡◌, ℕ, ◌≤◌, [], ◌∷◌, IfOk, IfSome, None, length, map};
 ghost use Rattle.lx_base.specs.Spelling.{greatest_point};
 ghost use Rattle.lx_base.specs.declared.settings.Enc.{Enc};
+ghost use Rattle.lx_encode.specs.Graph.{numbered};
 ghost use Rattle.lx_regex.specs.Expr.{members_of, term_of};
 ghost use Rattle.lx_regex.specs.Limits.{HaveLongSequences, numbers_from};
 ghost use Rattle.lx_regex.specs.Script.{merge_tags, tags_among};
 ghost use Rattle.lx_regex.specs.Term.{alt, cat, class, cons, group, nil, repeat, tag};
-    ghost use Rattle.lx_regex.specs.ClassLimits.{AllClassesFit, ClassesFit, ClassesFitAmong};
+ghost use Rattle.lx_regex.specs.ClassLimits.{ClassesFitAmong};
+ghost use Rattle.lx_tnfa.specs.Tnfa.{IsPlace};
 ghost use Rattle.lx_tdfa.specs.Building.{IsBuilt};
 
 use lx_base::{Enc, Memory, Sequence};
@@ -32,6 +34,7 @@ impl Model for Term {
     ghost use Rattle.lx_regex.specs.Expr.{term_of};
     ghost use Rattle.lx_regex.specs.Limits.{HasLongSequences, numbers_from};
     ghost use Rattle.lx_regex.specs.Script.{tags_in};
+    ghost use Rattle.lx_regex.specs.ClassLimits.{ClassesFit};
 
     ghost Value = { ℕ };
 
@@ -79,6 +82,15 @@ pub(super) fn unit() -> Term {
     }
 }
 
+/// The empty string.
+pub(super) fn nothing() -> Term {
+    Term {
+        expr: Expr::Empty,
+        first: 0,
+        count: 0,
+    }
+}
+
 /// The tag with this number: an m-tag where all its values are to be kept.
 pub(super) fn mark(number: u32, many: bool) -> Term {
     let expr = if many {
@@ -105,6 +117,36 @@ fn choice(members: Vec<Expr>) -> Expr
     ensures { (tags : ℕ) → term_of tags result ≡ alt (members_of (map (term_of tags) members.items)) }
 {
     Expr::Alt(members)
+}
+
+/// The s-tag with a number.
+fn s_tag(number: u32) -> Expr
+    ensures { (tags : ℕ) → term_of tags result ≡ tag number }
+{
+    Expr::STag(number)
+}
+
+/// So many s-tags, numbered from 0.
+fn marks(alloc: Global, count: u32) -> Result<Vec<Expr>, Memory>
+    ensures { IfOk result (λ list. (tags : ℕ) → map (term_of tags) list.items ≡ map tag (numbers_from 0 count)) }
+{
+    let mut list = Vec::new(alloc);
+    for number in 0..count {
+        let next = s_tag(number);
+        list.push(next)?;
+    }
+    Ok(list)
+}
+
+/// One of so many s-tags, numbered from 0.
+pub(super) fn any_mark(alloc: Global, count: u32) -> Result<Term, Memory> {
+    let members = marks(alloc, count)?;
+    let expr = choice(members);
+    Ok(Term {
+        expr,
+        first: 0,
+        count,
+    })
 }
 
 /// An expression repeated.
@@ -237,6 +279,7 @@ impl Model for Rules {
     ghost use Rattle.lx_regex.specs.Limits.{IsWithinLimits, numbers_from, sizes_of, tags_of};
     ghost use Rattle.lx_regex.specs.Pattern.{patterns_of, terms_of};
     ghost use Rattle.lx_regex.specs.declared.rules.Rule.{Rule};
+    ghost use Rattle.lx_regex.specs.ClassLimits.{AllClassesFit};
 
     ghost Value = { ℕ };
 
@@ -351,7 +394,8 @@ pub(super) fn captured(alloc: Global, body: Term, behind: Term) -> Result<Rules,
 /// The tagged automaton of rules.
 pub(super) fn tagged(alloc: Global, rules: &Rules, enc: Enc) -> Result<Tnfa, Memory>
     requires { greatest_point enc ≡ 0x10FFFF }
-    ensures { IfOk result IsBuilt }
+    ensures built { IfOk result IsBuilt }
+    ensures start { IfOk result (λ t. IsPlace t (record { part = 0; rest = numbered 0 })) }
 {
     Tnfa::of(alloc, &rules.set, enc)
 }

@@ -13,7 +13,7 @@ use Rattle.lx_exprs.proofs.LeafSteps.{kind-read}
 use Rattle.lx_exprs.proofs.leaves.read_name.Goals as goal
 
 pub returns-clause-read : goal.returns-clause-read
-returns-clause-read c =
+returns-clause-read c is_operand =
     let reader = c.args.reader in
     let definitions = definitions_view reader.definitions.now in
     let before = c.args.seen.now in
@@ -34,7 +34,7 @@ returns-clause-read c =
     (fits-tagged reader.room c.requires.room held.size (suc held.nesting) (length before + length held.tags)) in
     let counted : IsCounted meaning c.sum-size.result c.sum-nesting.result c.len-tags.result =
     record { size_is = c.sum-size.ensures ∙ omega arith; nesting_is = c.sum-nesting.ensures ∙ omega arith; tags_is = tags } in
-    kind-read reader.options.now definitions reader.room c.args.is_operand before lexeme kind.Name c.requires.sort checked meaning
+    kind-read reader.options.now definitions reader.room is_operand before lexeme kind.Name c.requires.sort checked meaning
     (definition, found, refl) c.add.new.self added c.in_ok-limited.field-0
     (c.in_ok-limited.ensures.stands meaning counted content)
 

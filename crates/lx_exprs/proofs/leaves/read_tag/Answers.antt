@@ -12,7 +12,7 @@ use Rattle.lx_exprs.proofs.LeafSteps.{kind-read, tag_fault-none}
 use Rattle.lx_exprs.proofs.leaves.read_tag.Goals as goal
 
 pub returns-clause-read : goal.returns-clause-read
-returns-clause-read c =
+returns-clause-read c is_operand =
     let reader = c.args.reader in
     let before = c.args.seen.now in
     let lexeme = lexeme_view c.args.lexeme.now in
@@ -24,8 +24,8 @@ returns-clause-read c =
     c.tag_content-content.ensures.stands (is_built reader.room meaning) number (tag_name lexeme) count
     (fits-tagged reader.room c.requires.room 1 0 (suc number)) in
     let among = ap (λ name. is_among name before) (sym c.tag_name-name.ensures) ∙ sym c.if-contains.ensures in
-    kind-read reader.options.now (definitions_view reader.definitions.now) reader.room c.args.is_operand before lexeme kind.STag c.requires.sort
-    (tag_fault-none reader.options.now (definitions_view reader.definitions.now) reader.room c.args.is_operand before lexeme c.if-not-reader.false among) meaning refl c.push.new.self
+    kind-read reader.options.now (definitions_view reader.definitions.now) reader.room is_operand before lexeme kind.STag c.requires.sort
+    (tag_fault-none reader.options.now (definitions_view reader.definitions.now) reader.room is_operand before lexeme c.if-not-reader.false among) meaning refl c.push.new.self
     (c.in_ok-push.ensures ∙ ap (λ name. before ++ name ∷ []) c.tag_name-name.ensures) c.in_ok-limited.field-0
     (c.in_ok-limited.ensures.stands meaning (record { size_is = refl; nesting_is = refl; tags_is = tags }) content)
 

@@ -18,5 +18,5 @@ returns c =
     let values = c.args.values.now in
     let tags = c.in_ok-append_tags.ensures texts ∙ ap (λ l. l ++ tags_code (ending_of rule texts) 0 (names_of rule.tags) values []) c.new-stmts.ensures.items in
     let back = c.in_ok-append_back.ensures ∙ ap₂ (λ l o. l ++ back_code o []) tags c.slash_held.ensures in
-    c.in_ok-push.ensures.items ∙ ap₂ (λ l text. l ++ Code rule.number None text ∷ []) back c.in_ok-text.ensures
+    c.in_ok-push.ensures.items ∙ ap₂ (λ l text. l ++ Code rule.number None text ∷ []) back (c.in_ok-text.ensures ∙ c.as_slice.ensures)
     ∙ rule_code-parts (ending_of rule texts) (names_of rule.tags) values (slash_held rule.slash values) (Code rule.number None c.args.text.now ∷ [])

@@ -1,4 +1,0 @@
-use Rattle.lx_samples.proofs.tests.encode.graph.+uneven_comb.Given as goal
-
-abbrev pub decreases-uneven_comb : goal.decreases-uneven_comb
-decreases-uneven_comb l = l.count

@@ -1,5 +1,0 @@
-//! Graphs of units, policies and spellings.
-
-mod graph;
-mod policies;
-mod units;

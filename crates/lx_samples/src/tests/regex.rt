@@ -1,5 +1,0 @@
-//! Expressions, rule lists and their parts.
-
-mod exprs;
-mod lists;
-mod parts;

@@ -1,3 +1,0 @@
-pub mod OneMore
-pub mod ThreeRules
-pub mod UnitPlaces

@@ -1,6 +1,0 @@
-use Rattle.std.proofs.Common.{refl}
-use Rattle.tnfa_samples.proofs.tests.closures.one_way.Goals as goal
-
-pub returns-clause-term : goal.returns-clause-term
-returns-clause-term c =
-    rw (c.in_ok-expr.ensures.term 0) (rw c.in_ok-first.ensures.term (rw (c.in_ok-second.ensures.term 0) refl))

@@ -1,6 +1,0 @@
-//! Tests over the public calls of `lx_tnfa`. They stand here and not in that crate, where to prove the tests is to
-//! prove the whole crate once more.
-#![tactic(auto)]
-
-#[cfg(test)]
-mod tests;
