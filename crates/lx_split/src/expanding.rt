@@ -207,8 +207,8 @@ fn take_main<F: Files>(
 ///
 /// Each include stands for the pieces of its file, between a block of the kind `Enter` at the start of the file and one of the
 /// kind `Leave` at the include. Its file is looked for in the folder of the file that includes it, and then in the folder of
-/// the options; a name that begins with `/` as it is. `names` gets the name of each file where it is met, so one that is
-/// included twice stands there twice. A file is read once.
+/// the options; a name that begins with `/` as it is. A file is read once. `names` is empty before, and gets the name of each
+/// file where it is met, so one that is included twice stands there twice.
 ///
 /// Files are taken in the order in which they are met, and the first fault is told. For each file that is `NoFile`, then
 /// `TooLong` where the files so far have more than 16,777,216 bytes, then a fault of `split`. At an include it is `Syntax`
