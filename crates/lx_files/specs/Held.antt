@@ -1,5 +1,5 @@
 -- The files that are held: bindings of names to bytes, of which the first under a name counts.
-use Rattle.std.specs.Prelude.{◌≡◌, ℕ, List, [], ◌∷◌, ◌++◌, Option, Some, None, ◌⊎◌, if◌then◌else◌}
+use Rattle.std.specs.Prelude.{◌≡◌, ℕ, List, [], ◌∷◌, ◌++◌, Option, Some, None, IfSome, ◌⊎◌, if◌then◌else◌}
 use Rattle.std.specs.Str.{bytes_eq}
 use Rattle.lx_files.specs.declared.files.HeldFile.{HeldFile}
 
@@ -27,3 +27,7 @@ abbrev pub WhereTold : Option (List HeldFile) → Option (List HeldFile) → (Li
 WhereTold None after fact = Unit {0}
 WhereTold (Some files) None fact = ⊥
 WhereTold (Some files) (Some files') fact = fact files files'
+
+-- the files as a run saw them: those that are held, where that is told
+abbrev pub Sees : Option (List HeldFile) → List HeldFile → Type 0
+Sees held seen = IfSome held (λ files. seen ≡ files)

@@ -1,6 +1,7 @@
 mod bodies;
 mod classes;
 mod graphs;
+mod includes;
 mod parsing;
 mod splitting;
 mod tokens;

@@ -1,6 +1,10 @@
 pub mod Bodies
 pub mod Cuts
+pub mod IncludeNames
+pub mod Includes
+pub mod Libraries
 pub mod Marks
 pub mod Openers
 pub mod Pieces
 pub mod Searches
+pub mod Walks

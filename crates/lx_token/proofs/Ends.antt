@@ -204,7 +204,7 @@ after_literal-end quote false (letter ∷ text) =
     (LeavesEnd-later letter text more (after_literal-end quote (letter == 92) text)))
 
 -- what is left, or else the whole text, is an end
-end_or_self : (text : List ℕ) (rest : Option (List ℕ)) → LeavesEnd text rest → IsEnd text (unwrap_or rest text)
+pub end_or_self : (text : List ℕ) (rest : Option (List ℕ)) → LeavesEnd text rest → IsEnd text (unwrap_or rest text)
 end_or_self text None h = IsEnd-self text
 end_or_self text (Some rest) h = IsShorterEnd-end text rest h
 

@@ -54,7 +54,7 @@ pub(crate) fn after_comment(text: &[u8]) -> Option<&[u8]>
 }
 
 /// What follows the blank or the comment that begins here.
-pub(crate) fn after_blank(text: &[u8]) -> Option<&[u8]>
+pub fn after_blank(text: &[u8]) -> Option<&[u8]>
     ensures rest { option_copied result ≡ after_blank text.now }
     ensures shorter { IfSome result (λ rest. length rest.now < length text.now) }
 {

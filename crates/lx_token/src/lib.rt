@@ -12,7 +12,7 @@ mod quoted;
 mod signs;
 mod words;
 
-pub use blanks::{after_closing, after_line};
+pub use blanks::{after_blank, after_closing, after_line};
 pub use braces::{after_bounds, after_literal, after_unquoted};
 pub use characters::{Character, characters_are_those_of_items, characters_of};
 pub use classes::{Class, PointRange, class_of, classes_have_the_ranges_of_their_parts};

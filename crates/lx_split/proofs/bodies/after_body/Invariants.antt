@@ -5,7 +5,7 @@ use Rattle.lx_split.proofs.bodies.after_body.Given as goal
 
 abbrev pub invariant-loop-rest : goal.invariant-loop-rest
 invariant-loop-rest l = record {
-  passes : Passes l.text l.rest;
+  passes : Passes l.kind l.text l.rest;
   size : length l.rest ≤ length l.text;
   known : AreKnown l.unclosed l.rest;
 }
