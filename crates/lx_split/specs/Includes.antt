@@ -1,5 +1,6 @@
 -- The pieces of a source with its includes put in.
 use Rattle.std.specs.Prelude.{◌≡◌, ℕ, zero, suc, ◌+◌, List, [], ◌∷◌, ◌++◌, length, nat_lt, Option, Some, None, Result, Ok, Err, if◌then◌else◌}
+use Rattle.lx_base.specs.declared.limits.TheConstants.{SOURCE_LIMIT}
 use Rattle.lx_base.specs.declared.blocks.BlockKind.{BlockKind}
 use Rattle.lx_base.specs.declared.blocks.BlockKind.TheVariants.{Include, Enter, Leave}
 use Rattle.lx_base.specs.declared.places.Pos.{Pos}
@@ -95,7 +96,7 @@ with_file files file = met (files.names ++ file.name ∷ []) (files.total + leng
 -- the pieces of a file, where `before` bytes are met before it: too many with it is a fault at the place
 abbrev pub pieces_within : Options → Pos → (file before : ℕ) → (bytes : List ℕ) → Split
 pieces_within options at file before bytes =
-    if nat_lt 16777216 (before + length bytes) then Err (TooLong at (before + length bytes)) else pieces_of options file bytes
+    if nat_lt SOURCE_LIMIT (before + length bytes) then Err (TooLong at (before + length bytes)) else pieces_of options file bytes
 
 -- the pieces go on to be expanded
 abbrev pub go_on : (expand : Met → List SourcePiece → Expansion) → Met → Split → Expansion

@@ -1,5 +1,6 @@
 -- What is still to be expanded while files are open.
 use Rattle.std.specs.Prelude.{◌≡◌, ℕ, ◌+◌, ◌-◌, ◌<◌, ◌≤◌, List, [], ◌∷◌, ◌++◌, reverse, length, Option, Some, None, Err, IfSome, option_to_list}
+use Rattle.lx_base.specs.declared.limits.TheConstants.{SOURCE_LIMIT}
 use Rattle.lx_base.specs.declared.settings.Options.{Options}
 use Rattle.lx_base.specs.declared.faults.Stop.{Stop}
 use Rattle.lx_base.specs.declared.faults.Stop.TheVariants as stop
@@ -76,7 +77,7 @@ pub record Enters (before after : Walk) (file : HeldFile) (pieces : List SourceP
   pub leaves : opened.leave ≡ leave
   pub before_it : after.pieces ≡ before.pieces
   pub total : after.total ≡ before.total + length file.bytes
-  pub within : after.total ≤ 16777216
+  pub within : after.total ≤ SOURCE_LIMIT
   pub few : length pieces ≤ length file.bytes
 
 -- an include of the innermost file was taken, and its file entered: one more file is met and open, and no more pieces wait than
@@ -87,7 +88,7 @@ pub record Takes (names names' : List (List ℕ)) (before after : Walk) : Type 0
   pub depth : length after.stack.items ≤ 33
   pub waiting : waiting (open_files after) + before.total ≤ waiting (open_files before) + after.total
   pub more : before.total ≤ after.total
-  pub within : after.total ≤ 16777216
+  pub within : after.total ≤ SOURCE_LIMIT
 
 -- no file is met
 pub record IsNewWalk (walk : Walk) : Type 0 where
@@ -99,7 +100,7 @@ pub record IsNewWalk (walk : Walk) : Type 0 where
 pub record Starts (walk : Walk) : Type 0 where
   pub few : waiting (open_files walk) ≤ walk.total
   pub depth : length walk.stack.items ≡ 1
-  pub within : walk.total ≤ 16777216
+  pub within : walk.total ≤ SOURCE_LIMIT
 
 -- a call that is to enter a file stops with the fault of the whole, where files of these names were met, or where memory runs out
 abbrev pub StopsWhole : Expansion → (names : List (List ℕ)) → Stop → Type 0

@@ -1,5 +1,6 @@
 //! The pieces of a source with its includes put in.
 ghost use Rattle.std.specs.Prelude.{◌≡◌, ℕ, ◌<◌, ◌≤◌, List, [], ◌∷◌, Some, length, IfOk, MatchResult, OnOk};
+ghost use Rattle.lx_base.specs.declared.limits.TheConstants.{SOURCE_LIMIT};
 ghost use Rattle.lx_base.specs.declared.settings.Options.{Options};
 ghost use Rattle.lx_files.specs.Counts.{Rose};
 ghost use Rattle.lx_files.specs.Held.{Sees};
@@ -128,7 +129,7 @@ fn enter_include(
     found: FoundFile<'_>,
 ) -> Result<(), Stop>
     requires names { length names.old ≤ walk.old.total }
-    requires total { walk.old.total ≤ 16777216 }
+    requires total { walk.old.total ≤ SOURCE_LIMIT }
     requires inside { 0 < length walk.old.stack.items }
     requires depth { length walk.old.stack.items ≤ 32 }
     ensures expands { (seen : List HeldFile) (name : List ℕ) → file_name_of include.now.body ≡ Some name
@@ -155,7 +156,7 @@ fn take_include<F: Files>(
     wanted: &WantedFile,
 ) -> Result<(), ExpandStop>
     requires names { length names.old ≤ walk.old.total }
-    requires total { walk.old.total ≤ 16777216 }
+    requires total { walk.old.total ≤ SOURCE_LIMIT }
     requires inside { 0 < length walk.old.stack.items }
     requires wanted { IsWanted opts.now walk.old wanted.now.include wanted.now }
     ensures expands { (seen : List HeldFile) → Agrees seen library.new → MatchResult result

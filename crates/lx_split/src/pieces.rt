@@ -1,5 +1,6 @@
 //! The pieces of a source.
 ghost use Rattle.std.specs.Prelude.{◌≡◌, ◌++◌, ◌+◌, ◌<◌, ◌≤◌, ◌^◌, drop, length, IfOk, OnOk, MatchResult, Ok};
+ghost use Rattle.lx_base.specs.declared.limits.TheConstants.{SOURCE_LIMIT};
 ghost use Rattle.lx_base.specs.Places.{file_start};
 ghost use Rattle.lx_token.specs.Tokens.{place_of_rest};
 ghost use Rattle.lx_split.specs.Pieces.{StopsWith, block, opener_size, outside, pieces_of, pieces_without_marks};
@@ -77,7 +78,7 @@ fn behind_opener(kind: BlockKind, text: &[u8]) -> &[u8]
 
 /// The pieces of a file without marks of emitted text.
 fn cut(alloc: Global, bytes: &[u8], file: u32, opts: &Options) -> Result<Pieces, Stop>
-    requires { length bytes.now ≤ 16777216 }
+    requires { length bytes.now ≤ SOURCE_LIMIT }
     ensures { MatchResult result (λ pieces. pieces_without_marks opts.now file bytes.now ≡ Ok pieces) (StopsWith (pieces_without_marks opts.now file bytes.now)) }
 {
     let mut pieces = Sequence::new(alloc);
@@ -117,7 +118,7 @@ fn cut(alloc: Global, bytes: &[u8], file: u32, opts: &Options) -> Result<Pieces,
 /// block, or a comment or an action in it, is not closed. `Memory` says that memory is wanting; it may be answered at each
 /// source, and no clause ties it to a cause.
 pub fn split(alloc: Global, bytes: &[u8], file: u32, opts: &Options) -> Result<Pieces, Stop>
-    requires { length bytes.now ≤ 16777216 }
+    requires { length bytes.now ≤ SOURCE_LIMIT }
     ensures { MatchResult result (λ pieces. pieces_of opts.now file bytes.now ≡ Ok pieces) (StopsWith (pieces_of opts.now file bytes.now)) }
 {
     match mark_place(bytes, Pos::start_of(file)) {

@@ -1,5 +1,6 @@
 //! The way through a source and the files that it includes.
 ghost use Rattle.std.specs.Prelude.{◌≡◌, ◌+◌, ◌≤◌, ◌++◌, ◌∷◌, List, [], length, option_to_list, IfOk, MatchResult, Ok, OnOk};
+ghost use Rattle.lx_base.specs.declared.limits.TheConstants.{SOURCE_LIMIT};
 ghost use Rattle.lx_split.specs.Includes.{found_view, pieces_within};
 ghost use Rattle.lx_split.specs.Pieces.{StopsWith};
 ghost use Rattle.lx_split.specs.Walks.{Advances, Enters, Opens, inner_folder, open_files};
@@ -42,8 +43,8 @@ fn pieces_within(
     before: usize,
     bytes: &[u8],
 ) -> Result<Pieces, Stop>
-    requires { before ≤ 16777216 }
-    ensures { MatchResult result (λ pieces. (pieces_within opts.now at file before bytes.now ≡ Ok pieces) × (length pieces ≤ length bytes.now) × (before + length bytes.now ≤ 16777216)) (StopsWith (pieces_within opts.now at file before bytes.now)) }
+    requires { before ≤ SOURCE_LIMIT }
+    ensures { MatchResult result (λ pieces. (pieces_within opts.now at file before bytes.now ≡ Ok pieces) × (length pieces ≤ length bytes.now) × (before + length bytes.now ≤ SOURCE_LIMIT)) (StopsWith (pieces_within opts.now at file before bytes.now)) }
 {
     let total = before + bytes.len();
     if total > SOURCE_LIMIT {
@@ -141,7 +142,7 @@ impl Walk {
         found: FoundFile<'_>,
         leave: Option<SourcePiece>,
     ) -> Result<(), Stop>
-        requires { self.old.total ≤ 16777216 }
+        requires { self.old.total ≤ SOURCE_LIMIT }
         ensures { MatchResult result (λ _. (pieces : List SourcePiece) × (pieces_within opts.now at file self.old.total found.entry.bytes.now ≡ Ok pieces) × Enters self.old self.new (found_view found.entry) pieces leave)
             (StopsWith (pieces_within opts.now at file self.old.total found.entry.bytes.now)) }
     {

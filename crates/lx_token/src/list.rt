@@ -1,5 +1,6 @@
 //! The tokens of a body.
 ghost use Rattle.std.specs.Prelude.{◌≡◌, ℕ, ◌≤◌, List, length, MatchResult, Ok, Err};
+ghost use Rattle.lx_base.specs.declared.limits.TheConstants.{SOURCE_LIMIT};
 ghost use Rattle.lx_base.specs.declared.faults.Fault.{Fault};
 ghost use Rattle.lx_base.specs.declared.places.Pos.{Pos};
 ghost use Rattle.lx_token.specs.declared.list.Token.{Token};
@@ -34,7 +35,7 @@ pub type TokenList = Sequence<Token>;
 /// It refuses with `BadToken` exactly at the first byte where no token begins. `Memory` says that memory is
 /// wanting; it may be answered at each body, and no clause ties it to a cause.
 pub fn tokens(alloc: Global, body: &[u8], at: Pos) -> Result<TokenList, Stop>
-    requires size { length body.now ≤ 16777216 }
+    requires size { length body.now ≤ SOURCE_LIMIT }
     requires line { at.line ≤ 16777217 }
     requires col { at.col ≤ 16777217 }
     ensures { MatchResult result (λ list. tokens_of body.now at ≡ Ok list) (StopsWith (tokens_of body.now at)) }
