@@ -1,6 +1,6 @@
 -- Small pieces, which together have every statement.
 use Rattle.std.specs.Prelude.{ℕ, true, false, List, [], ◌∷◌, codes, Some, None}
-use Rattle.lx_base.specs.Names.{Spellings, usual_names}
+use Rattle.lx_base.specs.Names.{usual_names}
 use Rattle.lx_ccode.specs.declared.piece.Stmt.{Stmt}
 use Rattle.lx_ccode.specs.declared.piece.Stmt.TheVariants.{Peek, Skip, Backup, Restore, Accept, Set, Unset, Copy, MSet, MUnset, MCopy, IfUnit, IfAccept, IfEnd, State, Need, Try, Cond, Tag, Count, End, Back, Goto, Leave, Code, Jump}
 use Rattle.lx_ccode.specs.declared.piece.CodeBlock.{CodeBlock}

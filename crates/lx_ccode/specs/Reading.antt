@@ -1,8 +1,7 @@
 -- Reading a piece from the front of bytes. These functions take for granted that a valid piece's text stands there, and
 -- look only at what tells the cases apart. Where another text stands there they give some piece, whose own text is another one.
-use Rattle.std.specs.Prelude.{ℕ, zero, suc, Bool, true, false, List, [], ◌∷◌, length, take, drop, reverse, codes, Option, Some, None, slice_index, nat_lt, ◌||◌, ◌==◌, if◌then◌else◌}
+use Rattle.std.specs.Prelude.{ℕ, zero, suc, Bool, true, false, List, [], ◌∷◌, length, take, drop, reverse, codes, Option, Some, None, slice_index, ◌||◌, ◌==◌, if◌then◌else◌}
 use Rattle.std.specs.Str.Parse.{digits_value}
-use Rattle.std.specs.Char.{digit_value}
 use Rattle.lx_base.specs.Letters.{is_digit, is_in_identifier, is_in_spelling, begins_with, is_register, is_history_register, equal_words, is_hexadecimal, is_in_type, front_letters, after_letters}
 use Rattle.lx_base.specs.Names.{Spellings, cursor, marker, context_marker, set_state, append_offset, append_negative, current_unit, last_accept, tag_prefix, label_prefix, condition_prefix}
 use Rattle.lx_ccode.specs.declared.piece.LineMark.{LineMark}

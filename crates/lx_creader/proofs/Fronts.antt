@@ -1,6 +1,6 @@
 -- Fronts of texts, and numbers that stop at a bound.
-use Rattle.std.proofs.Common.{◌≡◌, ◌≤◌, ◌<◌, ◌+◌, ◌-◌, ◌*◌, ◌∙◌, ℕ, suc, Bool, true, false, List, [], ◌∷◌, ◌++◌, reverse, length, take, drop, min, inl, inr, refl, sym, ap, arith}
-use Rattle.std.specs.Prelude.{cond, nat_eq, ◌&&◌, ◌⊎◌}
+use Rattle.std.proofs.Common.{◌≡◌, ◌≤◌, ◌<◌, ◌+◌, ◌*◌, ◌∙◌, ℕ, Bool, List, [], ◌∷◌, ◌++◌, reverse, length, drop, min, inl, inr, sym, ap, arith}
+use Rattle.std.specs.Prelude.{◌⊎◌}
 use Rattle.std.proofs.Math.Nat.{mul-le-mul_left}
 use Rattle.std.proofs.lemmas.Bool.{cases_lt}
 use Rattle.lx_base.proofs.Fronts.{front_letters-after}
