@@ -1,5 +1,5 @@
 -- Words that are compared, and slots of tags.
-use Rattle.std.proofs.Common.{◌≡◌, ◌≢◌, ◌∙◌, ap, refl, sym, subst, ℕ, suc, ◌<◌, Bool, true, false, List, ◌∷◌, ◌++◌, Option, length, take, drop, get_or, set, [], ◌+◌, arith, None, is_some, ◌||◌, if◌then◌else◌}
+use Rattle.std.proofs.Common.{◌≡◌, ◌∙◌, ap, refl, sym, subst, ℕ, suc, ◌<◌, Bool, true, false, List, ◌∷◌, ◌++◌, Option, length, take, drop, get_or, set, [], ◌+◌, arith, None, is_some, ◌||◌, if◌then◌else◌}
 use Rattle.std.specs.List.{list_any}
 use Rattle.lx_ccode.specs.declared.piece.Stmt.{Stmt}
 use Rattle.lx_ccode.specs.declared.piece.Stmt.TheVariants.{Tag}
@@ -11,9 +11,8 @@ use Rattle.lx_step.specs.declared.slots.OffsetSlot.{OffsetSlot}
 use Rattle.lx_step.specs.declared.slots.HistorySlot.{HistorySlot}
 use Rattle.lx_step.specs.Given.{Given, after_value, after_values, with_offset, with_history, offset_in, history_in, onto_offsets, onto_histories, offset_slots, history_slots, gives_offset, gives_history}
 use Rattle.lx_step.proofs.Lists.{set-parts}
-use Rattle.std.specs.Bool.{MatchBool}
 use Rattle.lx_base.specs.Letters.{equal_words}
-use Rattle.lx_ccode.proofs.Words.{equal_words-self, equal_words-false, equal_words-true}
+use Rattle.lx_ccode.proofs.Words.{equal_words-true}
 
 or-false : (a : Bool) → (a || false) ≡ a
 or-false true = refl

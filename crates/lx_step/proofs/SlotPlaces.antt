@@ -1,14 +1,8 @@
 -- Slots by the places of their names.
-use Rattle.std.proofs.Common.{◌≡◌, ◌∙◌, sym, ap, refl, ℕ, zero, suc, ◌<◌, Bool, true, false, List, [], ◌∷◌, ◌++◌, map, length, get_or, set, Option, Some, None, position, is_some, arith, if◌then◌else◌}
+use Rattle.std.proofs.Common.{◌≡◌, ◌∙◌, sym, ap, refl, ℕ, zero, suc, ◌<◌, Bool, true, false, List, [], ◌∷◌, ◌++◌, map, length, get_or, set, Option, Some, None, is_some, arith, if◌then◌else◌}
 use Rattle.std.specs.Option.{option_map}
-use Rattle.std.specs.List.{list_any}
-use Rattle.std.specs.Str.{bytes_eq}
-use Rattle.std.proofs.lemmas.Bool.{false≢true}
-use Rattle.std.proofs.lemmas.List.{length-map, map-append}
-use Rattle.std.proofs.lemmas.List.Quantifiers.{position-Some}
-use Rattle.std.proofs.lemmas.Slice.Eq.{bytes_eq-Decides}
+use Rattle.std.proofs.lemmas.List.{length-map}
 use Rattle.lx_base.specs.Letters.{equal_words}
-use Rattle.lx_ccode.proofs.Words.{equal_words-self, equal_words-true}
 use Rattle.lx_step.specs.declared.slots.OffsetSlot.{OffsetSlot}
 use Rattle.lx_step.specs.declared.slots.HistorySlot.{HistorySlot}
 use Rattle.lx_step.specs.Given.{offset_in, history_in, onto_offsets, onto_histories, with_offset, with_history}

@@ -1,5 +1,5 @@
 -- What holds of lexers, at first and after each match.
-use Rattle.std.proofs.Common.{◌≡◌, ◌∙◌, sym, ap, subst, refl, ℕ, ◌≤◌, ◌^◌, ◌⊎◌, Bool, true, List, [], length, is_some, Result, Ok, Err, IfOk, OnErr, arith}
+use Rattle.std.proofs.Common.{◌≡◌, ◌∙◌, sym, ap, subst, refl, ℕ, ◌≤◌, ◌⊎◌, Bool, true, List, [], length, is_some, Result, Ok, Err, IfOk, OnErr, arith}
 use Rattle.std.proofs.lemmas.List.{length-replicate}
 use Rattle.lx_base.specs.declared.limits.TheConstants.{STATEMENT_LIMIT}
 use Rattle.lx_base.specs.declared.lists.Memory.{Memory}
