@@ -2,9 +2,8 @@
 use Rattle.std.proofs.Common.{◌≡◌, ℕ, List, [], ◌∷◌, Option, Some, None, MatchOption, refl}
 use Rattle.std.proofs.lemmas.Slice.Eq.{bytes_eq-Decides}
 use Rattle.lx_files.specs.declared.files.HeldFile.{HeldFile}
-use Rattle.lx_files.specs.Held.{bytes_of}
+use Rattle.lx_files.specs.Held.{bytes_of, Sees}
 use Rattle.lx_files.specs.Reading.{Gives}
-use Rattle.lx_top.specs.Outside.{Sees}
 use Rattle.lx_top.specs.Steps.{HaltsRead, IsNoFile}
 use Rattle.lx_top.specs.declared.endings.Halt.{Halt}
 use Rattle.lx_top.specs.declared.endings.Halt.TheVariants as halt

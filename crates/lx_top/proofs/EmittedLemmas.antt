@@ -12,7 +12,7 @@ use Rattle.lx_base.specs.declared.settings.Options.{Options}
 use Rattle.lx_base.specs.declared.faults.Fault.{Fault}
 use Rattle.lx_base.specs.declared.faults.Fault.TheVariants.{NotEmitted}
 use Rattle.lx_files.specs.declared.files.HeldFile.{HeldFile}
-use Rattle.lx_files.specs.Held.{bytes_of}
+use Rattle.lx_files.specs.Held.{bytes_of, Sees}
 use Rattle.lx_base.specs.Places.{next_place, place_after, file_start}
 use Rattle.lx_ccode.specs.declared.piece.Piece.{Piece}
 use Rattle.lx_ccode.specs.Front.{BeginsWithPiece}
@@ -23,7 +23,7 @@ use Rattle.lx_top.specs.Emitted.{IsEmittedFault, IsRunFault, IsRunText, IsUnread
 use Rattle.lx_top.specs.FirstFault.{IsFaultOf}
 use Rattle.lx_top.specs.Jobs.{target_of}
 use Rattle.lx_top.specs.Output.{IsJobText}
-use Rattle.lx_top.specs.Outside.{FilesView, Sees, SinkView}
+use Rattle.lx_top.specs.Outside.{FilesView, SinkView}
 use Rattle.lx_top.specs.Steps.{HaltsRead, HaltsScan, IsPlacedHalt, JobEnds}
 use Rattle.lx_top.specs.declared.endings.Halt.{Halt}
 use Rattle.lx_top.specs.declared.endings.Halt.TheVariants as halt

@@ -1,10 +1,11 @@
 -- How a run ends, from how its job ended.
 use Rattle.std.proofs.Common.{◌≡◌, ℕ, List, Option, Some, None, refl, sym, subst, inl, inr, arith}
+use Rattle.lx_files.specs.Held.{Sees}
 use Rattle.lx_base.specs.declared.faults.Fault.{Fault}
 use Rattle.lx_base.specs.Message.{message_text}
 use Rattle.lx_files.specs.Counts.{Rose, IsCalm}
 use Rattle.lx_files.specs.declared.files.HeldFile.{HeldFile}
-use Rattle.lx_top.specs.Outside.{Outside, Sees, NoCountRose}
+use Rattle.lx_top.specs.Outside.{Outside, NoCountRose}
 use Rattle.lx_top.specs.Delivery.{Completes, DeliveryRose}
 use Rattle.lx_top.specs.Endings.{EndsAs, EndsSo, IsExpected, TellsMessage}
 use Rattle.lx_top.specs.FirstFault.{IsFirstFault}

@@ -4,13 +4,13 @@ use Rattle.lx_base.specs.Message.{message_text}
 use Rattle.lx_base.specs.declared.faults.Fault.{Fault}
 use Rattle.lx_base.specs.declared.faults.Fault.TheVariants.{Usage}
 use Rattle.lx_files.specs.Counts.{Rose}
-use Rattle.lx_files.specs.Held.{IsFront}
+use Rattle.lx_files.specs.Held.{IsFront, Sees}
 use Rattle.lx_files.specs.Taking.{GivesFront, given_then}
 use Rattle.lx_files.specs.declared.files.HeldFile.{HeldFile}
 use Rattle.lx_top.specs.Delivery.{Completes, GivesOut, BreaksOff, DeliversNothing, DeliveryRose}
 use Rattle.lx_top.specs.FirstFault.{IsFirstFault}
 use Rattle.lx_top.specs.Jobs.{file_names, job_of, options_for, target_of}
-use Rattle.lx_top.specs.Outside.{SinkView, Outside, Sees, NoCountRose}
+use Rattle.lx_top.specs.Outside.{SinkView, Outside, NoCountRose}
 use Rattle.lx_top.specs.Output.{IsTextOf}
 use Rattle.lx_top.specs.declared.endings.Ending.{Ending}
 use Rattle.lx_top.specs.declared.endings.Ending.TheVariants.{Done, Refused, ReadFailed, PutFailed, OutOfMemory}

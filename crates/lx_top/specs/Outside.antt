@@ -1,5 +1,5 @@
 -- The outside of the program: files and sinks, before and after a run.
-use Rattle.std.specs.Prelude.{◌≡◌, ℕ, List, Option, IfSome}
+use Rattle.std.specs.Prelude.{ℕ, List, Option}
 use Rattle.lx_files.specs.Counts.{IsCalm}
 use Rattle.lx_files.specs.declared.files.HeldFile.{HeldFile}
 
@@ -28,10 +28,6 @@ pub record Outside : Type 0 where
 
 abbrev pub outside : FilesView → SinkView → SinkView → Outside
 outside files out err = record { files = files; out = out; err = err }
-
--- the files as a run saw them: those that are held, where that is told
-abbrev pub Sees : Option (List HeldFile) → List HeldFile → Type 0
-Sees held seen = IfSome held (λ files. seen ≡ files)
 
 -- no count of faults rose
 pub record NoCountRose (before after : Outside) : Type 0 where

@@ -1,10 +1,10 @@
 //! The compilation of the source in a file.
 ghost use Rattle.std.specs.Prelude.{ℕ, ◌∷◌, [], List, option_map, IfErr};
 ghost use Rattle.lx_compile.specs.Options.{ArePlain};
-ghost use Rattle.lx_files.specs.Held.{bytes_of};
+ghost use Rattle.lx_files.specs.Held.{bytes_of, Sees};
 ghost use Rattle.lx_files.specs.declared.files.HeldFile.{HeldFile};
 ghost use Rattle.lx_top.specs.FirstFault.{IsFileFault};
-ghost use Rattle.lx_top.specs.Outside.{Sees, files_view, sink_view};
+ghost use Rattle.lx_top.specs.Outside.{files_view, sink_view};
 ghost use Rattle.lx_top.specs.Output.{IsOutputOfFile};
 ghost use Rattle.lx_top.specs.Steps.{IsPlacedHalt, JobEnds};
 

@@ -2,11 +2,11 @@
 ghost use Rattle.std.specs.Prelude.{◌≡◌, ℕ, ◌<◌, ◌^◌, ◌+◌, ◌∷◌, [], List, Some, None, length, IfErr, MatchResult};
 ghost use Rattle.std.specs.Str.{bytes_eq};
 ghost use Rattle.lx_ccode.specs.Validity.{IsValid};
-ghost use Rattle.lx_files.specs.Held.{bytes_of};
+ghost use Rattle.lx_files.specs.Held.{bytes_of, Sees};
 ghost use Rattle.lx_files.specs.declared.files.HeldFile.{HeldFile};
 ghost use Rattle.lx_run.specs.Texts.{run_text};
 ghost use Rattle.lx_top.specs.Emitted.{IsRunFault, IsRunText, Scans, input_fault, place_in};
-ghost use Rattle.lx_top.specs.Outside.{FilesView, Sees, files_view, sink_view};
+ghost use Rattle.lx_top.specs.Outside.{FilesView, files_view, sink_view};
 ghost use Rattle.lx_top.specs.Steps.{HaltsScan, IsPlacedHalt, JobEnds};
 
 use crate::endings::Halt;

@@ -1,9 +1,8 @@
 //! The files that are read.
 ghost use Rattle.std.specs.Prelude.{◌≡◌, List, Some, MatchResult, OnOk};
 ghost use Rattle.lx_files.specs.Counts.{Rose};
-ghost use Rattle.lx_files.specs.Held.{bytes_of};
+ghost use Rattle.lx_files.specs.Held.{bytes_of, Sees};
 ghost use Rattle.lx_files.specs.declared.files.HeldFile.{HeldFile};
-ghost use Rattle.lx_top.specs.Outside.{Sees};
 ghost use Rattle.lx_top.specs.Steps.{HaltsRead, IsNoFile};
 
 use crate::endings::Halt;

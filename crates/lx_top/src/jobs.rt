@@ -1,9 +1,10 @@
 //! What the words ask for, and its doing.
 ghost use Rattle.std.specs.Prelude.{◌≡◌, [], List, map, option_map, string_bytes, IfErr};
+ghost use Rattle.lx_files.specs.Held.{Sees};
 ghost use Rattle.lx_files.specs.declared.files.HeldFile.{HeldFile};
 ghost use Rattle.lx_top.specs.FirstFault.{IsFirstFault, IsJobFault};
 ghost use Rattle.lx_top.specs.Jobs.{IsPlainWhere, file_names, job_of, names_of, options_for, target_of};
-ghost use Rattle.lx_top.specs.Outside.{Sees, files_view, sink_view};
+ghost use Rattle.lx_top.specs.Outside.{files_view, sink_view};
 ghost use Rattle.lx_top.specs.Output.{IsTextOf};
 ghost use Rattle.lx_top.specs.Steps.{Cites, JobEnds};
 

@@ -1,6 +1,6 @@
 use Rattle.std.proofs.Common.{Some, [], ◌∷◌, refl, sym, subst, ◌∙◌}
 use Rattle.lx_top.specs.Emitted.{Scans}
-use Rattle.lx_top.specs.Outside.{Sees}
+use Rattle.lx_files.specs.Held.{Sees}
 use Rattle.lx_top.specs.Steps.{HaltsScan}
 use Rattle.lx_top.proofs.EmittedLemmas.{JobEnds-run, Reason-scan, Reason-second, bytes_of-same, sees_both}
 use Rattle.lx_top.proofs.JobLemmas.{IfErr-residual, JobEnds-reason, files_view-same}
