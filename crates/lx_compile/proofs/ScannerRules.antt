@@ -33,7 +33,7 @@ use Rattle.lx_rules.specs.declared.resolved.Act.{Act}
 use Rattle.lx_rules.specs.declared.resolved.Resolved.{Resolved}
 use Rattle.lx_rules.specs.declared.resolved.Scanner.{Scanner}
 use Rattle.lx_rules.proofs.BlockSteps.{AreUsual, conditions_of-usual, in_order, rules_of-usual}
-use Rattle.lx_exprs.proofs.ClassForms.{then-none}
+use Rattle.lx_exprs.proofs.Forms.ClassForms.{then-none}
 use Rattle.lx_rules.proofs.RuleNumbers.{all_in_order}
 use Rattle.lx_compile.specs.Output.{actions_of}
 use Rattle.lx_compile.specs.Emittable.{CanBeEmitted}

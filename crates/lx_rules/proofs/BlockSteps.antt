@@ -10,7 +10,7 @@ use Rattle.lx_base.specs.Names.{usual_names}
 use Rattle.lx_regex.specs.declared.rules.Kind.{Kind}
 use Rattle.lx_regex.specs.declared.rules.Kind.TheVariants as kind
 use Rattle.lx_exprs.specs.Checks.{is_among}
-use Rattle.lx_exprs.proofs.SharedNames.{each_apart, each_both}
+use Rattle.lx_exprs.proofs.TagLists.SharedNames.{each_apart, each_both}
 use Rattle.lx_rules.specs.Items.{RuleOf, State, is_default, is_end}
 use Rattle.lx_rules.specs.Blocks.{every, conditions_behind, conditions_of, rules_under, of_kind, not_of_kind, own_or, shared_beside, scanner_rules, rules_of, size_of, nesting_of, tags_of, limits_fault, scanner_fault, scanners_fault, lonely_fault, targets_fault, BlockChecks, NoClash}
 use Rattle.lx_rules.specs.Keeping.{IsUsual, names_of}

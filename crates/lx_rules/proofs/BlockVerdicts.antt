@@ -22,7 +22,7 @@ use Rattle.lx_forms.specs.Lexemes.{Lexeme, lexemes_of, sorts_at}
 use Rattle.lx_rules.specs.declared.resolved.Resolved.{Resolved}
 use Rattle.lx_rules.proofs.BuiltScanners.{block_built}
 use Rattle.lx_exprs.proofs.Classical.{Surely, surely, and_then, excluded_middle}
-use Rattle.lx_exprs.proofs.FormVerdicts.{Decides, finds_decides, then_decides}
+use Rattle.lx_exprs.proofs.Forms.FormVerdicts.{Decides, finds_decides, then_decides}
 use Rattle.lx_rules.proofs.ItemFits.{IsStateWithin, goes_within}
 use Rattle.lx_rules.proofs.ItemRuns.{sorts_of-lexemes}
 use Rattle.lx_rules.proofs.ItemVerdicts.{IsStateBuildable, goes_buildable, goes_decides}

@@ -22,7 +22,7 @@ use Rattle.lx_forms.specs.Forms.{Form, leaf, group, repeated, sequence, differen
 use Rattle.lx_rules.specs.Items.{any_meaning}
 use Rattle.lx_forms.specs.Lexemes.{Lexeme, points_in}
 use Rattle.lx_exprs.specs.Meanings.{IsLeafMeaning, IsMeaning, alternated, character_set, class_meaning, class_term, copied, enclosed, followed, in_choice, in_row, repeated_by, set_term, shifted, shifted_all, string_meaning, string_term, tag_meaning, term_or_empty}
-use Rattle.lx_exprs.proofs.ValueLimits.{at_least, both_of, times-some}
+use Rattle.lx_exprs.proofs.Contents.ValueLimits.{at_least, both_of, times-some}
 
 -- how many terms stand beside one another
 abbrev term_count : Shape → ℕ

@@ -21,7 +21,7 @@ use Rattle.lx_rules.specs.declared.resolved.Resolved.{Resolved}
 use Rattle.lx_rules.specs.declared.resolved.Scanner.{Scanner}
 use Rattle.lx_rules.proofs.BuildableMeanings.{IsMeantBuildable}
 use Rattle.lx_rules.proofs.BuiltTerms.{Expressed, expressed}
-use Rattle.lx_exprs.proofs.ClassForms.{then-none}
+use Rattle.lx_exprs.proofs.Forms.ClassForms.{then-none}
 use Rattle.lx_rules.proofs.RuleNumbers.{all_both}
 use Rattle.lx_rules.proofs.ScannerFits.{limits_say}
 

@@ -7,7 +7,7 @@ use Rattle.lx_regex.specs.Limits.{member_count}
 use Rattle.lx_regex.specs.PartList.{set_of}
 use Rattle.lx_regex.specs.declared.expr.Expr.{Expr}
 use Rattle.lx_regex.specs.declared.expr.Expr.TheVariants.{Empty, Class, AnyUnit, Cat, Alt, Rep, STag}
-use Rattle.lx_regex.proofs.Folds.{term_of-empty, term_of-class, term_of-any_unit, term_of-cat, term_of-alt, term_of-rep, term_of-stag}
+use Rattle.lx_regex.proofs.Trees.Folds.{term_of-empty, term_of-class, term_of-any_unit, term_of-cat, term_of-alt, term_of-rep, term_of-stag}
 use Rattle.lx_rules.specs.Buildable.{IsExpressible, AreExpressible}
 
 -- a vector and a box, wherever they lie

@@ -28,7 +28,7 @@ use Rattle.lx_forms.specs.Lexemes.{Lexeme, StandInFile, lexemes_of, nth_lexeme, 
 use Rattle.lx_forms.proofs.FilePlaces.{nth_lexeme-file, tokens_of-file}
 use Rattle.lx_token.specs.Tokens.{tokens_of}
 use Rattle.lx_token.specs.declared.list.Token.{Token}
-use Rattle.lx_exprs.proofs.FaultPlaces.{FindsIn, FindsIn-Finds, FindsIn-Then, IsFoundIn, context-file, expression-file, file-found, if-file, option_map-file, option_or-file, then_unsupported}
+use Rattle.lx_exprs.proofs.Forms.FaultPlaces.{FindsIn, FindsIn-Finds, FindsIn-Then, IsFoundIn, context-file, expression-file, file-found, if-file, option_map-file, option_or-file, then_unsupported}
 
 module _ (file : ℕ) where
   -- a target stands in the file, if there is one

@@ -16,7 +16,7 @@ use Rattle.lx_regex.specs.declared.expr.Expr.TheVariants.{AnyUnit, rolls-AnyUnit
 use Rattle.lx_regex.specs.declared.expr.Expr.TheFolds.{fold-roll-Expr}
 use Rattle.lx_regex.specs.declared.rules.Rule.{Rule}
 use Rattle.lx_regex.specs.declared.rules.Kind.TheVariants as kind
-use Rattle.lx_regex.proofs.Folds.{term_of-any_unit}
+use Rattle.lx_regex.proofs.Trees.Folds.{term_of-any_unit}
 use Rattle.lx_rules.specs.declared.items.Known.{Known}
 use Rattle.lx_rules.specs.declared.items.DefaultRule.{DefaultRule}
 use Rattle.lx_rules.specs.declared.environment.Env.{Env}
@@ -32,7 +32,7 @@ use Rattle.lx_rules.specs.Seen.{environment_view}
 use Rattle.lx_rules.specs.Finishing.{AddsDefault, AreScannersOf, IsFinished}
 use Rattle.lx_rules.proofs.BlockSteps.{AreUsual, all_names, block_checked, block_clashes, conditions_of-usual, each_name, in_order, over, rules_of-usual}
 use Rattle.lx_rules.proofs.RuleSteps.{rules_size-snoc}
-use Rattle.lx_exprs.proofs.DefinitionLists.{All-one}
+use Rattle.lx_exprs.proofs.TagLists.DefinitionLists.{All-one}
 
 size_of-any_unit : size_of AnyUnit ≡ 1
 size_of-any_unit = ap size_of (sym rolls-AnyUnit) ∙ fold-roll-Expr ℕ size_step Expr-F.AnyUnit

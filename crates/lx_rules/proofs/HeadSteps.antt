@@ -27,7 +27,7 @@ use Rattle.lx_rules.specs.Blocks.{of_kind}
 use Rattle.lx_exprs.specs.Expressions.{IsRead}
 use Rattle.lx_rules.specs.Keeping.{Holds, HoldsDefault, IsUsual, IsHeadRead, StopsHead}
 use Rattle.lx_exprs.specs.Seen.{definitions_view}
-use Rattle.lx_exprs.proofs.ExpressionRanges.{part_form}
+use Rattle.lx_exprs.proofs.Forms.ExpressionRanges.{part_form}
 use Rattle.lx_rules.proofs.ItemSteps.{read_checked, read_known}
 
 -- the place of the first of some rules

@@ -19,13 +19,13 @@ use Rattle.lx_rules.specs.Items.{Goes, HeadChecks, HeadSort, IsAfter, IsHead, It
 use Rattle.lx_forms.specs.Lexemes.{Lexeme, nth_lexeme, sort_at}
 use Rattle.lx_exprs.specs.Meanings.{IsMeaning, term_or_empty}
 use Rattle.lx_exprs.specs.Within.{AreDefinedWithin, IsDefinedWithin, IsPlain}
-use Rattle.lx_exprs.proofs.ClassFits.{plain_class}
-use Rattle.lx_exprs.proofs.ClassForms.{in_ranges_of, then-none}
-use Rattle.lx_exprs.proofs.FormFits.{form_ready}
-use Rattle.lx_exprs.proofs.MeaningFits.{IsMeantWithin}
+use Rattle.lx_exprs.proofs.Classes.ClassFits.{plain_class}
+use Rattle.lx_exprs.proofs.Forms.ClassForms.{in_ranges_of, then-none}
+use Rattle.lx_exprs.proofs.Forms.FormFits.{form_ready}
+use Rattle.lx_exprs.proofs.Forms.MeaningFits.{IsMeantWithin}
 use Rattle.lx_forms.proofs.OneForm.{one_form}
 use Rattle.lx_rules.proofs.RuleNumbers.{Differ, all_both, differ_snoc}
-use Rattle.lx_exprs.proofs.ValueLimits.{le_kept}
+use Rattle.lx_exprs.proofs.Contents.ValueLimits.{le_kept}
 
 no_way : {A : Type 0} → false ≡ true → A
 no_way held = absurd (let h : false ≡ true = held in cc)

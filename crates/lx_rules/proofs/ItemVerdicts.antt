@@ -24,17 +24,17 @@ use Rattle.lx_rules.specs.Items.{Goes, HeadChecks, HeadSort, IsAfter, IsHead, It
 use Rattle.lx_forms.specs.Lexemes.{Lexeme, nth_lexeme, sort_at, sorts_at}
 use Rattle.lx_exprs.specs.Meanings.{set_term}
 use Rattle.lx_exprs.specs.Within.{AreDefinedWithin}
-use Rattle.lx_exprs.proofs.BoundedSets.{set_exists}
+use Rattle.lx_exprs.proofs.Classes.BoundedSets.{set_exists}
 use Rattle.lx_rules.proofs.BuildableMeanings.{IsMeantBuildable, any_buildable, defined_buildable, form_buildable}
-use Rattle.lx_exprs.proofs.ClassFits.{plain_class}
-use Rattle.lx_exprs.proofs.ClassForms.{then-none}
+use Rattle.lx_exprs.proofs.Classes.ClassFits.{plain_class}
+use Rattle.lx_exprs.proofs.Forms.ClassForms.{then-none}
 use Rattle.lx_exprs.proofs.Classical.{Surely, surely, and_then}
-use Rattle.lx_exprs.proofs.ExpressionRanges.{part_form}
-use Rattle.lx_exprs.proofs.FormFits.{form_ready}
-use Rattle.lx_exprs.proofs.FormVerdicts.{Decides, finds_decides, form_decides, form_means, then_decides}
+use Rattle.lx_exprs.proofs.Forms.ExpressionRanges.{part_form}
+use Rattle.lx_exprs.proofs.Forms.FormFits.{form_ready}
+use Rattle.lx_exprs.proofs.Forms.FormVerdicts.{Decides, finds_decides, form_decides, form_means, then_decides}
 use Rattle.lx_rules.proofs.HeadSteps.{head_part}
 use Rattle.lx_rules.proofs.ItemFits.{IsStateWithin, goes_within}
-use Rattle.lx_exprs.proofs.PointSets.{le_greatest}
+use Rattle.lx_exprs.proofs.Classes.PointSets.{le_greatest}
 use Rattle.lx_rules.proofs.RuleNumbers.{all_both}
 
 -- the class of what is kept of an expression

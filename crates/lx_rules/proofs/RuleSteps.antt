@@ -24,7 +24,7 @@ use Rattle.lx_exprs.specs.Expressions.{IsReadAs}
 use Rattle.lx_rules.specs.Keeping.{Holds, HoldsDefault, DefaultWithin, AddsPlain, IsNew, IsUsual, default_count, default_pattern, names_of, plain_pattern, room_behind, with_rule}
 use Rattle.lx_rules.specs.Soundness.{IsShort, HasFitDefinitions, rules_size}
 use Rattle.lx_exprs.specs.Seen.{definitions_view}
-use Rattle.lx_exprs.proofs.DefinitionLists.{All-one}
+use Rattle.lx_exprs.proofs.TagLists.DefinitionLists.{All-one}
 
 -- one rule more
 of_kind-snoc : (test : Kind → Bool) (rules : List RuleOf) (rule : RuleOf) (is : Bool) → test rule.kind ≡ is

@@ -34,10 +34,10 @@ use Rattle.lx_rules.specs.Soundness.{FitsLimits, IsFit, rules_size}
 use Rattle.lx_exprs.specs.Within.{AreDefinedWithin, IsPlain}
 use Rattle.lx_rules.specs.Within.{IsScannerWithin}
 use Rattle.lx_rules.proofs.BlockSteps.{AreUsual, conditions_of-usual, in_order, rules_of-usual, scanners_usual, tags_of-in_order}
-use Rattle.lx_exprs.proofs.ClassFits.{classes_fit}
-use Rattle.lx_exprs.proofs.ClassForms.{then-none}
+use Rattle.lx_exprs.proofs.Classes.ClassFits.{classes_fit}
+use Rattle.lx_exprs.proofs.Forms.ClassForms.{then-none}
 use Rattle.lx_rules.proofs.ItemFits.{IsStateWithin, goes_within}
-use Rattle.lx_exprs.proofs.MeaningFits.{IsMeantWithin}
+use Rattle.lx_exprs.proofs.Forms.MeaningFits.{IsMeantWithin}
 use Rattle.lx_rules.proofs.RuleNumbers.{Differ, all_in_order, differ_in_order}
 
 -- what is asked of one rule, which is not `$`

@@ -8,7 +8,7 @@ use Rattle.lx_regex.specs.Limits.{AreRegular, HaveDifferentNumbers, IsRegular, I
 use Rattle.lx_regex.specs.Pattern.{Pattern, end_rule, is_end, pattern_of, patterns_of, with_terms}
 use Rattle.lx_regex.specs.Values.{group_ends}
 use Rattle.lx_regex.specs.declared.rules.Rule.{Rule}
-use Rattle.lx_regex.proofs.SlashEvents.{slash_set}
+use Rattle.lx_regex.proofs.Trees.SlashEvents.{slash_set}
 use Rattle.lx_gen.specs.Endings.{Ending}
 use Rattle.lx_gen.specs.Right.{AreEndsOf, IsSetBy}
 use Rattle.lx_gen.specs.Rules.{AreSimple, ending_of, endings_of, text_of}

@@ -18,7 +18,7 @@ use Rattle.lx_regex.specs.Kernel.{IsWord}
 use Rattle.lx_regex.specs.Match.{IsEnd, IsMatch, IsWordAt, Outcome, Takes, by_none, by_rule, matched, part_at, unmatched}
 use Rattle.lx_regex.specs.Order.{Policy}
 use Rattle.lx_regex.specs.Pattern.{Pattern, terms_of, with_terms}
-use Rattle.lx_regex.proofs.Beginnings.{front_begins, taken_begins}
+use Rattle.lx_regex.proofs.Trees.Beginnings.{front_begins, taken_begins}
 use Rattle.lx_tdfa.specs.Promise.{IsAutoUnder, tag_value}
 use Rattle.lx_gen.specs.Endings.{Ending}
 use Rattle.lx_gen.specs.Right.{AreEndsOf, IsRightUnder, IsSetBy}

@@ -9,7 +9,7 @@ use Rattle.lx_regex.specs.Pattern.{Pattern, is_end, pattern_of, patterns_of, sor
 use Rattle.lx_regex.specs.Values.{group_ends}
 use Rattle.lx_regex.specs.declared.rules.Rule.{Rule}
 use Rattle.lx_regex.specs.declared.rules.Tag.{Tag}
-use Rattle.lx_regex.proofs.RuleParts.{length-group_ends}
+use Rattle.lx_regex.proofs.PartTables.RuleParts.{length-group_ends}
 use Rattle.lx_tnfa.specs.RuleNumbers.{HaveApartNumbers, NoneIsNumbered}
 use Rattle.lx_tnfa.specs.Tnfa.{kinds_for}
 use Rattle.lx_tdfa.specs.Registers.{widest}

@@ -9,9 +9,9 @@ use Rattle.lx_base.specs.declared.settings.Enc.{Enc}
 use Rattle.lx_encode.specs.Graph.{numbered}
 use Rattle.lx_encode.specs.Table.{row_of}
 use Rattle.lx_encode.specs.declared.runs.Run.{Run}
-use Rattle.lx_regex.proofs.PartCount.{part_count}
-use Rattle.lx_regex.proofs.RuleParts.{parts_alike}
-use Rattle.lx_regex.proofs.Rows.{table_length}
+use Rattle.lx_regex.proofs.PartTables.PartCount.{part_count}
+use Rattle.lx_regex.proofs.PartTables.RuleParts.{parts_alike}
+use Rattle.lx_regex.proofs.PartTables.Rows.{table_length}
 use Rattle.lx_regex.specs.Automaton.{automaton, final, rules_table, table}
 use Rattle.lx_regex.specs.Parts.{Part, parts_in, parts_of, parts_of_rules}
 use Rattle.lx_regex.specs.Pattern.{Pattern, is_end, terms_of, with_terms}

@@ -12,11 +12,11 @@ use Rattle.lx_regex.specs.Reading.{IsReading}
 use Rattle.lx_regex.specs.Script.{Symbol}
 use Rattle.lx_regex.specs.Term.{Term, parts}
 use Rattle.lx_regex.specs.Walk.{IsAmong, first, next}
-use Rattle.lx_regex.proofs.Cuts.{code_even, paired_rules, rule_positive, rule_stands}
-use Rattle.lx_regex.proofs.PartCount.{part_count}
-use Rattle.lx_regex.proofs.RuleCuts.{AllTo, RowTo, row_stands, table_to}
-use Rattle.lx_regex.proofs.RuleParts.{parts_alike}
-use Rattle.lx_regex.proofs.Rows.{table_length}
+use Rattle.lx_regex.proofs.KernelCuts.Cuts.{code_even, paired_rules, rule_positive, rule_stands}
+use Rattle.lx_regex.proofs.PartTables.PartCount.{part_count}
+use Rattle.lx_regex.proofs.KernelCuts.RuleCuts.{AllTo, RowTo, row_stands, table_to}
+use Rattle.lx_regex.proofs.PartTables.RuleParts.{parts_alike}
+use Rattle.lx_regex.proofs.PartTables.Rows.{table_length}
 use Rattle.lx_tdfa.proofs.Walks.NumbersApart.{rules_table-length}
 use Rattle.lx_tdfa.proofs.Rules.WithinStates.{rules_parts}
 

@@ -11,7 +11,7 @@ use Rattle.lx_regex.specs.Cut.{rule_part}
 use Rattle.lx_regex.specs.Pattern.{Pattern, terms_of, with_terms}
 use Rattle.lx_regex.specs.Term.{Term, parts}
 use Rattle.lx_regex.specs.Walk.{IsAmong, first, next}
-use Rattle.lx_regex.proofs.Cuts.{rule_positive}
+use Rattle.lx_regex.proofs.KernelCuts.Cuts.{rule_positive}
 use Rattle.lx_tnfa.specs.Closure as closure
 use Rattle.lx_tnfa.specs.Closure.{Arrival, IsPlainWalk, IsWalk, beginning_at, beginning_of, behind_or_at, leaf_step, steps_from, steps_of, stop_at}
 use Rattle.lx_tnfa.specs.Live.{starts_at, state_of}

@@ -4,8 +4,8 @@ use Rattle.std.specs.Prelude.{◌≡◌, ℕ, zero, suc, ◌+◌, ◌*◌, ◌<�
 use Rattle.lx_regex.specs.Automaton.{Move, State, alternatives_table, automaton, copies_table, final, iteration_moves, leaf, member_moves, members_table, move, moves, moves_after, rules_table, table, target, unit_leaf}
 use Rattle.lx_regex.specs.Script.{may_iterate, merge_tags, tags_in}
 use Rattle.lx_regex.specs.Term.{Term, Terms, alt, any_unit, cat, class, cons, copies, empty, group, nil, parts, repeat, tag}
-use Rattle.lx_regex.proofs.Clear.{picked}
-use Rattle.lx_regex.proofs.PartLists.{parts_positive}
+use Rattle.lx_regex.proofs.Walks.Clear.{picked}
+use Rattle.lx_regex.proofs.PartTables.PartLists.{parts_positive}
 use Rattle.lx_tnfa.specs.LeafReadings.{IsNth}
 use Rattle.lx_tnfa.specs.DepthFirst.{successors}
 use Rattle.lx_tdfa.specs.Graph.{graph_of, move_at, nth_move, rule_starts, starts_behind}

@@ -5,9 +5,9 @@ use Rattle.lx_regex.specs.Automaton.{Move, State, automaton, final, moves, rules
 use Rattle.lx_regex.specs.Cut.{rule_part}
 use Rattle.lx_regex.specs.Term.{Term, parts}
 use Rattle.lx_regex.specs.Walk.{IsAmong, first, next}
-use Rattle.lx_regex.proofs.Rows.{table_length}
-use Rattle.lx_regex.proofs.RuleCuts.{AllTo, RowTo, Spans, row_stands, table_to}
-use Rattle.lx_regex.proofs.WholeWalk.{stands_all}
+use Rattle.lx_regex.proofs.PartTables.Rows.{table_length}
+use Rattle.lx_regex.proofs.KernelCuts.RuleCuts.{AllTo, RowTo, Spans, row_stands, table_to}
+use Rattle.lx_regex.proofs.Walks.WholeWalk.{stands_all}
 use Rattle.lx_tnfa.specs.LeafReadings.{IsNth}
 use Rattle.lx_tnfa.specs.DepthFirst.{successors}
 use Rattle.lx_tnfa.proofs.Searching.SimplePaths.{IsAt}

@@ -3,7 +3,7 @@ use Rattle.std.proofs.Common.{inl, inr, sym, ap, ap₂, ◌∙◌, subst, arith}
 use Rattle.std.specs.Prelude.{◌≡◌, ℕ, zero, suc, ◌+◌, List, [], ◌∷◌, ◌++◌, map, length, Option, Some, None, Bool, true, false, ◌==◌, if◌then◌else◌, refl}
 use Rattle.lx_regex.specs.Script.{Symbol, begins, ends, picks, reads, sets, units, unsets}
 use Rattle.lx_regex.specs.Values.{all_events, last_event}
-use Rattle.lx_regex.proofs.PlainWalk.{units_append}
+use Rattle.lx_regex.proofs.Walks.PlainWalk.{units_append}
 use Rattle.lx_tnfa.specs.LeafReadings.{IsNth}
 use Rattle.lx_tnfa.proofs.Construction.NthLists.{nth_unmap}
 use Rattle.lx_tdfa.specs.Kernels.{Candidate, Entry, Key, entries, entry_at, first_entries, kernel_list, next_candidates, places}

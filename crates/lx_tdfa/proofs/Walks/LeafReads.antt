@@ -13,8 +13,8 @@ use Rattle.lx_regex.specs.Reading.{IsReading, of_point, of_unit}
 use Rattle.lx_regex.specs.Script.{Symbol, has_long, has_short, leaf_choice, picks, reads, units}
 use Rattle.lx_regex.specs.Term.{Term}
 use Rattle.lx_regex.specs.Walk.{mark}
-use Rattle.lx_regex.proofs.PlainWalk.{units_mark}
-use Rattle.lx_regex.proofs.Readings.{code_quiet}
+use Rattle.lx_regex.proofs.Walks.PlainWalk.{units_mark}
+use Rattle.lx_regex.proofs.Walks.Readings.{code_quiet}
 use Rattle.lx_tnfa.specs.LeafReadings.{IsNth}
 use Rattle.lx_tnfa.specs.Live.{ReachesEnd, at_end, behind_leaf, leads_to, mark_at, onward, starts_at, state_of}
 use Rattle.lx_tnfa.specs.PlaceNumbers.{class_starts, leaf_starts, numbers_after, numbers_from, place_number, set_at, symbols_added, ways_to_read}

@@ -10,7 +10,7 @@ use Rattle.lx_regex.specs.Automaton as spec
 use Rattle.lx_regex.specs.Automaton.{automaton, final, rules_table, table}
 use Rattle.lx_regex.specs.Pattern.{Pattern, terms_of}
 use Rattle.lx_regex.specs.Term.{Term, parts}
-use Rattle.lx_regex.proofs.Rows.{table_length}
+use Rattle.lx_regex.proofs.PartTables.Rows.{table_length}
 use Rattle.lx_tnfa.specs.Live.{state_of}
 use Rattle.lx_tnfa.specs.PlaceNumbers.{is_finished, is_last}
 use Rattle.lx_tnfa.specs.Rows.{RepresentEach}

@@ -6,7 +6,7 @@ use Rattle.lx_regex.specs.Cut.{rule_part}
 use Rattle.lx_regex.specs.Reading.{IsReading}
 use Rattle.lx_regex.specs.Script.{Symbol, begins, ends, picks, reads, sets, units, unsets}
 use Rattle.lx_regex.specs.Term.{Term, parts}
-use Rattle.lx_regex.proofs.Readings.{code_quiet}
+use Rattle.lx_regex.proofs.Walks.Readings.{code_quiet}
 use Rattle.lx_tnfa.specs.LeafReadings.{IsLeft, IsNth}
 use Rattle.lx_tdfa.specs.Graph.{rule_starts, starts_behind}
 

@@ -7,9 +7,9 @@ use Rattle.lx_regex.specs.Plain.{mark_of}
 use Rattle.lx_regex.specs.Reading.{IsReading}
 use Rattle.lx_regex.specs.Script.{Symbol, units}
 use Rattle.lx_regex.specs.Walk.{IsAmong, Walk, first, mark, moved, next, symbols}
-use Rattle.lx_regex.proofs.Clear.{picked}
-use Rattle.lx_regex.proofs.PlainWalk.{IsPlainList, IsUnseen, mark_tells, plain_label, plain_mark, units_label, units_mark, unseen_label, unseen_mark}
-use Rattle.lx_regex.proofs.Readings.{code_row}
+use Rattle.lx_regex.proofs.Walks.Clear.{picked}
+use Rattle.lx_regex.proofs.Walks.PlainWalk.{IsPlainList, IsUnseen, mark_tells, plain_label, plain_mark, units_label, units_mark, unseen_label, unseen_mark}
+use Rattle.lx_regex.proofs.Walks.Readings.{code_row}
 use Rattle.lx_tnfa.specs.LeafReadings.{IsNth}
 use Rattle.lx_tnfa.specs.DepthFirst.{IsIn, successors}
 use Rattle.lx_tnfa.proofs.Searching.SimplePaths.{IsAt, SimplePath}

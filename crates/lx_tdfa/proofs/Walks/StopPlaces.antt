@@ -8,7 +8,7 @@ use Rattle.lx_encode.specs.declared.runs.Run.{Run}
 use Rattle.lx_regex.specs.Automaton as spec
 use Rattle.lx_regex.specs.Automaton.{automaton, leaf, moves, unit_leaf}
 use Rattle.lx_regex.specs.Term.{Term, parts}
-use Rattle.lx_regex.proofs.Cuts.{ArePaired, paired_rules}
+use Rattle.lx_regex.proofs.KernelCuts.Cuts.{ArePaired, paired_rules}
 use Rattle.lx_tnfa.specs.Closure.{beginning_at, beginning_of, behind_or_at}
 use Rattle.lx_tnfa.specs.LeafReadings.{IsNth}
 use Rattle.lx_tnfa.specs.Live.{state_of}

@@ -13,15 +13,15 @@ use Rattle.lx_regex.specs.Script.{Symbol, begins, choices, ends, leaf_choice, pi
 use Rattle.lx_regex.specs.Term.{Term}
 use Rattle.lx_regex.specs.Tree.{Tree}
 use Rattle.lx_regex.specs.Walk.{Walk, at_point, at_unit, mark, moved, stay, symbols}
-use Rattle.lx_regex.proofs.Candidates.{plain_mark_back, plain_tail, unseen_label_back, unseen_mark_back}
-use Rattle.lx_regex.proofs.Cuts.{rule_positive, rule_stands}
-use Rattle.lx_regex.proofs.Exchange.{plain_from}
-use Rattle.lx_regex.proofs.Fronts.{DiffersBefore, before_self, choices_append, differs-before, units_code, units_reads}
-use Rattle.lx_regex.proofs.Kernels.{before_asym}
-use Rattle.lx_regex.proofs.PlainWalk.{IsPlainList, IsUnseen, cut, plain_list, units_append, units_label, units_mark, walk_plain}
-use Rattle.lx_regex.proofs.Readings.{code_some}
-use Rattle.lx_regex.proofs.Scripts.{differs_is_before, in_none}
-use Rattle.lx_regex.proofs.WholeWalk.{tree_of, walk_of}
+use Rattle.lx_regex.proofs.Walks.Candidates.{plain_mark_back, plain_tail, unseen_label_back, unseen_mark_back}
+use Rattle.lx_regex.proofs.KernelCuts.Cuts.{rule_positive, rule_stands}
+use Rattle.lx_regex.proofs.Walks.Exchange.{plain_from}
+use Rattle.lx_regex.proofs.Walks.Fronts.{DiffersBefore, before_self, choices_append, differs-before, units_code, units_reads}
+use Rattle.lx_regex.proofs.KernelCuts.Kernels.{before_asym}
+use Rattle.lx_regex.proofs.Walks.PlainWalk.{IsPlainList, IsUnseen, cut, plain_list, units_append, units_label, units_mark, walk_plain}
+use Rattle.lx_regex.proofs.Walks.Readings.{code_some}
+use Rattle.lx_regex.proofs.Walks.Scripts.{differs_is_before, in_none}
+use Rattle.lx_regex.proofs.Walks.WholeWalk.{tree_of, walk_of}
 use Rattle.lx_tnfa.specs.LeafReadings.{IsLeft, NumbersLeaves}
 use Rattle.lx_tnfa.specs.DepthFirst.{Found, IsIn}
 use Rattle.lx_tnfa.proofs.Searching.SimplePaths.{SimplePath}

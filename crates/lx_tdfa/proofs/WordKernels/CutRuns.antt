@@ -10,12 +10,12 @@ use Rattle.lx_regex.specs.Reading.{IsReading, of_point, of_unit}
 use Rattle.lx_regex.specs.Script.{Symbol, begins, ends, leaf_choice, picks, reads, sets, units, unsets}
 use Rattle.lx_regex.specs.Term.{Term}
 use Rattle.lx_regex.specs.Walk.{Walk, at_point, at_unit, mark, moved, stay, symbols}
-use Rattle.lx_regex.proofs.Candidates.{plain_mark_back, plain_tail, unseen_label_back, unseen_mark_back}
-use Rattle.lx_regex.proofs.Cuts.{rule_stands}
-use Rattle.lx_regex.proofs.Exchange.{plain_from, quiet_split}
-use Rattle.lx_regex.proofs.PlainWalk.{IsPlainList, IsUnseen, units_append, units_label, units_mark}
-use Rattle.lx_regex.proofs.Readings.{code_quiet, code_some}
-use Rattle.lx_regex.proofs.WholeWalk.{walk_of}
+use Rattle.lx_regex.proofs.Walks.Candidates.{plain_mark_back, plain_tail, unseen_label_back, unseen_mark_back}
+use Rattle.lx_regex.proofs.KernelCuts.Cuts.{rule_stands}
+use Rattle.lx_regex.proofs.Walks.Exchange.{plain_from, quiet_split}
+use Rattle.lx_regex.proofs.Walks.PlainWalk.{IsPlainList, IsUnseen, units_append, units_label, units_mark}
+use Rattle.lx_regex.proofs.Walks.Readings.{code_quiet, code_some}
+use Rattle.lx_regex.proofs.Walks.WholeWalk.{walk_of}
 use Rattle.lx_tnfa.specs.LeafReadings.{HasBegun, IsLeft, NumbersLeaves}
 use Rattle.lx_tnfa.specs.DepthFirst.{IsIn}
 use Rattle.lx_tnfa.proofs.Searching.SimplePaths.{SimplePath}

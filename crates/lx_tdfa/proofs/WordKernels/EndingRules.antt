@@ -12,9 +12,9 @@ use Rattle.lx_regex.specs.Script.{Symbol, begins, ends, has_long, has_short, lea
 use Rattle.lx_regex.specs.Term.{Term}
 use Rattle.lx_regex.specs.Tree.{Tree}
 use Rattle.lx_regex.specs.Walk.{IsAmong, Walk, at_point, at_unit, mark, moved, stay, symbols}
-use Rattle.lx_regex.proofs.Cuts.{rule_stands}
-use Rattle.lx_regex.proofs.PartLists.{parts_positive}
-use Rattle.lx_regex.proofs.WholeWalk.{walk_of}
+use Rattle.lx_regex.proofs.KernelCuts.Cuts.{rule_stands}
+use Rattle.lx_regex.proofs.PartTables.PartLists.{parts_positive}
+use Rattle.lx_regex.proofs.Walks.WholeWalk.{walk_of}
 use Rattle.lx_tnfa.specs.Tnfa.{IsTnfaOf, Tnfa}
 use Rattle.lx_tnfa.proofs.Searching.SearchBasics.{Each, Each-append}
 use Rattle.lx_tdfa.specs.Graph.{move_at, path_symbols}

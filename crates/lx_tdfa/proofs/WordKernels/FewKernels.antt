@@ -10,7 +10,7 @@ use Rattle.lx_base.specs.Spelling.{greatest_unit}
 use Rattle.lx_regex.specs.Cut.{Cut, Precedes}
 use Rattle.lx_regex.specs.Kernel.{AllDiffer, AreKernels, DiffersFrom, HasTooManyKernels, IsKernel, IsWord, SamePlaces}
 use Rattle.lx_regex.specs.Pattern.{Pattern, terms_of}
-use Rattle.lx_regex.proofs.Kernels.{kernel_is_unique}
+use Rattle.lx_regex.proofs.KernelCuts.Kernels.{kernel_is_unique}
 use Rattle.lx_tnfa.specs.Tnfa.{IsTnfaOf, Tnfa}
 use Rattle.lx_tnfa.specs.declared.places.Place.{Place}
 use Rattle.lx_tdfa.specs.Kernels.{Entry, cut_of, kernel_after, places}

@@ -8,12 +8,12 @@ use Rattle.lx_regex.specs.Kernel.{IsKernel}
 use Rattle.lx_regex.specs.Script.{Symbol, choices, ends, reads}
 use Rattle.lx_regex.specs.Term.{Term}
 use Rattle.lx_regex.specs.Walk.{mark, symbols}
-use Rattle.lx_regex.proofs.Exchange.{first_mark, reads_match}
-use Rattle.lx_regex.proofs.Kernels.{precedes_asym}
-use Rattle.lx_regex.proofs.PlainWalk.{mark_tells}
-use Rattle.lx_regex.proofs.Rows.{mark_ends}
-use Rattle.lx_regex.proofs.RuleCuts.{cuts_one_rule}
-use Rattle.lx_regex.proofs.Scripts.{differs_is_before}
+use Rattle.lx_regex.proofs.Walks.Exchange.{first_mark, reads_match}
+use Rattle.lx_regex.proofs.KernelCuts.Kernels.{precedes_asym}
+use Rattle.lx_regex.proofs.Walks.PlainWalk.{mark_tells}
+use Rattle.lx_regex.proofs.PartTables.Rows.{mark_ends}
+use Rattle.lx_regex.proofs.KernelCuts.RuleCuts.{cuts_one_rule}
+use Rattle.lx_regex.proofs.Walks.Scripts.{differs_is_before}
 use Rattle.lx_tnfa.specs.LeafReadings.{IsLeft, IsNth, NumbersLeaves}
 use Rattle.lx_tnfa.proofs.Construction.NthLists.{nth_map, nth_unmap}
 use Rattle.lx_tdfa.specs.Graph.{graph_of, rule_starts}

@@ -10,8 +10,8 @@ use Rattle.lx_regex.specs.Cut.{Cut, Precedes, last_part}
 use Rattle.lx_regex.specs.Kernel.{AllDiffer, AreKernels, DiffersFrom, HasTooManyKernels, IsKernel, IsWord, SamePlaces}
 use Rattle.lx_regex.specs.Pattern.{Pattern, terms_of}
 use Rattle.lx_regex.specs.Term.{Term}
-use Rattle.lx_regex.proofs.Cuts.{rule_positive}
-use Rattle.lx_regex.proofs.RuleCuts.{cut_within}
+use Rattle.lx_regex.proofs.KernelCuts.Cuts.{rule_positive}
+use Rattle.lx_regex.proofs.KernelCuts.RuleCuts.{cut_within}
 use Rattle.lx_tnfa.specs.Tnfa.{IsTnfaOf, Tnfa}
 use Rattle.lx_tnfa.specs.declared.places.Place.{Place}
 use Rattle.lx_tnfa.proofs.Searching.SearchBasics.{Each}

@@ -10,13 +10,13 @@ use Rattle.lx_regex.specs.Reading.{IsReading}
 use Rattle.lx_regex.specs.Script.{Symbol, reads, script, units}
 use Rattle.lx_regex.specs.Term.{Term}
 use Rattle.lx_regex.specs.Walk.{Walk, mark, symbols}
-use Rattle.lx_regex.proofs.Candidates.{plain_code, unseen_code}
-use Rattle.lx_regex.proofs.Cuts.{code_even, last_append, last_code, paired_rules, rule_positive, rule_stands}
-use Rattle.lx_regex.proofs.Exchange.{code_walk, plain_join, unseen_seam}
-use Rattle.lx_regex.proofs.PlainWalk.{IsPlainList, IsUnseen, cut, plain_list, units_append, units_mark, walk_plain}
-use Rattle.lx_regex.proofs.Readings.{code_quiet}
-use Rattle.lx_regex.proofs.Rows.{mark_begins}
-use Rattle.lx_regex.proofs.WholeWalk.{tree_of}
+use Rattle.lx_regex.proofs.Walks.Candidates.{plain_code, unseen_code}
+use Rattle.lx_regex.proofs.KernelCuts.Cuts.{code_even, last_append, last_code, paired_rules, rule_positive, rule_stands}
+use Rattle.lx_regex.proofs.Walks.Exchange.{code_walk, plain_join, unseen_seam}
+use Rattle.lx_regex.proofs.Walks.PlainWalk.{IsPlainList, IsUnseen, cut, plain_list, units_append, units_mark, walk_plain}
+use Rattle.lx_regex.proofs.Walks.Readings.{code_quiet}
+use Rattle.lx_regex.proofs.PartTables.Rows.{mark_begins}
+use Rattle.lx_regex.proofs.Walks.WholeWalk.{tree_of}
 use Rattle.lx_tnfa.specs.LeafReadings.{HasBegun, IsLeft, IsNth, NumbersLeaves}
 use Rattle.lx_tnfa.proofs.Searching.SimplePaths.{SimplePath}
 use Rattle.lx_tdfa.specs.Graph.{graph_of, move_at, path_end, path_symbols, rule_starts}

@@ -8,8 +8,8 @@ use Rattle.lx_regex.specs.Dictionary.{IsBefore}
 use Rattle.lx_regex.specs.Script.{Symbol, choices}
 use Rattle.lx_regex.specs.Term.{Term}
 use Rattle.lx_regex.specs.Walk.{mark}
-use Rattle.lx_regex.proofs.Clear.{picked}
-use Rattle.lx_regex.proofs.Fronts.{DiffersBefore, choices_append, choices_label, choices_mark, pick_list}
+use Rattle.lx_regex.proofs.Walks.Clear.{picked}
+use Rattle.lx_regex.proofs.Walks.Fronts.{DiffersBefore, choices_append, choices_label, choices_mark, pick_list}
 use Rattle.lx_tnfa.specs.LeafReadings.{IsNth, NumbersLeaves}
 use Rattle.lx_tnfa.specs.DepthFirst.{successors}
 use Rattle.lx_tnfa.proofs.Searching.SimplePaths.{IsAt, SimplePath}

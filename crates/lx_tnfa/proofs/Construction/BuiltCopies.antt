@@ -5,7 +5,7 @@ use Rattle.lx_regex.specs.Automaton as spec
 use Rattle.lx_regex.specs.Automaton.{table, copies_table, moves_after}
 use Rattle.lx_regex.specs.Script.{tags_in}
 use Rattle.lx_regex.specs.Term.{Term, copies, parts}
-use Rattle.lx_regex.proofs.Rows.{table_length}
+use Rattle.lx_regex.proofs.PartTables.Rows.{table_length}
 use Rattle.lx_tnfa.specs.Moves.{counted_size, shown_move, sized_moves}
 use Rattle.lx_tnfa.specs.Rows.{Builds, HasRoom}
 use Rattle.lx_tnfa.specs.declared.building.Building.{Building}

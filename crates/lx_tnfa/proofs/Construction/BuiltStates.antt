@@ -9,9 +9,9 @@ use Rattle.lx_regex.specs.Expr.{term_of}
 use Rattle.lx_regex.specs.Term.{Term, empty, class, any_unit, cat, alt, repeat, tag, group, Terms, nil, cons, parts, parts_of_all}
 use Rattle.lx_regex.specs.declared.expr.Expr.{Expr}
 use Rattle.lx_regex.specs.declared.expr.Expr.TheVariants.{Empty, Class, AnyUnit, STag, MTag}
-use Rattle.lx_regex.proofs.Folds.{term_of-empty, term_of-class, term_of-any_unit, term_of-stag, term_of-mtag}
-use Rattle.lx_regex.proofs.NoUnits.{terms_in, next_member as next_expr}
-use Rattle.lx_regex.proofs.PartLists.{IsLeafForm}
+use Rattle.lx_regex.proofs.Trees.Folds.{term_of-empty, term_of-class, term_of-any_unit, term_of-stag, term_of-mtag}
+use Rattle.lx_regex.proofs.Trees.NoUnits.{terms_in, next_member as next_expr}
+use Rattle.lx_regex.proofs.PartTables.PartLists.{IsLeafForm}
 use Rattle.lx_tnfa.specs.Beginnings.{first_state, inner_states}
 use Rattle.lx_tnfa.specs.Classes.{Adds, AreClasses}
 use Rattle.lx_tnfa.specs.Moves.{shown_move}

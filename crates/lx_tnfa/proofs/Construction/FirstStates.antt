@@ -11,9 +11,9 @@ use Rattle.lx_regex.specs.Script.{may_iterate, tags_in, copy_part}
 use Rattle.lx_regex.specs.Term.{Term, copies, parts}
 use Rattle.lx_regex.specs.declared.expr.Expr.{Expr}
 use Rattle.lx_regex.specs.declared.expr.Expr.TheVariants.{Class, Cat, Alt, Rep}
-use Rattle.lx_regex.proofs.Folds.{term_of-class, term_of-cat, term_of-alt, term_of-rep}
-use Rattle.lx_regex.proofs.NoUnits.{terms_in}
-use Rattle.lx_regex.proofs.PartLists.{set_of-ranges_of}
+use Rattle.lx_regex.proofs.Trees.Folds.{term_of-class, term_of-cat, term_of-alt, term_of-rep}
+use Rattle.lx_regex.proofs.Trees.NoUnits.{terms_in}
+use Rattle.lx_regex.proofs.PartTables.PartLists.{set_of-ranges_of}
 use Rattle.lx_tnfa.proofs.Construction.Members.{not_zero}
 use Rattle.lx_tnfa.specs.Beginnings.{first_state}
 use Rattle.lx_tnfa.specs.Classes.{HasClass}

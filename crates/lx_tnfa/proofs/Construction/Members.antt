@@ -5,7 +5,7 @@ use Rattle.std.specs.Prelude.{nat_eq}
 use Rattle.lx_regex.specs.Expr.{term_of}
 use Rattle.lx_regex.specs.Term.{parts, parts_of_all}
 use Rattle.lx_regex.specs.declared.expr.Expr.{Expr}
-use Rattle.lx_regex.proofs.NoUnits.{terms_in, next_member}
+use Rattle.lx_regex.proofs.Trees.NoUnits.{terms_in, next_member}
 use Rattle.lx_tnfa.specs.Ends.{EndsFit, EndsFitAmong}
 
 pub ends_at : (tags : ℕ) (members : List Expr) (i : ℕ) (member : Expr) → i < length members → member ≡ get_or members i member

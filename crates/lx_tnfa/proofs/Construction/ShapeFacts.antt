@@ -8,8 +8,8 @@ use Rattle.lx_regex.specs.Script.{merge_tags, put_tag, tags_among, tags_in}
 use Rattle.lx_regex.specs.Term.{Term, empty, class, any_unit, cat, alt, repeat, tag, group, Terms, nil, cons, copies, parts, parts_of_all}
 use Rattle.lx_regex.specs.declared.expr.Expr.{Expr}
 use Rattle.lx_regex.specs.declared.expr.Expr.TheVariants.{Cat, Alt, Rep, Group}
-use Rattle.lx_regex.proofs.Folds.{term_of-cat, term_of-alt, term_of-rep, term_of-group}
-use Rattle.lx_regex.proofs.NoUnits.{terms_in}
+use Rattle.lx_regex.proofs.Trees.Folds.{term_of-cat, term_of-alt, term_of-rep, term_of-group}
+use Rattle.lx_regex.proofs.Trees.NoUnits.{terms_in}
 use Rattle.lx_tnfa.specs.Moves.{counted_size}
 use Rattle.lx_tnfa.specs.Shapes.{HasShape, HaveShapes, IsAround, IsOnly, Tells, parts_together, tags_together}
 use Rattle.lx_tnfa.specs.declared.shape.Shape.{Shape, out-Shape}

@@ -13,8 +13,8 @@ use Rattle.lx_regex.specs.Parts.{Part, parts_of, parts_of_rules}
 use Rattle.lx_regex.specs.Pattern.{Pattern, is_end, pattern_of, patterns_of, sorts_of, terms_of, with_terms}
 use Rattle.lx_regex.specs.Term.{parts}
 use Rattle.lx_regex.specs.declared.rules.Rule.{Rule}
-use Rattle.lx_regex.proofs.RuleParts.{few_ends, few_rules, few_tags, length-numbers_from, next_rule, regular_at, rule_alike, rule_counted, rule_room, rules_part, sizes_next}
-use Rattle.lx_regex.proofs.Rows.{table_length}
+use Rattle.lx_regex.proofs.PartTables.RuleParts.{few_ends, few_rules, few_tags, length-numbers_from, next_rule, regular_at, rule_alike, rule_counted, rule_room, rules_part, sizes_next}
+use Rattle.lx_regex.proofs.PartTables.Rows.{table_length}
 use Rattle.lx_tnfa.specs.Classes.{AreClasses}
 use Rattle.lx_tnfa.specs.Live.{AreLive}
 use Rattle.lx_tnfa.specs.Making.{AddsRule, CanAdd, rule_beginning, rule_size, rule_states, seen_owners, seen_tags}

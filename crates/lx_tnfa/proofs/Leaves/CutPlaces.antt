@@ -10,12 +10,12 @@ use Rattle.lx_regex.specs.Plain.{IsPlain}
 use Rattle.lx_regex.specs.Script.{Symbol, ends, reads, script}
 use Rattle.lx_regex.specs.Term.{Term}
 use Rattle.lx_regex.specs.Walk.{Walk, symbols}
-use Rattle.lx_regex.proofs.Cuts.{cutting_of, front_part, paired_rules, rule_positive, rule_stands, way_of}
-use Rattle.lx_regex.proofs.Exchange.{first_mark, plain_from, plain_rest, plain_swap, reads_match, resume}
-use Rattle.lx_regex.proofs.Fronts.{Front}
-use Rattle.lx_regex.proofs.PlainWalk.{plain_list, plain_reads}
-use Rattle.lx_regex.proofs.Rows.{mark_ends}
-use Rattle.lx_regex.proofs.WholeWalk.{tree_of}
+use Rattle.lx_regex.proofs.KernelCuts.Cuts.{cutting_of, front_part, paired_rules, rule_positive, rule_stands, way_of}
+use Rattle.lx_regex.proofs.Walks.Exchange.{first_mark, plain_from, plain_rest, plain_swap, reads_match, resume}
+use Rattle.lx_regex.proofs.Walks.Fronts.{Front}
+use Rattle.lx_regex.proofs.Walks.PlainWalk.{plain_list, plain_reads}
+use Rattle.lx_regex.proofs.PartTables.Rows.{mark_ends}
+use Rattle.lx_regex.proofs.Walks.WholeWalk.{tree_of}
 use Rattle.lx_tnfa.specs.Classes.{AreClasses}
 use Rattle.lx_tnfa.specs.LeafReadings.{IsLeft}
 use Rattle.lx_tnfa.specs.Live.{state_of}

@@ -8,9 +8,9 @@ use Rattle.lx_regex.specs.Reading.{IsReading, of_point, of_unit}
 use Rattle.lx_regex.specs.Script.{Symbol, begins, ends, reads, sets, unsets, picks, has_long, has_short, leaf_choice}
 use Rattle.lx_regex.specs.Term.{Term}
 use Rattle.lx_regex.specs.Walk.{mark}
-use Rattle.lx_regex.proofs.Cuts.{ArePaired, code_even, paired_rules}
-use Rattle.lx_regex.proofs.Fronts.{Front, by_code, by_move, within}
-use Rattle.lx_regex.proofs.Rows.{mark_begins}
+use Rattle.lx_regex.proofs.KernelCuts.Cuts.{ArePaired, code_even, paired_rules}
+use Rattle.lx_regex.proofs.Walks.Fronts.{Front, by_code, by_move, within}
+use Rattle.lx_regex.proofs.PartTables.Rows.{mark_begins}
 use Rattle.lx_tnfa.specs.LeafReadings.{IsLeft}
 
 -- what stands behind the last beginning

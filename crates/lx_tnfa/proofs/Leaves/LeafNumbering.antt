@@ -12,9 +12,9 @@ use Rattle.lx_regex.specs.Reading.{IsReading}
 use Rattle.lx_regex.specs.Script.{Symbol, choices, reads}
 use Rattle.lx_regex.specs.Term.{Term}
 use Rattle.lx_regex.specs.Walk.{Walk, mark}
-use Rattle.lx_regex.proofs.Cuts.{paired_rules}
-use Rattle.lx_regex.proofs.Fronts.{choices_append, choices_mark}
-use Rattle.lx_regex.proofs.Readings.{code_quiet}
+use Rattle.lx_regex.proofs.KernelCuts.Cuts.{paired_rules}
+use Rattle.lx_regex.proofs.Walks.Fronts.{choices_append, choices_mark}
+use Rattle.lx_regex.proofs.Walks.Readings.{code_quiet}
 use Rattle.lx_tnfa.specs.Classes.{AreClasses}
 use Rattle.lx_tnfa.specs.LeafReadings.{HasBegun, IsLeft, IsNth, NumbersLeaves}
 use Rattle.lx_tnfa.specs.Live.{AreLive, mark_at, state_of}

@@ -7,10 +7,10 @@ use Rattle.lx_regex.specs.Automaton.{State, automaton}
 use Rattle.lx_regex.specs.Reading.{IsReading}
 use Rattle.lx_regex.specs.Script.{Symbol, choices, reads, units}
 use Rattle.lx_regex.specs.Term.{Term}
-use Rattle.lx_regex.proofs.Cuts.{paired_rules}
-use Rattle.lx_regex.proofs.Fronts.{choices_append}
-use Rattle.lx_regex.proofs.PlainWalk.{units_append}
-use Rattle.lx_regex.proofs.Readings.{code_quiet}
+use Rattle.lx_regex.proofs.KernelCuts.Cuts.{paired_rules}
+use Rattle.lx_regex.proofs.Walks.Fronts.{choices_append}
+use Rattle.lx_regex.proofs.Walks.PlainWalk.{units_append}
+use Rattle.lx_regex.proofs.Walks.Readings.{code_quiet}
 use Rattle.lx_tnfa.specs.Classes.{AreClasses}
 use Rattle.lx_tnfa.specs.LeafReadings.{IsLeft, IsNth}
 use Rattle.lx_tnfa.specs.Live.{state_of}

@@ -15,7 +15,7 @@ use Rattle.lx_regex.specs.PartList.{set_of}
 use Rattle.lx_regex.specs.Reading.{IsReading, of_point, of_unit}
 use Rattle.lx_regex.specs.Script.{Symbol, choices, leaf_choice}
 use Rattle.lx_regex.specs.Term.{IsInRanges}
-use Rattle.lx_regex.proofs.Readings.{code_row}
+use Rattle.lx_regex.proofs.Walks.Readings.{code_row}
 use Rattle.lx_tnfa.specs.Classes.{AreClasses, HasClass}
 use Rattle.lx_tnfa.specs.LeafReadings.{IsNth}
 use Rattle.lx_tnfa.specs.Live.{starts_at}

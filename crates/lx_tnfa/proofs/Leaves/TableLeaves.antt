@@ -7,8 +7,8 @@ use Rattle.lx_regex.specs.Automaton.{alternatives_table, automaton, copies_table
 use Rattle.lx_regex.specs.Reading.{IsReading}
 use Rattle.lx_regex.specs.Script.{Symbol}
 use Rattle.lx_regex.specs.Term.{Term, empty, class, any_unit, cat, alt, repeat, tag, group, Terms, nil, cons, copies, parts}
-use Rattle.lx_regex.proofs.Cuts.{ArePaired}
-use Rattle.lx_regex.proofs.Readings.{code_row}
+use Rattle.lx_regex.proofs.KernelCuts.Cuts.{ArePaired}
+use Rattle.lx_regex.proofs.Walks.Readings.{code_row}
 use Rattle.lx_tnfa.specs.Live.{state_of}
 use Rattle.lx_tnfa.specs.Rows.{RepresentEach, Represents}
 use Rattle.lx_regex.specs.ClassLimits.{ClassesFit, ClassesFitAmong, AllClassesFit}

@@ -8,10 +8,10 @@ use Rattle.lx_regex.specs.Automaton.{State, label}
 use Rattle.lx_regex.specs.Plain.{IsPlain}
 use Rattle.lx_regex.specs.Script.{leaf_choice, reads}
 use Rattle.lx_regex.specs.Walk.{Walk, stay, moved, at_point, at_unit, mark, symbols}
-use Rattle.lx_regex.proofs.Candidates.{plain_mark_back, plain_tail, unseen_label_back, unseen_mark_back}
-use Rattle.lx_regex.proofs.Exchange.{plain_from}
-use Rattle.lx_regex.proofs.PlainWalk as plain
-use Rattle.lx_regex.proofs.PlainWalk.{IsPlainList, IsUnseen, plain_list, walk_plain}
+use Rattle.lx_regex.proofs.Walks.Candidates.{plain_mark_back, plain_tail, unseen_label_back, unseen_mark_back}
+use Rattle.lx_regex.proofs.Walks.Exchange.{plain_from}
+use Rattle.lx_regex.proofs.Walks.PlainWalk as plain
+use Rattle.lx_regex.proofs.Walks.PlainWalk.{IsPlainList, IsUnseen, plain_list, walk_plain}
 use Rattle.lx_tnfa.specs.PlainWalks.{VisitsOnce, first_states}
 use Rattle.lx_tnfa.proofs.Searching.SearchBasics.{Each}
 use Rattle.lx_tnfa.proofs.Searching.SearchPaths.{All-from_each, Each-from_all}

@@ -11,7 +11,7 @@ use Rattle.lx_regex.specs.Term.{Term, cat, cons, group, nil, repeat, tag}
 use Rattle.lx_regex.specs.declared.expr.Expr.{Expr}
 use Rattle.lx_regex.specs.declared.rules.Rule.{Rule}
 use Rattle.lx_regex.specs.declared.rules.Tag.{Tag}
-use Rattle.lx_regex.proofs.OneRule.{limits_of_one, plain}
+use Rattle.lx_regex.proofs.Trees.OneRule.{limits_of_one, plain}
 use Rattle.lx_regex.specs.ClassLimits.{ClassesFit, AllClassesFit}
 use Rattle.tdfa_samples.proofs.tests.SoundTerms.{IsSound}
 

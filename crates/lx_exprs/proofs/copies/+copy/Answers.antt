@@ -3,7 +3,7 @@ use Rattle.std.proofs.lemmas.List.{take_all}
 use Rattle.lx_regex.specs.Expr.{size_of, term_of}
 use Rattle.lx_regex.specs.declared.expr.Expr.{Expr, the_lemmas}
 use Rattle.lx_exprs.specs.Meanings.{shifted}
-use Rattle.lx_exprs.proofs.MemberCopies.{map-copies, member_below, cat-copies, alt-copies, rep-copies}
+use Rattle.lx_exprs.proofs.Contents.MemberCopies.{map-copies, member_below, cat-copies, alt-copies, rep-copies}
 use Rattle.lx_exprs.proofs.copies.+copy.Goals as goal
 
 pub copy_members-loop-member-preserved : goal.copy_members-loop-member-preserved

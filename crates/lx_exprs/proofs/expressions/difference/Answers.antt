@@ -1,7 +1,7 @@
 use Rattle.std.proofs.Common.{◌≡◌, ◌++◌, arith, max, subst}
 use Rattle.lx_exprs.specs.Defined.{HasClass, kept, meant_class}
 use Rattle.lx_exprs.specs.Seen.{definitions_view}
-use Rattle.lx_exprs.proofs.ExpressionSteps.{difference_read}
+use Rattle.lx_exprs.proofs.Forms.ExpressionSteps.{difference_read}
 use Rattle.lx_exprs.proofs.expressions.difference.Goals as goal
 
 pub returns-clause-read : goal.returns-clause-read

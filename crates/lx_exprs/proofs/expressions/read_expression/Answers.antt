@@ -4,7 +4,7 @@ use Rattle.lx_exprs.specs.Reading.{AreTaken, StopsReading, no_operands}
 use Rattle.lx_exprs.specs.Seen.{definitions_view}
 use Rattle.lx_forms.specs.Seen.{lexemes_view}
 use Rattle.lx_forms.specs.StepViews.{step_view}
-use Rattle.lx_exprs.proofs.ExpressionRanges.{part_in_order, part_read, part_stops}
+use Rattle.lx_exprs.proofs.Forms.ExpressionRanges.{part_in_order, part_read, part_stops}
 use Rattle.lx_exprs.proofs.expressions.read_expression.Goals as goal
 
 pub take_steps-requires-clause-order : goal.take_steps-requires-clause-order

@@ -6,7 +6,7 @@ use Rattle.lx_exprs.specs.Seen.{definitions_view}
 use Rattle.lx_forms.specs.Seen.{lexemes_view}
 use Rattle.lx_forms.specs.StepViews.{step_view}
 use Rattle.lx_forms.specs.declared.steps.StepSort.TheVariants.{Read}
-use Rattle.lx_exprs.proofs.ExpressionSteps.{drop-next, goes-snoc, goes-stops, take-next}
+use Rattle.lx_exprs.proofs.Forms.ExpressionSteps.{drop-next, goes-snoc, goes-stops, take-next}
 use Rattle.lx_exprs.proofs.expressions.take_steps.Goals as goal
 
 pub loop-step-init : goal.loop-step-init

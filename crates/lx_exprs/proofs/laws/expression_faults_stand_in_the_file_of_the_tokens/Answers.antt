@@ -1,4 +1,4 @@
-use Rattle.lx_exprs.proofs.FaultPlaces.{context-file, expression-file}
+use Rattle.lx_exprs.proofs.Forms.FaultPlaces.{context-file, expression-file}
 use Rattle.lx_exprs.proofs.laws.expression_faults_stand_in_the_file_of_the_tokens.Goals as goal
 
 pub returns-clause-plain : goal.returns-clause-plain

@@ -1,6 +1,6 @@
 use Rattle.std.proofs.Common.{◌∙◌, ap, length, sym}
 use Rattle.std.specs.Prelude.{◌==◌}
-use Rattle.lx_exprs.proofs.PointSets.{filled_some}
+use Rattle.lx_exprs.proofs.Classes.PointSets.{filled_some}
 use Rattle.lx_exprs.proofs.leaves.is_refused.Goals as goal
 
 pub returns-then-not-is_operand-clause-taken : goal.returns-then-not-is_operand-clause-taken

@@ -5,7 +5,7 @@ use Rattle.lx_exprs.specs.Defined.{class_in, one}
 use Rattle.lx_exprs.specs.Meanings.{shifted, term_or_empty}
 use Rattle.lx_exprs.specs.Soundness.{FitsKept}
 use Rattle.lx_exprs.specs.Values.{HasPoints, HasTagsBelow}
-use Rattle.lx_exprs.proofs.TermTags.{HasTagsBelow-greater, HasTagsBelow-shifted, class_in-shifted}
+use Rattle.lx_exprs.proofs.TagLists.TermTags.{HasTagsBelow-greater, HasTagsBelow-shifted, class_in-shifted}
 use Rattle.lx_exprs.proofs.leaves.kept_content.Goals as goal
 
 pub returns-then-sum-gt-TAG_LIMIT-clause-stands : goal.returns-then-sum-gt-TAG_LIMIT-clause-stands

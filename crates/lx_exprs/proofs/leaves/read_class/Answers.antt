@@ -7,8 +7,8 @@ use Rattle.lx_exprs.specs.Meanings.{IsSetOf}
 use Rattle.lx_exprs.specs.Points.{points_fault}
 use Rattle.lx_exprs.specs.Seen.{IsOrdered, definitions_view}
 use Rattle.lx_forms.specs.Seen.{lexeme_view}
-use Rattle.lx_exprs.proofs.LeafSteps.{class-read, class-stops, kind-stops}
-use Rattle.lx_exprs.proofs.PointSets.{class_ordered, points_taken}
+use Rattle.lx_exprs.proofs.Contents.LeafSteps.{class-read, class-stops, kind-stops}
+use Rattle.lx_exprs.proofs.Classes.PointSets.{class_ordered, points_taken}
 use Rattle.lx_exprs.proofs.leaves.read_class.Goals as goal
 
 pub returns-in-Some-clause-read : goal.returns-in-Some-clause-read

@@ -1,7 +1,7 @@
 use Rattle.std.proofs.Common.{length}
 use Rattle.lx_exprs.specs.Seen.{definitions_view}
 use Rattle.lx_forms.specs.Seen.{lexeme_view}
-use Rattle.lx_exprs.proofs.LeafSteps.{caseless-reads, string-reads}
+use Rattle.lx_exprs.proofs.Contents.LeafSteps.{caseless-reads, string-reads}
 use Rattle.lx_exprs.proofs.leaves.read_leaf.Goals as goal
 
 pub returns-in-Str-clause-read : goal.returns-in-Str-clause-read

@@ -5,8 +5,8 @@ use Rattle.lx_exprs.specs.Defined.{is_built}
 use Rattle.lx_exprs.specs.Meanings.{class_meaning}
 use Rattle.lx_exprs.specs.Seen.{definitions_view}
 use Rattle.lx_exprs.specs.Values.{IsValue}
-use Rattle.lx_exprs.proofs.LeafSteps.{kind-read}
-use Rattle.lx_exprs.proofs.PointSets.{if_ok_both}
+use Rattle.lx_exprs.proofs.Contents.LeafSteps.{kind-read}
+use Rattle.lx_exprs.proofs.Classes.PointSets.{if_ok_both}
 use Rattle.lx_exprs.proofs.leaves.read_line.Goals as goal
 
 pub returns-clause-read : goal.returns-clause-read

@@ -8,8 +8,8 @@ use Rattle.lx_exprs.specs.Meanings.{copied}
 use Rattle.lx_exprs.specs.Seen.{definition_view, definitions_view}
 use Rattle.lx_forms.specs.Seen.{lexeme_view}
 use Rattle.lx_exprs.specs.Values.{AreTagsBelow, IsCounted}
-use Rattle.lx_exprs.proofs.LeafContents.{fits-tagged, size-some}
-use Rattle.lx_exprs.proofs.LeafSteps.{kind-read}
+use Rattle.lx_exprs.proofs.Contents.LeafContents.{fits-tagged, size-some}
+use Rattle.lx_exprs.proofs.Contents.LeafSteps.{kind-read}
 use Rattle.lx_exprs.proofs.leaves.read_name.Goals as goal
 
 pub returns-clause-read : goal.returns-clause-read

@@ -8,8 +8,8 @@ use Rattle.lx_exprs.specs.Points.{points_fault, singles}
 use Rattle.lx_exprs.specs.Seen.{points_of}
 use Rattle.lx_forms.specs.Seen.{lexeme_view}
 use Rattle.lx_exprs.specs.Values.{IsValue}
-use Rattle.lx_exprs.proofs.LeafContents.{fits-great}
-use Rattle.lx_exprs.proofs.PointSets.{code_points, points_taken}
+use Rattle.lx_exprs.proofs.Contents.LeafContents.{fits-great}
+use Rattle.lx_exprs.proofs.Classes.PointSets.{code_points, points_taken}
 use Rattle.lx_exprs.proofs.leaves.read_string.Goals as goal
 
 pub string_content-requires : goal.string_content-requires

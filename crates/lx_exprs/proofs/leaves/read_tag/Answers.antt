@@ -7,8 +7,8 @@ use Rattle.lx_exprs.specs.Meanings.{tag_meaning}
 use Rattle.lx_exprs.specs.Seen.{definitions_view}
 use Rattle.lx_forms.specs.Seen.{lexeme_view}
 use Rattle.lx_exprs.specs.Values.{AreTagsBelow}
-use Rattle.lx_exprs.proofs.LeafContents.{fits-tagged}
-use Rattle.lx_exprs.proofs.LeafSteps.{kind-read, tag_fault-none}
+use Rattle.lx_exprs.proofs.Contents.LeafContents.{fits-tagged}
+use Rattle.lx_exprs.proofs.Contents.LeafSteps.{kind-read, tag_fault-none}
 use Rattle.lx_exprs.proofs.leaves.read_tag.Goals as goal
 
 pub returns-clause-read : goal.returns-clause-read

@@ -4,12 +4,12 @@ use Rattle.std.proofs.lemmas.List.Sums.{sum_by_push}
 use Rattle.std.proofs.lemmas.Simd.{map-map}
 use Rattle.lx_regex.specs.Term.{cat}
 use Rattle.lx_regex.specs.Expr.{members_of, size_of, term_of}
-use Rattle.lx_regex.proofs.Folds.{term_of-cat, term_of-class}
+use Rattle.lx_regex.proofs.Trees.Folds.{term_of-cat, term_of-class}
 use Rattle.lx_regex.specs.declared.expr.Expr.{the_lemmas}
 use Rattle.lx_regex.specs.declared.expr.Expr.TheVariants.{Class}
 use Rattle.lx_token.specs.declared.characters.Character.{Character}
 use Rattle.lx_exprs.specs.Meanings.{character_set, set_term}
-use Rattle.lx_exprs.proofs.LeafContents.{map-taken}
+use Rattle.lx_exprs.proofs.Contents.LeafContents.{map-taken}
 use Rattle.lx_exprs.proofs.leaves.sequence.Goals as goal
 
 pub loop-character-preserved : goal.loop-character-preserved

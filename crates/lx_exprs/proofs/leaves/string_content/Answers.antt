@@ -4,7 +4,7 @@ use Rattle.lx_exprs.specs.Defined.{one}
 use Rattle.lx_exprs.specs.Meanings.{character_set}
 use Rattle.lx_exprs.specs.Seen.{points_of}
 use Rattle.lx_exprs.specs.Values.{HasTagsBelow}
-use Rattle.lx_exprs.proofs.LeafContents.{set_terms-below, string_term-many}
+use Rattle.lx_exprs.proofs.Contents.LeafContents.{set_terms-below, string_term-many}
 use Rattle.lx_exprs.proofs.leaves.string_content.Goals as goal
 
 pub returns-in_ok-expr-in_default-clause-stands : goal.returns-in_ok-expr-in_default-clause-stands

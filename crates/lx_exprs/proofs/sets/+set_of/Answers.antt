@@ -1,7 +1,7 @@
 use Rattle.std.proofs.Common.{◌/◌, length}
 use Rattle.std.proofs.lemmas.Result.{IfOk-weaker}
 use Rattle.lx_class.specs.Ranges.{HaveSamePoints, IsUnion}
-use Rattle.lx_exprs.proofs.PointSets.{halves}
+use Rattle.lx_exprs.proofs.Classes.PointSets.{halves}
 use Rattle.lx_exprs.proofs.sets.+set_of.Goals as goal
 
 pub returns-in_ok-back-in_default-clause-points : goal.returns-in_ok-back-in_default-clause-points

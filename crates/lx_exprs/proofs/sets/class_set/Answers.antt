@@ -2,7 +2,7 @@ use Rattle.std.proofs.Common.{sym, subst}
 use Rattle.lx_class.specs.Ranges.{IsCanonical, IsDifference}
 use Rattle.lx_exprs.specs.Checks.{ClassHas}
 use Rattle.lx_exprs.specs.Meanings.{IsSetOf}
-use Rattle.lx_exprs.proofs.PointSets.{if_ok_both, others_has}
+use Rattle.lx_exprs.proofs.Classes.PointSets.{if_ok_both, others_has}
 use Rattle.lx_exprs.proofs.sets.class_set.Goals as goal
 
 pub returns-in_ok-all_points : goal.returns-in_ok-all_points

@@ -3,7 +3,7 @@ use Rattle.std.specs.Prelude.{if◌then◌else◌}
 use Rattle.std.proofs.lemmas.List.{at_drop_all}
 use Rattle.lx_base.specs.declared.faults.Fault.TheVariants.{DuplicateTag}
 use Rattle.lx_exprs.specs.Checks.{is_among, repeated_tag}
-use Rattle.lx_exprs.proofs.TagFaults.{repeated_tag-drop}
+use Rattle.lx_exprs.proofs.TagLists.TagFaults.{repeated_tag-drop}
 use Rattle.lx_exprs.proofs.tags.repeated_among.Goals as goal
 
 pub returns-then-contains : goal.returns-then-contains

@@ -2,7 +2,7 @@ use Rattle.std.proofs.Common.{◌∙◌, ◌+◌, ap, drop, sym}
 use Rattle.std.specs.List.{flat_map, list_any}
 use Rattle.std.proofs.lemmas.List.{at_drop_more}
 use Rattle.lx_exprs.specs.Checks.{is_among, repeated_tag}
-use Rattle.lx_exprs.proofs.SharedNames.{refused, repeated_tag-apart, repeated_tag-found, repeated_tag-passed}
+use Rattle.lx_exprs.proofs.TagLists.SharedNames.{refused, repeated_tag-apart, repeated_tag-found, repeated_tag-passed}
 use Rattle.lx_exprs.proofs.tags.repeated_tag.Goals as goal
 
 pub returns-then-is_apart : goal.returns-then-is_apart

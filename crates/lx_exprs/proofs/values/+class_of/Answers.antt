@@ -1,10 +1,10 @@
 use Rattle.std.proofs.Common.{◌≡◌, ◌∙◌, ◌+◌, suc, ap, subst, sym, arith, map, take, Some}
 use Rattle.std.proofs.lemmas.List.{take_all}
 use Rattle.lx_regex.specs.Expr.{members_of, term_of}
-use Rattle.lx_regex.proofs.Folds.{term_of-class}
+use Rattle.lx_regex.proofs.Trees.Folds.{term_of-class}
 use Rattle.lx_exprs.specs.Defined.{class_in, classes_in}
 use Rattle.lx_exprs.specs.Values.{HasPoints}
-use Rattle.lx_exprs.proofs.ValueContents.{has_set, has_none, classes-next}
+use Rattle.lx_exprs.proofs.Contents.ValueContents.{has_set, has_none, classes-next}
 use Rattle.lx_exprs.proofs.values.+class_of.Goals as goal
 
 pub class_of-returns-in_ok-of_set-in-Class : goal.class_of-returns-in_ok-of_set-in-Class

@@ -1,6 +1,6 @@
 use Rattle.std.proofs.Common.{subst}
 use Rattle.lx_exprs.specs.Values.{HasPoints}
-use Rattle.lx_exprs.proofs.ValueContents.{has_both}
+use Rattle.lx_exprs.proofs.Contents.ValueContents.{has_both}
 use Rattle.lx_exprs.proofs.values.both_classes.Goals as goal
 
 pub returns : goal.returns

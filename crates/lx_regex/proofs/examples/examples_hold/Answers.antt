@@ -1,8 +1,8 @@
 use Rattle.lx_regex.proofs.examples.examples_hold.Goals as goal
-use Rattle.lx_regex.proofs.Grouped.{on_xy, in_two, with_empty, grouped}
-use Rattle.lx_regex.proofs.WorkedMatches.{matches}
-use Rattle.lx_regex.proofs.WorkedKernels.{kernels}
-use Rattle.lx_regex.proofs.Worked.{tagged_ab, tagged_ba, tagged_nothing, alternatives, marked_xyx, histories, context_abbb, contexts, pair_tree, surrogates_tree, pairs, one_ab, a_and_b, policies, tables}
+use Rattle.lx_regex.proofs.WorkedExamples.Grouped.{on_xy, in_two, with_empty, grouped}
+use Rattle.lx_regex.proofs.WorkedExamples.WorkedMatches.{matches}
+use Rattle.lx_regex.proofs.WorkedExamples.WorkedKernels.{kernels}
+use Rattle.lx_regex.proofs.WorkedExamples.Worked.{tagged_ab, tagged_ba, tagged_nothing, alternatives, marked_xyx, histories, context_abbb, contexts, pair_tree, surrogates_tree, pairs, one_ab, a_and_b, policies, tables}
 
 pub returns-clause-alternatives : goal.returns-clause-alternatives
 returns-clause-alternatives c = (tagged_ab, tagged_ba, tagged_nothing, alternatives)

@@ -1,5 +1,5 @@
 use Rattle.std.proofs.Common.{◌≡◌, ◌+◌, suc, refl, sym, subst, true, false, drop, arith, ⊎_elim, eq-eqb}
-use Rattle.lx_regex.proofs.NoUnits.{AreNullable, LiesBehind, IsAnswer, answer-empty, answer-class, answer-any_unit, answer-stag, answer-mtag, answer-cat, answer-alt, answer-group, answer-none, answer-some, nullable_more, nullable_end, behind_more, behind_end, row_at, choice_at, yes, no, not_true}
+use Rattle.lx_regex.proofs.Trees.NoUnits.{AreNullable, LiesBehind, IsAnswer, answer-empty, answer-class, answer-any_unit, answer-stag, answer-mtag, answer-cat, answer-alt, answer-group, answer-none, answer-some, nullable_more, nullable_end, behind_more, behind_end, row_at, choice_at, yes, no, not_true}
 use Rattle.lx_regex.proofs.expr.+nullable.Goals as goal
 
 pub nullable-returns-in-Empty : goal.nullable-returns-in-Empty

@@ -1,5 +1,5 @@
 use Rattle.std.proofs.Common.{drop}
-use Rattle.lx_regex.proofs.NoUnits.{AreNullable, LiesBehind}
+use Rattle.lx_regex.proofs.Trees.NoUnits.{AreNullable, LiesBehind}
 use Rattle.lx_regex.proofs.expr.+nullable.Given as goal
 
 abbrev pub invariant-all_nullable-loop-member : goal.invariant-all_nullable-loop-member

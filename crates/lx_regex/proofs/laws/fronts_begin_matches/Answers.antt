@@ -1,5 +1,5 @@
 use Rattle.lx_regex.proofs.laws.fronts_begin_matches.Goals as goal
-use Rattle.lx_regex.proofs.Beginnings.{taken_begins, front_begins}
+use Rattle.lx_regex.proofs.Trees.Beginnings.{taken_begins, front_begins}
 
 pub returns-clause-taken : goal.returns-clause-taken
 returns-clause-taken c enc rules place e word at has = taken_begins enc rules place e word at has

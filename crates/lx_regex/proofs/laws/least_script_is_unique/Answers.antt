@@ -1,7 +1,7 @@
 use Rattle.std.proofs.Common.{ap}
 use Rattle.lx_regex.specs.Values.{value_of}
 use Rattle.lx_regex.proofs.laws.least_script_is_unique.Goals as goal
-use Rattle.lx_regex.proofs.LeastScript.{least_script}
+use Rattle.lx_regex.proofs.Trees.LeastScript.{least_script}
 
 pub returns-clause-script : goal.returns-clause-script
 returns-clause-script c policy enc part e word tree other positive is is' = least_script policy enc e part positive word tree other is is'

@@ -1,6 +1,6 @@
 use Rattle.std.proofs.Common.{sym, ◌∙◌}
 use Rattle.lx_regex.proofs.laws.lesser_choices_are_kept.Goals as goal
-use Rattle.lx_regex.proofs.Cuts.{cuts_order, place_goes}
+use Rattle.lx_regex.proofs.KernelCuts.Cuts.{cuts_order, place_goes}
 
 pub returns-clause-goes_on : goal.returns-clause-goes_on
 returns-clause-goes_on c enc rules word cut other rest is is' same goes =

@@ -2,9 +2,9 @@ use Rattle.lx_regex.specs.Parts.{parts_of}
 use Rattle.lx_regex.specs.Pattern.{terms_of}
 use Rattle.lx_regex.specs.Automaton.{automaton}
 use Rattle.lx_regex.proofs.laws.parts_are_numbered.Goals as goal
-use Rattle.lx_regex.proofs.PartCount.{part_count}
-use Rattle.lx_regex.proofs.OwnParts.{own_part}
-use Rattle.lx_regex.proofs.PartStates.{list_fits, fits_at}
+use Rattle.lx_regex.proofs.PartTables.PartCount.{part_count}
+use Rattle.lx_regex.proofs.PartTables.OwnParts.{own_part}
+use Rattle.lx_regex.proofs.PartTables.PartStates.{list_fits, fits_at}
 
 pub returns-clause-counted : goal.returns-clause-counted
 returns-clause-counted c rule up child part e = part_count rule up child part e

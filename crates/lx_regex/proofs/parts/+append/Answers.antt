@@ -3,9 +3,9 @@ use Rattle.std.proofs.lemmas.Result.{on_ok_weaker}
 use Rattle.lx_regex.specs.Term.{parts, parts_of_all}
 use Rattle.lx_regex.specs.Expr.{term_of}
 use Rattle.lx_regex.specs.declared.expr.Expr.{the_lemmas}
-use Rattle.lx_regex.proofs.Folds.{term_of-cat, term_of-alt, term_of-rep, term_of-group}
-use Rattle.lx_regex.proofs.NoUnits.{terms_in}
-use Rattle.lx_regex.proofs.PartLists.{form_then_inner, leaf_alone, length-pushed, parts-form, MembersLeft, CopiesLeft, members_more, members_done, members_room, copies_more, copies_done, copies_room, length-parts_of_all}
+use Rattle.lx_regex.proofs.Trees.Folds.{term_of-cat, term_of-alt, term_of-rep, term_of-group}
+use Rattle.lx_regex.proofs.Trees.NoUnits.{terms_in}
+use Rattle.lx_regex.proofs.PartTables.PartLists.{form_then_inner, leaf_alone, length-pushed, parts-form, MembersLeft, CopiesLeft, members_more, members_done, members_room, copies_more, copies_done, copies_room, length-parts_of_all}
 use Rattle.lx_regex.proofs.parts.+append.Goals as goal
 
 pub append-overflow_cast-inside : goal.append-overflow_cast-inside

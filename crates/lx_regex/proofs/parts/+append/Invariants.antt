@@ -1,5 +1,5 @@
 use Rattle.std.proofs.Common.{◌-◌}
-use Rattle.lx_regex.proofs.PartLists.{MembersLeft, CopiesLeft}
+use Rattle.lx_regex.proofs.PartTables.PartLists.{MembersLeft, CopiesLeft}
 use Rattle.lx_regex.proofs.parts.+append.Given as goal
 
 abbrev pub invariant-append_members-loop-child : goal.invariant-append_members-loop-child

@@ -1,7 +1,7 @@
 use Rattle.std.proofs.Common.{◌∙◌, sym, ap, ⊎_elim}
 use Rattle.lx_regex.specs.declared.parts.PartSort.TheVariants.{Class, Group}
-use Rattle.lx_regex.proofs.Folds.{term_of-empty, term_of-class, term_of-any_unit, term_of-cat, term_of-alt, term_of-rep, term_of-stag, term_of-mtag, term_of-group}
-use Rattle.lx_regex.proofs.PartLists.{sort_for, set_of-ranges_of, group_number}
+use Rattle.lx_regex.proofs.Trees.Folds.{term_of-empty, term_of-class, term_of-any_unit, term_of-cat, term_of-alt, term_of-rep, term_of-stag, term_of-mtag, term_of-group}
+use Rattle.lx_regex.proofs.PartTables.PartLists.{sort_for, set_of-ranges_of, group_number}
 use Rattle.lx_regex.proofs.parts.sort_of.Goals as goal
 use Rattle.lx_regex.proofs.parts.sort_of.Goals.{in-Empty, in-Class+in_ok-copy-in-Class, in-AnyUnit, in-Cat, in-Alt, in-Rep, in-Group, in-STag2}
 

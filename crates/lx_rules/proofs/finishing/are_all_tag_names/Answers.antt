@@ -3,7 +3,7 @@ use Rattle.std.specs.List.{AllByRecursion, flat_map}
 use Rattle.std.specs.Prelude.{IsTrue}
 use Rattle.lx_base.proofs.Deciding.{each_next, each_fails}
 use Rattle.lx_base.specs.Names.{IsTagName}
-use Rattle.lx_exprs.proofs.SharedNames.{segment-each}
+use Rattle.lx_exprs.proofs.TagLists.SharedNames.{segment-each}
 use Rattle.lx_rules.proofs.finishing.are_all_tag_names.Goals as goal
 
 pub returns-then-not-are_tag_names : goal.returns-then-not-are_tag_names

@@ -6,10 +6,10 @@ use Rattle.lx_regex.specs.Automaton.{members_table, alternatives_table, table, m
 use Rattle.lx_regex.specs.Expr.{term_of}
 use Rattle.lx_regex.specs.Term.{Term, Terms, nil, cons, copies, parts}
 use Rattle.lx_regex.specs.declared.expr.Expr.{the_lemmas}
-use Rattle.lx_regex.proofs.Folds.{term_of-cat, term_of-alt, term_of-rep, term_of-group}
-use Rattle.lx_regex.proofs.NoUnits.{terms_in}
-use Rattle.lx_regex.proofs.PartLists.{parts-form}
-use Rattle.lx_regex.proofs.Rows.{table_length}
+use Rattle.lx_regex.proofs.Trees.Folds.{term_of-cat, term_of-alt, term_of-rep, term_of-group}
+use Rattle.lx_regex.proofs.Trees.NoUnits.{terms_in}
+use Rattle.lx_regex.proofs.PartTables.PartLists.{parts-form}
+use Rattle.lx_regex.proofs.PartTables.Rows.{table_length}
 use Rattle.lx_tnfa.specs.Moves.{counted_size}
 use Rattle.lx_tnfa.specs.Rows.{HasRoom, IsBuildable}
 use Rattle.lx_tnfa.specs.Shapes.{HasShape}

@@ -2,9 +2,9 @@ use Rattle.std.proofs.Common.{◌≡◌, ◌+◌, ◌*◌, ◌∙◌, ap, arith,
 use Rattle.std.specs.Prelude.{nat_eq, if◌then◌else◌}
 use Rattle.lx_regex.specs.Expr.{term_of}
 use Rattle.lx_regex.specs.Term.{copies, parts}
-use Rattle.lx_regex.proofs.Folds.{term_of-alt, term_of-rep}
-use Rattle.lx_regex.proofs.NoUnits.{terms_in}
-use Rattle.lx_regex.proofs.PartLists.{parts-form}
+use Rattle.lx_regex.proofs.Trees.Folds.{term_of-alt, term_of-rep}
+use Rattle.lx_regex.proofs.Trees.NoUnits.{terms_in}
+use Rattle.lx_regex.proofs.PartTables.PartLists.{parts-form}
 use Rattle.lx_tnfa.specs.declared.states.Repeat.{Repeat}
 use Rattle.lx_tnfa.specs.Moves.{counted_size}
 use Rattle.lx_tnfa.proofs.Construction.FirstStates.{alt_held, cat_held, class_fits, class_held, counted_times, rep_held}

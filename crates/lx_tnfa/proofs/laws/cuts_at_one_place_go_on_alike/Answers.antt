@@ -1,4 +1,4 @@
-use Rattle.lx_regex.proofs.Cuts.{place_goes}
+use Rattle.lx_regex.proofs.KernelCuts.Cuts.{place_goes}
 use Rattle.lx_tnfa.proofs.laws.cuts_at_one_place_go_on_alike.Goals as goal
 
 pub returns : goal.returns

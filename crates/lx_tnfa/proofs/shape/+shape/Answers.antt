@@ -2,7 +2,7 @@ use Rattle.std.proofs.Common.{◌≡◌, ◌+◌, ◌∙◌, suc, ap, sym, arith
 use Rattle.std.proofs.lemmas.Result.{IfOk-weaker}
 use Rattle.lx_regex.specs.Expr.{term_of}
 use Rattle.lx_regex.specs.declared.expr.Expr.{the_lemmas}
-use Rattle.lx_regex.proofs.NoUnits.{terms_in}
+use Rattle.lx_regex.proofs.Trees.NoUnits.{terms_in}
 use Rattle.lx_tnfa.specs.Shapes.{HasShape, HaveShapes, IsAround}
 use Rattle.lx_tnfa.specs.declared.shape.Shape.TheViews.{out-roll-Shape}
 use Rattle.lx_tnfa.proofs.Construction.Members.{ends_at}

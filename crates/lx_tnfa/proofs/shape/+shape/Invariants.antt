@@ -1,5 +1,5 @@
 use Rattle.std.proofs.Common.{take}
-use Rattle.lx_regex.proofs.NoUnits.{terms_in}
+use Rattle.lx_regex.proofs.Trees.NoUnits.{terms_in}
 use Rattle.lx_tnfa.specs.Shapes.{HaveShapes}
 use Rattle.lx_tnfa.proofs.shape.+shape.Given as goal
 

@@ -6,7 +6,7 @@ use Rattle.std.proofs.lemmas.List.Elements.{All-append}
 use Rattle.indexmap.proofs.CallerLemmas.{insert_entry-new}
 use Rattle.lx_exprs.specs.Seen.{definition_view}
 use Rattle.lx_exprs.specs.Soundness.{FitsKept}
-use Rattle.lx_exprs.proofs.DefinitionLists.{lookup-None, All-one}
+use Rattle.lx_exprs.proofs.TagLists.DefinitionLists.{lookup-None, All-one}
 use Rattle.lx_exprs.proofs.definitions.Definitions.add.Goals as goal
 
 pub returns-clause-added : goal.returns-clause-added

@@ -5,7 +5,7 @@ use Rattle.lx_exprs.specs.declared.definitions.Kept.{Kept}
 use Rattle.lx_exprs.specs.Soundness.{FitsKept}
 use Rattle.std.specs.Option.{option_map}
 use Rattle.lx_exprs.specs.Seen.{definition_view}
-use Rattle.lx_exprs.proofs.DefinitionLists.{lookup-definition_of, option_map-copied, IfSome-copied}
+use Rattle.lx_exprs.proofs.TagLists.DefinitionLists.{lookup-definition_of, option_map-copied, IfSome-copied}
 use Rattle.lx_exprs.proofs.definitions.Definitions.get.Goals as goal
 
 pub returns-clause-found : goal.returns-clause-found

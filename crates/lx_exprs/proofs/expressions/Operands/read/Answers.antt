@@ -2,8 +2,8 @@ use Rattle.std.proofs.Common.{length, arith, ap, ◌∙◌}
 use Rattle.std.proofs.lemmas.List.{length-append}
 use Rattle.lx_exprs.specs.Seen.{definitions_view}
 use Rattle.lx_forms.specs.Seen.{lexeme_view}
-use Rattle.lx_exprs.proofs.ExpressionSteps.{leaf_taken}
-use Rattle.lx_exprs.proofs.OperandValues.{bounded_all, bounded_more}
+use Rattle.lx_exprs.proofs.Forms.ExpressionSteps.{leaf_taken}
+use Rattle.lx_exprs.proofs.Contents.OperandValues.{bounded_all, bounded_more}
 use Rattle.lx_exprs.proofs.expressions.Operands.read.Goals as goal
 
 pub returns-clause-stands : goal.returns-clause-stands

@@ -1,5 +1,5 @@
 use Rattle.std.proofs.Common.{length}
-use Rattle.lx_exprs.proofs.OperandValues.{bounded_all, bounded_front, bounded_last}
+use Rattle.lx_exprs.proofs.Contents.OperandValues.{bounded_all, bounded_front, bounded_last}
 use Rattle.lx_exprs.proofs.expressions.Operands.repeat.Goals as goal
 
 pub returns-clause-bounded : goal.returns-clause-bounded

@@ -2,8 +2,8 @@ use Rattle.std.proofs.Common.{length, refl}
 use Rattle.std.proofs.lemmas.Result.{err_from_is_err_and}
 use Rattle.lx_exprs.specs.Seen.{definitions_view}
 use Rattle.lx_forms.specs.Seen.{lexeme_view}
-use Rattle.lx_exprs.proofs.ExpressionSteps.{last_two, subtract_stops, subtract_taken}
-use Rattle.lx_exprs.proofs.OperandValues.{bounded_all, bounded_front}
+use Rattle.lx_exprs.proofs.Forms.ExpressionSteps.{last_two, subtract_stops, subtract_taken}
+use Rattle.lx_exprs.proofs.Contents.OperandValues.{bounded_all, bounded_front}
 use Rattle.lx_exprs.proofs.expressions.Operands.subtract.Goals as goal
 
 pub returns-in_err-value-clause-stands : goal.returns-in_err-value-clause-stands

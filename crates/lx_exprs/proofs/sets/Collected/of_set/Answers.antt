@@ -1,6 +1,6 @@
 use Rattle.std.proofs.Common.{◌∙◌, All, subst, sym}
 use Rattle.lx_exprs.specs.Seen.{IsOrdered}
-use Rattle.lx_exprs.proofs.PointSets.{canonical_ordered}
+use Rattle.lx_exprs.proofs.Classes.PointSets.{canonical_ordered}
 use Rattle.lx_exprs.proofs.sets.Collected.of_set.Goals as goal
 
 pub invariant_of-result : goal.invariant_of-result

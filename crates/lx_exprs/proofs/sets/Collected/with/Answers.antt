@@ -1,7 +1,7 @@
 use Rattle.std.proofs.Common.{◌≡◌, ◌∙◌, ◌++◌, ap, subst, sym}
 use Rattle.std.proofs.lemmas.Result.{IfOk-weaker}
 use Rattle.lx_class.specs.Ranges.{HaveSamePoints, IsUnion}
-use Rattle.lx_exprs.proofs.PointSets.{union_appended, union_same}
+use Rattle.lx_exprs.proofs.Classes.PointSets.{union_appended, union_same}
 use Rattle.lx_exprs.proofs.sets.Collected.with.Goals as goal
 
 pub returns-then-len-saturating_mul : goal.returns-then-len-saturating_mul

@@ -1,4 +1,4 @@
-use Rattle.lx_exprs.proofs.TagIndexes.{among-front, among-back}
+use Rattle.lx_exprs.proofs.TagLists.TagIndexes.{among-front, among-back}
 use Rattle.lx_exprs.proofs.tags.SeenTags.contains.Goals as goal
 
 pub returns-then-contains : goal.returns-then-contains

@@ -3,7 +3,7 @@ use Rattle.std.specs.Prelude.{◌||◌, not, true}
 use Rattle.std.specs.List.{list_any}
 use Rattle.std.proofs.lemmas.List.Folds.{list_any-append}
 use Rattle.lx_exprs.specs.Checks.{is_among}
-use Rattle.lx_exprs.proofs.SharedNames.{any-segment}
+use Rattle.lx_exprs.proofs.TagLists.SharedNames.{any-segment}
 use Rattle.lx_exprs.proofs.tags.SeenTags.is_apart.Goals as goal
 
 pub returns-then-has_any : goal.returns-then-has_any

@@ -1,8 +1,8 @@
 use Rattle.std.proofs.Common.{◌∙◌, ap, ap₂, sym}
 use Rattle.std.specs.Prelude.{◌||◌}
 use Rattle.lx_exprs.specs.Checks.{is_among}
-use Rattle.lx_exprs.proofs.SharedNames.{among-segment, flat_map-next}
-use Rattle.lx_exprs.proofs.TagIndexes.{is_among-append}
+use Rattle.lx_exprs.proofs.TagLists.SharedNames.{among-segment, flat_map-next}
+use Rattle.lx_exprs.proofs.TagLists.TagIndexes.{is_among-append}
 use Rattle.lx_exprs.proofs.tags.SharedTags.contains.Goals as goal
 
 pub returns-then-contains : goal.returns-then-contains

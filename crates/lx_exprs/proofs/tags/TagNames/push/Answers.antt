@@ -2,7 +2,7 @@ use Rattle.std.proofs.Common.{◌≡◌, ◌∙◌, ap, ap₂, sym}
 use Rattle.std.specs.Prelude.{◌||◌}
 use Rattle.std.specs.Str.{bytes_eq}
 use Rattle.lx_exprs.specs.Checks.{is_among}
-use Rattle.lx_exprs.proofs.TagIndexes.{has, has-insert, is_among-more, on_ok}
+use Rattle.lx_exprs.proofs.TagLists.TagIndexes.{has, has-insert, is_among-more, on_ok}
 use Rattle.lx_exprs.proofs.tags.TagNames.push.Goals as goal
 
 pub invariant_of-self-else-is_err : goal.invariant_of-self-else-is_err

@@ -3,7 +3,7 @@ use Rattle.lx_regex.specs.Expr.{members_of, size_of, term_of}
 use Rattle.lx_exprs.specs.Defined.{meant_class}
 use Rattle.lx_exprs.specs.Meanings.{in_choice}
 use Rattle.lx_exprs.specs.Values.{HaveTagsBelow, content_size, is_past}
-use Rattle.lx_exprs.proofs.ValueContents.{below-more, choice_more, has_choice, past_of, past_unbuilt, sizes-more}
+use Rattle.lx_exprs.proofs.Contents.ValueContents.{below-more, choice_more, has_choice, past_of, past_unbuilt, sizes-more}
 use Rattle.lx_exprs.proofs.values.Content.beside.Goals as goal
 use Rattle.lx_exprs.proofs.values.Content.beside.Goals.{then-not-is_built-via-then-not-is_built, then-not-is_built-via-else-not-is_built+then-not-is_built-2}
 

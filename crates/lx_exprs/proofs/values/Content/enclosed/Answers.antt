@@ -1,6 +1,6 @@
 use Rattle.std.proofs.Common.{ap, sym}
 use Rattle.lx_exprs.specs.Defined.{one}
-use Rattle.lx_exprs.proofs.ValueContents.{one_whole, row_whole, choice_whole}
+use Rattle.lx_exprs.proofs.Contents.ValueContents.{one_whole, row_whole, choice_whole}
 use Rattle.lx_exprs.proofs.values.Content.enclosed.Goals as goal
 
 pub returns-in-One-clause-stands : goal.returns-in-One-clause-stands

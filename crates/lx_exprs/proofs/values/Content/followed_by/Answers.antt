@@ -2,7 +2,7 @@ use Rattle.std.proofs.Common.{◌≡◌, ℕ, IfSome, map, subst}
 use Rattle.lx_regex.specs.Expr.{members_of, term_of}
 use Rattle.lx_exprs.specs.Meanings.{in_row}
 use Rattle.lx_exprs.specs.Values.{HaveTagsBelow}
-use Rattle.lx_exprs.proofs.ValueContents.{below-both, row_more}
+use Rattle.lx_exprs.proofs.Contents.ValueContents.{below-both, row_more}
 use Rattle.lx_exprs.proofs.values.Content.followed_by.Goals as goal
 
 pub returns-clause-stands : goal.returns-clause-stands

@@ -1,7 +1,7 @@
 use Rattle.std.proofs.Common.{arith, map, subst, sym}
 use Rattle.lx_regex.specs.Expr.{members_of, term_of}
 use Rattle.lx_exprs.specs.Values.{HaveTagsBelow}
-use Rattle.lx_exprs.proofs.ValueContents.{choice_free, choice_members, choice_one, choice_other}
+use Rattle.lx_exprs.proofs.Contents.ValueContents.{choice_free, choice_members, choice_one, choice_other}
 use Rattle.lx_exprs.proofs.values.Content.into_choice.Goals as goal
 
 pub returns-in-Choice-clause-built : goal.returns-in-Choice-clause-built

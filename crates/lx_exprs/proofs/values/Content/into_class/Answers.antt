@@ -2,7 +2,7 @@ use Rattle.std.proofs.Common.{◌∙◌, IfOk, None, ap, map, subst, sym}
 use Rattle.lx_exprs.specs.Defined.{classes_in}
 use Rattle.lx_exprs.specs.Values.{HasPoints}
 use Rattle.lx_regex.specs.Expr.{members_of, term_of}
-use Rattle.lx_exprs.proofs.ValueContents.{one_class, row_class, choice_class}
+use Rattle.lx_exprs.proofs.Contents.ValueContents.{one_class, row_class, choice_class}
 use Rattle.lx_exprs.proofs.values.Content.into_class.Goals as goal
 
 pub returns-in-One : goal.returns-in-One

@@ -1,4 +1,4 @@
-use Rattle.lx_exprs.proofs.ValueContents.{one_whole, row_whole, choice_whole}
+use Rattle.lx_exprs.proofs.Contents.ValueContents.{one_whole, row_whole, choice_whole}
 use Rattle.lx_exprs.proofs.values.Content.into_expr.Goals as goal
 
 pub returns-in-One-clause-built : goal.returns-in-One-clause-built

@@ -1,7 +1,7 @@
 use Rattle.std.proofs.Common.{arith, map, subst, sym}
 use Rattle.lx_regex.specs.Expr.{members_of, term_of}
 use Rattle.lx_exprs.specs.Values.{HaveTagsBelow}
-use Rattle.lx_exprs.proofs.ValueContents.{row_free, row_members, row_one}
+use Rattle.lx_exprs.proofs.Contents.ValueContents.{row_free, row_members, row_one}
 use Rattle.lx_exprs.proofs.values.Content.into_row.Goals as goal
 
 pub returns-in-Row-clause-built : goal.returns-in-Row-clause-built

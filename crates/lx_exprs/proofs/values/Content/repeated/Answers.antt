@@ -1,5 +1,5 @@
 use Rattle.std.proofs.Common.{◌≡◌, ◌∙◌, sym}
-use Rattle.lx_exprs.proofs.ValueContents.{repeated_one}
+use Rattle.lx_exprs.proofs.Contents.ValueContents.{repeated_one}
 use Rattle.lx_exprs.proofs.values.Content.repeated.Goals as goal
 use Rattle.lx_exprs.proofs.values.Content.repeated.Goals.{in-Some-max, in-None}
 

@@ -3,8 +3,8 @@ use Rattle.lx_exprs.specs.Defined.{is_built}
 use Rattle.lx_exprs.specs.Meanings.{alternated, choice_size}
 use Rattle.std.specs.Prelude.{◌^◌}
 use Rattle.lx_exprs.specs.Values.{content_size}
-use Rattle.lx_exprs.proofs.ValueContents.{choice_more-none, choice_more-one}
-use Rattle.lx_exprs.proofs.ValueLimits.{counted_alternated, grows}
+use Rattle.lx_exprs.proofs.Contents.ValueContents.{choice_more-none, choice_more-one}
+use Rattle.lx_exprs.proofs.Contents.ValueLimits.{counted_alternated, grows}
 use Rattle.lx_exprs.proofs.values.Value.beside.Goals as goal
 use Rattle.lx_exprs.proofs.values.Value.beside.Goals.{then-is_choice, else-is_choice}
 

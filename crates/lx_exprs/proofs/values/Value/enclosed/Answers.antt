@@ -2,7 +2,7 @@ use Rattle.std.proofs.Common.{arith, subst, sym}
 use Rattle.lx_exprs.specs.Defined.{is_built}
 use Rattle.lx_exprs.specs.Meanings.{enclosed}
 use Rattle.lx_exprs.specs.Values.{IsCounted}
-use Rattle.lx_exprs.proofs.ValueLimits.{counted_enclosed, grows}
+use Rattle.lx_exprs.proofs.Contents.ValueLimits.{counted_enclosed, grows}
 use Rattle.lx_exprs.proofs.values.Value.enclosed.Goals as goal
 
 pub returns-clause-stands : goal.returns-clause-stands

@@ -1,7 +1,7 @@
 use Rattle.std.proofs.Common.{arith}
 use Rattle.lx_exprs.specs.Defined.{is_built}
 use Rattle.lx_exprs.specs.Meanings.{followed}
-use Rattle.lx_exprs.proofs.ValueLimits.{counted_followed, grows}
+use Rattle.lx_exprs.proofs.Contents.ValueLimits.{counted_followed, grows}
 use Rattle.lx_exprs.proofs.values.Value.followed_by.Goals as goal
 
 pub returns-clause-stands : goal.returns-clause-stands

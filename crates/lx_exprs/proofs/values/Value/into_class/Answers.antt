@@ -1,7 +1,7 @@
 use Rattle.std.proofs.Common.{subst}
 use Rattle.lx_exprs.specs.Defined.{is_built, meant_class}
 use Rattle.lx_exprs.specs.Values.{HasPoints}
-use Rattle.lx_exprs.proofs.ValueContents.{has_class, no_class}
+use Rattle.lx_exprs.proofs.Contents.ValueContents.{has_class, no_class}
 use Rattle.lx_exprs.proofs.values.Value.into_class.Goals as goal
 
 pub returns-in_ok-into_set-in-Some : goal.returns-in_ok-into_set-in-Some

@@ -1,5 +1,5 @@
 use Rattle.lx_exprs.specs.Defined.{is_built}
-use Rattle.lx_exprs.proofs.ValueContents.{kept_fits}
+use Rattle.lx_exprs.proofs.Contents.ValueContents.{kept_fits}
 use Rattle.lx_exprs.proofs.values.Value.into_expr.Goals as goal
 
 pub returns-clause-built : goal.returns-clause-built

@@ -1,5 +1,5 @@
 use Rattle.lx_exprs.specs.Defined.{is_built, whole_room}
-use Rattle.lx_exprs.proofs.ValueContents.{kept_fits, not_past, term_kept}
+use Rattle.lx_exprs.proofs.Contents.ValueContents.{kept_fits, not_past, term_kept}
 use Rattle.lx_exprs.proofs.values.Value.into_kept.Goals as goal
 
 pub returns-in_default : goal.returns-in_default

@@ -1,8 +1,8 @@
 use Rattle.std.proofs.Common.{◌≡◌, ◌∙◌, false, ap, sym}
 use Rattle.std.specs.Prelude.{not}
 use Rattle.lx_exprs.specs.Defined.{is_built}
-use Rattle.lx_exprs.proofs.ValueContents.{choice_content}
-use Rattle.lx_exprs.proofs.ValueLimits.{built_seen}
+use Rattle.lx_exprs.proofs.Contents.ValueContents.{choice_content}
+use Rattle.lx_exprs.proofs.Contents.ValueLimits.{built_seen}
 use Rattle.lx_exprs.proofs.values.Value.limited.Goals as goal
 
 pub returns-clause-stands : goal.returns-clause-stands

@@ -5,7 +5,7 @@ use Rattle.lx_exprs.specs.Meanings.{repeated_by}
 use Rattle.std.specs.Prelude.{◌^◌, ◌-◌}
 use Rattle.std.proofs.Math.Nat.{mul-le-mul_right}
 use Rattle.lx_exprs.specs.Values.{content_size}
-use Rattle.lx_exprs.proofs.ValueLimits.{at_least, counted_repeated, grows, times-some}
+use Rattle.lx_exprs.proofs.Contents.ValueLimits.{at_least, counted_repeated, grows, times-some}
 use Rattle.lx_exprs.proofs.values.Value.repeated.Goals as goal
 
 pub returns-clause-stands : goal.returns-clause-stands

@@ -1,6 +1,6 @@
 use Rattle.std.proofs.Common.{◌≡◌, ◌+◌, suc, arith, sym, subst}
 use Rattle.lx_regex.specs.Limits.{IsWithinLimits}
-use Rattle.lx_regex.proofs.RuleParts.{RulesLeft, rules_more, rules_room, few_rules}
+use Rattle.lx_regex.proofs.PartTables.RuleParts.{RulesLeft, rules_more, rules_room, few_rules}
 use Rattle.lx_regex.proofs.parts.Parts.of.Goals as goal
 
 pub overflow_cast-place : goal.overflow_cast-place

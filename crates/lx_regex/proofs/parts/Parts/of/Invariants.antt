@@ -1,4 +1,4 @@
-use Rattle.lx_regex.proofs.RuleParts.{RulesLeft}
+use Rattle.lx_regex.proofs.PartTables.RuleParts.{RulesLeft}
 use Rattle.lx_regex.proofs.parts.Parts.of.Given as goal
 
 abbrev pub invariant-loop-place : goal.invariant-loop-place

@@ -1,0 +1,7 @@
+-- What is kept of what is read.
+pub mod LeafContents
+pub mod LeafSteps
+pub mod MemberCopies
+pub mod OperandValues
+pub mod ValueContents
+pub mod ValueLimits

@@ -1,0 +1,69 @@
+-- Copies of expressions, form by form.
+use Rattle.std.proofs.Common.{◌≡◌, ℕ, zero, suc, ◌<◌, arith, List, [], ◌∷◌, ◌++◌, map, take, get_or, length, Vec, Box, Global, Option, refl, sym, ap, ap₂, ◌∙◌, subst}
+use Rattle.std.proofs.Math.Seq.{take-suc}
+use Rattle.std.proofs.lemmas.List.{map-append}
+use Rattle.lx_regex.specs.Term.{cat, alt, repeat, cons}
+use Rattle.lx_regex.specs.Expr.{members_of, term_of}
+use Rattle.lx_regex.specs.declared.expr.Expr.{Expr}
+use Rattle.lx_regex.specs.declared.expr.Expr.TheVariants.{Cat, Alt, Rep, Group}
+use Rattle.lx_regex.proofs.Trees.Folds.{term_of-cat, term_of-alt, term_of-rep, term_of-group}
+use Rattle.lx_exprs.specs.Meanings.{shifted, shifted_all}
+use Rattle.lx_exprs.specs.Values.{HasTagsBelow, HaveTagsBelow}
+
+-- one member more
+pub map-copies : {A : Type 0} (f g : Expr → A) (i : ℕ) (members copies after : List Expr) (item copy : Expr) → i < length members → item ≡ get_or members i item
+    → after ≡ copies ++ copy ∷ [] → f copy ≡ g item → map f copies ≡ map g (take i members)
+    → map f after ≡ map g (take (suc i) members)
+map-copies f g i members copies after item copy lt is pushed same before =
+    ap (map f) pushed ∙ map-append f copies (copy ∷ [])
+    ∙ ap₂ (λ a b. a ++ b ∷ []) before (same ∙ ap g is)
+    ∙ sym (map-append g (take i members) (get_or members i item ∷ []))
+    ∙ ap (map g) (sym (take-suc members i item lt))
+
+-- members one by one
+shifted_all-members : (by : ℕ) (members : List Expr)
+    → members_of (map (λ (member : Expr). shifted by (term_of 0 member)) members) ≡ shifted_all by (members_of (map (term_of 0) members))
+shifted_all-members by [] = refl
+shifted_all-members by (member ∷ members) = ap (cons (shifted by (term_of 0 member))) (shifted_all-members by members)
+
+pub member_below : (bound i : ℕ) (members : List Expr) (item : Expr) → HaveTagsBelow bound (members_of (map (term_of 0) members)) → i < length members
+    → item ≡ get_or members i item → HasTagsBelow bound (term_of 0 item)
+member_below bound i [] item below lt is = absurd (omega (arith, lt))
+member_below bound zero (member ∷ members) item below lt is = subst (λ e. HasTagsBelow bound (term_of 0 e)) (sym is) below.0
+member_below bound (suc i) (member ∷ members) item below lt is = member_below bound i members item below.1 (omega (arith, lt)) is
+
+-- expressions that hold copies in the same way are copies
+pub cat-copies : (tags by : ℕ) (copies members : Vec Expr Global)
+    → map (term_of tags) copies.items ≡ map (λ (member : Expr). shifted by (term_of 0 member)) members.items
+    → term_of tags (Cat copies) ≡ shifted by (term_of 0 (Cat members))
+cat-copies tags by copies members same =
+    term_of-cat tags copies ∙ ap (λ terms. cat (members_of terms)) same ∙ ap cat (shifted_all-members by members.items)
+    ∙ ap (shifted by) (sym (term_of-cat 0 members))
+
+pub alt-copies : (tags by : ℕ) (copies members : Vec Expr Global)
+    → map (term_of tags) copies.items ≡ map (λ (member : Expr). shifted by (term_of 0 member)) members.items
+    → term_of tags (Alt copies) ≡ shifted by (term_of 0 (Alt members))
+alt-copies tags by copies members same =
+    term_of-alt tags copies ∙ ap (λ terms. alt (members_of terms)) same ∙ ap alt (shifted_all-members by members.items)
+    ∙ ap (shifted by) (sym (term_of-alt 0 members))
+
+pub rep-copies : (tags by : ℕ) (copy body : Box Expr Global) (low : ℕ) (high : Option ℕ) → term_of tags copy.value ≡ shifted by (term_of 0 body.value)
+    → term_of tags (Rep copy low high) ≡ shifted by (term_of 0 (Rep body low high))
+rep-copies tags by copy body low high same =
+    term_of-rep tags copy low high ∙ ap (λ e. repeat e low high) same ∙ ap (shifted by) (sym (term_of-rep 0 body low high))
+
+-- what stands in an expression has lesser tags, too
+pub cat-below : (bound : ℕ) (members : Vec Expr Global) → HasTagsBelow bound (term_of 0 (Cat members))
+    → HaveTagsBelow bound (members_of (map (term_of 0) members.items))
+cat-below bound members below = subst (HasTagsBelow bound) (term_of-cat 0 members) below
+
+pub alt-below : (bound : ℕ) (members : Vec Expr Global) → HasTagsBelow bound (term_of 0 (Alt members))
+    → HaveTagsBelow bound (members_of (map (term_of 0) members.items))
+alt-below bound members below = subst (HasTagsBelow bound) (term_of-alt 0 members) below
+
+pub rep-below : (bound : ℕ) (body : Box Expr Global) (low : ℕ) (high : Option ℕ) → HasTagsBelow bound (term_of 0 (Rep body low high))
+    → HasTagsBelow bound (term_of 0 body.value)
+rep-below bound body low high below = subst (HasTagsBelow bound) (term_of-rep 0 body low high) below
+
+pub group-below : (bound number : ℕ) (body : Box Expr Global) → HasTagsBelow bound (term_of 0 (Group number body)) → ⊥
+group-below bound number body below = subst (HasTagsBelow bound) (term_of-group 0 number body) below

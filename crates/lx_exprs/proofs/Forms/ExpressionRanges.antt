@@ -1,0 +1,95 @@
+-- The expressions of a block, which stand in ranges of its tokens.
+use Rattle.std.proofs.Common.{◌≡◌, ℕ, ◌+◌, ◌⊎◌, arith, List, [], ◌∷◌, ◌++◌, drop, length, None, Some, false, Result, Ok, Err, sym, ap, ◌∙◌, subst, ⊎_elim, length-append}
+use Rattle.std.proofs.Math.Seq.{drop-append_seam}
+use Rattle.std.proofs.lemmas.List.{drop-drop, drop-map, length-drop, length-map}
+use Rattle.lx_base.specs.declared.faults.Fault.{Fault}
+use Rattle.lx_base.specs.declared.faults.Stop.{Stop}
+use Rattle.lx_base.specs.declared.faults.Stop.TheVariants as stop
+use Rattle.lx_base.specs.declared.settings.Options.{Options}
+use Rattle.lx_parse.specs.Expressions.{alt}
+use Rattle.lx_parse.specs.Ranges.{IsPart}
+use Rattle.lx_exprs.specs.declared.expressions.Operands.{Operands as Held}
+use Rattle.lx_exprs.specs.declared.expressions.Reading.{Reading}
+use Rattle.lx_exprs.specs.declared.values.Room.{Room}
+use Rattle.lx_exprs.specs.declared.values.Value.{Value}
+use Rattle.lx_exprs.specs.Checks.{Checks, StopsAt}
+use Rattle.lx_exprs.specs.Defined.{Definition, Meaning}
+use Rattle.lx_forms.specs.Forms.{Form, IsForm}
+use Rattle.lx_exprs.specs.Expressions.{ExpressionChecks, IsExpression}
+use Rattle.lx_exprs.specs.Expressions.{IsRead}
+use Rattle.lx_forms.specs.Lexemes.{Lexeme, sort_at, sorts_at}
+use Rattle.lx_exprs.specs.Meanings.{IsMeaning}
+use Rattle.lx_exprs.specs.Reading.{AreInOrder, AreOperands, AreTaken, AreValues, Goes, Operands, StopsReading, no_operands, with_more}
+use Rattle.lx_forms.specs.Steps.{Step, steps_of}
+use Rattle.lx_exprs.proofs.Forms.ExpressionSteps.{reversed}
+use Rattle.lx_forms.proofs.FormReading.{HasForm, reads_form}
+use Rattle.lx_exprs.proofs.Forms.FormRuns.{form_goes}
+use Rattle.lx_forms.proofs.OneForm.{form_front}
+use Rattle.lx_exprs.proofs.Forms.StepOrder.{steps_in_order}
+
+-- a part of an expression is a form
+pub part_form : (options : Options) (lexemes : List Lexeme) (from until : ℕ) → IsPart (sorts_at lexemes) alt from until
+    → (form : Form) × IsExpression options lexemes from until form
+part_form options lexemes from until part =
+    of (reads_form alt (drop from (sorts_at lexemes)) (drop until (sorts_at lexemes)) part.reads (drop from lexemes) (drop-map sort_at from lexemes))
+  where
+    of : HasForm alt (drop from lexemes) (drop until (sorts_at lexemes)) → (form : Form) × IsExpression options lexemes from until form
+    of read =
+        let front = form_front read.3 in
+        let sorted = ap length (sym read.2 ∙ drop-map sort_at until lexemes) in
+        let long = length-map read.0 sort_at in let short = length-map (drop until lexemes) sort_at in let whole = length-map lexemes sort_at in
+        let both = ap length front.1 ∙ length-append front.0 read.0 in let behind = length-drop from lexemes in let last = length-drop until lexemes in
+        let order = part.in_order in let within = part.within in
+        let place : from + length front.0 ≡ until = omega (arith, sorted, long, short, whole, both, behind, last, order, within) in
+        let rest : read.0 ≡ drop until lexemes =
+        sym (drop-append_seam front.0 read.0) ∙ ap (drop (length front.0)) (sym front.1) ∙ drop-drop (length front.0) from lexemes
+        ∙ ap (λ n. drop n lexemes) place in
+        (read.1, subst (λ r. IsForm alt (drop from lexemes) r read.1) rest read.3)
+
+-- the steps of the expression that stands from one place up to another
+module _ (options : Options) (definitions : List Definition) (lexemes : List Lexeme) (from until : ℕ) (part : IsPart (sorts_at lexemes) alt from until)
+    (steps : List Step) (are : (form : Form) → IsForm alt (drop from lexemes) (drop until lexemes) form → steps ≡ steps_of false form) where
+  pub part_in_order : AreInOrder 0 steps
+  part_in_order =
+      let stands = part_form options lexemes from until part in
+      subst (AreInOrder 0) (sym (are stands.0 stands.1)) (steps_in_order false stands.0)
+
+  goes_so : (form : Form) → IsExpression options lexemes from until form → (result : Result Operands Fault) → Goes options definitions no_operands steps result
+      → ((fault : Fault) × (result ≡ Err fault) × Checks options definitions false [] form (Some fault))
+      ⊎ ((meaning : Meaning) × (result ≡ Ok (with_more no_operands meaning)) × Checks options definitions false [] form None
+      × IsMeaning options definitions false [] form meaning × (meaning.count ≡ length meaning.tags))
+  goes_so form stands result goes =
+      form_goes options definitions form result (subst (λ l. Goes options definitions no_operands l result) (are form stands) goes)
+
+  -- a fault of theirs is one of the expression
+  pub part_stops : (stopped : Stop) → StopsReading options definitions no_operands steps stopped
+      → StopsAt (ExpressionChecks options lexemes definitions from until) stopped
+  part_stops stop.Memory stops = tt
+  part_stops (stop.Fault fault) goes =
+      let stands = part_form options lexemes from until part in
+      ⊎_elim
+      (λ found. let same : fault ≡ found.0 = cc in (stands.0, stands.1, subst (λ f. Checks options definitions false [] stands.0 (Some f)) (sym same) found.2))
+      (λ read. absurd (let h : Err fault ≡ Ok (with_more no_operands read.0) = read.1 in cc))
+      (goes_so stands.0 stands.1 (Err fault) goes)
+
+  -- and where they are taken, the expression is read
+  pub part_read : (room : Room) (held : Held) (front : List Value) (reading : Reading) → AreTaken options definitions room no_operands steps held
+      → held.values.items ≡ front ++ reading.value ∷ [] → reading.tags ≡ held.seen
+      → IsRead options lexemes definitions room from until reading
+  part_read room held front reading taken values tags =
+      let stands = part_form options lexemes from until part in
+      ⊎_elim
+      (λ found. absurd (let h : Ok taken.after ≡ Err found.0 = found.1 in cc))
+      (λ read.
+      let after : taken.after ≡ with_more no_operands read.0 = cc in
+      let operands = subst (λ (o : Operands). AreOperands room o held) after taken.stands in
+      let is = subst (AreValues room (read.0 ∷ [])) (reversed front held.values.items reading.value values) operands.values in
+      record {
+        form = stands.0;
+        stands_there = stands.1;
+        checked = read.2;
+        meaning = read.0;
+        means = read.3;
+        stands = record { value = is.0; tags = tags ∙ operands.seen; count = read.4 };
+      })
+      (goes_so stands.0 stands.1 (Ok taken.after) taken.goes)

@@ -1,0 +1,373 @@
+-- Where the steps of a form are taken, its checks find what a step finds, and what is read is what it means.
+use Rattle.std.proofs.Common.{◌≡◌, ℕ, suc, ◌+◌, max, inl, inr, ⊎_elim, ◌⊎◌, ◌↔◌, Bool, true, false, List, [], ◌∷◌, ◌++◌, length, Option, None, Some, Result, Ok, Err, refl, sym, ap, ap₂, ◌∙◌, subst, arith, append_assoc}
+use Rattle.std.proofs.lemmas.List.{length-append}
+use Rattle.std.specs.Prelude.{◌&&◌, is_some, if◌then◌else◌}
+use Rattle.lx_base.specs.declared.faults.Fault.{Fault}
+use Rattle.lx_base.specs.declared.faults.Fault.TheVariants.{NotClass}
+use Rattle.lx_base.specs.declared.settings.Options.{Options}
+use Rattle.lx_token.specs.declared.kinds.TokenKind.{TokenKind}
+use Rattle.lx_token.specs.declared.kinds.TokenKind.TheVariants as kind
+use Rattle.lx_forms.specs.Lexemes.{Lexeme}
+use Rattle.lx_exprs.specs.Defined.{Definition, Meaning, meant_class}
+use Rattle.lx_exprs.specs.Meanings.{IsClassMeaning, IsLeafMeaning, IsMeaning, alternated, enclosed, followed, repeated_by}
+use Rattle.lx_exprs.specs.Checks.{AreClasses, Check, Checks, HasPoint, IsFilled, Then, bounds_of, defined_tags, is_class, leaf_tags, tags_of}
+use Rattle.lx_forms.specs.Forms.{Form, leaf, group, repeated, sequence, difference, alternative}
+use Rattle.lx_forms.specs.Steps.{Step, reads, opens, closes, repeats, joins, subtracts, chooses, steps_of}
+use Rattle.lx_exprs.specs.Reading.{DifferenceChecks, DifferenceHas, Goes, IsDifference, IsStepped, Operands, StepChecks, ends, refused, next, in_place, no_operands, with_more}
+use Rattle.lx_exprs.proofs.Forms.ClassForms.{Agrees, filled-same, form-agrees}
+use Rattle.lx_exprs.proofs.Forms.StepOrder.{steps_then, steps_then-nil}
+
+-- a fault of two checks is one of them and a third one
+then_behind : (First Second Third : Check) (fault : Fault) → Then First Second (Some fault) → Then First (Then Second Third) (Some fault)
+then_behind First Second Third fault (inl found) = inl (found.0, inr (fault, found.1, refl))
+then_behind First Second Third fault (inr found) = inr found
+
+pub both_true : (a b : Bool) (fault : Fault) → None ≡ (if a && b then None else Some fault) → (a ≡ true) × (b ≡ true)
+both_true true true fault is = (refl, refl)
+both_true true false fault is = absurd (let h : None ≡ Some fault = is in cc)
+both_true false b fault is = absurd (let h : None ≡ Some fault = is in cc)
+
+-- tags behind others, and a count up to the last of them
+count-both : (seen left right : List (List ℕ)) (first second : ℕ) → first ≡ length seen + length left
+    → second ≡ length (seen ++ left) + length right → max first second ≡ length seen + length (left ++ right)
+count-both seen left right first second is is_too =
+    let front = length-append seen left in let back = length-append left right in omega (arith, front, back, is, is_too)
+
+-- one meaning in the place of two, with the tags of both
+in_place-both : (operands : Operands) (first second meaning : Meaning) → meaning.tags ≡ first.tags ++ second.tags
+    → in_place (with_more (with_more operands first) second) (meaning ∷ operands.meanings) ≡ with_more operands meaning
+in_place-both operands first second meaning tags =
+    ap (λ (seen : List (List ℕ)). let after : Operands = record { meanings = meaning ∷ operands.meanings; seen = seen } in after)
+    (append_assoc operands.seen first.tags second.tags ∙ ap (λ tags. operands.seen ++ tags) (sym tags))
+
+module _ (options : Options) (definitions : List Definition) where
+  -- a form is read behind tags that were seen before: its checks find nothing, and this is its meaning
+  pub record IsFormRead (operand : Bool) (seen : List (List ℕ)) (form : Form) (meaning : Meaning) : Type 0 where
+    pub checked : Checks options definitions operand seen form None
+    pub means : IsMeaning options definitions operand seen form meaning
+    pub tags : meaning.tags ≡ tags_of options definitions form
+    pub count : meaning.count ≡ length seen + length (tags_of options definitions form)
+
+  -- What the steps of a form come to: a fault that its checks find; or one meaning more, behind which the others go on.
+  abbrev Outcome : (operand : Bool) → Form → Operands → (rest : List Step) → Result Operands Fault → Type 0
+  Outcome operand form operands rest result =
+      ((fault : Fault) × (result ≡ Err fault) × Checks options definitions operand operands.seen form (Some fault))
+      ⊎ ((meaning : Meaning) × IsFormRead operand operands.seen form meaning × Goes options definitions (with_more operands meaning) rest result)
+
+  abbrev Reads : (operand : Bool) → Form → Type 0
+  Reads operand form =
+      (operands : Operands) (rest : List Step) (result : Result Operands Fault)
+      → Goes options definitions operands (steps_then operand form rest) result → Outcome operand form operands rest result
+
+  -- a step is refused, or taken
+  step_goes : (operands : Operands) (step : Step) (steps : List Step) (result : Result Operands Fault)
+      → Goes options definitions operands (step ∷ steps) result
+      → ((fault : Fault) × (result ≡ Err fault) × StepChecks options definitions operands step (Some fault))
+      ⊎ ((after : Operands) × StepChecks options definitions operands step None × IsStepped options definitions operands step after
+      × Goes options definitions after steps result)
+  step_goes operands step steps result (refused fault found) = inl (fault, refl, found)
+  step_goes operands step steps result (next after checked stepped goes) = inr (after, checked, stepped, goes)
+
+  ends_with : (operands : Operands) (result : Result Operands Fault) → Goes options definitions operands [] result → result ≡ Ok operands
+  ends_with operands result ends = refl
+
+  -- a step that checks nothing is taken
+  free_goes : (operands : Operands) (step : Step) (steps : List Step) (result : Result Operands Fault)
+      → ((fault : Fault) → StepChecks options definitions operands step (Some fault) → Some fault ≡ None)
+      → Goes options definitions operands (step ∷ steps) result
+      → (after : Operands) × IsStepped options definitions operands step after × Goes options definitions after steps result
+  free_goes operands step steps result free goes =
+      ⊎_elim (λ found. absurd (let h = free found.0 found.2 in cc)) (λ taken. (taken.0, taken.2, taken.3))
+      (step_goes operands step steps result goes)
+
+  closes_goes : (operands : Operands) (inner : Meaning) (opening : Lexeme) (rest : List Step) (result : Result Operands Fault)
+      → Goes options definitions (with_more operands inner) (closes opening ∷ rest) result
+      → Goes options definitions (with_more operands (enclosed inner)) rest result
+  closes_goes operands inner opening rest result goes =
+      let taken = free_goes (with_more operands inner) (closes opening) rest result (λ fault found. found) goes in
+      subst (λ after. Goes options definitions after rest result) taken.1 taken.2
+
+  joins_goes : (operands : Operands) (first second : Meaning) (rest : List Step) (result : Result Operands Fault)
+      → Goes options definitions (with_more (with_more operands first) second) (joins ∷ rest) result
+      → Goes options definitions (with_more operands (followed first second)) rest result
+  joins_goes operands first second rest result goes =
+      let taken = free_goes (with_more (with_more operands first) second) joins rest result (λ fault found. found) goes in
+      subst (λ after. Goes options definitions after rest result) (taken.1 ∙ in_place-both operands first second (followed first second) refl) taken.2
+
+  chooses_goes : (operands : Operands) (first second : Meaning) (rest : List Step) (result : Result Operands Fault)
+      → Goes options definitions (with_more (with_more operands first) second) (chooses ∷ rest) result
+      → Goes options definitions (with_more operands (alternated first second)) rest result
+  chooses_goes operands first second rest result goes =
+      let taken = free_goes (with_more (with_more operands first) second) chooses rest result (λ fault found. found) goes in
+      subst (λ after. Goes options definitions after rest result) (taken.1 ∙ in_place-both operands first second (alternated first second) refl) taken.2
+
+  -- a leaf
+  leaf-tags : (operand : Bool) (sort : TokenKind) (seen : List (List ℕ)) (lexeme : Lexeme) (meaning : Meaning)
+      → IsLeafMeaning options definitions operand sort seen lexeme meaning
+      → (meaning.tags ≡ leaf_tags options definitions sort lexeme)
+      × (meaning.count ≡ length seen + length (leaf_tags options definitions sort lexeme))
+  leaf-tags operand kind.Str seen lexeme meaning is =
+      let none : length seen ≡ length seen + 0 = omega arith in (ap (λ (m : Meaning). m.tags) is, ap (λ (m : Meaning). m.count) is ∙ none)
+  leaf-tags operand kind.IStr seen lexeme meaning is =
+      let none : length seen ≡ length seen + 0 = omega arith in (ap (λ (m : Meaning). m.tags) is, ap (λ (m : Meaning). m.count) is ∙ none)
+  leaf-tags operand kind.Class seen lexeme meaning is =
+      let none : length seen ≡ length seen + 0 = omega arith in (ap (λ (m : Meaning). m.tags) is.2, ap (λ (m : Meaning). m.count) is.2 ∙ none)
+  leaf-tags operand kind.Signs seen lexeme meaning is =
+      let none : length seen ≡ length seen + 0 = omega arith in (ap (λ (m : Meaning). m.tags) is.2, ap (λ (m : Meaning). m.count) is.2 ∙ none)
+  leaf-tags operand kind.Name seen lexeme meaning is = (
+    ap (λ (m : Meaning). m.tags) is.2 ∙ ap (λ (found : Option Definition). defined_tags options definitions found) (sym is.1),
+    ap (λ (m : Meaning). m.count) is.2
+        ∙ ap (λ (found : Option Definition). length seen + length (defined_tags options definitions found)) (sym is.1),
+  )
+  leaf-tags operand kind.STag seen lexeme meaning is =
+      let more : suc (length seen) ≡ length seen + 1 = omega arith in (ap (λ (m : Meaning). m.tags) is, ap (λ (m : Meaning). m.count) is ∙ more)
+  leaf-tags operand kind.Config seen lexeme meaning is = absurd is
+  leaf-tags operand kind.Number seen lexeme meaning is = absurd is
+  leaf-tags operand kind.MTag seen lexeme meaning is = absurd is
+  leaf-tags operand kind.Bounds seen lexeme meaning is = absurd is
+  leaf-tags operand kind.Code seen lexeme meaning is = absurd is
+
+  leaf_reads : (operand : Bool) (lexeme : Lexeme) → Reads operand (leaf lexeme)
+  leaf_reads operand lexeme operands rest result goes =
+      ⊎_elim (λ found. inl found)
+      (λ taken.
+      let is = leaf-tags operand lexeme.kind operands.seen lexeme taken.2.0 taken.2.1 in
+      inr (
+        taken.2.0,
+        record { checked = taken.1; means = taken.2.1; tags = is.0; count = is.1 },
+        subst (λ after. Goes options definitions after rest result) taken.2.2 taken.3,
+      ))
+      (step_goes operands (reads operand lexeme) rest result goes)
+
+  -- parentheses
+  group_reads : (operand : Bool) (opening : Lexeme) (inner : Form) → Reads operand inner → Reads operand (group opening inner)
+  group_reads operand opening inner inner_reads operands rest result goes =
+      ⊎_elim (λ found. inl (found.0, found.1, inr (found.0, found.2, refl)))
+      (λ taken.
+      ⊎_elim (λ found. inl (found.0, found.1, inl (taken.1, found.2)))
+      (λ is.
+      inr (
+        enclosed is.0,
+        record { checked = inl (taken.1, is.1.checked); means = (is.0, is.1.means, refl); tags = is.1.tags; count = is.1.count },
+        closes_goes operands is.0 opening rest result is.2,
+      ))
+      (inner_reads operands (closes opening ∷ rest) result
+      (subst (λ after. Goes options definitions after (steps_then operand inner (closes opening ∷ rest)) result) taken.2 taken.3)))
+      (step_goes operands (opens opening) (steps_then operand inner (closes opening ∷ rest)) result goes)
+
+  -- a repetition
+  repeated_reads : (operand : Bool) (inner : Form) (sign : Lexeme) → Reads false inner → Reads operand (repeated inner sign)
+  repeated_reads operand inner sign inner_reads operands rest result goes =
+      ⊎_elim (λ found. inl (found.0, found.1, inr (found.0, found.2, refl)))
+      (λ is.
+      ⊎_elim (λ found. inl (found.0, found.1, inl (is.1.checked, found.2)))
+      (λ taken.
+      inr (
+        repeated_by (bounds_of sign) is.0,
+        record { checked = inl (is.1.checked, taken.1); means = (is.0, is.1.means, refl); tags = is.1.tags; count = is.1.count },
+        subst (λ after. Goes options definitions after rest result) taken.2 taken.3,
+      ))
+      (step_goes (with_more operands is.0) (repeats sign) rest result is.2))
+      (inner_reads operands (repeats sign ∷ rest) result goes)
+
+  -- two forms: a fault of their checks, or both meanings
+  abbrev Both : (operand : Bool) (left right : Form) → Operands → (rest : List Step) → Result Operands Fault → Type 0
+  Both operand left right operands rest result =
+      ((fault : Fault) × (result ≡ Err fault)
+      × Then (Checks options definitions operand operands.seen left)
+      (Checks options definitions operand (operands.seen ++ tags_of options definitions left) right) (Some fault))
+      ⊎ ((first second : Meaning) × IsFormRead operand operands.seen left first
+      × IsFormRead operand (operands.seen ++ tags_of options definitions left) right second
+      × Goes options definitions (with_more (with_more operands first) second) rest result)
+
+  both_reads : (operand : Bool) (left right : Form) → Reads operand left → Reads operand right → (operands : Operands) (rest : List Step)
+      (result : Result Operands Fault) → Goes options definitions operands (steps_then operand left (steps_then operand right rest)) result
+      → Both operand left right operands rest result
+  both_reads operand left right left_reads right_reads operands rest result goes =
+      ⊎_elim (λ found. inl (found.0, found.1, inr (found.0, found.2, refl)))
+      (λ is.
+      ⊎_elim
+      (λ found. inl (
+        found.0,
+        found.1,
+        inl (is.1.checked, subst (λ tags. Checks options definitions operand (operands.seen ++ tags) right (Some found.0)) is.1.tags found.2),
+      ))
+      (λ more.
+      inr (is.0, more.0, is.1, subst (λ tags. IsFormRead operand (operands.seen ++ tags) right more.0) is.1.tags more.1, more.2))
+      (right_reads (with_more operands is.0) rest result is.2))
+      (left_reads operands (steps_then operand right rest) result goes)
+
+  -- one behind another
+  sequence_reads : (operand : Bool) (front back : Form) → Reads false front → Reads false back → Reads operand (sequence front back)
+  sequence_reads operand front back front_reads back_reads operands rest result goes =
+      ⊎_elim (λ found. inl found)
+      (λ is.
+      inr (
+        followed is.0 is.1,
+        record {
+          checked = inl (is.2.checked, is.3.checked);
+          means = (is.0, is.1, is.2.means, is.3.means, refl);
+          tags = ap₂ (λ (a b : List (List ℕ)). a ++ b) is.2.tags is.3.tags;
+          count =
+              count-both operands.seen (tags_of options definitions front) (tags_of options definitions back) is.0.count is.1.count is.2.count is.3.count;
+        },
+        joins_goes operands is.0 is.1 rest result is.4,
+      ))
+      (both_reads false front back front_reads back_reads operands (joins ∷ rest) result goes)
+
+  -- one beside another
+  alternative_reads : (operand : Bool) (left : Form) (sign : Lexeme) (right : Form) → Reads operand left → Reads operand right
+      → Reads operand (alternative left sign right)
+  alternative_reads operand left sign right left_reads right_reads operands rest result goes =
+      ⊎_elim (λ found. inl found)
+      (λ is.
+      inr (
+        alternated is.0 is.1,
+        record {
+          checked = inl (is.2.checked, is.3.checked);
+          means = (is.0, is.1, is.2.means, is.3.means, refl);
+          tags = ap₂ (λ (a b : List (List ℕ)). a ++ b) is.2.tags is.3.tags;
+          count =
+              count-both operands.seen (tags_of options definitions left) (tags_of options definitions right) is.0.count is.1.count is.2.count is.3.count;
+        },
+        chooses_goes operands is.0 is.1 rest result is.4,
+      ))
+      (both_reads operand left right left_reads right_reads operands (chooses ∷ rest) result goes)
+
+  -- the checks of a difference behind those of its operands
+  abbrev ClassChecks : (operand : Bool) (left : Form) (sign : Lexeme) (right : Form) → Check
+  ClassChecks operand left sign right =
+      Then (AreClasses options definitions left right sign)
+      (IsFilled options definitions options.empty operand sign.at (HasPoint options definitions (difference left sign right)))
+
+  -- two operands of a difference that were read
+  module _ (left right : Form) (sign : Lexeme) (seen more : List (List ℕ)) (first second : Meaning) (is : IsFormRead true seen left first)
+      (is_too : IsFormRead true more right second) where
+    here : Agrees (is_class options definitions left) (HasPoint options definitions left) (meant_class first)
+    here = form-agrees options definitions left seen first is.checked is.means
+
+    there : Agrees (is_class options definitions right) (HasPoint options definitions right) (meant_class second)
+    there = form-agrees options definitions right more second is_too.checked is_too.means
+
+    -- where both are classes, the difference of the meanings has the points of the difference of the forms
+    difference-same : None ≡ (if is_some (meant_class first) && is_some (meant_class second) then None else Some (NotClass sign.at))
+        → (point : ℕ) → DifferenceHas options definitions first second point ↔ HasPoint options definitions (difference left sign right) point
+    difference-same none point =
+        let are = both_true (is_some (meant_class first)) (is_some (meant_class second)) (NotClass sign.at) none in
+        let one = here.points (here.class_is ∙ are.0) point in
+        let other = there.points (there.class_is ∙ are.1) point in
+        (λ inside. (one.0 inside.0, λ has. inside.1 (other.1 has)), λ has. (one.1 has.0, λ inside. has.1 (other.0 inside)))
+
+    classes-same : (fault : Option Fault)
+        → fault ≡ (if is_some (meant_class first) && is_some (meant_class second) then None else Some (NotClass sign.at))
+        → AreClasses options definitions left right sign fault
+    classes-same fault found =
+        found ∙ ap₂ (λ (a b : Bool). if a && b then None else Some (NotClass sign.at)) (sym here.class_is) (sym there.class_is)
+
+    -- the checks of the meanings are those of the forms
+    difference_checks-same : (operand : Bool) (fault : Option Fault) → DifferenceChecks options definitions operand first second sign fault
+        → ClassChecks operand left sign right fault
+    difference_checks-same operand fault (inr found) = inr (found.0, classes-same (Some found.0) found.1, found.2)
+    difference_checks-same operand fault (inl found) =
+        inl (
+          classes-same None found.0,
+          filled-same options definitions options.empty operand sign.at (DifferenceHas options definitions first second)
+              (HasPoint options definitions (difference left sign right)) (difference-same found.0) fault found.1,
+        )
+
+    -- and so is the class
+    difference-means : (operand : Bool) (meaning : Meaning) → DifferenceChecks options definitions operand first second sign None
+        → IsDifference options definitions operand first second meaning
+        → IsClassMeaning options definitions operand (max first.nesting second.nesting) (first.tags ++ second.tags) (max first.count second.count)
+        (HasPoint options definitions (difference left sign right)) meaning
+    difference-means operand meaning (inl found) means = (
+      means.0,
+      record {
+        canonical = means.1.canonical;
+        points = λ point.
+            let same = difference-same found.0 point in
+            let has = means.1.points point in (λ inside. same.0 (has.0 inside), λ held. has.1 (same.1 held));
+      },
+      means.2,
+    )
+    difference-means operand meaning (inr found) means = absurd (let h : None ≡ Some found.0 = found.2 in cc)
+
+  -- one without another
+  difference_reads : (operand : Bool) (left : Form) (sign : Lexeme) (right : Form) → Reads true left → Reads true right
+      → Reads operand (difference left sign right)
+  difference_reads operand left sign right left_reads right_reads operands rest result goes =
+      ⊎_elim
+      (λ found.
+      inl (
+        found.0,
+        found.1,
+        then_behind (Checks options definitions true operands.seen left)
+            (Checks options definitions true (operands.seen ++ tags_of options definitions left) right) (ClassChecks operand left sign right) found.0 found.2,
+      ))
+      (λ is.
+      ⊎_elim
+      (λ found.
+      inl (
+        found.0,
+        found.1,
+        inl (
+          is.2.checked,
+          inl (
+            is.3.checked,
+            difference_checks-same left right sign operands.seen (operands.seen ++ tags_of options definitions left) is.0 is.1 is.2 is.3 operand (Some found.0) found.2,
+          ),
+        ),
+      ))
+      (λ taken.
+      let means = taken.2.1.1 in
+      let tags = ap (λ (m : Meaning). m.tags) means.2 in
+      inr (
+        taken.2.1.0,
+        record {
+          checked =
+              inl (
+                is.2.checked,
+                inl (is.3.checked, difference_checks-same left right sign operands.seen (operands.seen ++ tags_of options definitions left) is.0 is.1 is.2 is.3 operand None taken.1),
+              );
+          means = (
+            is.0,
+            is.1,
+            is.2.means,
+            is.3.means,
+            difference-means left right sign operands.seen (operands.seen ++ tags_of options definitions left) is.0 is.1 is.2 is.3 operand taken.2.1.0 taken.1 means,
+          );
+          tags = tags ∙ ap₂ (λ (a b : List (List ℕ)). a ++ b) is.2.tags is.3.tags;
+          count =
+              ap (λ (m : Meaning). m.count) means.2
+              ∙ count-both operands.seen (tags_of options definitions left) (tags_of options definitions right) is.0.count is.1.count is.2.count is.3.count;
+        },
+        subst (λ after. Goes options definitions after rest result)
+            (taken.2.2 ∙ ap (in_place (with_more (with_more operands is.0) is.1)) taken.2.1.2 ∙ in_place-both operands is.0 is.1 taken.2.1.0 tags)
+            taken.3,
+      ))
+      (step_goes (with_more (with_more operands is.0) is.1) (subtracts operand sign) rest result is.4))
+      (both_reads true left right left_reads right_reads operands (subtracts operand sign ∷ rest) result goes)
+
+  -- each form
+  form_reads : (operand : Bool) (form : Form) → Reads operand form
+  form_reads operand (leaf lexeme) = leaf_reads operand lexeme
+  form_reads operand (group opening inner) = group_reads operand opening inner (form_reads operand inner)
+  form_reads operand (repeated inner sign) = repeated_reads operand inner sign (form_reads false inner)
+  form_reads operand (sequence front back) = sequence_reads operand front back (form_reads false front) (form_reads false back)
+  form_reads operand (difference left sign right) = difference_reads operand left sign right (form_reads true left) (form_reads true right)
+  form_reads operand (alternative left sign right) = alternative_reads operand left sign right (form_reads operand left) (form_reads operand right)
+
+  -- a form that is read from its first step on
+  pub form_goes : (form : Form) (result : Result Operands Fault) → Goes options definitions no_operands (steps_of false form) result
+      → ((fault : Fault) × (result ≡ Err fault) × Checks options definitions false [] form (Some fault))
+      ⊎ ((meaning : Meaning) × (result ≡ Ok (with_more no_operands meaning)) × Checks options definitions false [] form None
+      × IsMeaning options definitions false [] form meaning × (meaning.count ≡ length meaning.tags))
+  form_goes form result goes =
+      ⊎_elim (λ found. inl found)
+      (λ is.
+      let count = is.1.count in
+      let tags = ap (λ (names : List (List ℕ)). length names) is.1.tags in
+      let same : is.0.count ≡ length is.0.tags = omega (arith, count, tags) in
+      inr (is.0, ends_with (with_more no_operands is.0) result is.2, is.1.checked, is.1.means, same))
+      (form_reads false form no_operands [] result
+      (subst (λ steps. Goes options definitions no_operands steps result) (sym (steps_then-nil false form)) goes))

@@ -1,0 +1,5 @@
+-- The POSIX order of trees.
+pub mod PosixAhead
+pub mod PosixOrder
+pub mod PosixShapes
+pub mod PosixUnique
