@@ -13,6 +13,5 @@ pub mod OpenerTexts
 pub mod Openings
 pub mod Passing
 pub mod PieceCounts
-pub mod Unclosed
 pub mod Walking
 pub mod Walks

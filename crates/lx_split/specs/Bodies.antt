@@ -1,8 +1,7 @@
 -- Where the body of a block ends.
-use Rattle.std.specs.Prelude.{◌≡◌, ℕ, zero, suc, ◌≤◌, false, List, [], ◌∷◌, ◌++◌, length, drop, codes, Option, Some, None, option_and_then, unwrap_or, ◌==◌, if◌then◌else◌}
+use Rattle.std.specs.Prelude.{ℕ, zero, suc, false, List, [], ◌∷◌, length, drop, codes, Option, Some, None, option_and_then, unwrap_or, ◌==◌, if◌then◌else◌}
 use Rattle.lx_base.specs.declared.blocks.BlockKind.{BlockKind}
 use Rattle.lx_base.specs.declared.blocks.BlockKind.TheVariants.{Ignore, Include}
-use Rattle.lx_split.specs.declared.bodies.Unclosed.{Unclosed}
 use Rattle.lx_base.specs.Letters.{begins_with}
 use Rattle.lx_token.specs.Blanks.{after_closing}
 use Rattle.lx_token.specs.Braces.{after_bounds, after_code, after_literal, after_piece}
@@ -45,14 +44,3 @@ after_body kind (suc steps) text =
 abbrev pub after_block : BlockKind → List ℕ → Option (List ℕ)
 after_block Ignore text = after_closing text
 after_block kind text = after_body kind (length text) text
-
--- each such opener of the text behind which `size` bytes or more are left has no `close` in its line
-abbrev pub AreUnclosed : (opener close size : ℕ) → List ℕ → Type 0
-AreUnclosed opener close size text =
-    (front tail : List ℕ) → text ≡ front ++ opener ∷ tail → size ≤ length tail → after_literal close false tail ≡ None
-
--- what the scanner of a body keeps of each kind of openers holds of the text
-pub record AreKnown (unclosed : Unclosed) (text : List ℕ) : Type 0 where
-  pub strings : AreUnclosed 34 34 unclosed.strings text
-  pub characters : AreUnclosed 39 39 unclosed.characters text
-  pub classes : AreUnclosed 91 93 unclosed.classes text

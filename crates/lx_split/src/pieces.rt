@@ -5,10 +5,11 @@ ghost use Rattle.lx_base.specs.Places.{file_start};
 ghost use Rattle.lx_token.specs.Tokens.{place_of_rest};
 ghost use Rattle.lx_split.specs.Pieces.{StopsWith, block, opener_size, outside, pieces_of, pieces_without_marks};
 
-use crate::bodies::{Unclosed, after_block};
+use crate::bodies::after_block;
 use crate::marks::mark_place;
 use crate::openers::{Opener, from_opener, opener_at, word_of};
 use lx_base::{BlockKind, ByteText, Fault, Memory, Options, Pos, Sequence, Stop, place_after};
+use lx_token::Unclosed;
 use std::alloc::Global;
 
 /// A piece of a source: text outside of blocks, or a block.

@@ -9,5 +9,6 @@ pub mod Passing
 pub mod QuotedItems
 pub mod Skipping
 pub mod Ties
-pub mod Unclosed
+pub mod UnclosedLines
+pub mod KnownLines
 pub mod Walk

@@ -1,6 +1,7 @@
 -- Bounds of repetitions, and actions.
 use Rattle.std.specs.Prelude.{◌≡◌, ℕ, zero, suc, ◌-◌, ◌≤◌, Bool, true, false, List, [], ◌∷◌, ◌++◌, length, codes, Option, Some, None, option_and_then, unwrap_or, is_some, ◌==◌, ◌||◌, if◌then◌else◌}
 use Rattle.lx_base.specs.Letters.{is_digit, begins_with, after_letters}
+use Rattle.lx_token.specs.declared.unclosed.Unclosed.{Unclosed}
 use Rattle.lx_token.specs.Words.{after_letter, after_numeral}
 use Rattle.lx_token.specs.Blanks.{after_comment}
 
@@ -22,10 +23,16 @@ after_literal quote true (letter ∷ text) = if letter == 10 then None else afte
 after_literal quote false (letter ∷ text) =
     if letter == 10 then None else (if letter == quote then Some text else after_literal quote (letter == 92) text)
 
--- each such quote of the text behind which `size` bytes or more are left is not closed in its line
-abbrev pub AreUnclosed : (quote size : ℕ) → List ℕ → Type 0
-AreUnclosed quote size text =
-    (front tail : List ℕ) → text ≡ front ++ quote ∷ tail → size ≤ length tail → after_literal quote false tail ≡ None
+-- each such opener of the text behind which `size` bytes or more are left has no `close` in its line
+abbrev pub AreUnclosed : (opener close size : ℕ) → List ℕ → Type 0
+AreUnclosed opener close size text =
+    (front tail : List ℕ) → text ≡ front ++ opener ∷ tail → size ≤ length tail → after_literal close false tail ≡ None
+
+-- what the scanner of a body keeps of each kind of openers holds of the text
+pub record AreKnown (unclosed : Unclosed) (text : List ℕ) : Type 0 where
+  pub strings : AreUnclosed 34 34 unclosed.strings text
+  pub characters : AreUnclosed 39 39 unclosed.characters text
+  pub classes : AreUnclosed 91 93 unclosed.classes text
 
 -- whether a comment begins here, closed or not
 abbrev pub begins_comment : List ℕ → Bool

@@ -1,9 +1,10 @@
 //! Bounds of repetitions, and actions.
-ghost use Rattle.std.specs.Prelude.{◌≡◌, ◌≢◌, ◌<◌, ◌≤◌, ◌∷◌, false, length, IfSome, unwrap_or};
+ghost use Rattle.std.specs.Prelude.{◌≡◌, ◌<◌, false, length, IfSome};
 ghost use Rattle.std.specs.Option.{option_copied};
-ghost use Rattle.lx_token.specs.Braces.{AreUnclosed, after_bounds, after_braces, after_code, after_first_bound, after_literal, after_unquoted};
+ghost use Rattle.lx_token.specs.Braces.{AreKnown, after_bounds, after_braces, after_code, after_first_bound, after_literal, after_piece, after_unquoted};
 
-use crate::blanks::{after_comment, after_line};
+use crate::blanks::after_comment;
+use crate::unclosed::{Unclosed, after_quote};
 use crate::words::{after_digits, after_letter, after_numeral};
 
 /// What follows bounds behind their first number.
@@ -46,29 +47,6 @@ pub fn after_literal(text: &[u8], quote: u8) -> Option<&[u8]>
     None
 }
 
-/// What follows the literal behind its opening quote, or the text itself where it is not closed in its line.
-///
-/// A quote behind which `unclosed` bytes or more are left is known to be not closed, so that no line is searched again for
-/// each of its quotes.
-fn after_quote<'a>(text: &'a [u8], quote: u8, unclosed: &mut usize) -> &'a [u8]
-    requires quote { quote ≢ 10 }
-    requires known { AreUnclosed quote unclosed.old (quote ∷ text.now) }
-    ensures rest { result.now ≡ unwrap_or (after_literal quote false text.now) text.now }
-    ensures shorter { length result.now ≤ length text.now }
-    ensures known { AreUnclosed quote unclosed.new text.now }
-{
-    if text.len() >= *unclosed {
-        return text;
-    }
-    match after_literal(text, quote) {
-        Some(rest) => rest,
-        None => {
-            *unclosed = after_line(text).len();
-            text
-        }
-    }
-}
-
 /// What follows the comment or the byte at the front.
 pub fn after_unquoted(text: &[u8]) -> Option<&[u8]>
     ensures rest { option_copied result ≡ after_unquoted text.now }
@@ -82,15 +60,29 @@ pub fn after_unquoted(text: &[u8]) -> Option<&[u8]>
     }
 }
 
+/// What follows the string that is closed in its line, the comment or the byte at the front, which is no brace.
+pub fn after_piece<'a>(text: &'a [u8], unclosed: &mut Unclosed) -> Option<&'a [u8]>
+    requires known { AreKnown unclosed.old text.now }
+    ensures rest { option_copied result ≡ after_piece text.now }
+    ensures shorter { IfSome result (λ rest. length rest.now < length text.now) }
+    ensures known { IfSome result (λ rest. AreKnown unclosed.new rest.now) }
+{
+    match text.split_first() {
+        Some((b'"', tail)) => Some(after_quote(tail, b'"', b'"', &mut unclosed.strings)),
+        Some((b'\'', tail)) => Some(after_quote(tail, b'\'', b'\'', &mut unclosed.characters)),
+        _ => after_unquoted(text),
+    }
+}
+
 /// What follows the brace that closes the one before the text.
-fn after_braces(text: &[u8]) -> Option<&[u8]>
+pub fn after_braces<'a>(text: &'a [u8], unclosed: &mut Unclosed) -> Option<&'a [u8]>
+    requires known { AreKnown unclosed.old text.now }
     ensures rest { option_copied result ≡ after_braces (length text.now) 0 text.now }
     ensures shorter { IfSome result (λ rest. length rest.now < length text.now) }
+    ensures known { IfSome result (λ rest. AreKnown unclosed.new rest.now) }
 {
     let mut rest = text;
     let mut depth: usize = 0;
-    let mut unclosed_strings = usize::MAX;
-    let mut unclosed_characters = usize::MAX;
     while let Some((letter, tail)) = rest.split_first() {
         match *letter {
             b'{' => {
@@ -104,9 +96,7 @@ fn after_braces(text: &[u8]) -> Option<&[u8]>
                 depth -= 1;
                 rest = tail;
             }
-            b'"' => rest = after_quote(tail, b'"', &mut unclosed_strings),
-            b'\'' => rest = after_quote(tail, b'\'', &mut unclosed_characters),
-            _ => rest = after_unquoted(rest)?,
+            _ => rest = after_piece(rest, unclosed)?,
         }
     }
     None
@@ -121,6 +111,6 @@ pub(crate) fn after_code(text: &[u8]) -> Option<&[u8]>
     if after_bounds(text).is_some() {
         None
     } else {
-        after_braces(tail)
+        after_braces(tail, &mut Unclosed::new())
     }
 }

@@ -1,7 +1,7 @@
 use Rattle.std.proofs.Common.{◌∙◌}
 use Rattle.lx_base.specs.declared.blocks.BlockKind.TheVariants.{Ignore}
 use Rattle.lx_split.proofs.BlockEnds.{after_block-other, after_block-shorter}
-use Rattle.lx_split.proofs.Known.{AreKnown-closing}
+use Rattle.lx_token.proofs.KnownLines.{AreKnown-closing}
 use Rattle.lx_split.proofs.bodies.after_block.Goals as goal
 
 pub returns-in-Ignore-clause-shorter : goal.returns-in-Ignore-clause-shorter

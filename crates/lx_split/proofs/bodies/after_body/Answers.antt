@@ -2,7 +2,7 @@ use Rattle.std.proofs.Common.{drop, arith, codes, length, sym, ◌∙◌, ◌<�
 use Rattle.std.proofs.lemmas.Bool.{eqb-true, eqb-false}
 use Rattle.lx_split.proofs.Needles.{pointwise-begins, take-rest}
 use Rattle.lx_token.proofs.Ends.{IsEnd-drop}
-use Rattle.lx_split.proofs.Known.{AreKnown-end}
+use Rattle.lx_token.proofs.KnownLines.{AreKnown-end}
 use Rattle.lx_split.proofs.Passing.{Passes-closed, Passes-end, Passes-part, Passes-stuck}
 use Rattle.lx_split.proofs.bodies.after_body.Goals as goal
 

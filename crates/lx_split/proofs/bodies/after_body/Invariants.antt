@@ -1,5 +1,5 @@
 use Rattle.std.proofs.Common.{◌≤◌, length}
-use Rattle.lx_split.specs.Bodies.{AreKnown}
+use Rattle.lx_token.specs.Braces.{AreKnown}
 use Rattle.lx_split.proofs.Passing.{Passes}
 use Rattle.lx_split.proofs.bodies.after_body.Given as goal
 

@@ -1,6 +1,6 @@
 use Rattle.std.proofs.Common.{refl}
 use Rattle.lx_split.proofs.BlockEnds.{IsEnd-behind_file_name}
-use Rattle.lx_split.proofs.Known.{AreKnown-tail}
+use Rattle.lx_token.proofs.KnownLines.{AreKnown-tail}
 use Rattle.lx_split.proofs.bodies.after_include_part.Goals as goal
 
 pub returns-in-Some-eq34-default-clause-known : goal.returns-in-Some-eq34-default-clause-known

@@ -1,6 +1,6 @@
 use Rattle.std.proofs.Common.{sym}
 use Rattle.lx_token.proofs.Ends.{IsEnd-self}
-use Rattle.lx_split.proofs.Known.{AreKnown-bounds, AreKnown-quote, AreKnown-tail}
+use Rattle.lx_token.proofs.KnownLines.{AreKnown-bounds, AreKnown-quote, AreKnown-tail}
 use Rattle.lx_split.proofs.bodies.after_part.Goals as goal
 
 pub after_braces-requires : goal.after_braces-requires

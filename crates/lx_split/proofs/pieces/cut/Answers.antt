@@ -2,7 +2,8 @@ use Rattle.std.proofs.Common.{◌-◌, drop, ap, length, arith, sym}
 use Rattle.std.proofs.lemmas.List.{length-drop, length-take}
 use Rattle.lx_split.specs.Pieces.{opener_size}
 use Rattle.lx_token.proofs.Ends.{IsEnd-drop}
-use Rattle.lx_split.proofs.Known.{AreKnown-end, AreKnown-opener}
+use Rattle.lx_token.proofs.KnownLines.{AreKnown-end}
+use Rattle.lx_split.proofs.Known.{AreKnown-opener}
 use Rattle.lx_split.proofs.OpenerTexts.{opener-fits}
 use Rattle.lx_split.proofs.Walking.{HasCut-start, HasCut-end, HasCut-refused, HasCut-unclosed, HasCut-block}
 use Rattle.lx_split.proofs.pieces.cut.Goals as goal

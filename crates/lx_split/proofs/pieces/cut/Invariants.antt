@@ -1,5 +1,5 @@
 use Rattle.std.proofs.Common.{◌+◌, ◌≤◌, length}
-use Rattle.lx_split.specs.Bodies.{AreKnown}
+use Rattle.lx_token.specs.Braces.{AreKnown}
 use Rattle.lx_split.proofs.Walking.{HasCut}
 use Rattle.lx_split.proofs.pieces.cut.Given as goal
 

@@ -1,5 +1,5 @@
-use Rattle.lx_split.proofs.Known.{AreKnown-quote, AreKnown-unquoted}
-use Rattle.lx_split.proofs.bodies.after_piece.Goals as goal
+use Rattle.lx_token.proofs.KnownLines.{AreKnown-quote, AreKnown-unquoted}
+use Rattle.lx_token.proofs.braces.after_piece.Goals as goal
 
 pub returns-in-Some-eq34-default-clause-known : goal.returns-in-Some-eq34-default-clause-known
 returns-in-Some-eq34-default-clause-known c =

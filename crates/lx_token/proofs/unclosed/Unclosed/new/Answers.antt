@@ -1,6 +1,6 @@
 use Rattle.std.proofs.Common.{arith}
-use Rattle.lx_split.proofs.Known.{AreUnclosed-nowhere}
-use Rattle.lx_split.proofs.bodies.Unclosed.new.Goals as goal
+use Rattle.lx_token.proofs.KnownLines.{AreUnclosed-nowhere}
+use Rattle.lx_token.proofs.unclosed.Unclosed.new.Goals as goal
 
 pub returns : goal.returns
 returns c = λ text short. record {

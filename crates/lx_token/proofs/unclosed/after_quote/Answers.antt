@@ -1,7 +1,7 @@
 use Rattle.std.proofs.Common.{[], refl, sym}
 use Rattle.lx_token.proofs.Ends.{IsEnd-behind_quote}
-use Rattle.lx_split.proofs.Unclosed.{AreUnclosed-end, AreUnclosed-failed, AreUnclosed-tail}
-use Rattle.lx_split.proofs.bodies.after_quote.Goals as goal
+use Rattle.lx_token.proofs.UnclosedLines.{AreUnclosed-end, AreUnclosed-failed, AreUnclosed-tail}
+use Rattle.lx_token.proofs.unclosed.after_quote.Goals as goal
 
 pub returns-then-text-unclosed-clause-rest : goal.returns-then-text-unclosed-clause-rest
 returns-then-text-unclosed-clause-rest c =

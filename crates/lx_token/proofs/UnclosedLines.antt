@@ -1,11 +1,20 @@
 -- Strings and classes that are not closed in their line.
-use Rattle.std.proofs.Common.{◌≡◌, ◌≢◌, ℕ, ◌≤◌, Bool, true, false, cond, List, [], ◌∷◌, ◌++◌, length, Some, None, sym, subst, arith, ◌==◌, length-append, ⊎_elim}
+use Rattle.std.proofs.Common.{◌≡◌, ◌≢◌, ℕ, ◌≤◌, Bool, true, false, cond, List, [], ◌∷◌, ◌++◌, length, Option, Some, None, sym, subst, arith, ◌==◌, length-append, ⊎_elim}
 use Rattle.std.proofs.lemmas.Bool.{ne_eqb}
 use Rattle.lx_token.specs.Blanks.{after_line}
-use Rattle.lx_token.specs.Braces.{after_literal}
+use Rattle.lx_token.specs.Braces.{AreUnclosed, after_literal}
 use Rattle.lx_token.proofs.Ends.{IsEnd}
-use Rattle.lx_token.proofs.Unclosed.{further, not_closed}
-use Rattle.lx_split.specs.Bodies.{AreUnclosed}
+
+-- a search fails in the line behind one of its bytes too, where it failed and more is left than behind the line
+further : (is_line : Bool) (size : ℕ) (whole line : List ℕ) (literal : Option (List ℕ)) (goal : Type 0) → size ≤ length whole →
+    (literal ≡ None → length line ≤ size → goal) → cond is_line None literal ≡ None → length (cond is_line whole line) ≤ size →
+    (length whole ≤ size → ⊥) → goal
+further true size whole line literal goal long next fails le outside = absurd (outside le)
+further false size whole line literal goal long next fails le outside = next fails le
+
+not_closed : (is_quote : Bool) (text : List ℕ) (literal : Option (List ℕ)) → cond is_quote (Some text) literal ≡ None → literal ≡ None
+not_closed true text literal h = absurd (cc)
+not_closed false text literal h = h
 
 -- where a search behind one opener fails, it fails behind each later opener of the line
 fails_behind : (opener close : ℕ) (escaped : Bool) (front tail : List ℕ) → opener ≢ 10 → opener ≢ 92 → after_literal close escaped (front ++ opener ∷ tail) ≡ None →
