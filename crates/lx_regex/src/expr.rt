@@ -31,7 +31,7 @@ pub enum Expr {
 }
 
 /// The size that stands for itself and every greater one, 2^40.
-pub const SIZE_LIMIT: u64 = 1 << 40;
+pub const GREATEST_SIZE: u64 = 1 << 40;
 
 /// The sum of the sizes of members, up to the limit.
 #[cycle(size)]
@@ -40,7 +40,7 @@ fn sum_of_sizes(members: &[Expr]) -> u64
 {
     let mut total = 0;
     for member in members {
-        total = SIZE_LIMIT.min(total + size(member));
+        total = GREATEST_SIZE.min(total + size(member));
     }
     total
 }
@@ -56,14 +56,14 @@ pub fn size(expr: &Expr) -> u64
     match expr {
         Expr::Empty | Expr::Class(_) | Expr::AnyUnit | Expr::STag(_) | Expr::MTag(_) => 1,
         Expr::Cat(members) => sum_of_sizes(members),
-        Expr::Alt(members) => SIZE_LIMIT.min(sum_of_sizes(members) + 1),
+        Expr::Alt(members) => GREATEST_SIZE.min(sum_of_sizes(members) + 1),
         Expr::Rep(body, low, high) => {
             let times = u64::from((*low).max(high.unwrap_or(1)).max(1));
-            SIZE_LIMIT.min(SIZE_LIMIT.min(size(body).saturating_mul(times)) + 1)
+            GREATEST_SIZE.min(GREATEST_SIZE.min(size(body).saturating_mul(times)) + 1)
         }
         Expr::Group(number, body) => {
             let ends = if *number == 0 { 0 } else { 2 };
-            SIZE_LIMIT.min(size(body) + ends)
+            GREATEST_SIZE.min(size(body) + ends)
         }
     }
 }

@@ -9,7 +9,6 @@ pub mod OpLists
 pub mod PlaceLists
 pub mod PlaceSets
 pub mod RegisterBounds
-pub mod SetMembers
 pub mod StateLists
 pub mod StatesMade
 pub mod StepLoops

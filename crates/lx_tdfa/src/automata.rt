@@ -11,12 +11,11 @@ ghost use Rattle.lx_tdfa.specs.Promise.{IsAutoOf};
 ghost use Rattle.lx_tdfa.specs.Steps.{start_place};
 
 use crate::kernels::Kernels;
-use crate::seen::Seen;
 use crate::states::{Buffers, Source};
 use lx_auto::{Auto, State};
 use lx_base::{Memory, Pos, Sequence, Stop};
 use lx_encode::Residual;
-use lx_tnfa::{Place, Search, Tnfa};
+use lx_tnfa::{Place, Search, Tnfa, Visited};
 use std::alloc::Global;
 
 /// The list of the place where no rule has begun.
@@ -41,7 +40,7 @@ fn states(source: &Source<'_>, kernels: &mut Kernels) -> Result<Sequence<State>,
 {
     let mut buffers = Buffers {
         search: Search::new(source.alloc),
-        seen: Seen::new(source.alloc),
+        seen: Visited::new(source.alloc),
     };
     let mut states = Sequence::new(source.alloc);
     let mut number = 0;

@@ -7,7 +7,6 @@ mod edges;
 mod kernels;
 pub mod laws;
 mod operations;
-mod seen;
 mod states;
 mod steps;
 

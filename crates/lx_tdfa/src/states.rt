@@ -15,11 +15,10 @@ use crate::cuts::{last_unit, merged_cuts};
 use crate::edges::push_edge;
 use crate::kernels::Kernels;
 use crate::operations::{Transfer, push_tags};
-use crate::seen::Seen;
 use crate::steps::{Ending, Step, first_ending, next_steps};
 use lx_auto::{Accept, Edge, Held, Ops, State};
 use lx_base::{Memory, Pos, Sequence, Stop};
-use lx_tnfa::{Place, Reach, Search, Tnfa};
+use lx_tnfa::{Place, Reach, Search, Tnfa, Visited};
 use std::alloc::Global;
 
 /// What the states of an automaton are made from.
@@ -37,7 +36,7 @@ pub(crate) struct Source<'a> {
 #[derive(Drop)]
 pub(crate) struct Buffers {
     pub search: Search,
-    pub seen: Seen,
+    pub seen: Visited<Place>,
 }
 
 /// Units, from the least to the greatest one.
@@ -162,7 +161,7 @@ impl<'a> Source<'a> {
     fn edge(
         &self,
         kernels: &mut Kernels,
-        seen: &mut Seen,
+        seen: &mut Visited<Place>,
         is_first: bool,
         reaches: &[Reach],
         units: Units,
@@ -191,7 +190,7 @@ impl<'a> Source<'a> {
     fn edges(
         &self,
         kernels: &mut Kernels,
-        seen: &mut Seen,
+        seen: &mut Visited<Place>,
         is_first: bool,
         reaches: &[Reach],
     ) -> Result<Sequence<Edge>, Stop>

@@ -4,9 +4,8 @@ ghost use Rattle.lx_tnfa.specs.Closure.{AllPlaces, IsTarget};
 ghost use Rattle.lx_tdfa.specs.Making.{seen_ending, seen_step};
 ghost use Rattle.lx_tdfa.specs.Steps.{first_ending, next_steps, step_on};
 
-use crate::seen::Seen;
 use lx_base::Memory;
-use lx_tnfa::{Place, Reach, Target, Tnfa};
+use lx_tnfa::{Place, Reach, Target, Tnfa, Visited};
 use std::alloc::Global;
 
 /// A step over a unit: by the walk to a target, and on to a place.
@@ -38,7 +37,7 @@ fn place_behind(t: &Tnfa, reach: &Reach, unit: u32) -> Option<Place>
 pub(crate) fn next_steps<'a>(
     alloc: Global,
     t: &Tnfa,
-    seen: &mut Seen,
+    seen: &mut Visited<Place>,
     reaches: &'a [Reach],
     unit: u32,
 ) -> Result<Vec<Step<'a>>, Memory>

@@ -15,3 +15,4 @@ pub mod SimplePaths
 pub mod StopNumbers
 pub mod StopSets
 pub mod TakenWalks
+pub mod SetMembers

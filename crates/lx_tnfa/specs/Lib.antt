@@ -3,6 +3,7 @@ pub mod Classes
 pub mod Closure
 pub mod DepthFirst
 pub mod Ends
+pub mod Equality
 pub mod LeafReadings
 pub mod Live
 pub mod Making

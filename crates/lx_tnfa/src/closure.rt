@@ -104,7 +104,7 @@ impl Tnfa {
     }
 
     /// Whether a stop is to be entered, which then counts as visited: not where no end can be reached from it, and only once.
-    fn enters(&self, visited: &mut Visited, stop: Stop) -> Result<bool, Memory>
+    fn enters(&self, visited: &mut Visited<Stop>, stop: Stop) -> Result<bool, Memory>
         ensures { IfOk result (Enters self.now stop visited.old visited.new) }
     {
         if self.is_dead(stop) {

@@ -20,3 +20,4 @@ pub use places::Place;
 pub use search::Search;
 pub use states::{Event, Move};
 pub use tnfa::Tnfa;
+pub use visited::Visited;

@@ -57,7 +57,7 @@ impl Branch {
 /// call needed.
 #[derive(Drop)]
 pub struct Search {
-    pub(crate) visited: Visited,
+    pub(crate) visited: Visited<Stop>,
     pub(crate) waiting: Vec<Entry>,
     pub(crate) trail: Vec<Event>,
 }

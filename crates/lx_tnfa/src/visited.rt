@@ -1,52 +1,53 @@
-//! The stops that a search has visited.
+//! What was visited, in order.
 ghost use Rattle.std.specs.Prelude.{◌≡◌, [], ◌∷◌, ◌++◌, Contains, IfOk};
 ghost use Rattle.std.specs.Bool.{MatchBool};
+ghost use Rattle.lx_tnfa.specs.Equality.{TellsEqual};
 
-use crate::closure::Stop;
 use indexmap::IndexSet;
 use lx_base::Memory;
 use std::alloc::Global;
+use std::hash::Hash;
 use std::marker::Model;
 
-/// The stops that were visited, in order. Whether one is among them is told in constant time.
+/// Different items, in the order in which they were visited. Whether one is among them is told in constant time, as far as
+/// hashes differ. Contracts see them as a list.
 #[derive(Drop)]
-pub(crate) struct Visited {
-    stops: IndexSet<Stop>,
+pub struct Visited<T: Eq + Hash + Drop> {
+    items: IndexSet<T>,
 }
 
-impl Model for Visited {
+impl<T: Eq + Hash + Drop> Model for Visited<T> {
     ghost use Rattle.std.specs.Prelude.{List};
-    ghost use Rattle.lx_tnfa.specs.declared.closure.Stop.{Stop};
 
-    ghost Value = { List Stop };
+    ghost Value = { List T };
 
-    ghost view = { λ visited. visited.stops.keys };
+    ghost view = { λ visited. visited.items.keys };
 }
 
-impl Visited {
-    /// No stop. It takes no memory.
-    pub(crate) fn new(alloc: Global) -> Visited
+impl<T: Eq + Hash + Drop> Visited<T> {
+    /// No item. It takes no memory.
+    pub fn new(alloc: Global) -> Visited<T>
         ensures { result ≡ [] }
     {
         Visited {
-            stops: IndexSet::new(alloc),
+            items: IndexSet::new(alloc),
         }
     }
 
-    /// Takes all stops out, in time linear in how many there are, and keeps the memory.
-    pub(crate) fn clear(&mut self)
+    /// Takes all items out, in time linear in how many there are, and keeps the memory.
+    pub fn clear(&mut self)
         ensures { self.new ≡ [] }
     {
-        while self.stops.pop().is_some() {}
+        while self.items.pop().is_some() {}
     }
 
-    /// Visits a stop, and says whether it was not visited before.
-    pub(crate) fn add(&mut self, stop: Stop) -> Result<bool, Memory>
-        ensures { IfOk result (λ new. MatchBool new
-            (¬ Contains self.old stop × (self.new ≡ self.old ++ stop ∷ []))
-            (Contains self.old stop × (self.new ≡ self.old))) }
+    /// Visits an item, and says whether it was not visited before.
+    pub fn add(&mut self, item: T) -> Result<bool, Memory>
+        ensures { TellsEqual T.eq → IfOk result (λ new. MatchBool new
+            (¬ Contains self.old item × (self.new ≡ self.old ++ item ∷ []))
+            (Contains self.old item × (self.new ≡ self.old))) }
     {
-        let new = self.stops.insert(stop)?;
+        let new = self.items.insert(item)?;
         Ok(new)
     }
 }

@@ -14,7 +14,7 @@ use Rattle.lx_tnfa.specs.contracts.places.PlacePartialEq.TheImpl.{eq-value}
 use Rattle.lx_tnfa.specs.declared.places.Place.{Place}
 use Rattle.lx_tdfa.specs.Making.{Adds, lists_of, most_places}
 use Rattle.lx_tdfa.proofs.Loops.PlaceSets.{same_place, place_same}
-use Rattle.lx_tdfa.proofs.Loops.SetMembers.{added}
+use Rattle.lx_tnfa.proofs.Searching.SetMembers.{added}
 
 pub Decides-pointwise : (list other : List Place) → Decides (pointwise eq-value.it list other) (list ≡ other)
 Decides-pointwise = pointwise_decides (λ place other. (same_place place other, place_same place other))

@@ -12,7 +12,7 @@ use Rattle.lx_regex.specs.Expr.{ranges_of}
 use Rattle.lx_regex.specs.Script.{Symbol, leaf_choice}
 use Rattle.lx_tnfa.specs.LeafReadings.{IsNth}
 use Rattle.lx_tnfa.specs.PlaceNumbers.{class_starts, has_point}
-use Rattle.lx_tnfa.proofs.Leaves.ClassStarts.{PointOf, part_begins, start_point}
+use Rattle.lx_tnfa.proofs.Leaves.ClassStarts.{has_start, point_found}
 
 -- a start with a choice is a start
 pub start_listed : (enc : Enc) (set : List Range) (all : List Range) (starts : List Residual) (index : ℕ) (start : List Symbol × ℕ)
@@ -32,33 +32,8 @@ start_listed enc set (part ∷ others) (first ∷ starts) index start nth =
     at true (suc index) nth without with = with index nth
     at false index nth without with = without nth
 
-point_found : (set : List Range) (part : Range) → has_point set part ≡ true → PointOf set part
-point_found [] part e = absurd (false≢true e)
-point_found (range ∷ set) part e =
-    ⊎_elim
-    (λ here.
-    let le : max range.lo part.lo ≤ min range.hi part.hi = leb-true (max range.lo part.lo) (min range.hi part.hi) here in
-    record { point = max range.lo part.lo; within = inl (omega arith, omega arith); low = omega arith; high = omega arith })
-    (λ later.
-    let found = point_found set part later in
-    record { point = found.point; within = inr found.within; low = found.low; high = found.high })
-    (or_cases (nat_le (max range.lo part.lo) (min range.hi part.hi)) (has_point set part) e)
-
 module _ (rows : Rows) (enc : Enc) (set : List Range) (live : (rest : ℕ) → rest < length rows → (units : List ℕ) × Finishes rows rest units) where
-  -- a part with a start has a point
-  has_start : (part : Range) (start : Residual) → IsStart rows enc set part start → has_point set part ≡ true
-  has_start part start is =
-      let begins =
-      part_begins rows enc set live (part ∷ []) (start ∷ []) part (inr (start, [], refl, is, refl)) (inl refl) (start_point rows enc set live part start is) in
-      at (has_point set part) begins.index begins.rest begins.nth
-    where
-      at : (b : Bool) (index rest : ℕ)
-          → IsNth {X = List Symbol × ℕ} (if b then (leaf_choice enc (ranges_of set) part.lo, start.0) ∷ [] else []) index (leaf_choice enc (ranges_of set) part.lo, rest)
-          → b ≡ true
-      at true index rest nth = refl
-      at false index rest nth = absurd nth
-
-  -- and a start has a choice
+  -- a start has a choice
   pub start_chosen : (all : List Range) (starts : List Residual) (index : ℕ) (rest : Residual) → AreStarts rows enc set all starts
       → IsNth starts index rest → (choice : List Symbol) × IsNth (class_starts enc set all starts) index (choice, rest.0)
   start_chosen [] starts index rest are nth = absurd (subst (λ l. IsNth l index rest) are nth)
@@ -85,7 +60,7 @@ module _ (rows : Rows) (enc : Enc) (set : List Range) (live : (rest : ℕ) → r
           one zero nth more = (leaf_choice enc (ranges_of set) part.lo, ap (λ (r : Residual). (leaf_choice enc (ranges_of set) part.lo, r.0)) nth)
           one (suc index) nth more = with index more nth
       at false e index nth without with =
-          ⊎_elim (λ none. without none.1) (λ some. absurd (false≢true (sym e ∙ has_start part some.0 some.3))) are
+          ⊎_elim (λ none. without none.1) (λ some. absurd (false≢true (sym e ∙ has_start rows enc set live part some.0 some.3))) are
 
 -- how many elements before an index are kept
 module _ {X Y : Type 0} (h : X → Option Y) where

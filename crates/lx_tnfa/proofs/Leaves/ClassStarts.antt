@@ -28,7 +28,7 @@ pub record PointOf (set : List Range) (part : Range) : Type 0 where
   pub low : part.lo ≤ point
   pub high : point ≤ part.hi
 
-point_found : (set : List Range) (part : Range) → has_point set part ≡ true → PointOf set part
+pub point_found : (set : List Range) (part : Range) → has_point set part ≡ true → PointOf set part
 point_found [] part e = absurd (false≢true e)
 point_found (range ∷ set) part e =
     ⊎_elim
@@ -55,7 +55,8 @@ module _ (rows : Rows) (enc : Enc) (set : List Range) (live : (rest : ℕ) → r
       let spells = (is.1 units.0).0 units.1 in
       record { point = spells.0; within = spells.1; low = spells.2; high = spells.3 }
 
-  has_start : (part : Range) (start : Residual) → IsStart rows enc set part start → has_point set part ≡ true
+  -- so its part has one
+  pub has_start : (part : Range) (start : Residual) → IsStart rows enc set part start → has_point set part ≡ true
   has_start part start is =
       let at = start_point part start is in point_seen set part at.point at.within at.low at.high
 

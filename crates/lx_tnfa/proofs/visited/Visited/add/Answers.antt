@@ -1,9 +1,14 @@
-use Rattle.lx_tnfa.specs.contracts.closure.StopPartialEq.TheImpl.{eq-value}
-use Rattle.lx_tnfa.proofs.Searching.StopSets.{added, same_stop, stop_same}
+use Rattle.std.proofs.Common.{List, subst}
+use Rattle.std.proofs.lemmas.List.{map-id}
+use Rattle.std.specs.Bool.{MatchBool}
+use Rattle.std.specs.Prelude.{◌≡◌, ◌++◌, [], ◌∷◌, Contains}
+use Rattle.lx_tnfa.proofs.Searching.SetMembers.{added}
 use Rattle.lx_tnfa.proofs.visited.Visited.add.Goals as goal
 
 pub returns : goal.returns
-returns c =
+returns g c = λ equality.
+    let old = c.self.inside.items.keys in
+    let new = c.insert.new.self.keys in
     rw (← c.self.view_is)
-    (added eq-value.it same_stop stop_same c.self.inside.stops.keys c.insert.new.self.keys c.args.stop c.in_ok-new.new c.in_ok-new.ensures.added
-    c.in_ok-new.ensures.keys)
+    (subst (λ seen. MatchBool c.in_ok-new.new (¬ Contains seen c.args.item × (new ≡ old ++ c.args.item ∷ [])) (Contains seen c.args.item × (new ≡ old))) (map-id old)
+    (added (λ item. item) _ equality.equal equality.itself old new c.args.item c.in_ok-new.new c.in_ok-new.ensures.added c.in_ok-new.ensures.keys))
