@@ -8,6 +8,3 @@ mod ops;
 
 pub use automaton::{Accept, Auto, Edge, Held, State};
 pub use ops::{Op, Ops};
-
-#[cfg(test)]
-mod tests;

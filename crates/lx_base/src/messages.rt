@@ -127,6 +127,3 @@ fn append_window(
         ],
     )
 }
-
-#[cfg(test)]
-mod tests;

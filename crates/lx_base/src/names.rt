@@ -368,6 +368,3 @@ pub fn is_tag_name(names: &Names, word: &[u8]) -> bool
     let no_register = is_no_register(tag_prefix(names), word);
     identifier && no_variable && !count && !groups && no_register
 }
-
-#[cfg(test)]
-mod tests;

@@ -67,6 +67,3 @@ pub fn max_fill(checks: &CheckList) -> u32
     }
     most
 }
-
-#[cfg(test)]
-mod tests;

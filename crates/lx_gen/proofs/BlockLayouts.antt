@@ -13,5 +13,5 @@ pub mod StandingCodes
 pub mod TreeCodes
 pub mod TreeHalves
 pub mod TreeLoops
-pub mod WayLists
-pub mod WayLoops
+pub mod ClassLists
+pub mod ClassLoops

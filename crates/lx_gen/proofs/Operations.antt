@@ -1,7 +1,7 @@
 -- Lists of operations, at once and one by one.
 pub mod Agreeing
 pub mod CopySequences
-pub mod OneByOne
+pub mod Sequentialized
 pub mod OpBounds
 pub mod OpParts
 pub mod OpsAlike

@@ -9,7 +9,7 @@ use Rattle.lx_auto.specs.declared.automaton.State.{State}
 use Rattle.lx_auto.specs.declared.ops.Op.{Op}
 use Rattle.lx_auto.specs.declared.ops.Op.TheVariants as act
 use Rattle.lx_ccode.specs.declared.piece.Stmt.{Stmt}
-use Rattle.lx_ccode.specs.declared.piece.Stmt.TheVariants.{Accept as KeepAccept, Backup, Copy, Goto, IfAccept, Leave, MCopy, MSet, MUnset, Restore, Set, Skip, Unset}
+use Rattle.lx_ccode.specs.declared.piece.Stmt.TheVariants.{Accept as SaveAccept, Backup, Copy, Goto, IfAccept, Leave, MCopy, MSet, MUnset, Restore, Set, Skip, Unset}
 use Rattle.lx_gen.specs.ParallelCopies.{sequentialized}
 
 -- an operation; the piece counts registers from 1 and histories from 0
@@ -32,49 +32,49 @@ list_code auto ops rest = ops_code (sequentialized auto.regs auto.mregs ops) res
 
 -- ---- the fallback
 
--- where the state with this number was kept last, the block comes next
+-- where the state with this number was saved last, the block comes next
 pub record Choice : Type 0 where
-  pub kept : ℕ
+  pub saved : ℕ
   pub block : ℕ
 
--- the choices one after another; no rule where none was kept
+-- the choices one after another; no rule where none was saved
 abbrev pub choices_code : List Choice → List Stmt
 choices_code [] = Leave ∷ []
-choices_code (choice ∷ choices) = IfAccept choice.kept choice.block ∷ choices_code choices
+choices_code (choice ∷ choices) = IfAccept choice.saved choice.block ∷ choices_code choices
 
 -- the block that is chosen for a number
-abbrev pub chosen : List Choice → (kept : ℕ) → Option ℕ
-chosen [] kept = None
-chosen (choice ∷ choices) kept = if kept == choice.kept then Some choice.block else chosen choices kept
+abbrev pub chosen : List Choice → (saved : ℕ) → Option ℕ
+chosen [] saved = None
+chosen (choice ∷ choices) saved = if saved == choice.saved then Some choice.block else chosen choices saved
 
 -- ---- edges and ends
 
--- an accepting state that is left is kept: the cursor in the marker, and a number
-abbrev pub keep_code : (keeps : Bool) → (kept : ℕ) → List Stmt → List Stmt
-keep_code false kept rest = rest
-keep_code true kept rest = Backup ∷ KeepAccept kept ∷ rest
+-- an accepting state that is left is saved: the cursor in the marker, and a number
+abbrev pub save_code : (saves : Bool) → (saved : ℕ) → List Stmt → List Stmt
+save_code false saved rest = rest
+save_code true saved rest = Backup ∷ SaveAccept saved ∷ rest
 
--- It is kept on the edges to states that do not accept, since only behind these a match can fall back to it.
-abbrev pub keeps_by : Option Accept → (next : Option Accept) → Bool
-keeps_by (Some accept) None = true
-keeps_by _ _ = false
+-- It is saved on the edges to states that do not accept, since only behind these a match can fall back to it.
+abbrev pub saves_by : Option Accept → (next : Option Accept) → Bool
+saves_by (Some accept) None = true
+saves_by _ _ = false
 
-abbrev pub keeps_on : List State → State → Edge → Bool
-keeps_on states state edge = keeps_by state.accept (state_of states edge.to).accept
+abbrev pub saves_on : List State → State → Edge → Bool
+saves_on states state edge = saves_by state.accept (state_of states edge.to).accept
 
--- whether a state is kept on some edge
-abbrev pub is_kept : List State → State → Bool
-is_kept states state = list_any (λ edge. keeps_on states state edge) state.edges
+-- whether a state is saved on some edge
+abbrev pub is_saved : List State → State → Bool
+is_saved states state = list_any (λ edge. saves_on states state edge) state.edges
 
 -- an edge out of a state, to the block of another one: the operations come before the unit is passed
-abbrev pub edge_code : Auto → State → (kept : ℕ) → Edge → (block : ℕ) → List Stmt
-edge_code auto state kept edge block =
-    keep_code (keeps_on auto.states state edge) kept (list_code auto state.leave (list_code auto edge.ops (Skip ∷ Goto block ∷ [])))
+abbrev pub edge_code : Auto → State → (saved : ℕ) → Edge → (block : ℕ) → List Stmt
+edge_code auto state saved edge block =
+    save_code (saves_on auto.states state edge) saved (list_code auto state.leave (list_code auto edge.ops (Skip ∷ Goto block ∷ [])))
 
 -- the end of a match in a state that accepts: its last operations, and then the rule's block
 abbrev pub accept_code : Auto → List Op → (block : ℕ) → List Stmt
 accept_code auto ops block = list_code auto ops (Goto block ∷ [])
 
--- the end of a match by a state that was kept
+-- the end of a match by a state that was saved
 abbrev pub restore_code : (block : ℕ) → List Stmt
 restore_code block = Restore ∷ Goto block ∷ []

@@ -14,14 +14,14 @@ use Rattle.lx_gen.specs.Layout.{front_blocks, layout, numbered}
 use Rattle.lx_gen.specs.ParallelCopies.{sequentialized}
 use Rattle.lx_gen.specs.Starts.{run_with}
 use Rattle.lx_gen.specs.TestTrees.{balanced}
-use Rattle.lx_gen.specs.Ways.{Stretch}
+use Rattle.lx_gen.specs.TransitionClasses.{Stretch}
 
 -- each rule has the tag `t`, and the action `a`
 abbrev pub tagged : ℕ → Ending
 tagged rule = record { tags = (116 ∷ []) ∷ []; slash = None; groups = 0; goes_to = None; action = Some (97 ∷ []); line = None }
 
--- The layout of the automaton of `[a-cx-z] ("." [a-cx-z])* @t` for bytes. The two ranges of state 0 are one way; units behind the
--- small letters are tested first, and others in block 1. State 1 stands from block 3 on: a dot, on which it is kept, and the end in it.
+-- The layout of the automaton of `[a-cx-z] ("." [a-cx-z])* @t` for bytes. The two ranges of state 0 are one class; units behind the
+-- small letters are tested first, and others in block 1. State 1 stands from block 3 on: a dot, on which it is saved, and the end in it.
 -- Then come the fallback, what it does for rule 1, and the end of rule 1.
 abbrev pub dotted_blocks : List (List Stmt)
 dotted_blocks =
@@ -37,7 +37,7 @@ dotted_blocks =
     ∷ []
 
 -- An automaton of `[^] [a-z]*` with the rule 1. On any byte state 0 goes on, so it has no test. The end in state 1 is the rule's
--- block. No state is kept, since each state behind the first one accepts.
+-- block. No state is saved, since each state behind the first one accepts.
 abbrev pub any_then : Auto
 any_then = record {
   states = record {
@@ -69,19 +69,19 @@ pub record LayoutsStand : Type 0 where
   pub dotted : layout tagged 255 dotted 0 ≡ dotted_blocks
   pub any : layout untagged 255 any_then 0 ≡ any_blocks
 
--- units go the way 0 up to 10, the way 1 up to 20, and so on; behind the last of seven tests they go the way 7
+-- units are of class 0 up to 10, of class 1 up to 20, and so on; behind the last of seven tests they are of class 7
 abbrev pub seven : List Stretch
 seven =
-    record { greatest = 10; way = Some 0 } ∷ record { greatest = 20; way = Some 1 } ∷ record { greatest = 30; way = Some 2 }
-    ∷ record { greatest = 40; way = Some 3 } ∷ record { greatest = 50; way = Some 4 } ∷ record { greatest = 60; way = Some 5 }
-    ∷ record { greatest = 70; way = Some 6 } ∷ []
+    record { greatest = 10; class = Some 0 } ∷ record { greatest = 20; class = Some 1 } ∷ record { greatest = 30; class = Some 2 }
+    ∷ record { greatest = 40; class = Some 3 } ∷ record { greatest = 50; class = Some 4 } ∷ record { greatest = 60; class = Some 5 }
+    ∷ record { greatest = 70; class = Some 6 } ∷ []
 
--- letters, digits and `_` go the way 0, and others none
+-- letters, digits and `_` are of class 0, and others of none
 abbrev pub letters : List Stretch
 letters =
-    record { greatest = 47; way = None } ∷ record { greatest = 57; way = Some 0 } ∷ record { greatest = 64; way = None }
-    ∷ record { greatest = 90; way = Some 0 } ∷ record { greatest = 94; way = None } ∷ record { greatest = 95; way = Some 0 }
-    ∷ record { greatest = 96; way = None } ∷ record { greatest = 122; way = Some 0 } ∷ []
+    record { greatest = 47; class = None } ∷ record { greatest = 57; class = Some 0 } ∷ record { greatest = 64; class = None }
+    ∷ record { greatest = 90; class = Some 0 } ∷ record { greatest = 94; class = None } ∷ record { greatest = 95; class = Some 0 }
+    ∷ record { greatest = 96; class = None } ∷ record { greatest = 122; class = Some 0 } ∷ []
 
 -- Of the seven each unit needs five tests at most, and the block for those up to 30 comes behind the first one. A small letter needs
 -- three of the eight, and what stands before the letters at most three.

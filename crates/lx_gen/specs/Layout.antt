@@ -7,10 +7,10 @@ use Rattle.lx_auto.specs.declared.automaton.State.{State}
 use Rattle.lx_auto.specs.declared.ops.Op.{Op}
 use Rattle.lx_ccode.specs.declared.piece.Stmt.{Stmt}
 use Rattle.lx_ccode.specs.declared.piece.Stmt.TheVariants.{Goto, Peek}
-use Rattle.lx_gen.specs.Codes.{Choice, accept_code, choices_code, edge_code, is_kept, restore_code}
+use Rattle.lx_gen.specs.Codes.{Choice, accept_code, choices_code, edge_code, is_saved, restore_code}
 use Rattle.lx_gen.specs.Endings.{Ending, ending_code}
 use Rattle.lx_gen.specs.TestTrees.{TestTree, edge_tree, fork, inner_blocks, inner_size, leaf, test, tree_code}
-use Rattle.lx_gen.specs.Ways.{ways_of}
+use Rattle.lx_gen.specs.TransitionClasses.{transition_classes}
 
 -- ---- the rules by which states accept
 
@@ -37,23 +37,23 @@ firsts_onto choose found (state ∷ states) = firsts_onto choose (with_accept fo
 abbrev pub accepts_of : List State → List Accept
 accepts_of states = firsts_onto (λ state. state.accept) [] states
 
-abbrev pub kept_accept : (states : List State) → State → Option Accept
-kept_accept states state = if is_kept states state then state.accept else None
+abbrev pub saved_accept : (states : List State) → State → Option Accept
+saved_accept states state = if is_saved states state then state.accept else None
 
 -- the first accept of each rule to which a match may fall back
-abbrev pub kept_of : List State → List Accept
-kept_of states = firsts_onto (kept_accept states) [] states
+abbrev pub saved_of : List State → List Accept
+saved_of states = firsts_onto (saved_accept states) [] states
 
--- States that accept by one rule are kept by one number. The number 0 says that none was kept.
-abbrev pub kept_number : (kepts : List Accept) → Option Accept → ℕ
-kept_number kepts None = 0
-kept_number kepts (Some accept) = suc (rule_place kepts accept.rule)
+-- States that accept by one rule are saved by one number. The number 0 says that none was saved.
+abbrev pub saved_number : (saved_accepts : List Accept) → Option Accept → ℕ
+saved_number saved_accepts None = 0
+saved_number saved_accepts (Some accept) = suc (rule_place saved_accepts accept.rule)
 
 -- ---- how many blocks there are
 
 -- a state with tests has a block for them, and those for its lower tests
 abbrev pub front_size : {A : Type 0} → TestTree A → ℕ
-front_size (leaf way) = 0
+front_size (leaf class) = 0
 front_size tree = suc (inner_size tree)
 
 -- the end of a match by an accept has a block of its own, if something is to be done before the rule's block
@@ -71,11 +71,11 @@ lone_size zero accept = 1
 lone_size (suc number) accept = end_size accept
 
 module _ (greatest : ℕ) where
-  -- the others have blocks for their tests, one for each way out, and one for the end
+  -- the others have blocks for their tests, one for each transition class, and one for the end
   abbrev pub size_by : (number : ℕ) → List Edge → Option Accept → ℕ
   size_by number [] accept = lone_size number accept
   size_by number (edge ∷ edges) accept =
-      front_size (edge_tree greatest (edge ∷ edges)) + (length (ways_of (edge ∷ edges)) + end_size accept)
+      front_size (edge_tree greatest (edge ∷ edges)) + (length (transition_classes (edge ∷ edges)) + end_size accept)
 
   abbrev pub state_size : (number : ℕ) → State → ℕ
   state_size number state = size_by number state.edges state.accept
@@ -87,22 +87,22 @@ module _ (greatest : ℕ) where
 
 -- ---- the blocks
 
--- the block of a way, if the first way's is `first`; without a way the match ends
-abbrev pub way_block : (first end : ℕ) → Option ℕ → ℕ
-way_block first end None = end
-way_block first end (Some place) = first + place
+-- the block of a class, if the first one's is `first`; without a class the match ends
+abbrev pub class_block : (first end : ℕ) → Option ℕ → ℕ
+class_block first end None = end
+class_block first end (Some place) = first + place
 
--- the blocks of the ways that a tree picks
+-- the blocks of the classes that a tree picks
 abbrev pub numbered : (first end : ℕ) → TestTree (Option ℕ) → TestTree ℕ
-numbered first end (leaf way) = leaf (way_block first end way)
-numbered first end (test greatest way high) = test greatest (way_block first end way) (numbered first end high)
+numbered first end (leaf class) = leaf (class_block first end class)
+numbered first end (test greatest class high) = test greatest (class_block first end class) (numbered first end high)
 numbered first end (fork greatest low high) = fork greatest (numbered first end low) (numbered first end high)
 
 -- the block that reads the unit stands at `from`, and those for its lower tests come behind it
 abbrev pub tested_blocks : (from : ℕ) → TestTree ℕ → List (List Stmt)
 tested_blocks from tree = (Peek ∷ tree_code (suc from) tree) ∷ inner_blocks (suc from) tree
 
--- where all units go one way there are none
+-- where all units are of one class there are none
 abbrev pub front_blocks : (from : ℕ) → TestTree ℕ → List (List Stmt)
 front_blocks from (leaf block) = []
 front_blocks from tree = tested_blocks from tree
@@ -151,10 +151,10 @@ module _ (greatest : ℕ) (auto : Auto) (rules : ℕ → ℕ) (fall : ℕ) where
   lone_blocks zero accept = lone_code accept ∷ []
   lone_blocks (suc number) accept = end_blocks accept
 
-  module _ (kepts : List Accept) (place : ℕ → ℕ) where
-    abbrev pub way_blocks : State → (ways : List Edge) → List (List Stmt)
-    way_blocks state [] = []
-    way_blocks state (way ∷ ways) = edge_code auto state (kept_number kepts state.accept) way (place way.to) ∷ way_blocks state ways
+  module _ (saved_accepts : List Accept) (place : ℕ → ℕ) where
+    abbrev pub class_blocks : State → (classes : List Edge) → List (List Stmt)
+    class_blocks state [] = []
+    class_blocks state (class ∷ classes) = edge_code auto state (saved_number saved_accepts state.accept) class (place class.to) ∷ class_blocks state classes
 
     -- the blocks of a state, of which the first one stands at `from`
     abbrev pub blocks_by : (number from : ℕ) → State → List Edge → List (List Stmt)
@@ -162,9 +162,9 @@ module _ (greatest : ℕ) (auto : Auto) (rules : ℕ → ℕ) (fall : ℕ) where
     blocks_by number from state (edge ∷ edges) =
         front_blocks from (numbered
         (from + front_size (edge_tree greatest (edge ∷ edges)))
-        (end_block (from + front_size (edge_tree greatest (edge ∷ edges)) + length (ways_of (edge ∷ edges))) state.accept)
+        (end_block (from + front_size (edge_tree greatest (edge ∷ edges)) + length (transition_classes (edge ∷ edges))) state.accept)
         (edge_tree greatest (edge ∷ edges)))
-        ++ (way_blocks state (ways_of (edge ∷ edges)) ++ end_blocks state.accept)
+        ++ (class_blocks state (transition_classes (edge ∷ edges)) ++ end_blocks state.accept)
 
     abbrev pub state_blocks : (number from : ℕ) → State → List (List Stmt)
     state_blocks number from state = blocks_by number from state state.edges
@@ -176,14 +176,14 @@ module _ (greatest : ℕ) (auto : Auto) (rules : ℕ → ℕ) (fall : ℕ) where
 
 -- ---- the fallback and the rules
 
--- what was kept by a number on is found again in the blocks from one on
-abbrev pub choices_from : (kept block : ℕ) → (kepts : List Accept) → List Choice
-choices_from kept block [] = []
-choices_from kept block (accept ∷ kepts) = record { kept = kept; block = block } ∷ choices_from (suc kept) (suc block) kepts
+-- what was saved by a number on is found again in the blocks from one on
+abbrev pub choices_from : (saved block : ℕ) → (saved_accepts : List Accept) → List Choice
+choices_from saved block [] = []
+choices_from saved block (accept ∷ saved_accepts) = record { saved = saved; block = block } ∷ choices_from (suc saved) (suc block) saved_accepts
 
-abbrev pub restore_blocks : (rules : ℕ → ℕ) → (kepts : List Accept) → List (List Stmt)
+abbrev pub restore_blocks : (rules : ℕ → ℕ) → (saved_accepts : List Accept) → List (List Stmt)
 restore_blocks rules [] = []
-restore_blocks rules (accept ∷ kepts) = restore_code (rules accept.rule) ∷ restore_blocks rules kepts
+restore_blocks rules (accept ∷ saved_accepts) = restore_code (rules accept.rule) ∷ restore_blocks rules saved_accepts
 
 -- the ends of the rules
 abbrev pub ending_blocks : (endings : ℕ → Ending) → (accepts : List Accept) → List (List Stmt)
@@ -198,7 +198,7 @@ module _ (greatest : ℕ) (auto : Auto) where
   fall_block from = end_of greatest 0 from auto.states
 
   abbrev pub rule_block : (from : ℕ) → (rule : ℕ) → ℕ
-  rule_block from rule = suc (fall_block from) + length (kept_of auto.states) + rule_place (accepts_of auto.states) rule
+  rule_block from rule = suc (fall_block from) + length (saved_of auto.states) + rule_place (accepts_of auto.states) rule
 
   -- where the code of each state stands
   abbrev pub place_of : (from : ℕ) → (number : ℕ) → ℕ
@@ -207,10 +207,10 @@ module _ (greatest : ℕ) (auto : Auto) where
 -- the blocks of the automaton, of which the first one stands at `from`
 abbrev pub layout : (endings : ℕ → Ending) → (greatest : ℕ) → Auto → (from : ℕ) → List (List Stmt)
 layout endings greatest auto from =
-    states_blocks greatest auto (rule_block greatest auto from) (fall_block greatest auto from) (kept_of auto.states)
+    states_blocks greatest auto (rule_block greatest auto from) (fall_block greatest auto from) (saved_of auto.states)
     (place_of greatest auto from) 0 from auto.states
-    ++ choices_code (choices_from 1 (suc (fall_block greatest auto from)) (kept_of auto.states))
-    ∷ (restore_blocks (rule_block greatest auto from) (kept_of auto.states) ++ ending_blocks endings (accepts_of auto.states))
+    ++ choices_code (choices_from 1 (suc (fall_block greatest auto from)) (saved_of auto.states))
+    ∷ (restore_blocks (rule_block greatest auto from) (saved_of auto.states) ++ ending_blocks endings (accepts_of auto.states))
 
 -- accepts of one rule hold the values of its tags in the same places
 abbrev pub AreAgreed : List State → Type 0

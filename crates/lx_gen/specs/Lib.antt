@@ -17,5 +17,5 @@ pub mod TestTrees
 pub mod Told
 pub mod Turns
 pub mod Views
-pub mod Ways
+pub mod TransitionClasses
 pub mod Written

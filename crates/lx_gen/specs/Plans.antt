@@ -1,4 +1,4 @@
--- What is known before blocks are made: the ways and the tests of each state, the rules by which states accept, and where blocks stand.
+-- What is known before blocks are made: the transition classes and the tests of each state, the rules by which states accept, and where blocks stand.
 use Rattle.std.specs.Prelude.{◌≡◌, ℕ, suc, ◌+◌, ◌*◌, ◌<◌, ◌≤◌, List, [], ◌∷◌, map, length, Option, Some, None, IsSome, nat_eq, option_map, slice_index_or, if◌then◌else◌}
 use Rattle.std.specs.List.{AllByRecursion}
 use Rattle.lx_auto.specs.Automaton.{IsAuto}
@@ -9,11 +9,11 @@ use Rattle.lx_ccode.specs.declared.piece.CodeBlock.{CodeBlock}
 use Rattle.lx_ccode.specs.declared.piece.Stmt.{Stmt}
 use Rattle.lx_regex.specs.declared.rules.Rule.{Rule}
 use Rattle.lx_gen.specs.Endings.{Ending}
-use Rattle.lx_gen.specs.Layout.{accepts_of, end_block, fall_block, kept_of, place_by, place_of, rule_block, state_blocks, state_size, states_blocks, way_blocks}
+use Rattle.lx_gen.specs.Layout.{accepts_of, end_block, fall_block, saved_of, place_by, place_of, rule_block, state_blocks, state_size, states_blocks, class_blocks}
 use Rattle.lx_gen.specs.Rules.{ending_of, no_ending}
 use Rattle.lx_gen.specs.TestTrees.{edge_tree}
-use Rattle.lx_gen.specs.Views.{seen_tree, seen_ways}
-use Rattle.lx_gen.specs.Ways.{ways_of}
+use Rattle.lx_gen.specs.Views.{seen_tree, seen_classes}
+use Rattle.lx_gen.specs.TransitionClasses.{transition_classes}
 use Rattle.lx_gen.specs.declared.accepts.First.{First}
 use Rattle.lx_gen.specs.declared.accepts.Firsts.{Firsts}
 use Rattle.lx_gen.specs.declared.ends.Ends.{Ends}
@@ -39,9 +39,9 @@ AreIndexed firsts = (rule : ℕ) → slice_index_or firsts.places.items rule Non
 abbrev pub unlabelled : List (List Stmt) → List CodeBlock
 unlabelled codes = map (λ code. record { cond = None; stmts = code }) codes
 
--- the ways and the tests are those of the state
+-- the transition classes and the tests are those of the state
 pub record IsPlanned (greatest : ℕ) (plan : Plan) : Type 0 where
-  pub ways : seen_ways plan.ways.items ≡ ways_of plan.state.now.edges
+  pub classes : seen_classes plan.classes.items ≡ transition_classes plan.state.now.edges
   pub tests : seen_tree plan.tests ≡ edge_tree greatest plan.state.now.edges
 
 abbrev pub ArePlanned : (greatest : ℕ) → List Plan → Type 0
@@ -63,11 +63,11 @@ pub record AreEnds (ends : Ends) : Type 0 where
   pub planned : ArePlanned ends.greatest ends.plans.items
   pub accepts : seen_accepts ends.accepts.list.items ≡ accepts_of ends.auto.now.states
   pub accept_places : AreIndexed ends.accepts
-  pub kepts : seen_accepts ends.kepts.list.items ≡ kept_of ends.auto.now.states
-  pub kept_places : AreIndexed ends.kepts
-  pub few_kepts : length ends.kepts.list.items < 4294967295
+  pub saved_accepts : seen_accepts ends.saved_accepts.list.items ≡ saved_of ends.auto.now.states
+  pub saved_places : AreIndexed ends.saved_accepts
+  pub few_saved_accepts : length ends.saved_accepts.list.items < 4294967295
   pub fall : ends.fall ≡ fall_block ends.greatest ends.auto.now 0
-  pub rules : ends.rules ≡ suc (fall_block ends.greatest ends.auto.now 0) + length (kept_of ends.auto.now.states)
+  pub rules : ends.rules ≡ suc (fall_block ends.greatest ends.auto.now 0) + length (saved_of ends.auto.now.states)
 
 -- where the code of a state stands, whose blocks begin at `own`
 abbrev pub place_at : Ends → (number own : ℕ) → State → ℕ
@@ -87,19 +87,19 @@ pub record ArePlaced (places : Places) : Type 0 where
 
 -- ---- the blocks, by where these stand
 
-abbrev pub blocks_of_ways : Ends → State → List Edge → List (List Stmt)
-blocks_of_ways ends state ways =
-    way_blocks ends.greatest ends.auto.now (rule_at ends) (fall_block ends.greatest ends.auto.now 0) (kept_of ends.auto.now.states)
-    (place_of ends.greatest ends.auto.now 0) state ways
+abbrev pub blocks_of_classes : Ends → State → List Edge → List (List Stmt)
+blocks_of_classes ends state classes =
+    class_blocks ends.greatest ends.auto.now (rule_at ends) (fall_block ends.greatest ends.auto.now 0) (saved_of ends.auto.now.states)
+    (place_of ends.greatest ends.auto.now 0) state classes
 
 abbrev pub blocks_of_state : Ends → (number from : ℕ) → State → List (List Stmt)
 blocks_of_state ends number from state =
-    state_blocks ends.greatest ends.auto.now (rule_at ends) (fall_block ends.greatest ends.auto.now 0) (kept_of ends.auto.now.states)
+    state_blocks ends.greatest ends.auto.now (rule_at ends) (fall_block ends.greatest ends.auto.now 0) (saved_of ends.auto.now.states)
     (place_of ends.greatest ends.auto.now 0) number from state
 
 abbrev pub blocks_of_states : Ends → (number from : ℕ) → List State → List (List Stmt)
 blocks_of_states ends number from states =
-    states_blocks ends.greatest ends.auto.now (rule_at ends) (fall_block ends.greatest ends.auto.now 0) (kept_of ends.auto.now.states)
+    states_blocks ends.greatest ends.auto.now (rule_at ends) (fall_block ends.greatest ends.auto.now 0) (saved_of ends.auto.now.states)
     (place_of ends.greatest ends.auto.now 0) number from states
 
 -- ---- the ends of rules

@@ -4,18 +4,18 @@ use Rattle.std.specs.Option.{option_or}
 use Rattle.lx_auto.specs.declared.automaton.Edge.{Edge}
 use Rattle.lx_ccode.specs.declared.piece.Stmt.{Stmt}
 use Rattle.lx_ccode.specs.declared.piece.Stmt.TheVariants.{Goto, IfUnit}
-use Rattle.lx_gen.specs.Ways.{Split, Stretch, edge_split}
+use Rattle.lx_gen.specs.TransitionClasses.{Split, Stretch, edge_split}
 
--- How units go: all of them one way, or those up to a greatest one by a way or by a tree of lower tests, and others by another tree.
+-- How units go: all of them by one class, or those up to a greatest one by a class or by a tree of lower tests, and others by another tree.
 pub data TestTree (A : Type 0) : Type 0 where
-  leaf : (way : A) → TestTree A
-  test : (greatest : ℕ) → (way : A) → (high : TestTree A) → TestTree A
+  leaf : (class : A) → TestTree A
+  test : (greatest : ℕ) → (class : A) → (high : TestTree A) → TestTree A
   fork : (greatest : ℕ) → (low high : TestTree A) → TestTree A
 
 -- how a unit goes
 abbrev pub picked : {A : Type 0} → TestTree A → (unit : ℕ) → A
-picked (leaf way) unit = way
-picked (test greatest way high) unit = if nat_le unit greatest then way else picked high unit
+picked (leaf class) unit = class
+picked (test greatest class high) unit = if nat_le unit greatest then class else picked high unit
 picked (fork greatest low high) unit = if nat_le unit greatest then picked low unit else picked high unit
 
 -- ---- few tests for each unit
@@ -23,15 +23,15 @@ picked (fork greatest low high) unit = if nat_le unit greatest then picked low u
 -- the test of a stretch comes before those of the lower and the higher ones, which are built by themselves
 abbrev pub halved : (build : List Stretch → Option ℕ → TestTree (Option ℕ)) → (low high : List Stretch) → (last : Option ℕ) → TestTree (Option ℕ)
 halved build low [] last = leaf last
-halved build [] (middle ∷ high) last = test middle.greatest middle.way (build high last)
-halved build (stretch ∷ low) (middle ∷ high) last = fork middle.greatest (build (stretch ∷ low) middle.way) (build high last)
+halved build [] (middle ∷ high) last = test middle.greatest middle.class (build high last)
+halved build (stretch ∷ low) (middle ∷ high) last = fork middle.greatest (build (stretch ∷ low) middle.class) (build high last)
 
 -- the place of the stretch that ends with a unit
 abbrev pub end_place : List Stretch → (unit : ℕ) → Option ℕ
 end_place stretches unit = position (λ (stretch : Stretch). nat_eq stretch.greatest unit) stretches
 
 -- Where a test parts the groups of ASCII of which texts are made: behind the space, before the letters, behind the small ones, and before
--- these. In a text the units of one group go much the same way.
+-- these. In a text the units of one group are mostly of one class.
 abbrev pub group_place : List Stretch → Option ℕ
 group_place stretches =
     option_or (option_or (option_or (end_place stretches 32) (end_place stretches 64)) (end_place stretches 122)) (end_place stretches 96)
@@ -49,7 +49,7 @@ first_place stretches =
 abbrev pub balanced_in : (count : ℕ) → List Stretch → (last : Option ℕ) → TestTree (Option ℕ)
 balanced_in zero stretches last = leaf last
 balanced_in (suc count) stretches last =
-    halved (λ part way. balanced_in count part way) (take (first_place stretches) stretches) (drop (first_place stretches) stretches) last
+    halved (λ part class. balanced_in count part class) (take (first_place stretches) stretches) (drop (first_place stretches) stretches) last
 
 abbrev pub balanced : List Stretch → (last : Option ℕ) → TestTree (Option ℕ)
 balanced stretches last = balanced_in (length stretches) stretches last
@@ -65,8 +65,8 @@ edge_tree greatest edges = split_tree (edge_split greatest edges)
 
 -- how many blocks a tree needs for its lower tests
 abbrev pub inner_size : {A : Type 0} → TestTree A → ℕ
-inner_size (leaf way) = 0
-inner_size (test greatest way high) = inner_size high
+inner_size (leaf class) = 0
+inner_size (test greatest class high) = inner_size high
 inner_size (fork greatest low high) = suc (inner_size low) + inner_size high
 
 -- the code of a tree of blocks, if those for its lower tests begin at `next`

@@ -1,8 +1,8 @@
 //! The rules by which states accept, and by which a match can fall back to a state.
 ghost use Rattle.std.specs.Prelude.{◌≡◌, ℕ, ◌<◌, ◌∷◌, [], ◌++◌, None, IfOk, OnOk, length, slice_index_or};
 ghost use Rattle.lx_auto.specs.Automaton.{IsAuto, LeadWithin};
-ghost use Rattle.lx_gen.specs.Codes.{is_kept, keeps_on};
-ghost use Rattle.lx_gen.specs.Layout.{accepts_of, kept_accept, kept_of, rule_place, with_accept};
+ghost use Rattle.lx_gen.specs.Codes.{is_saved, saves_on};
+ghost use Rattle.lx_gen.specs.Layout.{accepts_of, saved_accept, saved_of, rule_place, with_accept};
 ghost use Rattle.lx_gen.specs.Plans.{AreIndexed, rule_index, seen_accepts};
 
 use lx_auto::{Accept, Auto, Edge, State};
@@ -109,21 +109,21 @@ pub(crate) fn accepts_of<'a>(alloc: Global, states: &'a [State]) -> Result<First
     Ok(found)
 }
 
-/// Whether a state is kept on an edge. A match can fall back to it only behind an edge to a state that does not accept.
-pub(crate) fn keeps_on(states: &[State], state: &State, edge: &Edge) -> bool
+/// Whether a state is saved on an edge. A match can fall back to it only behind an edge to a state that does not accept.
+pub(crate) fn saves_on(states: &[State], state: &State, edge: &Edge) -> bool
     requires { edge.now.to < length states.now }
-    ensures { result ≡ keeps_on states.now state.now edge.now }
+    ensures { result ≡ saves_on states.now state.now edge.now }
 {
     state.accept.is_some() && states[edge.to as usize].accept.is_none()
 }
 
-/// Whether a state is kept on some edge.
-fn is_kept(auto: &Auto, state: &State) -> bool
+/// Whether a state is saved on some edge.
+fn is_saved(auto: &Auto, state: &State) -> bool
     requires { LeadWithin auto.now.regs auto.now.mregs (length auto.now.states) state.now.edges }
-    ensures { result ≡ is_kept auto.now.states state.now }
+    ensures { result ≡ is_saved auto.now.states state.now }
 {
     for edge in state.edges.as_slice() {
-        if keeps_on(auto.states.as_slice(), state, edge) {
+        if saves_on(auto.states.as_slice(), state, edge) {
             return true;
         }
     }
@@ -131,28 +131,28 @@ fn is_kept(auto: &Auto, state: &State) -> bool
 }
 
 /// Appends the accept of a state, if a match can fall back to the state and none of them is by the same rule.
-fn add_kept<'a>(found: &mut Firsts<'a>, auto: &Auto, state: &'a State) -> Result<(), Memory>
+fn add_saved<'a>(found: &mut Firsts<'a>, auto: &Auto, state: &'a State) -> Result<(), Memory>
     requires lead { LeadWithin auto.now.regs auto.now.mregs (length auto.now.states) state.now.edges }
     requires indexed { AreIndexed found.old }
     ensures added { OnOk result (seen_accepts found.new.list.items
-        ≡ with_accept (seen_accepts found.old.list.items) (kept_accept auto.now.states state.now)) }
+        ≡ with_accept (seen_accepts found.old.list.items) (saved_accept auto.now.states state.now)) }
     ensures indexed { OnOk result (AreIndexed found.new) }
 {
-    if is_kept(auto, state) {
+    if is_saved(auto, state) {
         return found.add(&state.accept);
     }
     Ok(())
 }
 
 /// The first accept by each rule to which a match may fall back, in the order in which they are found.
-pub(crate) fn kept_of<'a>(alloc: Global, auto: &'a Auto) -> Result<Firsts<'a>, Memory>
+pub(crate) fn saved_of<'a>(alloc: Global, auto: &'a Auto) -> Result<Firsts<'a>, Memory>
     requires { IsAuto auto.now }
-    ensures kepts { IfOk result (λ found. seen_accepts found.list.items ≡ kept_of auto.now.states) }
+    ensures saved_accepts { IfOk result (λ found. seen_accepts found.list.items ≡ saved_of auto.now.states) }
     ensures indexed { IfOk result AreIndexed }
 {
     let mut found = Firsts::new(alloc);
     for state in auto.states.as_slice() {
-        add_kept(&mut found, auto, state)?;
+        add_saved(&mut found, auto, state)?;
     }
     Ok(found)
 }

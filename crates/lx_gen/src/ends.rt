@@ -2,10 +2,10 @@
 ghost use Rattle.std.specs.Prelude.{◌≡◌, IfOk};
 ghost use Rattle.lx_auto.specs.Automaton.{AreOps, IsAuto};
 ghost use Rattle.lx_gen.specs.Codes.{accept_code};
-ghost use Rattle.lx_gen.specs.Layout.{kept_number, kept_of};
+ghost use Rattle.lx_gen.specs.Layout.{saved_number, saved_of};
 ghost use Rattle.lx_gen.specs.Plans.{AreEnds, end_at, rule_at};
 
-use crate::accepts::{Firsts, accepts_of, kept_of};
+use crate::accepts::{Firsts, accepts_of, saved_of};
 use crate::blocks::sum;
 use crate::plans::{Plan, end_of, plans_of};
 use crate::statements::append_list;
@@ -19,12 +19,12 @@ use std::alloc::Global;
 pub(crate) struct Ends<'a> {
     pub auto: &'a Auto,
     pub greatest: u32,
-    /// The ways and the tests of all states.
+    /// The transition classes and the tests of all states.
     pub plans: Vec<Plan<'a>>,
     /// The first accept by each rule.
     pub accepts: Firsts<'a>,
     /// The first accept by each rule to which a match may fall back.
-    pub kepts: Firsts<'a>,
+    pub saved_accepts: Firsts<'a>,
     /// The block of the fallback.
     pub fall: u64,
     /// The block of the end of the first accept's rule.
@@ -40,15 +40,15 @@ pub(crate) fn ends_of<'a>(alloc: Global, greatest: u32, auto: &'a Auto) -> Resul
 {
     let plans = plans_of(alloc, greatest, auto.states.as_slice())?;
     let accepts = accepts_of(alloc, auto.states.as_slice())?;
-    let kepts = kept_of(alloc, auto)?;
+    let saved_accepts = saved_of(alloc, auto)?;
     let fall = end_of(plans.as_slice())?;
-    let rules = sum(sum(fall, 1)?, kepts.list.len() as u64)?;
+    let rules = sum(sum(fall, 1)?, saved_accepts.list.len() as u64)?;
     Ok(Ends {
         auto,
         greatest,
         plans,
         accepts,
-        kepts,
+        saved_accepts,
         fall,
         rules,
     })
@@ -75,14 +75,14 @@ impl Ends<'_> {
         }
     }
 
-    /// The number by which a state is kept that accepts.
-    pub fn kept_number(&self, accept: &Option<Accept>) -> u32
+    /// The number by which an accepting state is saved.
+    pub fn saved_number(&self, accept: &Option<Accept>) -> u32
         requires { AreEnds self.now }
-        ensures { result ≡ kept_number (kept_of self.now.auto.now.states) accept.now }
+        ensures { result ≡ saved_number (saved_of self.now.auto.now.states) accept.now }
     {
         match accept {
             None => 0,
-            Some(accept) => self.kepts.rule_place(accept.rule) as u32 + 1,
+            Some(accept) => self.saved_accepts.rule_place(accept.rule) as u32 + 1,
         }
     }
 

@@ -1,6 +1,6 @@
 //! The blocks of the tests of a state.
 ghost use Rattle.std.specs.Prelude.{◌≡◌, ◌++◌, IfOk, OnOk};
-ghost use Rattle.lx_gen.specs.Layout.{front_blocks, numbered, tested_blocks, way_block};
+ghost use Rattle.lx_gen.specs.Layout.{front_blocks, numbered, tested_blocks, class_block};
 ghost use Rattle.lx_gen.specs.Plans.{unlabelled};
 ghost use Rattle.lx_gen.specs.TestTrees.{inner_blocks, tree_code};
 ghost use Rattle.lx_gen.specs.Views.{seen_tree};
@@ -14,17 +14,17 @@ use std::alloc::Global;
 /// Where the tests of a state lead.
 #[derive(Clone, Copy)]
 pub(crate) struct Exits {
-    /// The block of the first way. Those of the others follow it.
+    /// The block of the first transition class. Those of the others follow it.
     pub first: u64,
     /// The block where the match ends.
     pub end: u64,
 }
 
-/// The block of the way at a place. Without a way the match ends.
-fn way_block(exits: Exits, way: Option<usize>) -> Result<u64, Memory>
-    ensures { IfOk result (λ block. block ≡ way_block exits.first exits.end way) }
+/// The block of the class at a place. Without a class the match ends.
+fn class_block(exits: Exits, class: Option<usize>) -> Result<u64, Memory>
+    ensures { IfOk result (λ block. block ≡ class_block exits.first exits.end class) }
 {
-    match way {
+    match class {
         None => Ok(exits.end),
         Some(place) => sum(exits.first, place as u64),
     }
@@ -41,16 +41,16 @@ fn append_tests(
         ≡ stmts.old.items ++ tree_code next (numbered exits.first exits.end (seen_tree tree.now))) }
 {
     match tree {
-        TestTree::Leaf(way) => {
-            stmts.push(Stmt::Goto(way_block(exits, *way)?))?;
+        TestTree::Leaf(class) => {
+            stmts.push(Stmt::Goto(class_block(exits, *class)?))?;
             Ok(())
         }
         TestTree::Test {
             greatest,
-            way,
+            class,
             high,
         } => {
-            stmts.push(Stmt::IfUnit(*greatest, way_block(exits, *way)?))?;
+            stmts.push(Stmt::IfUnit(*greatest, class_block(exits, *class)?))?;
             append_tests(stmts, exits, next, high)
         }
         TestTree::Fork {

@@ -48,9 +48,9 @@ pub fn layouts_are_right()
 
 /// So is a piece whose blocks serve the automaton in some other order, with blocks shared or tests in another form.
 pub fn served_pieces_are_right()
-    ensures { (policy : Policy) (enc : Enc) (patterns : List Pattern) (auto : Auto) (endings : ℕ → Ending) (piece : Piece) (place kept rules : ℕ → ℕ) (fall : ℕ)
+    ensures { (policy : Policy) (enc : Enc) (patterns : List Pattern) (auto : Auto) (endings : ℕ → Ending) (piece : Piece) (place saved rules : ℕ → ℕ) (fall : ℕ)
         (cond : List ℕ) → IsAutoUnder policy enc patterns auto → AreEndsOf enc patterns endings
-        → Serves endings (greatest_unit enc) auto (code_of piece.blocks) place kept rules fall
+        → Serves endings (greatest_unit enc) auto (code_of piece.blocks) place saved rules fall
         → list_any is_refill (all_statements piece.blocks) ≡ false → entry_block piece.conds cond ≡ Some (place 0)
         → IsRightUnder policy cond enc patterns endings piece }
 {}
@@ -58,8 +58,8 @@ pub fn served_pieces_are_right()
 /// The run of a piece whose blocks serve an automaton tells the automaton's match, whatever registers and histories hold before,
 /// if the automaton's run stops before the stream ends.
 pub fn runs_follow_the_automaton()
-    ensures { (piece : Piece) (stream : List ℕ) (start : ℕ) (endings : ℕ → Ending) (greatest : ℕ) (auto : Auto) (place kept rules : ℕ → ℕ) (fall : ℕ)
-        → Serves endings greatest auto (code_of piece.blocks) place kept rules fall → IsAuto auto
+    ensures { (piece : Piece) (stream : List ℕ) (start : ℕ) (endings : ℕ → Ending) (greatest : ℕ) (auto : Auto) (place saved rules : ℕ → ℕ) (fall : ℕ)
+        → Serves endings greatest auto (code_of piece.blocks) place saved rules fall → IsAuto auto
         → (cond : List ℕ) → entry_block piece.conds cond ≡ Some (place 0)
         → start ≤ length stream → AllByRecursion (λ unit. unit ≤ greatest) (drop start stream)
         → (registers : ℕ → Option ℕ) (histories : ℕ → List (Option ℕ))

@@ -17,7 +17,7 @@ mod scanner;
 mod state_blocks;
 mod statements;
 mod test_trees;
+mod transition_classes;
 mod unit_splits;
-mod ways;
 
 pub use scanner::generate;

@@ -1,37 +1,41 @@
-//! The ways and the tests of all states, and how many blocks these need.
+//! The transition classes and the tests of all states, and how many blocks these need.
 ghost use Rattle.std.specs.Prelude.{◌≡◌, ℕ, IfOk};
 ghost use Rattle.lx_gen.specs.Layout.{end_of, end_size, lone_size, state_size};
 ghost use Rattle.lx_gen.specs.Plans.{ArePlanned, IsPlanned, seen_states};
 
 use crate::blocks::sum;
 use crate::test_trees::{TestTree, front_size, split_tree};
+use crate::transition_classes::{TransitionClass, transition_classes};
 use crate::unit_splits::edge_split;
-use crate::ways::{Way, ways_of};
 use lx_auto::{Accept, State};
 use lx_base::Memory;
 use std::alloc::Global;
 
-/// The ways out of a state, and its tests.
+/// The transition classes of a state, and its tests.
 #[derive(Drop)]
 pub(crate) struct Plan<'a> {
     pub state: &'a State,
-    pub ways: Vec<Way<'a>>,
+    pub classes: Vec<TransitionClass<'a>>,
     pub tests: TestTree,
 }
 
-/// The ways and the tests of a state for units up to a greatest one.
+/// The transition classes and the tests of a state for units up to a greatest one.
 fn plan_of<'a>(alloc: Global, greatest: u32, state: &'a State) -> Result<Plan<'a>, Memory>
     ensures state { IfOk result (λ plan. plan.state.now ≡ state.now) }
     ensures planned { IfOk result (λ plan. IsPlanned greatest plan) }
 {
     let edges = state.edges.as_slice();
-    let ways = ways_of(alloc, edges)?;
-    let split = edge_split(alloc, greatest, ways.as_slice(), edges)?;
+    let classes = transition_classes(alloc, edges)?;
+    let split = edge_split(alloc, greatest, classes.as_slice(), edges)?;
     let tests = split_tree(alloc, &split)?;
-    Ok(Plan { state, ways, tests })
+    Ok(Plan {
+        state,
+        classes,
+        tests,
+    })
 }
 
-/// The ways and the tests of states for units up to a greatest one.
+/// The transition classes and the tests of states for units up to a greatest one.
 pub(crate) fn plans_of<'a>(
     alloc: Global,
     greatest: u32,
@@ -72,8 +76,8 @@ pub(crate) fn state_size(number: usize, plan: &Plan<'_>) -> Result<u64, Memory>
     if state.edges.as_slice().is_empty() {
         return Ok(lone_size(number, &state.accept));
     }
-    let ways = plan.ways.len() as u64;
-    sum(front_size(&plan.tests)?, ways + end_size(&state.accept))
+    let classes = plan.classes.len() as u64;
+    sum(front_size(&plan.tests)?, classes + end_size(&state.accept))
 }
 
 /// Where the blocks of states end, which begin with block 0.

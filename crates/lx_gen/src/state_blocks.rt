@@ -1,12 +1,12 @@
 //! The blocks of states.
 ghost use Rattle.std.specs.Prelude.{◌≡◌, ℕ, ◌<◌, ◌≤◌, [], ◌++◌, IfOk, OnOk, length};
 ghost use Rattle.lx_auto.specs.Automaton.{AreOps, IsAccept, IsState, LeadWithin};
-ghost use Rattle.lx_gen.specs.Codes.{edge_code, keep_code};
+ghost use Rattle.lx_gen.specs.Codes.{edge_code, save_code};
 ghost use Rattle.lx_gen.specs.Layout.{end_blocks, fall_block, lone_blocks, lone_code};
-ghost use Rattle.lx_gen.specs.Plans.{AreEnds, ArePlaced, IsPlanned, blocks_of_state, blocks_of_states, blocks_of_ways, rule_at, unlabelled};
-ghost use Rattle.lx_gen.specs.Views.{seen_ways};
+ghost use Rattle.lx_gen.specs.Plans.{AreEnds, ArePlaced, IsPlanned, blocks_of_state, blocks_of_states, blocks_of_classes, rule_at, unlabelled};
+ghost use Rattle.lx_gen.specs.Views.{seen_classes};
 
-use crate::accepts::keeps_on;
+use crate::accepts::saves_on;
 use crate::blocks::{append_block, sum};
 use crate::ends::Ends;
 use crate::fronts::{Exits, append_front};
@@ -14,19 +14,19 @@ use crate::places::Places;
 use crate::plans::{Plan, state_size};
 use crate::statements::append_list;
 use crate::test_trees::front_size;
-use crate::ways::Way;
+use crate::transition_classes::TransitionClass;
 use lx_auto::{Accept, Auto, Edge, State};
 use lx_base::Memory;
 use lx_ccode::{CodeBlock, Stmt};
 use std::alloc::Global;
 
 /// Appends the statements that save an accepting state and the cursor, if they are to be saved.
-fn append_keep(stmts: &mut Vec<Stmt>, keeps: bool, kept: u32) -> Result<(), Memory>
-    ensures { OnOk result (stmts.new.items ≡ stmts.old.items ++ keep_code keeps kept []) }
+fn append_save(stmts: &mut Vec<Stmt>, saves: bool, saved: u32) -> Result<(), Memory>
+    ensures { OnOk result (stmts.new.items ≡ stmts.old.items ++ save_code saves saved []) }
 {
-    if keeps {
+    if saves {
         stmts.push(Stmt::Backup)?;
-        stmts.push(Stmt::Accept(kept))?;
+        stmts.push(Stmt::Accept(saved))?;
     }
     Ok(())
 }
@@ -36,7 +36,7 @@ fn edge_code(
     alloc: Global,
     auto: &Auto,
     state: &State,
-    kept: u32,
+    saved: u32,
     edge: &Edge,
     block: u64,
 ) -> Result<Vec<Stmt>, Memory>
@@ -44,11 +44,11 @@ fn edge_code(
     requires to { edge.now.to < length auto.now.states }
     requires leave { AreOps auto.now.regs auto.now.mregs state.now.leave }
     requires ops { AreOps auto.now.regs auto.now.mregs edge.now.ops }
-    ensures { IfOk result (λ stmts. stmts.items ≡ edge_code auto.now state.now kept edge.now block) }
+    ensures { IfOk result (λ stmts. stmts.items ≡ edge_code auto.now state.now saved edge.now block) }
 {
     let mut stmts = Vec::new(alloc);
-    let keeps = keeps_on(auto.states.as_slice(), state, edge);
-    append_keep(&mut stmts, keeps, kept)?;
+    let saves = saves_on(auto.states.as_slice(), state, edge);
+    append_save(&mut stmts, saves, saved)?;
     append_list(alloc, &mut stmts, auto, state.leave.as_slice())?;
     append_list(alloc, &mut stmts, auto, edge.ops.as_slice())?;
     stmts.push(Stmt::Skip)?;
@@ -56,27 +56,27 @@ fn edge_code(
     Ok(stmts)
 }
 
-/// Appends the blocks of the ways out of a state.
-fn append_ways(
+/// Appends the blocks of the transition classes of a state.
+fn append_classes(
     alloc: Global,
     blocks: &mut Vec<CodeBlock>,
     places: &Places<'_>,
     state: &State,
-    ways: &[Way<'_>],
+    classes: &[TransitionClass<'_>],
 ) -> Result<(), Memory>
     requires placed { ArePlaced places.now }
     requires leave { AreOps places.now.ends.auto.now.regs places.now.ends.auto.now.mregs state.now.leave }
-    requires lead { LeadWithin places.now.ends.auto.now.regs places.now.ends.auto.now.mregs (length places.now.ends.auto.now.states) (seen_ways ways.now) }
+    requires lead { LeadWithin places.now.ends.auto.now.regs places.now.ends.auto.now.mregs (length places.now.ends.auto.now.states) (seen_classes classes.now) }
     ensures { OnOk result (blocks.new.items
-        ≡ blocks.old.items ++ unlabelled (blocks_of_ways places.now.ends state.now (seen_ways ways.now))) }
+        ≡ blocks.old.items ++ unlabelled (blocks_of_classes places.now.ends state.now (seen_classes classes.now))) }
 {
     let auto = places.ends.auto;
-    let kept = places.ends.kept_number(&state.accept);
-    for way in ways {
-        let block = places.states[way.edge.to as usize];
+    let saved = places.ends.saved_number(&state.accept);
+    for class in classes {
+        let block = places.states[class.edge.to as usize];
         append_block(
             blocks,
-            edge_code(alloc, auto, state, kept, way.edge, block)?,
+            edge_code(alloc, auto, state, saved, class.edge, block)?,
         )?;
     }
     Ok(())
@@ -154,10 +154,10 @@ fn append_branches(
 {
     let state = plan.state;
     let first = sum(from, front_size(&plan.tests)?)?;
-    let own = sum(first, plan.ways.len() as u64)?;
+    let own = sum(first, plan.classes.len() as u64)?;
     let end = places.ends.end_block(own, &state.accept)?;
     append_front(alloc, blocks, Exits { first, end }, from, &plan.tests)?;
-    append_ways(alloc, blocks, places, state, plan.ways.as_slice())?;
+    append_classes(alloc, blocks, places, state, plan.classes.as_slice())?;
     append_end(alloc, blocks, &places.ends, &state.accept)
 }
 

@@ -10,15 +10,15 @@ use crate::unit_splits::{Split, Stretch};
 use lx_base::Memory;
 use std::alloc::Global;
 
-/// How units go: by the way at a place, or by none.
+/// How units go: by the class at a place, or by none.
 #[derive(Drop)]
 pub(crate) enum TestTree {
-    /// All of them one way.
+    /// All of them by one class.
     Leaf(Option<usize>),
-    /// Those up to a greatest one one way, and others by a tree.
+    /// Those up to a greatest one by one class, and others by a tree.
     Test {
         greatest: u32,
-        way: Option<usize>,
+        class: Option<usize>,
         high: Box<TestTree>,
     },
     /// Those up to a greatest one by a tree, and others by another one.
@@ -37,7 +37,7 @@ fn end_place(tests: &[Stretch], unit: u32) -> Option<usize>
 }
 
 /// The place of the first test that parts two groups of ASCII: behind the space, before the letters, behind the small letters, or
-/// before these. Texts are made of few groups, whose units go much the same way, so that such a test spares others.
+/// before these. Texts are made of few groups, whose units are mostly of one class, so that such a test spares others.
 fn group_place(tests: &[Stretch]) -> Option<usize>
     ensures { result ≡ group_place (seen_stretches tests.now) }
 {
@@ -65,16 +65,16 @@ fn balanced(alloc: Global, tests: &[Stretch], last: Option<usize>) -> Result<Tes
         return Ok(TestTree::Leaf(last));
     }
     let place = first_place(tests);
-    let Stretch { greatest, way } = tests[place];
+    let Stretch { greatest, class } = tests[place];
     let high = Box::new(alloc, balanced(alloc, &tests[place + 1..], last)?)?;
     if place == 0 {
         return Ok(TestTree::Test {
             greatest,
-            way,
+            class,
             high,
         });
     }
-    let low = Box::new(alloc, balanced(alloc, &tests[..place], way)?)?;
+    let low = Box::new(alloc, balanced(alloc, &tests[..place], class)?)?;
     Ok(TestTree::Fork {
         greatest,
         low,

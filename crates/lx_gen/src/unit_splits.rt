@@ -1,31 +1,35 @@
-//! The tests of a unit that choose a way out of a state.
+//! The tests of a unit that choose its transition class.
 ghost use Rattle.std.specs.Prelude.{◌≡◌, IfOk, None, drop};
-ghost use Rattle.lx_gen.specs.Views.{seen_split, seen_stretches, seen_ways};
-ghost use Rattle.lx_gen.specs.Ways.{edge_split, first_way, same_place, split_of, stretches, ways_of};
+ghost use Rattle.lx_gen.specs.Views.{seen_split, seen_stretches, seen_classes};
+ghost use Rattle.lx_gen.specs.TransitionClasses.{edge_split, first_class, same_place, split_of, stretches, transition_classes};
 
-use crate::ways::{Way, way_place};
+use crate::transition_classes::{TransitionClass, class_place};
 use lx_auto::Edge;
 use lx_base::Memory;
 use std::alloc::Global;
 
-/// Units up to a greatest one, behind those of the stretch before, go one way: by the way at a place, counted from 0, or by
+/// Units up to a greatest one, behind those of the stretch before, are of one class: the one at a place, counted from 0, or of
 /// none.
 #[derive(Clone, Copy)]
 pub(crate) struct Stretch {
     pub greatest: u32,
-    pub way: Option<usize>,
+    pub class: Option<usize>,
 }
 
-/// What is tested, and the place of the way of units behind the last test.
+/// What is tested, and the place of the class of units behind the last test.
 #[derive(Drop)]
 pub(crate) struct Split {
     pub tests: Vec<Stretch>,
     pub last: Option<usize>,
 }
 
-/// The stretches of units from 0 on, for edges whose ways are known.
-fn stretches(alloc: Global, ways: &[Way<'_>], edges: &[Edge]) -> Result<Vec<Stretch>, Memory>
-    ensures { IfOk result (λ found. seen_stretches found.items ≡ stretches (seen_ways ways.now) 0 edges.now) }
+/// The stretches of units from 0 on, for edges whose classes are known.
+fn stretches(
+    alloc: Global,
+    classes: &[TransitionClass<'_>],
+    edges: &[Edge],
+) -> Result<Vec<Stretch>, Memory>
+    ensures { IfOk result (λ found. seen_stretches found.items ≡ stretches (seen_classes classes.now) 0 edges.now) }
 {
     let mut found = Vec::new(alloc);
     let mut low = 0;
@@ -34,18 +38,18 @@ fn stretches(alloc: Global, ways: &[Way<'_>], edges: &[Edge]) -> Result<Vec<Stre
             let greatest = edge.lo - 1;
             found.push(Stretch {
                 greatest,
-                way: None,
+                class: None,
             })?;
         }
         let greatest = edge.hi;
-        let way = Some(way_place(ways, edge));
-        found.push(Stretch { greatest, way })?;
+        let class = Some(class_place(classes, edge));
+        found.push(Stretch { greatest, class })?;
         low = u64::from(edge.hi) + 1;
     }
     Ok(found)
 }
 
-/// Whether units go the same way.
+/// Whether units are of one class.
 fn same_place(place: Option<usize>, other: Option<usize>) -> bool
     ensures { result ≡ same_place place other }
 {
@@ -56,43 +60,43 @@ fn same_place(place: Option<usize>, other: Option<usize>) -> bool
     }
 }
 
-/// The way of the stretch at an index; behind the last one there is none.
-fn way_at(stretches: &[Stretch], index: usize) -> Option<usize>
-    ensures { result ≡ first_way (seen_stretches (drop index stretches.now)) None }
+/// The class of the stretch at an index; behind the last one there is none.
+fn class_at(stretches: &[Stretch], index: usize) -> Option<usize>
+    ensures { result ≡ first_class (seen_stretches (drop index stretches.now)) None }
 {
     match stretches.get(index) {
-        Some(stretch) => stretch.way,
+        Some(stretch) => stretch.class,
         None => None,
     }
 }
 
-/// The tests for units up to a greatest one. A stretch is not tested apart where the next one goes the same way.
+/// The tests for units up to a greatest one. A stretch is not tested apart where the next one is of the same class.
 fn split_of(alloc: Global, greatest: u32, stretches: &[Stretch]) -> Result<Split, Memory>
     ensures { IfOk result (λ split. seen_split split ≡ split_of greatest (seen_stretches stretches.now)) }
 {
     let mut tests = Vec::new(alloc);
     for (index, stretch) in stretches.iter().enumerate() {
         if greatest <= stretch.greatest {
-            let last = stretch.way;
+            let last = stretch.class;
             return Ok(Split { tests, last });
         }
-        if !same_place(stretch.way, way_at(stretches, index + 1)) {
+        if !same_place(stretch.class, class_at(stretches, index + 1)) {
             tests.push(*stretch)?;
         }
     }
     Ok(Split { tests, last: None })
 }
 
-/// The tests of a state for units up to a greatest one, by its edges and their ways.
+/// The tests of a state for units up to a greatest one, by its edges and their classes.
 pub(crate) fn edge_split(
     alloc: Global,
     greatest: u32,
-    ways: &[Way<'_>],
+    classes: &[TransitionClass<'_>],
     edges: &[Edge],
 ) -> Result<Split, Memory>
-    requires { seen_ways ways.now ≡ ways_of edges.now }
+    requires { seen_classes classes.now ≡ transition_classes edges.now }
     ensures { IfOk result (λ split. seen_split split ≡ edge_split greatest edges.now) }
 {
-    let found = stretches(alloc, ways, edges)?;
+    let found = stretches(alloc, classes, edges)?;
     split_of(alloc, greatest, found.as_slice())
 }

@@ -2,6 +2,8 @@ mod bodies;
 mod classes;
 mod graphs;
 mod includes;
+mod messages;
+mod names;
 mod parsing;
 mod splitting;
 mod tokens;

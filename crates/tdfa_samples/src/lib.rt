@@ -1,5 +1,5 @@
-//! Tests over the public calls of `lx_tdfa`. They stand here and not in that crate, where to prove the tests is to
-//! prove the whole crate once more.
+//! Tests over the public calls of `lx_auto`, `lx_fill`, `lx_tnfa` and `lx_tdfa`. They stand here and not in these crates, where to prove
+//! the tests is to prove a whole crate once more.
 #![tactic(auto)]
 
 #[cfg(test)]

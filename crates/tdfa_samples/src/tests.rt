@@ -1,3 +1,5 @@
+mod automata;
+mod checks;
 mod closures;
 mod limits;
 mod machine;

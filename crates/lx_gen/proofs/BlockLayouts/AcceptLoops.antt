@@ -4,7 +4,7 @@ use Rattle.std.proofs.Common.{sym, ap, ◌∙◌, arith, eqb-true, eq-eqb, get_o
 use Rattle.std.specs.List.{AllByRecursion}
 use Rattle.lx_auto.specs.declared.automaton.Accept.{Accept}
 use Rattle.lx_auto.specs.declared.automaton.State.{State}
-use Rattle.lx_gen.specs.Layout.{firsts_onto, has_rule, kept_accept, kept_of, rule_place, with_accept}
+use Rattle.lx_gen.specs.Layout.{firsts_onto, has_rule, saved_accept, saved_of, rule_place, with_accept}
 use Rattle.lx_gen.specs.Plans.{rule_index}
 
 pub rule_place-le : (accepts : List Accept) (rule : ℕ) → rule_place accepts rule ≤ length accepts
@@ -50,9 +50,9 @@ pub with_accept-added : (found : List Accept) (accept : Accept) → is_some (rul
 with_accept-added found accept e =
     ap (λ t. if t then found else found ++ accept ∷ []) (sym (has_rule-index found accept.rule ∙ e))
 
-pub with_accept-kept : (found : List Accept) (accept : Accept) → is_some (rule_index found accept.rule) ≡ true
+pub with_accept-saved : (found : List Accept) (accept : Accept) → is_some (rule_index found accept.rule) ≡ true
     → found ≡ with_accept found (Some accept)
-with_accept-kept found accept e =
+with_accept-saved found accept e =
     ap (λ t. if t then found else found ++ accept ∷ []) (sym (has_rule-index found accept.rule ∙ e))
 
 rule_index-own : (found : List Accept) (accept : Accept) → rule_index found accept.rule ≡ None
@@ -109,8 +109,8 @@ firsts_onto-length choose found (state ∷ states) =
     firsts_onto-length choose (with_accept found (choose state)) states in
     omega (arith, here, more)
 
-pub kept_of-length : (states : List State) → length (kept_of states) ≤ length states
-kept_of-length states = let h = firsts_onto-length (kept_accept states) [] states in omega (arith, h)
+pub saved_of-length : (states : List State) → length (saved_of states) ≤ length states
+saved_of-length states = let h = firsts_onto-length (saved_accept states) [] states in omega (arith, h)
 
 -- ---- what holds of each accept
 

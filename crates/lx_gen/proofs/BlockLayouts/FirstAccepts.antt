@@ -4,8 +4,8 @@ use Rattle.std.proofs.Common.{sym, ap, ◌∙◌, arith, eq-eqb, true≢false, l
 use Rattle.std.specs.List.{AllByRecursion}
 use Rattle.lx_auto.specs.declared.automaton.Accept.{Accept}
 use Rattle.lx_auto.specs.declared.automaton.State.{State}
-use Rattle.lx_gen.specs.Codes.{is_kept}
-use Rattle.lx_gen.specs.Layout.{firsts_onto, has_rule, kept_accept, rule_place, with_accept}
+use Rattle.lx_gen.specs.Codes.{is_saved}
+use Rattle.lx_gen.specs.Layout.{firsts_onto, has_rule, saved_accept, rule_place, with_accept}
 use Rattle.lx_gen.proofs.Validity.EachElement.{each-append}
 
 -- ---- what holds of each
@@ -40,11 +40,11 @@ all-chosen P Q f (state ∷ states) h = (by state.accept h.0, all-chosen P Q f s
     by None is = tt
     by (Some accept) is = f accept is
 
--- what is chosen of states that are kept is what they accept
-pub kept-chosen : (P : Accept → Type 0) (all states : List State) → AllByRecursion (λ (state : State). Chosen P state.accept) states
-    → AllByRecursion (λ (state : State). Chosen P (kept_accept all state)) states
-kept-chosen P all [] h = tt
-kept-chosen P all (state ∷ states) h = (by (is_kept all state), kept-chosen P all states h.1)
+-- what is chosen of saved states is what they accept
+pub saved-chosen : (P : Accept → Type 0) (all states : List State) → AllByRecursion (λ (state : State). Chosen P state.accept) states
+    → AllByRecursion (λ (state : State). Chosen P (saved_accept all state)) states
+saved-chosen P all [] h = tt
+saved-chosen P all (state ∷ states) h = (by (is_saved all state), saved-chosen P all states h.1)
   where
     by : (t : Bool) → Chosen P (if t then state.accept else None)
     by true = h.0

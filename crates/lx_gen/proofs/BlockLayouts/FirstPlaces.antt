@@ -7,7 +7,7 @@ use Rattle.std.proofs.lemmas.List.{length-map}
 use Rattle.std.proofs.lemmas.List.Quantifiers.{position-Some}
 use Rattle.lx_gen.specs.TestTrees.{end_place, first_place, group_place, middle_place}
 use Rattle.lx_gen.specs.Views.{seen_stretch, seen_stretches}
-use Rattle.lx_gen.specs.Ways.{Stretch}
+use Rattle.lx_gen.specs.TransitionClasses.{Stretch}
 use Rattle.lx_gen.specs.declared.unit_splits.Stretch as held
 
 -- ---- a place among so many
@@ -26,7 +26,7 @@ chosen count (Some place) usual is lt = is place refl
 module _ (list : List Stretch) where
   end_place-in : (unit : ℕ) → IsPlace (length list) (end_place list unit)
   end_place-in unit place found =
-      (position-Some (λ (stretch : Stretch). nat_eq stretch.greatest unit) list place (record { greatest = 0; way = None }) found).0
+      (position-Some (λ (stretch : Stretch). nat_eq stretch.greatest unit) list place (record { greatest = 0; class = None }) found).0
 
   group_place-in : IsPlace (length list) (group_place list)
   group_place-in =

@@ -9,9 +9,9 @@ use Rattle.lx_auto.specs.declared.ops.Op.{Op}
 use Rattle.lx_ccode.specs.declared.piece.Stmt.{Stmt}
 use Rattle.lx_gen.specs.Codes.{Choice, choices_code}
 use Rattle.lx_gen.specs.Endings.{Ending}
-use Rattle.lx_gen.specs.Layout.{accepts_of, blocks_by, choices_from, end_block, end_blocks, end_of, end_size, ending_blocks, fall_block, front_blocks, front_size, kept_of, layout, lone_blocks, lone_size, numbered, own_blocks, own_size, place_of, restore_blocks, rule_block, size_by, state_blocks, state_size, states_blocks, way_blocks}
+use Rattle.lx_gen.specs.Layout.{accepts_of, blocks_by, choices_from, end_block, end_blocks, end_of, end_size, ending_blocks, fall_block, front_blocks, front_size, saved_of, layout, lone_blocks, lone_size, numbered, own_blocks, own_size, place_of, restore_blocks, rule_block, size_by, state_blocks, state_size, states_blocks, class_blocks}
 use Rattle.lx_gen.specs.TestTrees.{TestTree, edge_tree}
-use Rattle.lx_gen.specs.Ways.{ways_of}
+use Rattle.lx_gen.specs.TransitionClasses.{transition_classes}
 use Rattle.lx_gen.proofs.BlockLayouts.TreeCodes.{front_size-numbered, length-front_blocks}
 
 module _ (greatest : ℕ) (auto : Auto) (rules : ℕ → ℕ) (fall : ℕ) where
@@ -27,47 +27,47 @@ module _ (greatest : ℕ) (auto : Auto) (rules : ℕ → ℕ) (fall : ℕ) where
   length-lone_blocks zero o = refl
   length-lone_blocks (suc number) o = length-end_blocks o
 
-  module _ (kepts : List Accept) (place : ℕ → ℕ) where
-    pub length-way_blocks : (state : State) (ways : List Edge) → length (way_blocks greatest auto rules fall kepts place state ways) ≡ length ways
-    length-way_blocks state [] = refl
-    length-way_blocks state (way ∷ ways) = ap suc (length-way_blocks state ways)
+  module _ (saved_accepts : List Accept) (place : ℕ → ℕ) where
+    pub length-class_blocks : (state : State) (classes : List Edge) → length (class_blocks greatest auto rules fall saved_accepts place state classes) ≡ length classes
+    length-class_blocks state [] = refl
+    length-class_blocks state (class ∷ classes) = ap suc (length-class_blocks state classes)
 
     length-blocks_by : (number from : ℕ) (state : State) (edges : List Edge)
-        → length (blocks_by greatest auto rules fall kepts place number from state edges) ≡ size_by greatest number edges state.accept
+        → length (blocks_by greatest auto rules fall saved_accepts place number from state edges) ≡ size_by greatest number edges state.accept
     length-blocks_by number from state [] = length-lone_blocks number state.accept
     length-blocks_by number from state (edge ∷ edges) =
         let first : ℕ = from + front_size (edge_tree greatest (edge ∷ edges)) in
         let end : ℕ = end_block greatest auto rules fall
-        (from + front_size (edge_tree greatest (edge ∷ edges)) + length (ways_of (edge ∷ edges))) state.accept in
+        (from + front_size (edge_tree greatest (edge ∷ edges)) + length (transition_classes (edge ∷ edges))) state.accept in
         let tree : TestTree ℕ = numbered first end (edge_tree greatest (edge ∷ edges)) in
-        let ways : List (List Stmt) = way_blocks greatest auto rules fall kepts place state (ways_of (edge ∷ edges)) in
+        let classes : List (List Stmt) = class_blocks greatest auto rules fall saved_accepts place state (transition_classes (edge ∷ edges)) in
         let ends : List (List Stmt) = end_blocks greatest auto rules fall state.accept in
         let a = length-front_blocks from tree ∙ front_size-numbered first end (edge_tree greatest (edge ∷ edges)) in
-        let b = length-way_blocks state (ways_of (edge ∷ edges)) in
+        let b = length-class_blocks state (transition_classes (edge ∷ edges)) in
         let c = length-end_blocks state.accept in
-        let d = length-append ways ends in
-        let e = length-append (front_blocks from tree) (ways ++ ends) in
+        let d = length-append classes ends in
+        let e = length-append (front_blocks from tree) (classes ++ ends) in
         omega (arith, a, b, c, d, e)
 
     pub length-state_blocks : (number from : ℕ) (state : State)
-        → length (state_blocks greatest auto rules fall kepts place number from state) ≡ state_size greatest number state
+        → length (state_blocks greatest auto rules fall saved_accepts place number from state) ≡ state_size greatest number state
     length-state_blocks number from state = length-blocks_by number from state state.edges
 
     pub length-states_blocks : (number from : ℕ) (states : List State)
-        → from + length (states_blocks greatest auto rules fall kepts place number from states) ≡ end_of greatest number from states
+        → from + length (states_blocks greatest auto rules fall saved_accepts place number from states) ≡ end_of greatest number from states
     length-states_blocks number from [] = omega arith
     length-states_blocks number from (state ∷ states) =
-        let own : List (List Stmt) = state_blocks greatest auto rules fall kepts place number from state in
+        let own : List (List Stmt) = state_blocks greatest auto rules fall saved_accepts place number from state in
         let others : List (List Stmt) =
-        states_blocks greatest auto rules fall kepts place (suc number) (from + state_size greatest number state) states in
+        states_blocks greatest auto rules fall saved_accepts place (suc number) (from + state_size greatest number state) states in
         let a = length-append own others in
         let b = length-state_blocks number from state in
         let c = length-states_blocks (suc number) (from + state_size greatest number state) states in
         omega (arith, a, b, c)
 
-pub length-restore_blocks : (rules : ℕ → ℕ) (kepts : List Accept) → length (restore_blocks rules kepts) ≡ length kepts
+pub length-restore_blocks : (rules : ℕ → ℕ) (saved_accepts : List Accept) → length (restore_blocks rules saved_accepts) ≡ length saved_accepts
 length-restore_blocks rules [] = refl
-length-restore_blocks rules (accept ∷ kepts) = ap suc (length-restore_blocks rules kepts)
+length-restore_blocks rules (accept ∷ saved_accepts) = ap suc (length-restore_blocks rules saved_accepts)
 
 length-ending_blocks : (endings : ℕ → Ending) (accepts : List Accept) → length (ending_blocks endings accepts) ≡ length accepts
 length-ending_blocks endings [] = refl
@@ -76,19 +76,19 @@ length-ending_blocks endings (accept ∷ accepts) = ap suc (length-ending_blocks
 -- behind the last rule's block there is none
 pub length-layout : (endings : ℕ → Ending) (greatest : ℕ) (auto : Auto)
     → length (layout endings greatest auto 0)
-    ≡ suc (fall_block greatest auto 0) + length (kept_of auto.states) + length (accepts_of auto.states)
+    ≡ suc (fall_block greatest auto 0) + length (saved_of auto.states) + length (accepts_of auto.states)
 length-layout endings greatest auto =
     let rules : ℕ → ℕ = rule_block greatest auto 0 in
     let fall : ℕ = fall_block greatest auto 0 in
     let place : ℕ → ℕ = place_of greatest auto 0 in
     let states : List (List Stmt) =
-    states_blocks greatest auto (rule_block greatest auto 0) (fall_block greatest auto 0) (kept_of auto.states) (place_of greatest auto 0)
+    states_blocks greatest auto (rule_block greatest auto 0) (fall_block greatest auto 0) (saved_of auto.states) (place_of greatest auto 0)
     0 0 auto.states in
-    let choices : List Choice = choices_from 1 (suc (fall_block greatest auto 0)) (kept_of auto.states) in
-    let restores : List (List Stmt) = restore_blocks (rule_block greatest auto 0) (kept_of auto.states) in
+    let choices : List Choice = choices_from 1 (suc (fall_block greatest auto 0)) (saved_of auto.states) in
+    let restores : List (List Stmt) = restore_blocks (rule_block greatest auto 0) (saved_of auto.states) in
     let ends : List (List Stmt) = ending_blocks endings (accepts_of auto.states) in
-    let a = length-states_blocks greatest auto rules fall (kept_of auto.states) place 0 0 auto.states in
-    let b = length-restore_blocks rules (kept_of auto.states) in
+    let a = length-states_blocks greatest auto rules fall (saved_of auto.states) place 0 0 auto.states in
+    let b = length-restore_blocks rules (saved_of auto.states) in
     let c = length-ending_blocks endings (accepts_of auto.states) in
     let d = length-append restores ends in
     let e = length-append states (choices_code choices ∷ (restores ++ ends)) in

@@ -30,46 +30,46 @@ module _ (greatest : ℕ) (auto : Auto) (rules : ℕ → ℕ) (fall : ℕ) where
       place_in-begin (suc number) (from + state_size greatest number state) states n (omega arith)
       ∙ ap (λ k. place_by greatest auto rules fall k begin (state_of states n).edges (state_of states n).accept) e
 
-  module _ (kepts : List Accept) (place : ℕ → ℕ) (blocks : List (List Stmt)) where
+  module _ (saved_accepts : List Accept) (place : ℕ → ℕ) (blocks : List (List Stmt)) where
     -- behind the blocks of a state come those of the others
     others_stand : (number from : ℕ) (state : State) (others : List (List Stmt))
-        → StandsFrom blocks from (state_blocks greatest auto rules fall kepts place number from state ++ others)
+        → StandsFrom blocks from (state_blocks greatest auto rules fall saved_accepts place number from state ++ others)
         → StandsFrom blocks (from + state_size greatest number state) others
     others_stand number from state others h =
-        let own : List (List Stmt) = state_blocks greatest auto rules fall kepts place number from state in
-        let l = length-state_blocks greatest auto rules fall kepts place number from state in
+        let own : List (List Stmt) = state_blocks greatest auto rules fall saved_accepts place number from state in
+        let l = length-state_blocks greatest auto rules fall saved_accepts place number from state in
         let k : from + length own ≡ from + state_size greatest number state = omega (arith, l) in
         subst (λ n. StandsFrom blocks n others) k (StandsFrom-back blocks from own others h)
 
     pub states_stand : (number from : ℕ) (states : List State) (rest : List (List Stmt))
-        → StandsFrom blocks from (states_blocks greatest auto rules fall kepts place number from states ++ rest) → (s : ℕ) → s < length states
+        → StandsFrom blocks from (states_blocks greatest auto rules fall saved_accepts place number from states ++ rest) → (s : ℕ) → s < length states
         → StandsFrom blocks (begin_in greatest number from states s)
-        (state_blocks greatest auto rules fall kepts place (number + s) (begin_in greatest number from states s) (state_of states s))
+        (state_blocks greatest auto rules fall saved_accepts place (number + s) (begin_in greatest number from states s) (state_of states s))
     states_stand number from [] rest h s lt = absurd (omega arith)
     states_stand number from (state ∷ states) rest h zero lt =
         let e : number ≡ number + 0 = omega arith in
-        let own : List (List Stmt) = state_blocks greatest auto rules fall kepts place number from state in
-        let others : List (List Stmt) = states_blocks greatest auto rules fall kepts place (suc number)
+        let own : List (List Stmt) = state_blocks greatest auto rules fall saved_accepts place number from state in
+        let others : List (List Stmt) = states_blocks greatest auto rules fall saved_accepts place (suc number)
         (from + state_size greatest number state) states in
-        subst (λ n. StandsFrom blocks from (state_blocks greatest auto rules fall kepts place n from state)) e
+        subst (λ n. StandsFrom blocks from (state_blocks greatest auto rules fall saved_accepts place n from state)) e
         (StandsFrom-front blocks from own (others ++ rest) (subst (λ l. StandsFrom blocks from l) (append_assoc own others rest) h))
     states_stand number from (state ∷ states) rest h (suc s) lt =
-        let own : List (List Stmt) = state_blocks greatest auto rules fall kepts place number from state in
-        let others : List (List Stmt) = states_blocks greatest auto rules fall kepts place (suc number)
+        let own : List (List Stmt) = state_blocks greatest auto rules fall saved_accepts place number from state in
+        let others : List (List Stmt) = states_blocks greatest auto rules fall saved_accepts place (suc number)
         (from + state_size greatest number state) states in
         let e : suc number + s ≡ number + suc s = omega arith in
         let w : ℕ = begin_in greatest (suc number) (from + state_size greatest number state) states s in
-        subst (λ n. StandsFrom blocks w (state_blocks greatest auto rules fall kepts place n w (state_of states s))) e
+        subst (λ n. StandsFrom blocks w (state_blocks greatest auto rules fall saved_accepts place n w (state_of states s))) e
         (states_stand (suc number) (from + state_size greatest number state) states rest
         (others_stand number from state (others ++ rest) (subst (λ l. StandsFrom blocks from l) (append_assoc own others rest) h)) s (omega arith))
 
     pub rest_stands : (number from : ℕ) (states : List State) (rest : List (List Stmt))
-        → StandsFrom blocks from (states_blocks greatest auto rules fall kepts place number from states ++ rest)
+        → StandsFrom blocks from (states_blocks greatest auto rules fall saved_accepts place number from states ++ rest)
         → StandsFrom blocks (end_of greatest number from states) rest
     rest_stands number from [] rest h = h
     rest_stands number from (state ∷ states) rest h =
-        let own : List (List Stmt) = state_blocks greatest auto rules fall kepts place number from state in
-        let others : List (List Stmt) = states_blocks greatest auto rules fall kepts place (suc number)
+        let own : List (List Stmt) = state_blocks greatest auto rules fall saved_accepts place number from state in
+        let others : List (List Stmt) = states_blocks greatest auto rules fall saved_accepts place (suc number)
         (from + state_size greatest number state) states in
         rest_stands (suc number) (from + state_size greatest number state) states rest
         (others_stand number from state (others ++ rest) (subst (λ l. StandsFrom blocks from l) (append_assoc own others rest) h))

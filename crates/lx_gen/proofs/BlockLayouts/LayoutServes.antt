@@ -13,53 +13,53 @@ use Rattle.lx_auto.proofs.Edges.{edge_on-here}
 use Rattle.lx_auto.proofs.States.{state_formed}
 use Rattle.lx_ccode.specs.declared.piece.Stmt.{Stmt}
 use Rattle.lx_ccode.specs.declared.piece.Stmt.TheVariants.{Goto, Peek, Skip}
-use Rattle.lx_gen.specs.Codes.{Choice, accept_code, choices_code, chosen, edge_code, is_kept, keep_code, keeps_by, list_code, restore_code}
+use Rattle.lx_gen.specs.Codes.{Choice, accept_code, choices_code, chosen, edge_code, is_saved, save_code, saves_by, list_code, restore_code}
 use Rattle.lx_gen.specs.Endings.{Ending, ending_code}
-use Rattle.lx_gen.specs.Layout.{AreAgreed, StandsFrom, accepts_of, blocks_by, choices_from, end_block, end_blocks, ending_blocks, fall_block, front_blocks, front_size, kept_number, kept_of, layout, lone_blocks, lone_code, numbered, own_block, own_blocks, place_by, place_of, restore_blocks, rule_block, rule_place, state_blocks, way_block, way_blocks}
+use Rattle.lx_gen.specs.Layout.{AreAgreed, StandsFrom, accepts_of, blocks_by, choices_from, end_block, end_blocks, ending_blocks, fall_block, front_blocks, front_size, saved_number, saved_of, layout, lone_blocks, lone_code, numbered, own_block, own_blocks, place_by, place_of, restore_blocks, rule_block, rule_place, state_blocks, class_block, class_blocks}
 use Rattle.lx_gen.specs.Serving.{IsEnd, IsTarget, Restores, Serves, ServesState, by_jump, by_tests, itself}
 use Rattle.lx_gen.specs.TestTrees.{TestTree, edge_tree, fork, inner_blocks, leaf, picked, test, tree_code}
-use Rattle.lx_gen.specs.Ways.{has_way, same_way, way_place, ways_of}
-use Rattle.lx_gen.proofs.BlockLayouts.LayoutLengths.{length-restore_blocks, length-way_blocks}
+use Rattle.lx_gen.specs.TransitionClasses.{has_class, same_class, class_place, transition_classes}
+use Rattle.lx_gen.proofs.BlockLayouts.LayoutLengths.{length-restore_blocks, length-class_blocks}
 use Rattle.lx_gen.proofs.BlockLayouts.LayoutPlaces.{begin_in, place_in-begin, rest_stands, states_stand}
-use Rattle.lx_gen.proofs.Rules.RuleBlocks.{chosen-below, chosen-choices_from, first_end_stands, has_rule-kept, restore_stands}
-use Rattle.lx_gen.proofs.BlockLayouts.Splits.{edge_way, picked-edge_tree}
+use Rattle.lx_gen.proofs.Rules.RuleBlocks.{chosen-below, chosen-choices_from, first_end_stands, has_rule-saved, restore_stands}
+use Rattle.lx_gen.proofs.BlockLayouts.Splits.{edge_class, picked-edge_tree}
 use Rattle.lx_gen.proofs.BlockLayouts.StandingCodes.{StandsFrom-back, StandsFrom-front, StandsFrom-get}
 use Rattle.lx_gen.proofs.BlockLayouts.TreeCodes.{front_size-numbered, length-front_blocks, picked-numbered}
-use Rattle.lx_gen.proofs.BlockLayouts.WayLists.{has_way-on, same_way-ops, same_way-to, way_found, way_place-first}
+use Rattle.lx_gen.proofs.BlockLayouts.ClassLists.{has_class-on, same_class-ops, same_class-to, class_found, class_place-first}
 
-module _ (endings : ℕ → Ending) (greatest : ℕ) (auto : Auto) (kept rules : ℕ → ℕ) (fall : ℕ) (kepts : List Accept) (place : ℕ → ℕ)
+module _ (endings : ℕ → Ending) (greatest : ℕ) (auto : Auto) (saved rules : ℕ → ℕ) (fall : ℕ) (saved_accepts : List Accept) (place : ℕ → ℕ)
     (blocks : List (List Stmt)) where
   abbrev Target : (s : ℕ) → State → Option Edge → ℕ → Type 0
-  Target s state o block = IsTarget endings greatest auto blocks place kept rules fall s state o block
+  Target s state o block = IsTarget endings greatest auto blocks place saved rules fall s state o block
 
   abbrev ServesIt : (s : ℕ) → State → Type 0
-  ServesIt s state = ServesState endings greatest auto blocks place kept rules fall s state
+  ServesIt s state = ServesState endings greatest auto blocks place saved rules fall s state
 
   abbrev Ends : Option Accept → ℕ → Type 0
-  Ends o block = IsEnd endings greatest auto blocks place kept rules fall o block
+  Ends o block = IsEnd endings greatest auto blocks place saved rules fall o block
 
   abbrev edges_blocks : State → List Edge → List (List Stmt)
-  edges_blocks state ways = way_blocks greatest auto rules fall kepts place state ways
+  edges_blocks state classes = class_blocks greatest auto rules fall saved_accepts place state classes
 
   abbrev last_blocks : State → List (List Stmt)
   last_blocks state = end_blocks greatest auto rules fall state.accept
 
-  slice_get-way_blocks : (state : State) (ways : List Edge) (j : ℕ) (way : Edge) → slice_get ways j ≡ Some way
-      → slice_get (edges_blocks state ways) j ≡ Some (edge_code auto state (kept_number kepts state.accept) way (place way.to))
-  slice_get-way_blocks state [] j way e = absurd (cc)
-  slice_get-way_blocks state (first ∷ ways) zero way e =
-      let same : first ≡ way = cc in ap (λ w. Some (edge_code auto state (kept_number kepts state.accept) w (place w.to))) same
-  slice_get-way_blocks state (first ∷ ways) (suc j) way e = slice_get-way_blocks state ways j way e
+  slice_get-class_blocks : (state : State) (classes : List Edge) (j : ℕ) (class : Edge) → slice_get classes j ≡ Some class
+      → slice_get (edges_blocks state classes) j ≡ Some (edge_code auto state (saved_number saved_accepts state.accept) class (place class.to))
+  slice_get-class_blocks state [] j class e = absurd (cc)
+  slice_get-class_blocks state (first ∷ classes) zero class e =
+      let same : first ≡ class = cc in ap (λ w. Some (edge_code auto state (saved_number saved_accepts state.accept) w (place w.to))) same
+  slice_get-class_blocks state (first ∷ classes) (suc j) class e = slice_get-class_blocks state classes j class e
 
-  edge_code-same : (number : ℕ) (state : State) (way edge : Edge) → same_way way edge ≡ true
-      → edge_code auto state number way (place way.to) ≡ edge_code auto state number edge (place edge.to)
-  edge_code-same number state way edge same =
-      ap (λ ops. keep_code (keeps_by state.accept (state_of auto.states way.to).accept) number
-      (list_code auto state.leave (list_code auto ops (Skip ∷ Goto (place way.to) ∷ []))))
-      (same_way-ops way edge same)
-      ∙ ap (λ to. keep_code (keeps_by state.accept (state_of auto.states to).accept) number
+  edge_code-same : (number : ℕ) (state : State) (class edge : Edge) → same_class class edge ≡ true
+      → edge_code auto state number class (place class.to) ≡ edge_code auto state number edge (place edge.to)
+  edge_code-same number state class edge same =
+      ap (λ ops. save_code (saves_by state.accept (state_of auto.states class.to).accept) number
+      (list_code auto state.leave (list_code auto ops (Skip ∷ Goto (place class.to) ∷ []))))
+      (same_class-ops class edge same)
+      ∙ ap (λ to. save_code (saves_by state.accept (state_of auto.states to).accept) number
       (list_code auto state.leave (list_code auto edge.ops (Skip ∷ Goto (place to) ∷ []))))
-      (same_way-to way edge same)
+      (same_class-to class edge same)
 
   -- ---- where a match ends
 
@@ -96,114 +96,114 @@ module _ (endings : ℕ → Ending) (greatest : ℕ) (auto : Auto) (kept rules :
 
   -- ---- edges
 
-  module _ (s own : ℕ) (state : State) (at : place s ≡ own) (by_number : kept s ≡ kept_number kepts state.accept) (ways : List Edge) where
+  module _ (s own : ℕ) (state : State) (at : place s ≡ own) (by_number : saved s ≡ saved_number saved_accepts state.accept) (classes : List Edge) where
     abbrev end_at : (first : ℕ) → ℕ
-    end_at first = end_block greatest auto rules fall (first + length ways) state.accept
+    end_at first = end_block greatest auto rules fall (first + length classes) state.accept
 
-    ends_stand : (first : ℕ) → StandsFrom blocks first (edges_blocks state ways ++ last_blocks state)
-        → StandsFrom blocks (first + length ways) (last_blocks state)
+    ends_stand : (first : ℕ) → StandsFrom blocks first (edges_blocks state classes ++ last_blocks state)
+        → StandsFrom blocks (first + length classes) (last_blocks state)
     ends_stand first h =
-        let l = length-way_blocks greatest auto rules fall kepts place state ways in
-        let e : first + length (edges_blocks state ways) ≡ first + length ways = omega (arith, l) in
-        subst (λ n. StandsFrom blocks n (last_blocks state)) e (StandsFrom-back blocks first (edges_blocks state ways) (last_blocks state) h)
+        let l = length-class_blocks greatest auto rules fall saved_accepts place state classes in
+        let e : first + length (edges_blocks state classes) ≡ first + length classes = omega (arith, l) in
+        subst (λ n. StandsFrom blocks n (last_blocks state)) e (StandsFrom-back blocks first (edges_blocks state classes) (last_blocks state) h)
 
-    -- the block of an edge's way
-    way_target : (first : ℕ) → StandsFrom blocks first (edges_blocks state ways ++ last_blocks state) → (o : Option Edge)
-        → ((edge : Edge) → o ≡ Some edge → has_way ways edge ≡ true) → Target s state o (way_block first (end_at first) (edge_way ways o))
-    way_target first h None has = own_ends (first + length ways) state.accept (ends_stand first h)
-    way_target first h (Some edge) has =
-        let found = way_found ways edge (has edge refl) in
-        let front = StandsFrom-front blocks first (edges_blocks state ways) (last_blocks state) h in
-        StandsFrom-get blocks first (way_place ways edge) (edges_blocks state ways)
-        (edge_code auto state (kept_number kepts state.accept) found.0 (place found.0.to)) front
-        (slice_get-way_blocks state ways (way_place ways edge) found.0 found.1)
-        ∙ ap (λ c. Some c) (edge_code-same (kept_number kepts state.accept) state found.0 edge found.2)
+    -- the block of an edge's class
+    class_target : (first : ℕ) → StandsFrom blocks first (edges_blocks state classes ++ last_blocks state) → (o : Option Edge)
+        → ((edge : Edge) → o ≡ Some edge → has_class classes edge ≡ true) → Target s state o (class_block first (end_at first) (edge_class classes o))
+    class_target first h None has = own_ends (first + length classes) state.accept (ends_stand first h)
+    class_target first h (Some edge) has =
+        let found = class_found classes edge (has edge refl) in
+        let front = StandsFrom-front blocks first (edges_blocks state classes) (last_blocks state) h in
+        StandsFrom-get blocks first (class_place classes edge) (edges_blocks state classes)
+        (edge_code auto state (saved_number saved_accepts state.accept) found.0 (place found.0.to)) front
+        (slice_get-class_blocks state classes (class_place classes edge) found.0 found.1)
+        ∙ ap (λ c. Some c) (edge_code-same (saved_number saved_accepts state.accept) state found.0 edge found.2)
         ∙ ap (λ n. Some (edge_code auto state n edge (place edge.to))) (sym by_number)
 
-    -- on each unit a tree picks the way of its edge, and on some unit that is the first way
+    -- on each unit a tree picks the class of its edge, and on some unit that is the first class
     record Leads (edges : List Edge) (tree : TestTree (Option ℕ)) : Type 0 where
       is : state.edges ≡ edges
-      has : (unit : ℕ) (edge : Edge) → edge_on edges unit ≡ Some edge → has_way ways edge ≡ true
-      picks : (unit : ℕ) → unit ≤ greatest → picked tree unit ≡ edge_way ways (edge_on edges unit)
+      has : (unit : ℕ) (edge : Edge) → edge_on edges unit ≡ Some edge → has_class classes edge ≡ true
+      picks : (unit : ℕ) → unit ≤ greatest → picked tree unit ≡ edge_class classes (edge_on edges unit)
       some : ℕ
       within : some ≤ greatest
-      first : edge_way ways (edge_on edges some) ≡ Some 0
+      first : edge_class classes (edge_on edges some) ≡ Some 0
 
     tree_target : (edges : List Edge) (tree : TestTree (Option ℕ)) (first : ℕ) → Leads edges tree
-        → StandsFrom blocks first (edges_blocks state ways ++ last_blocks state) → (unit : ℕ) → unit ≤ greatest
-        → Target s state (edge_on state.edges unit) (way_block first (end_at first) (picked tree unit))
+        → StandsFrom blocks first (edges_blocks state classes ++ last_blocks state) → (unit : ℕ) → unit ≤ greatest
+        → Target s state (edge_on state.edges unit) (class_block first (end_at first) (picked tree unit))
     tree_target edges tree first leads h unit le =
-        let t = way_target first h (edge_on edges unit) (leads.has unit) in
-        let e : way_block first (end_at first) (edge_way ways (edge_on edges unit)) ≡ way_block first (end_at first) (picked tree unit) =
-        ap (λ w. way_block first (end_at first) w) (sym (leads.picks unit le)) in
-        subst (λ l. Target s state (edge_on l unit) (way_block first (end_at first) (picked tree unit))) (sym leads.is)
+        let t = class_target first h (edge_on edges unit) (leads.has unit) in
+        let e : class_block first (end_at first) (edge_class classes (edge_on edges unit)) ≡ class_block first (end_at first) (picked tree unit) =
+        ap (λ w. class_block first (end_at first) w) (sym (leads.picks unit le)) in
+        subst (λ l. Target s state (edge_on l unit) (class_block first (end_at first) (picked tree unit))) (sym leads.is)
         (subst (λ n. Target s state (edge_on edges unit) n) e t)
 
     read_serves : (edges : List Edge) (tree : TestTree (Option ℕ)) (first : ℕ) → Leads edges tree
         → StandsFrom blocks own
         ((Peek ∷ tree_code (suc own) (numbered first (end_at first) tree)) ∷ inner_blocks (suc own) (numbered first (end_at first) tree))
-        → StandsFrom blocks first (edges_blocks state ways ++ last_blocks state) → ServesIt s state
+        → StandsFrom blocks first (edges_blocks state classes ++ last_blocks state) → ServesIt s state
     read_serves edges tree first leads front h =
         by_tests (numbered first (end_at first) tree) (suc own) (ap (λ n. slice_get blocks n) at ∙ front.0) front.1 (λ unit le.
         subst (λ n. Target s state (edge_on state.edges unit) n) (sym (picked-numbered first (end_at first) tree unit))
         (tree_target edges tree first leads h unit le))
 
-    -- the tests, or no test where all units go the first way
+    -- the tests, or no test where all units are of the first class
     front_serves : (edges : List Edge) (tree : TestTree (Option ℕ)) → Leads edges tree
         → StandsFrom blocks own (front_blocks own (numbered (own + front_size tree) (end_at (own + front_size tree)) tree) ++
-        (edges_blocks state ways ++ last_blocks state))
+        (edges_blocks state classes ++ last_blocks state))
         → ServesIt s state
     front_serves edges tree leads h =
         let first : ℕ = own + front_size tree in
         let front : List (List Stmt) = front_blocks own (numbered (own + front_size tree) (end_at (own + front_size tree)) tree) in
-        let rest : List (List Stmt) = edges_blocks state ways ++ last_blocks state in
+        let rest : List (List Stmt) = edges_blocks state classes ++ last_blocks state in
         let size = length-front_blocks own (numbered first (end_at first) tree) ∙ front_size-numbered first (end_at first) tree in
         let e : own + length front ≡ own + front_size tree = ap (λ n. own + n) size in
         by tree leads refl (StandsFrom-front blocks own front rest h) (subst (λ n. StandsFrom blocks n rest) e (StandsFrom-back blocks own front rest h))
       where
         by : (tree : TestTree (Option ℕ)) {first : ℕ} → Leads edges tree → first ≡ own + front_size tree
             → StandsFrom blocks own (front_blocks own (numbered first (end_at first) tree))
-            → StandsFrom blocks first (edges_blocks state ways ++ last_blocks state) → ServesIt s state
-        by (leaf way) {first} leads size front h = itself (λ unit le.
-            let e : way ≡ Some 0 = leads.picks leads.some leads.within ∙ leads.first in
+            → StandsFrom blocks first (edges_blocks state classes ++ last_blocks state) → ServesIt s state
+        by (leaf class) {first} leads size front h = itself (λ unit le.
+            let e : class ≡ Some 0 = leads.picks leads.some leads.within ∙ leads.first in
             let n : first + 0 ≡ own = omega (arith, size) in
-            let y : way_block first (end_at first) way ≡ place s = ap (λ w. way_block first (end_at first) w) e ∙ n ∙ sym at in
-            subst (λ n. Target s state (edge_on state.edges unit) n) y (tree_target edges (leaf way) first leads h unit le))
-        by (test greatest way high) {first} leads size front h = read_serves edges (test greatest way high) first leads front h
+            let y : class_block first (end_at first) class ≡ place s = ap (λ w. class_block first (end_at first) w) e ∙ n ∙ sym at in
+            subst (λ n. Target s state (edge_on state.edges unit) n) y (tree_target edges (leaf class) first leads h unit le))
+        by (test greatest class high) {first} leads size front h = read_serves edges (test greatest class high) first leads front h
         by (fork greatest low high) {first} leads size front h = read_serves edges (fork greatest low high) first leads front h
 
   -- the blocks of a state serve it
   state_serves : (s own : ℕ) (state : State) → place s ≡ place_by greatest auto rules fall s own state.edges state.accept
-      → kept s ≡ kept_number kepts state.accept
+      → saved s ≡ saved_number saved_accepts state.accept
       → AreApartFrom 0 state.edges → All (λ (edge : Edge). edge.hi ≤ greatest) state.edges
-      → StandsFrom blocks own (state_blocks greatest auto rules fall kepts place s own state) → ServesIt s state
+      → StandsFrom blocks own (state_blocks greatest auto rules fall saved_accepts place s own state) → ServesIt s state
   state_serves s own state at by_number apart within h = by state.edges refl at apart within h
     where
       by : (edges : List Edge) → state.edges ≡ edges → place s ≡ place_by greatest auto rules fall s own edges state.accept
           → AreApartFrom 0 edges → All (λ (edge : Edge). edge.hi ≤ greatest) edges
-          → StandsFrom blocks own (blocks_by greatest auto rules fall kepts place s own state edges) → ServesIt s state
+          → StandsFrom blocks own (blocks_by greatest auto rules fall saved_accepts place s own state edges) → ServesIt s state
       by [] is at apart within h = lone_serves s own state is at h
       by (edge ∷ edges) is at apart within h =
           let top : edge.hi ≤ greatest = All-get_or (λ (edge : Edge). edge.hi ≤ greatest) (edge ∷ edges) 0 edge (omega arith) within in
-          front_serves s own state at by_number (ways_of (edge ∷ edges)) (edge ∷ edges) (edge_tree greatest (edge ∷ edges)) (record {
+          front_serves s own state at by_number (transition_classes (edge ∷ edges)) (edge ∷ edges) (edge_tree greatest (edge ∷ edges)) (record {
             is = is;
-            has = λ unit e on. has_way-on (edge ∷ edges) unit e on;
+            has = λ unit e on. has_class-on (edge ∷ edges) unit e on;
             picks = λ unit le. picked-edge_tree greatest (edge ∷ edges) unit apart le;
             some = edge.lo;
             within = omega (arith, apart.1, top);
-            first = ap (λ o. edge_way (ways_of (edge ∷ edges)) o) (edge_on-here edge edges edge.lo (omega arith) apart.1)
-                ∙ ap (λ n. Some n) (way_place-first edge edges);
+            first = ap (λ o. edge_class (transition_classes (edge ∷ edges)) o) (edge_on-here edge edges edge.lo (omega arith) apart.1)
+                ∙ ap (λ n. Some n) (class_place-first edge edges);
           }) h
 
--- the number by which a state is kept in a layout
+-- the number by which a state is saved in a layout
 abbrev pub number_in : List State → (s : ℕ) → ℕ
-number_in states s = kept_number (kept_of states) (state_of states s).accept
+number_in states s = saved_number (saved_of states) (state_of states s).accept
 
 -- where the layout stands from a block on
 module _ (endings : ℕ → Ending) (greatest : ℕ) (auto : Auto) (from : ℕ) (blocks : List (List Stmt))
     (stands : StandsFrom blocks from (layout endings greatest auto from)) where
-  abbrev kepts : List Accept
-  kepts = kept_of auto.states
+  abbrev saved_accepts : List Accept
+  saved_accepts = saved_of auto.states
 
   abbrev rules : ℕ → ℕ
   rules = rule_block greatest auto from
@@ -215,14 +215,14 @@ module _ (endings : ℕ → Ending) (greatest : ℕ) (auto : Auto) (from : ℕ) 
   place = place_of greatest auto from
 
   abbrev pub choices : List Choice
-  choices = choices_from 1 (suc (fall_block greatest auto from)) (kept_of auto.states)
+  choices = choices_from 1 (suc (fall_block greatest auto from)) (saved_of auto.states)
 
   -- the fallback and all behind it
   abbrev rest : List (List Stmt)
-  rest = choices_code choices ∷ (restore_blocks rules kepts ++ ending_blocks endings (accepts_of auto.states))
+  rest = choices_code choices ∷ (restore_blocks rules saved_accepts ++ ending_blocks endings (accepts_of auto.states))
 
   behind : StandsFrom blocks fall rest
-  behind = rest_stands greatest auto rules fall kepts place blocks 0 from auto.states rest stands
+  behind = rest_stands greatest auto rules fall saved_accepts place blocks 0 from auto.states rest stands
 
   pub layout_falls : slice_get blocks (fall_block greatest auto from) ≡ Some (choices_code choices)
   layout_falls = behind.0
@@ -233,28 +233,28 @@ module _ (endings : ℕ → Ending) (greatest : ℕ) (auto : Auto) (from : ℕ) 
       × (AreAgreed auto.states → values ≡ accept.values)
   layout_ends s accept lt is =
       let ends = first_end_stands endings auto.states s accept lt is in
-      let back = StandsFrom-back blocks (suc fall) (restore_blocks rules kepts) (ending_blocks endings (accepts_of auto.states)) behind.1 in
-      let l = length-restore_blocks rules kepts in
-      let e : suc fall + length (restore_blocks rules kepts) ≡ suc fall + length kepts = omega (arith, l) in
+      let back = StandsFrom-back blocks (suc fall) (restore_blocks rules saved_accepts) (ending_blocks endings (accepts_of auto.states)) behind.1 in
+      let l = length-restore_blocks rules saved_accepts in
+      let e : suc fall + length (restore_blocks rules saved_accepts) ≡ suc fall + length saved_accepts = omega (arith, l) in
       let stand = subst (λ n. StandsFrom blocks n (ending_blocks endings (accepts_of auto.states))) e back in (
         ends.0,
-        StandsFrom-get blocks (suc fall + length kepts) (rule_place (accepts_of auto.states) accept.rule)
+        StandsFrom-get blocks (suc fall + length saved_accepts) (rule_place (accepts_of auto.states) accept.rule)
             (ending_blocks endings (accepts_of auto.states)) (ending_code endings accept.rule ends.0) stand ends.1,
         ends.2,
       )
 
-  layout_restores : (s : ℕ) (accept : Accept) → s < length auto.states → is_kept auto.states (state_of auto.states s) ≡ true
+  layout_restores : (s : ℕ) (accept : Accept) → s < length auto.states → is_saved auto.states (state_of auto.states s) ≡ true
       → (state_of auto.states s).accept ≡ Some accept
       → Restores endings greatest auto blocks place (number_in auto.states) rules fall choices s accept
-  layout_restores s accept lt kept is =
-      let has = has_rule-kept auto.states s accept lt kept is in
-      let e : suc (rule_place kepts accept.rule) ≡ 1 + rule_place kepts accept.rule = omega arith in
-      let front = StandsFrom-front blocks (suc fall) (restore_blocks rules kepts) (ending_blocks endings (accepts_of auto.states)) behind.1 in (
-        suc fall + rule_place kepts accept.rule,
-        ap (λ o. chosen choices (kept_number kepts o)) is ∙ ap (λ n. chosen choices n) e
-            ∙ chosen-choices_from 1 (suc fall) kepts accept.rule has,
-        StandsFrom-get blocks (suc fall) (rule_place kepts accept.rule) (restore_blocks rules kepts) (restore_code (rules accept.rule)) front
-            (restore_stands rules kepts accept.rule has),
+  layout_restores s accept lt saved is =
+      let has = has_rule-saved auto.states s accept lt saved is in
+      let e : suc (rule_place saved_accepts accept.rule) ≡ 1 + rule_place saved_accepts accept.rule = omega arith in
+      let front = StandsFrom-front blocks (suc fall) (restore_blocks rules saved_accepts) (ending_blocks endings (accepts_of auto.states)) behind.1 in (
+        suc fall + rule_place saved_accepts accept.rule,
+        ap (λ o. chosen choices (saved_number saved_accepts o)) is ∙ ap (λ n. chosen choices n) e
+            ∙ chosen-choices_from 1 (suc fall) saved_accepts accept.rule has,
+        StandsFrom-get blocks (suc fall) (rule_place saved_accepts accept.rule) (restore_blocks rules saved_accepts) (restore_code (rules accept.rule)) front
+            (restore_stands rules saved_accepts accept.rule has),
       )
 
   module _ (formed : IsAuto auto) (within : All (λ (state : State). All (λ (edge : Edge). edge.hi ≤ greatest) state.edges) auto.states) where
@@ -266,9 +266,9 @@ module _ (endings : ℕ → Ending) (greatest : ℕ) (auto : Auto) (from : ℕ) 
         let own : ℕ = begin_in greatest 0 from auto.states s in
         let at = place_in-begin greatest auto rules fall 0 from auto.states s lt
         ∙ ap (λ n. place_by greatest auto rules fall n own (state_of auto.states s).edges (state_of auto.states s).accept) e in
-        let stand = subst (λ n. StandsFrom blocks own (state_blocks greatest auto rules fall kepts place n own (state_of auto.states s))) e
-        (states_stand greatest auto rules fall kepts place blocks 0 from auto.states rest stands s lt) in
-        state_serves endings greatest auto (number_in auto.states) rules fall kepts place blocks s own (state_of auto.states s) at refl
+        let stand = subst (λ n. StandsFrom blocks own (state_blocks greatest auto rules fall saved_accepts place n own (state_of auto.states s))) e
+        (states_stand greatest auto rules fall saved_accepts place blocks 0 from auto.states rest stands s lt) in
+        state_serves endings greatest auto (number_in auto.states) rules fall saved_accepts place blocks s own (state_of auto.states s) at refl
         (state_formed auto s formed).apart
         (All-get_or (λ (state : State). All (λ (edge : Edge). edge.hi ≤ greatest) state.edges) auto.states s
         (record { edges = []; accept = None; leave = [] }) lt within) stand
@@ -279,10 +279,10 @@ module _ (endings : ℕ → Ending) (greatest : ℕ) (auto : Auto) (from : ℕ) 
         (fall_block greatest auto from)
     layout_serves agreed = record {
       states = λ s lt. layout_states s lt;
-      choices = choices_from 1 (suc (fall_block greatest auto from)) (kept_of auto.states);
+      choices = choices_from 1 (suc (fall_block greatest auto from)) (saved_of auto.states);
       falls = layout_falls;
-      none = chosen-below 1 (suc fall) 0 kepts (omega arith);
-      restores = λ s accept lt kept is. layout_restores s accept lt kept is;
+      none = chosen-below 1 (suc fall) 0 saved_accepts (omega arith);
+      restores = λ s accept lt saved is. layout_restores s accept lt saved is;
       ends = λ s accept lt is.
           let ends = layout_ends s accept lt is in
           ends.1 ∙ ap (λ values. Some (ending_code endings accept.rule values)) (ends.2 agreed);

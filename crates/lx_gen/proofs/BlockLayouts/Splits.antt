@@ -1,44 +1,44 @@
--- The tests of a state lead each unit the way of its edge.
+-- The tests of a state lead each unit to the class of its edge.
 use Rattle.std.specs.Prelude.{◌≡◌, ℕ, ◌+◌, ◌-◌, ◌<◌, ◌≤◌, List, [], ◌∷◌, Option, Some, None, Bool, true, false, nat_le, nat_lt, refl, if◌then◌else◌}
 use Rattle.std.proofs.Common.{sym, ap, ◌∙◌, arith, eqb-true, le-leb, leb-true, leb-false, true≢false}
 use Rattle.lx_auto.specs.Automaton.{AreApartFrom, edge_on}
 use Rattle.lx_auto.specs.declared.automaton.Edge.{Edge}
 use Rattle.lx_auto.proofs.Edges.{edge_on-before, edge_on-here, edge_on-past}
 use Rattle.lx_gen.specs.TestTrees.{edge_tree, picked}
-use Rattle.lx_gen.specs.Ways.{Stretch, before, edge_split, first_way, same_place, split_of, stretches, way_place, ways_of}
-use Rattle.lx_gen.proofs.BlockLayouts.BalancedTrees.{Ascend, picked-balanced, way_on}
+use Rattle.lx_gen.specs.TransitionClasses.{Stretch, before, edge_split, first_class, same_place, split_of, stretches, class_place, transition_classes}
+use Rattle.lx_gen.proofs.BlockLayouts.BalancedTrees.{Ascend, picked-balanced, class_on}
 
--- the place of an edge's way, if there is an edge
-abbrev pub edge_way : List Edge → Option Edge → Option ℕ
-edge_way ways None = None
-edge_way ways (Some edge) = Some (way_place ways edge)
+-- the place of an edge's class, if there is an edge
+abbrev pub edge_class : List Edge → Option Edge → Option ℕ
+edge_class classes None = None
+edge_class classes (Some edge) = Some (class_place classes edge)
 
 -- ---- stretches
 
-way_on-stretches : (ways : List Edge) (low : ℕ) (edges : List Edge) (unit : ℕ) → AreApartFrom low edges → low ≤ unit
-    → way_on (stretches ways low edges) None unit ≡ edge_way ways (edge_on edges unit)
-way_on-stretches ways low [] unit apart from = refl
-way_on-stretches ways low (edge ∷ edges) unit apart from =
-    gaps (nat_lt low edge.lo) refl (λ more. way_on-stretches ways (edge.hi + 1) edges unit apart.2 more)
+class_on-stretches : (classes : List Edge) (low : ℕ) (edges : List Edge) (unit : ℕ) → AreApartFrom low edges → low ≤ unit
+    → class_on (stretches classes low edges) None unit ≡ edge_class classes (edge_on edges unit)
+class_on-stretches classes low [] unit apart from = refl
+class_on-stretches classes low (edge ∷ edges) unit apart from =
+    gaps (nat_lt low edge.lo) refl (λ more. class_on-stretches classes (edge.hi + 1) edges unit apart.2 more)
   where
-    own : edge.lo ≤ unit → (edge.hi + 1 ≤ unit → way_on (stretches ways (edge.hi + 1) edges) None unit ≡ edge_way ways (edge_on edges unit))
-        → way_on (record { greatest = edge.hi; way = Some (way_place ways edge) } ∷ stretches ways (edge.hi + 1) edges) None unit ≡ edge_way ways
+    own : edge.lo ≤ unit → (edge.hi + 1 ≤ unit → class_on (stretches classes (edge.hi + 1) edges) None unit ≡ edge_class classes (edge_on edges unit))
+        → class_on (record { greatest = edge.hi; class = Some (class_place classes edge) } ∷ stretches classes (edge.hi + 1) edges) None unit ≡ edge_class classes
         (edge_on (edge ∷ edges) unit)
     own above again = by (nat_le unit edge.hi) refl
       where
         by : (t : Bool) → nat_le unit edge.hi ≡ t
-            → (if t then Some (way_place ways edge) else way_on (stretches ways (edge.hi + 1) edges) None unit) ≡ edge_way ways
+            → (if t then Some (class_place classes edge) else class_on (stretches classes (edge.hi + 1) edges) None unit) ≡ edge_class classes
             (edge_on (edge ∷ edges) unit)
-        by true h = ap (λ o. edge_way ways o) (sym (edge_on-here edge edges unit above (leb-true unit edge.hi h)))
+        by true h = ap (λ o. edge_class classes o) (sym (edge_on-here edge edges unit above (leb-true unit edge.hi h)))
         by false h =
             let past : edge.hi < unit = leb-false unit edge.hi h in
-            again (omega arith) ∙ ap (λ o. edge_way ways o) (sym (edge_on-past edge edges unit past))
+            again (omega arith) ∙ ap (λ o. edge_class classes o) (sym (edge_on-past edge edges unit past))
 
-    gaps : (t : Bool) → nat_lt low edge.lo ≡ t → (edge.hi + 1 ≤ unit → way_on (stretches ways (edge.hi + 1) edges) None unit ≡ edge_way ways
+    gaps : (t : Bool) → nat_lt low edge.lo ≡ t → (edge.hi + 1 ≤ unit → class_on (stretches classes (edge.hi + 1) edges) None unit ≡ edge_class classes
         (edge_on edges unit))
-        → way_on (if t then record { greatest = edge.lo - 1; way = None } ∷ record
-        { greatest = edge.hi; way = Some (way_place ways edge) } ∷ stretches ways (edge.hi + 1) edges
-        else record { greatest = edge.hi; way = Some (way_place ways edge) } ∷ stretches ways (edge.hi + 1) edges) None unit ≡ edge_way ways
+        → class_on (if t then record { greatest = edge.lo - 1; class = None } ∷ record
+        { greatest = edge.hi; class = Some (class_place classes edge) } ∷ stretches classes (edge.hi + 1) edges
+        else record { greatest = edge.hi; class = Some (class_place classes edge) } ∷ stretches classes (edge.hi + 1) edges) None unit ≡ edge_class classes
         (edge_on (edge ∷ edges) unit)
     gaps false h again = let below : edge.lo ≤ low = grind (arith, h) in own (omega arith) again
     gaps true h again = by (nat_le unit (edge.lo - 1)) refl
@@ -47,12 +47,12 @@ way_on-stretches ways low (edge ∷ edges) unit apart from =
         below = grind (arith, h)
 
         by : (t : Bool) → nat_le unit (edge.lo - 1) ≡ t
-            → (if t then None else way_on (record { greatest = edge.hi; way = Some (way_place ways edge) } ∷ stretches ways
-            (edge.hi + 1) edges) None unit) ≡ edge_way ways (edge_on (edge ∷ edges) unit)
+            → (if t then None else class_on (record { greatest = edge.hi; class = Some (class_place classes edge) } ∷ stretches classes
+            (edge.hi + 1) edges) None unit) ≡ edge_class classes (edge_on (edge ∷ edges) unit)
         by true g =
             let le : unit ≤ edge.lo - 1 = leb-true unit (edge.lo - 1) g in
             let from_lo : AreApartFrom edge.lo (edge ∷ edges) = (omega arith, apart.1, apart.2) in
-            ap (λ o. edge_way ways o) (sym (edge_on-before edge.lo (edge ∷ edges) unit from_lo (omega (arith, le, below))))
+            ap (λ o. edge_class classes o) (sym (edge_on-before edge.lo (edge ∷ edges) unit from_lo (omega (arith, le, below))))
         by false g = let lt : edge.lo - 1 < unit = leb-false unit (edge.lo - 1) g in own (omega (arith, lt, below)) again
 
 -- ---- tests
@@ -61,26 +61,26 @@ Ascend-earlier : (low high : ℕ) (stretches : List Stretch) → low ≤ high �
 Ascend-earlier low high [] le h = tt
 Ascend-earlier low high (stretch ∷ stretches) le h = (omega (arith, h.0), h.1)
 
-Ascend-stretches : (ways : List Edge) (low : ℕ) (edges : List Edge) → AreApartFrom low edges → Ascend low (stretches ways low edges)
-Ascend-stretches ways low [] apart = tt
-Ascend-stretches ways low (edge ∷ edges) apart = by (nat_lt low edge.lo) refl (Ascend-stretches ways (edge.hi + 1) edges apart.2)
+Ascend-stretches : (classes : List Edge) (low : ℕ) (edges : List Edge) → AreApartFrom low edges → Ascend low (stretches classes low edges)
+Ascend-stretches classes low [] apart = tt
+Ascend-stretches classes low (edge ∷ edges) apart = by (nat_lt low edge.lo) refl (Ascend-stretches classes (edge.hi + 1) edges apart.2)
   where
-    by : (t : Bool) → nat_lt low edge.lo ≡ t → Ascend (edge.hi + 1) (stretches ways (edge.hi + 1) edges)
-        → Ascend low (if t then record { greatest = edge.lo - 1; way = None } ∷ record
-        { greatest = edge.hi; way = Some (way_place ways edge) } ∷ stretches ways (edge.hi + 1) edges
-        else record { greatest = edge.hi; way = Some (way_place ways edge) } ∷ stretches ways (edge.hi + 1) edges)
+    by : (t : Bool) → nat_lt low edge.lo ≡ t → Ascend (edge.hi + 1) (stretches classes (edge.hi + 1) edges)
+        → Ascend low (if t then record { greatest = edge.lo - 1; class = None } ∷ record
+        { greatest = edge.hi; class = Some (class_place classes edge) } ∷ stretches classes (edge.hi + 1) edges
+        else record { greatest = edge.hi; class = Some (class_place classes edge) } ∷ stretches classes (edge.hi + 1) edges)
     by true h again =
         let below : low < edge.lo = grind (arith, h) in (
           omega (arith, below),
           (
             omega (arith, apart.1),
-            Ascend-earlier edge.hi (edge.hi + 1) (stretches ways (edge.hi + 1) edges)
+            Ascend-earlier edge.hi (edge.hi + 1) (stretches classes (edge.hi + 1) edges)
                 (omega arith) again,
           ),
         )
     by false h again = (
       omega (arith, apart.0, apart.1),
-      Ascend-earlier edge.hi (edge.hi + 1) (stretches ways (edge.hi + 1) edges)
+      Ascend-earlier edge.hi (edge.hi + 1) (stretches classes (edge.hi + 1) edges)
           (omega arith) again,
     )
 
@@ -96,9 +96,9 @@ Ascend-split_of greatest low (stretch ∷ list) h = by (nat_le greatest stretch.
     join false again = (h.0, again)
 
     by : (t : Bool) → Ascend stretch.greatest (split_of greatest list).tests
-        → Ascend low (if t then record { tests = []; last = stretch.way } else before stretch (split_of greatest list)).tests
+        → Ascend low (if t then record { tests = []; last = stretch.class } else before stretch (split_of greatest list)).tests
     by true again = tt
-    by false again = join (same_place stretch.way (first_way (split_of greatest list).tests (split_of greatest list).last)) again
+    by false again = join (same_place stretch.class (first_class (split_of greatest list).tests (split_of greatest list).last)) again
 
 same_place-same : (a b : Option ℕ) → same_place a b ≡ true → a ≡ b
 same_place-same None None e = refl
@@ -106,59 +106,59 @@ same_place-same None (Some y) e = absurd (true≢false (sym e))
 same_place-same (Some x) None e = absurd (true≢false (sym e))
 same_place-same (Some x) (Some y) e = ap Some (eqb-true x y e)
 
-way_on-first : (low unit : ℕ) (tests : List Stretch) (last : Option ℕ) → Ascend low tests → unit ≤ low
-    → way_on tests last unit ≡ first_way tests last
-way_on-first low unit [] last h le = refl
-way_on-first low unit (stretch ∷ tests) last h le =
-    ap (λ t. if t then stretch.way else way_on tests last unit) (le-leb unit stretch.greatest (omega (arith, h.0, le)))
+class_on-first : (low unit : ℕ) (tests : List Stretch) (last : Option ℕ) → Ascend low tests → unit ≤ low
+    → class_on tests last unit ≡ first_class tests last
+class_on-first low unit [] last h le = refl
+class_on-first low unit (stretch ∷ tests) last h le =
+    ap (λ t. if t then stretch.class else class_on tests last unit) (le-leb unit stretch.greatest (omega (arith, h.0, le)))
 
-way_on-split_of : (greatest low : ℕ) (list : List Stretch) (unit : ℕ) → Ascend low list → unit ≤ greatest
-    → way_on (split_of greatest list).tests (split_of greatest list).last unit ≡ way_on list None unit
-way_on-split_of greatest low [] unit h le = refl
-way_on-split_of greatest low (stretch ∷ list) unit h le =
-    by (nat_le greatest stretch.greatest) refl (way_on-split_of greatest stretch.greatest list unit h.1 le)
+class_on-split_of : (greatest low : ℕ) (list : List Stretch) (unit : ℕ) → Ascend low list → unit ≤ greatest
+    → class_on (split_of greatest list).tests (split_of greatest list).last unit ≡ class_on list None unit
+class_on-split_of greatest low [] unit h le = refl
+class_on-split_of greatest low (stretch ∷ list) unit h le =
+    by (nat_le greatest stretch.greatest) refl (class_on-split_of greatest stretch.greatest list unit h.1 le)
   where
-    join : (t : Bool) → same_place stretch.way (first_way (split_of greatest list).tests (split_of greatest list).last) ≡ t
-        → way_on (split_of greatest list).tests (split_of greatest list).last unit ≡ way_on list None unit
-        → way_on (if t then split_of greatest list else record
+    join : (t : Bool) → same_place stretch.class (first_class (split_of greatest list).tests (split_of greatest list).last) ≡ t
+        → class_on (split_of greatest list).tests (split_of greatest list).last unit ≡ class_on list None unit
+        → class_on (if t then split_of greatest list else record
         { tests = stretch ∷ (split_of greatest list).tests; last = (split_of greatest list).last }).tests
         (if t then split_of greatest list else record {
           tests = stretch ∷
               (split_of greatest list).tests;
           last = (split_of greatest list).last;
         }).last unit
-        ≡ way_on (stretch ∷ list) None unit
-    join false e again = ap (λ o. if nat_le unit stretch.greatest then stretch.way else o) again
+        ≡ class_on (stretch ∷ list) None unit
+    join false e again = ap (λ o. if nat_le unit stretch.greatest then stretch.class else o) again
     join true e again = at (nat_le unit stretch.greatest) refl
       where
-        at : (t : Bool) → nat_le unit stretch.greatest ≡ t → way_on (split_of greatest list).tests (split_of greatest list).last unit ≡
-            (if t then stretch.way else way_on list None unit)
+        at : (t : Bool) → nat_le unit stretch.greatest ≡ t → class_on (split_of greatest list).tests (split_of greatest list).last unit ≡
+            (if t then stretch.class else class_on list None unit)
         at true g =
-            way_on-first stretch.greatest unit (split_of greatest list).tests (split_of greatest list).last
+            class_on-first stretch.greatest unit (split_of greatest list).tests (split_of greatest list).last
             (Ascend-split_of greatest stretch.greatest list h.1) (leb-true unit stretch.greatest g)
-            ∙ sym (same_place-same stretch.way (first_way (split_of greatest list).tests (split_of greatest list).last) e)
+            ∙ sym (same_place-same stretch.class (first_class (split_of greatest list).tests (split_of greatest list).last) e)
         at false g = again
 
-    by : (t : Bool) → nat_le greatest stretch.greatest ≡ t → way_on (split_of greatest list).tests
-        (split_of greatest list).last unit ≡ way_on list None unit
-        → way_on (if t then record { tests = []; last = stretch.way } else before stretch (split_of greatest list)).tests
-        (if t then record { tests = []; last = stretch.way } else before stretch (split_of greatest list)).last unit
-        ≡ way_on (stretch ∷ list) None unit
+    by : (t : Bool) → nat_le greatest stretch.greatest ≡ t → class_on (split_of greatest list).tests
+        (split_of greatest list).last unit ≡ class_on list None unit
+        → class_on (if t then record { tests = []; last = stretch.class } else before stretch (split_of greatest list)).tests
+        (if t then record { tests = []; last = stretch.class } else before stretch (split_of greatest list)).last unit
+        ≡ class_on (stretch ∷ list) None unit
     by true e again =
         let g : greatest ≤ stretch.greatest = leb-true greatest stretch.greatest e in
-        ap (λ t. if t then stretch.way else way_on list None unit) (sym (le-leb unit stretch.greatest (omega arith)))
-    by false e again = join (same_place stretch.way (first_way (split_of greatest list).tests (split_of greatest list).last)) refl again
+        ap (λ t. if t then stretch.class else class_on list None unit) (sym (le-leb unit stretch.greatest (omega arith)))
+    by false e again = join (same_place stretch.class (first_class (split_of greatest list).tests (split_of greatest list).last)) refl again
 
-way_on-edge_split : (greatest : ℕ) (edges : List Edge) (unit : ℕ) → AreApartFrom 0 edges → unit ≤ greatest
-    → way_on (edge_split greatest edges).tests (edge_split greatest edges).last unit ≡ edge_way (ways_of edges) (edge_on edges unit)
-way_on-edge_split greatest edges unit apart le =
-    way_on-split_of greatest 0 (stretches (ways_of edges) 0 edges) unit (Ascend-stretches (ways_of edges) 0 edges apart) le
-    ∙ way_on-stretches (ways_of edges) 0 edges unit apart (omega arith)
+class_on-edge_split : (greatest : ℕ) (edges : List Edge) (unit : ℕ) → AreApartFrom 0 edges → unit ≤ greatest
+    → class_on (edge_split greatest edges).tests (edge_split greatest edges).last unit ≡ edge_class (transition_classes edges) (edge_on edges unit)
+class_on-edge_split greatest edges unit apart le =
+    class_on-split_of greatest 0 (stretches (transition_classes edges) 0 edges) unit (Ascend-stretches (transition_classes edges) 0 edges apart) le
+    ∙ class_on-stretches (transition_classes edges) 0 edges unit apart (omega arith)
 
 -- the tests of a state
 pub picked-edge_tree : (greatest : ℕ) (edges : List Edge) (unit : ℕ) → AreApartFrom 0 edges → unit ≤ greatest
-    → picked (edge_tree greatest edges) unit ≡ edge_way (ways_of edges) (edge_on edges unit)
+    → picked (edge_tree greatest edges) unit ≡ edge_class (transition_classes edges) (edge_on edges unit)
 picked-edge_tree greatest edges unit apart le =
     picked-balanced 0 (edge_split greatest edges).tests (edge_split greatest edges).last unit
-    (Ascend-split_of greatest 0 (stretches (ways_of edges) 0 edges) (Ascend-stretches (ways_of edges) 0 edges apart))
-    ∙ way_on-edge_split greatest edges unit apart le
+    (Ascend-split_of greatest 0 (stretches (transition_classes edges) 0 edges) (Ascend-stretches (transition_classes edges) 0 edges apart))
+    ∙ class_on-edge_split greatest edges unit apart le

@@ -5,7 +5,7 @@ use Rattle.std.specs.List.{AllByRecursion}
 use Rattle.lx_ccode.specs.Statements.{code_length}
 use Rattle.lx_ccode.specs.declared.piece.Stmt.{Stmt}
 use Rattle.lx_ccode.specs.declared.piece.Stmt.TheVariants.{Goto, IfUnit, Peek}
-use Rattle.lx_gen.specs.Layout.{front_blocks, front_size, numbered, way_block}
+use Rattle.lx_gen.specs.Layout.{front_blocks, front_size, numbered, class_block}
 use Rattle.lx_gen.specs.TestTrees.{TestTree, fork, inner_blocks, inner_size, leaf, picked, test, tree_code}
 use Rattle.lx_gen.proofs.BlockLayouts.BalancedTrees.{EachTest}
 use Rattle.lx_gen.proofs.Validity.EachElement.{each-append}
@@ -30,41 +30,41 @@ length-front_blocks from (leaf block) = refl
 length-front_blocks from (test greatest block high) = ap suc (length-inner_blocks (suc from) (test greatest block high))
 length-front_blocks from (fork greatest low high) = ap suc (length-inner_blocks (suc from) (fork greatest low high))
 
--- ---- numbers of blocks in place of ways
+-- ---- numbers of blocks in place of classes
 
 module _ (first end : ℕ) where
   pub inner_size-numbered : (tree : TestTree (Option ℕ)) → inner_size (numbered first end tree) ≡ inner_size tree
-  inner_size-numbered (leaf way) = refl
-  inner_size-numbered (test greatest way high) = inner_size-numbered high
+  inner_size-numbered (leaf class) = refl
+  inner_size-numbered (test greatest class high) = inner_size-numbered high
   inner_size-numbered (fork greatest low high) = ap₂ (λ a b. suc a + b) (inner_size-numbered low) (inner_size-numbered high)
 
   pub front_size-numbered : (tree : TestTree (Option ℕ)) → front_size (numbered first end tree) ≡ front_size tree
-  front_size-numbered (leaf way) = refl
-  front_size-numbered (test greatest way high) = ap suc (inner_size-numbered (test greatest way high))
+  front_size-numbered (leaf class) = refl
+  front_size-numbered (test greatest class high) = ap suc (inner_size-numbered (test greatest class high))
   front_size-numbered (fork greatest low high) = ap suc (inner_size-numbered (fork greatest low high))
 
-  pub picked-numbered : (tree : TestTree (Option ℕ)) (unit : ℕ) → picked (numbered first end tree) unit ≡ way_block first end (picked tree unit)
-  picked-numbered (leaf way) unit = refl
-  picked-numbered (test greatest way high) unit = by (nat_le unit greatest) (picked-numbered high unit)
+  pub picked-numbered : (tree : TestTree (Option ℕ)) (unit : ℕ) → picked (numbered first end tree) unit ≡ class_block first end (picked tree unit)
+  picked-numbered (leaf class) unit = refl
+  picked-numbered (test greatest class high) unit = by (nat_le unit greatest) (picked-numbered high unit)
     where
-      by : (t : Bool) → picked (numbered first end high) unit ≡ way_block first end (picked high unit)
-          → (if t then way_block first end way else picked (numbered first end high) unit) ≡ way_block first end
-          (if t then way else picked high unit)
+      by : (t : Bool) → picked (numbered first end high) unit ≡ class_block first end (picked high unit)
+          → (if t then class_block first end class else picked (numbered first end high) unit) ≡ class_block first end
+          (if t then class else picked high unit)
       by true again = refl
       by false again = again
   picked-numbered (fork greatest low high) unit = by (nat_le unit greatest) (picked-numbered low unit) (picked-numbered high unit)
     where
-      by : (t : Bool) → picked (numbered first end low) unit ≡ way_block first end (picked low unit)
-          → picked (numbered first end high) unit ≡ way_block first end (picked high unit)
-          → (if t then picked (numbered first end low) unit else picked (numbered first end high) unit) ≡ way_block first end
+      by : (t : Bool) → picked (numbered first end low) unit ≡ class_block first end (picked low unit)
+          → picked (numbered first end high) unit ≡ class_block first end (picked high unit)
+          → (if t then picked (numbered first end low) unit else picked (numbered first end high) unit) ≡ class_block first end
           (if t then picked low unit else picked high unit)
       by true again_low again_high = again_low
       by false again_low again_high = again_high
 
-  pub each-numbered : (G : ℕ → Type 0) (W : Option ℕ → Type 0) (B : ℕ → Type 0) → ((way : Option ℕ) → W way → B (way_block first end way))
+  pub each-numbered : (G : ℕ → Type 0) (W : Option ℕ → Type 0) (B : ℕ → Type 0) → ((class : Option ℕ) → W class → B (class_block first end class))
       → (tree : TestTree (Option ℕ)) → EachTest G W tree → EachTest G B (numbered first end tree)
-  each-numbered G W B f (leaf way) h = f way h
-  each-numbered G W B f (test greatest way high) h = (h.0, f way h.1, each-numbered G W B f high h.2)
+  each-numbered G W B f (leaf class) h = f class h
+  each-numbered G W B f (test greatest class high) h = (h.0, f class h.1, each-numbered G W B f high h.2)
   each-numbered G W B f (fork greatest low high) h = (h.0, each-numbered G W B f low h.1, each-numbered G W B f high h.2)
 
 -- ---- what holds of the code of a tree, if it holds of a jump, and stays so with a test in front, and with the unit read before

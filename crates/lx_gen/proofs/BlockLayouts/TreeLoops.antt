@@ -9,7 +9,7 @@ use Rattle.lx_gen.specs.Layout.{numbered}
 use Rattle.lx_gen.specs.Plans.{unlabelled}
 use Rattle.lx_gen.specs.TestTrees.{TestTree, balanced, first_place, fork, halved, inner_blocks, inner_size, tree_code}
 use Rattle.lx_gen.specs.Views.{seen_stretch, seen_stretches, seen_test, seen_tree}
-use Rattle.lx_gen.specs.Ways.{Stretch}
+use Rattle.lx_gen.specs.TransitionClasses.{Stretch}
 use Rattle.lx_gen.specs.declared.test_trees.TestTree as held_tree
 use Rattle.lx_gen.specs.declared.test_trees.TestTree.TheOpen.{TestTree-F}
 use Rattle.lx_gen.specs.declared.test_trees.TestTree.TheVariants.{Fork, rolls-Fork}
@@ -47,21 +47,21 @@ module _ (list : List held.Stretch) (none : held.Stretch) (last : Option ℕ) (s
   high = seen_stretches (drop (place + 1) list)
 
   abbrev built : List Stretch → Option ℕ → TestTree (Option ℕ)
-  built part way = balanced part way
+  built part class = balanced part class
 
-  parts : balanced (seen_stretches list) last ≡ halved (λ part way. balanced part way) low (seen_stretch middle ∷ high) last
+  parts : balanced (seen_stretches list) last ≡ halved (λ part class. balanced part class) low (seen_stretch middle ∷ high) last
   parts =
       balanced-halved (seen_stretches list) last
       ∙ ap₂ (λ below above. halved built below above last) (take-map seen_stretch place list)
       (drop-map seen_stretch place list ∙ ap seen_stretches (drop_more list place none place-in))
 
   halved-some : (part : List Stretch) → 0 < length part
-      → halved built part (seen_stretch middle ∷ high) last ≡ fork middle.greatest (balanced part middle.way) (balanced high last)
+      → halved built part (seen_stretch middle ∷ high) last ≡ fork middle.greatest (balanced part middle.class) (balanced high last)
   halved-some [] lt = absurd (omega (arith, lt))
   halved-some (stretch ∷ part) lt = refl
 
   pub balanced-both : 0 < place
-      → balanced (seen_stretches list) last ≡ fork middle.greatest (balanced low middle.way) (balanced high last)
+      → balanced (seen_stretches list) last ≡ fork middle.greatest (balanced low middle.class) (balanced high last)
   balanced-both lt =
       let many = length-map (take place list) seen_stretch ∙ length-take-le place list (let inside = place-in in omega (arith, inside)) in
       parts ∙ halved-some low (omega (arith, many, lt))

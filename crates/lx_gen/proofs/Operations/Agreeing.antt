@@ -9,7 +9,7 @@ use Rattle.lx_auto.specs.declared.ops.Op.{Op}
 use Rattle.lx_auto.specs.declared.ops.Op.TheVariants.{Here, Null, Copy, MHere, MNull, MCopy}
 use Rattle.lx_gen.specs.ParallelCopies.{sequentialized}
 use Rattle.lx_gen.specs.Turns.{after_ops}
-use Rattle.lx_gen.proofs.Operations.OneByOne.{mregs-sequentialized, regs-sequentialized}
+use Rattle.lx_gen.proofs.Operations.Sequentialized.{mregs-sequentialized, regs-sequentialized}
 use Rattle.lx_gen.proofs.Operations.OpBounds.{AllClear-ops}
 
 module _ (regs mregs : ℕ) where

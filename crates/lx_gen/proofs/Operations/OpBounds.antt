@@ -6,7 +6,7 @@ use Rattle.lx_auto.specs.declared.ops.Op.{Op}
 use Rattle.lx_auto.specs.declared.ops.Op.TheVariants.{Here, Null, Copy, MHere, MNull, MCopy}
 use Rattle.lx_gen.specs.ParallelCopies.{Copies, sources, is_in, read_from, unread_target, next_copies, in_sequence, writes, copies_into, unless_later, copies, marks, mcopies, added_marks, copy_ops, mcopy_ops, sequentialized}
 use Rattle.lx_gen.proofs.Runs.RunMachines.{ArePositive}
-use Rattle.lx_gen.proofs.Operations.OneByOne.{AllClear}
+use Rattle.lx_gen.proofs.Operations.Sequentialized.{AllClear}
 
 -- the spares are behind the registers that are there
 pub AllClear-ops : (regs mregs : ℕ) (ops : List Op) → AreOps regs mregs ops → AllClear regs mregs ops

@@ -3,7 +3,7 @@ use Rattle.std.proofs.Common.{◌≡◌, List, [], ◌∷◌, refl, ap₂, rules
 use Rattle.std.specs.Cmp.Lexicographic.{pointwise}
 use Rattle.lx_auto.specs.contracts.ops.OpPartialEq.TheImpl.{eq-value}
 use Rattle.lx_auto.specs.declared.ops.Op.{Op}
-use Rattle.lx_gen.specs.Ways.{same_op, same_ops}
+use Rattle.lx_gen.specs.TransitionClasses.{same_op, same_ops}
 
 eq-value-same_op : (op other : Op) → eq-value.it op other ≡ same_op op other
 eq-value-same_op op other = search rules

@@ -7,9 +7,9 @@ use Rattle.lx_auto.specs.Automaton.{state_of}
 use Rattle.lx_auto.specs.declared.automaton.Accept.{Accept}
 use Rattle.lx_auto.specs.declared.automaton.Held.{Held}
 use Rattle.lx_auto.specs.declared.automaton.State.{State}
-use Rattle.lx_gen.specs.Codes.{chosen, is_kept, restore_code}
+use Rattle.lx_gen.specs.Codes.{chosen, is_saved, restore_code}
 use Rattle.lx_gen.specs.Endings.{Ending, ending_code}
-use Rattle.lx_gen.specs.Layout.{AreAgreed, accepts_of, choices_from, ending_blocks, firsts_onto, has_rule, kept_accept, kept_of, restore_blocks, rule_place, with_accept}
+use Rattle.lx_gen.specs.Layout.{AreAgreed, accepts_of, choices_from, ending_blocks, firsts_onto, has_rule, saved_accept, saved_of, restore_blocks, rule_place, with_accept}
 use Rattle.lx_gen.proofs.BlockLayouts.FirstAccepts.{Chosen, each-firsts, has_rule-onto, has_rule-own}
 
 -- ---- the first accept of each rule
@@ -92,58 +92,58 @@ first_end_stands endings states s accept lt is =
 
 -- ---- the blocks of the fallback
 
-slice_get-restore_blocks : (rules : ℕ → ℕ) (kepts : List Accept) (i : ℕ) (accept : Accept) → slice_get kepts i ≡ Some accept
-    → slice_get (restore_blocks rules kepts) i ≡ Some (restore_code (rules accept.rule))
+slice_get-restore_blocks : (rules : ℕ → ℕ) (saved_accepts : List Accept) (i : ℕ) (accept : Accept) → slice_get saved_accepts i ≡ Some accept
+    → slice_get (restore_blocks rules saved_accepts) i ≡ Some (restore_code (rules accept.rule))
 slice_get-restore_blocks rules [] i accept e = absurd (cc)
-slice_get-restore_blocks rules (first ∷ kepts) zero accept e =
+slice_get-restore_blocks rules (first ∷ saved_accepts) zero accept e =
     let same : first ≡ accept = cc in ap (λ (a : Accept). Some (restore_code (rules a.rule))) same
-slice_get-restore_blocks rules (first ∷ kepts) (suc i) accept e = slice_get-restore_blocks rules kepts i accept e
+slice_get-restore_blocks rules (first ∷ saved_accepts) (suc i) accept e = slice_get-restore_blocks rules saved_accepts i accept e
 
--- the rule by which a state accepts that is kept
-pub has_rule-kept : (states : List State) (s : ℕ) (accept : Accept) → s < length states → is_kept states (state_of states s) ≡ true
-    → (state_of states s).accept ≡ Some accept → has_rule (kept_of states) accept.rule ≡ true
-has_rule-kept states s accept lt kept is =
-    has_rule-firsts_onto (kept_accept states) states [] s accept lt
-    (ap (λ t. if t then (state_of states s).accept else None) kept ∙ is)
+-- the rule by which a saved state accepts
+pub has_rule-saved : (states : List State) (s : ℕ) (accept : Accept) → s < length states → is_saved states (state_of states s) ≡ true
+    → (state_of states s).accept ≡ Some accept → has_rule (saved_of states) accept.rule ≡ true
+has_rule-saved states s accept lt saved is =
+    has_rule-firsts_onto (saved_accept states) states [] s accept lt
+    (ap (λ t. if t then (state_of states s).accept else None) saved ∙ is)
 
-pub restore_stands : (rules : ℕ → ℕ) (kepts : List Accept) (rule : ℕ) → has_rule kepts rule ≡ true
-    → slice_get (restore_blocks rules kepts) (rule_place kepts rule) ≡ Some (restore_code (rules rule))
-restore_stands rules kepts rule has =
-    let found = rule_found (λ accept. Unit {0}) kepts rule (AllByRecursion-any kepts) has in
-    slice_get-restore_blocks rules kepts (rule_place kepts rule) found.0 found.1 ∙ ap (λ rule. Some (restore_code (rules rule))) found.2
+pub restore_stands : (rules : ℕ → ℕ) (saved_accepts : List Accept) (rule : ℕ) → has_rule saved_accepts rule ≡ true
+    → slice_get (restore_blocks rules saved_accepts) (rule_place saved_accepts rule) ≡ Some (restore_code (rules rule))
+restore_stands rules saved_accepts rule has =
+    let found = rule_found (λ accept. Unit {0}) saved_accepts rule (AllByRecursion-any saved_accepts) has in
+    slice_get-restore_blocks rules saved_accepts (rule_place saved_accepts rule) found.0 found.1 ∙ ap (λ rule. Some (restore_code (rules rule))) found.2
 
 -- no number below the first one is chosen
-pub chosen-below : (kept block n : ℕ) (kepts : List Accept) → n < kept → chosen (choices_from kept block kepts) n ≡ None
-chosen-below kept block n [] lt = refl
-chosen-below kept block n (accept ∷ kepts) lt =
-    let ne : n ≢ kept = λ e. omega arith in
-    ap (λ t. if t then Some block else chosen (choices_from (suc kept) (suc block) kepts) n) (ne_eqb n kept ne)
-    ∙ chosen-below (suc kept) (suc block) n kepts (omega arith)
+pub chosen-below : (saved block n : ℕ) (saved_accepts : List Accept) → n < saved → chosen (choices_from saved block saved_accepts) n ≡ None
+chosen-below saved block n [] lt = refl
+chosen-below saved block n (accept ∷ saved_accepts) lt =
+    let ne : n ≢ saved = λ e. omega arith in
+    ap (λ t. if t then Some block else chosen (choices_from (suc saved) (suc block) saved_accepts) n) (ne_eqb n saved ne)
+    ∙ chosen-below (suc saved) (suc block) n saved_accepts (omega arith)
 
 -- the number at a rule's place leads to the block at that place
-pub chosen-choices_from : (kept block : ℕ) (kepts : List Accept) (rule : ℕ) → has_rule kepts rule ≡ true
-    → chosen (choices_from kept block kepts) (kept + rule_place kepts rule) ≡ Some (block + rule_place kepts rule)
-chosen-choices_from kept block [] rule e = absurd (true≢false (sym e))
-chosen-choices_from kept block (accept ∷ kepts) rule e =
-    by (nat_eq rule accept.rule) e (λ h. chosen-choices_from (suc kept) (suc block) kepts rule h)
+pub chosen-choices_from : (saved block : ℕ) (saved_accepts : List Accept) (rule : ℕ) → has_rule saved_accepts rule ≡ true
+    → chosen (choices_from saved block saved_accepts) (saved + rule_place saved_accepts rule) ≡ Some (block + rule_place saved_accepts rule)
+chosen-choices_from saved block [] rule e = absurd (true≢false (sym e))
+chosen-choices_from saved block (accept ∷ saved_accepts) rule e =
+    by (nat_eq rule accept.rule) e (λ h. chosen-choices_from (suc saved) (suc block) saved_accepts rule h)
   where
     place : ℕ
-    place = rule_place kepts rule
+    place = rule_place saved_accepts rule
 
-    by : (t : Bool) → (if t then true else has_rule kepts rule) ≡ true
-        → (has_rule kepts rule ≡ true → chosen (choices_from (suc kept) (suc block) kepts) (suc kept + rule_place kepts rule) ≡ Some
-        (suc block + rule_place kepts rule))
-        → chosen (choices_from kept block (accept ∷ kepts)) (kept + (if t then 0 else suc (rule_place kepts rule)))
-        ≡ Some (block + (if t then 0 else suc (rule_place kepts rule)))
+    by : (t : Bool) → (if t then true else has_rule saved_accepts rule) ≡ true
+        → (has_rule saved_accepts rule ≡ true → chosen (choices_from (suc saved) (suc block) saved_accepts) (suc saved + rule_place saved_accepts rule) ≡ Some
+        (suc block + rule_place saved_accepts rule))
+        → chosen (choices_from saved block (accept ∷ saved_accepts)) (saved + (if t then 0 else suc (rule_place saved_accepts rule)))
+        ≡ Some (block + (if t then 0 else suc (rule_place saved_accepts rule)))
     by true e again =
-        let same : kept + 0 ≡ kept = omega arith in
+        let same : saved + 0 ≡ saved = omega arith in
         let at : block ≡ block + 0 = omega arith in
-        ap (λ t. if t then Some block else chosen (choices_from (suc kept) (suc block) kepts) (kept + 0)) (eq-eqb (kept + 0) kept same)
+        ap (λ t. if t then Some block else chosen (choices_from (suc saved) (suc block) saved_accepts) (saved + 0)) (eq-eqb (saved + 0) saved same)
         ∙ ap (λ n. Some n) at
     by false e again =
-        let ne : kept + suc place ≢ kept = λ e. omega arith in
-        let up : kept + suc (rule_place kepts rule) ≡ suc kept + rule_place kepts rule = omega arith in
-        let to : suc block + rule_place kepts rule ≡ block + suc (rule_place kepts rule) = omega arith in
-        ap (λ t. if t then Some block else chosen (choices_from (suc kept) (suc block) kepts) (kept + suc (rule_place kepts rule)))
-        (ne_eqb (kept + suc place) kept ne)
-        ∙ ap (λ n. chosen (choices_from (suc kept) (suc block) kepts) n) up ∙ again e ∙ ap (λ n. Some n) to
+        let ne : saved + suc place ≢ saved = λ e. omega arith in
+        let up : saved + suc (rule_place saved_accepts rule) ≡ suc saved + rule_place saved_accepts rule = omega arith in
+        let to : suc block + rule_place saved_accepts rule ≡ block + suc (rule_place saved_accepts rule) = omega arith in
+        ap (λ t. if t then Some block else chosen (choices_from (suc saved) (suc block) saved_accepts) (saved + suc (rule_place saved_accepts rule)))
+        (ne_eqb (saved + suc place) saved ne)
+        ∙ ap (λ n. chosen (choices_from (suc saved) (suc block) saved_accepts) n) up ∙ again e ∙ ap (λ n. Some n) to

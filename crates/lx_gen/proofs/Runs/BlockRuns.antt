@@ -16,7 +16,7 @@ use Rattle.lx_ccode.specs.declared.piece.Stmt.TheVariants.{Goto, Restore, Skip}
 use Rattle.lx_ccode.specs.Machine.{Answer, Machine, jump, skip}
 use Rattle.lx_ccode.specs.Statements.{code_of, statement_count}
 use Rattle.lx_tdfa.specs.Promise.{tag_value}
-use Rattle.lx_gen.specs.Codes.{accept_code, choices_code, edge_code, is_kept, keep_code, keeps_by, keeps_on, list_code, restore_code}
+use Rattle.lx_gen.specs.Codes.{accept_code, choices_code, edge_code, is_saved, save_code, saves_by, saves_on, list_code, restore_code}
 use Rattle.lx_gen.specs.Endings.{Ending, ending_code}
 use Rattle.lx_gen.specs.ParallelCopies.{sequentialized}
 use Rattle.lx_gen.specs.Serving.{HasCode, IsEnd, IsTarget, Serves}
@@ -24,20 +24,20 @@ use Rattle.lx_gen.specs.Stops.{told_found}
 use Rattle.lx_gen.specs.Told.{told_at}
 use Rattle.lx_gen.specs.Turns.{after_ops}
 use Rattle.lx_gen.proofs.Operations.Agreeing.{Agrees, Agrees-after, read_all-agrees}
-use Rattle.lx_gen.proofs.Runs.RunMachines.{choices_end, choices_run, keep_size, length-keep_code, length-ops_code, machine_at, ops_run}
+use Rattle.lx_gen.proofs.Runs.RunMachines.{choices_end, choices_run, save_size, length-save_code, length-ops_code, machine_at, ops_run}
 use Rattle.lx_gen.proofs.Operations.OpBounds.{ArePositive-sequentialized}
 use Rattle.lx_gen.proofs.Rules.RuleEnds.{ending_run, goto_run}
 use Rattle.lx_gen.proofs.BlockLayouts.StandingCodes.{length-block}
 use Rattle.lx_gen.proofs.Runs.PartialRuns.{EndsIn, LeadsIn, end_in, stays_in, step_in, then_in, widen_end}
 
--- the accepting state that the piece kept last is one that is found again
+-- the accepting state that the piece saved last is one that is found again
 abbrev pub IsFoundAgain : Auto → Option Left → Type 0
 IsFoundAgain auto None = Unit {0}
 IsFoundAgain auto (Some left) =
-    (left.state < length auto.states) × (is_kept auto.states (state_of auto.states left.state) ≡ true)
+    (left.state < length auto.states) × (is_saved auto.states (state_of auto.states left.state) ≡ true)
     × ((state_of auto.states left.state).accept ≡ Some left.accept)
 
--- what is kept on an edge out of a state, by what that state accepts and the next one does
+-- what is saved on an edge out of a state, by what that state accepts and the next one does
 abbrev pub held_after : Option Accept → (next : Option Accept) → (state offset : ℕ) → (held : Option Left) → Option Left
 held_after None next state offset held = held
 held_after (Some accept) None state offset held = Some (record { state = state; accept = accept; offset = offset })
@@ -47,12 +47,12 @@ abbrev pub marker_of : (start : ℕ) → Option Left → ℕ
 marker_of start None = start
 marker_of start (Some left) = left.offset
 
-abbrev pub number_of : (kept : ℕ → ℕ) → Option Left → ℕ
-number_of kept None = 0
-number_of kept (Some left) = kept left.state
+abbrev pub number_of : (saved : ℕ → ℕ) → Option Left → ℕ
+number_of saved None = 0
+number_of saved (Some left) = saved left.state
 
-module _ (p : Piece) (x : List ℕ) (start : ℕ) (endings : ℕ → Ending) (greatest : ℕ) (auto : Auto) (place kept rules : ℕ → ℕ) (fall : ℕ)
-    (serves : Serves endings greatest auto (code_of p.blocks) place kept rules fall) (formed : IsAuto auto) (first : Option ℕ) (cond : List ℕ)
+module _ (p : Piece) (x : List ℕ) (start : ℕ) (endings : ℕ → Ending) (greatest : ℕ) (auto : Auto) (place saved rules : ℕ → ℕ) (fall : ℕ)
+    (serves : Serves endings greatest auto (code_of p.blocks) place saved rules fall) (formed : IsAuto auto) (first : Option ℕ) (cond : List ℕ)
     (lim : ℕ) where
   -- the statements of the piece
   abbrev pub all : ℕ
@@ -62,14 +62,14 @@ module _ (p : Piece) (x : List ℕ) (start : ℕ) (endings : ℕ → Ending) (gr
   state_at s = state_of auto.states s
 
   abbrev pub Has : ℕ → List Stmt → Type 0
-  Has block code = HasCode endings greatest auto (code_of p.blocks) place kept rules fall block code
+  Has block code = HasCode endings greatest auto (code_of p.blocks) place saved rules fall block code
 
   abbrev pub Target : (s : ℕ) → Option Edge → ℕ → Type 0
-  Target s o block = IsTarget endings greatest auto (code_of p.blocks) place kept rules fall s (state_at s) o block
+  Target s o block = IsTarget endings greatest auto (code_of p.blocks) place saved rules fall s (state_at s) o block
 
-  -- the machine, where the accepting state that was kept last is this one
+  -- the machine, where the accepting state that was saved last is this one
   abbrev pub at : (pos : ℕ) → (held : Option Left) → (u : Option ℕ) → Bank → Machine
-  at pos held u k = machine_at pos (marker_of start held) lim u (number_of kept held) first k cond []
+  at pos held u k = machine_at pos (marker_of start held) lim u (number_of saved held) first k cond []
 
   abbrev Agree : Bank → Bank → Type 0
   Agree k b = Agrees auto.regs auto.mregs k b
@@ -79,7 +79,7 @@ module _ (p : Piece) (x : List ℕ) (start : ℕ) (endings : ℕ → Ending) (gr
       → LeadsIn p x start (length (sequentialized auto.regs auto.mregs ops)) (list_code auto ops rest) (at pos held u k) q rest
       (at pos held u (after_ops pos (sequentialized auto.regs auto.mregs ops) k)) q
   list_run ops are rest pos held u k q =
-      ops_run p x start pos (marker_of start held) lim u (number_of kept held) first cond [] q (sequentialized auto.regs auto.mregs ops)
+      ops_run p x start pos (marker_of start held) lim u (number_of saved held) first cond [] q (sequentialized auto.regs auto.mregs ops)
       (ArePositive-sequentialized auto.regs auto.mregs ops are) rest k
 
   -- ---- where no unit is passed any more
@@ -94,7 +94,7 @@ module _ (p : Piece) (x : List ℕ) (start : ℕ) (endings : ℕ → Ending) (gr
       subst (λ v. EndsIn p x start (length (ending_code endings accept.rule accept.values)) (ending_code endings accept.rule accept.values)
       (at cur held u k) q (told_at endings cond accept.rule cur (map tag_value v)))
       (read_all-agrees auto.regs auto.mregs accept.values k b is.1 agree)
-      (ending_run p x start (marker_of start held) lim u (number_of kept held) first k q endings accept.rule accept.values cur cond)
+      (ending_run p x start (marker_of start held) lim u (number_of saved held) first k q endings accept.rule accept.values cur cond)
 
   -- by a jump to that block
   jump_run : (accept : Accept) (cur : ℕ) (held : Option Left) (u : Option ℕ) (k b : Bank) (q : List Answer)
@@ -105,7 +105,7 @@ module _ (p : Piece) (x : List ℕ) (start : ℕ) (endings : ℕ → Ending) (gr
       subst (λ v. EndsIn p x start (suc (length (ending_code endings accept.rule accept.values))) (Goto (rules accept.rule) ∷ [])
       (at cur held u k) q (told_at endings cond accept.rule cur (map tag_value v)))
       (read_all-agrees auto.regs auto.mregs accept.values k b is.1 agree)
-      (goto_run p x start (marker_of start held) lim u (number_of kept held) first k q endings accept.rule (rules accept.rule) accept.values cur cond
+      (goto_run p x start (marker_of start held) lim u (number_of saved held) first k q endings accept.rule (rules accept.rule) accept.values cur cond
       has)
 
   -- by what the state accepts
@@ -144,7 +144,7 @@ module _ (p : Piece) (x : List ℕ) (start : ℕ) (endings : ℕ → Ending) (gr
       end_in p x start (3 * all) h
       (end_in p x start (2 + length (ending_code endings left.accept.rule left.accept.values)) t g (omega arith)) (omega (arith, n, n2, n3))
 
-  -- From the block where a match ends. What was kept counts only where the state does not accept, and there it is what was left last.
+  -- From the block where a match ends. What was saved counts only where the state does not accept, and there it is what was left last.
   pub stop_run : (s block pos : ℕ) (code : List Stmt) (left held : Option Left) (u : Option ℕ) (k b : Bank) (q : List Answer)
       → s < length auto.states → Target s None block → Has block code → Agree k b → IsFoundAgain auto held
       → ((state_at s).accept ≡ None → held ≡ left)
@@ -155,7 +155,7 @@ module _ (p : Piece) (x : List ℕ) (start : ℕ) (endings : ℕ → Ending) (gr
       by (state_at s).accept refl target (state_formed auto s formed).accept
     where
       accepted : (accept : Accept) → Has (rules accept.rule) (ending_code endings accept.rule accept.values)
-          → IsEnd endings greatest auto (code_of p.blocks) place kept rules fall (Some accept) block → IsAccept auto.regs auto.mregs (Some accept)
+          → IsEnd endings greatest auto (code_of p.blocks) place saved rules fall (Some accept) block → IsAccept auto.regs auto.mregs (Some accept)
           → EndsIn p x start (3 * all) code (at pos held u k) q
           (told_at endings cond accept.rule pos (map tag_value (read_all (bank_after pos accept.ops b) accept.values)))
       accepted accept ends (inl e) is =
@@ -176,7 +176,7 @@ module _ (p : Piece) (x : List ℕ) (start : ℕ) (endings : ℕ → Ending) (gr
           (told_at endings cond accept.rule pos (map tag_value (read_all (bank_after pos accept.ops b) accept.values)))) (sym c)
           (widen_end p x start (3 * all) (rule_run accept pos held u k (bank_after pos accept.ops b) q is still) (omega (arith, n)))
 
-      by : (o : Option Accept) → (state_at s).accept ≡ o → IsEnd endings greatest auto (code_of p.blocks) place kept rules fall o block
+      by : (o : Option Accept) → (state_at s).accept ≡ o → IsEnd endings greatest auto (code_of p.blocks) place saved rules fall o block
           → IsAccept auto.regs auto.mregs o
           → EndsIn p x start (3 * all) code (at pos held u k) q
           (told_found endings cond (or_else (found_by o (record { state = s; offset = pos; bank = b; left = left })) (found_left b left)) pos)
@@ -190,13 +190,13 @@ module _ (p : Piece) (x : List ℕ) (start : ℕ) (endings : ℕ → Ending) (gr
 
   -- ---- along an edge
 
-  keep_run : (o next : Option Accept) (s pos : ℕ) (held : Option Left) (rest : List Stmt) (u : Option ℕ) (k : Bank) (q : List Answer)
-      → LeadsIn p x start (keep_size (keeps_by o next)) (keep_code (keeps_by o next) (kept s) rest) (at pos held u k) q rest
+  save_run : (o next : Option Accept) (s pos : ℕ) (held : Option Left) (rest : List Stmt) (u : Option ℕ) (k : Bank) (q : List Answer)
+      → LeadsIn p x start (save_size (saves_by o next)) (save_code (saves_by o next) (saved s) rest) (at pos held u k) q rest
       (at pos (held_after o next s pos held) u k) q
-  keep_run None None s pos held rest u k q = stays_in p x start 0 rest _ q
-  keep_run None (Some other) s pos held rest u k q = stays_in p x start 0 rest _ q
-  keep_run (Some accept) (Some other) s pos held rest u k q = stays_in p x start 0 rest _ q
-  keep_run (Some accept) None s pos held rest u k q =
+  save_run None None s pos held rest u k q = stays_in p x start 0 rest _ q
+  save_run None (Some other) s pos held rest u k q = stays_in p x start 0 rest _ q
+  save_run (Some accept) (Some other) s pos held rest u k q = stays_in p x start 0 rest _ q
+  save_run (Some accept) None s pos held rest u k q =
       then_in p x start 2 (step_in p x start refl (omega arith)) (step_in p x start refl (omega arith)) (omega arith)
 
   -- the registers of the machine behind an edge
@@ -204,14 +204,14 @@ module _ (p : Piece) (x : List ℕ) (start : ℕ) (endings : ℕ → Ending) (gr
   behind s pos edge k = after_ops pos (sequentialized auto.regs auto.mregs edge.ops)
       (after_ops pos (sequentialized auto.regs auto.mregs (state_at s).leave) k)
 
-  -- what is kept behind it
+  -- what is saved behind it
   abbrev pub held_behind : (s pos : ℕ) → Edge → (held : Option Left) → Option Left
   held_behind s pos edge held = held_after (state_at s).accept (state_at edge.to).accept s pos held
 
   pub edge_run : (edge : Edge) (to : List Stmt) (s pos : ℕ) (held : Option Left) (u : Option ℕ) (k : Bank) (q : List Answer)
       → AreOps auto.regs auto.mregs edge.ops → Has (place edge.to) to → pos < lim
-      → LeadsIn p x start (length (edge_code auto (state_at s) (kept s) edge (place edge.to)))
-      (edge_code auto (state_at s) (kept s) edge (place edge.to)) (at pos held u k) q
+      → LeadsIn p x start (length (edge_code auto (state_at s) (saved s) edge (place edge.to)))
+      (edge_code auto (state_at s) (saved s) edge (place edge.to)) (at pos held u k) q
       to (at (suc pos) (held_behind s pos edge held) u (behind s pos edge k)) q
   edge_run edge to s pos held u k q are has lt =
       let state : State = state_of auto.states s in
@@ -220,10 +220,10 @@ module _ (p : Piece) (x : List ℕ) (start : ℕ) (endings : ℕ → Ending) (gr
       let b2 : List Stmt = list_code auto edge.ops (Skip ∷ Goto (place edge.to) ∷ []) in
       let b1 : List Stmt = list_code auto (state_at s).leave (list_code auto edge.ops (Skip ∷ Goto (place edge.to) ∷ [])) in
       let k1 : Bank = after_ops pos (sequentialized auto.regs auto.mregs (state_at s).leave) k in
-      let l1 = length-keep_code (keeps_on auto.states state edge) (kept s) b1 in
+      let l1 = length-save_code (saves_on auto.states state edge) (saved s) b1 in
       let l2 = length-ops_code (sequentialized auto.regs auto.mregs (state_at s).leave) b2 in
       let l3 = length-ops_code (sequentialized auto.regs auto.mregs edge.ops) b3 in
-      let h1 = keep_run (state_at s).accept (state_at edge.to).accept s pos held b1 u k q in
+      let h1 = save_run (state_at s).accept (state_at edge.to).accept s pos held b1 u k q in
       let h2 = list_run (state_at s).leave (state_formed auto s formed).leave b2 pos held' u k q in
       let h3 = list_run edge.ops are b3 pos held' u k1 q in
       let t : nat_lt pos lim ≡ true = lt-ltb pos lim lt in
@@ -232,6 +232,6 @@ module _ (p : Piece) (x : List ℕ) (start : ℕ) (endings : ℕ → Ending) (gr
       let h4 = step_in p x start {s = Skip} {b = Goto (place edge.to) ∷ []} {m = m3} {m' = m4} {q = q}
       (ap (λ t. skip t (Goto (place edge.to) ∷ []) m3 q) t) (omega arith) in
       let h5 = step_in p x start {s = Goto (place edge.to)} {b = []} {m = m4} {m' = m4} {q = q} (ap (λ o. jump o m4 q) has) (omega arith) in
-      then_in p x start (length (edge_code auto (state_at s) (kept s) edge (place edge.to))) h1
+      then_in p x start (length (edge_code auto (state_at s) (saved s) edge (place edge.to))) h1
       (then_in p x start (length b1) h2 (then_in p x start (length b2) h3 (then_in p x start 2 h4 h5 (omega arith)) (omega (arith, l3)))
       (omega (arith, l2))) (omega (arith, l1))

@@ -151,7 +151,7 @@ module _ (policy : Policy) (enc : Enc) (patterns : List Pattern) (auto : Auto) (
     match_told (Some found) front cond =
         let best = front.best in
         let pattern : Pattern = best.pattern in
-        let kept = All-at (λ (pattern : Pattern). (endings pattern.number).slash ≡ pattern.slash)
+        let saved = All-at (λ (pattern : Pattern). (endings pattern.number).slash ≡ pattern.slash)
         (with_terms patterns) best.place best.pattern best.is ends.slashes in
         let set = All-at (λ (pattern : Pattern). IsSetBy enc pattern pattern.slash) (with_terms patterns) best.place best.pattern best.is ends.set in
         let back = put_back-cursor enc best.pattern best.pattern.slash start (part_at patterns best.place) front.front best.tree
@@ -161,7 +161,7 @@ module _ (policy : Policy) (enc : Enc) (patterns : List Pattern) (auto : Auto) (
         let told : told_at endings cond best.pattern.number found.offset
         (map tag_value found.values) ≡ told_by endings cond best.pattern.number back.0 (map tag_value found.values) =
         ap (λ s. told_with endings cond best.pattern.number found.offset (map tag_value found.values)
-        (put_back (slash_value s (map tag_value found.values)) found.offset)) kept
+        (put_back (slash_value s (map tag_value found.values)) found.offset)) saved
         ∙ ap (λ n. told_with endings cond best.pattern.number found.offset (map tag_value found.values)
         (put_back (slash_value best.pattern.slash (map tag_value found.values)) n)) best.offset
         ∙ ap (λ o. told_with endings cond best.pattern.number found.offset (map tag_value found.values) o) back.2 in (
@@ -196,15 +196,15 @@ module _ (policy : Policy) (enc : Enc) (patterns : List Pattern) (auto : Auto) (
       )
 
 -- a piece that asks for no refill, in a condition whose block is that of state 0
-pub served_right : (policy : Policy) (enc : Enc) (patterns : List Pattern) (auto : Auto) (endings : ℕ → Ending) (piece : Piece) (place kept rules : ℕ → ℕ) (fall : ℕ)
+pub served_right : (policy : Policy) (enc : Enc) (patterns : List Pattern) (auto : Auto) (endings : ℕ → Ending) (piece : Piece) (place saved rules : ℕ → ℕ) (fall : ℕ)
     (cond : List ℕ)
     → IsAutoUnder policy enc patterns auto → AreEndsOf enc patterns endings
-    → Serves endings (greatest_unit enc) auto (code_of piece.blocks) place kept rules fall
+    → Serves endings (greatest_unit enc) auto (code_of piece.blocks) place saved rules fall
     → list_any is_refill (all_statements piece.blocks) ≡ false → entry_block piece.conds cond ≡ Some (place 0)
     → IsRightUnder policy cond enc patterns endings piece
-served_right policy enc patterns auto endings piece place kept rules fall cond is ends serves quiet entry stream start schedule word registers histories le units legal at none empty =
+served_right policy enc patterns auto endings piece place saved rules fall cond is ends serves quiet entry stream start schedule word registers histories le units legal at none empty =
     let bank : Bank = bank_from registers histories in
     let told = outcome_told policy enc patterns auto is endings ends stream start (bank_from registers histories) empty units word at none cond in
-    let ran = run_found piece stream start endings (greatest_unit enc) auto place kept rules fall serves is.fits.formed cond entry le
+    let ran = run_found piece stream start endings (greatest_unit enc) auto place saved rules fall serves is.fits.formed cond entry le
     (IsWord-units enc patterns (drop start stream) units) registers histories told.0 schedule (legal.whole quiet) in
     (told.1.0, told.1.1, ran ∙ told.1.2)

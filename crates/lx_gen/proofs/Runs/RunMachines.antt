@@ -11,7 +11,7 @@ use Rattle.lx_ccode.specs.declared.piece.Piece.{Piece}
 use Rattle.lx_ccode.specs.Machine.{Machine, Value, Answer, goes_on, no_rule, step, jump, choose, if_unit, updated, code_at}
 use Rattle.lx_ccode.specs.Runs.{ended}
 use Rattle.lx_ccode.specs.Statements.{code_of}
-use Rattle.lx_gen.specs.Codes.{Choice, choices_code, chosen, keep_code, op_code, ops_code}
+use Rattle.lx_gen.specs.Codes.{Choice, choices_code, chosen, save_code, op_code, ops_code}
 use Rattle.lx_gen.specs.Layout.{StandsFrom}
 use Rattle.lx_gen.specs.TestTrees.{TestTree, fork, inner_blocks, inner_size, leaf, picked, test, tree_code}
 use Rattle.lx_gen.specs.Turns.{after_op, after_ops}
@@ -63,7 +63,7 @@ abbrev pub ArePositive : List Op → Type 0
 ArePositive [] = Unit {0}
 ArePositive (op ∷ ops) = IsPositive op × ArePositive ops
 
--- where the cursor, the marker and the limit stand, the unit that was read, the kept number, the registers, the condition, and
+-- where the cursor, the marker and the limit stand, the unit that was read, the saved number, the registers, the condition, and
 -- what was given
 abbrev pub machine_at : (cur mk lim : ℕ) → (u : Option ℕ) → (ac : ℕ) → (first : Option ℕ) → Bank → (cond : List ℕ) → List Value → Machine
 machine_at cur mk lim u ac first k cond values = record {
@@ -79,13 +79,13 @@ machine_at cur mk lim u ac first k cond values = record {
   values = values;
 }
 
-abbrev pub keep_size : (keeps : Bool) → ℕ
-keep_size false = 0
-keep_size true = 2
+abbrev pub save_size : (saves : Bool) → ℕ
+save_size false = 0
+save_size true = 2
 
-pub length-keep_code : (keeps : Bool) (kept : ℕ) (b : List Stmt) → length (keep_code keeps kept b) ≡ keep_size keeps + length b
-length-keep_code false kept b = omega arith
-length-keep_code true kept b = omega arith
+pub length-save_code : (saves : Bool) (saved : ℕ) (b : List Stmt) → length (save_code saves saved b) ≡ save_size saves + length b
+length-save_code false saved b = omega arith
+length-save_code true saved b = omega arith
 
 pub length-ops_code : (ops : List Op) (b : List Stmt) → length (ops_code ops b) ≡ length ops + length b
 length-ops_code [] b = omega arith
@@ -187,22 +187,22 @@ module _ (p : Piece) (x : List ℕ) (start : ℕ) where
   pub choices_run : (choices : List Choice) (block : ℕ) (to : List Stmt) (m : Machine) (q : List Answer) → chosen choices m.accept ≡ Some block
       → slice_get (code_of p.blocks) block ≡ Some to → LeadsIn p x start (length (choices_code choices)) (choices_code choices) m q to m q
   choices_run [] block to m q is et = absurd (cc)
-  choices_run (choice ∷ choices) block to m q is et = by (nat_eq m.accept choice.kept) refl is (λ h. choices_run choices block to m q h et)
+  choices_run (choice ∷ choices) block to m q is et = by (nat_eq m.accept choice.saved) refl is (λ h. choices_run choices block to m q h et)
     where
       rest : List Stmt
       rest = choices_code choices
 
-      by : (b : Bool) → nat_eq m.accept choice.kept ≡ b → (if b then Some choice.block else chosen choices m.accept) ≡ Some block
+      by : (b : Bool) → nat_eq m.accept choice.saved ≡ b → (if b then Some choice.block else chosen choices m.accept) ≡ Some block
           → (chosen choices m.accept ≡ Some block → LeadsIn p x start (length rest) rest m q to m q)
-          → LeadsIn p x start (suc (length rest)) (IfAccept choice.kept choice.block ∷ rest) m q to m q
+          → LeadsIn p x start (suc (length rest)) (IfAccept choice.saved choice.block ∷ rest) m q to m q
       by true h e again =
           let same : choice.block ≡ block = cc in
-          let s : step p x (IfAccept choice.kept choice.block) rest m q ≡ goes_on to m q =
+          let s : step p x (IfAccept choice.saved choice.block) rest m q ≡ goes_on to m q =
           ap (λ b. choose b (code_at p.blocks (Some choice.block)) rest m q) h
           ∙ ap (λ o. jump o m q) (ap (λ n. slice_get (code_of p.blocks) n) same ∙ et) in
           widen p x start (suc (length rest)) (step_in p x start s (omega arith)) (omega arith)
       by false h e again =
-          let s : step p x (IfAccept choice.kept choice.block) rest m q ≡ goes_on rest m q =
+          let s : step p x (IfAccept choice.saved choice.block) rest m q ≡ goes_on rest m q =
           ap (λ b. choose b (code_at p.blocks (Some choice.block)) rest m q) h in
           then_in p x start (suc (length rest)) (step_in p x start s (omega arith)) (again e) (omega arith)
 
@@ -210,16 +210,16 @@ module _ (p : Piece) (x : List ℕ) (start : ℕ) where
   pub choices_end : (choices : List Choice) (m : Machine) (q : List Answer) → chosen choices m.accept ≡ None
       → EndsIn p x start (length (choices_code choices)) (choices_code choices) m q (ended no_rule m)
   choices_end [] m q is = last_in p x start refl
-  choices_end (choice ∷ choices) m q is = by (nat_eq m.accept choice.kept) refl is (λ h. choices_end choices m q h)
+  choices_end (choice ∷ choices) m q is = by (nat_eq m.accept choice.saved) refl is (λ h. choices_end choices m q h)
     where
       rest : List Stmt
       rest = choices_code choices
 
-      by : (b : Bool) → nat_eq m.accept choice.kept ≡ b → (if b then Some choice.block else chosen choices m.accept) ≡ None
+      by : (b : Bool) → nat_eq m.accept choice.saved ≡ b → (if b then Some choice.block else chosen choices m.accept) ≡ None
           → (chosen choices m.accept ≡ None → EndsIn p x start (length rest) rest m q (ended no_rule m))
-          → EndsIn p x start (suc (length rest)) (IfAccept choice.kept choice.block ∷ rest) m q (ended no_rule m)
+          → EndsIn p x start (suc (length rest)) (IfAccept choice.saved choice.block ∷ rest) m q (ended no_rule m)
       by true h e again = absurd (cc)
       by false h e again =
-          let s : step p x (IfAccept choice.kept choice.block) rest m q ≡ goes_on rest m q =
+          let s : step p x (IfAccept choice.saved choice.block) rest m q ≡ goes_on rest m q =
           ap (λ b. choose b (code_at p.blocks (Some choice.block)) rest m q) h in
           end_in p x start (suc (length rest)) (step_in p x start s (omega arith)) (again e) (omega arith)

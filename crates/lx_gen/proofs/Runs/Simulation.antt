@@ -18,7 +18,7 @@ use Rattle.lx_ccode.specs.Machine.{Answer, Machine, code_at, jump, peek, units_o
 use Rattle.lx_ccode.specs.Runs.{entry_block, loop_count, run, run_in}
 use Rattle.lx_ccode.specs.Schedules.{Schedule}
 use Rattle.lx_ccode.specs.Statements.{code_of, statement_count}
-use Rattle.lx_gen.specs.Codes.{Choice, accept_code, choices_code, edge_code, is_kept, keeps_by, keeps_on}
+use Rattle.lx_gen.specs.Codes.{Choice, accept_code, choices_code, edge_code, is_saved, saves_by, saves_on}
 use Rattle.lx_gen.specs.Endings.{Ending, ending_code}
 use Rattle.lx_gen.specs.Serving.{IsEnd, Serves, ServesState, by_jump, by_tests, itself}
 use Rattle.lx_gen.specs.Starts.{machine_with, run_with}
@@ -52,13 +52,13 @@ list_any-edge_on test (first ∷ edges) unit edge on passes =
     by true on again = let same : first ≡ edge = cc in ap (λ e. test e || list_any test edges) same ∙ ap (λ t. t || list_any test edges) passes
     by false on again = ap (λ t. test first || t) (again on) ∙ or-true (test first)
 
--- what is kept on an edge is found again, too
+-- what is saved on an edge is found again, too
 IsHeldWell-after : (auto : Auto) (s pos : ℕ) (o next : Option Accept) (held : Option Left) → s < length auto.states
-    → (keeps_by o next ≡ true → is_kept auto.states (state_of auto.states s) ≡ true) → (state_of auto.states s).accept ≡ o
+    → (saves_by o next ≡ true → is_saved auto.states (state_of auto.states s) ≡ true) → (state_of auto.states s).accept ≡ o
     → IsFoundAgain auto held → IsFoundAgain auto (held_after o next s pos held)
-IsHeldWell-after auto s pos None next held lt keeps e ok = ok
-IsHeldWell-after auto s pos (Some accept) None held lt keeps e ok = (lt, keeps refl, e)
-IsHeldWell-after auto s pos (Some accept) (Some other) held lt keeps e ok = ok
+IsHeldWell-after auto s pos None next held lt saves e ok = ok
+IsHeldWell-after auto s pos (Some accept) None held lt saves e ok = (lt, saves refl, e)
+IsHeldWell-after auto s pos (Some accept) (Some other) held lt saves e ok = ok
 
 -- before a state that does not accept it is what was left last
 held_after-left : (o next : Option Accept) (held : Option Left) (standing : Standing) → (o ≡ None → held ≡ standing.left) → next ≡ None
@@ -67,19 +67,19 @@ held_after-left None next held standing same none = same refl
 held_after-left (Some accept) None held standing same none = refl
 held_after-left (Some accept) (Some other) held standing same none = absurd (cc)
 
-module _ (p : Piece) (x : List ℕ) (start : ℕ) (endings : ℕ → Ending) (greatest : ℕ) (auto : Auto) (place kept rules : ℕ → ℕ) (fall : ℕ)
-    (serves : Serves endings greatest auto (code_of p.blocks) place kept rules fall) (formed : IsAuto auto) (first : Option ℕ) (cond : List ℕ) where
+module _ (p : Piece) (x : List ℕ) (start : ℕ) (endings : ℕ → Ending) (greatest : ℕ) (auto : Auto) (place saved rules : ℕ → ℕ) (fall : ℕ)
+    (serves : Serves endings greatest auto (code_of p.blocks) place saved rules fall) (formed : IsAuto auto) (first : Option ℕ) (cond : List ℕ) where
   abbrev Have : ℕ → List Stmt → Type 0
-  Have block code = Has p x start endings greatest auto place kept rules fall serves formed first cond (length x) block code
+  Have block code = Has p x start endings greatest auto place saved rules fall serves formed first cond (length x) block code
 
   abbrev To : (s : ℕ) → Option Edge → ℕ → Type 0
-  To s o block = Target p x start endings greatest auto place kept rules fall serves formed first cond (length x) s o block
+  To s o block = Target p x start endings greatest auto place saved rules fall serves formed first cond (length x) s o block
 
   abbrev mach : (pos : ℕ) → (held : Option Left) → (u : Option ℕ) → Bank → Machine
-  mach pos held u k = at p x start endings greatest auto place kept rules fall serves formed first cond (length x) pos held u k
+  mach pos held u k = at p x start endings greatest auto place saved rules fall serves formed first cond (length x) pos held u k
 
   abbrev size : ℕ
-  size = all p x start endings greatest auto place kept rules fall serves formed first cond (length x)
+  size = all p x start endings greatest auto place saved rules fall serves formed first cond (length x)
 
   -- what a state's block leads to on a unit
   record Entered (s : ℕ) (o : Option Edge) (code : List Stmt) (pos : ℕ) (held : Option Left) (u : Option ℕ) (k : Bank)
@@ -92,10 +92,10 @@ module _ (p : Piece) (x : List ℕ) (start : ℕ) (endings : ℕ → Ending) (gr
     leads : LeadsIn p x start size code (mach pos held u k) q to (mach pos held unit k) q
 
   target_code : (s : ℕ) (o : Option Edge) (block : ℕ) → s < length auto.states → To s o block → (to : List Stmt) × Have block to
-  target_code s (Some edge) block lt target = (edge_code auto (state_of auto.states s) (kept s) edge (place edge.to), target)
+  target_code s (Some edge) block lt target = (edge_code auto (state_of auto.states s) (saved s) edge (place edge.to), target)
   target_code s None block lt target = by (state_of auto.states s).accept refl target
     where
-      by : (o : Option Accept) → (state_of auto.states s).accept ≡ o → IsEnd endings greatest auto (code_of p.blocks) place kept rules fall o block
+      by : (o : Option Accept) → (state_of auto.states s).accept ≡ o → IsEnd endings greatest auto (code_of p.blocks) place saved rules fall o block
           → (to : List Stmt) × Have block to
       by None e target = (choices_code serves.choices, ap (λ n. slice_get (code_of p.blocks) n) target ∙ serves.falls)
       by (Some accept) e (inl has) = (accept_code auto accept.ops (rules accept.rule), has)
@@ -103,7 +103,7 @@ module _ (p : Piece) (x : List ℕ) (start : ℕ) (endings : ℕ → Ending) (gr
           (ending_code endings accept.rule accept.values, ap (λ n. slice_get (code_of p.blocks) n) is.0 ∙ serves.ends s accept lt e)
 
   enter : (s pos v : ℕ) (code : List Stmt) (held : Option Left) (u : Option ℕ) (k : Bank) (q : List Answer)
-      → ServesState endings greatest auto (code_of p.blocks) place kept rules fall s (state_of auto.states s) → Have (place s) code
+      → ServesState endings greatest auto (code_of p.blocks) place saved rules fall s (state_of auto.states s) → Have (place s) code
       → s < length auto.states → slice_get x pos ≡ Some v → pos < length x → v ≤ greatest
       → Entered s (edge_on (state_of auto.states s).edges v) code pos held u k q
   enter s pos v code held u k q (itself leads) has known ev lt within =
@@ -148,7 +148,7 @@ module _ (p : Piece) (x : List ℕ) (start : ℕ) (endings : ℕ → Ending) (gr
   state_code : (s : ℕ) → s < length auto.states → (code : List Stmt) × Have (place s) code
   state_code s lt = by (serves.states s lt)
     where
-      by : ServesState endings greatest auto (code_of p.blocks) place kept rules fall s (state_of auto.states s)
+      by : ServesState endings greatest auto (code_of p.blocks) place saved rules fall s (state_of auto.states s)
           → (code : List Stmt) × Have (place s) code
       by (by_tests tree next is stands leads) = (Peek ∷ tree_code next tree, is)
       by (by_jump block is leads) = (Goto block ∷ [], is)
@@ -179,7 +179,7 @@ module _ (p : Piece) (x : List ℕ) (start : ℕ) (endings : ℕ → Ending) (gr
           (told_found endings cond (found_behind auto (or_here st (by_edge (state_of auto.states st.state) st o) (λ next. last_standing auto next w)))
           (or_here st (by_edge (state_of auto.states st.state) st o) (λ next. last_standing auto next w)).offset)
       by None on entered stops again =
-          let g = stop_run p x start endings greatest auto place kept rules fall serves formed first cond
+          let g = stop_run p x start endings greatest auto place saved rules fall serves formed first cond
           (length x) st.state entered.block st.offset entered.to st.left held entered.unit k st.bank q
           lt entered.target entered.has agree ok same in
           end_in p x start (suc (length w) * (2 * size) + 2 * size) entered.leads g (omega arith)
@@ -189,23 +189,23 @@ module _ (p : Piece) (x : List ℕ) (start : ℕ) (endings : ℕ → Ending) (gr
           let leads = edge_on-leads auto.regs auto.mregs (length auto.states) state.edges v edge formed_state.lead on in
           let next : Standing = behind_edge (state_of auto.states st.state) st edge in
           let next_code = state_code edge.to leads.0 in
-          let block_code : List Stmt = edge_code auto (state_of auto.states st.state) (kept st.state) edge (place edge.to) in
+          let block_code : List Stmt = edge_code auto (state_of auto.states st.state) (saved st.state) edge (place edge.to) in
           let is : slice_get (code_of p.blocks) entered.block ≡ Some block_code = entered.target in
           let has' : slice_get (code_of p.blocks) entered.block ≡ Some entered.to = entered.has in
           let c : entered.to ≡ block_code = cc in
           let n = length-block (code_of p.blocks) entered.block block_code is in
-          let f = edge_run p x start endings greatest auto place kept rules fall serves formed first cond
+          let f = edge_run p x start endings greatest auto place saved rules fall serves formed first cond
           (length x) edge next_code.0 st.state st.offset held entered.unit k q
           leads.1 next_code.1 unit_here.0 in
           let l = subst (λ z. LeadsIn p x start size code (mach st.offset held u k) q z
           (mach st.offset held entered.unit k) q) c entered.leads in
-          let k1 : Bank = behind p x start endings greatest auto place kept rules fall serves formed first cond
+          let k1 : Bank = behind p x start endings greatest auto place saved rules fall serves formed first cond
           (length x) st.state st.offset edge k in
           let after : Option Accept = (state_of auto.states edge.to).accept in
-          let held1 : Option Left = held_behind p x start endings greatest auto place kept rules fall serves formed first cond
+          let held1 : Option Left = held_behind p x start endings greatest auto place saved rules fall serves formed first cond
           (length x) st.state st.offset edge held in
           let ok1 = IsHeldWell-after auto st.state st.offset state.accept after held lt
-          (λ keeps. list_any-edge_on (λ edge. keeps_on auto.states state edge) state.edges v edge on keeps) refl ok in
+          (λ saves. list_any-edge_on (λ edge. saves_on auto.states state edge) state.edges v edge on saves) refl ok in
           let agree1 = Agrees-after auto.regs auto.mregs st.offset state.leave k st.bank formed_state.leave agree in
           let agree2 = Agrees-after auto.regs auto.mregs st.offset edge.ops _ _ leads.1 agree1 in
           let rest = again next next_code.0 held1 entered.unit k1 q next_code.1 leads.0 ok1
@@ -221,8 +221,8 @@ choices_code-some [] = omega arith
 choices_code-some (choice ∷ choices) = omega arith
 
 -- the run of a match is the automaton's
-pub run_found : (p : Piece) (x : List ℕ) (start : ℕ) (endings : ℕ → Ending) (greatest : ℕ) (auto : Auto) (place kept rules : ℕ → ℕ) (fall : ℕ)
-    → Serves endings greatest auto (code_of p.blocks) place kept rules fall → IsAuto auto → (cond : List ℕ)
+pub run_found : (p : Piece) (x : List ℕ) (start : ℕ) (endings : ℕ → Ending) (greatest : ℕ) (auto : Auto) (place saved rules : ℕ → ℕ) (fall : ℕ)
+    → Serves endings greatest auto (code_of p.blocks) place saved rules fall → IsAuto auto → (cond : List ℕ)
     → entry_block p.conds cond ≡ Some (place 0)
     → start ≤ length x → AllByRecursion (λ unit. unit ≤ greatest) (drop start x)
     → (registers : ℕ → Option ℕ) (histories : ℕ → List (Option ℕ)) → Stops auto (start_with start (bank_from registers histories)) (drop start x)
@@ -231,7 +231,7 @@ pub run_found : (p : Piece) (x : List ℕ) (start : ℕ) (endings : ℕ → Endi
     ≡ told_found endings cond (found_behind auto (last_standing auto (start_with start (bank_from registers histories)) (drop start x)))
     (last_standing auto (start_with start (bank_from registers histories)) (drop start x)).offset
 unfolding run_with
-run_found p x start endings greatest auto place kept rules fall serves formed cond entry le within registers histories stops schedule whole =
+run_found p x start endings greatest auto place saved rules fall serves formed cond entry le within registers histories stops schedule whole =
     let w : List ℕ = drop start x in
     let size : ℕ = statement_count p.blocks in
     let q : List Answer = schedule.answers in
@@ -239,9 +239,9 @@ run_found p x start endings greatest auto place kept rules fall serves formed co
     let st : Standing = start_with start (bank_from registers histories) in
     let m : Machine = machine_with registers histories start schedule.first cond in
     let fuel : ℕ = loop_count p start (schedule.first + units_of_answers schedule.answers) in
-    let code = state_code p x start endings greatest auto place kept rules fall serves formed (registers 0) cond 0 formed.start in
+    let code = state_code p x start endings greatest auto place saved rules fall serves formed (registers 0) cond 0 formed.start in
     let found : code_at p.blocks (entry_block p.conds cond) ≡ Some code.0 = ap (λ o. code_at p.blocks o) entry ∙ code.1 in
-    let h = simulation p x start endings greatest auto place kept rules fall serves formed
+    let h = simulation p x start endings greatest auto place saved rules fall serves formed
     (registers 0) cond w st code.0 None None k q code.1 formed.start tt (λ none. refl)
     (record { same = λ r lt. refl; alike = λ r lt. refl }) refl within stops in
     let n = length-block (code_of p.blocks) fall (choices_code serves.choices) serves.falls in

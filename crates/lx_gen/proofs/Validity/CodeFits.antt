@@ -12,8 +12,8 @@ use Rattle.lx_auto.specs.declared.ops.Op.TheVariants.{Here, Null, Copy, MHere, M
 use Rattle.lx_ccode.specs.Statements.{is_ending}
 use Rattle.lx_ccode.specs.Validity.{JumpsBelow, ends_once}
 use Rattle.lx_ccode.specs.declared.piece.Stmt.{Stmt}
-use Rattle.lx_ccode.specs.declared.piece.Stmt.TheVariants.{Accept as KeepAccept, Back, Backup, Count, End, Goto, IfAccept, IfUnit, Peek, Restore, Skip}
-use Rattle.lx_gen.specs.Codes.{Choice, accept_code, choices_code, edge_code, keep_code, keeps_on, list_code, op_code, ops_code, restore_code}
+use Rattle.lx_ccode.specs.declared.piece.Stmt.TheVariants.{Accept as SaveAccept, Back, Backup, Count, End, Goto, IfAccept, IfUnit, Peek, Restore, Skip}
+use Rattle.lx_gen.specs.Codes.{Choice, accept_code, choices_code, edge_code, save_code, saves_on, list_code, op_code, ops_code, restore_code}
 use Rattle.lx_gen.specs.Endings.{Ending, action_code, back_code, cond_code, ending_code, ends_code, groups_code, is_slash, last_code, rule_code, slash_held, tag_code, tags_code, unless}
 use Rattle.lx_gen.specs.Layout.{front_blocks, front_size}
 use Rattle.lx_gen.specs.ParallelCopies.{sequentialized}
@@ -66,15 +66,15 @@ module _ (n : ℕ) where
 
   pub choices_fit : (choices : List Choice) → ChoicesBelow choices → Fits (choices_code choices)
   choices_fit [] below = record { ends = refl; jumps = (tt, tt) }
-  choices_fit (choice ∷ choices) below = more (IfAccept choice.kept choice.block) (choices_code choices) refl below.0 (choices_fit choices below.1)
+  choices_fit (choice ∷ choices) below = more (IfAccept choice.saved choice.block) (choices_code choices) refl below.0 (choices_fit choices below.1)
 
-  keep_fits : (keeps : Bool) (kept : ℕ) (rest : List Stmt) → Fits rest → Fits (keep_code keeps kept rest)
-  keep_fits false kept rest h = h
-  keep_fits true kept rest h = more Backup (KeepAccept kept ∷ rest) refl tt (more (KeepAccept kept) rest refl tt h)
+  save_fits : (saves : Bool) (saved : ℕ) (rest : List Stmt) → Fits rest → Fits (save_code saves saved rest)
+  save_fits false saved rest h = h
+  save_fits true saved rest h = more Backup (SaveAccept saved ∷ rest) refl tt (more (SaveAccept saved) rest refl tt h)
 
-  pub edge_fits : (auto : Auto) (state : State) (kept : ℕ) (edge : Edge) (block : ℕ) → block < n → Fits (edge_code auto state kept edge block)
-  edge_fits auto state kept edge block below =
-      keep_fits (keeps_on auto.states state edge) kept (list_code auto state.leave (list_code auto edge.ops (Skip ∷ Goto block ∷ [])))
+  pub edge_fits : (auto : Auto) (state : State) (saved : ℕ) (edge : Edge) (block : ℕ) → block < n → Fits (edge_code auto state saved edge block)
+  edge_fits auto state saved edge block below =
+      save_fits (saves_on auto.states state edge) saved (list_code auto state.leave (list_code auto edge.ops (Skip ∷ Goto block ∷ [])))
       (list_fits auto state.leave (list_code auto edge.ops (Skip ∷ Goto block ∷ []))
       (list_fits auto edge.ops (Skip ∷ Goto block ∷ []) (more Skip (Goto block ∷ []) refl tt (goto_fits block below))))
 

@@ -15,93 +15,93 @@ use Rattle.lx_ccode.specs.declared.piece.CodeBlock.{CodeBlock}
 use Rattle.lx_ccode.specs.declared.piece.Stmt.{Stmt}
 use Rattle.lx_gen.specs.Codes.{choices_code}
 use Rattle.lx_gen.specs.Endings.{Ending}
-use Rattle.lx_gen.specs.Layout.{accepts_of, blocks_by, choices_from, end_block, end_blocks, end_of, end_size, ending_blocks, fall_block, front_blocks, front_size, kept_accept, kept_number, kept_of, layout, lone_blocks, lone_place, lone_size, numbered, own_block, own_blocks, own_size, place_by, place_in, place_of, restore_blocks, rule_block, size_by, state_size, states_blocks, way_block, way_blocks}
+use Rattle.lx_gen.specs.Layout.{accepts_of, blocks_by, choices_from, end_block, end_blocks, end_of, end_size, ending_blocks, fall_block, front_blocks, front_size, saved_accept, saved_number, saved_of, layout, lone_blocks, lone_place, lone_size, numbered, own_block, own_blocks, own_size, place_by, place_in, place_of, restore_blocks, rule_block, size_by, state_size, states_blocks, class_block, class_blocks}
 use Rattle.lx_gen.specs.TestTrees.{TestTree, edge_tree}
-use Rattle.lx_gen.specs.Ways.{Split, Stretch, before, edge_split, first_way, has_way, same_place, split_of, stretches, way_place, ways_of, ways_onto}
+use Rattle.lx_gen.specs.TransitionClasses.{Split, Stretch, before, edge_split, first_class, has_class, same_place, split_of, stretches, class_place, transition_classes, classes_onto}
 use Rattle.lx_gen.proofs.BlockLayouts.BalancedTrees.{EachTest, each-balanced}
 use Rattle.lx_gen.proofs.Validity.CodeFits.{ChoicesBelow, Fits, accept_fits, choices_fit, edge_fits, ending_fits, front_fits, goto_fits, restore_fits}
 use Rattle.lx_gen.proofs.Validity.EachElement.{each-append, each-map}
-use Rattle.lx_gen.proofs.BlockLayouts.FirstAccepts.{Chosen, HasRule, all-chosen, each-firsts, has_rule-firsts, kept-chosen, rule_place-below}
+use Rattle.lx_gen.proofs.BlockLayouts.FirstAccepts.{Chosen, HasRule, all-chosen, each-firsts, has_rule-firsts, saved-chosen, rule_place-below}
 use Rattle.lx_gen.proofs.BlockLayouts.LayoutLengths.{length-layout}
 use Rattle.lx_gen.proofs.BlockLayouts.TreeCodes.{each-numbered, front_size-numbered}
-use Rattle.lx_gen.proofs.BlockLayouts.WayLists.{has_way-last, has_way-onto, way_found}
+use Rattle.lx_gen.proofs.BlockLayouts.ClassLists.{has_class-last, has_class-onto, class_found}
 
--- ---- ways
+-- ---- transition classes
 
--- each edge's way is found
-abbrev HaveWays : List Edge → List Edge → Type 0
-HaveWays ways [] = Unit {0}
-HaveWays ways (edge ∷ edges) = (has_way ways edge ≡ true) × HaveWays ways edges
+-- each edge's class is found
+abbrev HaveClasses : List Edge → List Edge → Type 0
+HaveClasses classes [] = Unit {0}
+HaveClasses classes (edge ∷ edges) = (has_class classes edge ≡ true) × HaveClasses classes edges
 
-HaveWays-onto : (edges found : List Edge) → HaveWays (ways_onto found edges) edges
-HaveWays-onto [] found = tt
-HaveWays-onto (edge ∷ edges) found = by (has_way found edge) refl (λ ways. HaveWays-onto edges ways)
+HaveClasses-onto : (edges found : List Edge) → HaveClasses (classes_onto found edges) edges
+HaveClasses-onto [] found = tt
+HaveClasses-onto (edge ∷ edges) found = by (has_class found edge) refl (λ classes. HaveClasses-onto edges classes)
   where
-    by : (t : Bool) → has_way found edge ≡ t → ((ways : List Edge) → HaveWays (ways_onto ways edges) edges)
-        → HaveWays (ways_onto (if t then found else found ++ edge ∷ []) edges) (edge ∷ edges)
-    by true e again = (has_way-onto edges found edge e, again found)
-    by false e again = (has_way-onto edges (found ++ edge ∷ []) edge (has_way-last found edge), again (found ++ edge ∷ []))
+    by : (t : Bool) → has_class found edge ≡ t → ((classes : List Edge) → HaveClasses (classes_onto classes edges) edges)
+        → HaveClasses (classes_onto (if t then found else found ++ edge ∷ []) edges) (edge ∷ edges)
+    by true e again = (has_class-onto edges found edge e, again found)
+    by false e again = (has_class-onto edges (found ++ edge ∷ []) edge (has_class-last found edge), again (found ++ edge ∷ []))
 
--- a way is one of so many, if there is one
-abbrev IsWay : (count : ℕ) → Option ℕ → Type 0
-IsWay count None = Unit {0}
-IsWay count (Some place) = place < count
+-- a class is one of so many, if there is one
+abbrev IsClass : (count : ℕ) → Option ℕ → Type 0
+IsClass count None = Unit {0}
+IsClass count (Some place) = place < count
 
-abbrev AreWays : (count : ℕ) → List Stretch → Type 0
-AreWays count list = AllByRecursion (λ (stretch : Stretch). IsWay count stretch.way) list
+abbrev AreClasses : (count : ℕ) → List Stretch → Type 0
+AreClasses count list = AllByRecursion (λ (stretch : Stretch). IsClass count stretch.class) list
 
-AreWays-stretches : (ways : List Edge) (low : ℕ) (edges : List Edge) → HaveWays ways edges → AreWays (length ways) (stretches ways low edges)
-AreWays-stretches ways low [] h = tt
-AreWays-stretches ways low (edge ∷ edges) h = by (nat_lt low edge.lo) (AreWays-stretches ways (edge.hi + 1) edges h.1)
+AreClasses-stretches : (classes : List Edge) (low : ℕ) (edges : List Edge) → HaveClasses classes edges → AreClasses (length classes) (stretches classes low edges)
+AreClasses-stretches classes low [] h = tt
+AreClasses-stretches classes low (edge ∷ edges) h = by (nat_lt low edge.lo) (AreClasses-stretches classes (edge.hi + 1) edges h.1)
   where
-    own : way_place ways edge < length ways
-    own = let f = way_found ways edge h.0 in slice_get_within ways (way_place ways edge) f.0 f.1
+    own : class_place classes edge < length classes
+    own = let f = class_found classes edge h.0 in slice_get_within classes (class_place classes edge) f.0 f.1
 
-    by : (t : Bool) → AreWays (length ways) (stretches ways (edge.hi + 1) edges)
-        → AreWays (length ways) (if t then record { greatest = edge.lo - 1; way = None } ∷ record {
+    by : (t : Bool) → AreClasses (length classes) (stretches classes (edge.hi + 1) edges)
+        → AreClasses (length classes) (if t then record { greatest = edge.lo - 1; class = None } ∷ record {
           greatest = edge.hi;
-          way = Some
-              (way_place ways edge);
-        } ∷ stretches ways (edge.hi + 1) edges
-        else record { greatest = edge.hi; way = Some (way_place ways edge) } ∷ stretches ways (edge.hi + 1) edges)
+          class = Some
+              (class_place classes edge);
+        } ∷ stretches classes (edge.hi + 1) edges
+        else record { greatest = edge.hi; class = Some (class_place classes edge) } ∷ stretches classes (edge.hi + 1) edges)
     by true again = (tt, (own, again))
     by false again = (own, again)
 
-AreWays-split_of : (count greatest : ℕ) (list : List Stretch) → AreWays count list
-    → AreWays count (split_of greatest list).tests × IsWay count (split_of greatest list).last
-AreWays-split_of count greatest [] h = (tt, tt)
-AreWays-split_of count greatest (stretch ∷ list) h = by (nat_le greatest stretch.greatest) (AreWays-split_of count greatest list h.1)
+AreClasses-split_of : (count greatest : ℕ) (list : List Stretch) → AreClasses count list
+    → AreClasses count (split_of greatest list).tests × IsClass count (split_of greatest list).last
+AreClasses-split_of count greatest [] h = (tt, tt)
+AreClasses-split_of count greatest (stretch ∷ list) h = by (nat_le greatest stretch.greatest) (AreClasses-split_of count greatest list h.1)
   where
-    join : (t : Bool) → AreWays count (split_of greatest list).tests × IsWay count (split_of greatest list).last
-        → AreWays count (if t then split_of greatest list else record
+    join : (t : Bool) → AreClasses count (split_of greatest list).tests × IsClass count (split_of greatest list).last
+        → AreClasses count (if t then split_of greatest list else record
         { tests = stretch ∷ (split_of greatest list).tests; last = (split_of greatest list).last }).tests
-        × IsWay count (if t then split_of greatest list else record
+        × IsClass count (if t then split_of greatest list else record
         { tests = stretch ∷ (split_of greatest list).tests; last = (split_of greatest list).last }).last
     join true again = again
     join false again = ((h.0, again.0), again.1)
 
-    by : (t : Bool) → AreWays count (split_of greatest list).tests × IsWay count (split_of greatest list).last
-        → AreWays count (if t then record { tests = []; last = stretch.way } else before stretch (split_of greatest list)).tests
-        × IsWay count (if t then record { tests = []; last = stretch.way } else before stretch (split_of greatest list)).last
+    by : (t : Bool) → AreClasses count (split_of greatest list).tests × IsClass count (split_of greatest list).last
+        → AreClasses count (if t then record { tests = []; last = stretch.class } else before stretch (split_of greatest list)).tests
+        × IsClass count (if t then record { tests = []; last = stretch.class } else before stretch (split_of greatest list)).last
     by true again = (tt, h.0)
-    by false again = join (same_place stretch.way (first_way (split_of greatest list).tests (split_of greatest list).last)) again
+    by false again = join (same_place stretch.class (first_class (split_of greatest list).tests (split_of greatest list).last)) again
 
-way_below : (n first end count : ℕ) (way : Option ℕ) → IsWay count way → first + count ≤ n → end < n → way_block first end way < n
-way_below n first end count None is fit below = below
-way_below n first end count (Some place) is fit below = omega (arith, is)
+class_below : (n first end count : ℕ) (class : Option ℕ) → IsClass count class → first + count ≤ n → end < n → class_block first end class < n
+class_below n first end count None is fit below = below
+class_below n first end count (Some place) is fit below = omega (arith, is)
 
 abbrev pub AllFit : (n : ℕ) → List (List Stmt) → Type 0
 AllFit n codes = AllByRecursion (Fits n) codes
 
 -- the blocks of the tests of a state
-edge_tree-ways : (greatest : ℕ) (edges : List Edge) → EachTest (λ unit. Unit {0}) (IsWay (length (ways_of edges))) (edge_tree greatest edges)
-edge_tree-ways greatest edges =
+edge_tree-classes : (greatest : ℕ) (edges : List Edge) → EachTest (λ unit. Unit {0}) (IsClass (length (transition_classes edges))) (edge_tree greatest edges)
+edge_tree-classes greatest edges =
     let split : Split = edge_split greatest edges in
-    let count : ℕ = length (ways_of edges) in
-    let are = AreWays-split_of (length (ways_of edges)) greatest (stretches (ways_of edges) 0 edges)
-    (AreWays-stretches (ways_of edges) 0 edges (HaveWays-onto edges [])) in
-    each-balanced (λ unit. Unit {0}) (IsWay count) split.tests split.last
-    (each-map (λ (stretch : Stretch). IsWay count stretch.way) (λ (stretch : Stretch). Unit {0} × IsWay count stretch.way)
+    let count : ℕ = length (transition_classes edges) in
+    let are = AreClasses-split_of (length (transition_classes edges)) greatest (stretches (transition_classes edges) 0 edges)
+    (AreClasses-stretches (transition_classes edges) 0 edges (HaveClasses-onto edges [])) in
+    each-balanced (λ unit. Unit {0}) (IsClass count) split.tests split.last
+    (each-map (λ (stretch : Stretch). IsClass count stretch.class) (λ (stretch : Stretch). Unit {0} × IsClass count stretch.class)
     (λ stretch is. (tt, is)) split.tests are.0) are.1
 
 -- ---- the blocks of states
@@ -163,52 +163,52 @@ module _ (greatest : ℕ) (auto : Auto) (rules : ℕ → ℕ) (fall : ℕ) (n : 
 
   -- ---- their blocks
 
-  module _ (kepts : List Accept) (place : ℕ → ℕ) (places : (s : ℕ) → place s < n) where
-    way_blocks-fit : (state : State) (ways : List Edge) → AllFit n (way_blocks greatest auto rules fall kepts place state ways)
-    way_blocks-fit state [] = tt
-    way_blocks-fit state (way ∷ ways) =
-        (edge_fits n auto state (kept_number kepts state.accept) way (place way.to) (places way.to), way_blocks-fit state ways)
+  module _ (saved_accepts : List Accept) (place : ℕ → ℕ) (places : (s : ℕ) → place s < n) where
+    class_blocks-fit : (state : State) (classes : List Edge) → AllFit n (class_blocks greatest auto rules fall saved_accepts place state classes)
+    class_blocks-fit state [] = tt
+    class_blocks-fit state (class ∷ classes) =
+        (edge_fits n auto state (saved_number saved_accepts state.accept) class (place class.to) (places class.to), class_blocks-fit state classes)
 
     state_fits : (number from : ℕ) (state : State) (edges : List Edge) → Chosen RuleBelow state.accept
         → from + size_by greatest number edges state.accept ≤ n
-        → AllFit n (blocks_by greatest auto rules fall kepts place number from state edges)
+        → AllFit n (blocks_by greatest auto rules fall saved_accepts place number from state edges)
     state_fits number from state [] below fit = lone_blocks-fit number state.accept below
     state_fits number from state (edge ∷ edges) below fit =
-        let ways : List Edge = ways_of (edge ∷ edges) in
+        let classes : List Edge = transition_classes (edge ∷ edges) in
         let first : ℕ = from + front_size (edge_tree greatest (edge ∷ edges)) in
-        let own : ℕ = from + front_size (edge_tree greatest (edge ∷ edges)) + length (ways_of (edge ∷ edges)) in
+        let own : ℕ = from + front_size (edge_tree greatest (edge ∷ edges)) + length (transition_classes (edge ∷ edges)) in
         let end : ℕ = end_block greatest auto rules fall own state.accept in
         let tree : TestTree ℕ = numbered first end (edge_tree greatest (edge ∷ edges)) in
         let size = front_size-numbered first end (edge_tree greatest (edge ∷ edges)) in
         let end_fits = end_below own state.accept below (omega (arith, fit)) in
         each-append (Fits n) (front_blocks from tree)
-        (way_blocks greatest auto rules fall kepts place state ways ++ end_blocks greatest auto rules fall state.accept)
-        (front_fits n from tree (each-numbered first end (λ unit. Unit {0}) (IsWay (length (ways_of (edge ∷ edges)))) (λ block. block < n)
-        (λ way is. way_below n first end (length (ways_of (edge ∷ edges))) way is (omega (arith, fit)) end_fits)
-        (edge_tree greatest (edge ∷ edges)) (edge_tree-ways greatest (edge ∷ edges))) (omega (arith, size, fit)))
-        (each-append (Fits n) (way_blocks greatest auto rules fall kepts place state ways) (end_blocks greatest auto rules fall state.accept)
-        (way_blocks-fit state ways) (end_blocks-fit state.accept below))
+        (class_blocks greatest auto rules fall saved_accepts place state classes ++ end_blocks greatest auto rules fall state.accept)
+        (front_fits n from tree (each-numbered first end (λ unit. Unit {0}) (IsClass (length (transition_classes (edge ∷ edges)))) (λ block. block < n)
+        (λ class is. class_below n first end (length (transition_classes (edge ∷ edges))) class is (omega (arith, fit)) end_fits)
+        (edge_tree greatest (edge ∷ edges)) (edge_tree-classes greatest (edge ∷ edges))) (omega (arith, size, fit)))
+        (each-append (Fits n) (class_blocks greatest auto rules fall saved_accepts place state classes) (end_blocks greatest auto rules fall state.accept)
+        (class_blocks-fit state classes) (end_blocks-fit state.accept below))
 
     states_fit : (number from : ℕ) (states : List State) → RulesBelow states → end_of greatest number from states ≤ n
-        → AllFit n (states_blocks greatest auto rules fall kepts place number from states)
+        → AllFit n (states_blocks greatest auto rules fall saved_accepts place number from states)
     states_fit number from [] below fit = tt
     states_fit number from (state ∷ states) below fit =
         let grows = end_of-more (suc number) (from + state_size greatest number state) states in
-        each-append (Fits n) (blocks_by greatest auto rules fall kepts place number from state state.edges)
-        (states_blocks greatest auto rules fall kepts place (suc number) (from + state_size greatest number state) states)
+        each-append (Fits n) (blocks_by greatest auto rules fall saved_accepts place number from state state.edges)
+        (states_blocks greatest auto rules fall saved_accepts place (suc number) (from + state_size greatest number state) states)
         (state_fits number from state state.edges below.0 (omega (arith, grows, fit)))
         (states_fit (suc number) (from + state_size greatest number state) states below.1 fit)
 
 -- ---- the fallback and the rules
 
-choices_below : (n kept block : ℕ) (kepts : List Accept) → block + length kepts ≤ n → ChoicesBelow n (choices_from kept block kepts)
-choices_below n kept block [] fit = tt
-choices_below n kept block (accept ∷ kepts) fit = (omega (arith, fit), choices_below n (suc kept) (suc block) kepts (omega (arith, fit)))
+choices_below : (n saved block : ℕ) (saved_accepts : List Accept) → block + length saved_accepts ≤ n → ChoicesBelow n (choices_from saved block saved_accepts)
+choices_below n saved block [] fit = tt
+choices_below n saved block (accept ∷ saved_accepts) fit = (omega (arith, fit), choices_below n (suc saved) (suc block) saved_accepts (omega (arith, fit)))
 
-restore_blocks-fit : (n : ℕ) (rules : ℕ → ℕ) (kepts : List Accept) → AllByRecursion (λ (accept : Accept). rules accept.rule < n) kepts
-    → AllFit n (restore_blocks rules kepts)
+restore_blocks-fit : (n : ℕ) (rules : ℕ → ℕ) (saved_accepts : List Accept) → AllByRecursion (λ (accept : Accept). rules accept.rule < n) saved_accepts
+    → AllFit n (restore_blocks rules saved_accepts)
 restore_blocks-fit n rules [] below = tt
-restore_blocks-fit n rules (accept ∷ kepts) below = (restore_fits n (rules accept.rule) below.0, restore_blocks-fit n rules kepts below.1)
+restore_blocks-fit n rules (accept ∷ saved_accepts) below = (restore_fits n (rules accept.rule) below.0, restore_blocks-fit n rules saved_accepts below.1)
 
 ending_blocks-fit : (n : ℕ) (endings : ℕ → Ending) (accepts : List Accept) → AllFit n (ending_blocks endings accepts)
 ending_blocks-fit n endings [] = tt
@@ -222,7 +222,7 @@ layout_fits endings greatest auto =
     let rules : ℕ → ℕ = rule_block greatest auto 0 in
     let fall : ℕ = fall_block greatest auto 0 in
     let place : ℕ → ℕ = place_of greatest auto 0 in
-    let kepts : List Accept = kept_of auto.states in
+    let saved_accepts : List Accept = saved_of auto.states in
     let count = length-layout endings greatest auto in
     let falls : fall_block greatest auto 0 < length (layout endings greatest auto 0) = omega (arith, count) in
     let below : AllByRecursion (λ (state : State). Chosen (λ (accept : Accept). rule_block greatest auto 0 accept.rule < length
@@ -232,14 +232,14 @@ layout_fits endings greatest auto =
     (has_rule-firsts (λ state. state.accept) [] auto.states) in
     let places : (s : ℕ) → place_of greatest auto 0 s < length (layout endings greatest auto 0) =
     λ s. place_in-below greatest auto rules fall n falls 0 0 auto.states s below falls in
-    each-append (Fits n) (states_blocks greatest auto rules fall kepts place 0 0 auto.states)
-    (choices_code (choices_from 1 (suc fall) kepts) ∷ (restore_blocks rules kepts ++ ending_blocks endings (accepts_of auto.states)))
-    (states_fit greatest auto rules fall n falls kepts place places 0 0 auto.states below (omega (arith, falls))) (
-      choices_fit n (choices_from 1 (suc fall) kepts) (choices_below n 1 (suc fall) kepts (omega (arith, count))),
-      each-append (Fits n) (restore_blocks rules kepts) (ending_blocks endings (accepts_of auto.states))
-          (restore_blocks-fit n rules kepts (each-firsts (λ (accept : Accept). rule_block greatest auto 0 accept.rule < length
-          (layout endings greatest auto 0)) (kept_accept auto.states) [] auto.states tt
-          (kept-chosen (λ (accept : Accept). rule_block greatest auto 0 accept.rule < length (layout endings greatest auto 0)) auto.states
+    each-append (Fits n) (states_blocks greatest auto rules fall saved_accepts place 0 0 auto.states)
+    (choices_code (choices_from 1 (suc fall) saved_accepts) ∷ (restore_blocks rules saved_accepts ++ ending_blocks endings (accepts_of auto.states)))
+    (states_fit greatest auto rules fall n falls saved_accepts place places 0 0 auto.states below (omega (arith, falls))) (
+      choices_fit n (choices_from 1 (suc fall) saved_accepts) (choices_below n 1 (suc fall) saved_accepts (omega (arith, count))),
+      each-append (Fits n) (restore_blocks rules saved_accepts) (ending_blocks endings (accepts_of auto.states))
+          (restore_blocks-fit n rules saved_accepts (each-firsts (λ (accept : Accept). rule_block greatest auto 0 accept.rule < length
+          (layout endings greatest auto 0)) (saved_accept auto.states) [] auto.states tt
+          (saved-chosen (λ (accept : Accept). rule_block greatest auto 0 accept.rule < length (layout endings greatest auto 0)) auto.states
           auto.states below)))
           (ending_blocks-fit n endings (accepts_of auto.states)),
     )

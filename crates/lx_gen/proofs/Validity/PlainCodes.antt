@@ -12,12 +12,12 @@ use Rattle.lx_auto.specs.declared.ops.Op.{Op}
 use Rattle.lx_auto.specs.declared.ops.Op.TheVariants.{Here, Null, Copy, MHere, MNull, MCopy}
 use Rattle.lx_ccode.specs.declared.piece.Stmt.{Stmt}
 use Rattle.lx_ccode.specs.declared.piece.Stmt.TheVariants.{Back, Code, Cond, Count, End, Goto, IfEnd, Jump, Need, Skip, State as StoreState, Try}
-use Rattle.lx_gen.specs.Codes.{Choice, accept_code, choices_code, edge_code, keep_code, keeps_on, list_code, op_code, ops_code}
+use Rattle.lx_gen.specs.Codes.{Choice, accept_code, choices_code, edge_code, save_code, saves_on, list_code, op_code, ops_code}
 use Rattle.lx_gen.specs.Endings.{Ending, back_code, ends_code, groups_code, is_slash, rule_code, slash_held, tag_code, tags_code, unless}
-use Rattle.lx_gen.specs.Layout.{blocks_by, end_block, end_blocks, front_blocks, front_size, kept_number, lone_blocks, numbered, own_blocks, restore_blocks, state_size, states_blocks, way_blocks}
+use Rattle.lx_gen.specs.Layout.{blocks_by, end_block, end_blocks, front_blocks, front_size, saved_number, lone_blocks, numbered, own_blocks, restore_blocks, state_size, states_blocks, class_blocks}
 use Rattle.lx_gen.specs.ParallelCopies.{sequentialized}
 use Rattle.lx_gen.specs.TestTrees.{TestTree, edge_tree, fork, leaf, test}
-use Rattle.lx_gen.specs.Ways.{ways_of}
+use Rattle.lx_gen.specs.TransitionClasses.{transition_classes}
 use Rattle.lx_gen.proofs.BlockLayouts.BalancedTrees.{EachTest}
 use Rattle.lx_gen.proofs.Validity.EachElement.{each-append}
 use Rattle.lx_gen.proofs.BlockLayouts.TreeCodes.{each-front_blocks}
@@ -59,13 +59,13 @@ pub choices_plain : (choices : List Choice) → Plain (choices_code choices)
 choices_plain [] = (refl, tt)
 choices_plain (choice ∷ choices) = (refl, choices_plain choices)
 
-keep_plain : (keeps : Bool) (kept : ℕ) (rest : List Stmt) → Plain rest → Plain (keep_code keeps kept rest)
-keep_plain false kept rest h = h
-keep_plain true kept rest h = (refl, (refl, h))
+save_plain : (saves : Bool) (saved : ℕ) (rest : List Stmt) → Plain rest → Plain (save_code saves saved rest)
+save_plain false saved rest h = h
+save_plain true saved rest h = (refl, (refl, h))
 
-edge_plain : (auto : Auto) (state : State) (kept : ℕ) (edge : Edge) (block : ℕ) → Plain (edge_code auto state kept edge block)
-edge_plain auto state kept edge block =
-    keep_plain (keeps_on auto.states state edge) kept (list_code auto state.leave (list_code auto edge.ops (Skip ∷ Goto block ∷ [])))
+edge_plain : (auto : Auto) (state : State) (saved : ℕ) (edge : Edge) (block : ℕ) → Plain (edge_code auto state saved edge block)
+edge_plain auto state saved edge block =
+    save_plain (saves_on auto.states state edge) saved (list_code auto state.leave (list_code auto edge.ops (Skip ∷ Goto block ∷ [])))
     (list_plain auto state.leave (list_code auto edge.ops (Skip ∷ Goto block ∷ []))
     (list_plain auto edge.ops (Skip ∷ Goto block ∷ []) (refl, (refl, tt))))
 
@@ -99,36 +99,36 @@ module _ (greatest : ℕ) (auto : Auto) (rules : ℕ → ℕ) (fall : ℕ) where
   lone_plain zero (Some accept) = (accept_plain auto accept.ops (rules accept.rule), tt)
   lone_plain (suc number) o = end_plain o
 
-  module _ (kepts : List Accept) (place : ℕ → ℕ) where
-    ways_plain : (state : State) (ways : List Edge) → PlainAll (way_blocks greatest auto rules fall kepts place state ways)
-    ways_plain state [] = tt
-    ways_plain state (way ∷ ways) = (edge_plain auto state (kept_number kepts state.accept) way (place way.to), ways_plain state ways)
+  module _ (saved_accepts : List Accept) (place : ℕ → ℕ) where
+    classes_plain : (state : State) (classes : List Edge) → PlainAll (class_blocks greatest auto rules fall saved_accepts place state classes)
+    classes_plain state [] = tt
+    classes_plain state (class ∷ classes) = (edge_plain auto state (saved_number saved_accepts state.accept) class (place class.to), classes_plain state classes)
 
     state_plain : (number from : ℕ) (state : State) (edges : List Edge)
-        → PlainAll (blocks_by greatest auto rules fall kepts place number from state edges)
+        → PlainAll (blocks_by greatest auto rules fall saved_accepts place number from state edges)
     state_plain number from state [] = lone_plain number state.accept
     state_plain number from state (edge ∷ edges) =
         let first : ℕ = from + front_size (edge_tree greatest (edge ∷ edges)) in
-        let end : ℕ = end_block greatest auto rules fall (first + length (ways_of (edge ∷ edges))) state.accept in
+        let end : ℕ = end_block greatest auto rules fall (first + length (transition_classes (edge ∷ edges))) state.accept in
         let tree : TestTree ℕ = numbered first end (edge_tree greatest (edge ∷ edges)) in
-        let ways : List (List Stmt) = way_blocks greatest auto rules fall kepts place state (ways_of (edge ∷ edges)) in
+        let classes : List (List Stmt) = class_blocks greatest auto rules fall saved_accepts place state (transition_classes (edge ∷ edges)) in
         let ends : List (List Stmt) = end_blocks greatest auto rules fall state.accept in
-        each-append Plain (front_blocks from tree) (ways ++ ends) (front_plain from tree)
-        (each-append Plain ways ends (ways_plain state (ways_of (edge ∷ edges))) (end_plain state.accept))
+        each-append Plain (front_blocks from tree) (classes ++ ends) (front_plain from tree)
+        (each-append Plain classes ends (classes_plain state (transition_classes (edge ∷ edges))) (end_plain state.accept))
 
     pub states_plain : (number from : ℕ) (states : List State)
-        → PlainAll (states_blocks greatest auto rules fall kepts place number from states)
+        → PlainAll (states_blocks greatest auto rules fall saved_accepts place number from states)
     states_plain number from [] = tt
     states_plain number from (state ∷ states) =
-        each-append Plain (blocks_by greatest auto rules fall kepts place number from state state.edges)
-        (states_blocks greatest auto rules fall kepts place (suc number) (from + state_size greatest number state) states)
+        each-append Plain (blocks_by greatest auto rules fall saved_accepts place number from state state.edges)
+        (states_blocks greatest auto rules fall saved_accepts place (suc number) (from + state_size greatest number state) states)
         (state_plain number from state state.edges) (states_plain (suc number) (from + state_size greatest number state) states)
 
 -- ---- the fallback by rule
 
-pub restores_plain : (rules : ℕ → ℕ) (kepts : List Accept) → PlainAll (restore_blocks rules kepts)
+pub restores_plain : (rules : ℕ → ℕ) (saved_accepts : List Accept) → PlainAll (restore_blocks rules saved_accepts)
 restores_plain rules [] = tt
-restores_plain rules (accept ∷ kepts) = ((refl, (refl, tt)), restores_plain rules kepts)
+restores_plain rules (accept ∷ saved_accepts) = ((refl, (refl, tt)), restores_plain rules saved_accepts)
 
 -- ---- the ends of rules
 

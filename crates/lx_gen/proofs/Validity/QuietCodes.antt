@@ -11,7 +11,7 @@ use Rattle.lx_ccode.specs.declared.piece.Stmt.{Stmt}
 use Rattle.lx_ccode.specs.declared.piece.Stmt.TheVariants.{Need, State as StoreState, Try}
 use Rattle.lx_gen.specs.Codes.{Choice, choices_code}
 use Rattle.lx_gen.specs.Endings.{Ending, action_code, cond_code, ending_code, last_code}
-use Rattle.lx_gen.specs.Layout.{accepts_of, choices_from, ending_blocks, fall_block, kept_of, layout, place_of, restore_blocks, rule_block, states_blocks}
+use Rattle.lx_gen.specs.Layout.{accepts_of, choices_from, ending_blocks, fall_block, saved_of, layout, place_of, restore_blocks, rule_block, states_blocks}
 use Rattle.lx_gen.proofs.Validity.PlainCodes.{Plain, PlainAll, choices_plain, is_plain, restores_plain, rule-before, states_plain}
 
 -- no statement asks for a refill or stores a state
@@ -70,14 +70,14 @@ layout_quiet endings greatest auto from =
     let rules : ℕ → ℕ = rule_block greatest auto from in
     let fall : ℕ = fall_block greatest auto from in
     let place : ℕ → ℕ = place_of greatest auto from in
-    let kepts : List Accept = kept_of auto.states in
-    let choices : List Choice = choices_from 1 (suc (fall_block greatest auto from)) (kept_of auto.states) in
+    let saved_accepts : List Accept = saved_of auto.states in
+    let choices : List Choice = choices_from 1 (suc (fall_block greatest auto from)) (saved_of auto.states) in
     let ends : List (List Stmt) = ending_blocks endings (accepts_of auto.states) in
-    QuietAll-plain (states_blocks greatest auto rules fall kepts place 0 from auto.states)
-    (choices_code choices ∷ (restore_blocks rules kepts ++ ends))
-    (states_plain greatest auto rules fall kepts place 0 from auto.states) (
+    QuietAll-plain (states_blocks greatest auto rules fall saved_accepts place 0 from auto.states)
+    (choices_code choices ∷ (restore_blocks rules saved_accepts ++ ends))
+    (states_plain greatest auto rules fall saved_accepts place 0 from auto.states) (
       Quiet-plain (choices_code choices) (choices_plain choices),
-      QuietAll-plain (restore_blocks rules kepts) ends (restores_plain rules kepts) (endings_quiet endings (accepts_of auto.states)),
+      QuietAll-plain (restore_blocks rules saved_accepts) ends (restores_plain rules saved_accepts) (endings_quiet endings (accepts_of auto.states)),
     )
 
 -- what no statement is, none of the list is

@@ -15,8 +15,8 @@ use Rattle.lx_auto.specs.declared.ops.Op.TheVariants as act
 use Rattle.lx_base.specs.Names.{Spellings, IsTagName}
 use Rattle.lx_ccode.specs.Validity.{IsLine, IsRegister, IsShort}
 use Rattle.lx_ccode.specs.declared.piece.Stmt.{Stmt}
-use Rattle.lx_ccode.specs.declared.piece.Stmt.TheVariants.{Accept as KeepAccept, Back, Backup, Code, Copy, Count, End, Goto, IfAccept, IfUnit, Leave, MCopy, MSet, MUnset, Peek, Restore, Set, Skip, Tag, Unset}
-use Rattle.lx_gen.specs.Codes.{Choice, accept_code, choices_code, edge_code, keep_code, keeps_on, list_code, op_code, ops_code}
+use Rattle.lx_ccode.specs.declared.piece.Stmt.TheVariants.{Accept as SaveAccept, Back, Backup, Code, Copy, Count, End, Goto, IfAccept, IfUnit, Leave, MCopy, MSet, MUnset, Peek, Restore, Set, Skip, Tag, Unset}
+use Rattle.lx_gen.specs.Codes.{Choice, accept_code, choices_code, edge_code, save_code, saves_on, list_code, op_code, ops_code}
 use Rattle.lx_gen.specs.Endings.{Ending, action_code, back_code, cond_code, ending_code, ends_code, groups_code, is_slash, last_code, rule_code, slash_held, tag_code, tags_code, unless}
 use Rattle.lx_gen.specs.Layout.{front_blocks}
 use Rattle.lx_gen.specs.ParallelCopies.{sequentialized}
@@ -34,7 +34,7 @@ module _ (names : Spellings) where
   CanBeSpelled Backup = Unit {0}
   CanBeSpelled Restore = Unit {0}
   CanBeSpelled Leave = Unit {0}
-  CanBeSpelled (KeepAccept accept) = IsShort accept
+  CanBeSpelled (SaveAccept accept) = IsShort accept
   CanBeSpelled (Set register) = IsRegister register
   CanBeSpelled (Unset register) = IsRegister register
   CanBeSpelled (Copy register source) = IsRegister register × IsRegister source
@@ -74,15 +74,15 @@ module _ (names : Spellings) where
 
   abbrev pub ChoicesShort : List Choice → Type 0
   ChoicesShort [] = Unit {0}
-  ChoicesShort (choice ∷ choices) = IsShort choice.kept × ChoicesShort choices
+  ChoicesShort (choice ∷ choices) = IsShort choice.saved × ChoicesShort choices
 
   pub choices_fine : (choices : List Choice) → ChoicesShort choices → CodeCanBeSpelled (choices_code choices)
   choices_fine [] h = (tt, tt)
   choices_fine (choice ∷ choices) h = (h.0, choices_fine choices h.1)
 
-  keep_fine : (keeps : Bool) (kept : ℕ) (rest : List Stmt) → IsShort kept → CodeCanBeSpelled rest → CodeCanBeSpelled (keep_code keeps kept rest)
-  keep_fine false kept rest short h = h
-  keep_fine true kept rest short h = (tt, (short, h))
+  save_fine : (saves : Bool) (saved : ℕ) (rest : List Stmt) → IsShort saved → CodeCanBeSpelled rest → CodeCanBeSpelled (save_code saves saved rest)
+  save_fine false saved rest short h = h
+  save_fine true saved rest short h = (tt, (short, h))
 
   -- ---- the ends of rules
 
@@ -169,10 +169,10 @@ module _ (names : Spellings) where
         (AreSmall-ops 2147483648 auto.regs auto.mregs ops are (omega (arith, few)) (omega (arith, few_mregs))))
         h
 
-    pub edge_fine : (state : State) (kept : ℕ) (edge : Edge) (block : ℕ) → IsShort kept → AreOps auto.regs auto.mregs state.leave
-        → AreOps auto.regs auto.mregs edge.ops → CodeCanBeSpelled (edge_code auto state kept edge block)
-    edge_fine state kept edge block short leave ops =
-        keep_fine (keeps_on auto.states state edge) kept (list_code auto state.leave (list_code auto edge.ops (Skip ∷ Goto block ∷ []))) short
+    pub edge_fine : (state : State) (saved : ℕ) (edge : Edge) (block : ℕ) → IsShort saved → AreOps auto.regs auto.mregs state.leave
+        → AreOps auto.regs auto.mregs edge.ops → CodeCanBeSpelled (edge_code auto state saved edge block)
+    edge_fine state saved edge block short leave ops =
+        save_fine (saves_on auto.states state edge) saved (list_code auto state.leave (list_code auto edge.ops (Skip ∷ Goto block ∷ []))) short
         (list_fine state.leave (list_code auto edge.ops (Skip ∷ Goto block ∷ [])) leave
         (list_fine edge.ops (Skip ∷ Goto block ∷ []) ops (tt, (tt, tt))))
 

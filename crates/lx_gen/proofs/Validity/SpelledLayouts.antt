@@ -12,9 +12,9 @@ use Rattle.lx_base.specs.Names.{Spellings}
 use Rattle.lx_ccode.specs.Validity.{IsShort}
 use Rattle.lx_gen.specs.Codes.{choices_code}
 use Rattle.lx_gen.specs.Endings.{Ending}
-use Rattle.lx_gen.specs.Layout.{accepts_of, blocks_by, choices_from, end_block, end_blocks, ending_blocks, fall_block, front_blocks, front_size, kept_accept, kept_number, kept_of, layout, lone_blocks, numbered, own_blocks, place_of, restore_blocks, rule_block, state_size, states_blocks, way_blocks}
+use Rattle.lx_gen.specs.Layout.{accepts_of, blocks_by, choices_from, end_block, end_blocks, ending_blocks, fall_block, front_blocks, front_size, saved_accept, saved_number, saved_of, layout, lone_blocks, numbered, own_blocks, place_of, restore_blocks, rule_block, state_size, states_blocks, class_blocks}
 use Rattle.lx_gen.specs.TestTrees.{TestTree, edge_tree}
-use Rattle.lx_gen.specs.Ways.{Split, Stretch, before, edge_split, first_way, has_way, same_place, split_of, stretches, way_place, ways_of, ways_onto}
+use Rattle.lx_gen.specs.TransitionClasses.{Split, Stretch, before, edge_split, first_class, has_class, same_place, split_of, stretches, class_place, transition_classes, classes_onto}
 use Rattle.lx_gen.specs.Written.{AcceptIsWritten, AreWritten, IsWrittenAccept}
 use Rattle.lx_gen.proofs.BlockLayouts.BalancedTrees.{EachTest, each-balanced}
 use Rattle.lx_gen.proofs.Validity.EachElement.{each-append, each-map}
@@ -39,17 +39,17 @@ EdgesShort-apart greatest low (edge ∷ edges) short apart units =
 abbrev StretchesShort : List Stretch → Type 0
 StretchesShort list = AllByRecursion (λ (stretch : Stretch). IsShort stretch.greatest) list
 
-stretches-short : (ways : List Edge) (low : ℕ) (edges : List Edge) → EdgesShort edges → StretchesShort (stretches ways low edges)
-stretches-short ways low [] h = tt
-stretches-short ways low (edge ∷ edges) h = by (nat_lt low edge.lo) (stretches-short ways (edge.hi + 1) edges h.1)
+stretches-short : (classes : List Edge) (low : ℕ) (edges : List Edge) → EdgesShort edges → StretchesShort (stretches classes low edges)
+stretches-short classes low [] h = tt
+stretches-short classes low (edge ∷ edges) h = by (nat_lt low edge.lo) (stretches-short classes (edge.hi + 1) edges h.1)
   where
-    by : (t : Bool) → StretchesShort (stretches ways (edge.hi + 1) edges)
-        → StretchesShort (if t then record { greatest = edge.lo - 1; way = None } ∷ record {
+    by : (t : Bool) → StretchesShort (stretches classes (edge.hi + 1) edges)
+        → StretchesShort (if t then record { greatest = edge.lo - 1; class = None } ∷ record {
           greatest = edge.hi;
-          way = Some
-              (way_place ways edge);
-        } ∷ stretches ways (edge.hi + 1) edges
-        else record { greatest = edge.hi; way = Some (way_place ways edge) } ∷ stretches ways (edge.hi + 1) edges)
+          class = Some
+              (class_place classes edge);
+        } ∷ stretches classes (edge.hi + 1) edges
+        else record { greatest = edge.hi; class = Some (class_place classes edge) } ∷ stretches classes (edge.hi + 1) edges)
     by true again = (omega (arith, h.0.0, h.0.1), (h.0.1, again))
     by false again = (h.0.1, again)
 
@@ -64,19 +64,19 @@ split-short greatest (stretch ∷ list) h = by (nat_le greatest stretch.greatest
     join false again = (h.0, again)
 
     by : (t : Bool) → StretchesShort (split_of greatest list).tests
-        → StretchesShort (if t then record { tests = []; last = stretch.way } else before stretch (split_of greatest list)).tests
+        → StretchesShort (if t then record { tests = []; last = stretch.class } else before stretch (split_of greatest list)).tests
     by true again = tt
-    by false again = join (same_place stretch.way (first_way (split_of greatest list).tests (split_of greatest list).last)) again
+    by false again = join (same_place stretch.class (first_class (split_of greatest list).tests (split_of greatest list).last)) again
 
-edge_tree-short : (greatest : ℕ) (edges : List Edge) → EdgesShort edges → EachTest IsShort (λ way. Unit {0}) (edge_tree greatest edges)
+edge_tree-short : (greatest : ℕ) (edges : List Edge) → EdgesShort edges → EachTest IsShort (λ class. Unit {0}) (edge_tree greatest edges)
 edge_tree-short greatest edges units =
     let split : Split = edge_split greatest edges in
-    each-balanced IsShort (λ way. Unit {0}) split.tests split.last
+    each-balanced IsShort (λ class. Unit {0}) split.tests split.last
     (each-map (λ (stretch : Stretch). IsShort stretch.greatest) (λ (stretch : Stretch). IsShort stretch.greatest × Unit {0})
     (λ stretch short. (short, tt)) split.tests
-    (split-short greatest (stretches (ways_of edges) 0 edges) (stretches-short (ways_of edges) 0 edges units))) tt
+    (split-short greatest (stretches (transition_classes edges) 0 edges) (stretches-short (transition_classes edges) 0 edges units))) tt
 
--- ---- ways
+-- ---- transition classes
 
 -- the operations of each edge are on registers that are there
 abbrev HaveOps : (regs mregs : ℕ) → List Edge → Type 0
@@ -92,20 +92,20 @@ HaveOps-append regs mregs [] b h g = g
 HaveOps-append regs mregs (edge ∷ a) b h g = (h.0, HaveOps-append regs mregs a b h.1 g)
 
 HaveOps-onto : (regs mregs : ℕ) (edges found : List Edge) → HaveOps regs mregs found → HaveOps regs mregs edges
-    → HaveOps regs mregs (ways_onto found edges)
+    → HaveOps regs mregs (classes_onto found edges)
 HaveOps-onto regs mregs [] found h g = h
-HaveOps-onto regs mregs (edge ∷ edges) found h g = by (has_way found edge) (λ ways is. HaveOps-onto regs mregs edges ways is g.1)
+HaveOps-onto regs mregs (edge ∷ edges) found h g = by (has_class found edge) (λ classes is. HaveOps-onto regs mregs edges classes is g.1)
   where
-    by : (t : Bool) → ((ways : List Edge) → HaveOps regs mregs ways → HaveOps regs mregs (ways_onto ways edges))
-        → HaveOps regs mregs (ways_onto (if t then found else found ++ edge ∷ []) edges)
+    by : (t : Bool) → ((classes : List Edge) → HaveOps regs mregs classes → HaveOps regs mregs (classes_onto classes edges))
+        → HaveOps regs mregs (classes_onto (if t then found else found ++ edge ∷ []) edges)
     by true again = again found h
     by false again = again (found ++ edge ∷ []) (HaveOps-append regs mregs found (edge ∷ []) h (g.0, tt))
 
 -- ---- the blocks of states
 
-kept_number-short : (kepts : List Accept) (o : Option Accept) → length kepts < 4294967295 → IsShort (kept_number kepts o)
-kept_number-short kepts None few = omega arith
-kept_number-short kepts (Some accept) few = let h = rule_place-within kepts accept.rule in omega (arith, h, few)
+saved_number-short : (saved_accepts : List Accept) (o : Option Accept) → length saved_accepts < 4294967295 → IsShort (saved_number saved_accepts o)
+saved_number-short saved_accepts None few = omega arith
+saved_number-short saved_accepts (Some accept) few = let h = rule_place-within saved_accepts accept.rule in omega (arith, h, few)
 
 module _ (names : Spellings) where
   module _ (greatest : ℕ) (auto : Auto) (rules : ℕ → ℕ) (fall : ℕ) (few : auto.regs ≤ 1073741824) (few_mregs : auto.mregs ≤ 1073741824) where
@@ -124,40 +124,40 @@ module _ (names : Spellings) where
     lone_blocks-fine zero (Some accept) is = (accept_fine names auto few few_mregs accept.ops (rules accept.rule) is.0, tt)
     lone_blocks-fine (suc number) o is = end_blocks-fine o is
 
-    module _ (kepts : List Accept) (place : ℕ → ℕ) (short : IsShort greatest) (few_kepts : length kepts < 4294967295) where
-      way_blocks-fine : (state : State) (ways : List Edge) → AreOps auto.regs auto.mregs state.leave → HaveOps auto.regs auto.mregs ways
-          → AllByRecursion (CodeCanBeSpelled names) (way_blocks greatest auto rules fall kepts place state ways)
-      way_blocks-fine state [] leave h = tt
-      way_blocks-fine state (way ∷ ways) leave h = (
-        edge_fine names auto few few_mregs state (kept_number kepts state.accept) way (place way.to) (kept_number-short kepts state.accept few_kepts)
+    module _ (saved_accepts : List Accept) (place : ℕ → ℕ) (short : IsShort greatest) (few_saved_accepts : length saved_accepts < 4294967295) where
+      class_blocks-fine : (state : State) (classes : List Edge) → AreOps auto.regs auto.mregs state.leave → HaveOps auto.regs auto.mregs classes
+          → AllByRecursion (CodeCanBeSpelled names) (class_blocks greatest auto rules fall saved_accepts place state classes)
+      class_blocks-fine state [] leave h = tt
+      class_blocks-fine state (class ∷ classes) leave h = (
+        edge_fine names auto few few_mregs state (saved_number saved_accepts state.accept) class (place class.to) (saved_number-short saved_accepts state.accept few_saved_accepts)
             leave h.0,
-        way_blocks-fine state ways leave h.1,
+        class_blocks-fine state classes leave h.1,
       )
 
       state_fine : (number from : ℕ) (state : State) (edges : List Edge) → AreOps auto.regs auto.mregs state.leave
           → HaveOps auto.regs auto.mregs edges → EdgesShort edges → IsAccept auto.regs auto.mregs state.accept
-          → AllByRecursion (CodeCanBeSpelled names) (blocks_by greatest auto rules fall kepts place number from state edges)
+          → AllByRecursion (CodeCanBeSpelled names) (blocks_by greatest auto rules fall saved_accepts place number from state edges)
       state_fine number from state [] leave ops units is = lone_blocks-fine number state.accept is
       state_fine number from state (edge ∷ edges) leave ops units is =
-          let ways : List Edge = ways_of (edge ∷ edges) in
+          let classes : List Edge = transition_classes (edge ∷ edges) in
           let first : ℕ = from + front_size (edge_tree greatest (edge ∷ edges)) in
-          let own : ℕ = from + front_size (edge_tree greatest (edge ∷ edges)) + length (ways_of (edge ∷ edges)) in
+          let own : ℕ = from + front_size (edge_tree greatest (edge ∷ edges)) + length (transition_classes (edge ∷ edges)) in
           let end : ℕ = end_block greatest auto rules fall own state.accept in
           let tree : TestTree ℕ = numbered first end (edge_tree greatest (edge ∷ edges)) in
           each-append (CodeCanBeSpelled names) (front_blocks from tree)
-          (way_blocks greatest auto rules fall kepts place state ways ++ end_blocks greatest auto rules fall state.accept)
-          (front_fine names from tree (each-numbered first end IsShort (λ way. Unit {0}) (λ block. Unit {0}) (λ way any. tt)
+          (class_blocks greatest auto rules fall saved_accepts place state classes ++ end_blocks greatest auto rules fall state.accept)
+          (front_fine names from tree (each-numbered first end IsShort (λ class. Unit {0}) (λ block. Unit {0}) (λ class any. tt)
           (edge_tree greatest (edge ∷ edges)) (edge_tree-short greatest (edge ∷ edges) units)))
-          (each-append (CodeCanBeSpelled names) (way_blocks greatest auto rules fall kepts place state ways) (end_blocks greatest auto rules fall state.accept)
-          (way_blocks-fine state ways leave (HaveOps-onto auto.regs auto.mregs (edge ∷ edges) [] tt ops)) (end_blocks-fine state.accept is))
+          (each-append (CodeCanBeSpelled names) (class_blocks greatest auto rules fall saved_accepts place state classes) (end_blocks greatest auto rules fall state.accept)
+          (class_blocks-fine state classes leave (HaveOps-onto auto.regs auto.mregs (edge ∷ edges) [] tt ops)) (end_blocks-fine state.accept is))
 
       states_fine : (count number from : ℕ) (states : List State) → AreStates auto.regs auto.mregs count states
           → AllByRecursion (λ (state : State). All (λ (edge : Edge). edge.hi ≤ greatest) state.edges) states
-          → AllByRecursion (CodeCanBeSpelled names) (states_blocks greatest auto rules fall kepts place number from states)
+          → AllByRecursion (CodeCanBeSpelled names) (states_blocks greatest auto rules fall saved_accepts place number from states)
       states_fine count number from [] are units = tt
       states_fine count number from (state ∷ states) are units =
-          each-append (CodeCanBeSpelled names) (blocks_by greatest auto rules fall kepts place number from state state.edges)
-          (states_blocks greatest auto rules fall kepts place (suc number) (from + state_size greatest number state) states)
+          each-append (CodeCanBeSpelled names) (blocks_by greatest auto rules fall saved_accepts place number from state state.edges)
+          (states_blocks greatest auto rules fall saved_accepts place (suc number) (from + state_size greatest number state) states)
           (state_fine number from state state.edges are.0.leave (HaveOps-lead auto.regs auto.mregs count state.edges are.0.lead)
           (EdgesShort-apart greatest 0 state.edges short are.0.apart (each-All (λ (edge : Edge). edge.hi ≤ greatest) state.edges units.0))
           are.0.accept)
@@ -165,14 +165,14 @@ module _ (names : Spellings) where
 
   -- ---- the fallback
 
-  choices-short : (kept block : ℕ) (kepts : List Accept) → kept + length kepts ≤ 4294967295 → ChoicesShort names (choices_from kept block kepts)
-  choices-short kept block [] fit = tt
-  choices-short kept block (accept ∷ kepts) fit =
-      (omega (arith, fit), choices-short (suc kept) (suc block) kepts (omega (arith, fit)))
+  choices-short : (saved block : ℕ) (saved_accepts : List Accept) → saved + length saved_accepts ≤ 4294967295 → ChoicesShort names (choices_from saved block saved_accepts)
+  choices-short saved block [] fit = tt
+  choices-short saved block (accept ∷ saved_accepts) fit =
+      (omega (arith, fit), choices-short (suc saved) (suc block) saved_accepts (omega (arith, fit)))
 
-  restore_blocks-fine : (rules : ℕ → ℕ) (kepts : List Accept) → AllByRecursion (CodeCanBeSpelled names) (restore_blocks rules kepts)
+  restore_blocks-fine : (rules : ℕ → ℕ) (saved_accepts : List Accept) → AllByRecursion (CodeCanBeSpelled names) (restore_blocks rules saved_accepts)
   restore_blocks-fine rules [] = tt
-  restore_blocks-fine rules (accept ∷ kepts) = ((tt, (tt, tt)), restore_blocks-fine rules kepts)
+  restore_blocks-fine rules (accept ∷ saved_accepts) = ((tt, (tt, tt)), restore_blocks-fine rules saved_accepts)
 
   -- ---- the ends of rules
 
@@ -206,19 +206,19 @@ module _ (names : Spellings) where
       let rules : ℕ → ℕ = rule_block greatest auto from in
       let fall : ℕ = fall_block greatest auto from in
       let place : ℕ → ℕ = place_of greatest auto from in
-      let kepts : List Accept = kept_of auto.states in
+      let saved_accepts : List Accept = saved_of auto.states in
       let few : length auto.states < 4294967295 = formed.few in
-      let more : length (kept_of auto.states) ≤ 0 + length auto.states = length-firsts (kept_accept auto.states) [] auto.states in
-      let few_kepts : length (kept_of auto.states) < 4294967295 = omega (arith, few, more) in
+      let more : length (saved_of auto.states) ≤ 0 + length auto.states = length-firsts (saved_accept auto.states) [] auto.states in
+      let few_saved_accepts : length (saved_of auto.states) < 4294967295 = omega (arith, few, more) in
       let ends = each-firsts (EndIsWritten endings auto) (λ state. state.accept) [] auto.states tt
       (ends_written endings auto (length auto.states) auto.states written formed.states) in
-      each-append (CodeCanBeSpelled names) (states_blocks greatest auto rules fall kepts place 0 from auto.states)
-      (choices_code (choices_from 1 (suc fall) kepts) ∷ (restore_blocks rules kepts ++ ending_blocks endings (accepts_of auto.states)))
-      (states_fine greatest auto rules fall formed.few_regs formed.few_mregs kepts place short few_kepts (length auto.states) 0 from auto.states
+      each-append (CodeCanBeSpelled names) (states_blocks greatest auto rules fall saved_accepts place 0 from auto.states)
+      (choices_code (choices_from 1 (suc fall) saved_accepts) ∷ (restore_blocks rules saved_accepts ++ ending_blocks endings (accepts_of auto.states)))
+      (states_fine greatest auto rules fall formed.few_regs formed.few_mregs saved_accepts place short few_saved_accepts (length auto.states) 0 from auto.states
       formed.states
       (each-All (λ (state : State). All (λ (edge : Edge). edge.hi ≤ greatest) state.edges) auto.states units)) (
-        choices_fine names (choices_from 1 (suc fall) kepts) (choices-short 1 (suc fall) kepts (omega (arith, few_kepts))),
-        each-append (CodeCanBeSpelled names) (restore_blocks rules kepts) (ending_blocks endings (accepts_of auto.states))
-            (restore_blocks-fine rules kepts)
+        choices_fine names (choices_from 1 (suc fall) saved_accepts) (choices-short 1 (suc fall) saved_accepts (omega (arith, few_saved_accepts))),
+        each-append (CodeCanBeSpelled names) (restore_blocks rules saved_accepts) (ending_blocks endings (accepts_of auto.states))
+            (restore_blocks-fine rules saved_accepts)
             (ending_blocks-fine endings auto (accepts_of auto.states) formed.few_regs formed.few_mregs ends),
       )

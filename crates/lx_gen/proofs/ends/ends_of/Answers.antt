@@ -1,35 +1,35 @@
 use Rattle.std.proofs.Common.{◌≡◌, ap, subst, sym, ◌∙◌, arith, length, List}
 use Rattle.std.proofs.lemmas.List.{length-map}
 use Rattle.lx_auto.specs.declared.automaton.State.{State}
-use Rattle.lx_gen.specs.Layout.{accepts_of, end_of, kept_of}
+use Rattle.lx_gen.specs.Layout.{accepts_of, end_of, saved_of}
 use Rattle.lx_gen.specs.Plans.{ArePlanned, seen_states}
 use Rattle.lx_gen.specs.declared.accepts.First.{First}
 use Rattle.lx_gen.specs.declared.plans.Plan.{Plan}
-use Rattle.lx_gen.proofs.BlockLayouts.AcceptLoops.{kept_of-length}
+use Rattle.lx_gen.proofs.BlockLayouts.AcceptLoops.{saved_of-length}
 use Rattle.lx_gen.proofs.ends.ends_of.Goals as goal
 
 pub returns-clause-ends : goal.returns-clause-ends
 returns-clause-ends c =
     let states = c.args.auto.now.states in
-    let kepts = c.in_ok-kepts.kepts.list.items in
-    let count : length (kept_of states) ≡ length kepts =
-    ap length (sym c.in_ok-kepts.ensures.kepts) ∙ length-map kepts (λ (first : First). first.accept.now) in
-    let few = kept_of-length states in
+    let saved_accepts = c.in_ok-saved_accepts.saved_accepts.list.items in
+    let count : length (saved_of states) ≡ length saved_accepts =
+    ap length (sym c.in_ok-saved_accepts.ensures.saved_accepts) ∙ length-map saved_accepts (λ (first : First). first.accept.now) in
+    let few = saved_of-length states in
     let planned_states : seen_states c.in_ok-plans.plans.items ≡ states = c.in_ok-plans.ensures.states ∙ c.as_slice.ensures in
     let fall = c.in_ok-fall.ensures c.args.greatest
     (subst (λ l. ArePlanned c.args.greatest l) (sym c.as_slice-3.ensures.value) c.in_ok-plans.ensures.planned)
     ∙ ap (λ (l : List Plan). end_of c.args.greatest 0 0 (seen_states l)) c.as_slice-3.ensures.value
     ∙ ap (λ (l : List State). end_of c.args.greatest 0 0 l) planned_states in
-    let len : c.len.result ≡ length kepts = c.len.ensures ∙ c.in_ok-kepts.kepts.list.ok.0 in
+    let len : c.len.result ≡ length saved_accepts = c.len.ensures ∙ c.in_ok-saved_accepts.saved_accepts.list.ok.0 in
     record {
       formed = c.requires;
       states = planned_states;
       planned = c.in_ok-plans.ensures.planned;
       accepts = c.in_ok-accepts.ensures.accepts ∙ ap accepts_of c.as_slice-2.ensures;
       accept_places = c.in_ok-accepts.ensures.indexed;
-      kepts = c.in_ok-kepts.ensures.kepts;
-      kept_places = c.in_ok-kepts.ensures.indexed;
-      few_kepts = omega (arith, count, few, c.requires.few);
+      saved_accepts = c.in_ok-saved_accepts.ensures.saved_accepts;
+      saved_places = c.in_ok-saved_accepts.ensures.indexed;
+      few_saved_accepts = omega (arith, count, few, c.requires.few);
       fall = fall;
       rules = omega (arith, fall, count, len, c.in_ok-rules.ensures, c.in_ok-sum.ensures);
     }

@@ -1,13 +1,13 @@
 use Rattle.std.proofs.Common.{◌≡◌, ◌+◌, ◌++◌, suc, drop}
 use Rattle.lx_gen.specs.Codes.{choices_code}
-use Rattle.lx_gen.specs.Layout.{choices_from, fall_block, kept_of}
+use Rattle.lx_gen.specs.Layout.{choices_from, fall_block, saved_of}
 use Rattle.lx_gen.specs.Plans.{seen_accepts}
 use Rattle.lx_gen.proofs.fallback.choices_code.Given as goal
 
 abbrev pub invariant-loop-first : goal.invariant-loop-first
 invariant-loop-first l =
     record {
-      kept : l.kept ≡ l._first-index + 1;
-      put : l.stmts.items ++ choices_code (choices_from l.kept l.block (seen_accepts (drop l._first-index l._first-items)))
-          ≡ choices_code (choices_from 1 (suc (fall_block l.ends.greatest l.ends.auto.now 0)) (kept_of l.ends.auto.now.states));
+      saved : l.saved ≡ l._first-index + 1;
+      put : l.stmts.items ++ choices_code (choices_from l.saved l.block (seen_accepts (drop l._first-index l._first-items)))
+          ≡ choices_code (choices_from 1 (suc (fall_block l.ends.greatest l.ends.auto.now 0)) (saved_of l.ends.auto.now.states));
     }

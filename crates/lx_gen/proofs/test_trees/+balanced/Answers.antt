@@ -15,7 +15,7 @@ returns t c =
     let behind_first = rw third at c.if-place-eq0.false in
     let filled = eqb-false (length tests) 0 (sym c.is_empty.ensures ∙ c.if-is_empty.false) in
     let some : 0 < length tests = omega (arith, filled) in
-    let none : Stretch = record { greatest = 0; way = None } in
+    let none : Stretch = record { greatest = 0; class = None } in
     let inside = place-in tests none c.args.last some in
     let middle : Stretch = get_or tests place none in
     let behind = length-drop (place + 1) tests in

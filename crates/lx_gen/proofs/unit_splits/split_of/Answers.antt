@@ -1,8 +1,8 @@
 use Rattle.std.proofs.Common.{◌+◌, ◌++◌, ◌∙◌, ap, drop}
 use Rattle.std.proofs.lemmas.List.{map-append}
 use Rattle.lx_gen.specs.Views.{seen_stretch, seen_stretches}
-use Rattle.lx_gen.specs.Ways.{split_of}
-use Rattle.lx_gen.proofs.BlockLayouts.SplitLoops.{split_of-added, split_of-kept}
+use Rattle.lx_gen.specs.TransitionClasses.{split_of}
+use Rattle.lx_gen.proofs.BlockLayouts.SplitLoops.{split_of-added, split_of-saved}
 use Rattle.lx_gen.proofs.unit_splits.split_of.Goals as goal
 use Rattle.lx_gen.proofs.unit_splits.split_of.Goals.{then-not-same_place+in_ok-push, else-not-same_place}
 
@@ -12,7 +12,7 @@ loop-index-preserved c =
       | then-not-same_place+in_ok-push w ↦
           let added = split_of-added c.args.greatest c.args.stretches.now c.loop-index.index _ c.loop-index-test.true (seen_stretches c.loop-index.tests.items)
           _ _ c.loop-index.invariant.0 c.loop-index.invariant.1 c.if-greatest-stretch.false
-          c.way_at.result c.way_at.ensures w.if-not-same_place.ensures in
+          c.class_at.result c.class_at.ensures w.if-not-same_place.ensures in
           rw (w.tests-is) (rw (w.in_ok-push.ensures.items) (
             ap (λ l. l ++ (split_of c.args.greatest (seen_stretches (drop (c.loop-index.index + 1) c.args.stretches.now))).tests)
                 (map-append seen_stretch c.loop-index.tests.items _) ∙ added.0,
@@ -20,7 +20,7 @@ loop-index-preserved c =
           ))
       | else-not-same_place w ↦
           rw (w.tests-is)
-          (split_of-kept c.args.greatest c.args.stretches.now c.loop-index.index _ c.loop-index-test.true (seen_stretches c.loop-index.tests.items)
+          (split_of-saved c.args.greatest c.args.stretches.now c.loop-index.index _ c.loop-index-test.true (seen_stretches c.loop-index.tests.items)
           _ _ c.loop-index.invariant.0 c.loop-index.invariant.1 c.if-greatest-stretch.false
-          c.way_at.result c.way_at.ensures w.if-not-same_place.ensures)
+          c.class_at.result c.class_at.ensures w.if-not-same_place.ensures)
     ]

@@ -1,6 +1,6 @@
 use Rattle.std.proofs.Common.{◌≡◌, ◌++◌, drop}
 use Rattle.lx_gen.specs.Views.{seen_stretches}
-use Rattle.lx_gen.specs.Ways.{split_of}
+use Rattle.lx_gen.specs.TransitionClasses.{split_of}
 use Rattle.lx_gen.proofs.unit_splits.split_of.Given as goal
 
 abbrev pub invariant-loop-index : goal.invariant-loop-index
