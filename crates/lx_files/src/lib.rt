@@ -18,6 +18,3 @@ pub use memory_sinks::{MemSink, QuietSink};
 pub use puts::put_all;
 pub use real::{RealFiles, RealSink};
 pub use sinks::{PutAnswer, Sink};
-
-#[cfg(test)]
-mod tests;

@@ -78,7 +78,10 @@ fn answer_of(error: &io::Error) -> ReadAnswer {
 
 /// All bytes of a file, read piece by piece. Each turn gets a byte or was interrupted, so there are no more
 /// turns than bytes that a file may have, and then one.
-pub(crate) fn read_to_end<F: Read>(alloc: Global, file: &mut F) -> Result<Vec<u8>, ReadAnswer> {
+///
+/// It refuses with `Failed` where the file has more than 268,435,456 bytes or a read fails, with `Missing` where a read says
+/// that there is no file, and with `Memory` where memory is wanting.
+pub fn read_to_end<F: Read>(alloc: Global, file: &mut F) -> Result<Vec<u8>, ReadAnswer> {
     let mut bytes = Vec::new(alloc);
     let mut buffer = [0u8; 16384];
     for _ in 0..=LONGEST_FILE {

@@ -1,5 +1,6 @@
 mod bodies;
 mod classes;
+mod files;
 mod graphs;
 mod includes;
 mod messages;

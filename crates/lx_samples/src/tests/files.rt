@@ -1,10 +1,9 @@
 //! What no clause says: what happens over real files and broken devices, and that files which never fail succeed. Files and sinks of
 //! which chosen calls fail are tried by `crates/cases`.
-use crate::files::{Files, ReadAnswer, WriteAnswer};
-use crate::memory_files::QuietFiles;
-use crate::memory_sinks::QuietSink;
-use crate::real::{RealFiles, RealSink, read_to_end};
-use crate::sinks::{PutAnswer, Sink};
+use lx_files::real::read_to_end;
+use lx_files::{
+    Files, PutAnswer, QuietFiles, QuietSink, ReadAnswer, RealFiles, RealSink, Sink, WriteAnswer,
+};
 use std::alloc::Global;
 use std::io::{Read, Write};
 use std::test::Fail;

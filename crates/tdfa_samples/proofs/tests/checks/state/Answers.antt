@@ -1,7 +1,7 @@
 use Rattle.std.proofs.Common.{[], sym, subst}
 use Rattle.std.proofs.lemmas.List.{append-nil}
 use Rattle.lx_auto.specs.Automaton.{AreApart, AreOps, LeadWithin}
-use Rattle.lx_fill.proofs.fill.tests.state.Goals as goal
+use Rattle.tdfa_samples.proofs.tests.checks.state.Goals as goal
 
 pub returns : goal.returns
 returns c =

@@ -1,7 +1,7 @@
 use Rattle.std.proofs.Common.{◌≡◌, List, ◌++◌, length}
 use Rattle.lx_auto.specs.declared.automaton.State.{State}
 use Rattle.lx_auto.specs.Automaton.{AreStates}
-use Rattle.lx_fill.proofs.fill.tests.automaton.Given as goal
+use Rattle.tdfa_samples.proofs.tests.checks.automaton.Given as goal
 
 abbrev pub invariant-loop-number : goal.invariant-loop-number
 invariant-loop-number l = record {

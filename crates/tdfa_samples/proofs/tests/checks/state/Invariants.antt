@@ -1,7 +1,7 @@
 use Rattle.std.proofs.Common.{◌≤◌, List, ◌++◌}
 use Rattle.lx_auto.specs.declared.automaton.Edge.{Edge}
 use Rattle.lx_auto.specs.Automaton.{AreApartFrom, LeadWithin}
-use Rattle.lx_fill.proofs.fill.tests.state.Given as goal
+use Rattle.tdfa_samples.proofs.tests.checks.state.Given as goal
 
 abbrev pub invariant-loop-from : goal.invariant-loop-from
 invariant-loop-from l = record {

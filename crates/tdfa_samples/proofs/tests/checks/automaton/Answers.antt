@@ -1,7 +1,7 @@
 use Rattle.std.proofs.Common.{◌≡◌, ◌+◌, [], length, sym, subst, arith}
 use Rattle.std.proofs.lemmas.List.{append-nil}
 use Rattle.lx_auto.specs.Automaton.{AreStates}
-use Rattle.lx_fill.proofs.fill.tests.automaton.Goals as goal
+use Rattle.tdfa_samples.proofs.tests.checks.automaton.Goals as goal
 
 pub returns : goal.returns
 returns c =
