@@ -1,5 +1,5 @@
 #!/bin/sh
-# Runs the program where it ends with the statuses 0 to 3, and compares what it puts to the standard output and to the
+# Runs the program where it ends with the statuses 0 to 4, and compares what it puts to the standard output and to the
 # standard error. A read fails on a folder, and a write or a put on a full device.
 #
 # Usage: tests/statuses.sh, from anywhere.
@@ -37,6 +37,12 @@ ends 1 '' 'none.re:1:1: error: no such file\n' -i none.re
 ends 1 '' 'rules.re:1:8: error: not supported yet\n' -i -o made.c rules.re
 cmp plain.c made.c
 ends 2 '' 're2c: error: read failed\n' -i folder
+# a file that does not fit in the memory that there may be
+head -c 12000000 /dev/zero | tr '\0' 'x' > long.c
+(
+	ulimit -v 16384
+	ends 4 '' 're2c: error: out of memory\n' -i long.c
+)
 if [ -c /dev/full ]; then
 	ends 3 '' 're2c: error: write failed\n' -i -o /dev/full plain.c
 	got=0
