@@ -59,7 +59,8 @@ const TAG_NAMES: [(&str, bool); 14] = [
 /// The usual spellings, with this word at a place.
 fn with(alloc: Global, place: usize, word: &str) -> Result<Names, Memory> {
     let mut names = Names::new(alloc);
-    for (at, usual) in usual_names(alloc)?.iter().enumerate() {
+    let all = usual_names(alloc)?;
+    for (at, usual) in all.as_slice().iter().enumerate() {
         let chosen = if at == place {
             word.as_bytes()
         } else {
