@@ -6,7 +6,7 @@ use anyhow::{Error, Result, bail};
 use std::alloc::Global;
 
 /// Why a file is none of cases, and the number of the line where this shows.
-#[derive(Debug, Drop)]
+#[derive(Drop)]
 pub struct BadLine {
     pub line: usize,
     pub cause: Error,

@@ -6,7 +6,7 @@ use crate::ops::Ops;
 use lx_base::Sequence;
 
 /// An edge: on each unit of a range it leads to a state.
-#[derive(Debug, Drop)]
+#[derive(Drop)]
 pub struct Edge {
     /// The least unit of the range.
     pub lo: u32,
@@ -19,7 +19,7 @@ pub struct Edge {
 }
 
 /// What holds the value of a tag.
-#[derive(Clone, Copy, Debug, PartialEq, Eq)]
+#[derive(Clone, Copy, PartialEq, Eq)]
 pub enum Held {
     /// The register with this number.
     Reg(u32),
@@ -28,7 +28,7 @@ pub enum Held {
 }
 
 /// What a state accepts.
-#[derive(Debug, Drop)]
+#[derive(Drop)]
 pub struct Accept {
     /// The number of the rule.
     pub rule: u32,
@@ -39,7 +39,7 @@ pub struct Accept {
 }
 
 /// A state.
-#[derive(Debug, Drop)]
+#[derive(Drop)]
 pub struct State {
     /// The edges out of the state, by their units in ascending order.
     pub edges: Sequence<Edge>,
@@ -51,7 +51,7 @@ pub struct State {
 }
 
 /// An automaton with registers.
-#[derive(Debug, Drop)]
+#[derive(Drop)]
 pub struct Auto {
     /// The states, each by its number, counted from 0. A run starts in state 0.
     pub states: Sequence<State>,

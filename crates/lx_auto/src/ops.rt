@@ -11,7 +11,7 @@ use std::marker::Model;
 ///
 /// A register holds an offset or none. An m-register holds a history, which is a list of such values. Both are counted
 /// from 0, each sort by itself. The m-register 0 is never written, so its history is always empty.
-#[derive(Clone, Copy, Debug, PartialEq, Eq)]
+#[derive(Clone, Copy, PartialEq, Eq)]
 pub enum Op {
     /// The register with this number gets the offset.
     Here(u32),
@@ -41,7 +41,7 @@ impl Default for Op {
 /// Each operation reads what registers held before the list acts. Where several write one register the last of them
 /// counts, and so it is with copies into an m-register. What the list puts at the end of an m-register follows behind
 /// such a copy, in the order of the list.
-#[derive(Debug, Drop)]
+#[derive(Drop)]
 pub struct Ops {
     places: SmallVec<Op, 4>,
 }

@@ -9,7 +9,7 @@ use std::alloc::AllocError;
 /// A refusal with its place and what it keeps.
 ///
 /// `message` gives the text of each.
-#[derive(Debug, Drop)]
+#[derive(Drop)]
 pub enum Fault {
     /// A form that is not supported yet; without a place where it is one of the command line.
     Unsupported {
@@ -193,7 +193,7 @@ impl Fault {
 }
 
 /// Why a call on a source stopped: memory ran out, or the source has a fault.
-#[derive(Debug, Drop)]
+#[derive(Drop)]
 pub enum Stop {
     Memory,
     Fault(Fault),

@@ -5,7 +5,7 @@ ghost use Rattle.lx_base.specs.Letters.{EachLetter, IsIdentifier, IsSpelling, af
 ghost use Rattle.lx_base.specs.Names.{AreDistinct, IsNoneOf, IsWords};
 
 /// The letters of a kind of words.
-#[derive(Clone, Copy, Debug, PartialEq, Eq)]
+#[derive(Clone, Copy, PartialEq, Eq)]
 pub enum Letters {
     /// The digits of a number.
     Digits,

@@ -26,7 +26,7 @@ impl<T: Drop> From<AllocFailed<T>> for Memory {
 /// A list on the heap, which contracts see as the list of its items and never as memory.
 ///
 /// It is what stands for a `Vec` in the public types of every crate.
-#[derive(Debug, Drop)]
+#[derive(Drop)]
 pub struct Sequence<T> {
     items: Vec<T>,
 }

@@ -10,7 +10,7 @@ use std::marker::Model;
 ///
 /// `file` is the place of the file's name in `FileNames`. Lines and columns count from 1, columns in
 /// bytes, and a line feed ends a line.
-#[derive(Clone, Copy, Debug, PartialEq, Eq)]
+#[derive(Clone, Copy, PartialEq, Eq)]
 pub struct Pos {
     pub file: u32,
     pub line: u32,
@@ -67,7 +67,7 @@ pub fn place_after(at: Pos, text: &[u8]) -> Pos
 }
 
 /// The name of a file or a folder, as the command line spells it.
-#[derive(Debug, Drop)]
+#[derive(Drop)]
 pub struct FileName {
     name: String,
 }
@@ -101,7 +101,7 @@ impl FileName {
 }
 
 /// The names of the files met so far, in order; contracts see the list of their bytes.
-#[derive(Debug, Drop)]
+#[derive(Drop)]
 pub struct FileNames {
     names: Vec<FileName>,
 }

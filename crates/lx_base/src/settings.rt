@@ -16,7 +16,7 @@ pub enum Enc {
 
 /// What becomes of the surrogates, 0xD800 to 0xDFFF, in a literal or a class: they are code points like
 /// others, each is replaced by U+FFFD, or they are refused.
-#[derive(Clone, Copy, Debug, PartialEq, Eq)]
+#[derive(Clone, Copy, PartialEq, Eq)]
 pub enum SurPolicy {
     Ignore,
     Substitute,
@@ -24,7 +24,7 @@ pub enum SurPolicy {
 }
 
 /// What an empty class stands for: the empty string, nothing, or a refusal.
-#[derive(Clone, Copy, Debug, PartialEq, Eq)]
+#[derive(Clone, Copy, PartialEq, Eq)]
 pub enum EmptyPolicy {
     MatchEmpty,
     MatchNone,
@@ -32,7 +32,7 @@ pub enum EmptyPolicy {
 }
 
 /// What the program is to do.
-#[derive(Debug, Drop)]
+#[derive(Drop)]
 pub enum Job {
     /// Compile `file` to the file `to`, or to the standard output.
     Compile {
@@ -56,7 +56,7 @@ pub enum Job {
 }
 
 /// The options of the command line.
-#[derive(Debug, Drop)]
+#[derive(Drop)]
 pub struct Options {
     pub job: Job,
     /// Whether `#line` is written.

@@ -5,7 +5,7 @@ use lx_base::{ByteText, Names, Sequence};
 ///
 /// Which pieces are valid is said in `specs/Validity.antt`, how a piece is spelled in `specs/Text.antt`,
 /// and what it does in `specs/Machine.antt` and `specs/Runs.antt`.
-#[derive(Debug, Drop)]
+#[derive(Drop)]
 pub struct Piece {
     /// The number of the piece in its output, counted from 1. Its labels begin with it.
     pub number: u32,
@@ -30,28 +30,28 @@ pub struct Piece {
 }
 
 /// A stored state, and the block where a scanner that stored it goes on.
-#[derive(Clone, Copy, Debug)]
+#[derive(Clone, Copy)]
 pub struct StateCase {
     pub state: u64,
     pub block: u64,
 }
 
 /// A condition's name, and the block where its scanner starts.
-#[derive(Debug, Drop)]
+#[derive(Drop)]
 pub struct CondCase {
     pub cond: ByteText,
     pub block: u64,
 }
 
 /// Statements under one label, and a condition's name where they are the start of its scanner.
-#[derive(Debug, Drop)]
+#[derive(Drop)]
 pub struct CodeBlock {
     pub cond: Option<ByteText>,
     pub stmts: Sequence<Stmt>,
 }
 
 /// A line of a file, counted from 1, as a `#line` names it.
-#[derive(Debug, Drop)]
+#[derive(Drop)]
 pub struct LineMark {
     pub line: u32,
     pub file: ByteText,
@@ -61,7 +61,7 @@ pub struct LineMark {
 ///
 /// A register holds an offset or nothing, and is counted from 1. A history holds the offsets and the
 /// negative events of a tag that may match often, and is counted from 0; history 0 is never written.
-#[derive(Debug, Drop)]
+#[derive(Drop)]
 pub enum Stmt {
     /// Reads the unit at the cursor.
     Peek,

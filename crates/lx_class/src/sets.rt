@@ -13,7 +13,7 @@ use std::marker::Model;
 /// The ranges are sorted, and between two neighbours at least one point is missing, so sets with the
 /// same points have the same ranges (`same_points_same_ranges`). A call that may answer `Memory`
 /// changes neither of its sets where it does; no clause ties that to a cause.
-#[derive(Debug, Drop)]
+#[derive(Drop)]
 pub struct ClassSet {
     ranges: Vec<Range>,
 }

@@ -3,7 +3,7 @@ use lx_base::{ByteText, Pos};
 use lx_rules::Resolved;
 
 /// A part of a source whose blocks are resolved.
-#[derive(Debug, Drop)]
+#[derive(Drop)]
 pub enum Part {
     /// Text outside of blocks.
     Outside(ByteText),

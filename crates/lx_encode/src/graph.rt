@@ -21,7 +21,7 @@ use std::alloc::Global;
 use std::marker::Model;
 
 /// What may come next in a spelling: a place in a graph, by its number.
-#[derive(Clone, Copy, Debug, PartialEq, Eq)]
+#[derive(Clone, Copy, PartialEq, Eq)]
 pub struct Residual(pub u32);
 
 /// The numbers from `from` to `to`.
@@ -202,7 +202,7 @@ fn starts_of(
 /// Contracts see it as its starts and the rows of its residuals, which are numbered from 0; a residual
 /// is one of the graph where its number is below the number of rows. `IsGraphOf` says what the starts are,
 /// and that residuals are equal exactly where the same lists of units finish them.
-#[derive(Debug, Drop)]
+#[derive(Drop)]
 pub struct UnitGraph {
     table: Table,
     starts: Vec<Residual>,

@@ -16,7 +16,7 @@ use std::alloc::Global;
 use std::mem;
 
 /// Blocks of `radix` numbers each, in which the unit `offset + n % radix` stands for the number n.
-#[derive(Clone, Copy, Debug)]
+#[derive(Clone, Copy)]
 pub struct Layer {
     pub radix: u32,
     pub offset: u32,

@@ -13,7 +13,7 @@ use std::alloc::Global;
 use std::hash::{Hash, Hasher};
 
 /// The numbers from `lo` to `hi`, both among them, and where they lead.
-#[derive(Clone, Copy, Debug, PartialEq, Eq)]
+#[derive(Clone, Copy, PartialEq, Eq)]
 pub struct Run {
     pub lo: u32,
     pub hi: u32,

@@ -7,7 +7,7 @@ ghost use Rattle.lx_encode.specs.Units.{unit_list, unit_size, unused};
 use lx_base::Enc;
 
 /// The code units of one code point: the first `len` of `a`, `b`, `c` and `d`, and 0 in the others.
-#[derive(Clone, Copy, Debug, PartialEq, Eq)]
+#[derive(Clone, Copy, PartialEq, Eq)]
 pub struct Units {
     pub len: u8,
     pub a: u32,

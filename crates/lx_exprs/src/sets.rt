@@ -63,7 +63,7 @@ fn set_of(alloc: Global, ranges: &[Range]) -> Result<ClassSet, Memory>
 }
 
 /// Ranges of a class that is being put together, in any order; they may overlap. Contracts see them as a list.
-#[derive(Debug, Drop)]
+#[derive(Drop)]
 pub struct Collected {
     ranges: Vec<Range>,
     /// How many there were when they were last put in order.

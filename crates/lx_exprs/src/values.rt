@@ -18,7 +18,7 @@ use std::alloc::Global;
 const MOST_KEPT: u64 = 1 << 40;
 
 /// What an expression may have at most so that it is built.
-#[derive(Clone, Copy, Debug)]
+#[derive(Clone, Copy)]
 pub struct Room {
     pub size: u64,
     pub tags: u64,
@@ -37,7 +37,7 @@ impl Room {
 }
 
 /// What stands in an expression.
-#[derive(Debug, Drop)]
+#[derive(Drop)]
 pub enum Content {
     /// One expression.
     One(Expr),
@@ -50,7 +50,7 @@ pub enum Content {
 }
 
 /// What is read of an expression. 2^40 stands for itself and for more in its numbers.
-#[derive(Debug, Drop)]
+#[derive(Drop)]
 pub struct Value {
     content: Content,
     pub size: u64,

@@ -15,7 +15,7 @@ pub fn one_more(count: u64) -> u64
 }
 
 /// The calls of an object in memory: which fail, by their numbers from 0, and which is next.
-#[derive(Debug, Drop)]
+#[derive(Drop)]
 pub struct Calls {
     failing: Vec<u64>,
     next: u64,

@@ -9,7 +9,7 @@ use std::alloc::Global;
 use thiserror::Error;
 
 /// A file: a name and the bytes under it.
-#[derive(Debug, Drop)]
+#[derive(Drop)]
 pub struct HeldFile {
     pub name: FileName,
     pub bytes: ByteText,

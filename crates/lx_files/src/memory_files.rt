@@ -11,7 +11,7 @@ use std::alloc::Global;
 use std::marker::Model;
 
 /// Bindings of names to bytes, the newest first.
-#[derive(Debug, Drop)]
+#[derive(Drop)]
 struct Bindings {
     files: Vec<HeldFile>,
 }
@@ -70,7 +70,7 @@ impl Bindings {
 
 /// Files in memory of which chosen calls fail, and no others. Reads and writes are counted together from 0, whatever they answer; the
 /// number of the next call stays at its last value once it is there.
-#[derive(Debug, Drop)]
+#[derive(Drop)]
 pub struct MemFiles {
     bindings: Bindings,
     calls: Calls,
@@ -165,7 +165,7 @@ impl Files for MemFiles {
 }
 
 /// Files in memory of which no call fails.
-#[derive(Debug, Drop)]
+#[derive(Drop)]
 pub struct QuietFiles {
     bindings: Bindings,
 }

@@ -22,7 +22,7 @@ fn take_all(given: &mut Vec<u8>, bytes: &[u8]) -> Result<usize, PutAnswer>
 
 /// A list of bytes that takes what is put to it, and of which chosen calls fail, and no others. Puts are counted from 0, whatever they
 /// answer; the number of the next one stays at its last value once it is there.
-#[derive(Debug, Drop)]
+#[derive(Drop)]
 pub struct MemSink {
     given: Vec<u8>,
     calls: Calls,
@@ -92,7 +92,7 @@ impl Sink for MemSink {
 }
 
 /// A list of bytes that takes what is put to it, and of which no call fails.
-#[derive(Debug, Drop)]
+#[derive(Drop)]
 pub struct QuietSink {
     given: Vec<u8>,
 }

@@ -13,7 +13,7 @@ use std::marker::Model;
 /// For each state of an automaton its number, or 0 where it has none: contracts see the list of them.
 ///
 /// A number says for how many units a scanner asks at the state, so that it need not ask again before the next number.
-#[derive(Debug, Drop)]
+#[derive(Drop)]
 pub struct CheckList {
     numbers: Vec<u32>,
 }

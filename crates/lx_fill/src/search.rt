@@ -11,7 +11,7 @@ use lx_base::Memory;
 use std::alloc::Global;
 
 /// How far a search has come with a state.
-#[derive(Clone, Copy, Debug, PartialEq, Eq)]
+#[derive(Clone, Copy, PartialEq, Eq)]
 pub(crate) enum Colour {
     /// It was not met yet.
     New,

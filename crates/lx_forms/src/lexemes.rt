@@ -6,7 +6,7 @@ use lx_parse::{Sort, sort_of};
 use lx_token::{Token, TokenKind};
 
 /// A token with its text.
-#[derive(Clone, Copy, Debug)]
+#[derive(Clone, Copy)]
 pub struct Lexeme<'b> {
     pub kind: TokenKind,
     pub text: &'b [u8],
@@ -14,7 +14,7 @@ pub struct Lexeme<'b> {
 }
 
 /// The tokens of a block, and its body.
-#[derive(Clone, Copy, Debug)]
+#[derive(Clone, Copy)]
 pub struct Lexemes<'b> {
     pub body: &'b [u8],
     pub tokens: &'b [Token],

@@ -20,7 +20,7 @@ use lx_parse::Sort;
 use std::alloc::Global;
 
 /// What is done at a token of an expression.
-#[derive(Clone, Copy, Debug, PartialEq, Eq)]
+#[derive(Clone, Copy, PartialEq, Eq)]
 pub enum StepSort {
     /// A leaf is read: a string, a class, `.`, a name or a tag.
     Read,
@@ -39,7 +39,7 @@ pub enum StepSort {
 }
 
 /// A step in the reading of an expression.
-#[derive(Clone, Copy, Debug)]
+#[derive(Clone, Copy)]
 pub struct Step {
     pub sort: StepSort,
     /// The place in the block's tokens of the leaf, of the opening parenthesis or of the sign; 0 where the step has none.
@@ -49,7 +49,7 @@ pub struct Step {
 }
 
 /// What is read behind a parenthesis that is open, or in no parenthesis.
-#[derive(Clone, Copy, Debug)]
+#[derive(Clone, Copy)]
 struct Level {
     /// The place of the parenthesis.
     opening: u32,
@@ -64,7 +64,7 @@ struct Level {
 }
 
 /// How far an expression is read.
-#[derive(Debug, Drop)]
+#[derive(Drop)]
 struct Progress {
     steps: Vec<Step>,
     /// The innermost level.

@@ -5,7 +5,7 @@ ghost use Rattle.lx_parse.specs.Blocks.{form_of};
 use lx_base::BlockKind;
 
 /// What a body may hold from a place on.
-#[derive(Clone, Copy, Debug, PartialEq, Eq)]
+#[derive(Clone, Copy, PartialEq, Eq)]
 pub(crate) enum Form {
     /// Items, up to the end.
     Items,

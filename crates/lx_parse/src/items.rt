@@ -43,7 +43,7 @@ pub enum Item {
 }
 
 /// The items of a block, in order.
-#[derive(Debug, Drop)]
+#[derive(Drop)]
 pub struct BlockTree {
     pub items: Sequence<Item>,
 }

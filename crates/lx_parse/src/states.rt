@@ -7,7 +7,7 @@ use crate::items::Item;
 use crate::sorts::Sort;
 
 /// What an expression belongs to. All numbers are places of tokens.
-#[derive(Clone, Copy, Debug, PartialEq, Eq)]
+#[derive(Clone, Copy)]
 pub(crate) enum Goal {
     /// The definition of a name by an expression that begins at `from`.
     Define {
@@ -23,7 +23,7 @@ pub(crate) enum Goal {
 }
 
 /// A rule whose head is read. All numbers are places of tokens.
-#[derive(Clone, Copy, Debug, PartialEq, Eq)]
+#[derive(Clone, Copy)]
 pub(crate) struct RuleHead {
     pub first: u32,
     pub head: u32,
@@ -32,7 +32,7 @@ pub(crate) struct RuleHead {
 }
 
 /// Where in a block the parser stands. Beside depths, all numbers are places of tokens.
-#[derive(Clone, Copy, Debug, PartialEq, Eq)]
+#[derive(Clone, Copy)]
 pub(crate) enum State {
     /// Between items.
     Between { form: Form },
@@ -77,7 +77,7 @@ pub(crate) enum State {
 }
 
 /// What a token does to the parser.
-#[derive(Clone, Copy, Debug, PartialEq, Eq)]
+#[derive(Clone, Copy)]
 pub(crate) enum Step {
     /// No well-formed block goes on with it.
     Refuse,

@@ -8,7 +8,7 @@ ghost use Rattle.lx_regex.specs.Term.{IsAtMost};
 use lx_class::ClassSet;
 
 /// An expression. `term_of` in `specs/Expr.antt` says which term it stands for, and so what it matches.
-#[derive(Debug, Drop)]
+#[derive(Drop)]
 pub enum Expr {
     /// Matches the empty word.
     Empty,

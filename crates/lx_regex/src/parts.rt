@@ -16,7 +16,7 @@ use std::alloc::Global;
 use std::marker::Model;
 
 /// What stands at a part.
-#[derive(Debug, Drop)]
+#[derive(Drop)]
 pub enum PartSort {
     /// The rule list itself, which is part 0.
     Rules,
@@ -39,7 +39,7 @@ pub enum PartSort {
 }
 
 /// An occurrence of a form in a rule list. Parts are numbered from 0, by their places in `Parts`.
-#[derive(Debug, Drop)]
+#[derive(Drop)]
 pub struct Part {
     /// The number of its rule; 0 for part 0.
     pub rule: u32,
@@ -55,7 +55,7 @@ pub struct Part {
 /// The parts of a rule list: first the list itself, then each rule's own part and what stands in it, from left to right. A
 /// repetition has so many copies of its body as its bound says, or without a bound as its minimum and at least one. The rule
 /// `$` has no part.
-#[derive(Debug, Drop)]
+#[derive(Drop)]
 pub struct Parts {
     parts: Vec<Part>,
 }

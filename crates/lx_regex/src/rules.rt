@@ -3,7 +3,7 @@ use crate::expr::Expr;
 use lx_base::{ByteText, Sequence};
 
 /// What kind of rule one is.
-#[derive(Clone, Copy, Debug, PartialEq, Eq)]
+#[derive(Clone, Copy, PartialEq, Eq)]
 pub enum Kind {
     /// A rule with an expression of its own.
     Plain,
@@ -15,7 +15,7 @@ pub enum Kind {
 }
 
 /// A tag of a rule. Its number is its place among the rule's tags.
-#[derive(Debug, Drop)]
+#[derive(Drop)]
 pub struct Tag {
     /// The name under which its value is given; empty for the tag of a trailing context.
     pub name: ByteText,
@@ -27,7 +27,7 @@ pub struct Tag {
 ///
 /// Behind its tags, the ends of its groups have numbers too: where it has `n` tags, group `k` opens at number
 /// `n + 2 * k` and closes at `n + 2 * k + 1`.
-#[derive(Debug, Drop)]
+#[derive(Drop)]
 pub struct Rule {
     /// The rule's place in its block, from 1.
     pub number: u32,
@@ -42,7 +42,7 @@ pub struct Rule {
 }
 
 /// The rules of one scanner, in their order: of those that match the longest word the first one is taken.
-#[derive(Debug, Drop)]
+#[derive(Drop)]
 pub struct RuleSet {
     pub rules: Sequence<Rule>,
 }

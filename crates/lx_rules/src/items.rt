@@ -27,7 +27,7 @@ pub(crate) struct Block<'b> {
 }
 
 /// The rule `*` of a block.
-#[derive(Clone, Copy, Debug)]
+#[derive(Clone, Copy)]
 pub(crate) struct DefaultRule {
     pub number: u32,
     /// Where its `*` stands.

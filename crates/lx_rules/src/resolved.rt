@@ -3,7 +3,7 @@ use lx_base::{ByteText, Names, Pos, Sequence};
 use lx_regex::RuleSet;
 
 /// A scanner: the rules that stand under one condition, or all rules of a block where conditions are not in use.
-#[derive(Debug, Drop)]
+#[derive(Drop)]
 pub struct Scanner {
     /// The name of the condition.
     pub cond: Option<ByteText>,
@@ -11,7 +11,7 @@ pub struct Scanner {
 }
 
 /// What a rule does where it is entered.
-#[derive(Debug, Drop)]
+#[derive(Drop)]
 pub struct Act {
     /// The number of the rule, which is its place in the block, from 1.
     pub number: u32,
@@ -24,7 +24,7 @@ pub struct Act {
 }
 
 /// The configuration that holds for a block.
-#[derive(Debug, Drop)]
+#[derive(Drop)]
 pub struct Config {
     /// The seventeen spellings.
     pub names: Names,
@@ -35,7 +35,7 @@ pub struct Config {
 }
 
 /// What a block resolves to.
-#[derive(Debug, Drop)]
+#[derive(Drop)]
 pub struct Resolved {
     /// The scanners in the order in which their conditions first appear; none where the block has no rule.
     pub scanners: Sequence<Scanner>,

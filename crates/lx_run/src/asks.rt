@@ -7,7 +7,7 @@ ghost use Rattle.lx_run.specs.Streams.{most_needed};
 use lx_ccode::{CodeBlock, Stmt};
 
 /// What statements ask for at the end of a buffer.
-#[derive(Clone, Copy, Debug)]
+#[derive(Clone, Copy)]
 pub struct Asks {
     /// Whether one asks for a number of units.
     pub need: bool,

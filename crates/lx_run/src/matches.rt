@@ -14,7 +14,7 @@ use lx_step::{Lexer, Outcome};
 use std::alloc::Global;
 
 /// The lines of a match, and where the next one starts, if the run goes on.
-#[derive(Debug, Drop)]
+#[derive(Drop)]
 pub struct MatchLines {
     pub text: Vec<u8>,
     pub next: Option<u64>,

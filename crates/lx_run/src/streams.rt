@@ -8,7 +8,7 @@ use lx_ccode::Piece;
 use std::alloc::Global;
 
 /// How the end of an input is dealt with.
-#[derive(Clone, Copy, Debug)]
+#[derive(Clone, Copy)]
 pub struct Ending {
     /// How many units 0 stand behind the input.
     pub padding: u32,
@@ -36,7 +36,7 @@ pub fn ending_of(piece: &Piece) -> Ending
 }
 
 /// Where an input ends.
-#[derive(Clone, Copy, Debug)]
+#[derive(Clone, Copy)]
 pub struct InputEnd {
     /// How many units it has.
     pub units: u64,

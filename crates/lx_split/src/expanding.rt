@@ -22,7 +22,7 @@ use std::alloc::Global;
 const MOST_NESTED: usize = 32;
 
 /// Why a source was not expanded: memory ran out, the source or its includes have a fault, or a read failed.
-#[derive(Debug, Drop)]
+#[derive(Drop)]
 pub enum ExpandStop {
     Memory,
     Fault(Fault),

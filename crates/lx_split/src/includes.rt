@@ -14,7 +14,7 @@ use memchr::memrchr;
 use std::alloc::Global;
 
 /// An include.
-#[derive(Debug, Drop)]
+#[derive(Drop)]
 pub struct IncludeBlock {
     /// What stands between the word and the `*/`.
     pub body: ByteText,

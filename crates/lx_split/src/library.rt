@@ -14,7 +14,7 @@ use lx_files::{Files, ReadAnswer};
 use std::alloc::Global;
 
 /// A file that was found: its name and its bytes.
-#[derive(Clone, Copy, Debug)]
+#[derive(Clone, Copy)]
 pub struct FoundFile<'a> {
     pub name: &'a str,
     pub bytes: &'a [u8],

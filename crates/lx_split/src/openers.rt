@@ -7,7 +7,7 @@ use lx_base::letters::front_letters;
 use lx_base::{BlockKind, Letters, Options};
 
 /// What stands at a place of outside text.
-#[derive(Clone, Copy, Debug, PartialEq, Eq)]
+#[derive(Clone, Copy, PartialEq, Eq)]
 pub enum Opener {
     /// Outside text.
     Absent,

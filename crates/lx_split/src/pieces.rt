@@ -13,7 +13,7 @@ use lx_token::Unclosed;
 use std::alloc::Global;
 
 /// A piece of a source: text outside of blocks, or a block.
-#[derive(Debug, Drop)]
+#[derive(Drop)]
 pub enum SourcePiece {
     /// Text outside of blocks, which is copied to the output. It is not empty.
     Outside(ByteText),

@@ -3,7 +3,7 @@ ghost use Rattle.std.specs.Prelude.{◌≡◌};
 ghost use Rattle.lx_step.specs.Held.{is_last};
 
 /// How a match ended.
-#[derive(Clone, Copy, Debug, PartialEq, Eq)]
+#[derive(Clone, Copy, PartialEq, Eq)]
 pub enum Outcome {
     /// By the rule with this number.
     Rule { number: u32 },
@@ -34,7 +34,7 @@ impl Outcome {
 }
 
 /// The place of a statement: its block, and its place in that block, both counted from 0.
-#[derive(Clone, Copy, Debug, PartialEq, Eq, Hash)]
+#[derive(Clone, Copy, PartialEq, Eq, Hash)]
 pub struct StmtAt {
     pub block: u64,
     pub stmt: u64,
@@ -42,7 +42,7 @@ pub struct StmtAt {
 
 /// The ends of a group of a match, in units from the stream's beginning; none where it took no part in the
 /// match, or where that end was never set.
-#[derive(Clone, Copy, Debug, PartialEq, Eq)]
+#[derive(Clone, Copy, PartialEq, Eq)]
 pub struct Group {
     pub from: Option<u64>,
     pub to: Option<u64>,

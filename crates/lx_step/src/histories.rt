@@ -6,7 +6,7 @@ use std::alloc::Global;
 use std::marker::Model;
 
 /// An entry of a history, behind those of another node.
-#[derive(Clone, Copy, Debug)]
+#[derive(Clone, Copy)]
 pub(crate) struct Node {
     before: Option<usize>,
     entry: Option<u64>,
@@ -15,7 +15,7 @@ pub(crate) struct Node {
 /// The histories by their numbers, which contracts see as a list of lists.
 ///
 /// A history is the node of its last entry, so that copying one copies a number.
-#[derive(Debug, Drop)]
+#[derive(Drop)]
 pub(crate) struct Histories {
     lasts: Vec<Option<usize>>,
     nodes: Vec<Node>,

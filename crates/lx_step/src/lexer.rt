@@ -27,7 +27,7 @@ use std::marker::Model;
 ///
 /// A match is the run that `specs/Runs.antt` of lx_ccode says, on a stream that lies whole in the buffer, so
 /// that each refill is answered by "no more".
-#[derive(Debug, Drop)]
+#[derive(Drop)]
 pub struct Lexer<'p> {
     program: Program<'p>,
     spent: bool,

@@ -24,7 +24,7 @@ use lx_ccode::{CodeBlock, CondCase, Piece, Stmt};
 use std::alloc::Global;
 
 /// A piece to be run, and how many statements it has.
-#[derive(Clone, Copy, Debug)]
+#[derive(Clone, Copy)]
 pub(crate) struct Program<'p> {
     pub(crate) alloc: Global,
     pub(crate) piece: &'p Piece,
@@ -32,7 +32,7 @@ pub(crate) struct Program<'p> {
 }
 
 /// A place in the code: a block, its statements, and one of them.
-#[derive(Clone, Copy, Debug)]
+#[derive(Clone, Copy)]
 pub(crate) struct Position<'p> {
     block: u64,
     code: &'p [Stmt],

@@ -12,7 +12,7 @@ use std::marker::Model;
 const MOST_NUMBERS: usize = 4_294_967_296;
 
 /// Different numbers, in the order in which they came. Contracts see them as a list.
-#[derive(Debug, Drop)]
+#[derive(Drop)]
 pub(crate) struct Numbers {
     numbers: IndexSet<u32>,
 }
@@ -59,7 +59,7 @@ impl Numbers {
 }
 
 /// The registers and the histories of a piece.
-#[derive(Debug, Drop)]
+#[derive(Drop)]
 pub(crate) struct Numbering {
     pub(crate) registers: Numbers,
     pub(crate) histories: Numbers,

@@ -14,7 +14,7 @@ use lx_base::Memory;
 use std::alloc::Global;
 
 /// Where a step goes: to the next statement, to a block, or nowhere.
-#[derive(Clone, Copy, Debug)]
+#[derive(Clone, Copy)]
 pub(crate) enum Going {
     Next,
     To(u64),
@@ -23,7 +23,7 @@ pub(crate) enum Going {
 
 /// What the machine holds, the registers and histories by their places. Offsets count units from the stream's
 /// beginning.
-#[derive(Debug, Drop)]
+#[derive(Drop)]
 pub(crate) struct Scanner<'p> {
     pub(crate) cursor: u64,
     pub(crate) marker: u64,

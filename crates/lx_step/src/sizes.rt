@@ -7,7 +7,7 @@ use crate::numbers::Numbering;
 use lx_ccode::{CodeBlock, Stmt};
 
 /// One more than the greatest place of a register and of a history, and the most groups of a rule.
-#[derive(Clone, Copy, Debug)]
+#[derive(Clone, Copy)]
 pub(crate) struct Sizes {
     pub(crate) registers: u64,
     pub(crate) histories: u64,

@@ -11,21 +11,21 @@ use std::alloc::Global;
 use std::marker::Model;
 
 /// A tag that gets an offset, and the last one.
-#[derive(Debug, Drop)]
+#[derive(Drop)]
 pub struct OffsetSlot {
     pub(crate) name: ByteText,
     pub(crate) value: Option<u64>,
 }
 
 /// A tag that gets a history, and the last one.
-#[derive(Debug, Drop)]
+#[derive(Drop)]
 pub struct HistorySlot {
     pub(crate) name: ByteText,
     pub(crate) value: Sequence<Option<u64>>,
 }
 
 /// What is kept of the values that were given.
-#[derive(Debug, Drop)]
+#[derive(Drop)]
 pub(crate) struct Slots {
     offsets: OffsetSlots,
     histories: HistorySlots,
@@ -124,7 +124,7 @@ impl Slots {
 }
 
 /// The slots of tags that get an offset, each found without a look at all others. Contracts see them as a list.
-#[derive(Debug, Drop)]
+#[derive(Drop)]
 pub(crate) struct OffsetSlots {
     names: NameSet,
     slots: Vec<OffsetSlot>,
@@ -213,7 +213,7 @@ fn append_offset_slots(
 }
 
 /// The slots of tags that get a history, each found without a look at all others. Contracts see them as a list.
-#[derive(Debug, Drop)]
+#[derive(Drop)]
 pub(crate) struct HistorySlots {
     names: NameSet,
     slots: Vec<HistorySlot>,

@@ -14,7 +14,7 @@ pub(crate) trait Units {
 }
 
 /// The bytes of a unit.
-#[derive(Clone, Copy, Debug)]
+#[derive(Clone, Copy)]
 pub(crate) enum Width {
     One,
     Two,
@@ -36,7 +36,7 @@ impl Width {
 }
 
 /// A stream that lies whole in one buffer.
-#[derive(Clone, Copy, Debug)]
+#[derive(Clone, Copy)]
 pub(crate) struct WholeStream<'s> {
     pub(crate) bytes: &'s [u8],
     pub(crate) width: Width,

@@ -10,7 +10,7 @@ use std::alloc::Global;
 use std::collections::HashMap;
 
 /// A class and its graph.
-#[derive(Debug, Drop)]
+#[derive(Drop)]
 pub(crate) struct ClassGraph {
     pub set: ClassSet,
     pub graph: UnitGraph,

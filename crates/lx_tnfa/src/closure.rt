@@ -11,7 +11,7 @@ use lx_encode::Residual;
 use std::alloc::Global;
 
 /// Where a walk without units may end.
-#[derive(Clone, Copy, Debug, PartialEq, Eq, Hash)]
+#[derive(Clone, Copy, PartialEq, Eq, Hash)]
 pub enum Target {
     /// Before a leaf, or in the middle of one.
     Leaf(Place),
@@ -20,7 +20,7 @@ pub enum Target {
 }
 
 /// A target with the tag events of the least walk to it.
-#[derive(Debug, Drop)]
+#[derive(Drop)]
 pub struct Reach {
     /// Where the walk ends.
     pub to: Target,
@@ -31,7 +31,7 @@ pub struct Reach {
 }
 
 /// Where a walk may stand: at the state with this number, or at a target.
-#[derive(Clone, Copy, Debug, PartialEq, Eq, Hash)]
+#[derive(Clone, Copy, PartialEq, Eq, Hash)]
 pub(crate) enum Stop {
     AtState(u32),
     AtTarget(Target),

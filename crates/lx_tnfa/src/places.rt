@@ -8,7 +8,7 @@ use lx_encode::Residual;
 use std::hash::{Hash, Hasher};
 
 /// Where a parse may stand: in a leaf, with what is left of it. Part 0 with residual 0 is the start.
-#[derive(Clone, Copy, Debug, PartialEq, Eq)]
+#[derive(Clone, Copy, PartialEq, Eq)]
 pub struct Place {
     /// The leaf, or 0 at the start.
     pub part: u32,

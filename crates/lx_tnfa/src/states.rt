@@ -15,7 +15,7 @@ use lx_regex::parts::copies;
 use std::alloc::Global;
 
 /// What a move does to a tag: it sets it to the offset, or unsets it.
-#[derive(Clone, Copy, Debug, PartialEq, Eq)]
+#[derive(Clone, Copy, PartialEq, Eq)]
 pub enum Event {
     /// The tag with this number gets the offset.
     Set(u32),
@@ -24,7 +24,7 @@ pub enum Event {
 }
 
 /// A move to another state, by which no unit is read.
-#[derive(Debug, Drop)]
+#[derive(Drop)]
 pub struct Move {
     /// The number of the state.
     pub to: u32,
@@ -33,7 +33,7 @@ pub struct Move {
 }
 
 /// What may happen at a state.
-#[derive(Debug, Drop)]
+#[derive(Drop)]
 pub(crate) enum State {
     /// One of these moves; an earlier one is preferred to a later one.
     Moves(Sequence<Move>),

@@ -19,7 +19,7 @@ use std::alloc::Global;
 use std::marker::Model;
 
 /// The number of a rule, and of each of its tags and group ends whether it is an m-tag.
-#[derive(Debug, Drop)]
+#[derive(Drop)]
 pub(crate) struct RuleTags {
     pub number: u32,
     pub many: Vec<bool>,

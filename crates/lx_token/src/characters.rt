@@ -7,7 +7,7 @@ use lx_base::{Memory, Sequence};
 use std::alloc::Global;
 
 /// A character of a string or a class.
-#[derive(Clone, Copy, Debug, PartialEq, Eq)]
+#[derive(Clone, Copy, PartialEq, Eq)]
 pub struct Character {
     /// The code point. A byte that is not escaped is the code point of its number.
     pub point: u32,

@@ -9,14 +9,14 @@ use lx_base::{Memory, Sequence};
 use std::alloc::Global;
 
 /// The code points from `lo` to `hi`, both among them; `lo` is at most `hi`.
-#[derive(Clone, Copy, Debug, PartialEq, Eq)]
+#[derive(Clone, Copy, PartialEq, Eq)]
 pub struct PointRange {
     pub lo: u32,
     pub hi: u32,
 }
 
 /// The class of a token: the points of its ranges, or all others.
-#[derive(Debug, Drop)]
+#[derive(Drop)]
 pub struct Class {
     /// Whether a leading `^` takes all points but those of the ranges.
     pub is_negated: bool,

@@ -13,7 +13,7 @@ use lx_base::{Fault, Pos, Sequence, Stop, place_after};
 use std::alloc::Global;
 
 /// A token: the bytes of its body from `from` up to `to`.
-#[derive(Clone, Copy, Debug, PartialEq, Eq)]
+#[derive(Clone, Copy, PartialEq, Eq)]
 pub struct Token {
     pub kind: TokenKind,
     /// How many bytes of the body stand before it.

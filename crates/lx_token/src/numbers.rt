@@ -9,7 +9,7 @@ use lx_base::letters::is_digit;
 const MOST: u64 = 1 << 40;
 
 /// The value of a number.
-#[derive(Clone, Copy, Debug, PartialEq, Eq)]
+#[derive(Clone, Copy, PartialEq, Eq)]
 pub struct Number {
     /// Whether `-` stands before the digits.
     pub is_negative: bool,
@@ -18,7 +18,7 @@ pub struct Number {
 }
 
 /// How often what stands before bounds may be repeated; 2^40 stands for itself and for more.
-#[derive(Clone, Copy, Debug, PartialEq, Eq)]
+#[derive(Clone, Copy, PartialEq, Eq)]
 pub struct Repeat {
     /// The least count.
     pub min: u64,

@@ -7,7 +7,7 @@ use crate::braces::after_literal;
 
 /// How much is left behind the first opener in a line that is known to be not closed there, for each kind of openers: each
 /// later one of the line is not closed either, so no line is searched again for each of them.
-#[derive(Clone, Copy, Debug, PartialEq, Eq)]
+#[derive(Clone, Copy, PartialEq, Eq)]
 pub struct Unclosed {
     /// In bytes, for `"`.
     pub strings: usize,

@@ -6,7 +6,7 @@ use lx_base::{Fault, Memory, Stop};
 use lx_files::PutAnswer;
 
 /// How a run ends, each with its exit status.
-#[derive(Clone, Copy, Debug, PartialEq, Eq)]
+#[derive(Clone, Copy, PartialEq, Eq)]
 pub enum Ending {
     /// Status 0: all was done.
     Done,
@@ -36,7 +36,7 @@ impl Ending {
 }
 
 /// Why a run broke off.
-#[derive(Debug, Drop)]
+#[derive(Drop)]
 pub enum Halt {
     /// The words or a file have a fault.
     Fault(Fault),

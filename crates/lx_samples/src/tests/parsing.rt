@@ -18,7 +18,10 @@ fn shown(alloc: Global, kind: BlockKind, body: &str) -> Result<String, Fail>
     if body.len() > 1000 {
         return Err("a long body")?;
     }
-    let list = tokens(alloc, body.as_bytes(), START)?;
+    let list = match tokens(alloc, body.as_bytes(), START) {
+        Ok(list) => list,
+        Err(_) => return Err("a body without tokens")?,
+    };
     match parse(alloc, body.as_bytes(), &list, kind, START) {
         Ok(tree) => Ok(listed(alloc, tree.items.as_slice())?),
         Err(stop) => Ok(refusal(alloc, &stop)?),
@@ -168,7 +171,10 @@ fn measured(rt: &HostRuntime, body: &[u8]) -> Result<(Option<usize>, u128), Fail
     if body.len() > 16_777_216 {
         return Err("a body that is too long")?;
     }
-    let list = tokens(rt.alloc(), body, START)?;
+    let list = match tokens(rt.alloc(), body, START) {
+        Ok(list) => list,
+        Err(_) => return Err("a body without tokens")?,
+    };
     let start = Instant::now(rt)?;
     let count = match parse(rt.alloc(), body, &list, BlockKind::Code, START) {
         Ok(tree) => Some(tree.items.as_slice().len()),

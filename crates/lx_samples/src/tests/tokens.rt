@@ -238,7 +238,10 @@ fn measured(rt: &HostRuntime, body: &[u8]) -> Result<(usize, u128), Fail> {
         return Err("a body that is too long")?;
     }
     let start = Instant::now(rt)?;
-    let list = tokens(rt.alloc(), body, START)?;
+    let list = match tokens(rt.alloc(), body, START) {
+        Ok(list) => list,
+        Err(_) => return Err("a body without tokens")?,
+    };
     let count = list.as_slice().len();
     drop(list);
     Ok((count, start.elapsed(rt)?.as_micros()))

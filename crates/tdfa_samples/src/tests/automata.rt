@@ -118,6 +118,6 @@ fn lists_hold_more_than_four_operations(rt: HostRuntime) -> Result<(), Fail> {
     for op in pushed {
         ops.push(op)?;
     }
-    assert_eq!(rt; ops.as_slice(), pushed.as_slice());
+    assert!(rt; ops.as_slice() == pushed.as_slice());
     Ok(())
 }

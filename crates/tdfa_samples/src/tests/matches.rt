@@ -54,8 +54,10 @@ const MATCHES: [(&str, &[u32], &str); 11] = [
 
 /// The matches that the automaton of rules finds.
 fn found(alloc: Global, rules: &Rules, input: &[u32], names: &[&str]) -> Result<String, Fail> {
-    let auto = auto_of(alloc, rules, Enc::Utf8)?;
-    matches(alloc, &auto, input, names)
+    match auto_of(alloc, rules, Enc::Utf8) {
+        Ok(auto) => matches(alloc, &auto, input, names),
+        Err(_) => Err("rules past a limit")?,
+    }
 }
 
 #[test]
