@@ -151,10 +151,10 @@ module _ (policy : Policy) (enc : Enc) (patterns : List Pattern) (auto : Auto) (
       by (Some next) stepped stops again =
           let ran : RunsTo (passed ++ v ∷ []) next = run-one_more auto (start_with start bank) passed v
           ∙ ap (λ o. and_then o (λ last. step auto last v)) runs ∙ stepped in
-          let saved = is.saved start bank passed standing next v empty runs stepped in
+          let kept = is.kept start bank passed standing next v empty runs stepped in
           let here = is.best start bank (passed ++ v ∷ []) next empty ran in
           let more = BestFront-more policy enc patterns start passed v (found_at auto next) (found_behind auto standing) here best in
-          let more' = subst (BestFront policy enc patterns start (passed ++ v ∷ [])) (sym saved) more in
+          let more' = subst (BestFront policy enc patterns start (passed ++ v ∷ [])) (sym kept) more in
           let l : length (passed ++ v ∷ []) ≡ length passed + 1 = length-append passed (v ∷ []) in
           let off = step-offset standing next v stepped in
           subst (λ s. IsStopped s (last_standing auto next w)) (append_assoc passed (v ∷ []) w)
