@@ -1,7 +1,8 @@
 #!/usr/bin/env python3
 """Measures where the processor time of the gate goes: clones the last commit, runs `rt ci --anew` there, and prints its last line, the
 wall time, the processor minutes in all, and a table by crate: proofs, tests, programs (built from what was proved), and must-fail
-edits with the proof that they begin with. A quiet machine is wanted: processes beside it lengthen each of its own.
+edits with the proof that they begin with. A quiet machine is wanted: processes beside it lengthen each of its own,
+and edits that another run tries are counted too.
 
 Usage: bench/gate.py [FOLDER], where FOLDER is to have the clone and the log (none: a new folder below /tmp).
 """
