@@ -1,5 +1,5 @@
 #!/bin/sh
-# Compiles scanners with classes, repetitions and tags as C, and runs each beside the program's own run of the emitted text: both
+# Compiles scanners with classes, repetitions and tags as C, some of them as custom ones, and runs each beside the program's own run of the emitted text: both
 # print the same lines.
 #
 # Usage: tests/c/rows.sh, from anywhere; CC names the compiler (cc where it is unset).
@@ -20,7 +20,7 @@ same() {
 	} > "$work/$name.re"
 	"$root/bin/re2c" -i "$@" -o "$work/$name.c" "$work/$name.re"
 	grep -o 'yyt[0-9][0-9]*' "$work/$name.c" | sort -u | sed 's/.*/static const YYCTYPE *&;/' > "$work/registers.h" || true
-	cp "$root/tests/c/run.h" "$root/tests/c/main.h" "$work"
+	cp "$root/tests/c/run.h" "$root/tests/c/custom.h" "$root/tests/c/main.h" "$work"
 	# shellcheck disable=SC2059
 	printf "$input" > "$work/$name.in"
 	# shellcheck disable=SC2086
@@ -43,11 +43,13 @@ rules longest <<'RULES'
 RULES
 same longest 'unsigned char' 0 '' 'abcd'
 same longest 'unsigned char' 0 '' 'abcd!'
+same longest 'unsigned char' 0 '' 'abcd' --input custom
 
 rules offsets <<'RULES'
 @p "a"* @q "b"? { return 1; }
 RULES
 same offsets 'unsigned char' 1 'p q' 'aabc' -T
+same offsets 'unsigned char' 1 'p q' 'aabc' -T --input custom
 
 rules unset <<'RULES'
 ("a" @t | "b")* { return 1; }
@@ -55,6 +57,7 @@ RULES
 same unset 'unsigned char' 1 't' 'ab' -T
 same unset 'unsigned char' 1 't' 'ba' -T
 same unset 'unsigned char' 1 't' 'c' -T
+same unset 'unsigned char' 1 't' 'ba' -T --input custom
 
 rules empty <<'RULES'
 (@t "x"?)* { return 1; }
@@ -73,6 +76,7 @@ rules pairs <<'RULES'
 * { return 2; }
 RULES
 same pairs 'unsigned short' 1 't' '\000\330\000\334' -x -T
+same pairs 'unsigned short' 1 't' '\000\330\000\334' -x -T --input custom
 
 rules lexer < "$root/tests/c/lexer.rules"
 same lexer 'unsigned char' 17 'whole dot' 'if (x1 <= 0x1F) y = 3.14; // ok' -T

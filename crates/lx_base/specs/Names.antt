@@ -1,6 +1,6 @@
 -- The seventeen spellings of a scanner's names: which are allowed, and which clash.
-use Rattle.std.specs.Prelude.{◌≡◌, ℕ, ◌<◌, ◌^◌, Bool, true, false, List, [], ◌∷◌, length, codes, slice_index_or, ◌==◌, ◌||◌}
-use Rattle.lx_base.specs.Letters.{IsIdentifier, IsSpelling, is_in_identifier, begins_with, is_register, is_history_register}
+use Rattle.std.specs.Prelude.{◌≡◌, ℕ, ◌<◌, ◌^◌, Bool, true, false, List, [], ◌∷◌, ◌++◌, length, codes, slice_index_or, ◌==◌, ◌||◌}
+use Rattle.lx_base.specs.Letters.{IsIdentifier, IsSpelling, is_in_identifier, begins_with, equal_words, is_register, is_history_register}
 
 -- the list of a scanner's spellings
 abbrev pub Spellings : Type 0
@@ -163,6 +163,20 @@ pub record DoNotClash (names : Spellings) : Type 0 where
   pub variables_are_free : EachIsFree (variables names)
   pub calls_differ : AreDistinct (calls names)
   pub variables_are_no_registers : EachIsNoRegister (tag_prefix names) (variables names)
+
+-- a call of the word is a call of the name: the word is the name, or goes on behind it with a parenthesis
+abbrev pub calls_name : (name word : List ℕ) → Bool
+calls_name name word = equal_words word name || begins_with (name ++ codes "(") word
+
+-- a call of the word is one of an input primitive with a register
+abbrev pub calls_primitive : List ℕ → Bool
+calls_primitive word =
+    calls_name (codes "YYSTAGP") word || (calls_name (codes "YYSTAGN") word || calls_name (codes "YYRESTORETAG") word)
+
+-- a spelling that is called with one value means an input primitive in custom text
+abbrev pub name_primitives : Spellings → Bool
+name_primitives names =
+    calls_primitive (set_state names) || (calls_primitive (set_condition names) || (calls_primitive (append_offset names) || calls_primitive (append_negative names)))
 
 -- what a user's tag may be called beside these spellings
 pub record IsTagName (names : Spellings) (word : List ℕ) : Type 0 where

@@ -2,7 +2,7 @@
 ghost use Rattle.std.specs.Prelude.{◌≡◌, ◌↔◌, ◌++◌, IsTrue, true, map, IfOk, OnOk};
 ghost use Rattle.std.specs.List.{AllByRecursion};
 ghost use Rattle.lx_base.specs.Letters.{IsIdentifier, IsSpelling, begins_with, is_digit, is_history_numeral, is_history_register, is_letter_of, is_numeral, is_register, each_letter};
-ghost use Rattle.lx_base.specs.Names.{AreAllowed, DoNotClash, EachIsFree, EachIsNoRegister, EachIsShort, IsFree, IsNoRegister, IsTagName, append_negative, append_offset, calls, condition_prefix, context_marker, current_unit, cursor, get_condition, get_state, label_prefix, last_accept, limit, marker, refill, set_condition, set_state, spelling_at, tag_prefix, unit_type, usual_names, variables};
+ghost use Rattle.lx_base.specs.Names.{AreAllowed, DoNotClash, EachIsFree, EachIsNoRegister, EachIsShort, IsFree, IsNoRegister, IsTagName, append_negative, append_offset, calls, calls_primitive, condition_prefix, context_marker, current_unit, cursor, get_condition, get_state, label_prefix, last_accept, limit, marker, name_primitives, refill, set_condition, set_state, spelling_at, tag_prefix, unit_type, usual_names, variables};
 
 use crate::letters::{
     Letters, are_distinct, are_letters, begins_with, equal_words, is_identifier, is_none_of,
@@ -355,6 +355,28 @@ pub fn do_not_clash(names: &Names) -> bool
     let calls_differ = are_distinct(&calls(names));
     let no_registers = all_no_registers(tag_prefix(names), &variables);
     variables_differ && variables_are_free && calls_differ && no_registers
+}
+
+/// Whether a call of the word is one of an input primitive with a register.
+fn calls_primitive(word: &[u8]) -> bool
+    ensures { result ≡ calls_primitive word.now }
+{
+    let set = equal_words(word, b"YYSTAGP") || begins_with(word, b"YYSTAGP(");
+    let unset = equal_words(word, b"YYSTAGN") || begins_with(word, b"YYSTAGN(");
+    let back = equal_words(word, b"YYRESTORETAG") || begins_with(word, b"YYRESTORETAG(");
+    set || unset || back
+}
+
+/// Whether a spelling that is called with one value means an input primitive in custom text: it is, up to
+/// its first parenthesis, `YYSTAGP`, `YYSTAGN` or `YYRESTORETAG`.
+pub fn name_primitives(names: &Names) -> bool
+    ensures { result ≡ name_primitives names.now }
+{
+    let state = calls_primitive(set_state(names));
+    let condition = calls_primitive(set_condition(names));
+    let offset = calls_primitive(append_offset(names));
+    let negative = calls_primitive(append_negative(names));
+    state || condition || offset || negative
 }
 
 /// Whether a user's tag may be called so beside these spellings.

@@ -71,6 +71,8 @@ pub struct Options {
     pub captures: bool,
     /// Whether parentheses are groups of captures, by the POSIX order.
     pub posix: bool,
+    /// Whether a scanner reads its input by primitives of the user's, and not through pointers.
+    pub custom: bool,
     pub enc: Enc,
     pub surrogates: SurPolicy,
     pub empty: EmptyPolicy,

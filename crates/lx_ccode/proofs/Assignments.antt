@@ -6,37 +6,37 @@ use Rattle.std.specs.Prelude.{◌==◌, ◌||◌, codes}
 use Rattle.lx_base.specs.Letters.{EachLetter, begins_with, is_digit, is_in_identifier, is_in_spelling, is_register, equal_words}
 use Rattle.lx_base.specs.Names.{AreAllowed, DoNotClash, IsTagName, Spellings, context_marker, current_unit, cursor, last_accept, marker, tag_prefix}
 use Rattle.lx_ccode.specs.declared.piece.Stmt.TheVariants.{Accept, Back, Backup, Copy, Count, End, MCopy, Peek, Restore, Set, Skip, Tag, Unset}
-use Rattle.lx_ccode.specs.Reading.{assigned, called, goto_at, history_of, if_at, is_context_marker, register_assigned, register_of, statement_at}
+use Rattle.lx_ccode.specs.Reading.{assigned, called, goto_at, history_of, is_context_marker, register_assigned, register_of, statement_at, test_at}
 use Rattle.lx_ccode.specs.Registers.{history_text, is_context, register_by}
 use Rattle.lx_ccode.proofs.Words.{EachLetter-append, EachLetter-identifier, EachLetter-spelling, argument-call, begins_with-entry, behind-stop, behind-word, callee-call, decimal_digits, decimal_identifier, decimal_value, drop-front, equal_words-false, equal_words-other, equal_words-self, front-stop, front-word, is_history_register-history, is_history_register-register, is_register-history, is_register-register, no_digit-history, no_digit-register, or-right, other-history, other-register}
 
 -- ---- the shapes of a line
 
-pub statement_at-assignment : (names : Spellings) (word source tail : List ℕ) → EachLetter is_in_spelling word → EachLetter is_in_spelling source
-    → statement_at names (9 ∷ (word ++ 32 ∷ 61 ∷ 32 ∷ (source ++ 59 ∷ 10 ∷ tail))) ≡ ((assigned names word source).0, (assigned names word source).1, tail)
+pub statement_at-assignment : (custom : Bool) (names : Spellings) (word source tail : List ℕ) → EachLetter is_in_spelling word → EachLetter is_in_spelling source
+    → statement_at custom names (9 ∷ (word ++ 32 ∷ 61 ∷ 32 ∷ (source ++ 59 ∷ 10 ∷ tail))) ≡ ((assigned names word source).0, (assigned names word source).1, tail)
 unfolding statement_at
-statement_at-assignment names word source tail hw hr =
+statement_at-assignment custom names word source tail hw hr =
     rw (front-stop is_in_spelling word 32 (61 ∷ 32 ∷ (source ++ 59 ∷ 10 ∷ tail)) hw refl, behind-stop is_in_spelling word 32 (61 ∷ 32 ∷ (source ++ 59 ∷ 10 ∷ tail)) hw refl, front-stop is_in_spelling source 59 (10 ∷ tail) hr refl, behind-stop is_in_spelling source 59 (10 ∷ tail) hr refl) refl
 
 pub statement_at-call : (names : Spellings) (name before tail : List ℕ) → EachLetter is_in_spelling name → EachLetter is_in_identifier before
-    → statement_at names (9 ∷ (name ++ 40 ∷ (before ++ 41 ∷ 59 ∷ 10 ∷ tail))) ≡ (called names name before, false, tail)
+    → statement_at false names (9 ∷ (name ++ 40 ∷ (before ++ 41 ∷ 59 ∷ 10 ∷ tail))) ≡ (called names name before, false, tail)
 unfolding statement_at
 statement_at-call names name before tail hg ha =
     rw (front-word is_in_spelling name (40 ∷ (before ++ 41 ∷ 59 ∷ 10 ∷ tail)) hg, behind-word is_in_spelling name (40 ∷ (before ++ 41 ∷ 59 ∷ 10 ∷ tail)) hg, front-word is_in_spelling before (41 ∷ 59 ∷ 10 ∷ tail) (EachLetter-spelling before ha), behind-word is_in_spelling before (41 ∷ 59 ∷ 10 ∷ tail) (EachLetter-spelling before ha), callee-call name before ha, argument-call name before ha) refl
 
-pub statement_at-skip : (names : Spellings) (word tail : List ℕ) → EachLetter is_in_spelling word
-    → statement_at names (9 ∷ 43 ∷ 43 ∷ (word ++ 59 ∷ 10 ∷ tail)) ≡ (Skip, false, tail)
+pub statement_at-skip : (custom : Bool) (names : Spellings) (word tail : List ℕ) → EachLetter is_in_spelling word
+    → statement_at custom names (9 ∷ 43 ∷ 43 ∷ (word ++ 59 ∷ 10 ∷ tail)) ≡ (Skip, false, tail)
 unfolding statement_at
-statement_at-skip names word tail hw = rw (behind-stop is_in_spelling word 59 (10 ∷ tail) hw refl) refl
+statement_at-skip custom names word tail hw = rw (behind-stop is_in_spelling word 59 (10 ∷ tail) hw refl) refl
 
-pub statement_at-if : (names : Spellings) (b : List ℕ) → statement_at names (codes "\tif (" ++ b) ≡ if_at names b
+pub statement_at-if : (custom : Bool) (names : Spellings) (b : List ℕ) → statement_at custom names (codes "\tif (" ++ b) ≡ test_at custom names b
 unfolding statement_at
-statement_at-if names b = refl
+statement_at-if custom names b = refl
 
-pub statement_at-goto : (names : Spellings) (c : ℕ) (b : List ℕ) → (c == 61) ≡ false → (c == 40) ≡ false
-    → statement_at names (codes "\tgoto " ++ c ∷ b) ≡ goto_at names (c ∷ b)
+pub statement_at-goto : (custom : Bool) (names : Spellings) (c : ℕ) (b : List ℕ) → (c == 61) ≡ false → (c == 40) ≡ false
+    → statement_at custom names (codes "\tgoto " ++ c ∷ b) ≡ goto_at names (c ∷ b)
 unfolding statement_at
-statement_at-goto names c b h k = rw (h, k) refl
+statement_at-goto custom names c b h k = rw (h, k) refl
 
 -- ---- what stands on the left of `=`
 
@@ -124,12 +124,12 @@ history_no_context : (names : Spellings) (register : ℕ) → register < 2 ^ 64 
     → equal_words (history_text names register) (context_marker names) ≡ false
 history_no_context names register h clash = equal_words-other (history_text names register) (context_marker names) (other-history (context_marker names) (tag_prefix names) register h clash.variables_are_no_registers.1.1.1.0.1)
 
-is_context_marker-register : (names : Spellings) (flag : Bool) (register : ℕ) → register < 2 ^ 64 → DoNotClash names
+pub is_context_marker-register : (names : Spellings) (flag : Bool) (register : ℕ) → register < 2 ^ 64 → DoNotClash names
     → is_context_marker names (register_by names flag register) ≡ flag
 is_context_marker-register names true register h clash = equal_words-self (context_marker names)
 is_context_marker-register names false register h clash = register_no_context names register h clash
 
-register_of-register : (names : Spellings) (flag : Bool) (register : ℕ) → register < 2 ^ 64 → DoNotClash names → (flag ≡ true → register ≡ 1)
+pub register_of-register : (names : Spellings) (flag : Bool) (register : ℕ) → register < 2 ^ 64 → DoNotClash names → (flag ≡ true → register ≡ 1)
     → register_of names (register_by names flag register) ≡ register
 unfolding register_of
 register_of-register names true register h clash one = rw (equal_words-self (context_marker names)) (sym (one refl))

@@ -9,11 +9,12 @@ use Rattle.lx_base.specs.Names.{AreAllowed, Spellings, append_negative, append_o
 use Rattle.lx_base.specs.Text.{joined}
 use Rattle.lx_ccode.specs.Marks.{HasNoBegin, IsUnmarked, IsUnmarkedLine, begins_piece}
 use Rattle.lx_ccode.specs.Registers.{history_text, is_context, register_by, register_text}
-use Rattle.lx_ccode.specs.Text.{block_then, escaped, goto_then, hexadecimal, line_then, statement_then, statements_then}
+use Rattle.lx_ccode.specs.Text.{block_then, custom_then, escaped, goto_then, hexadecimal, line_by, line_then, pointer_then, statement_then, statements_then}
 use Rattle.lx_ccode.specs.Validity.{EachHasSpelling, HasSpelling, IsLine, IsLong, IsShort}
 use Rattle.lx_ccode.specs.declared.piece.LineMark.{LineMark}
 use Rattle.lx_ccode.specs.declared.piece.Stmt.{Stmt}
 use Rattle.lx_ccode.specs.declared.piece.Stmt.TheVariants.{Peek, Skip, Backup, Restore, Accept, Set, Unset, Copy, MSet, MUnset, MCopy, IfUnit, IfAccept, IfEnd, State, Need, Try, Cond, Tag, Count, End, Back, Goto, Leave, Code, Jump}
+use Rattle.lx_ccode.specs.Wording.{Wording}
 use Rattle.lx_ccode.proofs.BeginMarks.{EachPasses, HasNoBegin-stop, Passes, Passes-all, Passes-joined, Passes-text, Passes-then, decimal_lacks, hexadecimal_lacks, identifier_lacks, is_no_slash, none_begins, none_begins-word, spelling_lacks, words_lack}
 use Rattle.lx_ccode.proofs.Words.{EachLetter-append}
 
@@ -134,68 +135,97 @@ abbrev action_then : (rule : ℕ) (action behind : List ℕ) → List ℕ
 action_then rule action behind =
     joined (codes "\t/*!code:re2c " ∷ decimal rule ∷ codes " " ∷ decimal (length action) ∷ codes "*/" ∷ action ∷ codes "\n" ∷ []) behind
 
-pub statement_passes : (number : ℕ) (names : Spellings) (ctx : Bool) (statement : Stmt) (behind : List ℕ) → IsShort number → NamesPass names
-    → HasSpelling names statement → IsUnmarked statement → Passes (statement_then number names ctx statement behind) behind
-statement_passes number names ctx Peek behind h pass k free = Passes-joined (codes "\t" ∷ current_unit names ∷ codes " = *" ∷ cursor names ∷ codes ";\n" ∷ []) behind
+pointer_passes : (wording : Wording) (statement : Stmt) (behind : List ℕ) → IsShort wording.number → NamesPass wording.names
+    → HasSpelling wording.names statement → IsUnmarked statement → Passes (pointer_then wording statement behind) behind
+pointer_passes wording Peek behind h pass k free = Passes-joined (codes "\t" ∷ current_unit wording.names ∷ codes " = *" ∷ cursor wording.names ∷ codes ";\n" ∷ []) behind
     (refl, (pass.current_unit, (refl, (pass.cursor, (refl, tt)))))
-statement_passes number names ctx Skip behind h pass k free = Passes-joined (codes "\t++" ∷ cursor names ∷ codes ";\n" ∷ []) behind
+pointer_passes wording Skip behind h pass k free = Passes-joined (codes "\t++" ∷ cursor wording.names ∷ codes ";\n" ∷ []) behind
     (refl, (pass.cursor, (refl, tt)))
-statement_passes number names ctx Backup behind h pass k free = Passes-joined (codes "\t" ∷ marker names ∷ codes " = " ∷ cursor names ∷ codes ";\n" ∷ []) behind
+pointer_passes wording Backup behind h pass k free = Passes-joined (codes "\t" ∷ marker wording.names ∷ codes " = " ∷ cursor wording.names ∷ codes ";\n" ∷ []) behind
     (refl, (pass.marker, (refl, (pass.cursor, (refl, tt)))))
-statement_passes number names ctx Restore behind h pass k free = Passes-joined (codes "\t" ∷ cursor names ∷ codes " = " ∷ marker names ∷ codes ";\n" ∷ []) behind
+pointer_passes wording Restore behind h pass k free = Passes-joined (codes "\t" ∷ cursor wording.names ∷ codes " = " ∷ marker wording.names ∷ codes ";\n" ∷ []) behind
     (refl, (pass.cursor, (refl, (pass.marker, (refl, tt)))))
-statement_passes number names ctx (Accept accept) behind h pass k free = Passes-joined (codes "\t" ∷ last_accept names ∷ codes " = " ∷ decimal accept ∷ codes ";\n" ∷ []) behind
+pointer_passes wording (Accept accept) behind h pass k free = Passes-joined (codes "\t" ∷ last_accept wording.names ∷ codes " = " ∷ decimal accept ∷ codes ";\n" ∷ []) behind
     (refl, (pass.last_accept, (refl, (short_passes accept k, (refl, tt)))))
-statement_passes number names ctx (Set register) behind h pass k free = Passes-joined (codes "\t" ∷ register_text names ctx register ∷ codes " = " ∷ cursor names ∷ codes ";\n" ∷ []) behind
-    (refl, (register_passes names ctx register pass k.1, (refl, (pass.cursor, (refl, tt)))))
-statement_passes number names ctx (Unset register) behind h pass k free = Passes-joined (codes "\t" ∷ register_text names ctx register ∷ codes " = NULL;\n" ∷ []) behind
-    (refl, (register_passes names ctx register pass k.1, (refl, tt)))
-statement_passes number names ctx (Copy register source) behind h pass k free = Passes-joined (codes "\t" ∷ register_text names ctx register ∷ codes " = " ∷ register_text names ctx source ∷ codes ";\n" ∷ []) behind
-    (refl, (register_passes names ctx register pass k.0.1, (refl, (register_passes names ctx source pass k.1.1, (refl, tt)))))
-statement_passes number names ctx (MSet history) behind h pass k free = Passes-joined (codes "\t" ∷ append_offset names ∷ codes "(" ∷ history_text names history ∷ codes ");\n" ∷ []) behind
-    (refl, (pass.append_offset, (refl, (history_passes names history pass k, (refl, tt)))))
-statement_passes number names ctx (MUnset history) behind h pass k free = Passes-joined (codes "\t" ∷ append_negative names ∷ codes "(" ∷ history_text names history ∷ codes ");\n" ∷ []) behind
-    (refl, (pass.append_negative, (refl, (history_passes names history pass k, (refl, tt)))))
-statement_passes number names ctx (MCopy history source) behind h pass k free = Passes-joined (codes "\t" ∷ history_text names history ∷ codes " = " ∷ history_text names source ∷ codes ";\n" ∷ []) behind
-    (refl, (history_passes names history pass k.0, (refl, (history_passes names source pass k.1, (refl, tt)))))
-statement_passes number names ctx (IfUnit greatest block) behind h pass k free = jump_passes (codes "\tif (" ∷ current_unit names ∷ codes " <= 0x" ∷ hexadecimal greatest ∷ codes ")" ∷ []) number block behind
+pointer_passes wording (Set register) behind h pass k free = Passes-joined (codes "\t" ∷ register_text wording.names wording.ctx register ∷ codes " = " ∷ cursor wording.names ∷ codes ";\n" ∷ []) behind
+    (refl, (register_passes wording.names wording.ctx register pass k.1, (refl, (pass.cursor, (refl, tt)))))
+pointer_passes wording (Unset register) behind h pass k free = Passes-joined (codes "\t" ∷ register_text wording.names wording.ctx register ∷ codes " = NULL;\n" ∷ []) behind
+    (refl, (register_passes wording.names wording.ctx register pass k.1, (refl, tt)))
+pointer_passes wording (Copy register source) behind h pass k free = Passes-joined (codes "\t" ∷ register_text wording.names wording.ctx register ∷ codes " = " ∷ register_text wording.names wording.ctx source ∷ codes ";\n" ∷ []) behind
+    (refl, (register_passes wording.names wording.ctx register pass k.0.1, (refl, (register_passes wording.names wording.ctx source pass k.1.1, (refl, tt)))))
+pointer_passes wording (MSet history) behind h pass k free = Passes-joined (codes "\t" ∷ append_offset wording.names ∷ codes "(" ∷ history_text wording.names history ∷ codes ");\n" ∷ []) behind
+    (refl, (pass.append_offset, (refl, (history_passes wording.names history pass k, (refl, tt)))))
+pointer_passes wording (MUnset history) behind h pass k free = Passes-joined (codes "\t" ∷ append_negative wording.names ∷ codes "(" ∷ history_text wording.names history ∷ codes ");\n" ∷ []) behind
+    (refl, (pass.append_negative, (refl, (history_passes wording.names history pass k, (refl, tt)))))
+pointer_passes wording (MCopy history source) behind h pass k free = Passes-joined (codes "\t" ∷ history_text wording.names history ∷ codes " = " ∷ history_text wording.names source ∷ codes ";\n" ∷ []) behind
+    (refl, (history_passes wording.names history pass k.0, (refl, (history_passes wording.names source pass k.1, (refl, tt)))))
+pointer_passes wording (IfUnit greatest block) behind h pass k free = jump_passes (codes "\tif (" ∷ current_unit wording.names ∷ codes " <= 0x" ∷ hexadecimal greatest ∷ codes ")" ∷ []) wording.number block behind
     (refl, (pass.current_unit, (refl, (hexadecimal_passes greatest k.0, (refl, tt))))) h k.1
-statement_passes number names ctx (IfAccept accept block) behind h pass k free = jump_passes (codes "\tif (" ∷ last_accept names ∷ codes " == " ∷ decimal accept ∷ codes ")" ∷ []) number block behind
+pointer_passes wording (IfAccept accept block) behind h pass k free = jump_passes (codes "\tif (" ∷ last_accept wording.names ∷ codes " == " ∷ decimal accept ∷ codes ")" ∷ []) wording.number block behind
     (refl, (pass.last_accept, (refl, (short_passes accept k.0, (refl, tt))))) h k.1
-statement_passes number names ctx (IfEnd block) behind h pass k free = jump_passes (codes "\tif (" ∷ cursor names ∷ codes " >= " ∷ limit names ∷ codes ")" ∷ []) number block behind
+pointer_passes wording (IfEnd block) behind h pass k free = jump_passes (codes "\tif (" ∷ cursor wording.names ∷ codes " >= " ∷ limit wording.names ∷ codes ")" ∷ []) wording.number block behind
     (refl, (pass.cursor, (refl, (pass.limit, (refl, tt))))) h k
-statement_passes number names ctx (State state) behind h pass k free = Passes-joined (codes "\t" ∷ set_state names ∷ codes "(" ∷ decimal state ∷ codes ");\n" ∷ []) behind
+pointer_passes wording (State state) behind h pass k free = Passes-joined (codes "\t" ∷ set_state wording.names ∷ codes "(" ∷ decimal state ∷ codes ");\n" ∷ []) behind
     (refl, (pass.set_state, (refl, (number_passes state k, (refl, tt)))))
-statement_passes number names ctx (Need units) behind h pass k free = Passes-joined (codes "\tif ((" ∷ limit names ∷ codes " - " ∷ cursor names ∷ codes ") < " ∷ decimal units ∷ codes ") " ∷ refill names ∷ codes "(" ∷ decimal units ∷ codes ");\n" ∷ []) behind
+pointer_passes wording (Need units) behind h pass k free = Passes-joined (codes "\tif ((" ∷ limit wording.names ∷ codes " - " ∷ cursor wording.names ∷ codes ") < " ∷ decimal units ∷ codes ") " ∷ refill wording.names ∷ codes "(" ∷ decimal units ∷ codes ");\n" ∷ []) behind
     (refl, (pass.limit, (refl, (pass.cursor, (refl, (short_passes units k, (refl, (pass.refill, (refl, (short_passes units k, (refl, tt)))))))))))
-statement_passes number names ctx (Try block) behind h pass k free = jump_passes (codes "\tif (" ∷ refill names ∷ codes "() == 0)" ∷ []) number block behind
+pointer_passes wording (Try block) behind h pass k free = jump_passes (codes "\tif (" ∷ refill wording.names ∷ codes "() == 0)" ∷ []) wording.number block behind
     (refl, (pass.refill, (refl, tt))) h k
-statement_passes number names ctx (Cond cond) behind h pass k free = Passes-joined (codes "\t" ∷ set_condition names ∷ codes "(" ∷ (condition_prefix names ++ cond) ∷ codes ");\n" ∷ []) behind
-    (refl, (pass.set_condition, (refl, (prefixed_passes (condition_prefix names) cond pass.condition_lacks k, (refl, tt)))))
-statement_passes number names ctx (Tag tag true history) behind h pass k free = Passes-joined (codes "\t" ∷ tag ∷ codes " = " ∷ history_text names history ∷ codes ";\n" ∷ []) behind
-    (refl, (identifier_passes tag k.0.identifier, (refl, (history_passes names history pass k.1, (refl, tt)))))
-statement_passes number names ctx (Tag tag false register) behind h pass k free = Passes-joined (codes "\t" ∷ tag ∷ codes " = " ∷ register_text names ctx register ∷ codes ";\n" ∷ []) behind
-    (refl, (identifier_passes tag k.0.identifier, (refl, (register_passes names ctx register pass k.1.1, (refl, tt)))))
-statement_passes number names ctx (Count groups) behind h pass k free = Passes-joined (codes "\tyynmatch = " ∷ decimal groups ∷ codes ";\n" ∷ []) behind
+pointer_passes wording (Cond cond) behind h pass k free = Passes-joined (codes "\t" ∷ set_condition wording.names ∷ codes "(" ∷ (condition_prefix wording.names ++ cond) ∷ codes ");\n" ∷ []) behind
+    (refl, (pass.set_condition, (refl, (prefixed_passes (condition_prefix wording.names) cond pass.condition_lacks k, (refl, tt)))))
+pointer_passes wording (Tag tag true history) behind h pass k free = Passes-joined (codes "\t" ∷ tag ∷ codes " = " ∷ history_text wording.names history ∷ codes ";\n" ∷ []) behind
+    (refl, (identifier_passes tag k.0.identifier, (refl, (history_passes wording.names history pass k.1, (refl, tt)))))
+pointer_passes wording (Tag tag false register) behind h pass k free = Passes-joined (codes "\t" ∷ tag ∷ codes " = " ∷ register_text wording.names wording.ctx register ∷ codes ";\n" ∷ []) behind
+    (refl, (identifier_passes tag k.0.identifier, (refl, (register_passes wording.names wording.ctx register pass k.1.1, (refl, tt)))))
+pointer_passes wording (Count groups) behind h pass k free = Passes-joined (codes "\tyynmatch = " ∷ decimal groups ∷ codes ";\n" ∷ []) behind
     (refl, (short_passes groups k, (refl, tt)))
-statement_passes number names ctx (End place register) behind h pass k free = Passes-joined (codes "\tyypmatch[" ∷ decimal place ∷ codes "] = " ∷ register_text names ctx register ∷ codes ";\n" ∷ []) behind
-    (refl, (short_passes place k.0, (refl, (register_passes names ctx register pass k.1.1, (refl, tt)))))
-statement_passes number names ctx (Back register) behind h pass k free = Passes-joined (codes "\t" ∷ cursor names ∷ codes " = " ∷ register_text names ctx register ∷ codes ";\n" ∷ []) behind
-    (refl, (pass.cursor, (refl, (register_passes names ctx register pass k.1, (refl, tt)))))
-statement_passes number names ctx (Goto block) behind h pass k free = Passes-joined (codes "\tgoto yy" ∷ decimal number ∷ codes "_" ∷ decimal block ∷ codes ";\n" ∷ []) behind
-    (refl, (short_passes number h, (refl, (number_passes block k, (refl, tt)))))
-statement_passes number names ctx Leave behind h pass k free = Passes-joined (codes "\tgoto yy" ∷ decimal number ∷ codes "_none;\n" ∷ []) behind
-    (refl, (short_passes number h, (refl, tt)))
-statement_passes number names ctx (Code rule line action) behind h pass k free =
-    Passes-then (statement_then number names ctx (Code rule line action) behind) (action_then rule action behind) behind
+pointer_passes wording (End place register) behind h pass k free = Passes-joined (codes "\tyypmatch[" ∷ decimal place ∷ codes "] = " ∷ register_text wording.names wording.ctx register ∷ codes ";\n" ∷ []) behind
+    (refl, (short_passes place k.0, (refl, (register_passes wording.names wording.ctx register pass k.1.1, (refl, tt)))))
+pointer_passes wording (Back register) behind h pass k free = Passes-joined (codes "\t" ∷ cursor wording.names ∷ codes " = " ∷ register_text wording.names wording.ctx register ∷ codes ";\n" ∷ []) behind
+    (refl, (pass.cursor, (refl, (register_passes wording.names wording.ctx register pass k.1, (refl, tt)))))
+pointer_passes wording (Goto block) behind h pass k free = Passes-joined (codes "\tgoto yy" ∷ decimal wording.number ∷ codes "_" ∷ decimal block ∷ codes ";\n" ∷ []) behind
+    (refl, (short_passes wording.number h, (refl, (number_passes block k, (refl, tt)))))
+pointer_passes wording Leave behind h pass k free = Passes-joined (codes "\tgoto yy" ∷ decimal wording.number ∷ codes "_none;\n" ∷ []) behind
+    (refl, (short_passes wording.number h, (refl, tt)))
+pointer_passes wording (Code rule line action) behind h pass k free =
+    Passes-then (pointer_then wording (Code rule line action) behind) (action_then rule action behind) behind
     (line_passes line (action_then rule action behind) k.1 free.0) (action_passes rule action behind k.0 k.2 free.1 free.2)
-statement_passes number names ctx (Jump cond rule) behind h pass k free = Passes-joined (codes "\tgoto " ∷ (label_prefix names ++ cond) ∷ codes "; /* " ∷ decimal rule ∷ codes " */\n" ∷ []) behind
-    (refl, (prefixed_passes (label_prefix names) cond pass.label_lacks k.0, (refl, (short_passes rule k.1, (refl, tt)))))
+pointer_passes wording (Jump cond rule) behind h pass k free = Passes-joined (codes "\tgoto " ∷ (label_prefix wording.names ++ cond) ∷ codes "; /* " ∷ decimal rule ∷ codes " */\n" ∷ []) behind
+    (refl, (prefixed_passes (label_prefix wording.names) cond pass.label_lacks k.0, (refl, (short_passes rule k.1, (refl, tt)))))
 
-pub statements_pass : (number : ℕ) (names : Spellings) (ctx : Bool) (statements : List Stmt) (behind : List ℕ) → IsShort number → NamesPass names
-    → EachHasSpelling names statements → AllByRecursion IsUnmarked statements → Passes (statements_then number names ctx statements behind) behind
-statements_pass number names ctx [] behind h pass k free = Passes-all behind
-statements_pass number names ctx (statement ∷ statements) behind h pass k free =
-    Passes-then (statements_then number names ctx (statement ∷ statements) behind) (statements_then number names ctx statements behind) behind
-    (statement_passes number names ctx statement (statements_then number names ctx statements behind) h pass k.0 free.0)
-    (statements_pass number names ctx statements behind h pass k.1 free.1)
+custom_passes : (wording : Wording) (statement : Stmt) (behind : List ℕ) → IsShort wording.number → NamesPass wording.names
+    → HasSpelling wording.names statement → IsUnmarked statement → Passes (custom_then wording statement behind) behind
+custom_passes wording Peek behind h pass k free = Passes-joined (codes "\t" ∷ current_unit wording.names ∷ codes " = YYPEEK();\n" ∷ []) behind
+    (refl, (pass.current_unit, (refl, tt)))
+custom_passes wording Skip behind h pass k free = Passes-joined (codes "\tYYSKIP();\n" ∷ []) behind (refl, tt)
+custom_passes wording Backup behind h pass k free = Passes-joined (codes "\tYYBACKUP();\n" ∷ []) behind (refl, tt)
+custom_passes wording Restore behind h pass k free = Passes-joined (codes "\tYYRESTORE();\n" ∷ []) behind (refl, tt)
+custom_passes wording (Set register) behind h pass k free = Passes-joined (codes "\tYYSTAGP(" ∷ register_text wording.names wording.ctx register ∷ codes ");\n" ∷ []) behind
+    (refl, (register_passes wording.names wording.ctx register pass k.1, (refl, tt)))
+custom_passes wording (Unset register) behind h pass k free = Passes-joined (codes "\tYYSTAGN(" ∷ register_text wording.names wording.ctx register ∷ codes ");\n" ∷ []) behind
+    (refl, (register_passes wording.names wording.ctx register pass k.1, (refl, tt)))
+custom_passes wording (Back register) behind h pass k free = Passes-joined (codes "\tYYRESTORETAG(" ∷ register_text wording.names wording.ctx register ∷ codes ");\n" ∷ []) behind
+    (refl, (register_passes wording.names wording.ctx register pass k.1, (refl, tt)))
+custom_passes wording (Need units) behind h pass k free = Passes-joined (codes "\tif (YYLESSTHAN(" ∷ decimal units ∷ codes ")) " ∷ refill wording.names ∷ codes "(" ∷ decimal units ∷ codes ");\n" ∷ []) behind
+    (refl, (short_passes units k, (refl, (pass.refill, (refl, (short_passes units k, (refl, tt)))))))
+custom_passes wording (IfEnd block) behind h pass k free = jump_passes (codes "\tif (YYLESSTHAN(1))" ∷ []) wording.number block behind (refl, tt) h k
+custom_passes wording (Tag tag true history) behind h pass k free = pointer_passes wording (Tag tag true history) behind h pass k free
+custom_passes wording (Tag tag false register) behind h pass k free = pointer_passes wording (Tag tag false register) behind h pass k free
+custom_passes wording statement behind h pass k free = pointer_passes wording statement behind h pass k free
+
+line_by-passes : (custom : Bool) (wording : Wording) (statement : Stmt) (behind : List ℕ) → IsShort wording.number → NamesPass wording.names
+    → HasSpelling wording.names statement → IsUnmarked statement → Passes (line_by custom wording statement behind) behind
+line_by-passes false wording statement behind h pass k free = pointer_passes wording statement behind h pass k free
+line_by-passes true wording statement behind h pass k free = custom_passes wording statement behind h pass k free
+
+pub statement_passes : (wording : Wording) (statement : Stmt) (behind : List ℕ) → IsShort wording.number → NamesPass wording.names
+    → HasSpelling wording.names statement → IsUnmarked statement → Passes (statement_then wording statement behind) behind
+statement_passes wording statement behind h pass k free = line_by-passes wording.custom wording statement behind h pass k free
+
+pub statements_pass : (wording : Wording) (statements : List Stmt) (behind : List ℕ) → IsShort wording.number → NamesPass wording.names
+    → EachHasSpelling wording.names statements → AllByRecursion IsUnmarked statements → Passes (statements_then wording statements behind) behind
+statements_pass wording [] behind h pass k free = Passes-all behind
+statements_pass wording (statement ∷ statements) behind h pass k free =
+    Passes-then (statements_then wording (statement ∷ statements) behind) (statements_then wording statements behind) behind
+    (statement_passes wording statement (statements_then wording statements behind) h pass k.0 free.0)
+    (statements_pass wording statements behind h pass k.1 free.1)

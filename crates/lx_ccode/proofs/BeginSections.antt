@@ -7,37 +7,45 @@ use Rattle.std.specs.Prelude.{IfSome, codes}
 use Rattle.lx_base.specs.Letters.{IsIdentifier}
 use Rattle.lx_base.specs.Names.{EachIsShort, Spellings, condition_prefix, current_unit, get_condition, get_state, label_prefix, last_accept, unit_type}
 use Rattle.lx_base.specs.Text.{joined}
-use Rattle.lx_ccode.specs.Bodies.{body_piece_text, no_body}
+use Rattle.lx_ccode.specs.Bodies.{body_piece_text}
+use Rattle.lx_base.specs.declared.settings.Enc.{Enc}
+use Rattle.lx_base.specs.declared.settings.Enc.TheVariants.{Byte, Ucs2, Utf8, Utf16, Utf32}
+use Rattle.lx_ccode.specs.Heads.{custom_word, encoding_word, head_then, mode_word}
 use Rattle.lx_ccode.specs.Marks.{HasNoBegin, IsUnmarked, IsUnmarkedLine, begins_piece}
 use Rattle.lx_ccode.specs.Statements.{all_statements}
 use Rattle.lx_ccode.specs.Text.{block_then, blocks_then, code_block_then, cond_cases_then, cond_switch_then, declarations_then, eof_then, goto_then, label_then, line_then, names_then, piece_text, piece_then, start_then, state_cases_then, state_switch_then, statements_then}
 use Rattle.lx_ccode.specs.Validity.{EachBlockHasSpelling, IsLabel, IsLine, IsLong, IsShort, IsValid}
+use Rattle.lx_ccode.specs.declared.bodies.Body.TheVariants.{Empty}
 use Rattle.lx_ccode.specs.declared.piece.CodeBlock.{CodeBlock}
 use Rattle.lx_ccode.specs.declared.piece.CondCase.{CondCase}
+use Rattle.lx_ccode.specs.declared.piece.Head.{Head}
 use Rattle.lx_ccode.specs.declared.piece.LineMark.{LineMark}
+use Rattle.lx_ccode.specs.declared.piece.Mode.{Mode}
+use Rattle.lx_ccode.specs.declared.piece.Mode.TheVariants.{Plain, Count, EofFixed, Eof}
 use Rattle.lx_ccode.specs.declared.piece.Piece.{Piece}
 use Rattle.lx_ccode.specs.declared.piece.StateCase.{StateCase}
 use Rattle.lx_ccode.specs.declared.piece.Stmt.{Stmt}
+use Rattle.lx_ccode.specs.Wording.{Wording, wording_of}
 use Rattle.lx_ccode.proofs.BeginLines.{NamesPass, block_passes, goto_passes, line_passes, names_pass, number_passes, prefixed_passes, short_passes, statements_pass}
 use Rattle.lx_ccode.proofs.BeginMarks.{EachPasses, Passes, Passes-all, Passes-joined, Passes-text, Passes-then, none_begins, none_begins-word}
 use Rattle.lx_ccode.proofs.RoundTrip.{statement_count-blocks}
-use Rattle.lx_ccode.proofs.Tails.{joined-append, line_then-append, piece_text-append}
+use Rattle.lx_ccode.proofs.Tails.{head_line_parts, joined-append, line_then-append, piece_text-append, unit_parts}
 
 label_passes : (names : Spellings) (label : Option (List ℕ)) (behind : List ℕ) → NamesPass names → IsLabel label → Passes (label_then names label behind) behind
 label_passes names None behind pass h = Passes-all behind
 label_passes names (Some cond) behind pass h = Passes-joined ((label_prefix names ++ cond) ∷ codes ":\n" ∷ []) behind
     (prefixed_passes (label_prefix names) cond pass.label_lacks h, (refl, tt))
 
-code_block_passes : (number : ℕ) (names : Spellings) (ctx : Bool) (place : ℕ) (block : CodeBlock) (behind : List ℕ) → IsShort number → NamesPass names → IsLong place
-    → EachBlockHasSpelling names (block ∷ []) → AllByRecursion IsUnmarked block.stmts → Passes (code_block_then number names ctx place block behind) behind
-code_block_passes number names ctx place block behind h pass k spelled free =
-    let code : List ℕ = statements_then number names ctx block.stmts behind in
-    Passes-then (code_block_then number names ctx place block behind) (block_then number place (codes ":\n" ++ code)) behind
-    (label_passes names block.cond (block_then number place (codes ":\n" ++ code)) pass spelled.0.1)
-    (Passes-then (block_then number place (codes ":\n" ++ code)) (codes ":\n" ++ code) behind
-    (block_passes number place (codes ":\n" ++ code) h k)
+code_block_passes : (wording : Wording) (place : ℕ) (block : CodeBlock) (behind : List ℕ) → IsShort wording.number → NamesPass wording.names → IsLong place
+    → EachBlockHasSpelling wording.names (block ∷ []) → AllByRecursion IsUnmarked block.stmts → Passes (code_block_then wording place block behind) behind
+code_block_passes wording place block behind h pass k spelled free =
+    let code : List ℕ = statements_then wording block.stmts behind in
+    Passes-then (code_block_then wording place block behind) (block_then wording.number place (codes ":\n" ++ code)) behind
+    (label_passes wording.names block.cond (block_then wording.number place (codes ":\n" ++ code)) pass spelled.0.1)
+    (Passes-then (block_then wording.number place (codes ":\n" ++ code)) (codes ":\n" ++ code) behind
+    (block_passes wording.number place (codes ":\n" ++ code) h k)
     (Passes-then (codes ":\n" ++ code) code behind (Passes-joined (codes ":\n" ∷ []) code (refl, tt))
-    (statements_pass number names ctx block.stmts behind h pass spelled.0.2 free)))
+    (statements_pass wording block.stmts behind h pass spelled.0.2 free)))
 
 -- the statements of the blocks, block by block
 abbrev EachBlockIsUnmarked : List CodeBlock → Type 0
@@ -54,13 +62,13 @@ blocks_unmarked [] free = tt
 blocks_unmarked (block ∷ blocks) free =
     let both = front_unmarked block.stmts (all_statements blocks) free in (both.0, blocks_unmarked blocks both.1)
 
-blocks_pass : (number : ℕ) (names : Spellings) (ctx : Bool) (place : ℕ) (blocks : List CodeBlock) (behind : List ℕ) → IsShort number → NamesPass names
-    → place + length blocks < 2 ^ 64 → EachBlockHasSpelling names blocks → EachBlockIsUnmarked blocks → Passes (blocks_then number names ctx place blocks behind) behind
-blocks_pass number names ctx place [] behind h pass k spelled free = Passes-all behind
-blocks_pass number names ctx place (block ∷ blocks) behind h pass k spelled free =
-    Passes-then (blocks_then number names ctx place (block ∷ blocks) behind) (blocks_then number names ctx (suc place) blocks behind) behind
-    (code_block_passes number names ctx place block (blocks_then number names ctx (suc place) blocks behind) h pass (omega (arith, k)) (spelled.0, tt) free.0)
-    (blocks_pass number names ctx (suc place) blocks behind h pass (omega (arith, k)) spelled.1 free.1)
+blocks_pass : (wording : Wording) (place : ℕ) (blocks : List CodeBlock) (behind : List ℕ) → IsShort wording.number → NamesPass wording.names
+    → place + length blocks < 2 ^ 64 → EachBlockHasSpelling wording.names blocks → EachBlockIsUnmarked blocks → Passes (blocks_then wording place blocks behind) behind
+blocks_pass wording place [] behind h pass k spelled free = Passes-all behind
+blocks_pass wording place (block ∷ blocks) behind h pass k spelled free =
+    Passes-then (blocks_then wording place (block ∷ blocks) behind) (blocks_then wording (suc place) blocks behind) behind
+    (code_block_passes wording place block (blocks_then wording (suc place) blocks behind) h pass (omega (arith, k)) (spelled.0, tt) free.0)
+    (blocks_pass wording (suc place) blocks behind h pass (omega (arith, k)) spelled.1 free.1)
 
 -- no slash stands in the words
 names_then_passes : (words : Spellings) (behind : List ℕ) → EachIsShort words → EachPasses words → Passes (names_then words behind) behind
@@ -156,7 +164,7 @@ end_passes behind h =
 sections_pass : (piece : Piece) (behind : List ℕ) → IsValid piece → AllByRecursion IsUnmarked (all_statements piece.blocks) → IsUnmarkedLine piece.line
     → begins_piece (47 ∷ behind) ≡ false
     → Passes (declarations_then piece.names piece.declares (state_switch_then piece.number piece.names piece.conds piece.states (cond_switch_then piece.number piece.names piece.conds (
-    blocks_then piece.number piece.names piece.ctx 0 piece.blocks (joined (codes "yy" ∷ decimal piece.number ∷ codes "_none:;\n}\n" ∷ []) (
+    blocks_then (wording_of piece) 0 piece.blocks (joined (codes "yy" ∷ decimal piece.number ∷ codes "_none:;\n}\n" ∷ []) (
     line_then piece.line (joined (codes "/*!end:re2c*/" ∷ []) behind))))))) behind
 sections_pass piece behind valid free line after =
     let pass : NamesPass piece.names = names_pass piece.names valid.names in
@@ -164,32 +172,57 @@ sections_pass piece behind valid free line after =
     let end : List ℕ = codes "/*!end:re2c*/" ++ behind in
     let mark : List ℕ = line_then piece.line end in
     let none : List ℕ = joined (codes "yy" ∷ decimal piece.number ∷ codes "_none:;\n}\n" ∷ []) mark in
-    let blocks : List ℕ = blocks_then piece.number piece.names piece.ctx 0 piece.blocks none in
+    let blocks : List ℕ = blocks_then (wording_of piece) 0 piece.blocks none in
     let conds : List ℕ = cond_switch_then piece.number piece.names piece.conds blocks in
     let states : List ℕ = state_switch_then piece.number piece.names piece.conds piece.states conds in
     let few : 0 + length piece.blocks < 2 ^ 64 = (let less = statement_count-blocks piece.names piece.blocks valid.spelled in omega (arith, valid.statements, less)) in
     Passes-then (declarations_then piece.names piece.declares states) states behind (declarations_pass piece.names piece.declares states pass)
     (Passes-then states conds behind (state_switch_passes piece.number piece.names piece.conds piece.states conds number pass valid.range.states)
     (Passes-then conds blocks behind (cond_switch_passes piece.number piece.names piece.conds blocks number pass valid.range.conds)
-    (Passes-then blocks none behind (blocks_pass piece.number piece.names piece.ctx 0 piece.blocks none number pass few valid.spelled (blocks_unmarked piece.blocks free))
+    (Passes-then blocks none behind (blocks_pass (wording_of piece) 0 piece.blocks none number pass few valid.spelled (blocks_unmarked piece.blocks free))
     (Passes-then none mark behind (Passes-joined (codes "yy" ∷ decimal piece.number ∷ codes "_none:;\n}\n" ∷ []) mark (refl, (short_passes piece.number number, (refl, tt))))
     (Passes-then mark end behind (line_passes piece.line end valid.range.line line) (end_passes behind after))))))
 
+custom_word_passes : (custom : Bool) → none_begins (custom_word custom) ≡ true
+custom_word_passes true = refl
+custom_word_passes false = refl
+
+encoding_word_passes : (enc : Enc) → none_begins (encoding_word enc) ≡ true
+encoding_word_passes Byte = refl
+encoding_word_passes Ucs2 = refl
+encoding_word_passes Utf8 = refl
+encoding_word_passes Utf16 = refl
+encoding_word_passes Utf32 = refl
+
+mode_word_passes : (mode : Mode) → none_begins (mode_word mode) ≡ true
+mode_word_passes Plain = refl
+mode_word_passes Count = refl
+mode_word_passes EofFixed = refl
+mode_word_passes Eof = refl
+
+head_passes : (head : Option Head) (behind : List ℕ) → IfSome head (λ head. IsShort head.regs × IsShort head.mregs × IsLong head.states) → Passes (head_then head behind) behind
+head_passes None behind h = Passes-all behind
+head_passes (Some head) behind h = Passes-joined (head_line_parts head) behind
+    (refl, (custom_word_passes head.custom, (encoding_word_passes head.enc, (refl, (mode_word_passes head.mode, (refl, (short_passes head.regs h.0, (refl, (short_passes head.mregs h.1, (refl, (number_passes head.states h.2, (refl, tt))))))))))))
+
 -- the opening lines of a piece, behind the first byte of its begin mark
 opening_passes : (piece : Piece) (behind : List ℕ) → IsValid piece
-    → Passes (joined (codes "*!begin:re2c " ∷ decimal piece.number ∷ codes "*/\n/*!names:re2c " ∷ decimal piece.unit ∷ codes " " ∷ []) (
-    eof_then piece.eof (names_then piece.names (joined (codes "*/\n{\n" ∷ []) behind)))) behind
+    → Passes (joined (codes "*!begin:re2c " ∷ decimal piece.number ∷ codes "*/\n" ∷ []) (head_then piece.head (joined (unit_parts piece) (
+    eof_then piece.eof (names_then piece.names (joined (codes "*/\n{\n" ∷ []) behind)))))) behind
 opening_passes piece behind valid =
     let pass : NamesPass piece.names = names_pass piece.names valid.names in
     let brace : List ℕ = codes "*/\n{\n" ++ behind in
     let names : List ℕ = names_then piece.names brace in
     let eof : List ℕ = eof_then piece.eof names in
-    Passes-then (joined (codes "*!begin:re2c " ∷ decimal piece.number ∷ codes "*/\n/*!names:re2c " ∷ decimal piece.unit ∷ codes " " ∷ []) eof) eof behind
-    (Passes-joined (codes "*!begin:re2c " ∷ decimal piece.number ∷ codes "*/\n/*!names:re2c " ∷ decimal piece.unit ∷ codes " " ∷ []) eof
-    (refl, (short_passes piece.number valid.range.number, (refl, (unit_passes piece.unit valid.unit, (refl, tt))))))
+    let unit : List ℕ = joined (unit_parts piece) eof in
+    let head : List ℕ = head_then piece.head unit in
+    Passes-then (joined (codes "*!begin:re2c " ∷ decimal piece.number ∷ codes "*/\n" ∷ []) head) head behind
+    (Passes-joined (codes "*!begin:re2c " ∷ decimal piece.number ∷ codes "*/\n" ∷ []) head (refl, (short_passes piece.number valid.range.number, (refl, tt))))
+    (Passes-then head unit behind (head_passes piece.head unit valid.range.head)
+    (Passes-then unit eof behind (Passes-joined (unit_parts piece) eof (refl, (unit_passes piece.unit valid.unit, (refl, tt))))
     (Passes-then eof names behind (eof_passes piece.eof names (eof_short piece.unit piece.eof valid.unit valid.eof))
     (Passes-then names brace behind (names_then_passes piece.names brace valid.names.each_is_short (names_lack piece.names valid.names.count pass))
-    (Passes-joined (codes "*/\n{\n" ∷ []) behind (refl, tt))))
+    (Passes-joined (codes "*/\n{\n" ∷ []) behind (refl, tt))))))
 
 -- what passes is the text before what stands behind it
 none_begins-front : (text behind : List ℕ) → Passes (text ++ behind) behind → HasNoBegin text behind
@@ -200,14 +233,14 @@ pub HasNoBegin-piece : (piece : Piece) (behind : List ℕ) → IsValid piece →
 HasNoBegin-piece piece behind valid free line after =
     none_begins-front (drop 1 (piece_text piece)) behind (subst (λ (l : List ℕ). Passes (drop 1 l) behind) (sym (piece_text-append piece behind))
     (Passes-then (drop 1 (piece_then piece behind)) (declarations_then piece.names piece.declares (state_switch_then piece.number piece.names piece.conds piece.states (cond_switch_then piece.number piece.names piece.conds (
-    blocks_then piece.number piece.names piece.ctx 0 piece.blocks (joined (codes "yy" ∷ decimal piece.number ∷ codes "_none:;\n}\n" ∷ []) (
+    blocks_then (wording_of piece) 0 piece.blocks (joined (codes "yy" ∷ decimal piece.number ∷ codes "_none:;\n}\n" ∷ []) (
     line_then piece.line (joined (codes "/*!end:re2c*/" ∷ []) behind))))))) behind
     (opening_passes piece (declarations_then piece.names piece.declares (state_switch_then piece.number piece.names piece.conds piece.states (cond_switch_then piece.number piece.names piece.conds (
-    blocks_then piece.number piece.names piece.ctx 0 piece.blocks (joined (codes "yy" ∷ decimal piece.number ∷ codes "_none:;\n}\n" ∷ []) (
+    blocks_then (wording_of piece) 0 piece.blocks (joined (codes "yy" ∷ decimal piece.number ∷ codes "_none:;\n}\n" ∷ []) (
     line_then piece.line (joined (codes "/*!end:re2c*/" ∷ []) behind))))))) valid) (sections_pass piece behind valid free line after)))
 
 pub HasNoBegin-body : (number : ℕ) (names : Spellings) (line : Option LineMark) (behind : List ℕ) → IsShort number → IsLine line → IsUnmarkedLine line
-    → begins_piece (47 ∷ behind) ≡ false → HasNoBegin (drop 1 (body_piece_text number names no_body line)) behind
+    → begins_piece (47 ∷ behind) ≡ false → HasNoBegin (drop 1 (body_piece_text number names Empty line)) behind
 HasNoBegin-body number names line behind short is free after =
     let words : List (List ℕ) = codes "*!begin:re2c " ∷ decimal number ∷ codes "*/\n" ∷ [] in
     let end : List ℕ = codes "/*!end:re2c*/" in

@@ -10,6 +10,7 @@ use Rattle.lx_ccode.specs.declared.piece.Piece.{Piece}
 use Rattle.lx_ccode.specs.Front.{BeginsWithPiece, IsNoFront}
 use Rattle.lx_ccode.specs.Text.{block_then, blocks_then, code_block_then, label_then, piece_then}
 use Rattle.lx_ccode.specs.Validity.{IsValid}
+use Rattle.lx_ccode.specs.Wording.{Wording, wording_of}
 use Rattle.lx_ccode.proofs.Tails.{blocks_then-append, label_then-nil, piece_text-append}
 
 -- a text that stands behind a tail has one tail
@@ -46,14 +47,14 @@ written text shown items before law is items_are none tail =
     ap (λ (l : List ℕ). l ++ tail) (is ∙ items_are ∙ ap (λ (l : List ℕ). l ++ text []) none) ∙ law tail
 
 -- the labels of a block, which are the text of a block without statements
-pub labels_written : (number : ℕ) (names : Spellings) (ctx : Bool) (place : ℕ) (block : CodeBlock) (shown items middle before : List ℕ) → shown ≡ items
-    → items ≡ middle ++ block_then number place (joined (codes ":\n" ∷ []) []) → middle ≡ before ++ label_then names block.cond [] → before ≡ []
-    → (tail : List ℕ) → shown ++ tail ≡ code_block_then number names ctx place (record block { stmts = [] }) tail
-labels_written number names ctx place block shown items middle before is label cond none =
+pub labels_written : (wording : Wording) (place : ℕ) (block : CodeBlock) (shown items middle before : List ℕ) → shown ≡ items
+    → items ≡ middle ++ block_then wording.number place (joined (codes ":\n" ∷ []) []) → middle ≡ before ++ label_then wording.names block.cond [] → before ≡ []
+    → (tail : List ℕ) → shown ++ tail ≡ code_block_then wording place (record block { stmts = [] }) tail
+labels_written wording place block shown items middle before is label cond none =
     let bare : CodeBlock = record block { stmts = [] } in
-    written (code_block_then number names ctx place bare) shown items before (blocks_then-append number names ctx place (bare ∷ []) []) is
-    (label ∙ ap (λ (l : List ℕ). l ++ block_then number place (joined (codes ":\n" ∷ []) [])) cond
-    ∙ label_then-nil names block.cond before (block_then number place (joined (codes ":\n" ∷ []) []))) none
+    written (code_block_then wording place bare) shown items before (blocks_then-append wording place (bare ∷ []) []) is
+    (label ∙ ap (λ (l : List ℕ). l ++ block_then wording.number place (joined (codes ":\n" ∷ []) [])) cond
+    ∙ label_then-nil wording.names block.cond before (block_then wording.number place (joined (codes ":\n" ∷ []) []))) none
 
 -- what was found behind what was written, said of the text
 pub found_as : (text : List ℕ → List ℕ) (shown bytes : List ℕ) (found : Option (Bor (List ℕ))) → ((tail : List ℕ) → shown ++ tail ≡ text tail)
@@ -74,10 +75,10 @@ found_second first second bytes rest (Some next) law here there = here ∙ ap fi
 
 -- a piece's blocks
 abbrev pub all_blocks_then : Piece → List ℕ → List ℕ
-all_blocks_then piece = blocks_then piece.number piece.names piece.ctx 0 piece.blocks
+all_blocks_then piece = blocks_then (wording_of piece) 0 piece.blocks
 
 pub all_blocks_then-append : (piece : Piece) (tail : List ℕ) → all_blocks_then piece [] ++ tail ≡ all_blocks_then piece tail
-all_blocks_then-append piece = blocks_then-append piece.number piece.names piece.ctx 0 piece.blocks []
+all_blocks_then-append piece = blocks_then-append (wording_of piece) 0 piece.blocks []
 
 -- what was found behind a piece tells whether its text stands
 pub begins_by : (bytes : List ℕ) (piece : Piece) (found : Option (Bor (List ℕ))) → IsValid piece

@@ -8,14 +8,17 @@ use Rattle.lx_base.specs.Names.{Spellings, condition_prefix, current_unit, get_c
 use Rattle.lx_base.specs.Text.{joined}
 use Rattle.lx_ccode.specs.declared.piece.CodeBlock.{CodeBlock}
 use Rattle.lx_ccode.specs.declared.piece.CondCase.{CondCase}
+use Rattle.lx_ccode.specs.declared.piece.Head.{Head}
 use Rattle.lx_ccode.specs.declared.piece.Piece.{Piece}
 use Rattle.lx_ccode.specs.declared.piece.StateCase.{StateCase}
 use Rattle.lx_ccode.specs.declared.piece.Stmt.{Stmt}
+use Rattle.lx_ccode.specs.Heads.{head_then}
 use Rattle.lx_ccode.specs.Reading.{begins_statement}
 use Rattle.lx_ccode.specs.Statements.{statement_count}
 use Rattle.lx_ccode.specs.Text.{block_then, blocks_then, cond_cases_then, cond_switch_then, declarations_then, eof_then, label_then, line_then, names_then, piece_then, start_then, state_cases_then, state_switch_then, statement_then, statements_then}
+use Rattle.lx_ccode.specs.Wording.{Wording, wording_of}
 use Rattle.lx_ccode.proofs.ReadSections.{begins_statement-statement}
-use Rattle.lx_ccode.proofs.Tails.{statement_then-append}
+use Rattle.lx_ccode.proofs.Tails.{begin_parts, head_line_parts, statement_then-append, unit_parts}
 
 -- how many state cases there are
 abbrev pub case_count : Option (List StateCase) → ℕ
@@ -37,35 +40,35 @@ statement_not_empty : (l : List ℕ) → begins_statement l ≡ true → 0 < len
 statement_not_empty [] h = absurd (false≢true h)
 statement_not_empty (c ∷ l) h = omega arith
 
-statement_then-length : (number : ℕ) (names : Spellings) (ctx : Bool) (statement : Stmt) (tail : List ℕ)
-    → length tail < length (statement_then number names ctx statement tail)
-statement_then-length number names ctx statement tail =
-    let whole : length (statement_then number names ctx statement [] ++ tail) ≡ length (statement_then number names ctx statement tail) = ap (λ (l : List ℕ). length l) (statement_then-append number names ctx statement [] tail) in
-    let both : length (statement_then number names ctx statement [] ++ tail) ≡ length (statement_then number names ctx statement []) + length tail = length-append (statement_then number names ctx statement []) tail in
-    let some : 0 < length (statement_then number names ctx statement []) = statement_not_empty (statement_then number names ctx statement []) (begins_statement-statement number names ctx statement []) in
+statement_then-length : (wording : Wording) (statement : Stmt) (tail : List ℕ)
+    → length tail < length (statement_then wording statement tail)
+statement_then-length wording statement tail =
+    let whole : length (statement_then wording statement [] ++ tail) ≡ length (statement_then wording statement tail) = ap (λ (l : List ℕ). length l) (statement_then-append wording statement [] tail) in
+    let both : length (statement_then wording statement [] ++ tail) ≡ length (statement_then wording statement []) + length tail = length-append (statement_then wording statement []) tail in
+    let some : 0 < length (statement_then wording statement []) = statement_not_empty (statement_then wording statement []) (begins_statement-statement wording statement []) in
     omega arith
 
-statements_then-length : (number : ℕ) (names : Spellings) (ctx : Bool) (statements : List Stmt) (tail : List ℕ)
-    → length statements + length tail ≤ length (statements_then number names ctx statements tail)
-statements_then-length number names ctx [] tail = omega arith
-statements_then-length number names ctx (s ∷ statements) tail =
-    let rest : length statements + length tail ≤ length (statements_then number names ctx statements tail) = statements_then-length number names ctx statements tail in
-    let here : length (statements_then number names ctx statements tail) < length (statement_then number names ctx s (statements_then number names ctx statements tail)) = statement_then-length number names ctx s (statements_then number names ctx statements tail) in
+statements_then-length : (wording : Wording) (statements : List Stmt) (tail : List ℕ)
+    → length statements + length tail ≤ length (statements_then wording statements tail)
+statements_then-length wording [] tail = omega arith
+statements_then-length wording (s ∷ statements) tail =
+    let rest : length statements + length tail ≤ length (statements_then wording statements tail) = statements_then-length wording statements tail in
+    let here : length (statements_then wording statements tail) < length (statement_then wording s (statements_then wording statements tail)) = statement_then-length wording s (statements_then wording statements tail) in
     omega arith
 
 label_then-length : (names : Spellings) (label : Option (List ℕ)) (tail : List ℕ) → length tail ≤ length (label_then names label tail)
 label_then-length names None tail = omega arith
 label_then-length names (Some word) tail = joined-length ((label_prefix names ++ word) ∷ codes ":\n" ∷ []) tail
 
-blocks_then-length : (number : ℕ) (names : Spellings) (ctx : Bool) (place : ℕ) (blocks : List CodeBlock) (tail : List ℕ)
-    → statement_count blocks + length tail ≤ length (blocks_then number names ctx place blocks tail)
-blocks_then-length number names ctx place [] tail = omega arith
-blocks_then-length number names ctx place (b ∷ blocks) tail =
-    let others : List ℕ = blocks_then number names ctx (suc place) blocks tail in
-    let rest : statement_count blocks + length tail ≤ length (blocks_then number names ctx (suc place) blocks tail) = blocks_then-length number names ctx (suc place) blocks tail in
-    let stmts : length b.stmts + length (blocks_then number names ctx (suc place) blocks tail) ≤ length (statements_then number names ctx b.stmts (blocks_then number names ctx (suc place) blocks tail)) = statements_then-length number names ctx b.stmts others in
-    let line : length (statements_then number names ctx b.stmts (blocks_then number names ctx (suc place) blocks tail)) ≤ length (block_then number place (codes ":\n" ++ statements_then number names ctx b.stmts (blocks_then number names ctx (suc place) blocks tail))) = joined-length (codes "yy" ∷ decimal number ∷ codes "_" ∷ decimal place ∷ codes ":\n" ∷ []) (statements_then number names ctx b.stmts others) in
-    let label : length (block_then number place (codes ":\n" ++ statements_then number names ctx b.stmts (blocks_then number names ctx (suc place) blocks tail))) ≤ length (blocks_then number names ctx place (b ∷ blocks) tail) = label_then-length names b.cond (block_then number place (codes ":\n" ++ statements_then number names ctx b.stmts others)) in
+blocks_then-length : (wording : Wording) (place : ℕ) (blocks : List CodeBlock) (tail : List ℕ)
+    → statement_count blocks + length tail ≤ length (blocks_then wording place blocks tail)
+blocks_then-length wording place [] tail = omega arith
+blocks_then-length wording place (b ∷ blocks) tail =
+    let others : List ℕ = blocks_then wording (suc place) blocks tail in
+    let rest : statement_count blocks + length tail ≤ length (blocks_then wording (suc place) blocks tail) = blocks_then-length wording (suc place) blocks tail in
+    let stmts : length b.stmts + length (blocks_then wording (suc place) blocks tail) ≤ length (statements_then wording b.stmts (blocks_then wording (suc place) blocks tail)) = statements_then-length wording b.stmts others in
+    let line : length (statements_then wording b.stmts (blocks_then wording (suc place) blocks tail)) ≤ length (block_then wording.number place (codes ":\n" ++ statements_then wording b.stmts (blocks_then wording (suc place) blocks tail))) = joined-length (codes "yy" ∷ decimal wording.number ∷ codes "_" ∷ decimal place ∷ codes ":\n" ∷ []) (statements_then wording b.stmts others) in
+    let label : length (block_then wording.number place (codes ":\n" ++ statements_then wording b.stmts (blocks_then wording (suc place) blocks tail))) ≤ length (blocks_then wording place (b ∷ blocks) tail) = label_then-length wording.names b.cond (block_then wording.number place (codes ":\n" ++ statements_then wording b.stmts others)) in
     omega arith
 
 names_then-length : (words : Spellings) (tail : List ℕ) → length tail ≤ length (names_then words tail)
@@ -125,11 +128,15 @@ cond_switch_then-length number names (c ∷ conds) tail =
     let head : length (cond_cases_then number names (c ∷ conds) (codes "\t}\n" ++ tail)) ≤ length (cond_switch_then number names (c ∷ conds) tail) = joined-length (codes "yy" ∷ decimal number ∷ codes "_cond:\n\tswitch (" ∷ get_condition names ∷ codes "()) {\n" ∷ []) (cond_cases_then number names (c ∷ conds) (codes "\t}\n" ++ tail)) in
     omega arith
 
+head_then-length : (head : Option Head) (tail : List ℕ) → length tail ≤ length (head_then head tail)
+head_then-length None tail = omega arith
+head_then-length (Some head) tail = joined-length (head_line_parts head) tail
+
 pub list_sizes-length : (piece : Piece) (tail : List ℕ) → list_sizes piece ≤ length (piece_then piece tail)
 list_sizes-length piece tail =
     let joined-append : List ℕ = joined (codes "yy" ∷ decimal piece.number ∷ codes "_none:;\n}\n" ∷ []) (line_then piece.line (joined (codes "/*!end:re2c*/" ∷ []) tail)) in
-    let blocks = blocks_then-length piece.number piece.names piece.ctx 0 piece.blocks joined-append in
-    let b : List ℕ = blocks_then piece.number piece.names piece.ctx 0 piece.blocks joined-append in
+    let blocks = blocks_then-length (wording_of piece) 0 piece.blocks joined-append in
+    let b : List ℕ = blocks_then (wording_of piece) 0 piece.blocks joined-append in
     let conds = cond_switch_then-length piece.number piece.names piece.conds b in
     let c : List ℕ = cond_switch_then piece.number piece.names piece.conds b in
     let states = state_switch_then-length piece.number piece.names piece.conds piece.states c in
@@ -139,5 +146,8 @@ list_sizes-length piece tail =
     let opened = joined-length (codes "*/\n{\n" ∷ []) (declarations_then piece.names piece.declares s) in
     let names = names_then-length piece.names d in
     let eof = eof_then-length piece.eof (names_then piece.names d) in
-    let head = joined-length (codes "/*!begin:re2c " ∷ decimal piece.number ∷ codes "*/\n/*!names:re2c " ∷ decimal piece.unit ∷ codes " " ∷ []) (eof_then piece.eof (names_then piece.names d)) in
-    omega (arith, blocks, conds, states, declarations, opened, names, eof, head)
+    let e : List ℕ = eof_then piece.eof (names_then piece.names d) in
+    let unit = joined-length (unit_parts piece) e in
+    let head = head_then-length piece.head (joined (unit_parts piece) e) in
+    let begin = joined-length (begin_parts piece) (head_then piece.head (joined (unit_parts piece) e)) in
+    omega (arith, blocks, conds, states, declarations, opened, names, eof, unit, head, begin)

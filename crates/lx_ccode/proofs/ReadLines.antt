@@ -5,26 +5,22 @@ use Rattle.std.specs.Fmt.{decimal}
 use Rattle.std.specs.Prelude.{◌==◌, ◌||◌, codes}
 use Rattle.lx_base.specs.Letters.{EachLetter, IsIdentifier, begins_identifier, is_digit, is_in_identifier, is_in_spelling, is_hexadecimal, equal_words}
 use Rattle.lx_base.specs.Names.{AreAllowed, DoNotClash, Spellings, append_negative, append_offset, condition_prefix, current_unit, cursor, label_prefix, last_accept, limit, marker, refill, set_condition, set_state}
+use Rattle.lx_base.specs.Names.{name_primitives}
 use Rattle.lx_ccode.specs.declared.piece.LineMark.{LineMark}
 use Rattle.lx_ccode.specs.declared.piece.Stmt.{Stmt}
 use Rattle.lx_ccode.specs.declared.piece.Stmt.TheVariants.{Accept, Back, Backup, Code, Cond, Copy, Count, End, Goto, IfAccept, IfEnd, IfUnit, Jump, Leave, MCopy, MSet, MUnset, Need, Peek, Restore, Set, Skip, State, Tag, Try, Unset}
-use Rattle.lx_ccode.specs.Reading.{called, code_at, goto_at, goto_block, goto_tail, if_at, mark_at, statement_at}
+use Rattle.lx_ccode.specs.Reading.{called, code_at, goto_at, if_at, mark_at, statement_at}
 use Rattle.lx_ccode.specs.Registers.{history_text, is_context, register_text}
 use Rattle.lx_ccode.specs.Statements.{has_register_one}
-use Rattle.lx_ccode.specs.Text.{escaped, goto_then, hexadecimal, line_then, statement_then}
+use Rattle.lx_ccode.specs.Text.{custom_then, escaped, goto_then, hexadecimal, line_by, line_then, pointer_then, statement_then}
 use Rattle.lx_ccode.specs.Validity.{HasSpelling, IsLine}
-use Rattle.lx_ccode.proofs.Assignments.{assigned-accept, assigned-back, assigned-backup, assigned-copy, assigned-count, assigned-end, assigned-mcopy, assigned-mtag, assigned-peek, assigned-restore, assigned-set, assigned-tag, assigned-unset, history_identifier, history_of-history, is_context-true, register_spelling, statement_at-assignment, statement_at-call, statement_at-goto, statement_at-if, statement_at-skip}
+use Rattle.lx_ccode.specs.Wording.{Wording}
+use Rattle.lx_ccode.proofs.Assignments.{assigned-accept, assigned-back, assigned-backup, assigned-copy, assigned-count, assigned-end, assigned-mcopy, assigned-mtag, assigned-peek, assigned-restore, assigned-set, assigned-tag, assigned-unset, history_identifier, history_of-history, is_context-true, register_spelling, statement_at-assignment, statement_at-goto, statement_at-if, statement_at-skip}
+use Rattle.lx_ccode.proofs.Jumps.{goto_block-goto, goto_tail-goto}
+use Rattle.lx_ccode.proofs.ReadPrimitives.{primitive_if_at-end, primitive_if_at-need, primitives_free, some_decimal, some_history, some_identifier, statement_at-back_call, statement_at-backup_call, statement_at-named, statement_at-restore_call, statement_at-set_call, statement_at-skip_call, statement_at-unset_call, test_at-refill, test_at-sign}
 use Rattle.lx_ccode.proofs.Words.{EachLetter-append, EachLetter-identifier, EachLetter-right, EachLetter-spelling, behind-stop, behind-word, decimal_digits, decimal_first, decimal_identifier, decimal_value, drop-front, equal_words-false, equal_words-other, equal_words-self, file_at-escaped, front-stop, front-word, hexadecimal_digits, hexadecimal_value, is_false, take-front}
 
--- ---- jumps
-
-pub goto_block-goto : (number place : ℕ) (tail : List ℕ) → number < 2 ^ 64 → place < 2 ^ 64 → goto_block (goto_then number place tail) ≡ place
-unfolding goto_block
-goto_block-goto number place tail h k = rw (behind-stop is_digit (decimal number) 95 (decimal place ++ 59 ∷ 10 ∷ tail) (decimal_digits number h) refl, front-stop is_digit (decimal place) 59 (10 ∷ tail) (decimal_digits place k) refl) (decimal_value place k)
-
-pub goto_tail-goto : (number place : ℕ) (tail : List ℕ) → number < 2 ^ 64 → place < 2 ^ 64 → goto_tail (goto_then number place tail) ≡ tail
-unfolding goto_tail
-goto_tail-goto number place tail h k = rw (behind-stop is_digit (decimal number) 95 (decimal place ++ 59 ∷ 10 ∷ tail) (decimal_digits number h) refl, behind-stop is_digit (decimal place) 59 (10 ∷ tail) (decimal_digits place k) refl) refl
+-- ---- tests and jumps
 
 if_at-unit : (number : ℕ) (names : Spellings) (unit place : ℕ) (tail : List ℕ) → number < 2 ^ 64 → AreAllowed names → unit < 2 ^ 64 → place < 2 ^ 64
     → if_at names (current_unit names ++ (codes " <= 0x" ++ (hexadecimal unit ++ 41 ∷ goto_then number place tail))) ≡ (IfUnit unit place, false, tail)
@@ -102,10 +98,10 @@ goto_at-jump names word k tail allowed hw hk =
 pub identifier_no_sign : (c d : ℕ) → begins_identifier d ≡ false → begins_identifier c ≡ true → (c == d) ≡ false
 identifier_no_sign c d h k = is_false (c == d) (λ e. false≢true (sym h ∙ subst (λ (b : ℕ). begins_identifier b ≡ true) (eqb-true c d e) k))
 
-statement_at-jump : (names : Spellings) (front_word tail : List ℕ) → IsIdentifier front_word
-    → statement_at names (codes "\tgoto " ++ (front_word ++ tail)) ≡ goto_at names (front_word ++ tail)
-statement_at-jump names [] tail h = absurd h
-statement_at-jump names (c ∷ front_word) tail h = statement_at-goto names c (front_word ++ tail) (identifier_no_sign c 61 refl h.0) (identifier_no_sign c 40 refl h.0)
+statement_at-jump : (custom : Bool) (names : Spellings) (front_word tail : List ℕ) → IsIdentifier front_word
+    → statement_at custom names (codes "\tgoto " ++ (front_word ++ tail)) ≡ goto_at names (front_word ++ tail)
+statement_at-jump custom names [] tail h = absurd h
+statement_at-jump custom names (c ∷ front_word) tail h = statement_at-goto custom names c (front_word ++ tail) (identifier_no_sign c 61 refl h.0) (identifier_no_sign c 40 refl h.0)
 
 IsIdentifier-append : (front_word word : List ℕ) → IsIdentifier front_word → EachLetter is_in_identifier word → IsIdentifier (front_word ++ word)
 IsIdentifier-append [] word h k = absurd h
@@ -156,11 +152,11 @@ code_at-code line k word tail hk hw =
       drop-front word (10 ∷ tail),
     ) refl
 
-statement_at-code : (names : Spellings) (line : Option LineMark) (b : List ℕ) → IsLine line
-    → statement_at names (line_then line (codes "\t/*!code:re2c " ++ b)) ≡ code_at line (codes "\t/*!code:re2c " ++ b)
+statement_at-code : (custom : Bool) (names : Spellings) (line : Option LineMark) (b : List ℕ) → IsLine line
+    → statement_at custom names (line_then line (codes "\t/*!code:re2c " ++ b)) ≡ code_at line (codes "\t/*!code:re2c " ++ b)
 unfolding statement_at
-statement_at-code names None b h = refl
-statement_at-code names (Some line) b h = rw (mark_at-line line (codes "\t/*!code:re2c " ++ b) (omega arith)) refl
+statement_at-code custom names None b h = refl
+statement_at-code custom names (Some line) b h = rw (mark_at-line line (codes "\t/*!code:re2c " ++ b) (omega arith)) refl
 
 -- ---- all of them
 
@@ -184,93 +180,151 @@ names_context-with (Tag word true k) = refl
 names_context-with (Tag word false k) = refl
 names_context-with _ = refl
 
-pub statement_at-statement : (number : ℕ) (names : Spellings) (ctx : Bool) (statement : Stmt) (tail : List ℕ) → number < 2 ^ 64 → AreAllowed names
-    → DoNotClash names → HasSpelling names statement
-    → statement_at names (statement_then number names ctx statement tail) ≡ (statement, names_context ctx statement, tail)
-statement_at-statement number names ctx Peek tail short allowed clash h = statement_at-assignment names (current_unit names) (42 ∷ cursor names) tail (EachLetter-spelling (current_unit names) (EachLetter-identifier (current_unit names) allowed.current_unit)) (refl, allowed.cursor.1)
-    ∙ rw (assigned-peek names (42 ∷ cursor names)) refl
-statement_at-statement number names ctx Skip tail short allowed clash h = statement_at-skip names (cursor names) tail allowed.cursor.1
-statement_at-statement number names ctx Backup tail short allowed clash h = statement_at-assignment names (marker names) (cursor names) tail allowed.marker.1 allowed.cursor.1
-    ∙ rw (assigned-backup names (cursor names) clash) refl
-statement_at-statement number names ctx Restore tail short allowed clash h = statement_at-assignment names (cursor names) (marker names) tail allowed.cursor.1 allowed.marker.1
-    ∙ rw (assigned-restore names clash) refl
-statement_at-statement number names ctx (Accept a) tail short allowed clash h =
+-- the statement is a test of the input that primitives of the user's spell in another way
+abbrev is_input_test : Stmt → Bool
+is_input_test (Need units) = true
+is_input_test (IfEnd block) = true
+is_input_test _ = false
+
+-- lines of pointers are read so in either way, but tests of the input
+statement_at-pointer : (custom : Bool) (wording : Wording) (statement : Stmt) (tail : List ℕ) → wording.number < 2 ^ 64 → AreAllowed wording.names
+    → DoNotClash wording.names → (custom ≡ true → name_primitives wording.names ≡ false) → (custom ≡ true → is_input_test statement ≡ false)
+    → HasSpelling wording.names statement
+    → statement_at custom wording.names (pointer_then wording statement tail) ≡ (statement, names_context wording.ctx statement, tail)
+statement_at-pointer custom wording Peek tail short allowed clash free kept h = statement_at-assignment custom wording.names (current_unit wording.names) (42 ∷ cursor wording.names) tail (EachLetter-spelling (current_unit wording.names) (EachLetter-identifier (current_unit wording.names) allowed.current_unit)) (refl, allowed.cursor.1)
+    ∙ rw (assigned-peek wording.names (42 ∷ cursor wording.names)) refl
+statement_at-pointer custom wording Skip tail short allowed clash free kept h = statement_at-skip custom wording.names (cursor wording.names) tail allowed.cursor.1
+statement_at-pointer custom wording Backup tail short allowed clash free kept h = statement_at-assignment custom wording.names (marker wording.names) (cursor wording.names) tail allowed.marker.1 allowed.cursor.1
+    ∙ rw (assigned-backup wording.names (cursor wording.names) clash) refl
+statement_at-pointer custom wording Restore tail short allowed clash free kept h = statement_at-assignment custom wording.names (cursor wording.names) (marker wording.names) tail allowed.cursor.1 allowed.marker.1
+    ∙ rw (assigned-restore wording.names clash) refl
+statement_at-pointer custom wording (Accept a) tail short allowed clash free kept h =
     let ha : a < 2 ^ 64 = omega arith in
-    statement_at-assignment names (last_accept names) (decimal a) tail (EachLetter-spelling (last_accept names) (EachLetter-identifier (last_accept names) allowed.last_accept)) (EachLetter-spelling (decimal a) (decimal_identifier a ha))
-    ∙ rw (assigned-accept names a ha clash) refl
-statement_at-statement number names ctx (Set k) tail short allowed clash h =
+    statement_at-assignment custom wording.names (last_accept wording.names) (decimal a) tail (EachLetter-spelling (last_accept wording.names) (EachLetter-identifier (last_accept wording.names) allowed.last_accept)) (EachLetter-spelling (decimal a) (decimal_identifier a ha))
+    ∙ rw (assigned-accept wording.names a ha clash) refl
+statement_at-pointer custom wording (Set k) tail short allowed clash free kept h =
     let hk : k < 2 ^ 64 = omega arith in
-    statement_at-assignment names (register_text names ctx k) (cursor names) tail (register_spelling names (is_context ctx k) k hk allowed) allowed.cursor.1
-    ∙ rw (assigned-set names (is_context ctx k) k hk allowed clash (is_context-true ctx k)) refl
-statement_at-statement number names ctx (Unset k) tail short allowed clash h =
+    statement_at-assignment custom wording.names (register_text wording.names wording.ctx k) (cursor wording.names) tail (register_spelling wording.names (is_context wording.ctx k) k hk allowed) allowed.cursor.1
+    ∙ rw (assigned-set wording.names (is_context wording.ctx k) k hk allowed clash (is_context-true wording.ctx k)) refl
+statement_at-pointer custom wording (Unset k) tail short allowed clash free kept h =
     let hk : k < 2 ^ 64 = omega arith in
-    statement_at-assignment names (register_text names ctx k) (codes "NULL") tail (register_spelling names (is_context ctx k) k hk allowed) (refl, (refl, (refl, (refl, tt))))
-    ∙ rw (assigned-unset names (is_context ctx k) k hk allowed clash (is_context-true ctx k)) refl
-statement_at-statement number names ctx (Copy k j) tail short allowed clash h =
-    let hk : k < 2 ^ 64 = omega arith in
-    let hj : j < 2 ^ 64 = omega arith in
-    statement_at-assignment names (register_text names ctx k) (register_text names ctx j) tail (register_spelling names (is_context ctx k) k hk allowed) (register_spelling names (is_context ctx j) j hj allowed)
-    ∙ rw (assigned-copy names (is_context ctx k) (is_context ctx j) k j hk hj allowed clash (is_context-true ctx k) (is_context-true ctx j)) refl
-statement_at-statement number names ctx (MSet k) tail short allowed clash h =
-    let hk : k < 2 ^ 64 = omega arith in
-    statement_at-call names (append_offset names) (history_text names k) tail allowed.append_offset.1 (history_identifier names k hk allowed)
-    ∙ rw (called-mset names k hk) refl
-statement_at-statement number names ctx (MUnset k) tail short allowed clash h =
-    let hk : k < 2 ^ 64 = omega arith in
-    statement_at-call names (append_negative names) (history_text names k) tail allowed.append_negative.1 (history_identifier names k hk allowed)
-    ∙ rw (called-munset names k hk clash) refl
-statement_at-statement number names ctx (MCopy k j) tail short allowed clash h =
+    statement_at-assignment custom wording.names (register_text wording.names wording.ctx k) (codes "NULL") tail (register_spelling wording.names (is_context wording.ctx k) k hk allowed) (refl, (refl, (refl, (refl, tt))))
+    ∙ rw (assigned-unset wording.names (is_context wording.ctx k) k hk allowed clash (is_context-true wording.ctx k)) refl
+statement_at-pointer custom wording (Copy k j) tail short allowed clash free kept h =
     let hk : k < 2 ^ 64 = omega arith in
     let hj : j < 2 ^ 64 = omega arith in
-    statement_at-assignment names (history_text names k) (history_text names j) tail (EachLetter-spelling (history_text names k) (history_identifier names k hk allowed)) (EachLetter-spelling (history_text names j) (history_identifier names j hj allowed))
-    ∙ rw (assigned-mcopy names k j hk hj allowed clash) refl
-statement_at-statement number names ctx (IfUnit u statement) tail short allowed clash h = statement_at-if names (current_unit names ++ (codes " <= 0x" ++ (hexadecimal u ++ 41 ∷ goto_then number statement tail)))
-    ∙ if_at-unit number names u statement tail short allowed (omega arith) h.1
-statement_at-statement number names ctx (IfAccept a statement) tail short allowed clash h = statement_at-if names (last_accept names ++ (codes " == " ++ (decimal a ++ 41 ∷ goto_then number statement tail)))
-    ∙ if_at-accept number names a statement tail short allowed (omega arith) h.1
-statement_at-statement number names ctx (IfEnd statement) tail short allowed clash h = statement_at-if names (cursor names ++ (codes " >= " ++ (limit names ++ 41 ∷ goto_then number statement tail)))
-    ∙ if_at-end number names statement tail short allowed h
-statement_at-statement number names ctx (State k) tail short allowed clash h = statement_at-call names (set_state names) (decimal k) tail allowed.set_state.1 (decimal_identifier k h)
-    ∙ rw (called-state names k h clash) refl
-statement_at-statement number names ctx (Need k) tail short allowed clash h = statement_at-if names (40 ∷ (limit names ++ (codes " - " ++ (cursor names ++ (codes ") < " ++ (decimal k ++ (codes ") " ++ (refill names ++ 40 ∷ (decimal k ++ (codes ");\n" ++ tail))))))))))
-    ∙ if_at-need names k tail allowed (omega arith)
-statement_at-statement number names ctx (Try statement) tail short allowed clash h = statement_at-if names (refill names ++ (codes "() == 0)" ++ goto_then number statement tail))
-    ∙ if_at-try number names statement tail short allowed h
-statement_at-statement number names ctx (Cond word) tail short allowed clash h =
-    statement_at-call names (set_condition names) (condition_prefix names ++ word) tail allowed.set_condition.1 (EachLetter-append is_in_identifier (condition_prefix names) word (EachLetter-identifier (condition_prefix names) allowed.condition_prefix) (EachLetter-identifier word h))
-    ∙ rw (called-cond names word clash) refl
-statement_at-statement number names ctx (Tag word true k) tail short allowed clash h =
+    statement_at-assignment custom wording.names (register_text wording.names wording.ctx k) (register_text wording.names wording.ctx j) tail (register_spelling wording.names (is_context wording.ctx k) k hk allowed) (register_spelling wording.names (is_context wording.ctx j) j hj allowed)
+    ∙ rw (assigned-copy wording.names (is_context wording.ctx k) (is_context wording.ctx j) k j hk hj allowed clash (is_context-true wording.ctx k) (is_context-true wording.ctx j)) refl
+statement_at-pointer custom wording (MSet k) tail short allowed clash free kept h =
     let hk : k < 2 ^ 64 = omega arith in
-    statement_at-assignment names word (history_text names k) tail (EachLetter-spelling word (EachLetter-identifier word h.0.identifier)) (EachLetter-spelling (history_text names k) (history_identifier names k hk allowed))
-    ∙ rw (assigned-mtag names word k hk clash h.0) refl
-statement_at-statement number names ctx (Tag word false k) tail short allowed clash h =
+    statement_at-named custom wording.names (append_offset wording.names) (history_text wording.names k) tail allowed.append_offset.1 (history_identifier wording.names k hk allowed) (some_history wording.names k allowed) (λ yes. (primitives_free wording.names (free yes)).append_offset)
+    ∙ rw (called-mset wording.names k hk) refl
+statement_at-pointer custom wording (MUnset k) tail short allowed clash free kept h =
     let hk : k < 2 ^ 64 = omega arith in
-    statement_at-assignment names word (register_text names ctx k) tail (EachLetter-spelling word (EachLetter-identifier word h.0.identifier)) (register_spelling names (is_context ctx k) k hk allowed)
-    ∙ rw (assigned-tag names (is_context ctx k) word k hk clash h.0 (is_context-true ctx k)) refl
-statement_at-statement number names ctx (Count k) tail short allowed clash h =
+    statement_at-named custom wording.names (append_negative wording.names) (history_text wording.names k) tail allowed.append_negative.1 (history_identifier wording.names k hk allowed) (some_history wording.names k allowed) (λ yes. (primitives_free wording.names (free yes)).append_negative)
+    ∙ rw (called-munset wording.names k hk clash) refl
+statement_at-pointer custom wording (MCopy k j) tail short allowed clash free kept h =
     let hk : k < 2 ^ 64 = omega arith in
-    statement_at-assignment names (codes "yynmatch") (decimal k) tail (refl, (refl, (refl, (refl, (refl, (refl, (refl, (refl, tt)))))))) (EachLetter-spelling (decimal k) (decimal_identifier k hk))
-    ∙ rw (assigned-count names k hk clash) refl
-statement_at-statement number names ctx (End i k) tail short allowed clash h =
+    let hj : j < 2 ^ 64 = omega arith in
+    statement_at-assignment custom wording.names (history_text wording.names k) (history_text wording.names j) tail (EachLetter-spelling (history_text wording.names k) (history_identifier wording.names k hk allowed)) (EachLetter-spelling (history_text wording.names j) (history_identifier wording.names j hj allowed))
+    ∙ rw (assigned-mcopy wording.names k j hk hj allowed clash) refl
+statement_at-pointer custom wording (IfUnit u statement) tail short allowed clash free kept h = statement_at-if custom wording.names (current_unit wording.names ++ (codes " <= 0x" ++ (hexadecimal u ++ 41 ∷ goto_then wording.number statement tail)))
+    ∙ test_at-sign custom wording.names (current_unit wording.names) 60 (codes "= 0x" ++ (hexadecimal u ++ 41 ∷ goto_then wording.number statement tail)) (EachLetter-spelling (current_unit wording.names) (EachLetter-identifier (current_unit wording.names) allowed.current_unit)) refl
+    ∙ if_at-unit wording.number wording.names u statement tail short allowed (omega arith) h.1
+statement_at-pointer custom wording (IfAccept a statement) tail short allowed clash free kept h = statement_at-if custom wording.names (last_accept wording.names ++ (codes " == " ++ (decimal a ++ 41 ∷ goto_then wording.number statement tail)))
+    ∙ test_at-sign custom wording.names (last_accept wording.names) 61 (codes "= " ++ (decimal a ++ 41 ∷ goto_then wording.number statement tail)) (EachLetter-spelling (last_accept wording.names) (EachLetter-identifier (last_accept wording.names) allowed.last_accept)) refl
+    ∙ if_at-accept wording.number wording.names a statement tail short allowed (omega arith) h.1
+statement_at-pointer true wording (IfEnd statement) tail short allowed clash free kept h = absurd (false≢true (sym (kept refl)))
+statement_at-pointer false wording (IfEnd statement) tail short allowed clash free kept h = statement_at-if false wording.names (cursor wording.names ++ (codes " >= " ++ (limit wording.names ++ 41 ∷ goto_then wording.number statement tail)))
+    ∙ if_at-end wording.number wording.names statement tail short allowed h
+statement_at-pointer custom wording (State k) tail short allowed clash free kept h = statement_at-named custom wording.names (set_state wording.names) (decimal k) tail allowed.set_state.1 (decimal_identifier k h) (some_decimal k h) (λ yes. (primitives_free wording.names (free yes)).set_state)
+    ∙ rw (called-state wording.names k h clash) refl
+statement_at-pointer true wording (Need k) tail short allowed clash free kept h = absurd (false≢true (sym (kept refl)))
+statement_at-pointer false wording (Need k) tail short allowed clash free kept h = statement_at-if false wording.names (40 ∷ (limit wording.names ++ (codes " - " ++ (cursor wording.names ++ (codes ") < " ++ (decimal k ++ (codes ") " ++ (refill wording.names ++ 40 ∷ (decimal k ++ (codes ");\n" ++ tail))))))))))
+    ∙ if_at-need wording.names k tail allowed (omega arith)
+statement_at-pointer custom wording (Try statement) tail short allowed clash free kept h = statement_at-if custom wording.names (refill wording.names ++ (codes "() == 0)" ++ goto_then wording.number statement tail))
+    ∙ test_at-refill custom wording.names (goto_then wording.number statement tail) allowed
+    ∙ if_at-try wording.number wording.names statement tail short allowed h
+statement_at-pointer custom wording (Cond word) tail short allowed clash free kept h =
+    statement_at-named custom wording.names (set_condition wording.names) (condition_prefix wording.names ++ word) tail allowed.set_condition.1 (EachLetter-append is_in_identifier (condition_prefix wording.names) word (EachLetter-identifier (condition_prefix wording.names) allowed.condition_prefix) (EachLetter-identifier word h)) (some_identifier (condition_prefix wording.names) word allowed.condition_prefix) (λ yes. (primitives_free wording.names (free yes)).set_condition)
+    ∙ rw (called-cond wording.names word clash) refl
+statement_at-pointer custom wording (Tag word true k) tail short allowed clash free kept h =
+    let hk : k < 2 ^ 64 = omega arith in
+    statement_at-assignment custom wording.names word (history_text wording.names k) tail (EachLetter-spelling word (EachLetter-identifier word h.0.identifier)) (EachLetter-spelling (history_text wording.names k) (history_identifier wording.names k hk allowed))
+    ∙ rw (assigned-mtag wording.names word k hk clash h.0) refl
+statement_at-pointer custom wording (Tag word false k) tail short allowed clash free kept h =
+    let hk : k < 2 ^ 64 = omega arith in
+    statement_at-assignment custom wording.names word (register_text wording.names wording.ctx k) tail (EachLetter-spelling word (EachLetter-identifier word h.0.identifier)) (register_spelling wording.names (is_context wording.ctx k) k hk allowed)
+    ∙ rw (assigned-tag wording.names (is_context wording.ctx k) word k hk clash h.0 (is_context-true wording.ctx k)) refl
+statement_at-pointer custom wording (Count k) tail short allowed clash free kept h =
+    let hk : k < 2 ^ 64 = omega arith in
+    statement_at-assignment custom wording.names (codes "yynmatch") (decimal k) tail (refl, (refl, (refl, (refl, (refl, (refl, (refl, (refl, tt)))))))) (EachLetter-spelling (decimal k) (decimal_identifier k hk))
+    ∙ rw (assigned-count wording.names k hk clash) refl
+statement_at-pointer custom wording (End i k) tail short allowed clash free kept h =
     let hi : i < 2 ^ 64 = omega arith in
     let hk : k < 2 ^ 64 = omega arith in
     let word : List ℕ = codes "yypmatch[" ++ (decimal i ++ 93 ∷ []) in
     let hw : EachLetter is_in_spelling word = EachLetter-append is_in_spelling (codes "yypmatch[") (decimal i ++ 93 ∷ []) (refl, (refl, (refl, (refl, (refl, (refl, (refl, (refl, (refl, tt))))))))) (EachLetter-append is_in_spelling (decimal i) (93 ∷ []) (EachLetter-spelling (decimal i) (decimal_identifier i hi)) (refl, tt)) in
-    let regroup : statement_then number names ctx (End i k) tail ≡ 9 ∷ (word ++ 32 ∷ 61 ∷ 32 ∷ (register_text names ctx k ++ 59 ∷ 10 ∷ tail)) = ap (λ (l : List ℕ). codes "\tyypmatch[" ++ l) (sym (append_assoc (decimal i) (93 ∷ []) (32 ∷ 61 ∷ 32 ∷ (register_text names ctx k ++ 59 ∷ 10 ∷ tail)))) in
-    ap (statement_at names) regroup
-    ∙ statement_at-assignment names word (register_text names ctx k) tail hw (register_spelling names (is_context ctx k) k hk allowed)
-    ∙ rw (assigned-end names (is_context ctx k) i k hi hk clash (is_context-true ctx k)) refl
-statement_at-statement number names ctx (Back k) tail short allowed clash h =
+    let regroup : pointer_then wording (End i k) tail ≡ 9 ∷ (word ++ 32 ∷ 61 ∷ 32 ∷ (register_text wording.names wording.ctx k ++ 59 ∷ 10 ∷ tail)) = ap (λ (l : List ℕ). codes "\tyypmatch[" ++ l) (sym (append_assoc (decimal i) (93 ∷ []) (32 ∷ 61 ∷ 32 ∷ (register_text wording.names wording.ctx k ++ 59 ∷ 10 ∷ tail)))) in
+    ap (statement_at custom wording.names) regroup
+    ∙ statement_at-assignment custom wording.names word (register_text wording.names wording.ctx k) tail hw (register_spelling wording.names (is_context wording.ctx k) k hk allowed)
+    ∙ rw (assigned-end wording.names (is_context wording.ctx k) i k hi hk clash (is_context-true wording.ctx k)) refl
+statement_at-pointer custom wording (Back k) tail short allowed clash free kept h =
     let hk : k < 2 ^ 64 = omega arith in
-    statement_at-assignment names (cursor names) (register_text names ctx k) tail allowed.cursor.1 (register_spelling names (is_context ctx k) k hk allowed)
-    ∙ rw (assigned-back names (is_context ctx k) k hk clash (is_context-true ctx k)) refl
-statement_at-statement number names ctx (Goto statement) tail short allowed clash h = statement_at-goto names 121 (codes "y" ++ (decimal number ++ 95 ∷ (decimal statement ++ 59 ∷ 10 ∷ tail))) refl refl
-    ∙ goto_at-goto number names statement tail short h
-statement_at-statement number names ctx Leave tail short allowed clash h = statement_at-goto names 121 (codes "y" ++ (decimal number ++ (codes "_none;\n" ++ tail))) refl refl
-    ∙ goto_at-leave number names tail short
-statement_at-statement number names ctx (Code k l word) tail short allowed clash h =
-    statement_at-code names l (decimal k ++ 32 ∷ (decimal (length word) ++ (codes "*/" ++ (word ++ 10 ∷ tail)))) h.1
+    statement_at-assignment custom wording.names (cursor wording.names) (register_text wording.names wording.ctx k) tail allowed.cursor.1 (register_spelling wording.names (is_context wording.ctx k) k hk allowed)
+    ∙ rw (assigned-back wording.names (is_context wording.ctx k) k hk clash (is_context-true wording.ctx k)) refl
+statement_at-pointer custom wording (Goto statement) tail short allowed clash free kept h = statement_at-goto custom wording.names 121 (codes "y" ++ (decimal wording.number ++ 95 ∷ (decimal statement ++ 59 ∷ 10 ∷ tail))) refl refl
+    ∙ goto_at-goto wording.number wording.names statement tail short h
+statement_at-pointer custom wording Leave tail short allowed clash free kept h = statement_at-goto custom wording.names 121 (codes "y" ++ (decimal wording.number ++ (codes "_none;\n" ++ tail))) refl refl
+    ∙ goto_at-leave wording.number wording.names tail short
+statement_at-pointer custom wording (Code k l word) tail short allowed clash free kept h =
+    statement_at-code custom wording.names l (decimal k ++ 32 ∷ (decimal (length word) ++ (codes "*/" ++ (word ++ 10 ∷ tail)))) h.1
     ∙ code_at-code l k word tail (omega arith) (omega arith)
-statement_at-statement number names ctx (Jump word k) tail short allowed clash h =
-    statement_at-jump names (label_prefix names ++ word) (codes "; /* " ++ (decimal k ++ (codes " */\n" ++ tail))) (IsIdentifier-append (label_prefix names) word allowed.label_prefix (EachLetter-identifier word h.0))
-    ∙ goto_at-jump names word k tail allowed (EachLetter-identifier word h.0) (omega arith)
+statement_at-pointer custom wording (Jump word k) tail short allowed clash free kept h =
+    statement_at-jump custom wording.names (label_prefix wording.names ++ word) (codes "; /* " ++ (decimal k ++ (codes " */\n" ++ tail))) (IsIdentifier-append (label_prefix wording.names) word allowed.label_prefix (EachLetter-identifier word h.0))
+    ∙ goto_at-jump wording.names word k tail allowed (EachLetter-identifier word h.0) (omega arith)
+
+-- ---- primitives of the user's
+
+statement_at-custom : (wording : Wording) (statement : Stmt) (tail : List ℕ) → wording.number < 2 ^ 64 → AreAllowed wording.names
+    → DoNotClash wording.names → name_primitives wording.names ≡ false → HasSpelling wording.names statement
+    → statement_at true wording.names (custom_then wording statement tail) ≡ (statement, names_context wording.ctx statement, tail)
+statement_at-custom wording Peek tail short allowed clash free h =
+    statement_at-assignment true wording.names (current_unit wording.names) (codes "YYPEEK()") tail (EachLetter-spelling (current_unit wording.names) (EachLetter-identifier (current_unit wording.names) allowed.current_unit))
+    (refl, (refl, (refl, (refl, (refl, (refl, (refl, (refl, tt))))))))
+    ∙ rw (assigned-peek wording.names (codes "YYPEEK()")) refl
+statement_at-custom wording Skip tail short allowed clash free h = statement_at-skip_call wording.names tail
+statement_at-custom wording Backup tail short allowed clash free h = statement_at-backup_call wording.names tail
+statement_at-custom wording Restore tail short allowed clash free h = statement_at-restore_call wording.names tail
+statement_at-custom wording (Set k) tail short allowed clash free h =
+    let hk : k < 2 ^ 64 = omega arith in
+    statement_at-set_call wording.names (is_context wording.ctx k) k tail hk allowed clash (is_context-true wording.ctx k)
+statement_at-custom wording (Unset k) tail short allowed clash free h =
+    let hk : k < 2 ^ 64 = omega arith in
+    statement_at-unset_call wording.names (is_context wording.ctx k) k tail hk allowed clash (is_context-true wording.ctx k)
+statement_at-custom wording (Back k) tail short allowed clash free h =
+    let hk : k < 2 ^ 64 = omega arith in
+    statement_at-back_call wording.names (is_context wording.ctx k) k tail hk allowed clash (is_context-true wording.ctx k)
+statement_at-custom wording (Need k) tail short allowed clash free h =
+    statement_at-if true wording.names (codes "YYLESSTHAN(" ++ (decimal k ++ (codes ")) " ++ (refill wording.names ++ 40 ∷ (decimal k ++ (codes ");\n" ++ tail))))))
+    ∙ primitive_if_at-need wording.names k tail allowed (omega arith)
+statement_at-custom wording (IfEnd block) tail short allowed clash free h =
+    statement_at-if true wording.names (codes "YYLESSTHAN(1))" ++ goto_then wording.number block tail)
+    ∙ primitive_if_at-end wording.number wording.names block tail short h
+statement_at-custom wording (Tag word true k) tail short allowed clash free h = statement_at-pointer true wording (Tag word true k) tail short allowed clash (λ yes. free) (λ yes. refl) h
+statement_at-custom wording (Tag word false k) tail short allowed clash free h = statement_at-pointer true wording (Tag word false k) tail short allowed clash (λ yes. free) (λ yes. refl) h
+statement_at-custom wording statement tail short allowed clash free h = statement_at-pointer true wording statement tail short allowed clash (λ yes. free) (λ yes. refl) h
+
+-- ---- both
+
+statement_at-line : (custom : Bool) (wording : Wording) (statement : Stmt) (tail : List ℕ) → wording.number < 2 ^ 64 → AreAllowed wording.names
+    → DoNotClash wording.names → (custom ≡ true → name_primitives wording.names ≡ false) → HasSpelling wording.names statement
+    → statement_at custom wording.names (line_by custom wording statement tail) ≡ (statement, names_context wording.ctx statement, tail)
+statement_at-line false wording statement tail short allowed clash free h =
+    statement_at-pointer false wording statement tail short allowed clash free (λ yes. absurd (false≢true yes)) h
+statement_at-line true wording statement tail short allowed clash free h = statement_at-custom wording statement tail short allowed clash (free refl) h
+
+pub statement_at-statement : (wording : Wording) (statement : Stmt) (tail : List ℕ) → wording.number < 2 ^ 64 → AreAllowed wording.names
+    → DoNotClash wording.names → (wording.custom ≡ true → name_primitives wording.names ≡ false) → HasSpelling wording.names statement
+    → statement_at wording.custom wording.names (statement_then wording statement tail) ≡ (statement, names_context wording.ctx statement, tail)
+statement_at-statement wording statement tail short allowed clash free h = statement_at-line wording.custom wording statement tail short allowed clash free h

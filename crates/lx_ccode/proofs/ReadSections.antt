@@ -6,6 +6,7 @@ use Rattle.std.specs.Fmt.{decimal}
 use Rattle.std.specs.Prelude.{◌==◌, ◌||◌, codes, if◌then◌else◌}
 use Rattle.lx_base.specs.Letters.{EachLetter, IsIdentifier, begins_identifier, is_digit, is_in_identifier, is_in_spelling, after_letters, front_letters, is_in_type}
 use Rattle.lx_base.specs.Names.{AreAllowed, DoNotClash, EachIsShort, IsWords, Spellings, condition_prefix, current_unit, get_condition, get_state, label_prefix, last_accept, unit_type}
+use Rattle.lx_base.specs.Names.{name_primitives}
 use Rattle.lx_base.specs.Text.{joined}
 use Rattle.lx_ccode.specs.declared.piece.CodeBlock.{CodeBlock}
 use Rattle.lx_ccode.specs.declared.piece.CondCase.{CondCase}
@@ -15,35 +16,46 @@ use Rattle.lx_ccode.specs.declared.piece.Stmt.{Stmt}
 use Rattle.lx_ccode.specs.declared.piece.Stmt.TheVariants.{Code, Tag}
 use Rattle.lx_ccode.specs.Reading.{begins_statement, block_at, blocks_at, byte_at, code_block_at, cond_cases_at, cond_switch_at, declarations_at, eof_at, is_tab, line_at, names_at, state_cases_at, state_switch_at, statements_at}
 use Rattle.lx_ccode.specs.Statements.{statement_count}
-use Rattle.lx_ccode.specs.Text.{block_then, blocks_then, cond_cases_then, cond_switch_then, declarations_then, eof_then, goto_then, label_then, line_then, names_then, start_then, state_cases_then, state_switch_then, statement_then, statements_then}
+use Rattle.lx_ccode.specs.Text.{block_then, blocks_then, cond_cases_then, cond_switch_then, declarations_then, eof_then, goto_then, label_then, line_by, line_then, names_then, start_then, state_cases_then, state_switch_then, statement_then, statements_then}
 use Rattle.lx_ccode.specs.Validity.{EachBlockHasSpelling, EachHasSpelling, IsLabel, IsLine}
-use Rattle.lx_ccode.proofs.ReadLines.{goto_block-goto, goto_tail-goto, identifier_no_sign, mark_at-line, names_context, statement_at-statement}
+use Rattle.lx_ccode.specs.Wording.{Wording}
+use Rattle.lx_ccode.proofs.Jumps.{goto_block-goto, goto_tail-goto}
+use Rattle.lx_ccode.proofs.ReadLines.{identifier_no_sign, mark_at-line, names_context, statement_at-statement}
 use Rattle.lx_ccode.proofs.Words.{EachLetter-append, EachLetter-from, EachLetter-identifier, behind-stop, behind-word, decimal_digits, decimal_first, decimal_identifier, decimal_value, drop-front, front-stop, front-word, is_false, is_in_type-identifier, or-left, take-front}
 
 -- ---- statements
 
-pub begins_statement-statement : (number : ℕ) (names : Spellings) (ctx : Bool) (statement : Stmt) (tail : List ℕ)
-    → begins_statement (statement_then number names ctx statement tail) ≡ true
-begins_statement-statement number names ctx (Tag word true k) tail = refl
-begins_statement-statement number names ctx (Tag word false k) tail = refl
-begins_statement-statement number names ctx (Code k None word) tail = refl
-begins_statement-statement number names ctx (Code k (Some l) word) tail = refl
-begins_statement-statement number names ctx _ tail = refl
+begins_statement-line : (custom : Bool) (wording : Wording) (statement : Stmt) (tail : List ℕ)
+    → begins_statement (line_by custom wording statement tail) ≡ true
+begins_statement-line false wording (Tag word true k) tail = refl
+begins_statement-line false wording (Tag word false k) tail = refl
+begins_statement-line false wording (Code k None word) tail = refl
+begins_statement-line false wording (Code k (Some l) word) tail = refl
+begins_statement-line false wording _ tail = refl
+begins_statement-line true wording (Tag word true k) tail = refl
+begins_statement-line true wording (Tag word false k) tail = refl
+begins_statement-line true wording (Code k None word) tail = refl
+begins_statement-line true wording (Code k (Some l) word) tail = refl
+begins_statement-line true wording _ tail = refl
+
+pub begins_statement-statement : (wording : Wording) (statement : Stmt) (tail : List ℕ)
+    → begins_statement (statement_then wording statement tail) ≡ true
+begins_statement-statement wording statement tail = begins_statement-line wording.custom wording statement tail
 
 abbrev pub any_names_context : Bool → List Stmt → Bool
 any_names_context ctx [] = false
 any_names_context ctx (s ∷ statements) = names_context ctx s || any_names_context ctx statements
 
-statements_at-statements : (fuel number : ℕ) (names : Spellings) (ctx : Bool) (statements : List Stmt) (tail : List ℕ) → number < 2 ^ 64
-    → AreAllowed names → DoNotClash names → EachHasSpelling names statements → length statements ≤ fuel → begins_statement tail ≡ false
-    → statements_at fuel names (statements_then number names ctx statements tail) ≡ (statements, any_names_context ctx statements, tail)
+statements_at-statements : (fuel : ℕ) (wording : Wording) (statements : List Stmt) (tail : List ℕ) → wording.number < 2 ^ 64
+    → AreAllowed wording.names → DoNotClash wording.names → (wording.custom ≡ true → name_primitives wording.names ≡ false) → EachHasSpelling wording.names statements → length statements ≤ fuel → begins_statement tail ≡ false
+    → statements_at fuel wording.custom wording.names (statements_then wording statements tail) ≡ (statements, any_names_context wording.ctx statements, tail)
 unfolding statements_at
-statements_at-statements zero number names ctx [] tail short allowed clash spelled le q = refl
-statements_at-statements (suc fuel) number names ctx [] tail short allowed clash spelled le q = rw q refl
-statements_at-statements zero number names ctx (s ∷ statements) tail short allowed clash spelled le q = absurd (omega arith)
-statements_at-statements (suc fuel) number names ctx (s ∷ statements) tail short allowed clash spelled le q =
-    let rest : statements_at fuel names (statements_then number names ctx statements tail) ≡ (statements, any_names_context ctx statements, tail) = statements_at-statements fuel number names ctx statements tail short allowed clash spelled.1 (omega arith) q in
-    rw (begins_statement-statement number names ctx s (statements_then number names ctx statements tail), statement_at-statement number names ctx s (statements_then number names ctx statements tail) short allowed clash spelled.0, rest) refl
+statements_at-statements zero wording [] tail short allowed clash free spelled le q = refl
+statements_at-statements (suc fuel) wording [] tail short allowed clash free spelled le q = rw q refl
+statements_at-statements zero wording (s ∷ statements) tail short allowed clash free spelled le q = absurd (omega arith)
+statements_at-statements (suc fuel) wording (s ∷ statements) tail short allowed clash free spelled le q =
+    let rest : statements_at fuel wording.custom wording.names (statements_then wording statements tail) ≡ (statements, any_names_context wording.ctx statements, tail) = statements_at-statements fuel wording statements tail short allowed clash free spelled.1 (omega arith) q in
+    rw (begins_statement-statement wording s (statements_then wording statements tail), statement_at-statement wording s (statements_then wording statements tail) short allowed clash free spelled.0, rest) refl
 
 -- ---- blocks
 
@@ -60,32 +72,32 @@ begins_statement-label names None tail allowed q = q
 begins_statement-label names (Some word) tail allowed q = ap begins_statement (append_assoc (label_prefix names) word (58 ∷ 10 ∷ tail))
     ∙ begins_statement-word (label_prefix names) (word ++ 58 ∷ 10 ∷ tail) allowed.label_prefix
 
-pub begins_statement-blocks : (number : ℕ) (names : Spellings) (ctx : Bool) (place : ℕ) (blocks : List CodeBlock) (tail : List ℕ) → AreAllowed names
-    → begins_statement tail ≡ false → begins_statement (blocks_then number names ctx place blocks tail) ≡ false
-begins_statement-blocks number names ctx place [] tail allowed q = q
-begins_statement-blocks number names ctx place (b ∷ blocks) tail allowed q = begins_statement-label names b.cond (block_then number place (joined (codes ":\n" ∷ []) (statements_then number names ctx b.stmts (blocks_then number names ctx (suc place) blocks tail)))) allowed refl
+pub begins_statement-blocks : (wording : Wording) (place : ℕ) (blocks : List CodeBlock) (tail : List ℕ) → AreAllowed wording.names
+    → begins_statement tail ≡ false → begins_statement (blocks_then wording place blocks tail) ≡ false
+begins_statement-blocks wording place [] tail allowed q = q
+begins_statement-blocks wording place (b ∷ blocks) tail allowed q = begins_statement-label wording.names b.cond (block_then wording.number place (joined (codes ":\n" ∷ []) (statements_then wording b.stmts (blocks_then wording (suc place) blocks tail)))) allowed refl
 
-begins_statement-statements : (number : ℕ) (names : Spellings) (ctx : Bool) (statements : List Stmt) (tail : List ℕ) → 0 < length statements
-    → begins_statement (statements_then number names ctx statements tail) ≡ true
-begins_statement-statements number names ctx [] tail h = absurd (omega arith)
-begins_statement-statements number names ctx (s ∷ statements) tail h = begins_statement-statement number names ctx s (statements_then number names ctx statements tail)
+begins_statement-statements : (wording : Wording) (statements : List Stmt) (tail : List ℕ) → 0 < length statements
+    → begins_statement (statements_then wording statements tail) ≡ true
+begins_statement-statements wording [] tail h = absurd (omega arith)
+begins_statement-statements wording (s ∷ statements) tail h = begins_statement-statement wording s (statements_then wording statements tail)
 
 -- a line `yyN_S:`
 behind-block : (number place : ℕ) (tail : List ℕ) → number < 2 ^ 64 → place < 2 ^ 64
     → after_letters is_in_identifier (block_then number place (58 ∷ tail)) ≡ 58 ∷ tail
 behind-block number place tail h k = rw (behind-word is_in_identifier (decimal number) (95 ∷ (decimal place ++ 58 ∷ tail)) (decimal_identifier number h), behind-stop is_in_identifier (decimal place) 58 tail (decimal_identifier place k) refl) refl
 
-code_block_at-block : (fuel number : ℕ) (names : Spellings) (ctx : Bool) (place : ℕ) (label : Option (List ℕ)) (statements : List Stmt) (tail : List ℕ)
-    → number < 2 ^ 64 → place < 2 ^ 64 → AreAllowed names → DoNotClash names
-    → 0 < length statements → IsLabel label → EachHasSpelling names statements → length statements ≤ fuel → begins_statement tail ≡ false
-    → code_block_at fuel names (label_then names label (block_then number place (codes ":\n" ++ statements_then number names ctx statements tail))) ≡ (record { cond = label; stmts = statements }, any_names_context ctx statements, tail)
+code_block_at-block : (fuel : ℕ) (wording : Wording) (place : ℕ) (label : Option (List ℕ)) (statements : List Stmt) (tail : List ℕ)
+    → wording.number < 2 ^ 64 → place < 2 ^ 64 → AreAllowed wording.names → DoNotClash wording.names → (wording.custom ≡ true → name_primitives wording.names ≡ false)
+    → 0 < length statements → IsLabel label → EachHasSpelling wording.names statements → length statements ≤ fuel → begins_statement tail ≡ false
+    → code_block_at fuel wording.custom wording.names (label_then wording.names label (block_then wording.number place (codes ":\n" ++ statements_then wording statements tail))) ≡ (record { cond = label; stmts = statements }, any_names_context wording.ctx statements, tail)
 unfolding code_block_at
-code_block_at-block fuel number names ctx place None statements tail short hs allowed clash ne hl spelled le q =
-    rw (behind-block number place (10 ∷ statements_then number names ctx statements tail) short hs, begins_statement-statements number names ctx statements tail ne, statements_at-statements fuel number names ctx statements tail short allowed clash spelled le q) refl
-code_block_at-block fuel number names ctx place (Some v) statements tail short hs allowed clash ne hl spelled le q =
-    let hv : EachLetter is_in_identifier (label_prefix names ++ v) = EachLetter-append is_in_identifier (label_prefix names) v (EachLetter-identifier (label_prefix names) allowed.label_prefix) (EachLetter-identifier v hl) in
-    let t : List ℕ = block_then number place (codes ":\n" ++ statements_then number names ctx statements tail) in
-    rw (behind-stop is_in_identifier (label_prefix names ++ v) 58 (10 ∷ t) hv refl, front-stop is_in_identifier (label_prefix names ++ v) 58 (10 ∷ t) hv refl, behind-block number place (10 ∷ statements_then number names ctx statements tail) short hs, drop-front (label_prefix names) v, statements_at-statements fuel number names ctx statements tail short allowed clash spelled le q) refl
+code_block_at-block fuel wording place None statements tail short hs allowed clash free ne hl spelled le q =
+    rw (behind-block wording.number place (10 ∷ statements_then wording statements tail) short hs, begins_statement-statements wording statements tail ne, statements_at-statements fuel wording statements tail short allowed clash free spelled le q) refl
+code_block_at-block fuel wording place (Some v) statements tail short hs allowed clash free ne hl spelled le q =
+    let hv : EachLetter is_in_identifier (label_prefix wording.names ++ v) = EachLetter-append is_in_identifier (label_prefix wording.names) v (EachLetter-identifier (label_prefix wording.names) allowed.label_prefix) (EachLetter-identifier v hl) in
+    let t : List ℕ = block_then wording.number place (codes ":\n" ++ statements_then wording statements tail) in
+    rw (behind-stop is_in_identifier (label_prefix wording.names ++ v) 58 (10 ∷ t) hv refl, front-stop is_in_identifier (label_prefix wording.names ++ v) 58 (10 ∷ t) hv refl, behind-block wording.number place (10 ∷ statements_then wording statements tail) short hs, drop-front (label_prefix wording.names) v, statements_at-statements fuel wording statements tail short allowed clash free spelled le q) refl
 
 -- the first line of a block has a colon and a line feed
 first_line : (number : ℕ) (names : Spellings) (place : ℕ) (label : Option (List ℕ)) (tail : List ℕ) → number < 2 ^ 64 → place < 2 ^ 64
@@ -100,21 +112,21 @@ abbrev pub blocks_name_context : Bool → List CodeBlock → Bool
 blocks_name_context ctx [] = false
 blocks_name_context ctx (b ∷ blocks) = any_names_context ctx b.stmts || blocks_name_context ctx blocks
 
-pub blocks_at-blocks : (k fuel number : ℕ) (names : Spellings) (ctx : Bool) (place : ℕ) (blocks : List CodeBlock) (tail y : List ℕ) → number < 2 ^ 64
-    → place + length blocks < 2 ^ 64 → AreAllowed names → DoNotClash names
-    → EachBlockHasSpelling names blocks → length blocks ≤ k → statement_count blocks ≤ fuel → begins_statement tail ≡ false
+pub blocks_at-blocks : (k fuel : ℕ) (wording : Wording) (place : ℕ) (blocks : List CodeBlock) (tail y : List ℕ) → wording.number < 2 ^ 64
+    → place + length blocks < 2 ^ 64 → AreAllowed wording.names → DoNotClash wording.names → (wording.custom ≡ true → name_primitives wording.names ≡ false)
+    → EachBlockHasSpelling wording.names blocks → length blocks ≤ k → statement_count blocks ≤ fuel → begins_statement tail ≡ false
     → after_letters is_in_identifier tail ≡ codes ":;" ++ y
-    → blocks_at k fuel names (blocks_then number names ctx place blocks tail) ≡ (blocks, blocks_name_context ctx blocks, tail)
+    → blocks_at k fuel wording.custom wording.names (blocks_then wording place blocks tail) ≡ (blocks, blocks_name_context wording.ctx blocks, tail)
 unfolding blocks_at
-blocks_at-blocks zero fuel number names ctx place [] tail y short hs allowed clash spelled le lc q e = refl
-blocks_at-blocks (suc k) fuel number names ctx place [] tail y short hs allowed clash spelled le lc q e = rw e refl
-blocks_at-blocks zero fuel number names ctx place (b ∷ blocks) tail y short hs allowed clash spelled le lc q e = absurd (omega arith)
-blocks_at-blocks (suc k) fuel number names ctx place (b ∷ blocks) tail y short hs allowed clash spelled le lc q e =
-    let rest : blocks_at k fuel names (blocks_then number names ctx (suc place) blocks tail) ≡ (blocks, blocks_name_context ctx blocks, tail) = blocks_at-blocks k fuel number names ctx (suc place) blocks tail y short (omega arith) allowed clash spelled.1 (omega arith) (omega arith) q e in
+blocks_at-blocks zero fuel wording place [] tail y short hs allowed clash free spelled le lc q e = refl
+blocks_at-blocks (suc k) fuel wording place [] tail y short hs allowed clash free spelled le lc q e = rw e refl
+blocks_at-blocks zero fuel wording place (b ∷ blocks) tail y short hs allowed clash free spelled le lc q e = absurd (omega arith)
+blocks_at-blocks (suc k) fuel wording place (b ∷ blocks) tail y short hs allowed clash free spelled le lc q e =
+    let rest : blocks_at k fuel wording.custom wording.names (blocks_then wording (suc place) blocks tail) ≡ (blocks, blocks_name_context wording.ctx blocks, tail) = blocks_at-blocks k fuel wording (suc place) blocks tail y short (omega arith) allowed clash free spelled.1 (omega arith) (omega arith) q e in
     let small : place < 2 ^ 64 = omega arith in
     let few : length b.stmts ≤ fuel = omega arith in
-    let others : List ℕ = blocks_then number names ctx (suc place) blocks tail in
-    rw (first_line number names place b.cond (statements_then number names ctx b.stmts others) short small allowed spelled.0.1, code_block_at-block fuel number names ctx place b.cond b.stmts others short small allowed clash spelled.0.0 spelled.0.1 spelled.0.2 few (begins_statement-blocks number names ctx (suc place) blocks tail allowed q), rest) refl
+    let others : List ℕ = blocks_then wording (suc place) blocks tail in
+    rw (first_line wording.number wording.names place b.cond (statements_then wording b.stmts others) short small allowed spelled.0.1, code_block_at-block fuel wording place b.cond b.stmts others short small allowed clash free spelled.0.0 spelled.0.1 spelled.0.2 few (begins_statement-blocks wording (suc place) blocks tail allowed q), rest) refl
 
 -- ---- the names line
 

@@ -9,15 +9,19 @@ use Rattle.lx_base.specs.Letters.{IsIdentifier, is_digit, is_in_identifier}
 use Rattle.lx_base.specs.Names.{Spellings}
 use Rattle.lx_ccode.specs.declared.piece.CodeBlock.{CodeBlock}
 use Rattle.lx_ccode.specs.declared.piece.CondCase.{CondCase}
+use Rattle.lx_ccode.specs.declared.piece.Head.{Head}
 use Rattle.lx_ccode.specs.declared.piece.Piece.{Piece}
 use Rattle.lx_ccode.specs.declared.piece.StateCase.{StateCase}
 use Rattle.lx_ccode.specs.declared.piece.Stmt.{Stmt}
 use Rattle.lx_ccode.specs.Front.{BeginsWithPiece}
+use Rattle.lx_ccode.specs.Heads.{head_then}
 use Rattle.lx_ccode.specs.Reading.{begins_statement, block_at, byte_at, is_tab, piece_at, reading}
 use Rattle.lx_ccode.specs.Statements.{all_statements, statement_count, has_register_one}
 use Rattle.lx_ccode.specs.Text.{block_then, blocks_then, cond_switch_then, declarations_then, eof_then, label_then, line_then, names_then, piece_text, piece_then, state_switch_then, statements_then}
-use Rattle.lx_ccode.specs.Validity.{EachBlockHasSpelling, IsValid, labels}
+use Rattle.lx_ccode.specs.Validity.{EachBlockHasSpelling, IsLong, IsShort, IsValid, labels}
+use Rattle.lx_ccode.specs.Wording.{Wording, wording_of}
 use Rattle.lx_ccode.proofs.Lengths.{case_count, list_sizes, list_sizes-length}
+use Rattle.lx_ccode.proofs.ReadHeads.{HasNumbers, head_at-head}
 use Rattle.lx_ccode.proofs.ReadLines.{names_context, names_context-with, names_context-without}
 use Rattle.lx_ccode.proofs.ReadSections.{AreCases, AreConds, AreStates, IsEof, NoDeclarations-states, any_names_context, begins_statement-blocks, blocks_at-blocks, blocks_name_context, cond_switch_at-switch, declarations_at-declarations, eof_at-eof, is_tab-conds, is_tab-statement, line_at-line, names_at-seventeen, state_switch_at-switch}
 use Rattle.lx_ccode.proofs.Tails.{piece_text-append}
@@ -99,21 +103,28 @@ statement_count-blocks names (b ∷ blocks) spelled =
     omega arith
 
 -- without a condition no block has a label, so that block 0 begins with its own line
-first_block_number : (number : ℕ) (names : Spellings) (ctx : Bool) (blocks : List CodeBlock) (tail : List ℕ) → number < 2 ^ 64 → 0 < length blocks
-    → length (labels blocks) ≡ 0 → is_digit (byte_at (block_at (blocks_then number names ctx 0 blocks tail)) 0) ≡ true
-first_block_number number names ctx [] tail short h e = absurd (omega arith)
-first_block_number number names ctx (b ∷ blocks) tail short h e = by_label b.cond refl e where
+first_block_number : (wording : Wording) (blocks : List CodeBlock) (tail : List ℕ) → wording.number < 2 ^ 64 → 0 < length blocks
+    → length (labels blocks) ≡ 0 → is_digit (byte_at (block_at (blocks_then wording 0 blocks tail)) 0) ≡ true
+first_block_number wording [] tail short h e = absurd (omega arith)
+first_block_number wording (b ∷ blocks) tail short h e = by_label b.cond refl e where
   rest : List ℕ
-  rest = codes ":\n" ++ statements_then number names ctx b.stmts (blocks_then number names ctx 1 blocks tail)
+  rest = codes ":\n" ++ statements_then wording b.stmts (blocks_then wording 1 blocks tail)
 
   by_label : (label : Option (List ℕ)) → b.cond ≡ label → length (labels (b ∷ blocks)) ≡ 0
-      → is_digit (byte_at (block_at (label_then names b.cond (block_then number 0 rest))) 0) ≡ true
-  by_label None q k = rw (q, behind-stop is_digit (decimal number) 95 (decimal 0 ++ rest) (decimal_digits number short) refl) (decimal_first 0 rest (omega arith))
+      → is_digit (byte_at (block_at (label_then wording.names b.cond (block_then wording.number 0 rest))) 0) ≡ true
+  by_label None q k = rw (q, behind-stop is_digit (decimal wording.number) 95 (decimal 0 ++ rest) (decimal_digits wording.number short) refl) (decimal_first 0 rest (omega arith))
   by_label (Some word) q k = absurd (omega (arith, rw q at k))
 
 length-conds : (conds : List CondCase) → length (map (λ c. c.cond) conds) ≡ length conds
 length-conds [] = refl
 length-conds (c ∷ conds) = ap suc (length-conds conds)
+
+numbers_of : (head : Option Head) → IfSome head (λ head. IsShort head.regs × IsShort head.mregs × IsLong head.states) → IfSome head HasNumbers
+numbers_of None h = tt
+numbers_of (Some head) h =
+    let regs : head.regs < 2 ^ 32 = h.0 in
+    let mregs : head.mregs < 2 ^ 32 = h.1 in
+    (omega (arith, regs), omega (arith, mregs), h.2)
 
 pub reading-piece : (fuel : ℕ) (piece : Piece) (tail : List ℕ) → IsValid piece → list_sizes piece ≤ fuel
     → reading fuel (piece_then piece tail) ≡ (piece, tail)
@@ -127,8 +138,8 @@ reading-piece fuel piece tail v le =
     let end : List ℕ = codes "/*!end:re2c*/" ++ tail in
     let none : List ℕ = codes "_none:;\n}\n" ++ line_then piece.line end in
     let joined-append : List ℕ = codes "yy" ++ (decimal piece.number ++ none) in
-    let blocks : List ℕ = blocks_then piece.number piece.names piece.ctx 0 piece.blocks joined-append in
-    let is_no_digit : begins_statement blocks ≡ false = begins_statement-blocks piece.number piece.names piece.ctx 0 piece.blocks joined-append v.names refl in
+    let blocks : List ℕ = blocks_then (wording_of piece) 0 piece.blocks joined-append in
+    let is_no_digit : begins_statement blocks ≡ false = begins_statement-blocks (wording_of piece) 0 piece.blocks joined-append v.names refl in
     let conds : List ℕ = cond_switch_then piece.number piece.names piece.conds blocks in
     let tab : is_tab conds ≡ false = is_tab-conds piece.number piece.names piece.conds blocks (is_tab-statement blocks is_no_digit) in
     let states : List ℕ = state_switch_then piece.number piece.names piece.conds piece.states conds in
@@ -136,20 +147,24 @@ reading-piece fuel piece tail v le =
     let names : List ℕ = names_then piece.names (codes "*/\n{\n" ++ declares) in
     let eof : List ℕ = eof_then piece.eof names in
     let unit : List ℕ = codes " " ++ eof in
+    let spelled : List ℕ = codes "/*!names:re2c " ++ (decimal piece.unit ++ unit) in
+    let head : List ℕ = head_then piece.head spelled in
     let few_conds : length piece.conds ≤ fuel = omega arith in
-    let numbered : length piece.conds ≡ 0 → is_digit (byte_at (block_at blocks) 0) ≡ true = (λ (e : length piece.conds ≡ 0). first_block_number piece.number piece.names piece.ctx piece.blocks joined-append short v.blocks (sym (ap length v.conds) ∙ length-conds piece.conds ∙ e)) in
+    let numbered : length piece.conds ≡ 0 → is_digit (byte_at (block_at blocks) 0) ≡ true = (λ (e : length piece.conds ≡ 0). first_block_number (wording_of piece) piece.blocks joined-append short v.blocks (sym (ap length v.conds) ∙ length-conds piece.conds ∙ e)) in
     let l0 = line_at-line piece.line end v.range.line refl in
-    let b0 = blocks_at-blocks fuel fuel piece.number piece.names piece.ctx 0 piece.blocks joined-append (codes "\n}\n" ++ line_then piece.line end) short small v.names v.names_differ v.spelled (omega arith) (omega arith) refl (behind-word is_in_identifier (decimal piece.number) none (decimal_identifier piece.number short)) in
+    let b0 = blocks_at-blocks fuel fuel (wording_of piece) 0 piece.blocks joined-append (codes "\n}\n" ++ line_then piece.line end) short small v.names v.names_differ v.no_primitive v.spelled (omega arith) (omega arith) refl (behind-word is_in_identifier (decimal piece.number) none (decimal_identifier piece.number short)) in
     let c0 = cond_switch_at-switch fuel piece.number piece.names piece.conds blocks short v.names (AreConds-from piece.conds v.range.conds) few_conds numbered in
     let s0 = state_switch_at-switch fuel piece.number piece.names piece.conds piece.states conds short v.names (AreStates-from fuel piece.states (omega arith) v.range.states) tab in
     let d0 = declarations_at-declarations piece.names piece.declares states v.names (NoDeclarations-states piece.number piece.names piece.conds piece.states conds tab) in
     let n0 = names_at-seventeen piece.names (codes "*/\n{\n" ++ declares) v.names.count v.names.each_is_short in
     let e0 = eof_at-eof piece.eof piece.names (codes "*/\n{\n" ++ declares) (eof_is_small piece.eof piece.unit v.unit v.eof) v.names.count in
+    let h0 = head_at-head piece.head spelled (numbers_of piece.head v.range.head) refl in
     let hu : piece.unit < 2 ^ 64 = unit_is_small piece.unit v.unit in
     rw (
-      front-stop is_digit (decimal piece.number) 42 (codes "/\n/*!names:re2c " ++ (decimal piece.unit ++ unit)) (decimal_digits piece.number short) refl,
-      behind-stop is_digit (decimal piece.number) 42 (codes "/\n/*!names:re2c " ++ (decimal piece.unit ++ unit)) (decimal_digits piece.number short) refl,
+      front-stop is_digit (decimal piece.number) 42 (codes "/\n" ++ head) (decimal_digits piece.number short) refl,
+      behind-stop is_digit (decimal piece.number) 42 (codes "/\n" ++ head) (decimal_digits piece.number short) refl,
       decimal_value piece.number short,
+      h0,
       front-stop is_digit (decimal piece.unit) 32 eof (decimal_digits piece.unit hu) refl,
       behind-stop is_digit (decimal piece.unit) 32 eof (decimal_digits piece.unit hu) refl,
       decimal_value piece.unit hu,

@@ -16,7 +16,7 @@ loop_count-more piece start limit more =
     let grows : (limit - start) + 2 ≤ ((limit + more) - start) + 2 = omega arith in
     mul-le-mul_right (statement_count piece.blocks) (mul-le-mul_left 2 grows)
 
-loop_count-some : (piece : Piece) (start limit : ℕ) → 0 < statement_count piece.blocks → 0 < loop_count piece start limit
+pub loop_count-some : (piece : Piece) (start limit : ℕ) → 0 < statement_count piece.blocks → 0 < loop_count piece start limit
 loop_count-some piece start limit some =
     let factor : 1 ≤ 2 * ((limit - start) + 2) = omega arith in
     let product = mul-le-mul_right (statement_count piece.blocks) factor in

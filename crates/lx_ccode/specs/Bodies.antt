@@ -3,38 +3,13 @@ use Rattle.std.specs.Prelude.{ℕ, List, [], ◌∷◌, ◌++◌, map, codes, Op
 use Rattle.std.specs.Fmt.{decimal}
 use Rattle.lx_base.specs.Text.{joined}
 use Rattle.lx_base.specs.Names.{Spellings, get_state, condition_prefix, tag_prefix}
+use Rattle.lx_ccode.specs.declared.bodies.Body.{Body}
+use Rattle.lx_ccode.specs.declared.bodies.Body.TheVariants.{Empty, MaxFill, MaxGroups, Registers, Histories, Conditions, StateSwitch}
+use Rattle.lx_ccode.specs.declared.bodies.FileState.{FileState}
+use Rattle.lx_ccode.specs.declared.bodies.Format.{Format}
 use Rattle.lx_ccode.specs.declared.piece.LineMark.{LineMark}
-use Rattle.lx_ccode.specs.declared.piece.StateCase.{StateCase}
-use Rattle.lx_ccode.specs.declared.piece.CondCase.{CondCase}
 use Rattle.lx_ccode.specs.Registers.{history_text}
 use Rattle.lx_ccode.specs.Text.{line_then, state_case_then, start_then}
-
--- how a directive asks for a list of registers: the format of each, and what stands between
-pub record Format : Type 0 where
-  pub format : List ℕ
-  pub separator : List ℕ
-
--- a state of some piece of the output: the piece's number, and the case
-pub record FileState : Type 0 where
-  pub number : ℕ
-  pub case : StateCase
-
--- what a piece without a scanner holds
-pub data Body : Type 0 where
-  -- of a block without rules, of a block of rules to use, and around an included file
-  no_body : Body
-  -- the greatest number of units that a check asks for, of all scanners
-  max_fill : ℕ → Body
-  -- the greatest number of groups, of all scanners
-  max_groups : ℕ → Body
-  -- the registers with these numbers
-  registers : Format → List ℕ → Body
-  -- the histories with these numbers
-  histories : Format → List ℕ → Body
-  -- the conditions with these names
-  conditions : List (List ℕ) → Body
-  -- the switch over the states of all pieces; it goes to the start of a piece with this number and these conditions
-  state_switch : List FileState → (start : ℕ) → List CondCase → Body
 
 -- the format with a word in the place of each `@@`
 abbrev pub filled : (word format : List ℕ) → List ℕ
@@ -68,13 +43,13 @@ file_states_then (state ∷ states) tail = state_case_then state.number state.ca
 
 -- the body's text, by the spellings that hold at the end of the source
 abbrev pub body_then : Spellings → Body → List ℕ → List ℕ
-body_then names no_body tail = tail
-body_then names (max_fill units) tail = joined (codes "#define YYMAXFILL " ∷ decimal units ∷ codes "\n" ∷ []) tail
-body_then names (max_groups groups) tail = joined (codes "#define YYMAXNMATCH " ∷ decimal groups ∷ codes "\n" ∷ []) tail
-body_then names (registers format numbers) tail = list_then format (map (λ register. tag_prefix names ++ decimal register) numbers) tail
-body_then names (histories format numbers) tail = list_then format (map (history_text names) numbers) tail
-body_then names (conditions conds) tail = joined (codes "enum YYCONDTYPE {\n" ∷ []) (conditions_then names conds (joined (codes "};\n" ∷ []) tail))
-body_then names (state_switch states start conds) tail =
+body_then names Empty tail = tail
+body_then names (MaxFill units) tail = joined (codes "#define YYMAXFILL " ∷ decimal units ∷ codes "\n" ∷ []) tail
+body_then names (MaxGroups groups) tail = joined (codes "#define YYMAXNMATCH " ∷ decimal groups ∷ codes "\n" ∷ []) tail
+body_then names (Registers format numbers) tail = list_then format (map (λ register. tag_prefix names ++ decimal register) numbers) tail
+body_then names (Histories format numbers) tail = list_then format (map (history_text names) numbers) tail
+body_then names (Conditions conds) tail = joined (codes "enum YYCONDTYPE {\n" ∷ []) (conditions_then names conds (joined (codes "};\n" ∷ []) tail))
+body_then names (StateSwitch states start conds) tail =
     joined (codes "\tswitch (" ∷ get_state names ∷ codes "()) {\n" ∷ []) (file_states_then states (
     joined (codes "\tdefault: goto " ∷ []) (start_then start conds (joined (codes ";\n\t}\n" ∷ []) tail))))
 

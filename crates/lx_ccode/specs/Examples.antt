@@ -1,6 +1,9 @@
 -- Small pieces, which together have every statement.
-use Rattle.std.specs.Prelude.{ℕ, true, false, List, [], ◌∷◌, codes, Some, None}
+use Rattle.std.specs.Prelude.{ℕ, Bool, true, false, List, [], ◌∷◌, codes, Some, None}
 use Rattle.lx_base.specs.Names.{usual_names}
+use Rattle.lx_base.specs.declared.settings.Enc.TheVariants.{Byte, Ucs2, Utf8}
+use Rattle.lx_ccode.specs.declared.piece.Head.{Head}
+use Rattle.lx_ccode.specs.declared.piece.Mode.TheVariants as mode
 use Rattle.lx_ccode.specs.declared.piece.Stmt.{Stmt}
 use Rattle.lx_ccode.specs.declared.piece.Stmt.TheVariants.{Peek, Skip, Backup, Restore, Accept, Set, Unset, Copy, MSet, MUnset, MCopy, IfUnit, IfAccept, IfEnd, State, Need, Try, Cond, Tag, Count, End, Back, Goto, Leave, Code, Jump}
 use Rattle.lx_ccode.specs.declared.piece.CodeBlock.{CodeBlock}
@@ -14,10 +17,15 @@ block statements = record { cond = None; stmts = statements }
 abbrev pub start_of : List ℕ → List Stmt → CodeBlock
 start_of cond statements = record { cond = Some cond; stmts = statements }
 
+-- the piece with a head
+abbrev pub headed : Head → Piece → Piece
+headed head piece = record piece { head = Some head }
+
 -- `a` before a `b`, by its context marker and with two tags, or else `a` alone, after a step back to the marker
 abbrev pub context_example : Piece
 context_example = record {
   number = 1;
+  head = None;
   names = usual_names;
   unit = 1;
   eof = None;
@@ -41,6 +49,7 @@ context_example = record {
 abbrev pub stored_example : Piece
 stored_example = record {
   number = 2;
+  head = None;
   names = usual_names;
   unit = 1;
   eof = Some 0;
@@ -69,6 +78,7 @@ stored_example = record {
 abbrev pub checked_example : Piece
 checked_example = record {
   number = 3;
+  head = None;
   names = usual_names;
   unit = 2;
   eof = None;
@@ -93,3 +103,13 @@ abbrev pub copying_example : Piece
 copying_example = record context_example {
   blocks = block (Set 1 ∷ Skip ∷ Set 2 ∷ Copy 1 2 ∷ Copy 2 1 ∷ Tag (codes "s") false 1 ∷ Tag (codes "t") false 2 ∷ Leave ∷ []) ∷ [];
 }
+
+-- the heads of the examples that have every statement
+abbrev pub context_head : (custom : Bool) → Head
+context_head custom = record { custom = custom; enc = Utf8; mode = mode.Plain; regs = 2; mregs = 4; states = 0 }
+
+abbrev pub stored_head : (custom : Bool) → Head
+stored_head custom = record { custom = custom; enc = Byte; mode = mode.Eof; regs = 0; mregs = 0; states = 2 }
+
+abbrev pub checked_head : (custom : Bool) → Head
+checked_head custom = record { custom = custom; enc = Ucs2; mode = mode.Count; regs = 2; mregs = 0; states = 1 }

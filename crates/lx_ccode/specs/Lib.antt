@@ -1,7 +1,10 @@
+pub mod Agreement
 pub mod Bodies
+pub mod Counts
 pub mod Effects
 pub mod Examples
 pub mod Front
+pub mod Heads
 pub mod Machine
 pub mod Marks
 pub mod NameSets
@@ -9,9 +12,12 @@ pub mod Parts
 pub mod Reading
 pub mod Registers
 pub mod Runs
+pub mod Scanners
 pub mod Schedules
 pub mod Statements
 pub mod States
 pub mod Stuck
 pub mod Text
+pub mod Traces
 pub mod Validity
+pub mod Wording

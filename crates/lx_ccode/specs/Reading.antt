@@ -4,6 +4,11 @@ use Rattle.std.specs.Prelude.{ℕ, zero, suc, Bool, true, false, List, [], ◌�
 use Rattle.std.specs.Str.Parse.{digits_value}
 use Rattle.lx_base.specs.Letters.{is_digit, is_in_identifier, is_in_spelling, begins_with, is_register, is_history_register, equal_words, is_hexadecimal, is_in_type, front_letters, after_letters}
 use Rattle.lx_base.specs.Names.{Spellings, cursor, marker, context_marker, set_state, append_offset, append_negative, current_unit, last_accept, tag_prefix, label_prefix, condition_prefix}
+use Rattle.lx_base.specs.declared.settings.Enc.{Enc}
+use Rattle.lx_base.specs.declared.settings.Enc.TheVariants.{Byte, Ucs2, Utf8, Utf16, Utf32}
+use Rattle.lx_ccode.specs.declared.piece.Head.{Head}
+use Rattle.lx_ccode.specs.declared.piece.Mode.{Mode}
+use Rattle.lx_ccode.specs.declared.piece.Mode.TheVariants as mode
 use Rattle.lx_ccode.specs.declared.piece.LineMark.{LineMark}
 use Rattle.lx_ccode.specs.declared.piece.Stmt.{Stmt}
 use Rattle.lx_ccode.specs.declared.piece.Stmt.TheVariants.{Peek, Skip, Backup, Restore, Accept, Set, Unset, Copy, MSet, MUnset, MCopy, IfUnit, IfAccept, IfEnd, State, Need, Try, Cond, Tag, Count, End, Back, Goto, Leave, Code, Jump}
@@ -11,6 +16,7 @@ use Rattle.lx_ccode.specs.declared.piece.StateCase.{StateCase}
 use Rattle.lx_ccode.specs.declared.piece.CondCase.{CondCase}
 use Rattle.lx_ccode.specs.declared.piece.CodeBlock.{CodeBlock}
 use Rattle.lx_ccode.specs.declared.piece.Piece.{Piece}
+use Rattle.lx_ccode.specs.Heads.{is_custom}
 
 -- the number at the front
 abbrev pub number_at : List ℕ → ℕ
@@ -23,6 +29,51 @@ hexadecimal_at bytes = digits_value 16 (front_letters is_hexadecimal bytes)
 -- the byte at a place, or 0 behind the end
 abbrev pub byte_at : List ℕ → ℕ → ℕ
 byte_at bytes place = slice_index bytes place
+
+-- ---- heads
+
+-- the encoding of a word
+unfoldable pub encoding_of : List ℕ → Enc
+encoding_of word =
+    if equal_words word (codes "ucs2") then Ucs2
+    else if equal_words word (codes "utf8") then Utf8
+    else if equal_words word (codes "utf16") then Utf16
+    else if equal_words word (codes "utf32") then Utf32
+    else Byte
+
+-- the mode of a word
+unfoldable pub mode_of : List ℕ → Mode
+mode_of word =
+    if equal_words word (codes "count") then mode.Count
+    else if equal_words word (codes "eoffixed") then mode.EofFixed
+    else if equal_words word (codes "eof") then mode.Eof
+    else mode.Plain
+
+-- the head whose encoding stands at the front, and what comes behind its line
+unfoldable pub head_fields_at : (custom : Bool) → List ℕ → Head × List ℕ
+head_fields_at custom bytes =
+    let behind = drop 1 (after_letters is_in_identifier bytes) in
+    let regs = drop 1 (after_letters is_in_identifier behind) in
+    let mregs = drop 1 (after_letters is_digit regs) in
+    let states = drop 1 (after_letters is_digit mregs) in (
+      record {
+        custom = custom;
+        enc = encoding_of (front_letters is_in_identifier bytes);
+        mode = mode_of (front_letters is_in_identifier behind);
+        regs = number_at regs;
+        mregs = number_at mregs;
+        states = number_at states;
+      },
+      drop 3 (after_letters is_digit states),
+    )
+
+-- the head, behind `/*!head:re2c 2 `
+unfoldable pub head_line_at : List ℕ → Head × List ℕ
+head_line_at bytes = if byte_at bytes 0 == 99 then head_fields_at true (drop 7 bytes) else head_fields_at false bytes
+
+-- the head, where its line stands, and what comes behind it
+unfoldable pub head_at : List ℕ → Option Head × List ℕ
+head_at bytes = if byte_at bytes 3 == 104 then (Some (head_line_at (drop 15 bytes)).0, (head_line_at (drop 15 bytes)).1) else (None, bytes)
 
 -- ---- lines of source files
 
@@ -120,7 +171,30 @@ called names name value =
     else if equal_words name (set_state names) then State (digits_value 10 value)
     else Cond (drop (length (condition_prefix names)) value)
 
--- a statement, behind its `if (`
+-- the word between the parenthesis behind so many letters and the last one
+unfoldable pub enclosed : (letters : ℕ) → List ℕ → List ℕ
+enclosed letters word = reverse (drop 1 (reverse (drop letters word)))
+
+-- a call, where the input is read by primitives of the user's: some of them, or another call
+unfoldable pub primitive_called : Spellings → List ℕ → Stmt × Bool
+primitive_called names word =
+    if equal_words word (codes "YYSKIP()") then (Skip, false)
+    else if equal_words word (codes "YYBACKUP()") then (Backup, false)
+    else if equal_words word (codes "YYRESTORE()") then (Restore, false)
+    else if begins_with (codes "YYSTAGP(") word then
+    (Set (register_of names (enclosed 8 word)), is_context_marker names (enclosed 8 word))
+    else if begins_with (codes "YYSTAGN(") word then
+    (Unset (register_of names (enclosed 8 word)), is_context_marker names (enclosed 8 word))
+    else if begins_with (codes "YYRESTORETAG(") word then
+    (Back (register_of names (enclosed 13 word)), is_context_marker names (enclosed 13 word))
+    else (called names (callee word) (argument word), false)
+
+-- a call
+abbrev pub call_of : (custom : Bool) → Spellings → List ℕ → Stmt × Bool
+call_of false names word = (called names (callee word) (argument word), false)
+call_of true names word = primitive_called names word
+
+-- a statement, behind its `if (`, where the input is read through pointers
 unfoldable pub if_at : Spellings → List ℕ → Read
 if_at names bytes =
     let word = front_letters is_in_spelling bytes in
@@ -138,6 +212,20 @@ if_at names bytes =
     (let next = drop 1 (after_letters is_digit (drop 4 rest)) in
     (IfAccept (number_at (drop 4 rest)) (goto_block next), false, goto_tail next))
     else (Try (goto_block (drop 6 rest)), false, goto_tail (drop 6 rest))
+
+-- a statement, behind its `if (`, where the input is read by primitives of the user's
+unfoldable pub primitive_if_at : Spellings → List ℕ → Read
+primitive_if_at names bytes =
+    let rest = after_letters is_in_spelling bytes in
+    let next = after_letters is_in_spelling (drop 1 rest) in
+    if (byte_at rest 1 == 60) || (byte_at rest 1 == 61) then if_at names bytes
+    else if byte_at next 0 == 32 then (IfEnd (goto_block rest), false, goto_tail rest)
+    else (Need (number_at (drop 11 bytes)), false, drop 2 next)
+
+-- a statement, behind its `if (`
+abbrev pub test_at : (custom : Bool) → Spellings → List ℕ → Read
+test_at false names bytes = if_at names bytes
+test_at true names bytes = primitive_if_at names bytes
 
 -- a statement, behind its `goto `
 unfoldable pub goto_at : Spellings → List ℕ → Read
@@ -157,19 +245,19 @@ code_at line bytes =
     (Code (number_at (drop 14 bytes)) line (take (number_at (drop 1 rest)) (drop 2 next)), false, drop 1 (drop (number_at (drop 1 rest)) (drop 2 next)))
 
 -- a statement, at its tab or at the `#` of its `#line`
-unfoldable pub statement_at : Spellings → List ℕ → Read
-statement_at names bytes =
+unfoldable pub statement_at : (custom : Bool) → Spellings → List ℕ → Read
+statement_at custom names bytes =
     if byte_at bytes 0 == 35 then code_at (Some (mark_at bytes).0) (mark_at bytes).1
     else
     let word = front_letters is_in_spelling (drop 1 bytes) in
     let rest = after_letters is_in_spelling (drop 1 bytes) in
     if byte_at rest 0 == 43 then (Skip, false, drop 2 (after_letters is_in_spelling (drop 2 rest)))
     else if byte_at rest 0 == 47 then code_at None bytes
-    else if byte_at rest 0 == 59 then (called names (callee word) (argument word), false, drop 2 rest)
+    else if byte_at rest 0 == 59 then ((call_of custom names word).0, (call_of custom names word).1, drop 2 rest)
     else if byte_at rest 1 == 61 then
     (let source = front_letters is_in_spelling (drop 3 rest) in
     ((assigned names word source).0, (assigned names word source).1, drop 2 (after_letters is_in_spelling (drop 3 rest))))
-    else if byte_at rest 1 == 40 then if_at names (drop 2 rest)
+    else if byte_at rest 1 == 40 then test_at custom names (drop 2 rest)
     else goto_at names (drop 1 rest)
 
 -- a statement begins with a tab or a `#`
@@ -177,38 +265,38 @@ abbrev pub begins_statement : List ℕ → Bool
 begins_statement bytes = (byte_at bytes 0 == 9) || (byte_at bytes 0 == 35)
 
 -- the statements at the front, at most as many as the fuel
-unfoldable pub statements_at : (fuel : ℕ) → Spellings → List ℕ → List Stmt × Bool × List ℕ
-statements_at zero names bytes = ([], false, bytes)
-statements_at (suc fuel) names bytes =
+unfoldable pub statements_at : (fuel : ℕ) → (custom : Bool) → Spellings → List ℕ → List Stmt × Bool × List ℕ
+statements_at zero custom names bytes = ([], false, bytes)
+statements_at (suc fuel) custom names bytes =
     if begins_statement bytes then
-    (let first = statement_at names bytes in
-    let others = statements_at fuel names first.2 in
+    (let first = statement_at custom names bytes in
+    let others = statements_at fuel custom names first.2 in
     (first.0 ∷ others.0, first.1 || others.1, others.2))
     else ([], false, bytes)
 
 -- ---- blocks
 
 -- the statements of a block whose labels were read
-abbrev pub body_at : (fuel : ℕ) → Spellings → Option (List ℕ) → List ℕ → CodeBlock × Bool × List ℕ
-body_at fuel names cond bytes =
-    let statements = statements_at fuel names bytes in
+abbrev pub body_at : (fuel : ℕ) → (custom : Bool) → Spellings → Option (List ℕ) → List ℕ → CodeBlock × Bool × List ℕ
+body_at fuel custom names cond bytes =
+    let statements = statements_at fuel custom names bytes in
     (record { cond = cond; stmts = statements.0 }, statements.1, statements.2)
 
 -- one block; where a statement follows its first line, that line is the block's own label, else it is a condition's
-unfoldable pub code_block_at : (fuel : ℕ) → Spellings → List ℕ → CodeBlock × Bool × List ℕ
-code_block_at fuel names bytes =
+unfoldable pub code_block_at : (fuel : ℕ) → (custom : Bool) → Spellings → List ℕ → CodeBlock × Bool × List ℕ
+code_block_at fuel custom names bytes =
     let rest = drop 2 (after_letters is_in_identifier bytes) in
-    if begins_statement rest then body_at fuel names None rest
-    else body_at fuel names (Some (drop (length (label_prefix names)) (front_letters is_in_identifier bytes))) (drop 2 (after_letters is_in_identifier rest))
+    if begins_statement rest then body_at fuel custom names None rest
+    else body_at fuel custom names (Some (drop (length (label_prefix names)) (front_letters is_in_identifier bytes))) (drop 2 (after_letters is_in_identifier rest))
 
 -- the blocks up to `yyN_none:;`, at most as many as the first fuel
-unfoldable pub blocks_at : (blocks fuel : ℕ) → Spellings → List ℕ → List CodeBlock × Bool × List ℕ
-blocks_at zero fuel names bytes = ([], false, bytes)
-blocks_at (suc blocks) fuel names bytes =
+unfoldable pub blocks_at : (blocks fuel : ℕ) → (custom : Bool) → Spellings → List ℕ → List CodeBlock × Bool × List ℕ
+blocks_at zero fuel custom names bytes = ([], false, bytes)
+blocks_at (suc blocks) fuel custom names bytes =
     if byte_at (after_letters is_in_identifier bytes) 1 == 59 then ([], false, bytes)
     else
-    (let first = code_block_at fuel names bytes in
-    let others = blocks_at blocks fuel names first.2 in
+    (let first = code_block_at fuel custom names bytes in
+    let others = blocks_at blocks fuel custom names first.2 in
     (first.0 ∷ others.0, first.1 || others.1, others.2))
 
 -- ---- what stands before the blocks
@@ -277,16 +365,17 @@ cond_switch_at fuel names bytes =
 -- the piece at the front and what comes behind it, with fuel for each of its lists
 unfoldable pub reading : (fuel : ℕ) → List ℕ → Piece × List ℕ
 reading fuel bytes =
-    let head = drop 14 bytes in
-    let unit = drop 17 (after_letters is_digit head) in
+    let number = drop 14 bytes in
+    let head = head_at (drop 3 (after_letters is_digit number)) in
+    let unit = drop 14 head.1 in
     let eof = eof_at (drop 1 (after_letters is_digit unit)) in
     let names = names_at 17 eof.1 in
     let declares = declarations_at (drop 5 names.1) in
     let states = state_switch_at fuel declares.1 in
     let conds = cond_switch_at fuel names.0 states.1 in
-    let blocks = blocks_at fuel fuel names.0 conds.1 in
+    let blocks = blocks_at fuel fuel (is_custom head.0) names.0 conds.1 in
     let line = line_at (drop 9 (block_at blocks.2)) in
-    (record { number = number_at head; names = names.0; unit = number_at unit; eof = eof.0; declares = declares.0; ctx = blocks.1; states = states.0; conds = conds.0; blocks = blocks.0; line = line.0 }, drop 13 line.1)
+    (record { number = number_at number; head = head.0; names = names.0; unit = number_at unit; eof = eof.0; declares = declares.0; ctx = blocks.1; states = states.0; conds = conds.0; blocks = blocks.0; line = line.0 }, drop 13 line.1)
 
 -- the piece at the front of the bytes, where the text of one stands there, and what comes behind it
 unfoldable pub piece_at : List ℕ → Piece × List ℕ

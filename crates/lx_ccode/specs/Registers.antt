@@ -19,3 +19,8 @@ register_text names ctx register = register_by names (is_context ctx register) r
 -- a history, counted from 0: the prefix, `m` and the number
 abbrev pub history_text : Spellings → ℕ → List ℕ
 history_text names history = tag_prefix names ++ 109 ∷ decimal history
+
+-- a history, or else a register that is not spelled as the context marker
+abbrev pub variable_text : Spellings → (history : Bool) → ℕ → List ℕ
+variable_text names true history = history_text names history
+variable_text names false register = register_text names false register

@@ -1,4 +1,4 @@
--- The text of a piece: one spelling each. A function named `.. _then` gives a text with another behind it.
+-- The text of a piece: one spelling each, by how its input is read. A function named `.. _then` gives a text with another behind it.
 use Rattle.std.specs.Prelude.{ℕ, suc, Bool, true, false, List, [], ◌∷◌, ◌++◌, length, codes, Option, Some, None, nat_lt, ◌||◌, ◌==◌, if◌then◌else◌}
 use Rattle.std.specs.Fmt.{decimal, digits}
 use Rattle.lx_base.specs.Text.{joined}
@@ -10,7 +10,9 @@ use Rattle.lx_ccode.specs.declared.piece.StateCase.{StateCase}
 use Rattle.lx_ccode.specs.declared.piece.CondCase.{CondCase}
 use Rattle.lx_ccode.specs.declared.piece.CodeBlock.{CodeBlock}
 use Rattle.lx_ccode.specs.declared.piece.Piece.{Piece}
+use Rattle.lx_ccode.specs.Heads.{head_then}
 use Rattle.lx_ccode.specs.Registers.{register_text, history_text}
+use Rattle.lx_ccode.specs.Wording.{Wording, wording_of}
 
 -- at least two digits, in upper case
 abbrev pub hexadecimal : ℕ → List ℕ
@@ -34,68 +36,99 @@ block_then number block tail = joined (codes "yy" ∷ decimal number ∷ codes "
 abbrev pub goto_then : (number block : ℕ) → List ℕ → List ℕ
 goto_then number block tail = joined (codes " goto " ∷ []) (block_then number block (joined (codes ";\n" ∷ []) tail))
 
--- the line of a statement
-abbrev pub statement_then : (number : ℕ) → Spellings → (ctx : Bool) → Stmt → List ℕ → List ℕ
-statement_then number names ctx Peek tail =
-    joined (codes "\t" ∷ current_unit names ∷ codes " = *" ∷ cursor names ∷ codes ";\n" ∷ []) tail
-statement_then number names ctx Skip tail =
-    joined (codes "\t++" ∷ cursor names ∷ codes ";\n" ∷ []) tail
-statement_then number names ctx Backup tail =
-    joined (codes "\t" ∷ marker names ∷ codes " = " ∷ cursor names ∷ codes ";\n" ∷ []) tail
-statement_then number names ctx Restore tail =
-    joined (codes "\t" ∷ cursor names ∷ codes " = " ∷ marker names ∷ codes ";\n" ∷ []) tail
-statement_then number names ctx (Accept accept) tail =
-    joined (codes "\t" ∷ last_accept names ∷ codes " = " ∷ decimal accept ∷ codes ";\n" ∷ []) tail
-statement_then number names ctx (Set register) tail =
-    joined (codes "\t" ∷ register_text names ctx register ∷ codes " = " ∷ cursor names ∷ codes ";\n" ∷ []) tail
-statement_then number names ctx (Unset register) tail =
-    joined (codes "\t" ∷ register_text names ctx register ∷ codes " = NULL;\n" ∷ []) tail
-statement_then number names ctx (Copy register source) tail =
-    joined (codes "\t" ∷ register_text names ctx register ∷ codes " = " ∷ register_text names ctx source ∷ codes ";\n" ∷ []) tail
-statement_then number names ctx (MSet history) tail =
-    joined (codes "\t" ∷ append_offset names ∷ codes "(" ∷ history_text names history ∷ codes ");\n" ∷ []) tail
-statement_then number names ctx (MUnset history) tail =
-    joined (codes "\t" ∷ append_negative names ∷ codes "(" ∷ history_text names history ∷ codes ");\n" ∷ []) tail
-statement_then number names ctx (MCopy history source) tail =
-    joined (codes "\t" ∷ history_text names history ∷ codes " = " ∷ history_text names source ∷ codes ";\n" ∷ []) tail
-statement_then number names ctx (IfUnit greatest block) tail =
-    joined (codes "\tif (" ∷ current_unit names ∷ codes " <= 0x" ∷ hexadecimal greatest ∷ codes ")" ∷ []) (goto_then number block tail)
-statement_then number names ctx (IfAccept accept block) tail =
-    joined (codes "\tif (" ∷ last_accept names ∷ codes " == " ∷ decimal accept ∷ codes ")" ∷ []) (goto_then number block tail)
-statement_then number names ctx (IfEnd block) tail =
-    joined (codes "\tif (" ∷ cursor names ∷ codes " >= " ∷ limit names ∷ codes ")" ∷ []) (goto_then number block tail)
-statement_then number names ctx (State state) tail =
-    joined (codes "\t" ∷ set_state names ∷ codes "(" ∷ decimal state ∷ codes ");\n" ∷ []) tail
-statement_then number names ctx (Need units) tail =
-    joined (codes "\tif ((" ∷ limit names ∷ codes " - " ∷ cursor names ∷ codes ") < " ∷ decimal units ∷ codes ") " ∷ refill names ∷ codes "(" ∷ decimal units ∷ codes ");\n" ∷ []) tail
-statement_then number names ctx (Try block) tail =
-    joined (codes "\tif (" ∷ refill names ∷ codes "() == 0)" ∷ []) (goto_then number block tail)
-statement_then number names ctx (Cond cond) tail =
-    joined (codes "\t" ∷ set_condition names ∷ codes "(" ∷ (condition_prefix names ++ cond) ∷ codes ");\n" ∷ []) tail
-statement_then number names ctx (Tag tag true history) tail =
-    joined (codes "\t" ∷ tag ∷ codes " = " ∷ history_text names history ∷ codes ";\n" ∷ []) tail
-statement_then number names ctx (Tag tag false register) tail =
-    joined (codes "\t" ∷ tag ∷ codes " = " ∷ register_text names ctx register ∷ codes ";\n" ∷ []) tail
-statement_then number names ctx (Count groups) tail =
+-- the line of a statement, where the input is read through pointers
+abbrev pub pointer_then : Wording → Stmt → List ℕ → List ℕ
+pointer_then wording Peek tail =
+    joined (codes "\t" ∷ current_unit wording.names ∷ codes " = *" ∷ cursor wording.names ∷ codes ";\n" ∷ []) tail
+pointer_then wording Skip tail =
+    joined (codes "\t++" ∷ cursor wording.names ∷ codes ";\n" ∷ []) tail
+pointer_then wording Backup tail =
+    joined (codes "\t" ∷ marker wording.names ∷ codes " = " ∷ cursor wording.names ∷ codes ";\n" ∷ []) tail
+pointer_then wording Restore tail =
+    joined (codes "\t" ∷ cursor wording.names ∷ codes " = " ∷ marker wording.names ∷ codes ";\n" ∷ []) tail
+pointer_then wording (Accept accept) tail =
+    joined (codes "\t" ∷ last_accept wording.names ∷ codes " = " ∷ decimal accept ∷ codes ";\n" ∷ []) tail
+pointer_then wording (Set register) tail =
+    joined (codes "\t" ∷ register_text wording.names wording.ctx register ∷ codes " = " ∷ cursor wording.names ∷ codes ";\n" ∷ []) tail
+pointer_then wording (Unset register) tail =
+    joined (codes "\t" ∷ register_text wording.names wording.ctx register ∷ codes " = NULL;\n" ∷ []) tail
+pointer_then wording (Copy register source) tail =
+    joined (codes "\t" ∷ register_text wording.names wording.ctx register ∷ codes " = " ∷ register_text wording.names wording.ctx source ∷ codes ";\n" ∷ []) tail
+pointer_then wording (MSet history) tail =
+    joined (codes "\t" ∷ append_offset wording.names ∷ codes "(" ∷ history_text wording.names history ∷ codes ");\n" ∷ []) tail
+pointer_then wording (MUnset history) tail =
+    joined (codes "\t" ∷ append_negative wording.names ∷ codes "(" ∷ history_text wording.names history ∷ codes ");\n" ∷ []) tail
+pointer_then wording (MCopy history source) tail =
+    joined (codes "\t" ∷ history_text wording.names history ∷ codes " = " ∷ history_text wording.names source ∷ codes ";\n" ∷ []) tail
+pointer_then wording (IfUnit greatest block) tail =
+    joined (codes "\tif (" ∷ current_unit wording.names ∷ codes " <= 0x" ∷ hexadecimal greatest ∷ codes ")" ∷ []) (goto_then wording.number block tail)
+pointer_then wording (IfAccept accept block) tail =
+    joined (codes "\tif (" ∷ last_accept wording.names ∷ codes " == " ∷ decimal accept ∷ codes ")" ∷ []) (goto_then wording.number block tail)
+pointer_then wording (IfEnd block) tail =
+    joined (codes "\tif (" ∷ cursor wording.names ∷ codes " >= " ∷ limit wording.names ∷ codes ")" ∷ []) (goto_then wording.number block tail)
+pointer_then wording (State state) tail =
+    joined (codes "\t" ∷ set_state wording.names ∷ codes "(" ∷ decimal state ∷ codes ");\n" ∷ []) tail
+pointer_then wording (Need units) tail =
+    joined (codes "\tif ((" ∷ limit wording.names ∷ codes " - " ∷ cursor wording.names ∷ codes ") < " ∷ decimal units ∷ codes ") " ∷ refill wording.names ∷ codes "(" ∷ decimal units ∷ codes ");\n" ∷ []) tail
+pointer_then wording (Try block) tail =
+    joined (codes "\tif (" ∷ refill wording.names ∷ codes "() == 0)" ∷ []) (goto_then wording.number block tail)
+pointer_then wording (Cond cond) tail =
+    joined (codes "\t" ∷ set_condition wording.names ∷ codes "(" ∷ (condition_prefix wording.names ++ cond) ∷ codes ");\n" ∷ []) tail
+pointer_then wording (Tag tag true history) tail =
+    joined (codes "\t" ∷ tag ∷ codes " = " ∷ history_text wording.names history ∷ codes ";\n" ∷ []) tail
+pointer_then wording (Tag tag false register) tail =
+    joined (codes "\t" ∷ tag ∷ codes " = " ∷ register_text wording.names wording.ctx register ∷ codes ";\n" ∷ []) tail
+pointer_then wording (Count groups) tail =
     joined (codes "\tyynmatch = " ∷ decimal groups ∷ codes ";\n" ∷ []) tail
-statement_then number names ctx (End place register) tail =
-    joined (codes "\tyypmatch[" ∷ decimal place ∷ codes "] = " ∷ register_text names ctx register ∷ codes ";\n" ∷ []) tail
-statement_then number names ctx (Back register) tail =
-    joined (codes "\t" ∷ cursor names ∷ codes " = " ∷ register_text names ctx register ∷ codes ";\n" ∷ []) tail
-statement_then number names ctx (Goto block) tail =
-    joined (codes "\tgoto " ∷ []) (block_then number block (joined (codes ";\n" ∷ []) tail))
-statement_then number names ctx Leave tail =
-    joined (codes "\tgoto yy" ∷ decimal number ∷ codes "_none;\n" ∷ []) tail
-statement_then number names ctx (Code rule line action) tail =
+pointer_then wording (End place register) tail =
+    joined (codes "\tyypmatch[" ∷ decimal place ∷ codes "] = " ∷ register_text wording.names wording.ctx register ∷ codes ";\n" ∷ []) tail
+pointer_then wording (Back register) tail =
+    joined (codes "\t" ∷ cursor wording.names ∷ codes " = " ∷ register_text wording.names wording.ctx register ∷ codes ";\n" ∷ []) tail
+pointer_then wording (Goto block) tail =
+    joined (codes "\tgoto " ∷ []) (block_then wording.number block (joined (codes ";\n" ∷ []) tail))
+pointer_then wording Leave tail =
+    joined (codes "\tgoto yy" ∷ decimal wording.number ∷ codes "_none;\n" ∷ []) tail
+pointer_then wording (Code rule line action) tail =
     line_then line (joined (codes "\t/*!code:re2c " ∷ decimal rule ∷ codes " " ∷ decimal (length action) ∷ codes "*/" ∷ action ∷ codes "\n" ∷ []) tail)
-statement_then number names ctx (Jump cond rule) tail =
-    joined (codes "\tgoto " ∷ (label_prefix names ++ cond) ∷ codes "; /* " ∷ decimal rule ∷ codes " */\n" ∷ []) tail
+pointer_then wording (Jump cond rule) tail =
+    joined (codes "\tgoto " ∷ (label_prefix wording.names ++ cond) ∷ codes "; /* " ∷ decimal rule ∷ codes " */\n" ∷ []) tail
+
+-- the line of a statement, where the input is read by primitives of the user's: nine statements have another line
+abbrev pub custom_then : Wording → Stmt → List ℕ → List ℕ
+custom_then wording Peek tail =
+    joined (codes "\t" ∷ current_unit wording.names ∷ codes " = YYPEEK();\n" ∷ []) tail
+custom_then wording Skip tail =
+    joined (codes "\tYYSKIP();\n" ∷ []) tail
+custom_then wording Backup tail =
+    joined (codes "\tYYBACKUP();\n" ∷ []) tail
+custom_then wording Restore tail =
+    joined (codes "\tYYRESTORE();\n" ∷ []) tail
+custom_then wording (Set register) tail =
+    joined (codes "\tYYSTAGP(" ∷ register_text wording.names wording.ctx register ∷ codes ");\n" ∷ []) tail
+custom_then wording (Unset register) tail =
+    joined (codes "\tYYSTAGN(" ∷ register_text wording.names wording.ctx register ∷ codes ");\n" ∷ []) tail
+custom_then wording (Back register) tail =
+    joined (codes "\tYYRESTORETAG(" ∷ register_text wording.names wording.ctx register ∷ codes ");\n" ∷ []) tail
+custom_then wording (Need units) tail =
+    joined (codes "\tif (YYLESSTHAN(" ∷ decimal units ∷ codes ")) " ∷ refill wording.names ∷ codes "(" ∷ decimal units ∷ codes ");\n" ∷ []) tail
+custom_then wording (IfEnd block) tail =
+    joined (codes "\tif (YYLESSTHAN(1))" ∷ []) (goto_then wording.number block tail)
+custom_then wording statement tail = pointer_then wording statement tail
+
+-- the line of a statement, by how the input is read
+abbrev pub line_by : (custom : Bool) → Wording → Stmt → List ℕ → List ℕ
+line_by false wording statement tail = pointer_then wording statement tail
+line_by true wording statement tail = custom_then wording statement tail
+
+-- the line of a statement
+abbrev pub statement_then : Wording → Stmt → List ℕ → List ℕ
+statement_then wording statement tail = line_by wording.custom wording statement tail
 
 -- the lines of statements, in order
-abbrev pub statements_then : (number : ℕ) → Spellings → (ctx : Bool) → List Stmt → List ℕ → List ℕ
-statements_then number names ctx [] tail = tail
-statements_then number names ctx (statement ∷ statements) tail =
-    statement_then number names ctx statement (statements_then number names ctx statements tail)
+abbrev pub statements_then : Wording → List Stmt → List ℕ → List ℕ
+statements_then wording [] tail = tail
+statements_then wording (statement ∷ statements) tail =
+    statement_then wording statement (statements_then wording statements tail)
 
 -- a condition's label, where the block is its start
 abbrev pub label_then : Spellings → Option (List ℕ) → List ℕ → List ℕ
@@ -103,15 +136,15 @@ label_then names None tail = tail
 label_then names (Some cond) tail = joined ((label_prefix names ++ cond) ∷ codes ":\n" ∷ []) tail
 
 -- one block: its labels and its statements
-abbrev pub code_block_then : (number : ℕ) → Spellings → (ctx : Bool) → (place : ℕ) → CodeBlock → List ℕ → List ℕ
-code_block_then number names ctx place block tail =
-    label_then names block.cond (block_then number place (joined (codes ":\n" ∷ []) (statements_then number names ctx block.stmts tail)))
+abbrev pub code_block_then : Wording → (place : ℕ) → CodeBlock → List ℕ → List ℕ
+code_block_then wording place block tail =
+    label_then wording.names block.cond (block_then wording.number place (joined (codes ":\n" ∷ []) (statements_then wording block.stmts tail)))
 
 -- blocks, of which the first has this place
-abbrev pub blocks_then : (number : ℕ) → Spellings → (ctx : Bool) → (place : ℕ) → List CodeBlock → List ℕ → List ℕ
-blocks_then number names ctx place [] tail = tail
-blocks_then number names ctx place (block ∷ blocks) tail =
-    code_block_then number names ctx place block (blocks_then number names ctx (suc place) blocks tail)
+abbrev pub blocks_then : Wording → (place : ℕ) → List CodeBlock → List ℕ → List ℕ
+blocks_then wording place [] tail = tail
+blocks_then wording place (block ∷ blocks) tail =
+    code_block_then wording place block (blocks_then wording (suc place) blocks tail)
 
 -- ` L:T`, a spelling T with L bytes
 abbrev pub name_then : List ℕ → List ℕ → List ℕ
@@ -174,17 +207,19 @@ cond_switch_then number names (case ∷ cases) tail =
 -- a piece, from its begin mark to its end mark
 abbrev pub piece_then : Piece → List ℕ → List ℕ
 piece_then piece tail =
-    joined (codes "/*!begin:re2c " ∷ decimal piece.number ∷ codes "*/\n/*!names:re2c " ∷ decimal piece.unit ∷ codes " " ∷ []) (
+    joined (codes "/*!begin:re2c " ∷ decimal piece.number ∷ codes "*/\n" ∷ []) (
+    head_then piece.head (
+    joined (codes "/*!names:re2c " ∷ decimal piece.unit ∷ codes " " ∷ []) (
     eof_then piece.eof (
     names_then piece.names (
     joined (codes "*/\n{\n" ∷ []) (
     declarations_then piece.names piece.declares (
     state_switch_then piece.number piece.names piece.conds piece.states (
     cond_switch_then piece.number piece.names piece.conds (
-    blocks_then piece.number piece.names piece.ctx 0 piece.blocks (
+    blocks_then (wording_of piece) 0 piece.blocks (
     joined (codes "yy" ∷ decimal piece.number ∷ codes "_none:;\n}\n" ∷ []) (
     line_then piece.line (
-    joined (codes "/*!end:re2c*/" ∷ []) tail))))))))))
+    joined (codes "/*!end:re2c*/" ∷ []) tail))))))))))))
 
 -- the text of a piece
 abbrev pub piece_text : Piece → List ℕ

@@ -4,12 +4,15 @@ use Rattle.std.specs.List.{AllByRecursion, list_any}
 use Rattle.lx_base.specs.declared.limits.TheConstants.{STATEMENT_LIMIT}
 use Rattle.lx_base.specs.Letters.{IsIdentifier, equal_words}
 use Rattle.lx_base.specs.Names.{Spellings, AreAllowed, DoNotClash, AreDistinct, IsTagName}
+use Rattle.lx_base.specs.Names.{name_primitives}
 use Rattle.lx_ccode.specs.declared.piece.LineMark.{LineMark}
 use Rattle.lx_ccode.specs.declared.piece.Stmt.{Stmt}
 use Rattle.lx_ccode.specs.declared.piece.Stmt.TheVariants.{Peek, Skip, Backup, Restore, Accept, Set, Unset, Copy, MSet, MUnset, MCopy, IfUnit, IfAccept, IfEnd, State, Need, Try, Cond, Tag, Count, End, Back, Goto, Leave, Code, Jump}
 use Rattle.lx_ccode.specs.declared.piece.StateCase.{StateCase}
 use Rattle.lx_ccode.specs.declared.piece.CodeBlock.{CodeBlock}
 use Rattle.lx_ccode.specs.declared.piece.Piece.{Piece}
+use Rattle.lx_ccode.specs.Agreement.{Agrees}
+use Rattle.lx_ccode.specs.Heads.{is_custom}
 use Rattle.lx_ccode.specs.States.{states_from, block_of, state_block}
 use Rattle.lx_ccode.specs.Statements.{all_statements, statement_count, is_ending, is_state, is_need, is_try, is_refill, has_register_one}
 
@@ -167,6 +170,7 @@ pub record IsInRange (piece : Piece) : Type 0 where
   pub line : IsLine piece.line
   pub states : IfSome piece.states (λ cases. AllByRecursion (λ case. IsLong case.state × IsLong case.block) cases)
   pub conds : AllByRecursion (λ case. IsIdentifier case.cond × IsLong case.block) piece.conds
+  pub head : IfSome piece.head (λ head. IsShort head.regs × IsShort head.mregs × IsLong head.states)
 
 -- the rules that an emitted piece meets
 pub record IsValid (piece : Piece) : Type 0 where
@@ -209,5 +213,9 @@ pub record IsValid (piece : Piece) : Type 0 where
   -- the spellings may be used, and mean different things
   pub names : AreAllowed piece.names
   pub names_differ : DoNotClash piece.names
+  -- in custom text no spelling means an input primitive
+  pub no_primitive : is_custom piece.head ≡ true → name_primitives piece.names ≡ false
+  -- the head, where there is one, tells the unit, the mode and the numbers of the piece
+  pub head : IfSome piece.head (Agrees piece)
   -- every line can be spelled
   pub spelled : EachBlockHasSpelling piece.names piece.blocks

@@ -5,6 +5,7 @@ ghost use Rattle.std.specs.Prelude.{◌≡◌, ◌↔◌, ◌++◌, IsTrue, IfOk
 ghost use Rattle.lx_ccode.specs.Front.{BeginsWithPiece, IsNoFront};
 ghost use Rattle.lx_ccode.specs.Text.{blocks_then, code_block_then, piece_then, statement_then, statements_then};
 ghost use Rattle.lx_ccode.specs.Validity.{IsValid};
+ghost use Rattle.lx_ccode.specs.Wording.{scope_wording};
 
 use crate::lines::Scope;
 use crate::piece::{CodeBlock, Piece, Stmt};
@@ -63,7 +64,7 @@ impl Scope<'_> {
         blocks: &[CodeBlock],
         bytes: &'a [u8],
     ) -> Result<Option<&'a [u8]>, Memory>
-        ensures { IfOk result (λ found. MatchOption found (IsNoFront (blocks_then self.now.number self.now.names.now self.now.ctx 0 blocks.now) bytes.now) (λ rest. bytes.now ≡ blocks_then self.now.number self.now.names.now self.now.ctx 0 blocks.now rest.now)) }
+        ensures { IfOk result (λ found. MatchOption found (IsNoFront (blocks_then (scope_wording self.now) 0 blocks.now) bytes.now) (λ rest. bytes.now ≡ blocks_then (scope_wording self.now) 0 blocks.now rest.now)) }
     {
         let mut rest = bytes;
         for (place, block) in blocks.iter().enumerate() {
@@ -82,7 +83,7 @@ impl Scope<'_> {
         block: &CodeBlock,
         bytes: &'a [u8],
     ) -> Result<Option<&'a [u8]>, Memory>
-        ensures { IfOk result (λ found. MatchOption found (IsNoFront (code_block_then self.now.number self.now.names.now self.now.ctx place block.now) bytes.now) (λ rest. bytes.now ≡ code_block_then self.now.number self.now.names.now self.now.ctx place block.now rest.now)) }
+        ensures { IfOk result (λ found. MatchOption found (IsNoFront (code_block_then (scope_wording self.now) place block.now) bytes.now) (λ rest. bytes.now ≡ code_block_then (scope_wording self.now) place block.now rest.now)) }
     {
         text.clear();
         self.append_cond_label(text, &block.cond)?;
@@ -99,7 +100,7 @@ impl Scope<'_> {
         statements: &[Stmt],
         bytes: &'a [u8],
     ) -> Result<Option<&'a [u8]>, Memory>
-        ensures { IfOk result (λ found. MatchOption found (IsNoFront (statements_then self.now.number self.now.names.now self.now.ctx statements.now) bytes.now) (λ rest. bytes.now ≡ statements_then self.now.number self.now.names.now self.now.ctx statements.now rest.now)) }
+        ensures { IfOk result (λ found. MatchOption found (IsNoFront (statements_then (scope_wording self.now) statements.now) bytes.now) (λ rest. bytes.now ≡ statements_then (scope_wording self.now) statements.now rest.now)) }
     {
         let mut rest = bytes;
         for statement in statements {
@@ -117,7 +118,7 @@ impl Scope<'_> {
         statement: &Stmt,
         bytes: &'a [u8],
     ) -> Result<Option<&'a [u8]>, Memory>
-        ensures { IfOk result (λ found. MatchOption found (IsNoFront (statement_then self.now.number self.now.names.now self.now.ctx statement.now) bytes.now) (λ rest. bytes.now ≡ statement_then self.now.number self.now.names.now self.now.ctx statement.now rest.now)) }
+        ensures { IfOk result (λ found. MatchOption found (IsNoFront (statement_then (scope_wording self.now) statement.now) bytes.now) (λ rest. bytes.now ≡ statement_then (scope_wording self.now) statement.now rest.now)) }
     {
         text.clear();
         self.append_statement(text, statement)?;

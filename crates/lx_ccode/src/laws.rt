@@ -3,20 +3,22 @@ ghost use Rattle.std.specs.Prelude.{◌≡◌, ◌↔◌, ◌≤◌, ◌+◌, �
 ghost use Rattle.std.specs.List.{AllByRecursion, list_any};
 ghost use Rattle.lx_base.specs.Names.{Spellings};
 ghost use Rattle.lx_ccode.specs.declared.piece.LineMark.{LineMark};
-ghost use Rattle.lx_ccode.specs.Bodies.{body_piece_text, no_body};
+ghost use Rattle.lx_ccode.specs.Bodies.{body_piece_text};
+ghost use Rattle.lx_ccode.specs.declared.bodies.Body.TheVariants.{Empty};
 ghost use Rattle.lx_ccode.specs.Marks.{EndsMarks, HasNoBegin, IsUnmarked, IsUnmarkedLine, begins_piece};
 ghost use Rattle.lx_ccode.specs.declared.piece.Stmt.{Stmt};
 ghost use Rattle.lx_ccode.specs.declared.piece.Piece.{Piece};
 ghost use Rattle.lx_ccode.specs.Effects.{ChangesOnly, answers_after, machine_after};
 ghost use Rattle.lx_ccode.specs.Front.{BeginsWithPiece};
-ghost use Rattle.lx_ccode.specs.Machine.{Answer, Machine, code_at, step, stored_block, units_of_answers};
+ghost use Rattle.lx_ccode.specs.Machine.{Answer, Machine, Outcome, code_at, ends, goes_on, step, stored_block, units_of_answers};
 ghost use Rattle.lx_ccode.specs.Reading.{piece_at};
-ghost use Rattle.lx_ccode.specs.Runs.{Ended, IsRun, entry_block, fresh_machine, run_of};
+ghost use Rattle.lx_ccode.specs.Runs.{Ended, IsRun, ended, entry_block, fresh_machine, run_of};
 ghost use Rattle.lx_ccode.specs.Schedules.{Schedule};
 ghost use Rattle.lx_ccode.specs.States.{stores};
 ghost use Rattle.lx_ccode.specs.Statements.{all_statements, is_refill};
 ghost use Rattle.lx_ccode.specs.Stuck.{CannotDo, HasWayBack, IsStuck};
 ghost use Rattle.lx_ccode.specs.Text.{piece_text};
+ghost use Rattle.lx_ccode.specs.Traces.{IsTold, trace, trace_on};
 ghost use Rattle.lx_ccode.specs.Validity.{IsLine, IsShort, IsValid, JumpsBelow};
 
 /// A text has one reading: no text is that of two valid pieces, and none is a proper front of another's.
@@ -42,7 +44,7 @@ pub fn reading_finds_the_piece()
 /// where what stands behind completes none. The same holds of a piece without a scanner.
 pub fn begin_marks_stand_at_the_front()
     ensures scanner { (piece : Piece) (behind : List ℕ) → IsValid piece → AllByRecursion IsUnmarked (all_statements piece.blocks) → IsUnmarkedLine piece.line → begins_piece (47 ∷ behind) ≡ false → HasNoBegin (drop 1 (piece_text piece)) behind }
-    ensures empty { (number : ℕ) (names : Spellings) (line : Option LineMark) (behind : List ℕ) → IsShort number → IsLine line → IsUnmarkedLine line → begins_piece (47 ∷ behind) ≡ false → HasNoBegin (drop 1 (body_piece_text number names no_body line)) behind }
+    ensures empty { (number : ℕ) (names : Spellings) (line : Option LineMark) (behind : List ℕ) → IsShort number → IsLine line → IsUnmarkedLine line → begins_piece (47 ∷ behind) ≡ false → HasNoBegin (drop 1 (body_piece_text number names Empty line)) behind }
 {}
 
 /// Where no begin mark begins in a text before some bytes, none begins in it before bytes into which no mark goes on.
@@ -61,6 +63,21 @@ pub fn steps_change_only_their_part()
 pub fn schedules_determine_runs()
     ensures is_run { (piece : Piece) (stream : List ℕ) (start : ℕ) (cond : List ℕ) (schedule : Schedule) (code : List Stmt) → IsValid piece → code_at piece.blocks (entry_block piece.conds cond) ≡ Some code → IsRun piece stream start 0 code (fresh_machine start schedule.first cond) schedule.answers (run_of piece stream start cond schedule) }
     ensures no_other { (piece : Piece) (stream : List ℕ) (start steps : ℕ) (code : List Stmt) (machine : Machine) (answers : List Answer) (end other : Ended) → IsRun piece stream start steps code machine answers end → IsRun piece stream start steps code machine answers other → end ≡ other }
+{}
+
+/// A run is what its traces tell: it ends as the match does behind its first steps, unless so many were made before that they are
+/// the count of a loop. What the traces of a match tell is one run.
+pub fn runs_are_told_by_traces()
+    ensures told { (piece : Piece) (stream : List ℕ) (start : ℕ) (cond : List ℕ) (schedule : Schedule) (code : List Stmt) → IsValid piece → code_at piece.blocks (entry_block piece.conds cond) ≡ Some code → IsTold piece stream start code (fresh_machine start schedule.first cond) schedule.answers (run_of piece stream start cond schedule) }
+    ensures no_other { (piece : Piece) (stream : List ℕ) (start : ℕ) (code : List Stmt) (machine : Machine) (answers : List Answer) (end other : Ended) → IsTold piece stream start code machine answers end → IsTold piece stream start code machine answers other → end ≡ other }
+{}
+
+/// Traces go on one behind another, with a statement for each step while the match goes on, and a match ends in one way.
+pub fn traces_go_on()
+    ensures made { (piece : Piece) (stream : List ℕ) (steps more : ℕ) (code : List Stmt) (machine : Machine) (answers : List Answer) → (trace piece stream (steps + more) code machine answers).made ≡ (trace piece stream steps code machine answers).made ++ (trace_on piece stream more (trace piece stream steps code machine answers).next).made }
+    ensures next { (piece : Piece) (stream : List ℕ) (steps more : ℕ) (code : List Stmt) (machine : Machine) (answers : List Answer) → (trace piece stream (steps + more) code machine answers).next ≡ (trace_on piece stream more (trace piece stream steps code machine answers).next).next }
+    ensures counted { (piece : Piece) (stream : List ℕ) (steps : ℕ) (code next : List Stmt) (machine after : Machine) (answers others : List Answer) → (trace piece stream steps code machine answers).next ≡ goes_on next after others → length (trace piece stream steps code machine answers).made ≡ steps }
+    ensures one_end { (piece : Piece) (stream : List ℕ) (steps others : ℕ) (code : List Stmt) (machine after last : Machine) (answers : List Answer) (outcome other : Outcome) → (trace piece stream steps code machine answers).next ≡ ends outcome after → (trace piece stream others code machine answers).next ≡ ends other last → ended outcome after ≡ ended other last }
 {}
 
 /// A run ends between its start and the last unit that its schedule adds to the buffer.

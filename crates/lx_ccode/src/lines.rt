@@ -4,8 +4,11 @@ ghost use Rattle.std.specs.Fmt.{decimal};
 ghost use Rattle.lx_base.specs.Text.{joined};
 ghost use Rattle.lx_base.specs.Names.{cursor, limit, refill, current_unit, last_accept, set_condition, condition_prefix, label_prefix};
 ghost use Rattle.lx_ccode.specs.Registers.{register_text, history_text};
-ghost use Rattle.lx_ccode.specs.Text.{statement_then, statements_then, line_then, goto_then, block_then, escaped, hexadecimal};
+ghost use Rattle.lx_ccode.specs.Heads.{is_custom};
+ghost use Rattle.lx_ccode.specs.Text.{custom_then, pointer_then, statement_then, statements_then, line_by, line_then, goto_then, block_then, escaped, hexadecimal};
+ghost use Rattle.lx_ccode.specs.Wording.{scope_wording};
 
+use crate::heads::is_custom;
 use crate::numerals::{decimal, hexadecimal, history_text, register_text};
 use crate::piece::{LineMark, Piece, Stmt};
 use lx_base::{Memory, Names, append_parts, names};
@@ -23,6 +26,8 @@ pub struct Scope<'a> {
     pub names: &'a Names,
     /// Whether register 1 is spelled as the context marker.
     pub ctx: bool,
+    /// Whether the input is read by primitives of the user's.
+    pub custom: bool,
 }
 
 impl<'a> Scope<'a> {
@@ -31,12 +36,14 @@ impl<'a> Scope<'a> {
         ensures number { result.number ≡ piece.now.number }
         ensures names { result.names.now ≡ piece.now.names }
         ensures ctx { result.ctx ≡ piece.now.ctx }
+        ensures custom { result.custom ≡ is_custom piece.now.head }
     {
         Scope {
             alloc,
             number: piece.number,
             names: &piece.names,
             ctx: piece.ctx,
+            custom: is_custom(&piece.head),
         }
     }
 }
@@ -44,7 +51,7 @@ impl<'a> Scope<'a> {
 impl Scope<'_> {
     /// Appends the lines of statements, in order.
     pub fn append_statements(&self, text: &mut Vec<u8>, statements: &[Stmt]) -> Result<(), Memory>
-        ensures { OnOk result (text.new.items ≡ text.old.items ++ statements_then self.now.number self.now.names.now self.now.ctx statements.now []) }
+        ensures { OnOk result (text.new.items ≡ text.old.items ++ statements_then (scope_wording self.now) statements.now []) }
     {
         for statement in statements {
             self.append_statement(text, statement)?;
@@ -54,7 +61,36 @@ impl Scope<'_> {
 
     /// Appends the line of a statement.
     pub fn append_statement(&self, text: &mut Vec<u8>, statement: &Stmt) -> Result<(), Memory>
-        ensures { OnOk result (text.new.items ≡ text.old.items ++ statement_then self.now.number self.now.names.now self.now.ctx statement.now []) }
+        ensures { OnOk result (text.new.items ≡ text.old.items ++ statement_then (scope_wording self.now) statement.now []) }
+    {
+        if self.custom {
+            self.append_custom(text, statement)
+        } else {
+            self.append_pointer(text, statement)
+        }
+    }
+
+    /// Appends the line of a statement, where the input is read by primitives of the user's.
+    fn append_custom(&self, text: &mut Vec<u8>, statement: &Stmt) -> Result<(), Memory>
+        ensures { OnOk result (text.new.items ≡ text.old.items ++ custom_then (scope_wording self.now) statement.now []) }
+    {
+        match statement {
+            Stmt::Peek => { append_assignment(text, names::current_unit(self.names), b"YYPEEK()") }
+            Stmt::Skip => append_parts(text, &[b"\tYYSKIP();\n"]),
+            Stmt::Backup => append_parts(text, &[b"\tYYBACKUP();\n"]),
+            Stmt::Restore => append_parts(text, &[b"\tYYRESTORE();\n"]),
+            Stmt::Set(register) => self.append_register_call(text, b"YYSTAGP", *register),
+            Stmt::Unset(register) => self.append_register_call(text, b"YYSTAGN", *register),
+            Stmt::Back(register) => self.append_register_call(text, b"YYRESTORETAG", *register),
+            Stmt::Need(units) => self.append_custom_need(text, *units),
+            Stmt::IfEnd(block) => self.append_custom_if_end(text, *block),
+            _ => self.append_pointer(text, statement),
+        }
+    }
+
+    /// Appends the line of a statement, where the input is read through pointers.
+    fn append_pointer(&self, text: &mut Vec<u8>, statement: &Stmt) -> Result<(), Memory>
+        ensures { OnOk result (text.new.items ≡ text.old.items ++ pointer_then (scope_wording self.now) statement.now []) }
     {
         let cursor = names::cursor(self.names);
         let marker = names::marker(self.names);
@@ -93,7 +129,7 @@ impl Scope<'_> {
     }
 
     fn append_peek(&self, text: &mut Vec<u8>) -> Result<(), Memory>
-        ensures { OnOk result (text.new.items ≡ text.old.items ++ statement_then self.now.number self.now.names.now self.now.ctx Stmt.Peek []) }
+        ensures { OnOk result (text.new.items ≡ text.old.items ++ pointer_then (scope_wording self.now) Stmt.Peek []) }
     {
         let current_unit = names::current_unit(self.names);
         append_parts(
@@ -103,6 +139,56 @@ impl Scope<'_> {
                 current_unit,
                 b" = *",
                 names::cursor(self.names),
+                b";\n",
+            ],
+        )
+    }
+
+    /// Appends a call of a primitive of the user's with a register.
+    fn append_register_call(
+        &self,
+        text: &mut Vec<u8>,
+        name: &[u8],
+        register: u32,
+    ) -> Result<(), Memory>
+        ensures { OnOk result (text.new.items ≡ text.old.items ++ joined (codes "\t" ∷ name.now ∷ codes "(" ∷ register_text self.now.names.now self.now.ctx register ∷ codes ");\n" ∷ []) []) }
+    {
+        let register = register_text(self.alloc, self.names, self.ctx, register)?;
+        append_call(text, name, &register)
+    }
+
+    fn append_custom_need(&self, text: &mut Vec<u8>, units: u32) -> Result<(), Memory>
+        ensures { OnOk result (text.new.items ≡ text.old.items ++ custom_then (scope_wording self.now) (Stmt.Need units) []) }
+    {
+        let refill = names::refill(self.names);
+        let units = decimal(self.alloc, u64::from(units))?;
+        let units = units.as_bytes();
+        append_parts(
+            text,
+            &[
+                b"\tif (YYLESSTHAN(",
+                units,
+                b")) ",
+                refill,
+                b"(",
+                units,
+                b");\n",
+            ],
+        )
+    }
+
+    fn append_custom_if_end(&self, text: &mut Vec<u8>, block: u64) -> Result<(), Memory>
+        ensures { OnOk result (text.new.items ≡ text.old.items ++ custom_then (scope_wording self.now) (Stmt.IfEnd block) []) }
+    {
+        let number = decimal(self.alloc, u64::from(self.number))?;
+        let block = decimal(self.alloc, block)?;
+        append_parts(
+            text,
+            &[
+                b"\tif (YYLESSTHAN(1)) goto yy",
+                number.as_bytes(),
+                b"_",
+                block.as_bytes(),
                 b";\n",
             ],
         )
@@ -140,14 +226,14 @@ impl Scope<'_> {
     }
 
     fn append_copy(&self, text: &mut Vec<u8>, register: u32, source: u32) -> Result<(), Memory>
-        ensures { OnOk result (text.new.items ≡ text.old.items ++ statement_then self.now.number self.now.names.now self.now.ctx (Stmt.Copy register source) []) }
+        ensures { OnOk result (text.new.items ≡ text.old.items ++ pointer_then (scope_wording self.now) (Stmt.Copy register source) []) }
     {
         let source = register_text(self.alloc, self.names, self.ctx, source)?;
         self.append_to_register(text, register, &source)
     }
 
     fn append_group_end(&self, text: &mut Vec<u8>, place: u32, register: u32) -> Result<(), Memory>
-        ensures { OnOk result (text.new.items ≡ text.old.items ++ statement_then self.now.number self.now.names.now self.now.ctx (Stmt.End place register) []) }
+        ensures { OnOk result (text.new.items ≡ text.old.items ++ pointer_then (scope_wording self.now) (Stmt.End place register) []) }
     {
         let place = decimal(self.alloc, u64::from(place))?;
         let register = register_text(self.alloc, self.names, self.ctx, register)?;
@@ -182,14 +268,14 @@ impl Scope<'_> {
         history: u32,
         source: u32,
     ) -> Result<(), Memory>
-        ensures { OnOk result (text.new.items ≡ text.old.items ++ statement_then self.now.number self.now.names.now self.now.ctx (Stmt.MCopy history source) []) }
+        ensures { OnOk result (text.new.items ≡ text.old.items ++ pointer_then (scope_wording self.now) (Stmt.MCopy history source) []) }
     {
         let history = history_text(self.alloc, self.names, history)?;
         self.append_from_history(text, &history, source)
     }
 
     fn append_if_unit(&self, text: &mut Vec<u8>, greatest: u32, block: u64) -> Result<(), Memory>
-        ensures { OnOk result (text.new.items ≡ text.old.items ++ statement_then self.now.number self.now.names.now self.now.ctx (Stmt.IfUnit greatest block) []) }
+        ensures { OnOk result (text.new.items ≡ text.old.items ++ pointer_then (scope_wording self.now) (Stmt.IfUnit greatest block) []) }
     {
         let current_unit = names::current_unit(self.names);
         let greatest = hexadecimal(self.alloc, greatest)?;
@@ -212,7 +298,7 @@ impl Scope<'_> {
     }
 
     fn append_if_accept(&self, text: &mut Vec<u8>, accept: u32, block: u64) -> Result<(), Memory>
-        ensures { OnOk result (text.new.items ≡ text.old.items ++ statement_then self.now.number self.now.names.now self.now.ctx (Stmt.IfAccept accept block) []) }
+        ensures { OnOk result (text.new.items ≡ text.old.items ++ pointer_then (scope_wording self.now) (Stmt.IfAccept accept block) []) }
     {
         let last_accept = names::last_accept(self.names);
         let accept = decimal(self.alloc, u64::from(accept))?;
@@ -235,7 +321,7 @@ impl Scope<'_> {
     }
 
     fn append_if_end(&self, text: &mut Vec<u8>, block: u64) -> Result<(), Memory>
-        ensures { OnOk result (text.new.items ≡ text.old.items ++ statement_then self.now.number self.now.names.now self.now.ctx (Stmt.IfEnd block) []) }
+        ensures { OnOk result (text.new.items ≡ text.old.items ++ pointer_then (scope_wording self.now) (Stmt.IfEnd block) []) }
     {
         let cursor = names::cursor(self.names);
         let limit = names::limit(self.names);
@@ -258,14 +344,14 @@ impl Scope<'_> {
     }
 
     fn append_state(&self, text: &mut Vec<u8>, state: u64) -> Result<(), Memory>
-        ensures { OnOk result (text.new.items ≡ text.old.items ++ statement_then self.now.number self.now.names.now self.now.ctx (Stmt.State state) []) }
+        ensures { OnOk result (text.new.items ≡ text.old.items ++ pointer_then (scope_wording self.now) (Stmt.State state) []) }
     {
         let state = decimal(self.alloc, state)?;
         append_call(text, names::set_state(self.names), state.as_bytes())
     }
 
     fn append_need(&self, text: &mut Vec<u8>, units: u32) -> Result<(), Memory>
-        ensures { OnOk result (text.new.items ≡ text.old.items ++ statement_then self.now.number self.now.names.now self.now.ctx (Stmt.Need units) []) }
+        ensures { OnOk result (text.new.items ≡ text.old.items ++ pointer_then (scope_wording self.now) (Stmt.Need units) []) }
     {
         let limit = names::limit(self.names);
         let cursor = names::cursor(self.names);
@@ -282,7 +368,7 @@ impl Scope<'_> {
     }
 
     fn append_try(&self, text: &mut Vec<u8>, block: u64) -> Result<(), Memory>
-        ensures { OnOk result (text.new.items ≡ text.old.items ++ statement_then self.now.number self.now.names.now self.now.ctx (Stmt.Try block) []) }
+        ensures { OnOk result (text.new.items ≡ text.old.items ++ pointer_then (scope_wording self.now) (Stmt.Try block) []) }
     {
         let refill = names::refill(self.names);
         let number = decimal(self.alloc, u64::from(self.number))?;
@@ -291,7 +377,7 @@ impl Scope<'_> {
     }
 
     fn append_cond(&self, text: &mut Vec<u8>, cond: &[u8]) -> Result<(), Memory>
-        ensures { OnOk result (text.new.items ≡ text.old.items ++ statement_then self.now.number self.now.names.now self.now.ctx (Stmt.Cond cond.now) []) }
+        ensures { OnOk result (text.new.items ≡ text.old.items ++ pointer_then (scope_wording self.now) (Stmt.Cond cond.now) []) }
     {
         let set_condition = names::set_condition(self.names);
         let condition_prefix = names::condition_prefix(self.names);
@@ -302,7 +388,7 @@ impl Scope<'_> {
     }
 
     fn append_jump(&self, text: &mut Vec<u8>, block: u64) -> Result<(), Memory>
-        ensures { OnOk result (text.new.items ≡ text.old.items ++ statement_then self.now.number self.now.names.now self.now.ctx (Stmt.Goto block) []) }
+        ensures { OnOk result (text.new.items ≡ text.old.items ++ pointer_then (scope_wording self.now) (Stmt.Goto block) []) }
     {
         let number = decimal(self.alloc, u64::from(self.number))?;
         let block = decimal(self.alloc, block)?;
@@ -319,7 +405,7 @@ impl Scope<'_> {
     }
 
     fn append_leave(&self, text: &mut Vec<u8>) -> Result<(), Memory>
-        ensures { OnOk result (text.new.items ≡ text.old.items ++ statement_then self.now.number self.now.names.now self.now.ctx Stmt.Leave []) }
+        ensures { OnOk result (text.new.items ≡ text.old.items ++ pointer_then (scope_wording self.now) Stmt.Leave []) }
     {
         let number = decimal(self.alloc, u64::from(self.number))?;
         append_parts(text, &[b"\tgoto yy", number.as_bytes(), b"_none;\n"])
@@ -332,14 +418,14 @@ impl Scope<'_> {
         line: &Option<LineMark>,
         action: &[u8],
     ) -> Result<(), Memory>
-        ensures { OnOk result (text.new.items ≡ text.old.items ++ statement_then self.now.number self.now.names.now self.now.ctx (Stmt.Code rule line.now action.now) []) }
+        ensures { OnOk result (text.new.items ≡ text.old.items ++ pointer_then (scope_wording self.now) (Stmt.Code rule line.now action.now) []) }
     {
         append_line(self.alloc, text, line)?;
         append_action(self.alloc, text, rule, action)
     }
 
     fn append_cond_jump(&self, text: &mut Vec<u8>, cond: &[u8], rule: u32) -> Result<(), Memory>
-        ensures { OnOk result (text.new.items ≡ text.old.items ++ statement_then self.now.number self.now.names.now self.now.ctx (Stmt.Jump cond.now rule) []) }
+        ensures { OnOk result (text.new.items ≡ text.old.items ++ pointer_then (scope_wording self.now) (Stmt.Jump cond.now rule) []) }
     {
         let label_prefix = names::label_prefix(self.names);
         let rule = decimal(self.alloc, u64::from(rule))?;

@@ -1,7 +1,7 @@
 //! How registers, histories and numbers are spelled.
 ghost use Rattle.std.specs.Prelude.{◌≡◌, IfOk, string_bytes};
 ghost use Rattle.std.specs.Fmt.{decimal};
-ghost use Rattle.lx_ccode.specs.Registers.{register_text, history_text};
+ghost use Rattle.lx_ccode.specs.Registers.{register_text, history_text, variable_text};
 ghost use Rattle.lx_ccode.specs.Text.{hexadecimal};
 
 use lx_base::names::{context_marker, tag_prefix};
@@ -36,6 +36,22 @@ pub fn history_text(alloc: Global, names: &Names, history: u32) -> Result<Vec<u8
     let history = decimal(alloc, u64::from(history))?;
     append_parts(&mut text, &[tag_prefix(names), b"m", history.as_bytes()])?;
     Ok(text)
+}
+
+/// A history where `history` says so, else a register, which is never the context marker.
+pub fn variable_text(
+    alloc: Global,
+    names: &Names,
+    history: bool,
+    number: u32,
+) -> Result<Vec<u8>, Memory>
+    ensures { IfOk result (λ text. text.items ≡ variable_text names.now history number) }
+{
+    if history {
+        history_text(alloc, names, number)
+    } else {
+        register_text(alloc, names, false, number)
+    }
 }
 
 /// A number in decimal digits.

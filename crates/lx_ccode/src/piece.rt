@@ -1,5 +1,5 @@
 //! Emitted pieces: what stands in an output in the place of a block with rules.
-use lx_base::{ByteText, Names, Sequence};
+use lx_base::{ByteText, Enc, Names, Sequence};
 
 /// A scanner as it is emitted: a brace block of C between a begin mark and an end mark.
 ///
@@ -9,6 +9,8 @@ use lx_base::{ByteText, Names, Sequence};
 pub struct Piece {
     /// The number of the piece in its output, counted from 1. Its labels begin with it.
     pub number: u32,
+    /// What the piece tells of itself; a piece of an older output has none.
+    pub head: Option<Head>,
     /// The seventeen spellings.
     pub names: Names,
     /// The bytes of a code unit: 1, 2 or 4.
@@ -27,6 +29,37 @@ pub struct Piece {
     pub blocks: Sequence<CodeBlock>,
     /// The place in the source behind the block, told to the C compiler where there is one.
     pub line: Option<LineMark>,
+}
+
+/// How a scanner finds the end of its input.
+///
+/// Which unit at the end and which refills a piece of each mode has is said in `specs/Agreement.antt`.
+#[derive(Clone, Copy, Debug, PartialEq, Eq)]
+pub enum Mode {
+    /// It does not: a unit that no rule takes stands behind the input.
+    Plain,
+    /// It asks for as many units as it may read before the next check.
+    Count,
+    /// A unit stands at the end of a buffer that holds the whole input.
+    EofFixed,
+    /// A unit stands at the end of the buffer, where the scanner asks for a refill.
+    Eof,
+}
+
+/// What a piece tells of itself in its head line. It has to agree with the piece.
+#[derive(Clone, Copy, Debug)]
+pub struct Head {
+    /// Whether the input is read by primitives of the user's, as `YYPEEK`, and not through pointers.
+    pub custom: bool,
+    /// The encoding of the input.
+    pub enc: Enc,
+    pub mode: Mode,
+    /// The greatest number of a register in the piece, or 0.
+    pub regs: u32,
+    /// One more than the greatest number of a history in the piece, or 0.
+    pub mregs: u32,
+    /// How many states the piece stores.
+    pub states: u64,
 }
 
 /// A stored state, and the block where a scanner that stored it goes on.

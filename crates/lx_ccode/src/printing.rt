@@ -5,12 +5,13 @@ ghost use Rattle.lx_base.specs.declared.limits.TheConstants.{STATEMENT_LIMIT};
 ghost use Rattle.lx_base.specs.Text.{joined};
 ghost use Rattle.lx_ccode.specs.Parts.{closing_then, opening_then};
 ghost use Rattle.lx_ccode.specs.Statements.{statement_count};
-ghost use Rattle.lx_ccode.specs.Text.{name_then, names_then, eof_then, piece_text};
+ghost use Rattle.lx_ccode.specs.Text.{line_then, name_then, names_then, eof_then, piece_text};
 ghost use Rattle.lx_ccode.specs.Validity.{IsValid};
 
+use crate::heads::append_head;
 use crate::lines::{Scope, append_line};
 use crate::numerals::decimal;
-use crate::piece::{CodeBlock, Piece};
+use crate::piece::{CodeBlock, LineMark, Piece};
 use lx_base::limits::STATEMENT_LIMIT;
 use lx_base::{ByteText, Memory, append_parts};
 use std::alloc::Global;
@@ -34,7 +35,9 @@ pub(crate) fn append_opening(alloc: Global, text: &mut Vec<u8>, piece: &Piece) -
 {
     let scope = Scope::of(alloc, piece);
     let conds = piece.conds.as_slice();
-    append_head(alloc, text, piece.number, piece.unit)?;
+    append_begin(alloc, text, piece.number)?;
+    append_head(alloc, text, &piece.head)?;
+    append_unit(alloc, text, piece.unit)?;
     append_eof(alloc, text, piece.eof)?;
     append_names(alloc, text, piece.names.as_slice())?;
     append_parts(text, &[b"*/\n{\n"])?;
@@ -50,7 +53,20 @@ pub(crate) fn append_closing(alloc: Global, text: &mut Vec<u8>, piece: &Piece) -
 {
     let scope = Scope::of(alloc, piece);
     scope.append_none(text)?;
-    append_line(alloc, text, &piece.line)?;
+    append_end(alloc, text, &piece.line)?;
+    Ok(())
+}
+
+/// Appends the `#line` behind a piece, where there is one, and the end mark. Where memory runs out a part of
+/// it may stand there.
+pub(crate) fn append_end(
+    alloc: Global,
+    text: &mut Vec<u8>,
+    line: &Option<LineMark>,
+) -> Result<(), Memory>
+    ensures { OnOk result (text.new.items ≡ text.old.items ++ line_then line.now (joined (codes "/*!end:re2c*/" ∷ []) [])) }
+{
+    append_line(alloc, text, line)?;
     append_parts(text, &[b"/*!end:re2c*/"])?;
     Ok(())
 }
@@ -79,21 +95,19 @@ pub fn count_statements(blocks: &[CodeBlock]) -> Option<u64>
     Some(count)
 }
 
-fn append_head(alloc: Global, text: &mut Vec<u8>, number: u32, unit: u32) -> Result<(), Memory>
-    ensures { OnOk result (text.new.items ≡ text.old.items ++ joined (codes "/*!begin:re2c " ∷ decimal number ∷ codes "*/\n/*!names:re2c " ∷ decimal unit ∷ codes " " ∷ []) []) }
+/// Appends the begin mark of the piece with this number. Where memory runs out a part of it may stand there.
+pub(crate) fn append_begin(alloc: Global, text: &mut Vec<u8>, number: u32) -> Result<(), Memory>
+    ensures { OnOk result (text.new.items ≡ text.old.items ++ joined (codes "/*!begin:re2c " ∷ decimal number ∷ codes "*/\n" ∷ []) []) }
 {
     let number = decimal(alloc, u64::from(number))?;
-    let unit = decimal(alloc, u64::from(unit))?;
-    append_head_of(text, number.as_bytes(), unit.as_bytes())
+    append_parts(text, &[b"/*!begin:re2c ", number.as_bytes(), b"*/\n"])
 }
 
-fn append_head_of(text: &mut Vec<u8>, number: &[u8], unit: &[u8]) -> Result<(), Memory>
-    ensures { OnOk result (text.new.items ≡ text.old.items ++ joined (codes "/*!begin:re2c " ∷ number.now ∷ codes "*/\n/*!names:re2c " ∷ unit.now ∷ codes " " ∷ []) []) }
+fn append_unit(alloc: Global, text: &mut Vec<u8>, unit: u32) -> Result<(), Memory>
+    ensures { OnOk result (text.new.items ≡ text.old.items ++ joined (codes "/*!names:re2c " ∷ decimal unit ∷ codes " " ∷ []) []) }
 {
-    append_parts(
-        text,
-        &[b"/*!begin:re2c ", number, b"*/\n/*!names:re2c ", unit, b" "],
-    )
+    let unit = decimal(alloc, u64::from(unit))?;
+    append_parts(text, &[b"/*!names:re2c ", unit.as_bytes(), b" "])
 }
 
 fn append_eof(alloc: Global, text: &mut Vec<u8>, eof: Option<u32>) -> Result<(), Memory>

@@ -1,13 +1,16 @@
 //! Writes the parts of a piece that hold statements and switches.
 ghost use Rattle.std.specs.Prelude.{◌≡◌, ◌++◌, [], ◌∷◌, length, OnOk, Some, codes};
 ghost use Rattle.std.specs.Fmt.{decimal};
+ghost use Rattle.lx_base.specs.Names.{get_state};
 ghost use Rattle.lx_base.specs.Text.{joined};
 ghost use Rattle.lx_ccode.specs.Text.{label_then, block_then, code_block_then, blocks_then, declarations_then, state_case_then, state_cases_then, start_then, state_switch_then, cond_case_then, cond_cases_then, cond_switch_then};
+ghost use Rattle.lx_ccode.specs.Wording.{scope_wording};
 
 use crate::lines::Scope;
 use crate::numerals::decimal;
 use crate::piece::{CodeBlock, CondCase, StateCase};
-use lx_base::{ByteText, Memory, Sequence, append_parts, names};
+use lx_base::{ByteText, Memory, Names, Sequence, append_parts, names};
+use std::alloc::Global;
 
 impl Scope<'_> {
     /// Appends the declarations of the two variables, where the piece has them.
@@ -51,13 +54,9 @@ impl Scope<'_> {
     ) -> Result<(), Memory>
         ensures { OnOk result (text.new.items ≡ text.old.items ++ state_switch_then self.now.number self.now.names.now conds.now (Some cases.now) []) }
     {
-        append_parts(
-            text,
-            &[b"\tswitch (", names::get_state(self.names), b"()) {\n"],
-        )?;
+        append_state_head(text, self.names)?;
         self.append_state_cases(text, cases)?;
-        append_parts(text, &[b"\tdefault: goto "])?;
-        self.append_start(text, conds)?;
+        append_default(self.alloc, text, self.number, conds)?;
         Ok(())
     }
 
@@ -65,50 +64,9 @@ impl Scope<'_> {
         ensures { OnOk result (text.new.items ≡ text.old.items ++ state_cases_then self.now.number cases.now []) }
     {
         for case in cases {
-            self.append_state_case(text, case)?;
+            append_state_case(self.alloc, text, self.number, case)?;
         }
         Ok(())
-    }
-
-    fn append_state_case(&self, text: &mut Vec<u8>, case: &StateCase) -> Result<(), Memory>
-        ensures { OnOk result (text.new.items ≡ text.old.items ++ state_case_then self.now.number case.now []) }
-    {
-        let state = decimal(self.alloc, case.state)?;
-        let number = decimal(self.alloc, u64::from(self.number))?;
-        let block = decimal(self.alloc, case.block)?;
-        append_parts(
-            text,
-            &[
-                b"\tcase ",
-                state.as_bytes(),
-                b": goto yy",
-                number.as_bytes(),
-                b"_",
-                block.as_bytes(),
-                b";\n",
-            ],
-        )
-    }
-
-    fn append_start(&self, text: &mut Vec<u8>, conds: &[CondCase]) -> Result<(), Memory>
-        ensures { OnOk result (text.new.items ≡ text.old.items ++ start_then self.now.number conds.now (joined (codes ";\n\t}\n" ∷ []) [])) }
-    {
-        let number = decimal(self.alloc, u64::from(self.number))?;
-        if conds.is_empty() {
-            let first = decimal(self.alloc, 0)?;
-            append_parts(
-                text,
-                &[
-                    b"yy",
-                    number.as_bytes(),
-                    b"_",
-                    first.as_bytes(),
-                    b";\n\t}\n",
-                ],
-            )
-        } else {
-            append_parts(text, &[b"yy", number.as_bytes(), b"_cond;\n\t}\n"])
-        }
     }
 
     /// Appends the switch over conditions, where there are any.
@@ -157,7 +115,7 @@ impl Scope<'_> {
 
     /// Appends blocks, of which the first is block 0.
     pub fn append_blocks(&self, text: &mut Vec<u8>, blocks: &[CodeBlock]) -> Result<(), Memory>
-        ensures { OnOk result (text.new.items ≡ text.old.items ++ blocks_then self.now.number self.now.names.now self.now.ctx 0 blocks.now []) }
+        ensures { OnOk result (text.new.items ≡ text.old.items ++ blocks_then (scope_wording self.now) 0 blocks.now []) }
     {
         for (place, block) in blocks.iter().enumerate() {
             self.append_code_block(text, place as u64, block)?;
@@ -172,7 +130,7 @@ impl Scope<'_> {
         place: u64,
         block: &CodeBlock,
     ) -> Result<(), Memory>
-        ensures { OnOk result (text.new.items ≡ text.old.items ++ code_block_then self.now.number self.now.names.now self.now.ctx place block.now []) }
+        ensures { OnOk result (text.new.items ≡ text.old.items ++ code_block_then (scope_wording self.now) place block.now []) }
     {
         self.append_cond_label(text, &block.cond)?;
         self.append_label(text, place)?;
@@ -215,6 +173,81 @@ impl Scope<'_> {
     {
         let number = decimal(self.alloc, u64::from(self.number))?;
         append_parts(text, &[b"yy", number.as_bytes(), b"_none:;\n}\n"])
+    }
+}
+
+/// Appends the head of a switch over states. Where memory runs out a part of it may stand there.
+pub fn append_state_head(text: &mut Vec<u8>, names: &Names) -> Result<(), Memory>
+    ensures { OnOk result (text.new.items ≡ text.old.items ++ joined (codes "\tswitch (" ∷ get_state names.now ∷ codes "()) {\n" ∷ []) []) }
+{
+    append_parts(text, &[b"\tswitch (", names::get_state(names), b"()) {\n"])
+}
+
+/// Appends a case of a switch over states, which goes to a block of the piece with this number. Where memory
+/// runs out a part of it may stand there.
+pub fn append_state_case(
+    alloc: Global,
+    text: &mut Vec<u8>,
+    number: u32,
+    case: &StateCase,
+) -> Result<(), Memory>
+    ensures { OnOk result (text.new.items ≡ text.old.items ++ state_case_then number case.now []) }
+{
+    let state = decimal(alloc, case.state)?;
+    let number = decimal(alloc, u64::from(number))?;
+    let block = decimal(alloc, case.block)?;
+    append_parts(
+        text,
+        &[
+            b"\tcase ",
+            state.as_bytes(),
+            b": goto yy",
+            number.as_bytes(),
+            b"_",
+            block.as_bytes(),
+            b";\n",
+        ],
+    )
+}
+
+/// Appends the end of a switch over states. Without a stored state it goes to the start of the piece with
+/// this number and these conditions. Where memory runs out a part of it may stand there.
+pub fn append_default(
+    alloc: Global,
+    text: &mut Vec<u8>,
+    number: u32,
+    conds: &[CondCase],
+) -> Result<(), Memory>
+    ensures { OnOk result (text.new.items ≡ text.old.items ++ joined (codes "\tdefault: goto " ∷ []) (start_then number conds.now (joined (codes ";\n\t}\n" ∷ []) []))) }
+{
+    append_parts(text, &[b"\tdefault: goto "])?;
+    append_start(alloc, text, number, conds)?;
+    Ok(())
+}
+
+fn append_start(
+    alloc: Global,
+    text: &mut Vec<u8>,
+    number: u32,
+    conds: &[CondCase],
+) -> Result<(), Memory>
+    ensures { OnOk result (text.new.items ≡ text.old.items ++ start_then number conds.now (joined (codes ";\n\t}\n" ∷ []) [])) }
+{
+    let number = decimal(alloc, u64::from(number))?;
+    if conds.is_empty() {
+        let first = decimal(alloc, 0)?;
+        append_parts(
+            text,
+            &[
+                b"yy",
+                number.as_bytes(),
+                b"_",
+                first.as_bytes(),
+                b";\n\t}\n",
+            ],
+        )
+    } else {
+        append_parts(text, &[b"yy", number.as_bytes(), b"_cond;\n\t}\n"])
     }
 }
 

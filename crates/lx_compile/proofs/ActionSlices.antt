@@ -18,7 +18,8 @@ use Rattle.lx_parse.specs.declared.sorts.Sort.TheVariants.{Code}
 use Rattle.lx_parse.proofs.Behind.{IsBehind, here, behind_next, behind_trans, drop-place, head_behind, item_behind, list_behind}
 use Rattle.lx_exprs.specs.Checks.{Check, Then}
 use Rattle.lx_rules.specs.Environments.{Environment}
-use Rattle.lx_rules.specs.Items.{Goes, HeadChecks, IsAfter, ItemChecks, ListChecks, RuleOf, State, TargetChecks, act_of, conds_of, ends, head_sort, next, refused}
+use Rattle.lx_rules.specs.Items.{Goes, HeadChecks, IsAfter, ItemChecks, ListChecks, State, TargetChecks, act_of, conds_of, ends, head_sort, next, refused}
+use Rattle.lx_rules.specs.Rules.{RuleOf}
 use Rattle.lx_forms.specs.Lexemes.{Lexeme, lexeme_of, lexemes_of, nth_lexeme, sort_at}
 use Rattle.lx_rules.specs.declared.resolved.Act.{Act}
 use Rattle.lx_rules.specs.declared.resolved.Resolved.{Resolved}
@@ -208,7 +209,7 @@ pub acts_of_body : (options : Options) (environment : Environment) (body : List 
 acts_of_body options environment body at start after resolved is =
     let stand = tokens_stand body start is.tokens is.read.tokens_are in
     let lexemes : List Lexeme = lexemes_of body is.tokens in
-    let state = is.resolves.0 in
+    let state = is.resolves.state in
     let acts = items_act options body start is.tokens stand.in_order stand.each_stands is.items (sorts_of block.Code body is.tokens) (here _) is.read.items_are in
-    subst (λ (l : List Act). AllByRecursion (HasAct options body lexemes) l) (sym is.resolves.3.acts)
-    (acts-map options body lexemes state.rules (acts-goes options body lexemes is.resolves.1 state refl acts tt))
+    subst (λ (l : List Act). AllByRecursion (HasAct options body lexemes) l) (sym is.resolves.ends.acts)
+    (acts-map options body lexemes state.rules (acts-goes options body lexemes is.resolves.goes state refl acts tt))

@@ -30,7 +30,7 @@ module _ (options : Options) (environment : Environment) (kind : BlockKind) (bod
   StopsAt-items tokens (stop.Fault fault) are stops = no_items tokens code are stops
 
   pub StopsAt-rules : (tokens : List Token) (items : List Item) (stopped : Stop) → IsRead body start tokens items
-      → StopsRules options at environment (lexemes_of body tokens) items stopped → StopsAt options environment kind body at start stopped
+      → StopsRules options Code at environment (lexemes_of body tokens) items stopped → StopsAt options environment kind body at start stopped
   StopsAt-rules tokens items stop.Memory read stops = stops
   StopsAt-rules tokens items (stop.Fault fault) read stops = refused tokens items code read stops
 

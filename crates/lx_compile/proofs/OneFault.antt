@@ -128,7 +128,7 @@ supported-alike config other_config (scanner ∷ scanners) (other ∷ others) fi
 
 AreSupported-alike : (resolved other : Resolved) → AreAlike resolved other → AreSupported resolved → AreSupported other
 AreSupported-alike resolved other alike are =
-    supported-alike resolved.config other.config resolved.scanners other.scanners alike.fill alike.scanners are
+    supported-alike resolved.config other.config resolved.scanners other.scanners (ap (λ (config : Config). config.fill) alike.config) alike.scanners are
 
 -- what is alike has too many kernels, or has not
 too_large-alike : (enc : Enc) (scanners others : List Scanner) → HaveSameRules scanners others → HasTooLarge enc scanners → HasTooLarge enc others
@@ -168,15 +168,15 @@ module _ (options : Options) where
     body-one : (after other : Environment) (resolved another : Resolved) → IsResolvedBody options environment body at start after resolved
         → IsResolvedBody options environment body at start other another → (after ≡ other) × AreAlike resolved another
     body-one after other resolved another is is_other =
-        Resolves-one options (lexemes_of body is.tokens) at environment is.items after other resolved another is.resolves
-        (resolves-again is.read is_other.read (λ tokens items. Resolves options at environment (lexemes_of body tokens) items other another) is_other.resolves)
+        Resolves-one options (lexemes_of body is.tokens) at environment is.items Code after other resolved another is.resolves
+        (resolves-again is.read is_other.read (λ tokens items. Resolves options Code at environment (lexemes_of body tokens) items other another) is_other.resolves)
 
     body_or_not : (after : Environment) (resolved : Resolved) (tokens : List Token) (items : List Item) (fault : Fault)
         → IsResolvedBody options environment body at start after resolved → IsRead body start tokens items
-        → IsBlockFault options at environment (lexemes_of body tokens) items fault → ⊥
+        → IsBlockFault options Code at environment (lexemes_of body tokens) items fault → ⊥
     body_or_not after resolved tokens items fault is read found =
-        resolves_or_not options (lexemes_of body is.tokens) at environment is.items after resolved fault is.resolves
-        (resolves-again is.read read (λ tokens items. IsBlockFault options at environment (lexemes_of body tokens) items fault) found)
+        resolves_or_not options (lexemes_of body is.tokens) at environment is.items Code after resolved fault is.resolves
+        (resolves-again is.read read (λ tokens items. IsBlockFault options Code at environment (lexemes_of body tokens) items fault) found)
 
     -- a body that is read has tokens, and is well-formed
     tokens_or_not : (tokens : List Token) (fault : Fault) → tokens_of body start ≡ Ok tokens → tokens_of body start ≡ Err fault → ⊥
@@ -227,8 +227,8 @@ module _ (options : Options) where
     fault-one fault other (refused tokens items code read found) (no_items others code_other are syntax) =
         absurd (items_or_not tokens others items other read are syntax)
     fault-one fault other (refused tokens items code read found) (refused others another code_other read_other found_other) =
-        IsBlockFault-one options (lexemes_of body tokens) at environment items fault other found
-        (resolves-again read read_other (λ tokens items. IsBlockFault options at environment (lexemes_of body tokens) items other) found_other)
+        IsBlockFault-one options (lexemes_of body tokens) at environment items Code fault other found
+        (resolves-again read read_other (λ tokens items. IsBlockFault options Code at environment (lexemes_of body tokens) items other) found_other)
     fault-one fault other (refused tokens items code read found) (unsupported after resolved code_other resolves not_supported is) =
         absurd (body_or_not after resolved tokens items fault resolves read found)
     fault-one fault other (unsupported after resolved code resolves not_supported is) (other_kind not_code is_other) = absurd (not_code code)

@@ -1,11 +1,12 @@
 -- A block has at most one scanner, since lists of conditions are not supported yet.
 use Rattle.std.proofs.Common.{ℕ, ◌≤◌, arith, Bool, List, [], ◌∷◌, ◌≡◌, length, ap, refl}
+use Rattle.lx_base.specs.declared.blocks.BlockKind.TheVariants.{Code}
 use Rattle.lx_base.specs.declared.places.Pos.{Pos}
 use Rattle.lx_base.specs.declared.settings.Options.{Options}
 use Rattle.lx_parse.specs.declared.items.Item.{Item}
 use Rattle.lx_rules.specs.Blocks.{AreScanners, Resolves, conditions_of}
 use Rattle.lx_rules.specs.Environments.{Environment}
-use Rattle.lx_rules.specs.Items.{RuleOf}
+use Rattle.lx_rules.specs.Rules.{RuleOf}
 use Rattle.lx_forms.specs.Lexemes.{Lexeme}
 use Rattle.lx_rules.specs.declared.resolved.Resolved.{Resolved}
 use Rattle.lx_rules.specs.declared.resolved.Scanner.{Scanner}
@@ -27,12 +28,12 @@ length-AreScanners named rules (cond ∷ conds) (scanner ∷ scanners) are = ome
 
 -- a block has one scanner, or none
 pub one_scanner : (options : Options) (at : Pos) (environment : Environment) (lexemes : List Lexeme) (items : List Item) (after : Environment) (resolved : Resolved)
-    → Resolves options at environment lexemes items after resolved → length resolved.scanners ≤ 1
+    → Resolves options Code at environment lexemes items after resolved → length resolved.scanners ≤ 1
 one_scanner options at environment lexemes items after resolved is =
-    let state = is.0 in
-    let usual = AreUsual-goes options lexemes is.1 state refl tt in
+    let state = is.state in
+    let usual = AreUsual-goes options lexemes is.goes state refl tt in
     omega (
       arith,
       length-conditions_of state.rules usual,
-      length-AreScanners options.conds state.rules (conditions_of state.rules) resolved.scanners is.3.scanners,
+      length-AreScanners options.conds state.rules (conditions_of state.rules) resolved.scanners is.ends.scanners,
     )

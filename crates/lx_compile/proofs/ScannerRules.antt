@@ -5,6 +5,7 @@ use Rattle.std.specs.List.{AllByRecursion}
 use Rattle.std.proofs.lemmas.Bool.{OnFalse_from}
 use Rattle.std.proofs.lemmas.List.Elements.{recursion_from_All}
 use Rattle.lx_base.specs.Names.{Spellings, IsTagName, usual_names}
+use Rattle.lx_base.specs.declared.blocks.BlockKind.TheVariants.{Code}
 use Rattle.lx_base.specs.declared.faults.Fault.{Fault}
 use Rattle.lx_base.specs.declared.places.Pos.{Pos}
 use Rattle.lx_base.specs.declared.settings.Enc.{Enc}
@@ -20,16 +21,18 @@ use Rattle.lx_regex.specs.Pattern.{Pattern}
 use Rattle.lx_regex.specs.declared.rules.Kind.{Kind}
 use Rattle.lx_regex.specs.declared.rules.Kind.TheVariants as kind
 use Rattle.lx_regex.specs.declared.rules.Rule.{Rule}
-use Rattle.lx_rules.specs.Blocks.{AreScanners, BlockChecks, ClashCheck, IsScanner, NoClash, Resolves, conditions_of, given_names, lonely_fault, pattern_of, scanners_fault, targets_fault}
+use Rattle.lx_rules.specs.Blocks.{AreScanners, ClashCheck, IsScanner, NoClash, Resolves, ScannerChecks, conditions_of, given_names, lonely_fault, pattern_of, scanners_fault, targets_fault}
 use Rattle.lx_exprs.specs.Checks.{Check, Finds, Then}
 use Rattle.lx_exprs.specs.Defined.{Definition, Meaning}
-use Rattle.lx_rules.specs.Environments.{Environment}
-use Rattle.lx_rules.specs.Items.{Goes, HeadChecks, HeadSort, IsAfter, IsHead, ItemChecks, ListChecks, RuleOf, State, TargetChecks, act_of, any, conds_of, end, ends, expression, head_sort, next, refused}
+use Rattle.lx_rules.specs.Environments.{Environment, config_of}
+use Rattle.lx_rules.specs.Items.{Goes, HeadChecks, HeadSort, IsAfter, IsHead, ItemChecks, ListChecks, State, TargetChecks, act_of, any, conds_of, end, ends, expression, head_sort, next, refused}
+use Rattle.lx_rules.specs.Rules.{RuleOf}
 use Rattle.lx_rules.specs.Keeping.{IsUsual}
 use Rattle.lx_forms.specs.Lexemes.{Lexeme, nth_lexeme, sort_at}
 use Rattle.lx_rules.specs.Soundness.{FitsLimits, IsFit}
 use Rattle.lx_rules.specs.Within.{IsScannerWithin}
 use Rattle.lx_rules.specs.declared.resolved.Act.{Act}
+use Rattle.lx_rules.specs.declared.resolved.Config.{Config}
 use Rattle.lx_rules.specs.declared.resolved.Resolved.{Resolved}
 use Rattle.lx_rules.specs.declared.resolved.Scanner.{Scanner}
 use Rattle.lx_rules.proofs.BlockSteps.{AreUsual, conditions_of-usual, in_order, rules_of-usual}
@@ -133,21 +136,22 @@ length-actions_of (act ∷ acts) = omega (arith, length-actions_of acts)
 -- ---- the scanners of a block
 
 -- no name clashes
-no_clash : (at : Pos) (state : State) → BlockChecks at state None → NoClash usual_names state.rules
-no_clash at state checked =
+no_clash : (custom : Bool) (at : Pos) (state : State) → ScannerChecks custom at state None → NoClash custom (config_of state.settings).names state.rules
+no_clash custom at state checked =
     let Scanners : Check = Finds (scanners_fault at state.rules (conditions_of state.rules)) in
     let Targets : Check = Finds (targets_fault state.rules (conditions_of state.rules)) in
     let Lonely : Check = Finds (lonely_fault at state.rules (conditions_of state.rules)) in
-    elim (then-none (ClashCheck at usual_names state.rules) (Then Lonely (Then Targets Scanners)) checked).0 [
+    elim (then-none (ClashCheck custom at (config_of state.settings).names state.rules) (Then Lonely (Then Targets Scanners)) checked).0 [
       | inl free ↦ free.0
       | inr clash ↦ absurd (let h = clash.1 in cc)
     ]
 
-module _ (enc : Enc) (at : Pos) (state : State) (usual : AreUsual state.rules) (checked : BlockChecks at state None) (named : Bool) (acts : List Act) where
+module _ (enc : Enc) (custom : Bool) (at : Pos) (state : State) (usual : AreUsual state.rules) (checked : ScannerChecks custom at state None)
+    (usually : (config_of state.settings).names ≡ usual_names) (named : Bool) (acts : List Act) where
   emitted : (scanner : Scanner) → IsScanner named state.rules [] scanner → IsFit (length acts) scanner → IsScannerWithin enc scanner
       → CanBeEmitted enc acts scanner
   emitted scanner is fit within =
-      let tags = (no_clash at state checked).1 in
+      let tags = (subst (λ (words : Spellings). NoClash custom words state.rules) usually (no_clash custom at state checked)).1 in
       let same = is.patterns ∙ ap (map pattern_of) (rules_of-usual state.rules usual) in
       let names = is.names ∙ ap (map (λ (rule : RuleOf). rule.meaning.tags)) (rules_of-usual state.rules usual) in
       let numbers = recursion_from_All (λ (rule : Rule). (0 < rule.number) × (rule.number ≤ length acts)) scanner.set.rules fit.numbers in record {
@@ -182,10 +186,11 @@ module _ (enc : Enc) (at : Pos) (state : State) (usual : AreUsual state.rules) (
 
 -- each scanner of a block can be emitted
 pub can_be_emitted : (options : Options) (at : Pos) (environment : Environment) (lexemes : List Lexeme) (items : List Item) (after : Environment)
-    (resolved : Resolved) → Resolves options at environment lexemes items after resolved → FitsLimits resolved
+    (resolved : Resolved) → Resolves options Code at environment lexemes items after resolved → FitsLimits resolved
     → AllByRecursion (IsScannerWithin options.enc) resolved.scanners → AllByRecursion (CanBeEmitted options.enc resolved.acts) resolved.scanners
 can_be_emitted options at environment lexemes items after resolved is fine within =
-    let state = is.0 in
-    let usual = AreUsual-goes options lexemes is.1 state refl tt in
-    all_emitted options.enc at state usual is.2 options.conds resolved.acts resolved.scanners is.3.scanners
+    let state = is.state in
+    let usual = AreUsual-goes options lexemes is.goes state refl tt in
+    all_emitted options.enc options.custom at state usual is.checked (ap (λ (config : Config). config.names) (sym is.ends.config) ∙ fine.names) options.conds resolved.acts
+    resolved.scanners is.ends.scanners
     (recursion_from_All (IsFit (length resolved.acts)) resolved.scanners fine.scanners) within

@@ -54,7 +54,7 @@ module _ (options : Options) where
     -- items resolve, or have a fault
     items_or_fault : (tokens : List Token) (items : List Item) → kind ≡ Code → IsRead body start tokens items → ⊥
     items_or_fault tokens items code read =
-        verdict_among options at environment (lexemes_of body tokens) items ready (body_expressions body tokens items read.items_are)
+        verdict_among options at environment (lexemes_of body tokens) items ready Code (λ _. body_expressions body tokens items read.items_are)
         (λ after resolved resolves. body_or_fault after resolved code
         (record { tokens = tokens; items = items; read = read; resolves = resolves }))
         (λ fault found. no_fault fault (refused tokens items code read found))
@@ -84,7 +84,7 @@ module _ (options : Options) where
       block_or_fault environment kind body at start ready
       (λ after resolved is.
       let body_is = is.resolves in
-      parts_or_fault after pieces (ready_after options at environment (lexemes_of body body_is.tokens) body_is.items ready after resolved body_is.resolves)
+      parts_or_fault after pieces (ready_after options at environment (lexemes_of body body_is.tokens) body_is.items ready Code after resolved body_is.resolves)
       (λ parts are. no_parts (Block at resolved ∷ parts) (refl, (after, is, are)))
       (λ fault among. no_fault fault (inr (after, resolved, is, among))))
       (λ fault is. no_fault fault (inl is))

@@ -59,7 +59,7 @@ IsEmittable-block options environment kind body at start after resolved block fi
     let resolves = block.resolves.resolves in record {
       fine = fine;
       supported = block.supported;
-      names = resolves.3.names;
+      names = fine.names;
       one = one_scanner options at environment _ block.resolves.items after resolved resolves;
       scanners = can_be_emitted options at environment _ block.resolves.items after resolved resolves fine within;
     }

@@ -34,7 +34,7 @@ pub record IsResolvedBody (options : Options) (environment : Environment) (body 
   pub tokens : List Token
   pub items : List Item
   pub read : IsRead body start tokens items
-  pub resolves : Resolves options at environment (lexemes_of body tokens) items after resolved
+  pub resolves : Resolves options Code at environment (lexemes_of body tokens) items after resolved
 
 -- a block of this kind, whose opener and body stand at these places, is compiled so far, and resolves so
 pub record IsBlock (options : Options) (environment : Environment) (kind : BlockKind) (body : List ℕ) (at start : Pos) (after : Environment) (resolved : Resolved) : Type 0 where
@@ -50,7 +50,7 @@ pub data IsFaultOf (options : Options) (environment : Environment) (kind : Block
   no_items : (tokens : List Token) → kind ≡ Code → tokens_of body start ≡ Ok tokens → IsSyntaxFault Code body start tokens fault
       → IsFaultOf options environment kind body at start fault
   refused : (tokens : List Token) (items : List Item) → kind ≡ Code → IsRead body start tokens items
-      → IsBlockFault options at environment (lexemes_of body tokens) items fault → IsFaultOf options environment kind body at start fault
+      → IsBlockFault options Code at environment (lexemes_of body tokens) items fault → IsFaultOf options environment kind body at start fault
   unsupported : (after : Environment) (resolved : Resolved) → kind ≡ Code → IsResolvedBody options environment body at start after resolved
       → (AreSupported resolved → ⊥) → fault ≡ Unsupported (Some at) → IsFaultOf options environment kind body at start fault
 

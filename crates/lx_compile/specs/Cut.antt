@@ -1,5 +1,5 @@
 -- How the output of a source is cut: a text for each text outside of blocks, and a piece for each block.
-use Rattle.std.specs.Prelude.{◌≡◌, ◌≢◌, ℕ, suc, List, [], ◌∷◌, ◌++◌, drop, Some, None}
+use Rattle.std.specs.Prelude.{◌≡◌, ◌≢◌, ℕ, suc, Bool, List, [], ◌∷◌, ◌++◌, drop, Some, None}
 use Rattle.lx_base.specs.Names.{usual_names}
 use Rattle.lx_base.specs.declared.settings.Enc.{Enc}
 use Rattle.lx_creader.specs.Cut.{OutputPart, outside, scanner, empty}
@@ -13,18 +13,18 @@ use Rattle.lx_compile.specs.declared.parts.Part.{Part}
 use Rattle.lx_compile.specs.declared.parts.Part.TheVariants.{Outside, Block}
 
 -- the part of an output in the place of a block: the piece of its scanner, or of none
-abbrev pub IsPieceOf : Enc → (number : ℕ) → List Act → List Scanner → OutputPart → Type 0
-IsPieceOf enc number acts [] (empty other) = other ≡ number
-IsPieceOf enc number acts (one ∷ []) (scanner piece) = IsScannerOf enc number usual_names one.set.rules (actions_of acts) piece
-IsPieceOf enc number acts scanners part = ⊥
+abbrev pub IsPieceOf : Enc → (custom : Bool) → (number : ℕ) → List Act → List Scanner → OutputPart → Type 0
+IsPieceOf enc custom number acts [] (empty other) = other ≡ number
+IsPieceOf enc custom number acts (one ∷ []) (scanner piece) = IsScannerOf enc custom number usual_names one.set.rules (actions_of acts) piece
+IsPieceOf enc custom number acts scanners part = ⊥
 
 -- the parts of an output are those of a source, where the pieces in the places of the blocks are numbered from here on
-abbrev pub AreOutputParts : Enc → (number : ℕ) → List Part → List OutputPart → Type 0
-AreOutputParts enc number [] [] = Unit {0}
-AreOutputParts enc number (Outside text ∷ parts) (outside other ∷ cut) = (other ≡ text) × AreOutputParts enc number parts cut
-AreOutputParts enc number (Block at resolved ∷ parts) (part ∷ cut) =
-    IsPieceOf enc number resolved.acts resolved.scanners part × AreOutputParts enc (suc number) parts cut
-AreOutputParts enc number parts cut = ⊥
+abbrev pub AreOutputParts : Enc → (custom : Bool) → (number : ℕ) → List Part → List OutputPart → Type 0
+AreOutputParts enc custom number [] [] = Unit {0}
+AreOutputParts enc custom number (Outside text ∷ parts) (outside other ∷ cut) = (other ≡ text) × AreOutputParts enc custom number parts cut
+AreOutputParts enc custom number (Block at resolved ∷ parts) (part ∷ cut) =
+    IsPieceOf enc custom number resolved.acts resolved.scanners part × AreOutputParts enc custom (suc number) parts cut
+AreOutputParts enc custom number parts cut = ⊥
 
 -- how many blocks there are among the parts
 abbrev pub block_count : List Part → ℕ
@@ -40,11 +40,11 @@ HaveNoScanner (Block at resolved ∷ parts) = (resolved.scanners ≡ []) × Have
 
 -- In an output the text of the block's piece stands where the first begin mark of its number does; and where no block before it
 -- has a scanner, but it has one, where the first begin mark of a scanner does.
-pub record IsFound (enc : Enc) (earlier : List Part) (resolved : Resolved) (output : List ℕ) : Type 0 where
+pub record IsFound (enc : Enc) (custom : Bool) (earlier : List Part) (resolved : Resolved) (output : List ℕ) : Type 0 where
   pub offset : ℕ
   pub text : List ℕ
   pub rest : List ℕ
   pub stands : drop offset output ≡ text ++ rest
-  pub is : IsTextOf enc (suc (block_count earlier)) resolved.acts resolved.scanners text
+  pub is : IsTextOf enc custom (suc (block_count earlier)) resolved.acts resolved.scanners text
   pub first : IsFirstBegin (Some (suc (block_count earlier))) output offset
   pub first_scanner : HaveNoScanner earlier → resolved.scanners ≢ [] → IsFirstBegin None output offset

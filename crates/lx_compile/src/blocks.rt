@@ -49,7 +49,16 @@ pub(crate) fn resolve_block(
     }
     let tokens = tokens(alloc, body, start)?;
     let tree = parse(alloc, body, &tokens, BlockKind::Code, start)?;
-    let (after, resolved) = resolve(alloc, body, &tokens, &tree, at, env, options)?;
+    let (after, resolved) = resolve(
+        alloc,
+        body,
+        &tokens,
+        &tree,
+        BlockKind::Code,
+        at,
+        env,
+        options,
+    )?;
     if !are_supported(&resolved) {
         return Err(Stop::Fault(Fault::Unsupported { at: Some(at) }));
     }

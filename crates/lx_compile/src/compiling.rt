@@ -26,7 +26,7 @@ fn output_of(alloc: Global, source: &[u8], options: &Options) -> Result<Vec<u8>,
     }
     let pieces = split(alloc, source, 0, options)?;
     let parts = resolve_blocks(alloc, pieces, options)?;
-    emit(alloc, options.enc, parts.as_slice())
+    emit(alloc, options, parts.as_slice())
 }
 
 /// The output of a source: the text outside of its blocks, unchanged, with one emitted piece in the place of each block.

@@ -2,7 +2,7 @@
 ghost use Rattle.std.specs.Prelude.{◌≡◌, ◌≤◌, ◌++◌, ℕ, List, [], All, IfOk, MatchResult, OnOk, length, unwrap_or, None};
 ghost use Rattle.lx_base.specs.declared.limits.TheConstants.{SOURCE_LIMIT};
 ghost use Rattle.lx_base.specs.Names.{usual_names};
-ghost use Rattle.lx_ccode.specs.Bodies.{body_piece_text, no_body};
+ghost use Rattle.lx_ccode.specs.Bodies.{body_piece_text};
 ghost use Rattle.lx_regex.specs.Pattern.{patterns_of};
 ghost use Rattle.lx_rules.specs.Within.{IsScannerWithin};
 ghost use Rattle.lx_tdfa.specs.Making.{StopsBy};
@@ -13,8 +13,8 @@ ghost use Rattle.lx_compile.specs.Emittable.{CanBeEmitted, IsEmittable, IsEmitta
 
 use crate::parts::Part;
 use lx_auto::Auto;
-use lx_base::{ByteText, Enc, Memory, Pos, Stop, append_parts};
-use lx_ccode::print;
+use lx_base::{ByteText, Enc, Memory, Options, Pos, Stop, usual_names};
+use lx_ccode::{Body, print, print_body_piece};
 use lx_gen::generate;
 use lx_rules::{Act, Resolved, Scanner};
 use lx_tdfa::determinize;
@@ -56,23 +56,24 @@ fn actions_of(alloc: Global, acts: &[Act]) -> Result<Vec<ByteText>, Memory>
 /// The text of the piece of a block's scanner.
 fn scanner_text(
     alloc: Global,
-    enc: Enc,
+    options: &Options,
     number: u32,
     at: Pos,
     scanner: &Scanner,
     resolved: &Resolved,
 ) -> Result<ByteText, Stop>
-    requires ready { IsEmittable enc resolved.now }
-    requires scanner { CanBeEmitted enc resolved.now.acts scanner.now }
+    requires ready { IsEmittable options.now.enc resolved.now }
+    requires scanner { CanBeEmitted options.now.enc resolved.now.acts scanner.now }
     ensures { MatchResult result
-        (λ text. IsScannerText enc number scanner.now.set.rules (actions_of resolved.now.acts) text × ¬ IsTooLarge enc scanner.now)
-        (StopsBy at (IsTooLarge enc scanner.now)) }
+        (λ text. IsScannerText options.now.enc options.now.custom number scanner.now.set.rules (actions_of resolved.now.acts) text × ¬ IsTooLarge options.now.enc scanner.now)
+        (StopsBy at (IsTooLarge options.now.enc scanner.now)) }
 {
-    let auto = automaton_of(alloc, enc, at, scanner)?;
+    let auto = automaton_of(alloc, options.enc, at, scanner)?;
     let actions = actions_of(alloc, resolved.acts.as_slice())?;
     let piece = generate(
         alloc,
-        enc,
+        options.enc,
+        options.custom,
         number,
         &resolved.config.names,
         scanner.set.rules.as_slice(),
@@ -84,39 +85,33 @@ fn scanner_text(
 
 /// Appends the piece of a block without rules. Where memory runs out a part of it may stand there.
 fn append_empty(alloc: Global, output: &mut Vec<u8>, number: u32) -> Result<(), Memory>
-    ensures { OnOk result (output.new.items ≡ output.old.items ++ body_piece_text number usual_names no_body None) }
+    ensures { OnOk result (output.new.items ≡ output.old.items ++ body_piece_text number usual_names Body.Empty None) }
 {
-    let digits = format!(in alloc; "{number}")?;
-    append_parts(
-        output,
-        &[
-            b"/*!begin:re2c ",
-            digits.as_bytes(),
-            b"*/\n",
-            b"/*!end:re2c*/",
-        ],
-    )
+    let names = usual_names(alloc)?;
+    let text = print_body_piece(alloc, number, &names, &Body::Empty, &None)?;
+    output.extend_from_slice(text.as_slice())?;
+    Ok(())
 }
 
 /// Appends the piece of a block whose opener stands at `at`. Where it is refused a part of it may stand there.
 fn append_block(
     alloc: Global,
     output: &mut Vec<u8>,
-    enc: Enc,
+    options: &Options,
     number: u32,
     at: Pos,
     resolved: &Resolved,
 ) -> Result<(), Stop>
-    requires { IsEmittable enc resolved.now }
+    requires { IsEmittable options.now.enc resolved.now }
     ensures { MatchResult result
-        (λ _. (text : List ℕ) × IsTextOf enc number resolved.now.acts resolved.now.scanners text
-        × (output.new.items ≡ output.old.items ++ text) × ¬ HasTooLarge enc resolved.now.scanners)
-        (StopsBy at (HasTooLarge enc resolved.now.scanners)) }
+        (λ _. (text : List ℕ) × IsTextOf options.now.enc options.now.custom number resolved.now.acts resolved.now.scanners text
+        × (output.new.items ≡ output.old.items ++ text) × ¬ HasTooLarge options.now.enc resolved.now.scanners)
+        (StopsBy at (HasTooLarge options.now.enc resolved.now.scanners)) }
 {
     match resolved.scanners.as_slice().first() {
         None => Ok(append_empty(alloc, output, number)?),
         Some(scanner) => {
-            let text = scanner_text(alloc, enc, number, at, scanner, resolved)?;
+            let text = scanner_text(alloc, options, number, at, scanner, resolved)?;
             output.extend_from_slice(text.as_slice())?;
             Ok(())
         }
@@ -127,12 +122,12 @@ fn append_block(
 ///
 /// It refuses the first block with a scanner that has too many kernels, with `TooManyStates` at its opener; `Memory` may be
 /// answered, also for a piece that would have more than 2^62 statements; no clause ties it to a cause.
-pub(crate) fn emit(alloc: Global, enc: Enc, parts: &[Part]) -> Result<Vec<u8>, Stop>
-    requires ready { All (IsEmittablePart enc) parts.now }
+pub(crate) fn emit(alloc: Global, options: &Options, parts: &[Part]) -> Result<Vec<u8>, Stop>
+    requires ready { All (IsEmittablePart options.now.enc) parts.now }
     requires few { length parts.now ≤ SOURCE_LIMIT }
     ensures { MatchResult result
-        (λ output. AreTexts enc 1 parts.now output.items × IsKernelFault enc parts.now None)
-        (StopsByKernels enc parts.now) }
+        (λ output. AreTexts options.now.enc options.now.custom 1 parts.now output.items × IsKernelFault options.now.enc parts.now None)
+        (StopsByKernels options.now.enc parts.now) }
 {
     let mut output = Vec::new(alloc);
     let mut number = 1;
@@ -140,7 +135,7 @@ pub(crate) fn emit(alloc: Global, enc: Enc, parts: &[Part]) -> Result<Vec<u8>, S
         match part {
             Part::Outside(text) => output.extend_from_slice(text.as_slice())?,
             Part::Block { at, resolved } => {
-                append_block(alloc, &mut output, enc, number, *at, resolved)?;
+                append_block(alloc, &mut output, options, number, *at, resolved)?;
                 number += 1;
             }
         }

@@ -12,7 +12,7 @@ use Rattle.lx_base.proofs.Fronts.{front_letters-after}
 use Rattle.lx_ccode.specs.Reading.{number_at}
 use Rattle.lx_ccode.proofs.Words.{behind-stop, decimal_digits, decimal_value, front-stop}
 use Rattle.lx_creader.specs.Fitted.{long}
-use Rattle.lx_creader.specs.Marks.{BeginsBlock, HasNoNeedlessZero, begin_mark}
+use Rattle.lx_creader.specs.Marks.{BeginsBlock, HasNoNeedlessZero, begin_mark, scanner_line}
 
 digit_small : (letter : ℕ) → is_digit letter ≡ true → digit_value letter < 10
 digit_small letter is = grind (arith, nat_tests)
@@ -97,17 +97,38 @@ numbered_decides bytes number begins spelled same closes all small begins_is spe
       all_is.1 (begins_is.differs _ block.1, spelled_is.1 reads.digits, same_is.1 reads.value, closes_is.differs block.0 reads.rest),
 )
 
-pub scanner_decides : (bytes : List ℕ) (value : ℕ) (begins spelled fits closes all : Bool) → TellsFront begins bytes begin
+pub scanner_decides : (bytes : List ℕ) (value : ℕ) (begins spelled fits names head closes all : Bool) → TellsFront begins bytes begin
     → IsTrue spelled ↔ HasNoNeedlessZero (front_letters is_digit (drop 14 bytes)) → value ≡ long (number_at (drop 14 bytes)) → IsTrue fits ↔ (value < 2 ^ 32)
-    → TellsFront closes (after_letters is_digit (drop 14 bytes)) (codes "*/\n/*!names:re2c ") → IsTrue all ↔ (IsTrue begins × IsTrue spelled × IsTrue fits × IsTrue closes)
+    → TellsFront names (after_letters is_digit (drop 14 bytes)) (codes "*/\n/*!names:re2c ") → TellsFront head (after_letters is_digit (drop 14 bytes)) (codes "*/\n/*!head:re2c ")
+    → IsTrue closes ↔ (IsTrue names ⊎ IsTrue head) → IsTrue all ↔ (IsTrue begins × IsTrue spelled × IsTrue fits × IsTrue closes)
     → IsTrue all ↔ BeginsBlock None bytes
-scanner_decides bytes value begins spelled fits closes all begins_is spelled_is value_is fits_is closes_is all_is =
-    let line = codes "\n/*!names:re2c " in (
-      λ e.
-          let each = all_is.0 e in
-          let more = drop 17 (after_letters is_digit (drop 14 bytes)) in
-          (value, fits_is.0 each.2, more, mark_spelled bytes more line more value (begins_is.stands each.0) (spelled_is.0 each.1) (sym value_is) (fits_is.0 each.2) (closes_is.stands each.3)),
-      λ block.
-          let reads = mark_read bytes (line ++ block.2) block.0 block.1 block.3 in
-          all_is.1 (begins_is.differs _ block.3, spelled_is.1 reads.digits, fits_is.1 (subst (λ n. n < 2 ^ 32) (sym (value_is ∙ reads.value)) block.1), closes_is.differs block.2 reads.rest),
-    )
+scanner_decides bytes value begins spelled fits names head closes all begins_is spelled_is value_is fits_is names_is head_is closes_is all_is = (forth, back)
+  where
+    rest : List ℕ
+    rest = after_letters is_digit (drop 14 bytes)
+
+    mark : (line more : List ℕ) → IsTrue all → rest ≡ codes "*/" ++ (line ++ more) → bytes ≡ begin_mark value ++ (line ++ more)
+    mark line more e stands =
+        let each = all_is.0 e in
+        mark_spelled bytes more line more value (begins_is.stands each.0) (spelled_is.0 each.1) (sym value_is) (fits_is.0 each.2) stands
+
+    found : IsTrue all → IsTrue names ⊎ IsTrue head → BeginsBlock None bytes
+    found e (inl stands) = (value, fits_is.0 (all_is.0 e).2, false, drop 17 rest, mark (scanner_line false) (drop 17 rest) e (names_is.stands stands))
+    found e (inr stands) = (value, fits_is.0 (all_is.0 e).2, true, drop 16 rest, mark (scanner_line true) (drop 16 rest) e (head_is.stands stands))
+
+    forth : IsTrue all → BeginsBlock None bytes
+    forth e = found e (closes_is.0 (all_is.0 e).3)
+
+    line_stands : (headed : Bool) (more : List ℕ) → rest ≡ 42 ∷ 47 ∷ (scanner_line headed ++ more) → IsTrue names ⊎ IsTrue head
+    line_stands false more is = inl (names_is.differs more is)
+    line_stands true more is = inr (head_is.differs more is)
+
+    back : BeginsBlock None bytes → IsTrue all
+    back block =
+        let reads = mark_read bytes (scanner_line block.2 ++ block.3) block.0 block.1 block.4 in
+        all_is.1 (
+          begins_is.differs _ block.4,
+          spelled_is.1 reads.digits,
+          fits_is.1 (subst (λ n. n < 2 ^ 32) (sym (value_is ∙ reads.value)) block.1),
+          closes_is.1 (line_stands block.2 block.3 reads.rest),
+        )

@@ -1,5 +1,5 @@
 -- Outputs are cut in one way, and begin marks stand where pieces do.
-use Rattle.std.proofs.Common.{◌≡◌, ◌≢◌, ◌⊎◌, ℕ, zero, suc, ◌-◌, ◌<◌, ◌≤◌, ◌∙◌, arith, inl, inr, true, false, List, [], ◌∷◌, ◌++◌, length, drop, codes, Option, Some, None, refl, sym, ap, subst, append_assoc}
+use Rattle.std.proofs.Common.{◌≡◌, ◌≢◌, ◌⊎◌, ℕ, zero, suc, ◌-◌, ◌<◌, ◌≤◌, ◌^◌, ◌∙◌, arith, inl, inr, Bool, true, false, List, [], ◌∷◌, ◌++◌, length, drop, codes, Option, Some, None, refl, sym, ap, subst, append_assoc}
 use Rattle.std.specs.Fmt.{decimal}
 use Rattle.std.specs.Str.Parse.{digits_value}
 use Rattle.std.specs.Prelude.{IfSome}
@@ -8,16 +8,18 @@ use Rattle.std.proofs.Math.Seq.{drop-append_seam}
 use Rattle.std.proofs.lemmas.Bool.{cases_lt, false≢true}
 use Rattle.std.proofs.lemmas.List.{append_cancel_left, length-append}
 use Rattle.lx_base.specs.Letters.{begins_with, is_digit, after_letters, front_letters}
+use Rattle.lx_ccode.specs.Heads.{head_then}
 use Rattle.lx_ccode.specs.Marks.{HasNoBegin, begins_piece}
 use Rattle.lx_ccode.specs.Reading.{piece_at}
 use Rattle.lx_ccode.specs.Text.{piece_text, piece_then}
 use Rattle.lx_ccode.specs.Validity.{IsShort, IsValid}
+use Rattle.lx_ccode.specs.declared.piece.Head.{Head}
 use Rattle.lx_ccode.specs.declared.piece.Piece.{Piece}
 use Rattle.lx_ccode.proofs.RoundTrip.{piece_at-text}
 use Rattle.lx_ccode.proofs.Tails.{piece_text-append}
 use Rattle.lx_ccode.proofs.Words.{behind-stop, decimal_digits, decimal_value, front-stop}
 use Rattle.lx_creader.specs.Cut.{Answers, AreCut, OutputPart, begins_outside, empty, outside, part_text, parts_text, scanner}
-use Rattle.lx_creader.specs.Marks.{BeginsBlock, IsFirstBegin, begin_mark}
+use Rattle.lx_creader.specs.Marks.{BeginsBlock, IsFirstBegin, begin_mark, scanner_line}
 
 -- ---- numbers before another byte than a digit
 
@@ -47,7 +49,7 @@ HasNoBegin-at (letter ∷ text) after none (suc place) within = HasNoBegin-at te
 
 begins-block : (block : Option ℕ) (bytes : List ℕ) → BeginsBlock block bytes → begins_piece bytes ≡ true
 begins-block (Some number) bytes begins = subst (λ (l : List ℕ). begins_piece l ≡ true) (sym begins.1) refl
-begins-block None bytes begins = subst (λ (l : List ℕ). begins_piece l ≡ true) (sym begins.3) refl
+begins-block None bytes begins = subst (λ (l : List ℕ). begins_piece l ≡ true) (sym begins.4) refl
 
 -- nothing, or a begin mark
 abbrev Starts : List ℕ → Type 0
@@ -79,13 +81,28 @@ parts_text-starts (empty number ∷ parts) none = inr refl
 empty-then : (number : ℕ) (tail : List ℕ) → part_text (empty number) ++ tail ≡ codes "/*!begin:re2c " ++ (decimal number ++ 42 ∷ (codes "/\n/*!end:re2c*/" ++ tail))
 empty-then number tail = ap (λ (l : List ℕ). codes "/*!begin:re2c " ++ l) (append_assoc (decimal number) (codes "*/\n/*!end:re2c*/") tail)
 
+-- no end mark stands at once behind the begin mark of a scanner
+no_end : (head : Option Head) (text : List ℕ) → begins_with (codes "/\n/*!e") (codes "/\n" ++ head_then head (codes "/*!names:re2c " ++ text)) ≡ false
+no_end None text = refl
+no_end (Some head) text = refl
+
+no_end_line : (headed : Bool) (rest : List ℕ) → begins_with (codes "/\n/*!e") (47 ∷ (scanner_line headed ++ rest)) ≡ false
+no_end_line false rest = refl
+no_end_line true rest = refl
+
+-- a head line or the line of the spellings stands there
+line_begins : (head : Option Head) (number : ℕ) (bytes text : List ℕ) → number < 2 ^ 32
+    → bytes ≡ begin_mark number ++ (codes "\n" ++ head_then head (codes "/*!names:re2c " ++ text)) → BeginsBlock None bytes
+line_begins None number bytes text h e = (number, h, false, text, e)
+line_begins (Some head) number bytes text h e = (number, h, true, _, e)
+
 -- a piece of a scanner is none without one
 scanner-empty : (piece : Piece) (number : ℕ) (tail rest : List ℕ) → IsShort piece.number → IsShort number → piece_text piece ++ tail ≡ part_text (empty number) ++ rest → ⊥
 scanner-empty piece number tail rest h k same =
     let whole : piece_then piece tail ≡ codes "/*!begin:re2c " ++ (decimal number ++ 42 ∷ (codes "/\n/*!end:re2c*/" ++ rest)) =
     sym (piece_text-append piece tail) ∙ same ∙ empty-then number rest in
     let both = numbers-one piece.number number _ (codes "/\n/*!end:re2c*/" ++ rest) h k (ap (λ (l : List ℕ). drop 14 l) whole) in
-    false≢true (ap (begins_with (codes "/\n/*!e")) both.1)
+    false≢true (sym (no_end piece.head _) ∙ ap (begins_with (codes "/\n/*!e")) both.1)
 
 empty-one : (number other : ℕ) (tail rest : List ℕ) → IsShort number → IsShort other → part_text (empty number) ++ tail ≡ part_text (empty other) ++ rest
     → (number ≡ other) × (tail ≡ rest)
@@ -167,8 +184,8 @@ begins-empty : (block : Option ℕ) (number : ℕ) (tail : List ℕ) → IfSome 
 begins-empty (Some asked) number tail short h begins =
     (mark_number number asked (codes "/\n/*!end:re2c*/" ++ tail) begins.0 h short (sym (empty-then number tail) ∙ begins.1)).0
 begins-empty None number tail short h begins =
-    let both = mark_number number begins.0 (codes "/\n/*!end:re2c*/" ++ tail) (codes "\n/*!names:re2c " ++ begins.2) h (omega (arith, begins.1)) (sym (empty-then number tail) ∙ begins.3) in
-    false≢true (sym (ap (begins_with (codes "/\n/*!e")) both.1))
+    let both = mark_number number begins.0 (codes "/\n/*!end:re2c*/" ++ tail) (scanner_line begins.2 ++ begins.3) h (omega (arith, begins.1)) (sym (empty-then number tail) ∙ begins.4) in
+    false≢true (sym (no_end_line begins.2 begins.3) ∙ sym (ap (begins_with (codes "/\n/*!e")) both.1))
 
 -- within a part that is not asked for, the block begins at no place
 within-one : (block : Option ℕ) (part : OutputPart) (parts : List OutputPart) → IfSome block IsShort → AreCut (part ∷ parts) → (Answers block part → ⊥)
@@ -213,7 +230,8 @@ answers-begin : (block : Option ℕ) (part : OutputPart) (parts : List OutputPar
 answers-begin block (outside text) parts cut is = absurd is
 answers-begin None (empty number) parts cut is = absurd is
 answers-begin None (scanner piece) parts cut is =
-    (piece.number, omega (arith, cut.0.range.number), _, piece_text-append piece (parts_text parts) ∙ mark-then piece.number _)
+    line_begins piece.head piece.number (piece_text piece ++ parts_text parts) _ (omega (arith, cut.0.range.number))
+    (piece_text-append piece (parts_text parts) ∙ mark-then piece.number _)
 answers-begin (Some number) (scanner piece) parts cut is =
     subst (λ (n : ℕ). BeginsBlock (Some n) (piece_text piece ++ parts_text parts)) is (_, piece_text-append piece (parts_text parts) ∙ mark-then piece.number _)
 answers-begin (Some number) (empty other) parts cut is =

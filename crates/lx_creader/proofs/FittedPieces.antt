@@ -6,15 +6,16 @@ use Rattle.lx_base.specs.Letters.{IsIdentifier}
 use Rattle.lx_base.specs.Names.{Spellings}
 use Rattle.lx_ccode.specs.declared.piece.CodeBlock.{CodeBlock}
 use Rattle.lx_ccode.specs.declared.piece.CondCase.{CondCase}
+use Rattle.lx_ccode.specs.declared.piece.Head.{Head}
 use Rattle.lx_ccode.specs.declared.piece.LineMark.{LineMark}
 use Rattle.lx_ccode.specs.declared.piece.Piece.{Piece}
 use Rattle.lx_ccode.specs.declared.piece.StateCase.{StateCase}
 use Rattle.lx_ccode.specs.declared.piece.Stmt.{Stmt}
 use Rattle.lx_ccode.specs.declared.piece.Stmt.TheVariants.{Peek, Skip, Backup, Restore, Accept, Set, Unset, Copy, MSet, MUnset, MCopy, IfUnit, IfAccept, IfEnd, State, Need, Try, Cond, Tag, Count, End, Back, Goto, Leave, Code, Jump}
-use Rattle.lx_ccode.specs.Validity.{EachBlockHasSpelling, EachHasSpelling, HasSpelling, IsLine, IsLong, IsValid}
+use Rattle.lx_ccode.specs.Validity.{EachBlockHasSpelling, EachHasSpelling, HasSpelling, IsLine, IsLong, IsShort, IsValid}
 use Rattle.lx_ccode.specs.Front.{BeginsWithPiece}
 use Rattle.lx_ccode.specs.Reading.{piece_at}
-use Rattle.lx_creader.specs.Fitted.{fitted, fitted_block, fitted_cond, fitted_eof, fitted_line, fitted_state, fitted_statement, fitted_states, long, short}
+use Rattle.lx_creader.specs.Fitted.{fitted, fitted_block, fitted_cond, fitted_eof, fitted_head, fitted_line, fitted_state, fitted_statement, fitted_states, long, short}
 
 short_fits : (n : ℕ) → n < 2 ^ 32 → short n ≡ n
 short_fits n fits = omega arith
@@ -89,9 +90,14 @@ eof_fits : (unit : ℕ) (eof : Option ℕ) → (unit ≡ 1) ⊎ ((unit ≡ 2) �
 eof_fits unit None size h = refl
 eof_fits unit (Some eof) size h = ap Some (short_fits eof (below_unit unit eof size h))
 
+head_fits : (head : Option Head) → IfSome head (λ head. IsShort head.regs × IsShort head.mregs × IsLong head.states) → fitted_head head ≡ head
+head_fits None h = refl
+head_fits (Some head) h = λ i. Some (record head { regs = short_fits head.regs h.0 i; mregs = short_fits head.mregs h.1 i; states = long_fits head.states h.2 i })
+
 pub fitted-valid : (piece : Piece) → IsValid piece → fitted piece ≡ piece
 fitted-valid piece valid = λ i. record piece {
   number = short_fits piece.number valid.range.number i;
+  head = head_fits piece.head valid.range.head i;
   unit = short_fits piece.unit (unit_fits piece.unit valid.unit) i;
   eof = eof_fits piece.unit piece.eof valid.unit valid.eof i;
   states = states_fit piece.states valid.range.states i;

@@ -16,7 +16,7 @@ front_occurs needle text rest place some is = record {
 -- where a block begins, the needle occurs
 block_occurs : (block : Option ℕ) (text : List ℕ) (place : ℕ) → BeginsBlock block (drop place text) → OccursAt text begin place
 block_occurs (Some number) text place begins = front_occurs begin text _ place (omega arith) begins.1
-block_occurs None text place begins = front_occurs begin text _ place (omega arith) begins.3
+block_occurs None text place begins = front_occurs begin text _ place (omega arith) begins.4
 
 -- a search goes on from an offset, before which no block begins
 module _ (block : Option ℕ) (bytes rest : List ℕ) (offset : ℕ) (left : rest ≡ drop offset bytes)

@@ -1,10 +1,11 @@
 -- How an output is cut at its marks: into the texts outside of pieces, and the pieces.
 use Rattle.std.specs.Prelude.{◌≡◌, ◌≢◌, ℕ, Bool, true, false, List, [], ◌∷◌, ◌++◌, drop, Option, Some, None}
 use Rattle.lx_base.specs.Names.{usual_names}
-use Rattle.lx_ccode.specs.Bodies.{body_piece_text, no_body}
+use Rattle.lx_ccode.specs.Bodies.{body_piece_text}
 use Rattle.lx_ccode.specs.Marks.{HasNoBegin}
 use Rattle.lx_ccode.specs.Text.{piece_text}
 use Rattle.lx_ccode.specs.Validity.{IsShort, IsValid}
+use Rattle.lx_ccode.specs.declared.bodies.Body.TheVariants.{Empty}
 use Rattle.lx_ccode.specs.declared.piece.Piece.{Piece}
 
 -- a part of an output
@@ -20,7 +21,7 @@ pub data OutputPart : Type 0 where
 abbrev pub part_text : OutputPart → List ℕ
 part_text (outside text) = text
 part_text (scanner piece) = piece_text piece
-part_text (empty number) = body_piece_text number usual_names no_body None
+part_text (empty number) = body_piece_text number usual_names Empty None
 
 -- the bytes of the parts, one behind another
 abbrev pub parts_text : List OutputPart → List ℕ

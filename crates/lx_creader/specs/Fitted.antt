@@ -1,5 +1,6 @@
 -- A piece whose numbers stop at the greatest number of their fields. A valid piece is its own.
 use Rattle.std.specs.Prelude.{ℕ, List, Option, Some, None, map, min}
+use Rattle.lx_ccode.specs.declared.piece.Head.{Head}
 use Rattle.lx_ccode.specs.declared.piece.LineMark.{LineMark}
 use Rattle.lx_ccode.specs.declared.piece.Stmt.{Stmt}
 use Rattle.lx_ccode.specs.declared.piece.Stmt.TheVariants.{Peek, Skip, Backup, Restore, Accept, Set, Unset, Copy, MSet, MUnset, MCopy, IfUnit, IfAccept, IfEnd, State, Need, Try, Cond, Tag, Count, End, Back, Goto, Leave, Code, Jump}
@@ -60,6 +61,13 @@ fitted_state case = record { state = long case.state; block = long case.block }
 abbrev pub fitted_cond : CondCase → CondCase
 fitted_cond case = record case { block = long case.block }
 
+abbrev pub fitted_fields : Head → Head
+fitted_fields head = record head { regs = short head.regs; mregs = short head.mregs; states = long head.states }
+
+abbrev pub fitted_head : Option Head → Option Head
+fitted_head None = None
+fitted_head (Some head) = Some (fitted_fields head)
+
 abbrev pub fitted_eof : Option ℕ → Option ℕ
 fitted_eof None = None
 fitted_eof (Some eof) = Some (short eof)
@@ -71,6 +79,7 @@ fitted_states (Some cases) = Some (map fitted_state cases)
 abbrev pub fitted : Piece → Piece
 fitted piece = record piece {
   number = short piece.number;
+  head = fitted_head piece.head;
   unit = short piece.unit;
   eof = fitted_eof piece.eof;
   states = fitted_states piece.states;

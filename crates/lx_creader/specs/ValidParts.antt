@@ -4,10 +4,12 @@ use Rattle.std.specs.List.{AllByRecursion, list_any}
 use Rattle.lx_base.specs.declared.limits.TheConstants.{STATEMENT_LIMIT}
 use Rattle.lx_base.specs.Letters.{IsIdentifier}
 use Rattle.lx_base.specs.Names.{AreAllowed, AreDistinct, DoNotClash, Spellings}
+use Rattle.lx_base.specs.Names.{name_primitives}
 use Rattle.lx_ccode.specs.declared.piece.Stmt.{Stmt}
 use Rattle.lx_ccode.specs.declared.piece.CodeBlock.{CodeBlock}
 use Rattle.lx_ccode.specs.declared.piece.CondCase.{CondCase}
 use Rattle.lx_ccode.specs.declared.piece.Piece.{Piece}
+use Rattle.lx_ccode.specs.Heads.{is_custom}
 use Rattle.lx_ccode.specs.Statements.{all_statements, has_register_one, is_need, is_state, is_try, statement_count}
 use Rattle.lx_ccode.specs.Validity.{HasFewGroups, HasSpelling, IsLabel, IsLine, IsLong, IsShort, JumpsBelow, NamesOneOf, ends_once, label_of, labels, last_statements, refills_after_states, states_before_refills, tries_after_state}
 
@@ -51,6 +53,8 @@ pub record KeepsHeadRules (piece : Piece) : Type 0 where
   pub unit : HasUnit piece.unit piece.eof
   pub names : AreAllowed piece.names
   pub names_differ : DoNotClash piece.names
+  pub no_primitive : is_custom piece.head ≡ true → name_primitives piece.names ≡ false
+  pub head : IfSome piece.head (λ head. IsShort head.regs × IsShort head.mregs × IsLong head.states)
 
 -- the rules of blocks one by one
 pub record KeepsBlockRules (names : Spellings) (conds : List (List ℕ)) (blocks : List CodeBlock) : Type 0 where

@@ -18,7 +18,7 @@ impl Scope<'_> {
         fuel: usize,
         bytes: &'b [u8],
     ) -> Result<(Vec<Stmt>, bool, &'b [u8]), Memory>
-        ensures { IfOk result (λ read. (read.0.items ≡ map fitted_statement (statements_at fuel self.now.names.now bytes.now).0) × (read.1 ≡ (statements_at fuel self.now.names.now bytes.now).1) × (read.2.now ≡ (statements_at fuel self.now.names.now bytes.now).2)) }
+        ensures { IfOk result (λ read. (read.0.items ≡ map fitted_statement (statements_at fuel self.now.custom self.now.names.now bytes.now).0) × (read.1 ≡ (statements_at fuel self.now.custom self.now.names.now bytes.now).1) × (read.2.now ≡ (statements_at fuel self.now.custom self.now.names.now bytes.now).2)) }
     {
         let mut statements = Vec::new(self.alloc);
         let mut ctx = false;
@@ -41,7 +41,7 @@ impl Scope<'_> {
         cond: Option<ByteText>,
         bytes: &'b [u8],
     ) -> Result<(CodeBlock, bool, &'b [u8]), Memory>
-        ensures { IfOk result (λ read. (read.0 ≡ fitted_block (body_at fuel self.now.names.now cond bytes.now).0) × (read.1 ≡ (body_at fuel self.now.names.now cond bytes.now).1) × (read.2.now ≡ (body_at fuel self.now.names.now cond bytes.now).2)) }
+        ensures { IfOk result (λ read. (read.0 ≡ fitted_block (body_at fuel self.now.custom self.now.names.now cond bytes.now).0) × (read.1 ≡ (body_at fuel self.now.custom self.now.names.now cond bytes.now).1) × (read.2.now ≡ (body_at fuel self.now.custom self.now.names.now cond bytes.now).2)) }
     {
         let (statements, ctx, rest) = self.statements_at(fuel, bytes)?;
         let block = CodeBlock {
@@ -59,7 +59,7 @@ impl Scope<'_> {
         fuel: usize,
         bytes: &'b [u8],
     ) -> Result<(CodeBlock, bool, &'b [u8]), Memory>
-        ensures { IfOk result (λ read. (read.0 ≡ fitted_block (code_block_at fuel self.now.names.now bytes.now).0) × (read.1 ≡ (code_block_at fuel self.now.names.now bytes.now).1) × (read.2.now ≡ (code_block_at fuel self.now.names.now bytes.now).2)) }
+        ensures { IfOk result (λ read. (read.0 ≡ fitted_block (code_block_at fuel self.now.custom self.now.names.now bytes.now).0) × (read.1 ≡ (code_block_at fuel self.now.custom self.now.names.now bytes.now).1) × (read.2.now ≡ (code_block_at fuel self.now.custom self.now.names.now bytes.now).2)) }
     {
         let rest = skip(after_identifier(bytes), 2);
         if begins_statement(rest) {
@@ -79,8 +79,8 @@ impl Scope<'_> {
         bytes: &'b [u8],
     ) -> Result<Option<(Sequence<CodeBlock>, bool, &'b [u8])>, Memory>
         ensures { IfOk result (λ found. MatchOption found
-            (AllByRecursion (λ block. 0 < length block.stmts) (blocks_at fuel fuel self.now.names.now bytes.now).0 → ⊥)
-            (λ read. (read.0 ≡ map fitted_block (blocks_at fuel fuel self.now.names.now bytes.now).0) × (read.1 ≡ (blocks_at fuel fuel self.now.names.now bytes.now).1) × (read.2.now ≡ (blocks_at fuel fuel self.now.names.now bytes.now).2))) }
+            (AllByRecursion (λ block. 0 < length block.stmts) (blocks_at fuel fuel self.now.custom self.now.names.now bytes.now).0 → ⊥)
+            (λ read. (read.0 ≡ map fitted_block (blocks_at fuel fuel self.now.custom self.now.names.now bytes.now).0) × (read.1 ≡ (blocks_at fuel fuel self.now.custom self.now.names.now bytes.now).1) × (read.2.now ≡ (blocks_at fuel fuel self.now.custom self.now.names.now bytes.now).2))) }
     {
         let mut blocks = Vec::new(self.alloc);
         let mut ctx = false;

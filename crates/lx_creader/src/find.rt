@@ -1,5 +1,5 @@
 //! Finds where a piece begins.
-ghost use Rattle.std.specs.Prelude.{◌≡◌, ◌↔◌, ℕ, Some, None, IsTrue, drop, MatchOption};
+ghost use Rattle.std.specs.Prelude.{◌≡◌, ◌↔◌, ◌⊎◌, ℕ, Some, None, IsTrue, drop, MatchOption};
 ghost use Rattle.lx_creader.specs.Marks.{BeginsBlock, HasNoNeedlessZero, IsFirstBegin};
 
 use crate::words::{after_digits, front_digits, long_at, skip};
@@ -22,6 +22,12 @@ fn are_true(begins: bool, spelled: bool, fits: bool, closes: bool) -> bool
     begins && spelled && fits && closes
 }
 
+fn is_either(names: bool, head: bool) -> bool
+    ensures { IsTrue result ↔ (IsTrue names ⊎ IsTrue head) }
+{
+    names || head
+}
+
 /// Whether the begin mark of the piece with this number stands here.
 fn begins_piece(bytes: &[u8], number: u32) -> bool
     ensures { IsTrue result ↔ BeginsBlock (Some number) bytes.now }
@@ -42,8 +48,9 @@ fn begins_scanner(bytes: &[u8]) -> bool
     let text = skip(bytes, 14);
     let spelled = has_no_needless_zero(front_digits(text));
     let small = long_at(text) < 4_294_967_296;
-    let closes = begins_with(after_digits(text), b"*/\n/*!names:re2c ");
-    are_true(begins, spelled, small, closes)
+    let names = begins_with(after_digits(text), b"*/\n/*!names:re2c ");
+    let head = begins_with(after_digits(text), b"*/\n/*!head:re2c ");
+    are_true(begins, spelled, small, is_either(names, head))
 }
 
 /// Whether the block begins here.
@@ -58,7 +65,7 @@ fn begins_block(bytes: &[u8], block: Option<u32>) -> bool
 
 /// The offset of the first begin mark `/*!begin:re2c N*/` with the number N, which has no needless zeros;
 /// without a number, that of the first begin mark of a scanner, behind whose line feed `/*!names:re2c `
-/// stands at once.
+/// or `/*!head:re2c ` stands at once.
 ///
 /// `None` comes exactly where there is none. It takes no memory.
 pub fn find_block(bytes: &[u8], block: Option<u32>) -> Option<usize>

@@ -4,6 +4,7 @@
 mod blocks;
 mod conds;
 pub mod find;
+mod heads;
 pub mod laws;
 mod lines;
 mod marks;

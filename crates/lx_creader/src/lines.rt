@@ -2,7 +2,7 @@
 ghost use Rattle.std.specs.Prelude.{◌≡◌, Option, drop, reverse, min, IfOk};
 ghost use Rattle.lx_base.specs.Letters.{after_letters, is_in_identifier};
 ghost use Rattle.lx_ccode.specs.declared.piece.LineMark.{LineMark};
-ghost use Rattle.lx_ccode.specs.Reading.{argument, assigned, begins_statement, callee, called, code_at, goto_at, history_of, if_at, is_context_marker, register_assigned, register_of, statement_at};
+ghost use Rattle.lx_ccode.specs.Reading.{argument, assigned, begins_statement, call_of, callee, called, code_at, enclosed, goto_at, history_of, if_at, is_context_marker, primitive_called, primitive_if_at, register_assigned, register_of, statement_at, test_at};
 ghost use Rattle.lx_creader.specs.Fitted.{fitted_line, fitted_statement};
 
 use crate::marks::{block_at, goto_block, goto_tail, mark_at};
@@ -26,6 +26,8 @@ pub(crate) struct Scope<'a> {
     pub alloc: Global,
     /// The seventeen spellings.
     pub names: &'a Names,
+    /// Whether the input is read by primitives of the user's.
+    pub custom: bool,
 }
 
 impl Scope<'_> {
@@ -138,7 +140,46 @@ impl Scope<'_> {
         }
     }
 
-    /// A statement, behind its `if (`.
+    /// A call, where the input is read by primitives of the user's: some of them, or another call.
+    #[tactic(auto, unfolding(lx_ccode::specs::Reading::primitive_called))]
+    fn primitive_called(&self, word: &[u8]) -> Result<(Stmt, bool), Memory>
+        ensures { IfOk result (λ read. (read.0 ≡ fitted_statement (primitive_called self.now.names.now word.now).0) × (read.1 ≡ (primitive_called self.now.names.now word.now).1)) }
+    {
+        if equal_words(word, b"YYSKIP()") {
+            Ok((Stmt::Skip, false))
+        } else if equal_words(word, b"YYBACKUP()") {
+            Ok((Stmt::Backup, false))
+        } else if equal_words(word, b"YYRESTORE()") {
+            Ok((Stmt::Restore, false))
+        } else if begins_with(word, b"YYSTAGP(") {
+            let register = enclosed(word, 8);
+            let set = Stmt::Set(self.register_of(register));
+            Ok((set, self.is_context_marker(register)))
+        } else if begins_with(word, b"YYSTAGN(") {
+            let register = enclosed(word, 8);
+            let unset = Stmt::Unset(self.register_of(register));
+            Ok((unset, self.is_context_marker(register)))
+        } else if begins_with(word, b"YYRESTORETAG(") {
+            let register = enclosed(word, 13);
+            let back = Stmt::Back(self.register_of(register));
+            Ok((back, self.is_context_marker(register)))
+        } else {
+            Ok((self.called(callee(word), argument(word))?, false))
+        }
+    }
+
+    /// A call.
+    fn call_of(&self, word: &[u8]) -> Result<(Stmt, bool), Memory>
+        ensures { IfOk result (λ read. (read.0 ≡ fitted_statement (call_of self.now.custom self.now.names.now word.now).0) × (read.1 ≡ (call_of self.now.custom self.now.names.now word.now).1)) }
+    {
+        if self.custom {
+            self.primitive_called(word)
+        } else {
+            Ok((self.called(callee(word), argument(word))?, false))
+        }
+    }
+
+    /// A statement, behind its `if (`, where the input is read through pointers.
     #[tactic(auto, unfolding(lx_ccode::specs::Reading::if_at))]
     fn if_at<'b>(&self, bytes: &'b [u8]) -> Read<'b>
         ensures { (result.0 ≡ fitted_statement (if_at self.now.names.now bytes.now).0) × (result.1 ≡ (if_at self.now.names.now bytes.now).1) × (result.2.now ≡ (if_at self.now.names.now bytes.now).2) }
@@ -165,6 +206,35 @@ impl Scope<'_> {
         } else {
             let next = skip(rest, 6);
             (Stmt::Try(goto_block(next)), false, goto_tail(next))
+        }
+    }
+
+    /// A statement, behind its `if (`, where the input is read by primitives of the user's.
+    #[tactic(auto, unfolding(lx_ccode::specs::Reading::primitive_if_at))]
+    fn primitive_if_at<'b>(&self, bytes: &'b [u8]) -> Read<'b>
+        ensures { (result.0 ≡ fitted_statement (primitive_if_at self.now.names.now bytes.now).0) × (result.1 ≡ (primitive_if_at self.now.names.now bytes.now).1) × (result.2.now ≡ (primitive_if_at self.now.names.now bytes.now).2) }
+    {
+        let rest = after_spelling(bytes);
+        let sign = byte_at(rest, 1);
+        if sign == b'<' || sign == b'=' {
+            return self.if_at(bytes);
+        }
+        let next = after_spelling(skip(rest, 1));
+        if byte_at(next, 0) == b' ' {
+            (Stmt::IfEnd(goto_block(rest)), false, goto_tail(rest))
+        } else {
+            (Stmt::Need(short_at(skip(bytes, 11))), false, skip(next, 2))
+        }
+    }
+
+    /// A statement, behind its `if (`.
+    fn test_at<'b>(&self, bytes: &'b [u8]) -> Read<'b>
+        ensures { (result.0 ≡ fitted_statement (test_at self.now.custom self.now.names.now bytes.now).0) × (result.1 ≡ (test_at self.now.custom self.now.names.now bytes.now).1) × (result.2.now ≡ (test_at self.now.custom self.now.names.now bytes.now).2) }
+    {
+        if self.custom {
+            self.primitive_if_at(bytes)
+        } else {
+            self.if_at(bytes)
         }
     }
 
@@ -206,7 +276,7 @@ impl Scope<'_> {
     /// A statement, at its tab or at the `#` of its `#line`.
     #[tactic(auto, unfolding(lx_ccode::specs::Reading::statement_at))]
     pub(crate) fn statement_at<'b>(&self, bytes: &'b [u8]) -> Result<Read<'b>, Memory>
-        ensures { IfOk result (λ read. (read.0 ≡ fitted_statement (statement_at self.now.names.now bytes.now).0) × (read.1 ≡ (statement_at self.now.names.now bytes.now).1) × (read.2.now ≡ (statement_at self.now.names.now bytes.now).2)) }
+        ensures { IfOk result (λ read. (read.0 ≡ fitted_statement (statement_at self.now.custom self.now.names.now bytes.now).0) × (read.1 ≡ (statement_at self.now.custom self.now.names.now bytes.now).1) × (read.2.now ≡ (statement_at self.now.custom self.now.names.now bytes.now).2)) }
     {
         if byte_at(bytes, 0) == b'#' {
             let (mark, rest) = mark_at(self.alloc, bytes)?;
@@ -222,14 +292,14 @@ impl Scope<'_> {
         } else if first == b'/' {
             self.code_at(None, bytes)
         } else if first == b';' {
-            let call = self.called(callee(word), argument(word))?;
-            Ok((call, false, skip(rest, 2)))
+            let (call, is_context) = self.call_of(word)?;
+            Ok((call, is_context, skip(rest, 2)))
         } else if second == b'=' {
             let source = skip(rest, 3);
             let (statement, is_context) = self.assigned(word, front_spelling(source))?;
             Ok((statement, is_context, skip(after_spelling(source), 2)))
         } else if second == b'(' {
-            Ok(self.if_at(skip(rest, 2)))
+            Ok(self.test_at(skip(rest, 2)))
         } else {
             self.goto_at(skip(rest, 1))
         }
@@ -275,6 +345,14 @@ fn argument(word: &[u8]) -> &[u8]
 {
     let inner = without_last(word);
     skip(inner, before_identifier(inner).len())
+}
+
+/// The word between the parenthesis behind so many letters and the last one.
+#[tactic(auto, unfolding(lx_ccode::specs::Reading::enclosed))]
+fn enclosed(word: &[u8], letters: usize) -> &[u8]
+    ensures { result.now ≡ enclosed letters word.now }
+{
+    without_last(skip(word, letters))
 }
 
 /// Whether a statement begins: with a tab or a `#`.

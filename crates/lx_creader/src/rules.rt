@@ -1,14 +1,15 @@
 //! Decides which lists of statements and of blocks a valid piece may have.
 ghost use Rattle.std.specs.Prelude.{◌≡◌, ◌≤◌, ◌↔◌, ◌||◌, IsTrue, false, true, length};
 ghost use Rattle.std.specs.List.{AllByRecursion, list_any};
+ghost use Rattle.lx_ccode.specs.Counts.{is_peek};
 ghost use Rattle.lx_ccode.specs.States.{try_first};
 ghost use Rattle.lx_ccode.specs.Statements.{all_statements, has_register_one, is_need, is_state, is_try, statement_count};
 ghost use Rattle.lx_ccode.specs.Validity.{IsLabel, ends_once, last_statements, refill_first, refills_after_states, states_before_refills, tries_after_state};
 ghost use Rattle.lx_creader.specs.ValidParts.{IsValidBlock, IsValidStatement};
 
 use crate::statements::{
-    has_few_groups, has_register_one, has_spelling, is_ending, is_need, is_refill, is_state,
-    is_try, jumps_below, names_one_of,
+    has_few_groups, has_register_one, has_spelling, is_ending, is_need, is_peek, is_refill,
+    is_state, is_try, jumps_below, names_one_of,
 };
 use lx_base::letters::is_identifier;
 use lx_base::{ByteText, Names};
@@ -167,6 +168,7 @@ pub(crate) fn last_tries_after_state(blocks: &[CodeBlock]) -> bool
 /// Which sorts of statements a piece has.
 #[derive(Clone, Copy)]
 pub(crate) struct Kinds {
+    pub peek: bool,
     pub state: bool,
     pub need: bool,
     pub try_refill: bool,
@@ -175,6 +177,7 @@ pub(crate) struct Kinds {
 
 /// Which sorts of statements stand in the list, or were found before.
 fn kinds_of(before: Kinds, statements: &[Stmt]) -> Kinds
+    ensures peek { result.peek ≡ (before.peek || list_any is_peek statements.now) }
     ensures state { result.state ≡ (before.state || list_any is_state statements.now) }
     ensures need { result.need ≡ (before.need || list_any is_need statements.now) }
     ensures try_refill { result.try_refill ≡ (before.try_refill || list_any is_try statements.now) }
@@ -182,6 +185,7 @@ fn kinds_of(before: Kinds, statements: &[Stmt]) -> Kinds
 {
     let mut kinds = before;
     for statement in statements {
+        kinds.peek |= is_peek(statement);
         kinds.state |= is_state(statement);
         kinds.need |= is_need(statement);
         kinds.try_refill |= is_try(statement);
@@ -192,12 +196,14 @@ fn kinds_of(before: Kinds, statements: &[Stmt]) -> Kinds
 
 /// Which sorts of statements stand in the blocks.
 pub(crate) fn kinds_in(blocks: &[CodeBlock]) -> Kinds
+    ensures peek { result.peek ≡ list_any is_peek (all_statements blocks.now) }
     ensures state { result.state ≡ list_any is_state (all_statements blocks.now) }
     ensures need { result.need ≡ list_any is_need (all_statements blocks.now) }
     ensures try_refill { result.try_refill ≡ list_any is_try (all_statements blocks.now) }
     ensures register_one { result.register_one ≡ list_any has_register_one (all_statements blocks.now) }
 {
     let mut kinds = Kinds {
+        peek: false,
         state: false,
         need: false,
         try_refill: false,

@@ -1,5 +1,6 @@
 //! Decides which statements a valid piece may have.
 ghost use Rattle.std.specs.Prelude.{◌≡◌, ◌↔◌, IsTrue};
+ghost use Rattle.lx_ccode.specs.Counts.{is_peek};
 ghost use Rattle.lx_ccode.specs.Statements.{has_register_one, is_ending, is_need, is_refill, is_state, is_try};
 ghost use Rattle.lx_ccode.specs.Validity.{HasFewGroups, HasSpelling, IsLine, IsLong, IsRegister, IsShort, JumpsBelow, NamesOneOf};
 
@@ -125,6 +126,13 @@ pub(crate) fn is_state(statement: &Stmt) -> bool
     ensures { result ≡ is_state statement.now }
 {
     matches!(statement, Stmt::State(_))
+}
+
+/// Whether the statement reads a unit.
+pub(crate) fn is_peek(statement: &Stmt) -> bool
+    ensures { result ≡ is_peek statement.now }
+{
+    matches!(statement, Stmt::Peek)
 }
 
 /// Whether the statement is a Need.

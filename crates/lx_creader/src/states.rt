@@ -115,18 +115,19 @@ fn are_those_of(cases: &[StateCase], map: BTreeMap<u64, u64>) -> bool
 }
 
 /// Whether each state is stored at one place, and the switch over the states, where there is one, has
-/// exactly these states in order.
+/// exactly these states in order; and how many states the blocks store.
 pub(crate) fn keep_state_rules(
     alloc: Global,
     blocks: &[CodeBlock],
     states: &Option<Sequence<StateCase>>,
-) -> Result<bool, Memory>
-    ensures { IfOk result (λ keep. IsTrue keep ↔ (AreOnce (states_from 0 blocks.now) × IfSome states.now (IsStateSwitch blocks.now))) }
+) -> Result<(bool, usize), Memory>
+    ensures { IfOk result (λ keep. (IsTrue keep.0 ↔ (AreOnce (states_from 0 blocks.now) × IfSome states.now (IsStateSwitch blocks.now))) × (keep.1 ≡ length (states_from 0 blocks.now))) }
 {
     let stored = states_of(alloc, blocks)?;
+    let count = stored.len();
     match by_state(alloc, &stored)? {
-        None => Ok(false),
-        Some(map) => Ok(is_switch(states, map)),
+        None => Ok((false, count)),
+        Some(map) => Ok((is_switch(states, map), count)),
     }
 }
 

@@ -1,16 +1,24 @@
 //! Decides which pieces are valid: a test for each rule.
-ghost use Rattle.std.specs.Prelude.{◌≡◌, ◌<◌, ◌^◌, ◌*◌, ◌↔◌, ◌⊎◌, IsTrue, IfOk, IfSome};
+ghost use Rattle.std.specs.Prelude.{◌≡◌, ◌<◌, ◌^◌, ◌*◌, ◌↔◌, ◌⊎◌, IsTrue, IfOk, IfSome, false, true};
 ghost use Rattle.std.specs.List.{AllByRecursion};
-ghost use Rattle.lx_ccode.specs.Validity.{IsLong, IsValid};
+ghost use Rattle.lx_base.specs.Names.{name_primitives};
+ghost use Rattle.lx_ccode.specs.Agreement.{Agrees, keeps_mode};
+ghost use Rattle.lx_ccode.specs.Counts.{state_count};
+ghost use Rattle.lx_ccode.specs.Heads.{is_custom};
+ghost use Rattle.lx_ccode.specs.Validity.{IsLong, IsShort, IsValid};
 ghost use Rattle.lx_creader.specs.ValidParts.{HasUnit, KeepsBlockRules, KeepsHeadRules, KeepsKindRules};
 
 use crate::conds::{distinct_conds, keep_cond_rules};
-use crate::rules::{Rules, blocks_store_states, kinds_in, last_tries_after_state};
+use crate::rules::{Kinds, Rules, blocks_store_states, kinds_in, last_tries_after_state};
 use crate::statements::{is_line, is_long, is_short};
 use crate::states::keep_state_rules;
-use lx_base::names::{are_allowed, do_not_clash};
+use lx_base::names::{are_allowed, do_not_clash, name_primitives};
 use lx_base::{Memory, Names, Sequence};
-use lx_ccode::{CodeBlock, NameSet, Piece, StateCase, count_statements};
+use lx_ccode::{
+    CodeBlock, Head, Mode, NameSet, Piece, StateCase, count_statements, is_custom, mregs_of,
+    regs_of,
+};
+use lx_encode::unit_bytes;
 use std::alloc::Global;
 
 /// Whether a unit has one, two or four bytes, and the unit at the buffer's end is one.
@@ -48,6 +56,25 @@ fn are_long_if_some(states: &Option<Sequence<StateCase>>) -> bool
     }
 }
 
+/// Whether the numbers of the head can be written, as each can that a piece can hold.
+fn has_numbers(head: &Option<Head>) -> bool
+    ensures { IsTrue result ↔ IfSome head.now (λ head. IsShort head.regs × IsShort head.mregs × IsLong head.states) }
+{
+    match head {
+        None => true,
+        Some(head) => is_short(head.regs) && is_short(head.mregs) && is_long(head.states),
+    }
+}
+
+/// Whether no spelling means an input primitive, where the input is read by these.
+fn names_no_primitive(head: &Option<Head>, names: &Names) -> bool
+    ensures { IsTrue result ↔ (is_custom head.now ≡ true → name_primitives names.now ≡ false) }
+{
+    let custom = is_custom(head);
+    let primitives = name_primitives(names);
+    !custom || !primitives
+}
+
 fn keeps_head_rules(piece: &Piece) -> bool
     ensures { IsTrue result ↔ KeepsHeadRules piece.now }
 {
@@ -57,7 +84,48 @@ fn keeps_head_rules(piece: &Piece) -> bool
     let unit = has_unit(piece.unit, piece.eof);
     let names = are_allowed(&piece.names);
     let names_differ = do_not_clash(&piece.names);
-    number && line && states && unit && names && names_differ
+    let no_primitive = names_no_primitive(&piece.head, &piece.names);
+    let head = has_numbers(&piece.head);
+    number && line && states && unit && names && names_differ && no_primitive && head
+}
+
+fn keeps_mode(mode: Mode, has_eof: bool, kinds: Kinds) -> bool
+    ensures { result ≡ keeps_mode mode has_eof kinds.peek kinds.need kinds.try_refill }
+{
+    let peeks = kinds.peek;
+    let needs = kinds.need;
+    let tries = kinds.try_refill;
+    match mode {
+        Mode::Plain => !has_eof && !needs && !tries,
+        Mode::Count => !has_eof && (!peeks || needs) && !tries,
+        Mode::EofFixed => has_eof && !needs && !tries,
+        Mode::Eof => has_eof && !needs && (!peeks || tries),
+    }
+}
+
+/// Whether a head agrees with a piece that stores so many states.
+fn agrees(piece: &Piece, head: &Head, states: usize) -> bool
+    requires { states ≡ state_count piece.now.blocks }
+    ensures { IsTrue result ↔ Agrees piece.now head.now }
+{
+    let blocks = piece.blocks.as_slice();
+    let unit = piece.unit == unit_bytes(head.enc);
+    let mode = keeps_mode(head.mode, piece.eof.is_some(), kinds_in(blocks));
+    let regs = head.regs == regs_of(blocks);
+    let mregs = u64::from(head.mregs) == mregs_of(blocks);
+    let stored = head.states == states as u64;
+    unit && mode && regs && mregs && stored
+}
+
+/// Whether the head, where there is one, agrees with a piece that stores so many states.
+fn agrees_if_some(piece: &Piece, states: usize) -> bool
+    requires { states ≡ state_count piece.now.blocks }
+    ensures { IsTrue result ↔ IfSome piece.now.head (Agrees piece.now) }
+{
+    match &piece.head {
+        None => true,
+        Some(head) => agrees(piece, head, states),
+    }
 }
 
 fn keep_block_rules(names: &Names, conds: &NameSet, blocks: &[CodeBlock]) -> bool
@@ -92,8 +160,8 @@ pub(crate) fn is_valid(alloc: Global, piece: &Piece) -> Result<bool, Memory>
 {
     let blocks = piece.blocks.as_slice();
     let conds = piece.conds.as_slice();
-    let states = keep_state_rules(alloc, blocks, &piece.states)?;
-    if !states {
+    let (kept, states) = keep_state_rules(alloc, blocks, &piece.states)?;
+    if !kept {
         return Ok(false);
     }
     let Some(names) = distinct_conds(alloc, conds)? else {
@@ -103,11 +171,12 @@ pub(crate) fn is_valid(alloc: Global, piece: &Piece) -> Result<bool, Memory>
     let named = keep_cond_rules(blocks, conds);
     let valid = keep_block_rules(&piece.names, &names, blocks);
     let kinds = keep_kind_rules(piece.ctx, blocks);
-    Ok(keep_all(head, named, valid, kinds))
+    let agree = agrees_if_some(piece, states);
+    Ok(keep_all(head, named, valid, kinds, agree))
 }
 
-fn keep_all(head: bool, named: bool, valid: bool, kinds: bool) -> bool
-    ensures { IsTrue result ↔ (IsTrue head × IsTrue named × IsTrue valid × IsTrue kinds) }
+fn keep_all(head: bool, named: bool, valid: bool, kinds: bool, agree: bool) -> bool
+    ensures { IsTrue result ↔ (IsTrue head × IsTrue named × IsTrue valid × IsTrue kinds × IsTrue agree) }
 {
-    head && named && valid && kinds
+    head && named && valid && kinds && agree
 }

@@ -3,5 +3,6 @@ pub mod LeafContents
 pub mod LeafSteps
 pub mod MemberCopies
 pub mod OperandValues
+pub mod TermsBehind
 pub mod ValueContents
 pub mod ValueLimits

@@ -61,26 +61,43 @@ abbrev pub term_or_empty : Option Term → Term
 term_or_empty None = empty
 term_or_empty (Some term) = term
 
--- a term with its tags numbered from another number on
+-- A term whose tags have numbers greater by one number, and whose groups by another. Group k has the ends 2 k and 2 k + 1.
 abbrev mutual
-  pub shifted : (by : ℕ) → Term → Term
-  shifted by empty = empty
-  shifted by (class ranges) = class ranges
-  shifted by any_unit = any_unit
-  shifted by (cat members) = cat (shifted_all by members)
-  shifted by (alt members) = alt (shifted_all by members)
-  shifted by (repeat body low high) = repeat (shifted by body) low high
-  shifted by (tag number) = tag (number + by)
-  shifted by (group opening closing body) = group opening closing (shifted by body)
+  pub shifted : (by groups : ℕ) → Term → Term
+  shifted by groups empty = empty
+  shifted by groups (class ranges) = class ranges
+  shifted by groups any_unit = any_unit
+  shifted by groups (cat members) = cat (shifted_all by groups members)
+  shifted by groups (alt members) = alt (shifted_all by groups members)
+  shifted by groups (repeat body low high) = repeat (shifted by groups body) low high
+  shifted by groups (tag number) = tag (number + by)
+  shifted by groups (group opening closing body) =
+      group (opening + 2 * groups) (closing + 2 * groups) (shifted by groups body)
 
-  pub shifted_all : (by : ℕ) → Terms → Terms
-  shifted_all by nil = nil
-  shifted_all by (cons member members) = cons (shifted by member) (shifted_all by members)
+  pub shifted_all : (by groups : ℕ) → Terms → Terms
+  shifted_all by groups nil = nil
+  shifted_all by groups (cons member members) = cons (shifted by groups member) (shifted_all by groups members)
+
+-- a term in a rule with so many tags: the ends of its groups have the numbers behind these
+abbrev mutual
+  pub behind : (tags : ℕ) → Term → Term
+  behind tags empty = empty
+  behind tags (class ranges) = class ranges
+  behind tags any_unit = any_unit
+  behind tags (cat members) = cat (all_behind tags members)
+  behind tags (alt members) = alt (all_behind tags members)
+  behind tags (repeat body low high) = repeat (behind tags body) low high
+  behind tags (tag number) = tag number
+  behind tags (group opening closing body) = group (opening + tags) (closing + tags) (behind tags body)
+
+  pub all_behind : (tags : ℕ) → Terms → Terms
+  all_behind tags nil = nil
+  all_behind tags (cons member members) = cons (behind tags member) (all_behind tags members)
 
 -- a copy of a definition behind so many tags
 abbrev pub copied : (by : ℕ) → Definition → Meaning
 copied by definition = record {
-  shape = one (shifted by (term_or_empty definition.term));
+  shape = one (shifted by 0 (term_or_empty definition.term));
   size = definition.size;
   nesting = suc definition.nesting;
   tags = definition.tags;

@@ -40,9 +40,9 @@ is_choice_content (content.Past set alternatives) = alternatives
 
 -- All that stands there is kept, or it is not built, and then the points of its class are, if it is one.
 abbrev pub IsContent : (is_built : Bool) → Meaning → Content → Type 0
-IsContent is_built meaning (content.One expr) = (tags : ℕ) → meaning.shape ≡ one (term_of tags expr)
-IsContent is_built meaning (content.Row members) = (tags : ℕ) → meaning.shape ≡ row (map (term_of tags) members.items)
-IsContent is_built meaning (content.Choice members) = (tags : ℕ) → meaning.shape ≡ choice (map (term_of tags) members.items)
+IsContent is_built meaning (content.One expr) = meaning.shape ≡ one (term_of 0 expr)
+IsContent is_built meaning (content.Row members) = meaning.shape ≡ row (map (term_of 0) members.items)
+IsContent is_built meaning (content.Choice members) = meaning.shape ≡ choice (map (term_of 0) members.items)
 IsContent is_built meaning (content.Past set alternatives) =
     (is_built ≡ false) × HasPoints set (meant_class meaning) × (alternatives ≡ is_choice meaning.shape)
 
@@ -62,7 +62,7 @@ pub record IsValue (room : Room) (meaning : Meaning) (value : Value) : Type 0 wh
 abbrev pub IsRoom : Room → Type 0
 IsRoom room = (room.size ≤ SIZE_LIMIT) × (room.tags ≤ TAG_LIMIT)
 
--- the tags of a term have lesser numbers than this, and it has no groups, which are not supported yet
+-- the tags of a term have lesser numbers than this; its groups are numbered from 1 up to half of it, since each counts for two
 abbrev mutual
   pub HasTagsBelow : (bound : ℕ) → Term → Type 0
   HasTagsBelow bound empty = Unit {0}
@@ -72,7 +72,7 @@ abbrev mutual
   HasTagsBelow bound (alt members) = HaveTagsBelow bound members
   HasTagsBelow bound (repeat body low high) = HasTagsBelow bound body
   HasTagsBelow bound (tag number) = number < bound
-  HasTagsBelow bound (group opening closing body) = ⊥
+  HasTagsBelow bound (group opening closing body) = (2 ≤ opening) × (opening ≤ bound) × HasTagsBelow bound body
 
   pub HaveTagsBelow : (bound : ℕ) → Terms → Type 0
   HaveTagsBelow bound nil = Unit {0}

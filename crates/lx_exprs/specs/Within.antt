@@ -1,15 +1,15 @@
 -- What definitions have so that scanners can be built from them.
-use Rattle.std.specs.Prelude.{◌≡◌, ℕ, ◌≤◌, true, List, [], ◌∷◌, length, is_some}
+use Rattle.std.specs.Prelude.{◌≡◌, ℕ, ◌*◌, ◌≤◌, true, List, [], ◌∷◌, length, is_some}
 use Rattle.std.specs.Option.{option_and_then}
 use Rattle.lx_base.specs.Spelling.{greatest_point}
 use Rattle.lx_base.specs.declared.settings.Enc.{Enc}
 use Rattle.lx_regex.specs.Limits.{HasLongSequences, numbers_from}
-use Rattle.lx_regex.specs.Script.{tags_in}
+use Rattle.lx_regex.specs.Script.{merge_tags, put_tag}
 use Rattle.lx_regex.specs.Term.{Term, Terms, IsInRanges, empty, class, any_unit, cat, alt, repeat, tag, group, nil, cons}
 use Rattle.lx_exprs.specs.Defined.{Definition, class_in, fits, whole_room}
 use Rattle.lx_exprs.specs.Meanings.{term_or_empty}
 
--- the classes of a definition fit the encoding, and it has no groups, which are not supported yet
+-- the classes of a term fit the encoding
 abbrev mutual
   pub IsPlain : Enc → Term → Type 0
   IsPlain enc empty = Unit {0}
@@ -19,15 +19,49 @@ abbrev mutual
   IsPlain enc (alt members) = ArePlain enc members
   IsPlain enc (repeat body low high) = IsPlain enc body
   IsPlain enc (tag number) = Unit {0}
-  IsPlain enc (group opening closing body) = ⊥
+  IsPlain enc (group opening closing body) = IsPlain enc body
 
   pub ArePlain : Enc → Terms → Type 0
   ArePlain enc nil = Unit {0}
   ArePlain enc (cons member members) = IsPlain enc member × ArePlain enc members
 
--- sequences are long, and the tags are so many, numbered from one on
-abbrev pub IsNumbered : (from count : ℕ) → Term → Type 0
-IsNumbered from count term = HasLongSequences term × (tags_in term ≡ numbers_from from count)
+-- the numbers of the tags of a term, ascending, without the ends of its groups
+abbrev mutual
+  pub own_tags : Term → List ℕ
+  own_tags empty = []
+  own_tags (class ranges) = []
+  own_tags any_unit = []
+  own_tags (cat members) = own_tags_among members
+  own_tags (alt members) = own_tags_among members
+  own_tags (repeat body low high) = own_tags body
+  own_tags (tag number) = number ∷ []
+  own_tags (group opening closing body) = own_tags body
+
+  pub own_tags_among : Terms → List ℕ
+  own_tags_among nil = []
+  own_tags_among (cons member members) = merge_tags (own_tags member) (own_tags_among members)
+
+-- the ends of its groups, ascending
+abbrev mutual
+  pub ends_in : Term → List ℕ
+  ends_in empty = []
+  ends_in (class ranges) = []
+  ends_in any_unit = []
+  ends_in (cat members) = ends_among members
+  ends_in (alt members) = ends_among members
+  ends_in (repeat body low high) = ends_in body
+  ends_in (tag number) = []
+  ends_in (group opening closing body) = put_tag opening (put_tag closing (ends_in body))
+
+  pub ends_among : Terms → List ℕ
+  ends_among nil = []
+  ends_among (cons member members) = merge_tags (ends_in member) (ends_among members)
+
+-- Sequences are long. The tags are so many, numbered from one on, and so are the groups, each with its two ends.
+pub record IsNumbered (from count first groups : ℕ) (term : Term) : Type 0 where
+  pub sequences : HasLongSequences term
+  pub tags : own_tags term ≡ numbers_from from count
+  pub ends : ends_in term ≡ numbers_from (2 * first) (2 * groups)
 
 -- A definition is ready for copies: its classes fit the encoding, a class has no tags, and within the limits of a scanner its
 -- tags are numbered in order.
@@ -35,7 +69,7 @@ pub record IsDefinedWithin (enc : Enc) (definition : Definition) : Type 0 where
   pub plain : IsPlain enc (term_or_empty definition.term)
   pub untagged : is_some (option_and_then class_in definition.term) ≡ true → definition.tags ≡ []
   pub numbered : fits whole_room definition.size definition.nesting (length definition.tags) ≡ true
-      → IsNumbered 0 (length definition.tags) (term_or_empty definition.term)
+      → IsNumbered 0 (length definition.tags) 1 0 (term_or_empty definition.term)
 
 abbrev pub AreDefinedWithin : Enc → List Definition → Type 0
 AreDefinedWithin enc [] = Unit {0}

@@ -59,7 +59,7 @@ fn sequence(
     characters: &[Character],
 ) -> Result<Expr, Memory>
     requires { AreCodePoints characters.now }
-    ensures term { IfOk result (λ expr. (tags : ℕ) → term_of tags expr ≡ cat (members_of (map set_term (map (character_set policy is_caseless) (points_of characters.now))))) }
+    ensures term { IfOk result (λ expr. term_of 0 expr ≡ cat (members_of (map set_term (map (character_set policy is_caseless) (points_of characters.now))))) }
     ensures size { IfOk result (λ expr. size_of expr ≡ length characters.now) }
 {
     let mut members = Vec::new(alloc);
@@ -125,7 +125,7 @@ fn kept_content(alloc: Global, kept: &Kept, by: u64) -> Result<Content, Memory>
         let class = class_of(alloc, expr)?;
         return Ok(Content::Past(class, false));
     }
-    Ok(Content::One(copy(alloc, expr, by as u32)?))
+    Ok(Content::One(copy(alloc, expr, by as u32, 0)?))
 }
 
 /// The fault of a name that has no definition.

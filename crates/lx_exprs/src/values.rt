@@ -176,7 +176,7 @@ impl Content {
     /// The expression, where it is built.
     fn into_expr(self) -> Option<Expr>
         ensures built { (is_built : Bool) (meaning : Meaning) → IsContent is_built meaning self
-            → IfSome result (λ expr. (tags : ℕ) → term_of tags expr ≡ term_of_meaning meaning) }
+            → IfSome result (λ expr. term_of 0 expr ≡ term_of_meaning meaning) }
         ensures past { IfNone result (is_past self ≡ true) }
         ensures kept { IfSome result (λ expr. is_past self ≡ false) }
         ensures size { IfSome result (λ expr. size_of expr ≡ content_size self) }
@@ -193,7 +193,7 @@ impl Content {
     /// What stands in a sequence, where it is built.
     fn into_row(self, alloc: Global) -> Result<Option<Vec<Expr>>, Memory>
         ensures built { (is_built : Bool) (meaning : Meaning) → IsContent is_built meaning self
-            → IfOk result (λ row. IfSome row (λ members. (tags : ℕ) → map (term_of tags) members.items ≡ in_row meaning.shape)) }
+            → IfOk result (λ row. IfSome row (λ members. map (term_of 0) members.items ≡ in_row meaning.shape)) }
         ensures past { IfOk result (λ row. IfNone row (is_past self ≡ true)) }
         ensures size { IfOk result (λ row. IfSome row (λ members. sum (map size_of members.items) ≤ content_size self)) }
         ensures tags { (bound : ℕ) → AreTagsBelow bound self
@@ -211,7 +211,7 @@ impl Content {
     /// What stands in an alternation, where it is built.
     fn into_choice(self, alloc: Global) -> Result<Option<Vec<Expr>>, Memory>
         ensures built { (is_built : Bool) (meaning : Meaning) → IsContent is_built meaning self
-            → IfOk result (λ choice. IfSome choice (λ members. (tags : ℕ) → map (term_of tags) members.items ≡ in_choice meaning.shape)) }
+            → IfOk result (λ choice. IfSome choice (λ members. map (term_of 0) members.items ≡ in_choice meaning.shape)) }
         ensures past { IfOk result (λ choice. IfNone choice (is_past self ≡ true)) }
         ensures size { IfOk result (λ choice. IfSome choice (λ members. sum (map size_of members.items) ≤ content_size self)) }
         ensures choice { is_choice_content self ≡ true → IfOk result (λ choice. IfSome choice (λ members. sum (map size_of members.items) + 1 ≤ content_size self)) }
@@ -414,8 +414,8 @@ impl Value {
 
     /// What is kept of it for a definition: the expression, where it is built, and else its class, if it is one.
     pub fn into_kept(self, alloc: Global) -> Result<Option<Expr>, Memory>
-        ensures term { (tags : ℕ) (meaning : Meaning) → IsValue whole_room meaning self
-            → IfOk result (λ found. IsTermKept (is_built whole_room meaning) meaning (option_map (term_of tags) found)) }
+        ensures term { (meaning : Meaning) → IsValue whole_room meaning self
+            → IfOk result (λ found. IsTermKept (is_built whole_room meaning) meaning (option_map (term_of 0) found)) }
         ensures kept { (count : ℕ) → IsBounded count self → IfOk result (λ found. FitsKept found self.size count) }
     {
         match self.content {
@@ -430,7 +430,7 @@ impl Value {
     /// The expression, where it is built.
     pub fn into_expr(self) -> Option<Expr>
         ensures built { (room : Room) (meaning : Meaning) → IsValue room meaning self
-            → IfSome result (λ expr. (tags : ℕ) → term_of tags expr ≡ term_of_meaning meaning) }
+            → IfSome result (λ expr. term_of 0 expr ≡ term_of_meaning meaning) }
         ensures past { (room : Room) (meaning : Meaning) → IsValue room meaning self → IfNone result (is_built room meaning ≡ false) }
         ensures kept { (count : ℕ) → IsBounded count self → FitsKept result self.size count }
     {

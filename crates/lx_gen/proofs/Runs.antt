@@ -1,8 +1,19 @@
 -- Blocks that serve an automaton run as it does.
 pub mod BestFronts
 pub mod BlockRuns
+pub mod CarriedExamples
+pub mod CarriedMatches
+pub mod CarriedRuns
+pub mod CarriedStates
+pub mod CarriedSteps
+pub mod CheckedCarried
+pub mod DottedCarried
+pub mod EndedCarried
+pub mod KnownStandings
+pub mod PairsCarried
 pub mod RunMachines
 pub mod Matches
 pub mod Simulation
 pub mod SlashValues
+pub mod TracedStretches
 pub mod PartialRuns

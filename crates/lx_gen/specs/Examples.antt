@@ -108,6 +108,7 @@ pub record SequencesAreShort : Type 0 where
 abbrev pub bytes_piece : Spellings → List (List Stmt) → Piece
 bytes_piece names codes = record {
   number = 1;
+  head = None;
   names = names;
   unit = 1;
   eof = None;

@@ -1,4 +1,6 @@
 pub mod Actions
+pub mod CarriedExamples
+pub mod Carries
 pub mod Codes
 pub mod CopyOps
 pub mod Endings

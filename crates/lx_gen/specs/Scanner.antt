@@ -1,5 +1,5 @@
 -- What the piece of a scanner with rules is, where it has no conditions, tests no end and asks for no refill.
-use Rattle.std.specs.Prelude.{◌≡◌, ℕ, ◌<◌, ◌≤◌, ◌^◌, false, List, [], ◌∷◌, length}
+use Rattle.std.specs.Prelude.{◌≡◌, ℕ, ◌<◌, ◌≤◌, ◌^◌, Bool, false, List, [], ◌∷◌, length}
 use Rattle.std.specs.List.{AllByRecursion, list_any}
 use Rattle.lx_base.specs.Names.{Spellings}
 use Rattle.lx_base.specs.declared.settings.Enc.{Enc}
@@ -26,10 +26,10 @@ AreNamed spellings texts (rule ∷ rules) =
     ((0 < rule.number) × (rule.number ≤ length texts) × MayStand spellings rule.slash 0 (names_of rule.tags)) × AreNamed spellings texts rules
 
 -- the piece with this number and these spellings of a scanner with these rules, where the first text is the action of rule 1, and the
--- trees that are meant are those of the policy
-pub record IsScannerUnder (policy : Policy) (enc : Enc) (counted : ℕ) (spellings : Spellings) (rules : List Rule) (texts : List (List ℕ)) (piece : Piece) : Type 0 where
+-- trees that are meant are those of the policy; it reads its input by primitives of the user's where it is custom
+pub record IsScannerUnder (policy : Policy) (enc : Enc) (custom : Bool) (counted : ℕ) (spellings : Spellings) (rules : List Rule) (texts : List (List ℕ)) (piece : Piece) : Type 0 where
   pub valid : IsValid piece
-  pub fields : IsUnconditional enc counted spellings piece
+  pub fields : IsUnconditional enc custom counted spellings piece
   -- it asks for no refill, and stores no state
   pub no_refill : list_any is_refill (all_statements piece.blocks) ≡ false
   pub no_state : list_any is_state (all_statements piece.blocks) ≡ false
@@ -39,5 +39,5 @@ pub record IsScannerUnder (policy : Policy) (enc : Enc) (counted : ℕ) (spellin
   pub right : (cond : List ℕ) → IsRightUnder policy cond enc (patterns_of rules) (endings_of rules texts) piece
 
 -- the same where the trees that are meant are leftmost greedy
-abbrev pub IsScannerOf : Enc → (counted : ℕ) → Spellings → List Rule → (texts : List (List ℕ)) → Piece → Type 0
-IsScannerOf enc counted spellings rules texts piece = IsScannerUnder greedy enc counted spellings rules texts piece
+abbrev pub IsScannerOf : Enc → (custom : Bool) → (counted : ℕ) → Spellings → List Rule → (texts : List (List ℕ)) → Piece → Type 0
+IsScannerOf enc custom counted spellings rules texts piece = IsScannerUnder greedy enc custom counted spellings rules texts piece

@@ -1,13 +1,16 @@
 -- Which pieces of automata can be written: the ends of rules, and the fields beside the blocks.
-use Rattle.std.specs.Prelude.{◌≡◌, ℕ, suc, ◌+◌, ◌*◌, ◌≤◌, List, [], ◌∷◌, length, Option, Some, None, true, false}
+use Rattle.std.specs.Prelude.{◌≡◌, ℕ, suc, ◌+◌, ◌*◌, ◌≤◌, List, [], ◌∷◌, length, Option, Some, None, Bool, true, false}
 use Rattle.std.specs.Bool.{OnFalse}
 use Rattle.std.specs.List.{AllByRecursion}
 use Rattle.lx_auto.specs.declared.automaton.Accept.{Accept}
 use Rattle.lx_auto.specs.declared.automaton.State.{State}
 use Rattle.lx_base.specs.Names.{Spellings, IsTagName}
 use Rattle.lx_base.specs.declared.settings.Enc.{Enc}
+use Rattle.lx_ccode.specs.Counts.{mregs_of, regs_of}
 use Rattle.lx_ccode.specs.Validity.{IsLine, IsShort}
 use Rattle.lx_ccode.specs.declared.piece.CodeBlock.{CodeBlock}
+use Rattle.lx_ccode.specs.declared.piece.Head.{Head}
+use Rattle.lx_ccode.specs.declared.piece.Mode.TheVariants as mode
 use Rattle.lx_ccode.specs.declared.piece.Piece.{Piece}
 use Rattle.lx_encode.specs.Units.{unit_size}
 use Rattle.lx_gen.specs.Endings.{Ending, is_slash}
@@ -46,9 +49,21 @@ module _ (names : Spellings) (endings : ℕ → Ending) where
   AreWritten [] = Unit {0}
   AreWritten (state ∷ states) = AcceptIsWritten state.accept × AreWritten states
 
+-- the head of a piece of these blocks that tests no end, asks for no refill and stores no state
+abbrev pub plain_head : Enc → (custom : Bool) → List CodeBlock → Head
+plain_head enc custom blocks = record {
+  custom = custom;
+  enc = enc;
+  mode = mode.Plain;
+  regs = regs_of blocks;
+  mregs = mregs_of blocks;
+  states = 0;
+}
+
 -- a piece with this number and these spellings, without conditions, stored states and refills, that declares its variables itself
-pub record IsUnconditional (enc : Enc) (counted : ℕ) (spellings : Spellings) (piece : Piece) : Type 0 where
+pub record IsUnconditional (enc : Enc) (custom : Bool) (counted : ℕ) (spellings : Spellings) (piece : Piece) : Type 0 where
   pub number : piece.number ≡ counted
+  pub head : piece.head ≡ Some (plain_head enc custom piece.blocks)
   pub names : piece.names ≡ spellings
   pub unit : piece.unit ≡ unit_size enc
   pub eof : piece.eof ≡ None

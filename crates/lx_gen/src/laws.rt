@@ -1,29 +1,35 @@
 //! What holds of laid-out pieces. Each law is the contract of a function that does nothing.
-ghost use Rattle.std.specs.Prelude.{◌≡◌, ℕ, ◌<◌, ◌≤◌, List, [], All, Option, Some, None, length, drop, false, true};
-ghost use Rattle.std.specs.List.{AllByRecursion, list_any};
+ghost use Rattle.std.specs.Prelude.{◌≡◌, ◌⊎◌, ℕ, suc, ◌+◌, ◌<◌, ◌≤◌, Bool, List, [], ◌++◌, All, Option, Some, None, length, drop, map, nat_eq, false, true};
+ghost use Rattle.std.specs.List.{AllByRecursion, IsDistinct, list_any};
 ghost use Rattle.lx_base.specs.declared.limits.TheConstants.{STATEMENT_LIMIT};
 ghost use Rattle.lx_auto.specs.Automaton.{AreOps, IsAuto};
 ghost use Rattle.lx_auto.specs.Bank.{Bank, bank_after};
-ghost use Rattle.lx_auto.specs.Run.{found_behind, start_with};
+ghost use Rattle.lx_auto.specs.Run.{Standing, found_behind, run, start_with};
 ghost use Rattle.lx_auto.specs.declared.automaton.Auto.{Auto};
 ghost use Rattle.lx_auto.specs.declared.automaton.Edge.{Edge};
 ghost use Rattle.lx_auto.specs.declared.automaton.State.{State};
 ghost use Rattle.lx_auto.specs.declared.ops.Op.{Op};
 ghost use Rattle.lx_base.specs.Names.{AreAllowed, DoNotClash, Spellings};
+ghost use Rattle.lx_base.specs.Names.{name_primitives};
 ghost use Rattle.lx_base.specs.Spelling.{greatest_unit};
 ghost use Rattle.lx_base.specs.declared.settings.Enc.{Enc};
+ghost use Rattle.lx_ccode.specs.Machine.{Answer, Machine, code_at, looped};
 ghost use Rattle.lx_ccode.specs.Runs.{entry_block, run_of};
+ghost use Rattle.lx_ccode.specs.Scanners.{CheckAtMost, IsOfScanner, StandsIn};
 ghost use Rattle.lx_ccode.specs.Schedules.{Schedule};
 ghost use Rattle.lx_ccode.specs.Statements.{all_statements, code_of, is_refill, is_state, statement_count};
 ghost use Rattle.lx_ccode.specs.Validity.{IsShort, IsValid, JumpsBelow, ends_once};
 ghost use Rattle.lx_ccode.specs.declared.piece.CodeBlock.{CodeBlock};
 ghost use Rattle.lx_ccode.specs.declared.piece.Piece.{Piece};
+ghost use Rattle.lx_ccode.specs.declared.piece.Stmt.{Stmt};
+ghost use Rattle.lx_ccode.specs.declared.piece.Stmt.TheVariants.{Peek};
 ghost use Rattle.lx_regex.specs.Limits.{HaveDifferentNumbers, IsWithinLimits};
 ghost use Rattle.lx_regex.specs.Order.{Policy};
 ghost use Rattle.lx_regex.specs.Pattern.{Pattern, end_rule, patterns_of, with_terms};
 ghost use Rattle.lx_regex.specs.declared.rules.Rule.{Rule};
 ghost use Rattle.lx_tdfa.specs.Promise.{IsAutoUnder};
 ghost use Rattle.lx_gen.specs.Actions.{IsOwnAction, action_count};
+ghost use Rattle.lx_gen.specs.Carries.{Carries, EndsAs, HasEdge, IsReached, IsUnitOf, LeadsTo, StandsAs, StopsBehind};
 ghost use Rattle.lx_gen.specs.Endings.{Ending};
 ghost use Rattle.lx_gen.specs.Layout.{StandsFrom, layout};
 ghost use Rattle.lx_gen.specs.Right.{AreEndsOf, IsRightUnder, IsSetBy};
@@ -31,7 +37,7 @@ ghost use Rattle.lx_gen.specs.Rules.{AreSimple, endings_of};
 ghost use Rattle.lx_gen.specs.Scanner.{AreNamed, AreShort, IsScannerUnder};
 ghost use Rattle.lx_gen.specs.ParallelCopies.{sequentialized};
 ghost use Rattle.lx_gen.specs.Serving.{Serves};
-ghost use Rattle.lx_gen.specs.Starts.{run_with};
+ghost use Rattle.lx_gen.specs.Starts.{machine_with, run_with};
 ghost use Rattle.lx_gen.specs.Stops.{Stops, bank_from, last_standing, told_found};
 ghost use Rattle.lx_gen.specs.Turns.{after_ops};
 ghost use Rattle.lx_gen.specs.Written.{AreWritten, IsUnconditional};
@@ -125,20 +131,75 @@ pub fn rules_have_ends()
 
 /// A piece without conditions whose blocks are the layout of a well-formed automaton is valid, if the ends of its rules can be written.
 pub fn layouts_are_valid()
-    ensures { (enc : Enc) (counted : ℕ) (spellings : Spellings) (endings : ℕ → Ending) (greatest : ℕ) (auto : Auto) (piece : Piece) → IsAuto auto
+    ensures { (enc : Enc) (custom : Bool) (counted : ℕ) (spellings : Spellings) (endings : ℕ → Ending) (greatest : ℕ) (auto : Auto) (piece : Piece) → IsAuto auto
         → All (λ (state : State). All (λ (edge : Edge). edge.hi ≤ greatest) state.edges) auto.states
         → IsShort greatest → AreWritten spellings endings auto.states
-        → code_of piece.blocks ≡ layout endings greatest auto 0 → IsUnconditional enc counted spellings piece
-        → IsShort counted → AreAllowed spellings → DoNotClash spellings
+        → code_of piece.blocks ≡ layout endings greatest auto 0 → IsUnconditional enc custom counted spellings piece
+        → IsShort counted → AreAllowed spellings → DoNotClash spellings → (custom ≡ true → name_primitives spellings ≡ false)
         → statement_count piece.blocks ≤ STATEMENT_LIMIT → IsValid piece }
 {}
 
 /// A piece without conditions whose blocks are the layout of the automaton of its rules is a scanner of these rules, if none is `$`.
 pub fn layouts_are_scanners()
-    ensures { (policy : Policy) (enc : Enc) (counted : ℕ) (spellings : Spellings) (rules : List Rule) (texts : List (List ℕ)) (auto : Auto) (piece : Piece)
+    ensures { (policy : Policy) (enc : Enc) (custom : Bool) (counted : ℕ) (spellings : Spellings) (rules : List Rule) (texts : List (List ℕ)) (auto : Auto) (piece : Piece)
         → IsAutoUnder policy enc (patterns_of rules) auto → end_rule (patterns_of rules) ≡ None → IsWithinLimits rules
         → AreShort texts → AreNamed spellings texts rules
-        → code_of piece.blocks ≡ layout (endings_of rules texts) (greatest_unit enc) auto 0 → IsUnconditional enc counted spellings piece
-        → IsShort counted → AreAllowed spellings → DoNotClash spellings
-        → statement_count piece.blocks ≤ STATEMENT_LIMIT → IsScannerUnder policy enc counted spellings rules texts piece }
+        → code_of piece.blocks ≡ layout (endings_of rules texts) (greatest_unit enc) auto 0 → IsUnconditional enc custom counted spellings piece
+        → IsShort counted → AreAllowed spellings → DoNotClash spellings → (custom ≡ true → name_primitives spellings ≡ false)
+        → statement_count piece.blocks ≤ STATEMENT_LIMIT → IsScannerUnder policy enc custom counted spellings rules texts piece }
+{}
+
+/// In a piece that carries an automaton the machine goes as a run of the automaton goes, where the stream has the units for which the
+/// piece checks. Along a word it goes from the place of one state to that of another, and the registers are the automaton's. A match
+/// from the entry ends where the run stops, with the rule and the values that the automaton finds. The run of the match tells just
+/// this, or it is the count of a loop.
+pub fn carried_automata_lead_the_machine()
+    ensures leads { (piece : Piece) (entry : ℕ) (endings : ℕ → Ending) (auto : Auto) (carries : Carries piece entry endings auto) (ahead : ℕ)
+        → 0 < ahead → CheckAtMost ahead piece.blocks
+        → (stream word rest : List ℕ) (standing last : Standing) (code : List Stmt) (machine : Machine) (answers : List Answer)
+        → IsReached auto standing → run auto standing word ≡ Some last
+        → code_at piece.blocks (Some (carries.place standing.state)) ≡ Some code
+        → StandsAs piece endings auto carries.place carries.saved machine standing
+        → drop machine.cursor stream ≡ word ++ rest → AllByRecursion (IsUnitOf piece) word
+        → machine.cursor + (length word + ahead) ≤ suc machine.limit
+        → LeadsTo piece endings auto carries.place carries.saved stream code machine answers (length word) last }
+    ensures ends { (piece : Piece) (entry : ℕ) (endings : ℕ → Ending) (auto : Auto) (carries : Carries piece entry endings auto) (ahead : ℕ)
+        → 0 < ahead → CheckAtMost ahead piece.blocks
+        → (stream word : List ℕ) (start limit : ℕ) (last : Standing) (code : List Stmt) (registers : ℕ → Option ℕ)
+        (histories : ℕ → List (Option ℕ)) (cond : List ℕ) (answers : List Answer)
+        → code_at piece.blocks (Some entry) ≡ Some code → histories 0 ≡ []
+        → StopsBehind piece auto stream start (bank_from registers histories) word last → start + (length word + ahead) ≤ limit
+        → EndsAs piece endings auto carries.place carries.saved stream code (machine_with registers histories start limit cond) answers (length word) last }
+    ensures runs { (piece : Piece) (entry : ℕ) (endings : ℕ → Ending) (auto : Auto) (carries : Carries piece entry endings auto) (ahead : ℕ)
+        → 0 < ahead → CheckAtMost ahead piece.blocks
+        → (stream word : List ℕ) (start : ℕ) (last : Standing) (registers : ℕ → Option ℕ) (histories : ℕ → List (Option ℕ)) (cond : List ℕ)
+        (schedule : Schedule) → entry_block piece.conds cond ≡ Some entry → histories 0 ≡ []
+        → StopsBehind piece auto stream start (bank_from registers histories) word last → start + (length word + ahead) ≤ schedule.first
+        → (run_with piece stream start registers histories cond schedule ≡ told_found endings cond (found_behind auto last) last.offset)
+        ⊎ ((run_with piece stream start registers histories cond schedule).outcome ≡ looped) }
+{}
+
+/// Two automata that one scanner of a piece carries stop behind the same word of a stream, and find the same match.
+pub fn carried_automata_are_alike()
+    ensures { (piece : Piece) (entry : ℕ) (endings : ℕ → Ending) (auto other : Auto) → Carries piece entry endings auto
+        → Carries piece entry endings other → (ahead : ℕ) → 0 < ahead → CheckAtMost ahead piece.blocks
+        → (stream word words : List ℕ) (start limit : ℕ) (last behind : Standing) (registers : ℕ → Option ℕ)
+        (histories : ℕ → List (Option ℕ)) (cond : List ℕ) → histories 0 ≡ []
+        → StopsBehind piece auto stream start (bank_from registers histories) word last
+        → StopsBehind piece other stream start (bank_from registers histories) words behind
+        → start + (length word + ahead) ≤ limit → start + (length words + ahead) ≤ limit
+        → (word ≡ words)
+        × (told_found endings cond (found_behind auto last) last.offset ≡ told_found endings cond (found_behind other behind) behind.offset) }
+{}
+
+/// A piece has at least as many blocks as an automaton that it carries has states with an edge. Different blocks of the scanner that
+/// read a unit, the entry aside, are the places of different states with an edge.
+pub fn carried_states_are_blocks()
+    ensures states { (piece : Piece) (entry : ℕ) (endings : ℕ → Ending) (auto : Auto) → Carries piece entry endings auto
+        → (states : List ℕ) → AllByRecursion (HasEdge auto) states → IsDistinct nat_eq states → length states ≤ length piece.blocks }
+    ensures blocks { (piece : Piece) (entry : ℕ) (endings : ℕ → Ending) (auto : Auto) (carries : Carries piece entry endings auto)
+        (blocks : List ℕ)
+        → AllByRecursion (λ block. (block ≡ entry → ⊥) × IsOfScanner piece.blocks entry block × StandsIn piece.blocks block Peek) blocks
+        → IsDistinct nat_eq blocks
+        → (states : List ℕ) × (map carries.place states ≡ blocks) × AllByRecursion (HasEdge auto) states × IsDistinct nat_eq states }
 {}

@@ -6,13 +6,14 @@ use Rattle.std.specs.Option.{option_or}
 use Rattle.lx_base.specs.declared.places.Pos.{Pos}
 use Rattle.lx_base.specs.declared.faults.Fault.{Fault}
 use Rattle.lx_base.specs.declared.faults.Fault.TheVariants.{BadValue, EofPair, NoRules}
-use Rattle.lx_base.specs.Names.{usual_names}
 use Rattle.lx_regex.specs.declared.rules.Kind.{Kind}
 use Rattle.lx_regex.specs.declared.rules.Kind.TheVariants as kind
 use Rattle.lx_exprs.specs.Checks.{is_among}
 use Rattle.lx_exprs.proofs.TagLists.SharedNames.{each_apart, each_both}
-use Rattle.lx_rules.specs.Items.{RuleOf, State, is_default, is_end}
-use Rattle.lx_rules.specs.Blocks.{every, conditions_behind, conditions_of, rules_under, of_kind, not_of_kind, own_or, shared_beside, scanner_rules, rules_of, size_of, nesting_of, tags_of, limits_fault, scanner_fault, scanners_fault, lonely_fault, targets_fault, BlockChecks, NoClash}
+use Rattle.lx_rules.specs.Items.{State, is_default, is_end}
+use Rattle.lx_rules.specs.Rules.{RuleOf}
+use Rattle.lx_rules.specs.Environments.{config_of}
+use Rattle.lx_rules.specs.Blocks.{every, conditions_behind, conditions_of, rules_under, of_kind, not_of_kind, own_or, shared_beside, scanner_rules, rules_of, size_of, nesting_of, tags_of, limits_fault, scanner_fault, scanners_fault, lonely_fault, targets_fault, ScannerChecks, NoClash}
 use Rattle.lx_rules.specs.Keeping.{IsUsual, names_of}
 
 -- the rules are usual ones
@@ -206,13 +207,14 @@ module _ (at : Pos) (state : State) (usual : AreUsual state.rules) where
   lonely_usual (rule ∷ rules) are = ap (lonely_fault at (rule ∷ rules)) (conditions_of-usual rule rules are)
 
   -- the checks behind the items find what the limits say
-  pub block_checked : (fault : Option Fault) → NoClash usual_names state.rules → over state.rules ≡ fault → BlockChecks at state fault
-  block_checked fault free is =
+  pub block_checked : (custom : Bool) (fault : Option Fault) → NoClash custom (config_of state.settings).names state.rules → over state.rules ≡ fault
+      → ScannerChecks custom at state fault
+  block_checked custom fault free is =
       inl (
         inl (free, refl),
         inl (sym (lonely_usual state.rules usual), inl (sym (no_targets state.rules (conditions_of state.rules) usual), sym (scanners_usual state.rules usual ∙ is))),
       )
 
   -- or that spellings or tags clash
-  pub block_clashes : (NoClash usual_names state.rules → ⊥) → BlockChecks at state (Some (BadValue at))
-  block_clashes clash = inr (BadValue at, inr (clash, refl), refl)
+  pub block_clashes : (custom : Bool) → (NoClash custom (config_of state.settings).names state.rules → ⊥) → ScannerChecks custom at state (Some (BadValue at))
+  block_clashes custom clash = inr (BadValue at, inr (clash, refl), refl)

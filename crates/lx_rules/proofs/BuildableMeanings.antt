@@ -23,6 +23,7 @@ use Rattle.lx_rules.specs.Items.{any_meaning}
 use Rattle.lx_forms.specs.Lexemes.{Lexeme, points_in}
 use Rattle.lx_exprs.specs.Meanings.{IsLeafMeaning, IsMeaning, alternated, character_set, class_meaning, class_term, copied, enclosed, followed, in_choice, in_row, repeated_by, set_term, shifted, shifted_all, string_meaning, string_term, tag_meaning, term_or_empty}
 use Rattle.lx_exprs.proofs.Contents.ValueLimits.{at_least, both_of, times-some}
+use Rattle.lx_exprs.proofs.TagLists.TagNumbers.{member_count-shifted}
 
 -- how many terms stand beside one another
 abbrev term_count : Shape → ℕ
@@ -106,31 +107,28 @@ tag_buildable : (number : ℕ) (name : List ℕ) → IsMeantBuildable (tag_meani
 tag_buildable number name = record { some = omega arith; few = omega arith; expressible = λ within. tt }
 
 -- a copy of a definition
-module _ (by : ℕ) where
-  member_count-shifted : (members : Terms) → member_count (shifted_all by members) ≡ member_count members
-  member_count-shifted nil = refl
-  member_count-shifted (cons member members) = ap suc (member_count-shifted members)
-
+module _ (by groups : ℕ) where
   mutual
-    shifted_expressible : (body : Term) → IsExpressible body → IsExpressible (shifted by body)
+    shifted_expressible : (body : Term) → IsExpressible body → IsExpressible (shifted by groups body)
     shifted_expressible empty is = tt
     shifted_expressible (class ranges) is = tt
     shifted_expressible any_unit is = tt
     shifted_expressible (cat members) is =
-        (subst (λ n. n < 2 ^ 63) (sym (member_count-shifted members)) is.0, shifted_all_expressible members is.1)
+        (subst (λ n. n < 2 ^ 63) (sym (member_count-shifted by groups members)) is.0, shifted_all_expressible members is.1)
     shifted_expressible (alt members) is =
-        (subst (λ n. n < 2 ^ 63) (sym (member_count-shifted members)) is.0, shifted_all_expressible members is.1)
+        (subst (λ n. n < 2 ^ 63) (sym (member_count-shifted by groups members)) is.0, shifted_all_expressible members is.1)
     shifted_expressible (repeat body low high) is = shifted_expressible body is
     shifted_expressible (tag number) is = tt
-    shifted_expressible (term.group opening closing body) is = absurd is
+    shifted_expressible (term.group opening closing body) is =
+        (is.0 + groups, omega (arith, is.1), omega (arith, is.2), shifted_expressible body is.3)
 
-    shifted_all_expressible : (members : Terms) → AreExpressible members → AreExpressible (shifted_all by members)
+    shifted_all_expressible : (members : Terms) → AreExpressible members → AreExpressible (shifted_all by groups members)
     shifted_all_expressible nil are = tt
     shifted_all_expressible (cons member members) are = (shifted_expressible member are.0, shifted_all_expressible members are.1)
 
-  copied_buildable : (definition : Definition) → IsBuildable definition → IsMeantBuildable (copied by definition)
-  copied_buildable definition is =
-      record { some = is.0; few = is.0; expressible = λ within. shifted_expressible (term_or_empty definition.term) is.1 }
+copied_buildable : (by : ℕ) (definition : Definition) → IsBuildable definition → IsMeantBuildable (copied by definition)
+copied_buildable by definition is =
+    record { some = is.0; few = is.0; expressible = λ within. shifted_expressible by 0 (term_or_empty definition.term) is.1 }
 
 enclosed_buildable : (inner : Meaning) → IsMeantBuildable inner → IsMeantBuildable (enclosed inner)
 enclosed_buildable inner is = record { some = is.some; few = is.some; expressible = is.expressible }

@@ -1,25 +1,29 @@
 -- A block whose checks find nothing resolves: each of its scanners can be built.
-use Rattle.std.proofs.Common.{◌≡◌, ℕ, ◌≤◌, Bool, true, false, not, List, [], ◌∷◌, ◌++◌, map, length, Option, None, Some, refl, sym, ap, ap₂, arith}
+use Rattle.std.proofs.Common.{◌≡◌, ℕ, ◌≤◌, Bool, true, false, not, List, [], ◌∷◌, ◌++◌, map, length, Option, None, Some, refl, sym, ap, ap₂, ◌∙◌, arith}
 use Rattle.std.specs.List.{AllByRecursion, list_any, filter}
+use Rattle.std.proofs.lemmas.List.{length-map}
 use Rattle.std.specs.Option.{option_or}
 use Rattle.std.specs.Prelude.{◌||◌, if◌then◌else◌}
-use Rattle.lx_base.specs.Names.{usual_names}
 use Rattle.lx_base.specs.declared.faults.Fault.{Fault}
 use Rattle.lx_base.specs.declared.faults.Fault.TheVariants.{EofPair, NoRules}
 use Rattle.lx_base.specs.declared.places.Pos.{Pos}
+use Rattle.lx_regex.specs.Expr.{term_of}
 use Rattle.lx_regex.specs.Pattern as regex
 use Rattle.lx_regex.specs.Pattern.{Pattern, patterns_of}
 use Rattle.lx_regex.specs.Term.{Term}
 use Rattle.lx_regex.specs.declared.rules.Rule.{Rule}
 use Rattle.lx_regex.specs.declared.rules.Tag.{Tag}
-use Rattle.lx_rules.specs.Blocks.{AreScanners, BlockChecks, ClashCheck, IsResolved, IsScanner, cond_name, conditions_of, every, given_names, is_bare, limits_fault, lonely_fault, nesting_of, not_of_kind, of_kind, own_or, pattern_of, rules_of, rules_under, scanner_fault, scanner_rules, scanners_fault, shared_beside, size_of, tags_of, targets_fault}
+use Rattle.lx_rules.specs.Blocks.{AreScanners, ClashCheck, ScannerChecks, IsResolved, IsScanner, cond_name, conditions_of, every, given_names, is_bare, limits_fault, lonely_fault, nesting_of, not_of_kind, of_kind, own_or, pattern_of, rules_of, rules_under, scanner_fault, scanner_rules, scanners_fault, shared_beside, size_of, tags_of, targets_fault}
 use Rattle.lx_exprs.specs.Checks.{Check, Finds, Then, is_among}
 use Rattle.lx_exprs.specs.Defined.{term_of_meaning}
-use Rattle.lx_rules.specs.Environments.{Environment}
-use Rattle.lx_rules.specs.Items.{RuleOf, State, is_default, is_end}
+use Rattle.lx_rules.specs.Environments.{config_of}
+use Rattle.lx_rules.specs.Items.{State, is_default, is_end}
+use Rattle.lx_rules.specs.Rules.{RuleOf}
 use Rattle.lx_rules.specs.declared.resolved.Resolved.{Resolved}
 use Rattle.lx_rules.specs.declared.resolved.Scanner.{Scanner}
 use Rattle.lx_rules.proofs.BuildableMeanings.{IsMeantBuildable}
+use Rattle.lx_exprs.specs.Meanings.{behind}
+use Rattle.lx_exprs.proofs.Contents.TermsBehind.{term_of-behind}
 use Rattle.lx_rules.proofs.BuiltTerms.{Expressed, expressed}
 use Rattle.lx_exprs.proofs.Forms.ClassForms.{then-none}
 use Rattle.lx_rules.proofs.RuleNumbers.{all_both}
@@ -120,8 +124,14 @@ built_rule rule expr = record {
 
 rule_pattern : (rule : RuleOf) (expr : Expressed (term_of_meaning rule.meaning)) → regex.pattern_of (built_rule rule expr) ≡ pattern_of rule
 rule_pattern rule expr =
-    ap₂ make (expr.1 (length (map named_tag rule.meaning.tags))) (tags_many rule.meaning.tags)
+    ap₂ make term (tags_many rule.meaning.tags)
   where
+    count : length (map named_tag rule.meaning.tags) ≡ length rule.meaning.tags
+    count = length-map rule.meaning.tags named_tag
+
+    term : term_of (length (map named_tag rule.meaning.tags)) expr.0 ≡ behind (length rule.meaning.tags) (term_of_meaning rule.meaning)
+    term = term_of-behind expr.0 (length (map named_tag rule.meaning.tags)) ∙ ap₂ behind count expr.1
+
     make : Term → List Bool → Pattern
     make term many =
         record { number = rule.act.number; kind = rule.kind; term = term; many = many; slash = None; groups = 0 }
@@ -161,22 +171,21 @@ module _ (named : Bool) (at : Pos) (rules : List RuleOf) (buildable : AllByRecur
       let others = scanners_built conds both.1 in (one.0 ∷ others.0, (one.1, others.1))
 
 -- what a block resolves to
-pub block_built : (named : Bool) (at : Pos) (state : State) → BlockChecks at state None
+pub block_built : (named custom : Bool) (at : Pos) (state : State) → ScannerChecks custom at state None
     → AllByRecursion (λ (rule : RuleOf). IsMeantBuildable rule.meaning) state.rules
-    → (after : Environment) × (resolved : Resolved) × IsResolved named state after resolved
-block_built named at state checked buildable =
+    → (resolved : Resolved) × IsResolved named state resolved
+block_built named custom at state checked buildable =
     let Scanners : Check = Finds (scanners_fault at state.rules (conditions_of state.rules)) in
     let Targets : Check = Finds (targets_fault state.rules (conditions_of state.rules)) in
     let Lonely : Check = Finds (lonely_fault at state.rules (conditions_of state.rules)) in
-    let one = then-none (ClashCheck at usual_names state.rules) (Then Lonely (Then Targets Scanners)) checked in
+    let one = then-none (ClashCheck custom at (config_of state.settings).names state.rules) (Then Lonely (Then Targets Scanners)) checked in
     let two = then-none Lonely (Then Targets Scanners) one.1 in
     let three = then-none Targets Scanners two.1 in
     let built = scanners_built named at state.rules buildable (conditions_of state.rules) (sym three.1) in (
-      record { definitions = state.definitions; fill = state.fill },
       record {
         scanners = built.0;
         acts = map (λ (rule : RuleOf). rule.act) state.rules;
-        config = record { names = usual_names; eof = None; fill = state.fill };
+        config = config_of state.settings;
       },
-      record { environment_is = refl; scanners = built.1; acts = refl; names = refl; eof = refl; fill = refl },
+      record { scanners = built.1; acts = refl; config = refl },
     )

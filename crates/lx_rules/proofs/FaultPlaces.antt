@@ -4,8 +4,9 @@ use Rattle.std.specs.Prelude.{◌||◌, nat_lt, ◌==◌, if◌then◌else◌, i
 use Rattle.std.specs.List.{AllByRecursion, list_any}
 use Rattle.std.specs.Option.{option_map, option_or}
 use Rattle.std.specs.Str.{bytes_eq}
-use Rattle.lx_base.specs.Names.{Spellings, usual_names}
+use Rattle.lx_base.specs.Names.{Spellings}
 use Rattle.lx_base.specs.declared.blocks.BlockKind.{BlockKind}
+use Rattle.lx_base.specs.declared.blocks.BlockKind.TheVariants.{Code}
 use Rattle.lx_base.specs.declared.faults.Fault.{Fault}
 use Rattle.lx_base.specs.declared.faults.Fault.TheVariants.{Unsupported, BadValue, Condition, EofPair, NoRules, Redefined, TooManyParts, UnknownConfig}
 use Rattle.lx_base.specs.declared.places.Pos.{Pos}
@@ -16,14 +17,16 @@ use Rattle.lx_parse.specs.Sorts.{sorts_of}
 use Rattle.lx_parse.proofs.ItemPlaces.{body_has_places}
 use Rattle.lx_parse.specs.declared.items.Item.{Item}
 use Rattle.lx_parse.specs.declared.items.Item.TheVariants.{Define, Configure, Rule, Text}
-use Rattle.lx_rules.specs.Blocks.{BlockChecks, ClashCheck, IsBlockFault, conditions_of, is_bare, limits_fault, lonely_fault, nesting_of, not_of_kind, rules_of, scanner_fault, scanners_fault, size_of, tags_of as tag_count, target_fault, targets_fault}
+use Rattle.lx_rules.specs.Blocks.{ClashCheck, IsBlockFault, IsFaultWithin, ScannerChecks, conditions_of, opening_fault, is_bare, limits_fault, lonely_fault, nesting_of, not_of_kind, rules_of, scanner_fault, scanners_fault, size_of, tags_of as tag_count, target_fault, targets_fault}
 use Rattle.lx_exprs.specs.Checks.{Then, Finds, unsupported, is_among}
 use Rattle.lx_rules.specs.Configurations.{config_fault, define_words, fill_word, other_words, switch_fault, switch_of}
 use Rattle.lx_exprs.specs.Defined.{Definition, definition_of, kept}
-use Rattle.lx_rules.specs.Environments.{Environment}
+use Rattle.lx_rules.specs.Environments.{Environment, config_of}
+use Rattle.lx_rules.proofs.Openings.{opened, opening_is}
 use Rattle.lx_exprs.specs.Expressions.{ExpressionChecks}
 use Rattle.lx_exprs.specs.FaultPlaces.{StandsIn}
-use Rattle.lx_rules.specs.Items.{Goes, ends, refused, next, HeadChecks, HeadSort, any, end, expression, head_sort, IsAfter, ItemChecks, ListChecks, RuleOf, State, TargetChecks, conds_of, first_of, is_default, is_end, twice, unless}
+use Rattle.lx_rules.specs.Items.{Goes, ends, refused, next, HeadChecks, HeadSort, any, end, expression, head_sort, IsAfter, ItemChecks, ListChecks, State, TargetChecks, conds_of, first_of, is_default, is_end, twice, unless}
+use Rattle.lx_rules.specs.Rules.{RuleOf}
 use Rattle.lx_forms.specs.Lexemes.{Lexeme, StandInFile, lexemes_of, nth_lexeme, sort_at}
 use Rattle.lx_forms.proofs.FilePlaces.{nth_lexeme-file, tokens_of-file}
 use Rattle.lx_token.specs.Tokens.{tokens_of}
@@ -136,10 +139,10 @@ module _ (file : ℕ) where
         targets_behind goes within.1 last is (targets_after state item after within.0 becomes targets)
 
     module _ (at : Pos) (at_is : at.file ≡ file) where
-      clash-file : (names : Spellings) (rules : List RuleOf) → FindsIn file (ClashCheck at names rules)
+      clash-file : (names : Spellings) (rules : List RuleOf) → FindsIn file (ClashCheck options.custom at names rules)
       clash-file names rules = record { finds = by }
         where
-          by : (fault : Fault) → ClashCheck at names rules (Some fault) → StandsIn file fault
+          by : (fault : Fault) → ClashCheck options.custom at names rules (Some fault) → StandsIn file fault
           by fault (inl found) = let none = found.1 in absurd cc
           by fault (inr found) = file-found file (Some (BadValue at)) at_is fault found.1
 
@@ -177,24 +180,39 @@ module _ (file : ℕ) where
           option_or-file file (target_fault rule.act.goes rule.target conds) (targets_fault rules conds)
           (target_fault-file rule.act.goes rule.target conds targets.0) (targets-file rules conds targets.1)
 
-      block-file : (state : State) → AreTargetsIn state.rules → FindsIn file (BlockChecks at state)
-      block-file state targets =
+      checks-file : (state : State) → AreTargetsIn state.rules → FindsIn file (ScannerChecks options.custom at state)
+      checks-file state targets =
+          let names = (config_of state.settings).names in
           let conds = conditions_of state.rules in
           let Lonely = Finds (lonely_fault at state.rules conds) in
           let Targets = Finds (targets_fault state.rules conds) in
           let Scanners = Finds (scanners_fault at state.rules conds) in
-          FindsIn-Then file (ClashCheck at usual_names state.rules) (Then Lonely (Then Targets Scanners)) (clash-file usual_names state.rules)
+          FindsIn-Then file (ClashCheck options.custom at names state.rules) (Then Lonely (Then Targets Scanners)) (clash-file names state.rules)
           (FindsIn-Then file Lonely (Then Targets Scanners) (FindsIn-Finds file (lonely_fault at state.rules conds) (lonely-file state.rules conds))
           (FindsIn-Then file Targets Scanners
           (FindsIn-Finds file (targets_fault state.rules conds) (targets-file state.rules conds targets))
           (FindsIn-Finds file (scanners_fault at state.rules conds) (scanners-file state.rules conds))))
 
+      -- the fault behind the opener of a block of scanners stands in the file
+      within-file : (environment : Environment) (items : List Item) (fault : Fault) → EachHasPlaces (length lexemes) items
+          → IsFaultWithin options Code at environment lexemes items fault → StandsIn file fault
+      within-file environment items fault within (inl goes) = items-file goes within fault refl
+      within-file environment items fault within (inr found) =
+          (checks-file found.0 (targets_behind found.1 within found.0 refl tt)).finds fault found.2
+
+      opening-file : (kind : BlockKind) → IsFoundIn file (opening_fault kind at)
+      opening-file kind = elim (opening_is kind at) [
+        | inl code ↦ subst (λ (k : BlockKind). IsFoundIn file (opening_fault k at)) (sym code) tt
+        | inr waits ↦ subst (IsFoundIn file) (sym waits) at_is
+      ]
+
       -- the fault of a block stands in the file, where its opener and its tokens do
-      pub IsBlockFault-file : (environment : Environment) (items : List Item) (fault : Fault) → EachHasPlaces (length lexemes) items
-          → IsBlockFault options at environment lexemes items fault → StandsIn file fault
-      IsBlockFault-file environment items fault within (inl goes) = items-file goes within fault refl
-      IsBlockFault-file environment items fault within (inr found) =
-          (block-file found.0 (targets_behind found.1 within found.0 refl tt)).finds fault found.2
+      pub IsBlockFault-file : (kind : BlockKind) (environment : Environment) (items : List Item) (fault : Fault) → EachHasPlaces (length lexemes) items
+          → IsBlockFault options kind at environment lexemes items fault → StandsIn file fault
+      IsBlockFault-file kind environment items fault within (inl waits) = subst (IsFoundIn file) waits (opening-file kind)
+      IsBlockFault-file kind environment items fault within (inr found) =
+          within-file environment items fault within
+          (subst (λ (k : BlockKind). IsFaultWithin options k at environment lexemes items fault) (opened kind at found.0) found.1)
 
 -- a body has as many sorts as tokens
 sorts-lexemes : (kind : BlockKind) (body : List ℕ) (tokens : List Token) → length (sorts_of kind body tokens) ≡ length (lexemes_of body tokens)
@@ -204,10 +222,10 @@ sorts-lexemes kind body (token ∷ tokens) = ap suc (sorts-lexemes kind body tok
 -- the fault of a block stands in the file of its opener
 pub block_fault-file : (options : Options) (at start : Pos) (environment : Environment) (kind : BlockKind) (body : List ℕ) (tokens : List Token)
     (items : List Item) (fault : Fault) → start.file ≡ at.file → tokens_of body start ≡ Ok tokens
-    → IsBody (form_of kind) (sorts_of kind body tokens) items → IsBlockFault options at environment (lexemes_of body tokens) items fault
+    → IsBody (form_of kind) (sorts_of kind body tokens) items → IsBlockFault options kind at environment (lexemes_of body tokens) items fault
     → StandsIn at.file fault
 block_fault-file options at start environment kind body tokens items fault same tokens_are items_are found =
     IsBlockFault-file at.file options (lexemes_of body tokens)
-    (subst (λ file. StandInFile file (lexemes_of body tokens)) same (tokens_of-file body start tokens tokens_are)) at refl environment items fault
+    (subst (λ file. StandInFile file (lexemes_of body tokens)) same (tokens_of-file body start tokens tokens_are)) at refl kind environment items fault
     (subst (λ size. EachHasPlaces size items) (sorts-lexemes kind body tokens) (body_has_places (form_of kind) (sorts_of kind body tokens) items items_are))
     found

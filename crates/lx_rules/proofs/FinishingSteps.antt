@@ -5,7 +5,7 @@ use Rattle.std.proofs.lemmas.List.{map-append, length-map}
 use Rattle.std.proofs.lemmas.List.Elements.{All-append}
 use Rattle.lx_base.specs.declared.places.Pos.{Pos}
 use Rattle.lx_base.specs.declared.faults.Fault.TheVariants.{BadValue, TooManyParts}
-use Rattle.lx_base.specs.Names.{DoNotClash, IsTagName, usual_names}
+use Rattle.lx_base.specs.Names.{IsTagName, Spellings, usual_names}
 use Rattle.std.specs.List.{AllByRecursion}
 use Rattle.std.specs.Prelude.{◌||◌, nat_lt, if◌then◌else◌}
 use Rattle.lx_regex.specs.Expr.{size_of, size_step, term_of}
@@ -20,15 +20,18 @@ use Rattle.lx_regex.proofs.Trees.Folds.{term_of-any_unit}
 use Rattle.lx_rules.specs.declared.items.Known.{Known}
 use Rattle.lx_rules.specs.declared.items.DefaultRule.{DefaultRule}
 use Rattle.lx_rules.specs.declared.environment.Env.{Env}
+use Rattle.lx_rules.specs.declared.resolved.Config.{Config}
+use Rattle.lx_rules.specs.Environments.{Settings, config_of}
 use Rattle.lx_rules.specs.declared.resolved.Scanner.{Scanner}
 use Rattle.lx_rules.specs.declared.resolved.Resolved.{Resolved}
-use Rattle.lx_rules.specs.Items.{RuleOf, State, is_default}
+use Rattle.lx_rules.specs.Items.{State, is_default}
+use Rattle.lx_rules.specs.Rules.{RuleOf}
 use Rattle.lx_rules.specs.Blocks as blocks
-use Rattle.lx_rules.specs.Blocks.{BlockChecks}
-use Rattle.lx_exprs.specs.Defined.{fits, kept, whole_room}
+use Rattle.lx_rules.specs.Blocks.{ScannerChecks, SpellingsDiffer}
+use Rattle.lx_exprs.specs.Defined.{Definition, fits, kept, whole_room}
 use Rattle.lx_rules.specs.Keeping.{Holds, HoldsDefault, DefaultWithin, default_count, names_of}
 use Rattle.lx_rules.specs.Soundness.{IsFit, HasFitDefinitions, rules_size}
-use Rattle.lx_rules.specs.Seen.{environment_view}
+use Rattle.lx_rules.specs.Seen.{environment_view, settings_view}
 use Rattle.lx_rules.specs.Finishing.{AddsDefault, AreScannersOf, IsFinished}
 use Rattle.lx_rules.proofs.BlockSteps.{AreUsual, all_names, block_checked, block_clashes, conditions_of-usual, each_name, in_order, over, rules_of-usual}
 use Rattle.lx_rules.proofs.RuleSteps.{rules_size-snoc}
@@ -70,7 +73,14 @@ nothing_mapped : {A B : Type 0} (f : A → B) (items : List A) → map f items �
 nothing_mapped f [] none = refl
 nothing_mapped f (item ∷ items) none = cc
 
-module _ (conds : Bool) (known : Known) (state : State) (holds : Holds conds known state) (at : Pos) where
+module _ (conds custom : Bool) (known : Known) (state : State) (holds : Holds conds known state) (at : Pos) where
+  -- the spellings are the usual ones
+  usually : (config_of state.settings).names ≡ usual_names
+  usually = ap (λ (settings : Settings). (config_of settings).names) (sym holds.settings)
+
+  abbrev IsFree : Type 0
+  IsFree = blocks.NoClash custom (config_of state.settings).names state.rules
+
   abbrev known_over : Bool
   known_over = is_over known.size known.nesting (length known.tags)
 
@@ -86,19 +96,23 @@ module _ (conds : Bool) (known : Known) (state : State) (holds : Holds conds kno
       ∙ ap₂ (λ a b. if is then Some (TooManyParts at a b (kept (length known.tags))) else None) sizes depths
 
   -- the tags that are known have names that they may have
-  pub free_names : DoNotClash usual_names → AllByRecursion (IsTagName usual_names) known.tags → blocks.NoClash usual_names state.rules
-  free_names differ names = (differ, each_name (IsTagName usual_names) state.rules (subst (AllByRecursion (IsTagName usual_names)) holds.tags names))
+  pub free_names : SpellingsDiffer custom usual_names → AllByRecursion (IsTagName usual_names) known.tags → IsFree
+  free_names differ names =
+      subst (λ (words : Spellings). blocks.NoClash custom words state.rules) (sym usually)
+      (differ, each_name (IsTagName usual_names) state.rules (subst (AllByRecursion (IsTagName usual_names)) holds.tags names))
 
   -- names that clash are refused
-  pub clashing : (DoNotClash usual_names → AllByRecursion (IsTagName usual_names) known.tags → ⊥) → BlockChecks at state (Some (BadValue at))
+  pub clashing : (SpellingsDiffer custom usual_names → AllByRecursion (IsTagName usual_names) known.tags → ⊥) → ScannerChecks custom at state (Some (BadValue at))
   clashing clash =
-      block_clashes at state holds.usual
-      (λ free. clash free.0 (subst (AllByRecursion (IsTagName usual_names)) (sym holds.tags) (all_names (IsTagName usual_names) state.rules free.1)))
+      block_clashes at state holds.usual custom
+      (λ free.
+      let plain = subst (λ (words : Spellings). blocks.NoClash custom words state.rules) usually free in
+      clash plain.0 (subst (AllByRecursion (IsTagName usual_names)) (sym holds.tags) (all_names (IsTagName usual_names) state.rules plain.1)))
 
   -- a scanner that is past a limit is refused
-  pub too_large : blocks.NoClash usual_names state.rules → known_over ≡ true
-      → BlockChecks at state (Some (TooManyParts at known.size known.nesting (kept (length known.tags))))
-  too_large free is = block_checked at state holds.usual (Some (TooManyParts at known.size known.nesting (kept (length known.tags)))) free (over_is true is)
+  pub too_large : IsFree → known_over ≡ true
+      → ScannerChecks custom at state (Some (TooManyParts at known.size known.nesting (kept (length known.tags))))
+  too_large free is = block_checked at state holds.usual custom (Some (TooManyParts at known.size known.nesting (kept (length known.tags)))) free (over_is true is)
 
   known_fits : known_over ≡ false → fits whole_room (blocks.size_of state.rules) (blocks.nesting_of state.rules) (length (names_of state.rules)) ≡ true
   known_fits under =
@@ -203,24 +217,20 @@ module _ (conds : Bool) (known : Known) (state : State) (holds : Holds conds kno
 
   -- what the block resolves to
   pub finished :
-      (answer : Env × Resolved) → blocks.NoClash usual_names state.rules → answer.0 ≡ known.env → answer.1.acts ≡ known.acts.items → answer.1.config.names ≡ usual_names → answer.1.config.eof ≡ None
-      → answer.1.config.fill ≡ known.env.fill → length known.acts.items ≤ 16777216 → (is_empty : Bool)
+      (answer : Env × Resolved) → IsFree → answer.0 ≡ known.env → answer.1.acts ≡ known.acts.items
+      → answer.1.config ≡ config_of (settings_view known.env.settings) → length known.acts.items ≤ 16777216 → (is_empty : Bool)
       → (is_empty ≡ true → length known.acts.items ≡ 0) → (is_empty ≡ false → 0 < length known.acts.items)
       → AreScannersOf is_empty known.default known.rules.items answer.1.scanners → known_over ≡ false
-      → IsFinished conds at state answer
-  finished answer free env acts names eof fill few is_empty empty some are under =
+      → IsFinished conds custom at state answer
+  finished answer free env acts config few is_empty empty some are under =
       let scanners = scanners_all is_empty answer.1.scanners empty some are under in (
-        block_checked at state holds.usual None free (over_is false under),
-        record {
-          environment_is = ap environment_view env ∙ ap₂ (λ d f. record { definitions = d; fill = f }) holds.definitions holds.fill;
-          scanners = scanners.0;
-          acts = acts ∙ holds.acts;
-          names = names;
-          eof = eof;
-          fill = fill ∙ holds.fill;
-        },
+        block_checked at state holds.usual custom None free (over_is false under),
+        ap environment_view env
+            ∙ ap₂ (λ (definitions : List Definition) (settings : Settings). record { definitions = definitions; settings = settings; kept = None }) holds.definitions holds.settings,
+        record { scanners = scanners.0; acts = acts ∙ holds.acts; config = config ∙ ap config_of holds.settings },
         subst HasFitDefinitions (sym env) holds.sound,
         record {
+          names = ap (λ (c : Config). c.names) config;
           scanners = rw (acts) scanners.1;
           acts = rw (acts) holds.short;
           few = rw (acts) few;

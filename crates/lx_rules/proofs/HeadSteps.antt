@@ -22,7 +22,8 @@ use Rattle.lx_exprs.specs.declared.values.Room.{Room}
 use Rattle.lx_forms.specs.Lexemes.{Lexeme, nth_lexeme, sort_at, sorts_at}
 use Rattle.lx_exprs.specs.Checks.{Check, StopsAt}
 use Rattle.lx_exprs.specs.Expressions.{ExpressionChecks}
-use Rattle.lx_rules.specs.Items.{RuleOf, State, HeadChecks, IsHead, any_meaning, expression, head_sort, first_of, is_default, twice}
+use Rattle.lx_rules.specs.Items.{State, HeadChecks, IsHead, any_meaning, expression, head_sort, first_of, is_default, twice}
+use Rattle.lx_rules.specs.Rules.{RuleOf}
 use Rattle.lx_rules.specs.Blocks.{of_kind}
 use Rattle.lx_exprs.specs.Expressions.{IsRead}
 use Rattle.lx_rules.specs.Keeping.{Holds, HoldsDefault, IsUsual, IsHeadRead, StopsHead}

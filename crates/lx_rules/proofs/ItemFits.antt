@@ -15,7 +15,8 @@ use Rattle.lx_exprs.specs.Checks.{Check, Checks, Finds, IsIn, Then}
 use Rattle.lx_exprs.specs.Defined.{Definition, IsClassKept, IsDefined, IsTermKept, Meaning, class_in, definition_of, fits, is_built, meant_class, whole, whole_room}
 use Rattle.lx_forms.specs.Forms.{Form}
 use Rattle.lx_exprs.specs.Expressions.{ExpressionChecks, IsExpression}
-use Rattle.lx_rules.specs.Items.{Goes, HeadChecks, HeadSort, IsAfter, IsHead, ItemChecks, ListChecks, RuleOf, State, TargetChecks, act_of, any, any_meaning, conds_of, ends, end, expression, head_sort, next, twice}
+use Rattle.lx_rules.specs.Items.{Goes, HeadChecks, HeadSort, IsAfter, IsHead, ItemChecks, ListChecks, State, TargetChecks, act_of, any, any_meaning, conds_of, ends, end, expression, head_sort, next, twice, rule_of, with_rule}
+use Rattle.lx_rules.specs.Rules.{RuleOf}
 use Rattle.lx_forms.specs.Lexemes.{Lexeme, nth_lexeme, sort_at}
 use Rattle.lx_exprs.specs.Meanings.{IsMeaning, term_or_empty}
 use Rattle.lx_exprs.specs.Within.{AreDefinedWithin, IsDefinedWithin, IsPlain}
@@ -74,7 +75,7 @@ module _ (enc : Enc) where
   defined_snoc (first ∷ definitions) definition are is = (are.0, defined_snoc definitions definition are.1 is)
 
   pub any_within : IsMeantWithin enc 0 any_meaning
-  any_within = record { plain = tt; count = refl; untagged = λ held. refl; numbered = λ built. (tt, refl) }
+  any_within = record { plain = tt; count = refl; untagged = λ held. refl; numbered = λ built. record { sequences = tt; tags = refl; ends = refl } }
 
 -- what is asked of what is known behind items; the rules have numbers in order
 pub record IsStateWithin (enc : Enc) (state : State) : Type 0 where
@@ -116,7 +117,7 @@ module _ (options : Options) (lexemes : List Lexeme) where
 
   rule_within : (state after : State) (rule : RuleOf) → IsStateWithin options.enc state → IsMeantWithin options.enc 0 rule.meaning
       → rule.act.number ≡ suc (length state.rules)
-      → after ≡ record { definitions = state.definitions; fill = state.fill; rules = state.rules ++ rule ∷ [] } → IsStateWithin options.enc after
+      → after ≡ with_rule state rule → IsStateWithin options.enc after
   rule_within state after rule within meant number is =
       let longer : length (state.rules ++ rule ∷ []) ≡ suc (length state.rules) = let l = length-append state.rules (rule ∷ []) in omega (arith, l) in
       let more : length state.rules ≤ length (state.rules ++ rule ∷ []) = omega (arith, longer) in
@@ -157,14 +158,7 @@ module _ (options : Options) (lexemes : List Lexeme) where
       (λ fault. Then Head (TargetChecks options lexemes goes) fault) checked in
       let later = then-none Head (TargetChecks options lexemes goes) found.1 in
       let meant = head_within state within.definitions sort (conds_of options lexemes first head) head slash until is.0 is.1 later.0 is.2 in
-      rule_within state after (record {
-        conds = conds_of options lexemes first head;
-        kind = is.0;
-        at = (nth_lexeme lexemes head).at;
-        meaning = is.1;
-        target = option_map (λ place. (nth_lexeme lexemes place).at) goes;
-        act = act_of options lexemes (suc (length state.rules)) goes code;
-      }) within meant (act_number (suc (length state.rules)) goes code) is.3
+      rule_within state after (rule_of options lexemes (suc (length state.rules)) first head goes code is.0 is.1) within meant (act_number (suc (length state.rules)) goes code) is.3
   item_within state after (Text value) within checked is = subst (IsStateWithin options.enc) (sym is) within
 
   -- and behind all items

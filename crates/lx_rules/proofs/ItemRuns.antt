@@ -17,7 +17,7 @@ use Rattle.lx_parse.specs.Blocks.{IsBody, form_of}
 use Rattle.lx_parse.specs.Sorts.{sort_of, sorts_of}
 use Rattle.lx_token.specs.declared.list.Token.{Token}
 use Rattle.lx_rules.specs.Environments.{Environment}
-use Rattle.lx_rules.specs.Blocks.{BlockChecks, StopsWith}
+use Rattle.lx_rules.specs.Blocks.{ScannerChecks, StopsWith}
 use Rattle.lx_forms.specs.Lexemes.{Lexeme, lexeme_of, lexemes_of, sort_at, sorts_at}
 use Rattle.lx_rules.specs.Items.{State, Goes, ends, refused, next, first_state, ItemChecks, IsAfter}
 use Rattle.lx_rules.specs.Keeping.{StopsGoing}
@@ -108,6 +108,7 @@ if_ok_so P P' Q (Ok a) given p = p a given
 if_ok_so P P' Q (Err b) given p = tt
 
 pub stops_behind : (options : Options) (at : Pos) (environment : Environment) (lexemes : List Lexeme) (items : List Item) (state : State) (stopped : Stop)
-    → Goes options lexemes (first_state environment) items (Ok state) → StopsAt (BlockChecks at state) stopped → StopsWith options at environment lexemes items stopped
+    → Goes options lexemes (first_state Code environment) items (Ok state) → StopsAt (ScannerChecks options.custom at state) stopped
+    → StopsWith options Code at environment lexemes items stopped
 stops_behind options at environment lexemes items state stop.Memory goes stops = tt
-stops_behind options at environment lexemes items state (stop.Fault fault) goes stops = inr (state, goes, stops)
+stops_behind options at environment lexemes items state (stop.Fault fault) goes stops = inr (refl, inr (state, goes, stops))

@@ -18,7 +18,9 @@ use Rattle.lx_exprs.specs.Defined.{Definition, IsDefined, definition_of, whole_r
 use Rattle.lx_exprs.specs.Checks.{Finds, StopsAt}
 use Rattle.lx_rules.specs.Configurations.{config_fault, switch_of}
 use Rattle.lx_exprs.specs.Expressions.{ExpressionChecks}
-use Rattle.lx_rules.specs.Items.{State, ItemChecks, is_default, twice}
+use Rattle.lx_rules.specs.Environments.{Settings, with_fill}
+use Rattle.lx_rules.specs.Items.{State, ItemChecks, is_default, twice, with_definition, with_settings}
+use Rattle.lx_rules.specs.Seen.{settings_view}
 use Rattle.lx_exprs.specs.Expressions.{IsRead}
 use Rattle.lx_rules.specs.Keeping.{Holds, HoldsDefault, IsTaken}
 use Rattle.lx_rules.specs.Blocks.{given_names, of_kind}
@@ -42,7 +44,7 @@ module _ (options : Options) (lexemes : List Lexeme) (known : Known) (state : St
   pub configured : (name value : ℕ) (fill : Bool) → config_fault (nth_lexeme lexemes name) (nth_lexeme lexemes value) ≡ None
       → switch_of (nth_lexeme lexemes value).kind (nth_lexeme lexemes value).text ≡ Some fill
       → IsTaken options lexemes state (Configure name value) (record {
-        env = record { definitions = known.env.definitions; fill = fill };
+        env = record { definitions = known.env.definitions; settings = record { fill = Some fill } };
         rules = known.rules;
         default = known.default;
         acts = known.acts;
@@ -52,12 +54,12 @@ module _ (options : Options) (lexemes : List Lexeme) (known : Known) (state : St
       })
   configured name value fill none is = record {
     checked = sym none;
-    next = record { definitions = state.definitions; fill = fill; rules = state.rules };
+    next = with_settings state (with_fill state.settings fill);
     is_after = (fill, is, refl);
     holds = record {
       without_conds = holds.without_conds;
       definitions = holds.definitions;
-      fill = refl;
+      settings = ap (λ (settings : Settings). with_fill settings fill) holds.settings;
       acts = holds.acts;
       size = holds.size;
       nesting = holds.nesting;
@@ -99,17 +101,17 @@ module _ (options : Options) (lexemes : List Lexeme) (known : Known) (state : St
       → (read : IsRead options lexemes state.definitions whole_room from until reading)
       → IsDefined (nth_lexeme lexemes name).text (nth_lexeme lexemes name).at read.meaning (definition_view (nth_lexeme lexemes name).text given)
       → definitions_view after.env.definitions ≡ definitions_view known.env.definitions ++ definition_view (nth_lexeme lexemes name).text given ∷ []
-      → HasFitDefinitions after.env → after.env.fill ≡ known.env.fill → after.rules ≡ known.rules → after.default ≡ known.default → after.acts ≡ known.acts
+      → HasFitDefinitions after.env → after.env.settings ≡ known.env.settings → after.rules ≡ known.rules → after.default ≡ known.default → after.acts ≡ known.acts
       → after.size ≡ known.size → after.nesting ≡ known.nesting → after.tags ≡ known.tags
       → IsTaken options lexemes state (Define name from until) after
-  define_taken name from until after given reading none read defined added sound fill rules default acts size nesting tags = record {
+  define_taken name from until after given reading none read defined added sound settings rules default acts size nesting tags = record {
     checked = inl (once name none, read_checked options lexemes state.definitions whole_room from until reading read);
-    next = record { definitions = state.definitions ++ new ∷ []; fill = state.fill; rules = state.rules };
+    next = with_definition state new;
     is_after = (read.form, read.meaning, new, read.stands_there, read.means, defined, refl);
     holds = record {
       without_conds = holds.without_conds;
       definitions = added ∙ ap (λ definitions. definitions ++ new ∷ []) holds.definitions;
-      fill = fill ∙ holds.fill;
+      settings = ap settings_view settings ∙ holds.settings;
       acts = ap (λ (l : Vec Act Global). l.items) acts ∙ holds.acts;
       size = size ∙ holds.size;
       nesting = nesting ∙ holds.nesting;

@@ -20,7 +20,8 @@ use Rattle.lx_exprs.specs.Checks.{Check, Checks, Finds, IsIn, Then, is_among, ta
 use Rattle.lx_rules.specs.Configurations.{config_fault, define_words, fill_word, other_words, switch_fault, switch_of}
 use Rattle.lx_exprs.specs.Defined.{Definition, IsClassKept, IsDefined, IsTermKept, Meaning, definition_of, is_built, kept, meant_class, term_of_meaning, whole, whole_room}
 use Rattle.lx_exprs.specs.Expressions.{ContextChecks, ExpressionChecks}
-use Rattle.lx_rules.specs.Items.{Goes, HeadChecks, HeadSort, IsAfter, IsHead, ItemChecks, ListChecks, RuleOf, State, TargetChecks, act_of, any, any_meaning, conds_of, ends, end, expression, first_of, head_sort, is_default, is_end, next, refused, twice, unless}
+use Rattle.lx_rules.specs.Items.{Goes, HeadChecks, HeadSort, IsAfter, IsHead, ItemChecks, ListChecks, State, TargetChecks, any, any_meaning, conds_of, ends, end, expression, first_of, head_sort, is_default, is_end, next, refused, twice, unless, rule_of}
+use Rattle.lx_rules.specs.Rules.{RuleOf}
 use Rattle.lx_forms.specs.Lexemes.{Lexeme, nth_lexeme, sort_at, sorts_at}
 use Rattle.lx_exprs.specs.Meanings.{set_term}
 use Rattle.lx_exprs.specs.Within.{AreDefinedWithin}
@@ -225,14 +226,8 @@ module _ (options : Options) (lexemes : List Lexeme) where
       subst IsStateBuildable (sym is.3) (record {
         definitions = buildable.definitions;
         rules =
-            all_both (λ (rule : RuleOf). IsMeantBuildable rule.meaning) state.rules (record {
-              conds = conds_of options lexemes first head;
-              kind = is.0;
-              at = (nth_lexeme lexemes head).at;
-              meaning = is.1;
-              target = option_map (λ place. (nth_lexeme lexemes place).at) goes;
-              act = act_of options lexemes (suc (length state.rules)) goes code;
-            } ∷ []) buildable.rules
+            all_both (λ (rule : RuleOf). IsMeantBuildable rule.meaning) state.rules
+            (rule_of options lexemes (suc (length state.rules)) first head goes code is.0 is.1 ∷ []) buildable.rules
             (head_buildable state buildable.definitions (head_sort (sort_at (nth_lexeme lexemes head))) head slash until is.0 is.1 is.2, tt);
       })
   item_buildable state after (Text value) buildable is = subst IsStateBuildable (sym is) buildable

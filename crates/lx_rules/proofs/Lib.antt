@@ -15,3 +15,4 @@ pub mod RuleNumbers
 pub mod RuleSteps
 pub mod ScannerFits
 pub mod OneItem
+pub mod Openings

@@ -1,8 +1,10 @@
 -- The items of a block have one first fault, or leave one thing known; and so a block has one fault, or none.
-use Rattle.std.proofs.Common.{◌≡◌, ℕ, suc, ◌-◌, Bool, true, false, List, [], ◌∷◌, ◌++◌, length, Option, Some, None, Result, Ok, Err, refl, sym, ap, ap₂, subst, inl, inr, ◌∙◌}
+use Rattle.std.proofs.Common.{◌≡◌, ℕ, suc, ◌-◌, Bool, true, false, List, [], ◌∷◌, length, Option, Some, None, Result, Ok, Err, refl, sym, ap, ap₂, subst, inl, inr, ◌∙◌}
 use Rattle.std.specs.Prelude.{not, ◌==◌}
 use Rattle.std.specs.Option.{option_map}
-use Rattle.lx_base.specs.Names.{Spellings, usual_names}
+use Rattle.lx_base.specs.Names.{Spellings}
+use Rattle.lx_base.specs.declared.blocks.BlockKind.{BlockKind}
+use Rattle.lx_base.specs.declared.blocks.BlockKind.TheVariants.{Code}
 use Rattle.lx_base.specs.declared.faults.Fault.{Fault}
 use Rattle.lx_base.specs.declared.faults.Fault.TheVariants.{Unsupported, BadValue}
 use Rattle.lx_base.specs.declared.places.Pos.{Pos}
@@ -10,17 +12,19 @@ use Rattle.lx_base.specs.declared.settings.Options.{Options}
 use Rattle.lx_parse.specs.declared.items.Item.{Item}
 use Rattle.lx_parse.specs.declared.items.Item.TheVariants.{Define, Configure, Rule, Text}
 use Rattle.lx_regex.specs.declared.rules.Kind.{Kind}
-use Rattle.lx_rules.specs.Blocks.{AreScanners, BlockChecks, ClashCheck, IsBlockFault, IsResolved, NoClash, Resolves, conditions_of, lonely_fault, scanners_fault, targets_fault}
+use Rattle.lx_rules.specs.Blocks.{AreScanners, ClashCheck, IsBlockFault, IsFaultWithin, IsResolved, NoClash, Resolves, ScannerChecks, conditions_of, environment_behind, lonely_fault, scanners_fault, targets_fault}
 use Rattle.lx_exprs.specs.Checks.{Then, Finds}
 use Rattle.lx_rules.specs.Configurations.{config_fault}
 use Rattle.lx_exprs.specs.Defined.{Definition, Meaning, IsDefined, definition_of}
-use Rattle.lx_rules.specs.Environments.{Environment}
+use Rattle.lx_rules.specs.Environments.{Environment, config_of, with_fill}
 use Rattle.lx_exprs.specs.Expressions.{ExpressionChecks}
-use Rattle.lx_rules.specs.Items.{Goes, ends, refused, next, HeadChecks, HeadSort, any, end, expression, IsAfter, IsHead, ItemChecks, ListChecks, RuleOf, State, TargetChecks, act_of, conds_of, first_of, first_state, head_sort, is_default, is_end, twice, unless}
+use Rattle.lx_rules.specs.Items.{Goes, ends, refused, next, HeadChecks, HeadSort, any, end, expression, IsAfter, IsHead, ItemChecks, ListChecks, State, TargetChecks, conds_of, first_of, first_state, head_sort, is_default, is_end, twice, unless, rule_of, with_definition, with_rule, with_settings}
+use Rattle.lx_rules.specs.Rules.{RuleOf}
 use Rattle.lx_forms.specs.Lexemes.{Lexeme, nth_lexeme, sort_at}
 use Rattle.lx_rules.specs.declared.resolved.Resolved.{Resolved}
 use Rattle.lx_rules.specs.declared.resolved.Scanner.{Scanner}
 use Rattle.lx_rules.specs.Likeness.{AreAlike, HaveSameRules}
+use Rattle.lx_rules.proofs.Openings.{opened}
 use Rattle.lx_exprs.proofs.Forms.OneCheck.{FindsOne, FindsOne-Finds, FindsOne-Then, FindsOne-by, context-one, definition-one, expression-one, expression_meaning-one, then_unsupported-one}
 
 scanners-alike : (named : Bool) (rules : List RuleOf) (conds : List (List ℕ)) (scanners others : List Scanner) → AreScanners named rules conds scanners
@@ -98,30 +102,15 @@ module _ (options : Options) (lexemes : List Lexeme) where
       let defined = definition-one lexeme.text lexeme.at is_other.1 is.2 is_other.2
       (subst (λ (meaning : Meaning). IsDefined lexeme.text lexeme.at meaning is.2) same is.5) is_other.5 in
       is.6
-      ∙ ap (λ (definition : Definition). record {
-        definitions = state.definitions ++ definition ∷ [];
-        fill = state.fill;
-        rules = state.rules;
-      }) defined
+      ∙ ap (with_definition state) defined
       ∙ sym is_other.6
   after-one state (Configure name value) after other is is_other =
       let same : is.0 ≡ is_other.0 = let found = sym is.1 ∙ is_other.1 in cc in
-      is.2 ∙ ap (λ (fill : Bool). record { definitions = state.definitions; fill = fill; rules = state.rules }) same ∙ sym is_other.2
+      is.2 ∙ ap (λ (fill : Bool). with_settings state (with_fill state.settings fill)) same ∙ sym is_other.2
   after-one state (Rule first head slash until goes code) after other is is_other =
       let same = head_meaning-one state (head_sort (sort_at (nth_lexeme lexemes head))) head slash until is.0 is_other.0 is.1 is_other.1 is.2 is_other.2 in
       is.3
-      ∙ ap₂ (λ (kind : Kind) (meaning : Meaning). record {
-        definitions = state.definitions;
-        fill = state.fill;
-        rules = state.rules ++ record {
-          conds = conds_of options lexemes first head;
-          kind = kind;
-          at = (nth_lexeme lexemes head).at;
-          meaning = meaning;
-          target = option_map (λ place. (nth_lexeme lexemes place).at) goes;
-          act = act_of options lexemes (suc (length state.rules)) goes code;
-        } ∷ [];
-      }) same.0 same.1
+      ∙ ap₂ (λ (kind : Kind) (meaning : Meaning). with_rule state (rule_of options lexemes (suc (length state.rules)) first head goes code kind meaning)) same.0 same.1
       ∙ sym is_other.3
   after-one state (Text value) after other is is_other = is ∙ sym is_other
 
@@ -148,56 +137,89 @@ module _ (options : Options) (lexemes : List Lexeme) where
           (subst (λ (s : State). Goes options lexemes s items other) (sym (after-one state item after after_other becomes becomes_other)) goes_other)
 
   module _ (at : Pos) where
-    clash-one : (names : Spellings) (rules : List RuleOf) → FindsOne (ClashCheck at names rules)
-    clash-one names rules = FindsOne-by (NoClash names rules) (NoClash names rules → ⊥) None (Some (BadValue at)) (λ holds fails. fails holds)
+    clash-one : (names : Spellings) (rules : List RuleOf) → FindsOne (ClashCheck options.custom at names rules)
+    clash-one names rules = FindsOne-by (NoClash options.custom names rules) (NoClash options.custom names rules → ⊥) None (Some (BadValue at)) (λ holds fails. fails holds)
 
-    block-one : (state : State) → FindsOne (BlockChecks at state)
-    block-one state =
+    scanners-one : (state : State) → FindsOne (ScannerChecks options.custom at state)
+    scanners-one state =
+        let names = (config_of state.settings).names in
         let conds = conditions_of state.rules in
         let Lonely = Finds (lonely_fault at state.rules conds) in
         let Targets = Finds (targets_fault state.rules conds) in
         let Scanners = Finds (scanners_fault at state.rules conds) in
-        FindsOne-Then (ClashCheck at usual_names state.rules) (Then Lonely (Then Targets Scanners)) (clash-one usual_names state.rules)
+        FindsOne-Then (ClashCheck options.custom at names state.rules) (Then Lonely (Then Targets Scanners)) (clash-one names state.rules)
         (FindsOne-Then Lonely (Then Targets Scanners) (FindsOne-Finds (lonely_fault at state.rules conds))
         (FindsOne-Then Targets Scanners (FindsOne-Finds (targets_fault state.rules conds)) (FindsOne-Finds (scanners_fault at state.rules conds))))
 
     module _ (environment : Environment) (items : List Item) where
-      -- what is known behind all items is one thing
-      state-one : (state other : State) → Goes options lexemes (first_state environment) items (Ok state)
-          → Goes options lexemes (first_state environment) items (Ok other) → state ≡ other
+      -- what is known behind all items of a block of scanners is one thing
+      state-one : (state other : State) → Goes options lexemes (first_state Code environment) items (Ok state)
+          → Goes options lexemes (first_state Code environment) items (Ok other) → state ≡ other
       state-one state other goes goes_other = let same = Goes-one goes (Ok other) goes_other in cc
 
-      block_checks-one : (state other : State) (fault found : Option Fault) → Goes options lexemes (first_state environment) items (Ok state)
-          → Goes options lexemes (first_state environment) items (Ok other) → BlockChecks at state fault → BlockChecks at other found → fault ≡ found
-      block_checks-one state other fault found goes goes_other checks checks_other =
-          (block-one state).one fault found checks
-          (subst (λ (s : State). BlockChecks at s found) (sym (state-one state other goes goes_other)) checks_other)
+      checks-one : (state other : State) (fault found : Option Fault) → Goes options lexemes (first_state Code environment) items (Ok state)
+          → Goes options lexemes (first_state Code environment) items (Ok other) → ScannerChecks options.custom at state fault → ScannerChecks options.custom at other found
+          → fault ≡ found
+      checks-one state other fault found goes goes_other checks checks_other =
+          (scanners-one state).one fault found checks
+          (subst (λ (s : State). ScannerChecks options.custom at s found) (sym (state-one state other goes goes_other)) checks_other)
+
+      -- such a block has one fault behind its opener, if it has one
+      abbrev HasFault : BlockKind → Fault → Type 0
+      HasFault kind fault = IsFaultWithin options kind at environment lexemes items fault
+
+      fault-one : (fault other : Fault) → HasFault Code fault → HasFault Code other → fault ≡ other
+      fault-one fault other (inl goes) (inl goes_other) = let same = Goes-one goes (Err other) goes_other in cc
+      fault-one fault other (inl goes) (inr found) = absurd (let same = Goes-one goes (Ok found.0) found.1 in cc)
+      fault-one fault other (inr found) (inl goes) = absurd (let same = Goes-one goes (Ok found.0) found.1 in cc)
+      fault-one fault other (inr found) (inr found_other) =
+          let same = checks-one found.0 found_other.0 (Some fault) (Some other) found.1 found_other.1 found.2 found_other.2 in cc
 
       -- a block has one fault, if it has one
-      pub IsBlockFault-one : (fault other : Fault) → IsBlockFault options at environment lexemes items fault
-          → IsBlockFault options at environment lexemes items other → fault ≡ other
-      IsBlockFault-one fault other (inl goes) (inl goes_other) = let same = Goes-one goes (Err other) goes_other in cc
-      IsBlockFault-one fault other (inl goes) (inr found) = absurd (let same = Goes-one goes (Ok found.0) found.1 in cc)
-      IsBlockFault-one fault other (inr found) (inl goes) = absurd (let same = Goes-one goes (Ok found.0) found.1 in cc)
-      IsBlockFault-one fault other (inr found) (inr found_other) =
-          let same = block_checks-one found.0 found_other.0 (Some fault) (Some other) found.1 found_other.1 found.2 found_other.2 in cc
+      pub IsBlockFault-one : (kind : BlockKind) (fault other : Fault) → IsBlockFault options kind at environment lexemes items fault
+          → IsBlockFault options kind at environment lexemes items other → fault ≡ other
+      IsBlockFault-one kind fault other (inl waits) (inl waits_other) = let same = sym waits ∙ waits_other in cc
+      IsBlockFault-one kind fault other (inl waits) (inr found) = absurd (let same = sym waits ∙ found.0 in cc)
+      IsBlockFault-one kind fault other (inr found) (inl waits) = absurd (let same = sym waits ∙ found.0 in cc)
+      IsBlockFault-one kind fault other (inr found) (inr found_other) =
+          let code = opened kind at found.0 in
+          fault-one fault other (subst (λ (k : BlockKind). HasFault k fault) code found.1) (subst (λ (k : BlockKind). HasFault k other) code found_other.1)
+
+      abbrev ResolvesTo : BlockKind → Environment → Resolved → Type 0
+      ResolvesTo kind after resolved = Resolves options kind at environment lexemes items after resolved
+
+      code_of : (kind : BlockKind) (after : Environment) (resolved : Resolved) → ResolvesTo kind after resolved → ResolvesTo Code after resolved
+      code_of kind after resolved is = subst (λ (k : BlockKind). ResolvesTo k after resolved) (opened kind at is.opening) is
+
+      no_fault : (after : Environment) (resolved : Resolved) (fault : Fault) → ResolvesTo Code after resolved → HasFault Code fault → ⊥
+      no_fault after resolved fault is (inl goes) = let same = Goes-one is.goes (Err fault) goes in cc
+      no_fault after resolved fault is (inr found) =
+          let same = checks-one is.state found.0 None (Some fault) is.goes found.1 is.checked found.2 in cc
 
       -- a block that resolves has none
-      pub resolves_or_not : (after : Environment) (resolved : Resolved) (fault : Fault) → Resolves options at environment lexemes items after resolved
-          → IsBlockFault options at environment lexemes items fault → ⊥
-      resolves_or_not after resolved fault is (inl goes) = let same = Goes-one is.1 (Err fault) goes in cc
-      resolves_or_not after resolved fault is (inr found) =
-          let same = block_checks-one is.0 found.0 None (Some fault) is.1 found.1 is.2 found.2 in cc
+      pub resolves_or_not : (kind : BlockKind) (after : Environment) (resolved : Resolved) (fault : Fault) → ResolvesTo kind after resolved
+          → IsBlockFault options kind at environment lexemes items fault → ⊥
+      resolves_or_not kind after resolved fault is (inl waits) = let same = sym waits ∙ is.opening in cc
+      resolves_or_not kind after resolved fault is (inr found) =
+          no_fault after resolved fault (code_of kind after resolved is)
+          (subst (λ (k : BlockKind). HasFault k fault) (opened kind at found.0) found.1)
 
-      -- a block leaves one environment, and what it resolves to is alike
-      pub Resolves-one : (after other : Environment) (resolved another : Resolved) → Resolves options at environment lexemes items after resolved
-          → Resolves options at environment lexemes items other another → (after ≡ other) × AreAlike resolved another
-      Resolves-one after other resolved another is is_other =
-          let same = state-one is.0 is_other.0 is.1 is_other.1 in
-          let ends_so = subst (λ (s : State). IsResolved options.conds s other another) (sym same) is_other.3 in (
-            is.3.environment_is ∙ sym ends_so.environment_is,
+      scanners_resolve-one : (after other : Environment) (resolved another : Resolved) → ResolvesTo Code after resolved → ResolvesTo Code other another
+          → (after ≡ other) × AreAlike resolved another
+      scanners_resolve-one after other resolved another is is_other =
+          let same = state-one is.state is_other.state is.goes is_other.goes in
+          let ends_so = subst (λ (s : State). IsResolved options.conds s another) (sym same) is_other.ends in (
+            is.after_is ∙ ap (environment_behind Code environment) same ∙ sym is_other.after_is,
             record {
-              fill = is.3.fill ∙ sym ends_so.fill;
-              scanners = scanners-alike options.conds is.0.rules (conditions_of is.0.rules) resolved.scanners another.scanners is.3.scanners ends_so.scanners;
+              config = is.ends.config ∙ sym ends_so.config;
+              scanners =
+                  scanners-alike options.conds is.state.rules (conditions_of is.state.rules) resolved.scanners another.scanners is.ends.scanners
+                  ends_so.scanners;
             },
           )
+
+      -- a block leaves one environment, and what it resolves to is alike
+      pub Resolves-one : (kind : BlockKind) (after other : Environment) (resolved another : Resolved) → ResolvesTo kind after resolved
+          → ResolvesTo kind other another → (after ≡ other) × AreAlike resolved another
+      Resolves-one kind after other resolved another is is_other =
+          scanners_resolve-one after other resolved another (code_of kind after resolved is) (code_of kind other another is_other)

@@ -13,8 +13,9 @@ use Rattle.lx_rules.specs.declared.items.Known.{Known}
 use Rattle.lx_exprs.specs.declared.values.Room.{Room}
 use Rattle.lx_forms.specs.Lexemes.{Lexeme, nth_lexeme, lexemes_of}
 use Rattle.lx_exprs.specs.Defined.{Meaning}
-use Rattle.lx_rules.specs.Items.{RuleOf, State, ListChecks, act_of, unless}
-use Rattle.lx_rules.specs.Keeping.{Holds, IsFresh, IsHeadOf, IsHeadRead, IsNew, IsBoundedHead, IsTaken, room_behind, with_rule}
+use Rattle.lx_rules.specs.Items.{State, ListChecks, act_of, unless, with_rule}
+use Rattle.lx_rules.specs.Rules.{RuleOf}
+use Rattle.lx_rules.specs.Keeping.{Holds, IsFresh, IsHeadOf, IsHeadRead, IsNew, IsBoundedHead, IsTaken, room_behind}
 use Rattle.lx_rules.specs.Soundness.{IsShort}
 
 -- a head that was read is not `$`

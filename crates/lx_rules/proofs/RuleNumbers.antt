@@ -3,7 +3,8 @@ use Rattle.std.proofs.Common.{◌≡◌, ◌≢◌, ℕ, suc, ◌≤◌, Bool, t
 use Rattle.std.specs.List.{AllByRecursion}
 use Rattle.lx_regex.specs.declared.rules.Kind.{Kind}
 use Rattle.lx_rules.specs.Blocks.{not_of_kind, of_kind}
-use Rattle.lx_rules.specs.Items.{RuleOf, is_default}
+use Rattle.lx_rules.specs.Items.{is_default}
+use Rattle.lx_rules.specs.Rules.{RuleOf}
 use Rattle.lx_rules.proofs.BlockSteps.{in_order}
 
 -- no two of the rules have the same number

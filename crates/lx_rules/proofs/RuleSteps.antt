@@ -17,13 +17,16 @@ use Rattle.lx_rules.specs.declared.items.DefaultRule.{DefaultRule}
 use Rattle.lx_rules.specs.declared.items.Known.{Known}
 use Rattle.lx_rules.specs.declared.resolved.Act.{Act}
 use Rattle.lx_exprs.specs.declared.values.Room.{Room}
+use Rattle.lx_exprs.specs.Meanings.{behind}
 use Rattle.lx_exprs.specs.Defined.{Meaning, fits, is_built, kept, term_of_meaning, whole_room}
-use Rattle.lx_rules.specs.Items.{RuleOf, State, any_meaning, is_default}
+use Rattle.lx_rules.specs.Items.{State, any_meaning, is_default, with_rule}
+use Rattle.lx_rules.specs.Rules.{RuleOf}
 use Rattle.lx_rules.specs.Blocks.{given_names, of_kind, not_of_kind, pattern_of, size_of, nesting_of}
 use Rattle.lx_exprs.specs.Expressions.{IsReadAs}
-use Rattle.lx_rules.specs.Keeping.{Holds, HoldsDefault, DefaultWithin, AddsPlain, IsNew, IsUsual, default_count, default_pattern, names_of, plain_pattern, room_behind, with_rule}
+use Rattle.lx_rules.specs.Keeping.{Holds, HoldsDefault, DefaultWithin, AddsPlain, IsNew, IsUsual, default_count, default_pattern, names_of, plain_pattern, room_behind}
 use Rattle.lx_rules.specs.Soundness.{IsShort, HasFitDefinitions, rules_size}
 use Rattle.lx_exprs.specs.Seen.{definitions_view}
+use Rattle.lx_rules.specs.Seen.{settings_view}
 use Rattle.lx_exprs.proofs.TagLists.DefinitionLists.{All-one}
 
 -- one rule more
@@ -129,7 +132,7 @@ module _ (conds : Bool) (known after : Known) (state : State) (rule : RuleOf) (h
   holds_plain at reading is env default acts size nesting tags adds = record {
     without_conds = λ yes. let h : true ≡ false = sym yes ∙ is.without_conds in cc;
     definitions = ap (λ (e : Env). definitions_view e.definitions) env ∙ holds.definitions;
-    fill = ap (λ (e : Env). e.fill) env ∙ holds.fill;
+    settings = ap (λ (e : Env). settings_view e.settings) env ∙ holds.settings;
     acts = acts ∙ ap (λ l. l ++ rule.act ∷ []) holds.acts ∙ sym (map-append (λ (r : RuleOf). r.act) state.rules (rule ∷ []));
     size = size ∙ ap₂ (λ a b. min (2 ^ 40) (a + b)) holds.size read.value.counted.size_is ∙ counted;
     nesting = nesting ∙ ap₂ max holds.nesting read.value.counted.nesting_is ∙ deep;
@@ -225,7 +228,7 @@ module _ (conds : Bool) (known after : Known) (state : State) (rule : RuleOf) (h
       rules_of_all fit (inl same) = let h : false ≡ true = sym (same.1 rule.meaning read) ∙ fit_built fit in cc
       rules_of_all fit (inr one) =
           let pattern : plain_pattern rule.act.number (term_of_meaning rule.meaning) rule.meaning.tags ≡ pattern_of rule =
-          ap (λ k. record { number = rule.act.number; kind = k; term = term_of_meaning rule.meaning; many = map (λ name. false) rule.meaning.tags; slash = None; groups = 0 }) (sym plain_kind) in
+          ap (λ k. record { number = rule.act.number; kind = k; term = behind (length rule.meaning.tags) (term_of_meaning rule.meaning); many = map (λ name. false) rule.meaning.tags; slash = None; groups = 0 }) (sym plain_kind) in
           ap (map regex.pattern_of) one.1 ∙ map-append regex.pattern_of known.rules.items (one.0 ∷ [])
           ∙ ap₂ (λ a b. a ++ b ∷ []) (holds.rules (fit_front fit)) ((one.4 rule.meaning read).1 ∙ pattern)
           ∙ sym (map-append pattern_of (not_of_kind is_default state.rules) (rule ∷ [])) ∙ ap (map pattern_of) (sym snoc)
@@ -247,7 +250,7 @@ module _ (conds : Bool) (known after : Known) (state : State) (rule : RuleOf) (h
   holds_default at is env default rules acts size nesting tags = record {
     without_conds = λ yes. let h : true ≡ false = sym yes ∙ is.without_conds in cc;
     definitions = ap (λ (e : Env). definitions_view e.definitions) env ∙ holds.definitions;
-    fill = ap (λ (e : Env). e.fill) env ∙ holds.fill;
+    settings = ap (λ (e : Env). settings_view e.settings) env ∙ holds.settings;
     acts = acts ∙ ap (λ l. l ++ rule.act ∷ []) holds.acts ∙ sym (map-append (λ (r : RuleOf). r.act) state.rules (rule ∷ []));
     size = size ∙ ap (λ a. min (2 ^ 40) (a + 1)) holds.size ∙ counted;
     nesting = nesting ∙ holds.nesting ∙ deep;

@@ -1,12 +1,12 @@
 -- The scanners that a block resolves to are within the limits, and their classes fit the encoding.
-use Rattle.std.proofs.Common.{◌≡◌, ◌≢◌, ℕ, ◌≤◌, Bool, true, false, List, [], ◌∷◌, length, map, None, Some, Ok, refl, sym, ap, ◌∙◌, subst, arith}
+use Rattle.std.proofs.Common.{◌≡◌, ◌≢◌, ℕ, ◌+◌, ◌≤◌, Bool, true, false, List, [], ◌∷◌, length, map, None, Some, Ok, refl, sym, ap, ap₂, ◌∙◌, subst, arith}
 use Rattle.std.specs.List.{AllByRecursion}
 use Rattle.std.specs.Prelude.{◌||◌, nat_le, nat_lt, if◌then◌else◌}
 use Rattle.std.proofs.lemmas.Bool.{OnFalse_from}
 use Rattle.std.proofs.lemmas.List.{length-append, length-map}
 use Rattle.std.proofs.lemmas.List.Elements.{recursion_from_All}
 use Rattle.lx_regex.specs.ClassLimits.{AllClassesFit}
-use Rattle.lx_base.specs.Names.{usual_names}
+use Rattle.lx_base.specs.declared.blocks.BlockKind.TheVariants.{Code}
 use Rattle.lx_base.specs.declared.faults.Fault.TheVariants.{TooManyParts}
 use Rattle.lx_base.specs.declared.places.Pos.{Pos}
 use Rattle.lx_base.specs.declared.settings.Enc.{Enc}
@@ -23,18 +23,22 @@ use Rattle.lx_regex.specs.declared.rules.Tag.{Tag}
 use Rattle.lx_rules.specs.declared.resolved.Resolved.{Resolved}
 use Rattle.lx_rules.specs.declared.resolved.Scanner.{Scanner}
 use Rattle.lx_rules.specs.Blocks as blocks
-use Rattle.lx_rules.specs.Blocks.{AreScanners, BlockChecks, ClashCheck, IsResolved, IsScanner, conditions_of, limits_fault, lonely_fault, nesting_of, scanners_fault, targets_fault}
+use Rattle.lx_rules.specs.Blocks.{AreScanners, ClashCheck, IsResolved, IsScanner, conditions_of, limits_fault, lonely_fault, nesting_of, scanners_fault, targets_fault, ScannerChecks}
 use Rattle.lx_exprs.specs.Checks.{Check, Finds, Then}
 use Rattle.lx_exprs.specs.Defined.{Meaning, is_built, kept, whole, whole_room}
-use Rattle.lx_rules.specs.Environments.{Environment}
-use Rattle.lx_rules.specs.Items.{Goes, RuleOf, State, first_state}
+use Rattle.lx_rules.specs.Environments.{Environment, config_of}
+use Rattle.lx_rules.specs.Items.{Goes, State, first_state}
+use Rattle.lx_rules.specs.Rules.{RuleOf}
 use Rattle.lx_rules.specs.Keeping.{names_of}
 use Rattle.lx_forms.specs.Lexemes.{Lexeme}
 use Rattle.lx_rules.specs.Soundness.{FitsLimits, IsFit, rules_size}
 use Rattle.lx_exprs.specs.Within.{AreDefinedWithin, IsPlain}
 use Rattle.lx_rules.specs.Within.{IsScannerWithin}
 use Rattle.lx_rules.proofs.BlockSteps.{AreUsual, conditions_of-usual, in_order, rules_of-usual, scanners_usual, tags_of-in_order}
-use Rattle.lx_exprs.proofs.Classes.ClassFits.{classes_fit}
+use Rattle.lx_exprs.specs.Meanings.{behind}
+use Rattle.lx_regex.specs.Script.{merge_tags}
+use Rattle.lx_exprs.proofs.Classes.ClassFits.{classes_fit, plain-behind}
+use Rattle.lx_exprs.proofs.TagLists.TagNumbers.{long-behind, merge_tags-numbers, tags_in-behind}
 use Rattle.lx_exprs.proofs.Forms.ClassForms.{then-none}
 use Rattle.lx_rules.proofs.ItemFits.{IsStateWithin, goes_within}
 use Rattle.lx_exprs.proofs.Forms.MeaningFits.{IsMeantWithin}
@@ -150,7 +154,14 @@ module _ (enc : Enc) where
   fit_all [] are = tt
   fit_all (rule ∷ rules) are =
       let is = not_end rule.kind are.0.no_end in
-      rw (is) (classes_fit enc (whole rule.meaning.shape) are.0.plain, fit_all rules are.1)
+      rw (is) (
+        classes_fit enc (behind (length rule.meaning.tags) (whole rule.meaning.shape))
+            (plain-behind enc (length rule.meaning.tags) (whole rule.meaning.shape) are.0.plain),
+        fit_all rules are.1,
+      )
+
+  alone : (count : ℕ) → count + 0 ≡ count
+  alone count = omega arith
 
   -- each rule is built where all of them are within the limits
   rules_within : (rules : List RuleOf) → AreUsual rules → AllByRecursion (λ (rule : RuleOf). IsMeantWithin enc 0 rule.meaning) rules
@@ -163,7 +174,13 @@ module _ (enc : Enc) where
         record {
           no_end = λ same. usual.0.no_end same;
           plain = meant.0.plain;
-          regular = record { sequences = numbered.0; tags = numbered.1 ∙ ap (limits.numbers_from 0) (sorts_many rule); slash = tt };
+          regular = record {
+            sequences = long-behind (length rule.meaning.tags) (whole rule.meaning.shape) numbered.sequences;
+            tags =
+                tags_in-behind (length rule.meaning.tags) (whole rule.meaning.shape) ∙ ap₂ merge_tags numbered.tags (ap (map (λ n. n + length rule.meaning.tags)) numbered.ends)
+                ∙ merge_tags-numbers 0 (length rule.meaning.tags) 0 ∙ ap (limits.numbers_from 0) (alone (length rule.meaning.tags) ∙ sorts_many rule);
+            slash = tt;
+          };
         },
         rules_within rules usual.1 meant.1 (omega (arith, size)) (omega (arith, nesting)) (omega (arith, names, tags)),
       )
@@ -178,7 +195,7 @@ limits_say place size nesting tags none = at (nat_lt 4096 size || nat_lt 256 nes
     at true e held = absurd (let h : None ≡ Some (TooManyParts place (kept size) (kept nesting) (kept tags)) = held in cc)
     at false e held = (search (arith, e), search (arith, e), search (arith, e))
 
-module _ (options : Options) (place : Pos) (state : State) (usual : AreUsual state.rules) (checked : BlockChecks place state None)
+module _ (options : Options) (place : Pos) (state : State) (usual : AreUsual state.rules) (checked : ScannerChecks options.custom place state None)
     (within : IsStateWithin options.enc state) where
   -- the limits on the rules
   limited : (blocks.size_of state.rules ≤ 4096) × (nesting_of state.rules ≤ 256) × (length (names_of state.rules) ≤ 128)
@@ -186,7 +203,7 @@ module _ (options : Options) (place : Pos) (state : State) (usual : AreUsual sta
       let Scanners : Check = Finds (scanners_fault place state.rules (conditions_of state.rules)) in
       let Targets : Check = Finds (targets_fault state.rules (conditions_of state.rules)) in
       let Lonely : Check = Finds (lonely_fault place state.rules (conditions_of state.rules)) in
-      let one = then-none (ClashCheck place usual_names state.rules) (Then Lonely (Then Targets Scanners)) checked in
+      let one = then-none (ClashCheck options.custom place (config_of state.settings).names state.rules) (Then Lonely (Then Targets Scanners)) checked in
       let two = then-none Lonely (Then Targets Scanners) one.1 in
       let three = then-none Targets Scanners two.1 in
       limits_say place (blocks.size_of state.rules) (nesting_of state.rules) (length (names_of state.rules))
@@ -237,13 +254,13 @@ module _ (options : Options) (place : Pos) (state : State) (usual : AreUsual sta
 -- behind a block the definitions are as is asked, and its scanners are
 pub resolved_within :
     (options : Options) (place : Pos) (environment after : Environment) (lexemes : List Lexeme) (items : List Item) (state : State) (resolved : Resolved)
-    → Goes options lexemes (first_state environment) items (Ok state) → AreUsual state.rules → BlockChecks place state None
-    → IsResolved options.conds state after resolved → FitsLimits resolved → AreDefinedWithin options.enc environment.definitions
+    → Goes options lexemes (first_state Code environment) items (Ok state) → AreUsual state.rules → ScannerChecks options.custom place state None
+    → after.definitions ≡ state.definitions → IsResolved options.conds state resolved → FitsLimits resolved → AreDefinedWithin options.enc environment.definitions
     → AreDefinedWithin options.enc after.definitions × AllByRecursion (IsScannerWithin options.enc) resolved.scanners
-resolved_within options place environment after lexemes items state resolved goes usual checked is fine ready =
+resolved_within options place environment after lexemes items state resolved goes usual checked leaves is fine ready =
     let within =
-    goes_within options lexemes (first_state environment) state items (record { definitions = ready; rules = tt; numbers = tt; differ = tt }) goes in (
-      subst (AreDefinedWithin options.enc) (sym (ap (λ (e : Environment). e.definitions) is.environment_is)) within.definitions,
+    goes_within options lexemes (first_state Code environment) state items (record { definitions = ready; rules = tt; numbers = tt; differ = tt }) goes in (
+      subst (AreDefinedWithin options.enc) (sym leaves) within.definitions,
       scanners_within options place state usual checked within options.conds (length resolved.acts) resolved.scanners is.scanners
           (recursion_from_All (IsFit (length resolved.acts)) resolved.scanners fine.scanners),
     )

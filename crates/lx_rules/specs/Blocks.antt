@@ -1,15 +1,17 @@
 -- What a block resolves to, and the checks behind its items.
-use Rattle.std.specs.Prelude.{◌≡◌, ℕ, ◌+◌, ◌⊎◌, Bool, true, false, List, [], ◌∷◌, ◌++◌, map, max, length, nat_lt, ◌||◌, Option, Some, None, Ok, Err, not, codes, if◌then◌else◌}
+use Rattle.std.specs.Prelude.{◌≡◌, ℕ, ◌+◌, ◌⊎◌, Bool, true, false, List, [], ◌∷◌, ◌++◌, map, max, length, drop, nat_lt, ◌||◌, Option, Some, None, Ok, Err, not, codes, if◌then◌else◌}
 use Rattle.std.specs.List.{AllByRecursion, list_any, filter}
 use Rattle.std.specs.Option.{option_or}
 use Rattle.lx_base.specs.declared.limits.TheConstants.{NESTING_LIMIT, SIZE_LIMIT, TAG_LIMIT}
+use Rattle.lx_base.specs.declared.blocks.BlockKind.{BlockKind}
+use Rattle.lx_base.specs.declared.blocks.BlockKind.TheVariants as block
 use Rattle.lx_base.specs.declared.places.Pos.{Pos}
 use Rattle.lx_base.specs.declared.faults.Fault.{Fault}
-use Rattle.lx_base.specs.declared.faults.Fault.TheVariants.{NoRules, EofPair, Condition, BadValue, TooManyParts}
+use Rattle.lx_base.specs.declared.faults.Fault.TheVariants.{NoRules, EofPair, Condition, BadValue, TooManyParts, Unsupported}
 use Rattle.lx_base.specs.declared.faults.Stop.{Stop}
 use Rattle.lx_base.specs.declared.faults.Stop.TheVariants as stop
 use Rattle.lx_base.specs.declared.settings.Options.{Options}
-use Rattle.lx_base.specs.Names.{Spellings, DoNotClash, IsTagName, usual_names}
+use Rattle.lx_base.specs.Names.{Spellings, DoNotClash, IsTagName, name_primitives}
 use Rattle.lx_parse.specs.declared.items.Item.{Item}
 use Rattle.lx_regex.specs.Pattern.{Pattern, patterns_of}
 use Rattle.lx_regex.specs.declared.rules.Kind.{Kind}
@@ -19,9 +21,11 @@ use Rattle.lx_rules.specs.declared.resolved.Scanner.{Scanner}
 use Rattle.lx_rules.specs.declared.resolved.Resolved.{Resolved}
 use Rattle.lx_forms.specs.Lexemes.{Lexeme}
 use Rattle.lx_exprs.specs.Defined.{kept, term_of_meaning}
-use Rattle.lx_rules.specs.Environments.{Environment}
+use Rattle.lx_exprs.specs.Meanings.{behind}
+use Rattle.lx_rules.specs.Environments.{Environment, KeptBlock, config_of}
+use Rattle.lx_rules.specs.Rules.{RuleOf}
 use Rattle.lx_exprs.specs.Checks.{Check, Then, Finds, is_among}
-use Rattle.lx_rules.specs.Items.{RuleOf, State, first_state, Goes, is_default, is_end}
+use Rattle.lx_rules.specs.Items.{State, first_state, Goes, is_default, is_end}
 
 -- the condition of `<*>`
 abbrev pub every : List ℕ
@@ -75,7 +79,7 @@ abbrev pub pattern_of : RuleOf → Pattern
 pattern_of rule = record {
   number = rule.act.number;
   kind = rule.kind;
-  term = term_of_meaning rule.meaning;
+  term = behind (length rule.meaning.tags) (term_of_meaning rule.meaning);
   many = map (λ name. false) rule.meaning.tags;
   slash = None;
   groups = 0;
@@ -135,12 +139,17 @@ abbrev pub scanners_fault : Pos → List RuleOf → (conds : List (List ℕ)) �
 scanners_fault at rules [] = None
 scanners_fault at rules (cond ∷ conds) = option_or (scanner_fault at (rules_of cond rules)) (scanners_fault at rules conds)
 
--- no two spellings clash, and each tag has a name that it may have beside them
-abbrev pub NoClash : Spellings → List RuleOf → Type 0
-NoClash names rules = DoNotClash names × AllByRecursion (λ (rule : RuleOf). AllByRecursion (IsTagName names) rule.meaning.tags) rules
+-- no two spellings clash, and none is the name of an input primitive where the input is custom
+abbrev pub SpellingsDiffer : (custom : Bool) → Spellings → Type 0
+SpellingsDiffer custom names = DoNotClash names × (custom ≡ true → name_primitives names ≡ false)
 
-abbrev pub ClashCheck : Pos → Spellings → List RuleOf → Check
-ClashCheck at names rules fault = (NoClash names rules × (fault ≡ None)) ⊎ ((NoClash names rules → ⊥) × (fault ≡ Some (BadValue at)))
+-- the spellings differ, and each tag has a name that it may have beside them
+abbrev pub NoClash : (custom : Bool) → Spellings → List RuleOf → Type 0
+NoClash custom names rules = SpellingsDiffer custom names × AllByRecursion (λ (rule : RuleOf). AllByRecursion (IsTagName names) rule.meaning.tags) rules
+
+abbrev pub ClashCheck : (custom : Bool) → Pos → Spellings → List RuleOf → Check
+ClashCheck custom at names rules fault =
+    (NoClash custom names rules × (fault ≡ None)) ⊎ ((NoClash custom names rules → ⊥) × (fault ≡ Some (BadValue at)))
 
 -- the rules are not of `<*>` alone
 abbrev pub lonely_fault : Pos → List RuleOf → (conds : List (List ℕ)) → Option Fault
@@ -158,35 +167,74 @@ abbrev pub targets_fault : List RuleOf → (conds : List (List ℕ)) → Option 
 targets_fault [] conds = None
 targets_fault (rule ∷ rules) conds = option_or (target_fault rule.act.goes rule.target conds) (targets_fault rules conds)
 
--- The checks behind the items of a block whose opener stands at this place: spellings, conditions, and each scanner.
-abbrev pub BlockChecks : Pos → State → Check
-BlockChecks at state =
-    Then (ClashCheck at usual_names state.rules)
+-- The checks behind the items of a block of scanners whose opener stands at this place: spellings, conditions, and each scanner.
+abbrev pub ScannerChecks : (custom : Bool) → Pos → State → Check
+ScannerChecks custom at state =
+    Then (ClashCheck custom at (config_of state.settings).names state.rules)
     (Then (Finds (lonely_fault at state.rules (conditions_of state.rules)))
     (Then (Finds (targets_fault state.rules (conditions_of state.rules)))
     (Finds (scanners_fault at state.rules (conditions_of state.rules)))))
 
+-- a rules block has a rule
+abbrev pub no_rules_fault : Pos → List RuleOf → Option Fault
+no_rules_fault at [] = Some (NoRules at)
+no_rules_fault at (rule ∷ rules) = None
+
+-- the checks behind the items of a block; those of the scanners of a rules block come where it is used
+abbrev pub BlockChecks : (custom : Bool) → BlockKind → Pos → State → Check
+BlockChecks custom block.Rules at state = Finds (no_rules_fault at state.rules)
+BlockChecks custom kind at state = ScannerChecks custom at state
+
+-- rules blocks, and blocks that use them, are not supported yet
+abbrev pub opening_fault : BlockKind → Pos → Option Fault
+opening_fault block.Code at = None
+opening_fault kind at = Some (Unsupported (Some at))
+
+-- what holds behind a block that leaves what it knows, and behind which this rules block is the last one
+abbrev pub environment_with : Option KeptBlock → State → Environment
+environment_with kept state = record { definitions = state.definitions; settings = state.settings; kept = kept }
+
+-- what holds behind a block in an environment: a rules block is kept, and one that uses it leaves nothing
+abbrev pub environment_behind : BlockKind → Environment → State → Environment
+environment_behind block.Rules environment state = record {
+  definitions = environment.definitions;
+  settings = environment.settings;
+  kept = Some (record {
+    definitions = drop (length environment.definitions) state.definitions;
+    settings = state.settings;
+    rules = state.rules;
+  });
+}
+environment_behind block.Use environment state = environment
+environment_behind kind environment state = environment_with environment.kept state
+
 -- what a block resolves to where its items leave this known
-pub record IsResolved (named : Bool) (state : State) (environment : Environment) (resolved : Resolved) : Type 0 where
-  pub environment_is : environment ≡ record { definitions = state.definitions; fill = state.fill }
+pub record IsResolved (named : Bool) (state : State) (resolved : Resolved) : Type 0 where
   pub scanners : AreScanners named state.rules (conditions_of state.rules) resolved.scanners
   pub acts : resolved.acts ≡ map (λ (rule : RuleOf). rule.act) state.rules
-  pub names : resolved.config.names ≡ usual_names
-  pub eof : resolved.config.eof ≡ None
-  pub fill : resolved.config.fill ≡ state.fill
+  pub config : resolved.config ≡ config_of state.settings
 
 -- The block of these lexemes and items, in an environment, resolves so; or has this fault, which is the first one.
-abbrev pub Resolves : Options → Pos → Environment → List Lexeme → List Item → Environment → Resolved → Type 0
-Resolves options at environment lexemes items after resolved =
-    (state : State) × Goes options lexemes (first_state environment) items (Ok state)
-    × BlockChecks at state None × IsResolved options.conds state after resolved
+pub record Resolves (options : Options) (kind : BlockKind) (at : Pos) (environment : Environment) (lexemes : List Lexeme) (items : List Item) (after : Environment) (resolved : Resolved) : Type 0 where
+  pub opening : opening_fault kind at ≡ None
+  pub state : State
+  pub goes : Goes options lexemes (first_state kind environment) items (Ok state)
+  pub checked : BlockChecks options.custom kind at state None
+  pub after_is : after ≡ environment_behind kind environment state
+  pub ends : IsResolved options.conds state resolved
 
-abbrev pub IsBlockFault : Options → Pos → Environment → List Lexeme → List Item → Fault → Type 0
-IsBlockFault options at environment lexemes items fault =
-    Goes options lexemes (first_state environment) items (Err fault)
-    ⊎ ((state : State) × Goes options lexemes (first_state environment) items (Ok state) × BlockChecks at state (Some fault))
+-- the first fault of the items, or that of the checks behind them
+abbrev pub IsFaultWithin : Options → BlockKind → Pos → Environment → List Lexeme → List Item → Fault → Type 0
+IsFaultWithin options kind at environment lexemes items fault =
+    Goes options lexemes (first_state kind environment) items (Err fault)
+    ⊎ ((state : State) × Goes options lexemes (first_state kind environment) items (Ok state) × BlockChecks options.custom kind at state (Some fault))
+
+abbrev pub IsBlockFault : Options → BlockKind → Pos → Environment → List Lexeme → List Item → Fault → Type 0
+IsBlockFault options kind at environment lexemes items fault =
+    (opening_fault kind at ≡ Some fault)
+    ⊎ ((opening_fault kind at ≡ None) × IsFaultWithin options kind at environment lexemes items fault)
 
 -- a call that is to resolve a block stops with its fault, or where memory runs out
-abbrev pub StopsWith : Options → Pos → Environment → List Lexeme → List Item → Stop → Type 0
-StopsWith options at environment lexemes items stop.Memory = Unit {0}
-StopsWith options at environment lexemes items (stop.Fault fault) = IsBlockFault options at environment lexemes items fault
+abbrev pub StopsWith : Options → BlockKind → Pos → Environment → List Lexeme → List Item → Stop → Type 0
+StopsWith options kind at environment lexemes items stop.Memory = Unit {0}
+StopsWith options kind at environment lexemes items (stop.Fault fault) = IsBlockFault options kind at environment lexemes items fault

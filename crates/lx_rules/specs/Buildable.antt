@@ -1,5 +1,5 @@
 -- Environments whose definitions can stand in the expressions of rules.
-use Rattle.std.specs.Prelude.{◌<◌, ◌≤◌, ◌^◌}
+use Rattle.std.specs.Prelude.{◌≡◌, ℕ, ◌+◌, ◌*◌, ◌<◌, ◌≤◌, ◌^◌}
 use Rattle.std.specs.List.{AllByRecursion}
 use Rattle.lx_base.specs.declared.settings.Enc.{Enc}
 use Rattle.lx_regex.specs.Limits.{member_count}
@@ -9,8 +9,8 @@ use Rattle.lx_rules.specs.Environments.{Environment}
 use Rattle.lx_exprs.specs.Meanings.{term_or_empty}
 use Rattle.lx_exprs.specs.Within.{AreDefinedWithin}
 
--- An expression can stand for the term: each list of members has fewer than 2^63, which a vector can hold. Groups are not
--- supported yet.
+-- An expression can stand for the term: each list of members has fewer than 2^63, which a vector can hold, and the ends of a
+-- group are those of its number.
 abbrev mutual
   pub IsExpressible : Term → Type 0
   IsExpressible empty = Unit {0}
@@ -20,7 +20,8 @@ abbrev mutual
   IsExpressible (alt members) = (member_count members < 2 ^ 63) × AreExpressible members
   IsExpressible (repeat body low high) = IsExpressible body
   IsExpressible (tag number) = Unit {0}
-  IsExpressible (group opening closing body) = ⊥
+  IsExpressible (group opening closing body) =
+      (number : ℕ) × (opening ≡ 2 * number) × (closing ≡ 2 * number + 1) × IsExpressible body
 
   pub AreExpressible : Terms → Type 0
   AreExpressible nil = Unit {0}

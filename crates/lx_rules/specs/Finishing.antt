@@ -9,7 +9,7 @@ use Rattle.lx_rules.specs.declared.items.DefaultRule.{DefaultRule}
 use Rattle.lx_rules.specs.declared.resolved.Scanner.{Scanner}
 use Rattle.lx_rules.specs.declared.resolved.Resolved.{Resolved}
 use Rattle.lx_rules.specs.Items.{State}
-use Rattle.lx_rules.specs.Blocks.{BlockChecks, IsResolved, given_names}
+use Rattle.lx_rules.specs.Blocks.{IsResolved, ScannerChecks, environment_with, given_names}
 use Rattle.lx_rules.specs.Keeping.{default_pattern}
 use Rattle.lx_rules.specs.Seen.{environment_view}
 use Rattle.lx_rules.specs.Soundness.{FitsLimits, HasFitDefinitions}
@@ -31,7 +31,8 @@ abbrev pub AreScannersOf : (is_empty : Bool) → Option DefaultRule → (rules :
 AreScannersOf true default rules scanners = scanners ≡ []
 AreScannersOf false default rules scanners = IsOneScanner default rules scanners
 
--- the block resolves so, and all is within the limits
-abbrev pub IsFinished : Bool → Pos → State → Env × Resolved → Type 0
-IsFinished conds at state answer =
-    BlockChecks at state None × IsResolved conds state (environment_view answer.0) answer.1 × HasFitDefinitions answer.0 × FitsLimits answer.1
+-- the scanners of a block resolve so, and all is within the limits
+abbrev pub IsFinished : (conds custom : Bool) → Pos → State → Env × Resolved → Type 0
+IsFinished conds custom at state answer =
+    ScannerChecks custom at state None × (environment_view answer.0 ≡ environment_with None state) × IsResolved conds state answer.1
+    × HasFitDefinitions answer.0 × FitsLimits answer.1

@@ -2,6 +2,8 @@
 use Rattle.std.specs.Prelude.{◌≡◌, ℕ, suc, ◌-◌, Bool, true, false, List, [], ◌∷◌, ◌++◌, length, ◌==◌, ◌&&◌, Option, Some, None, Result, Ok, Err, not, if◌then◌else◌}
 use Rattle.std.specs.List.{list_any}
 use Rattle.std.specs.Option.{option_map}
+use Rattle.lx_base.specs.declared.blocks.BlockKind.{BlockKind}
+use Rattle.lx_base.specs.declared.blocks.BlockKind.TheVariants as block
 use Rattle.lx_base.specs.declared.places.Pos.{Pos}
 use Rattle.lx_base.specs.declared.faults.Fault.{Fault}
 use Rattle.lx_base.specs.declared.faults.Fault.TheVariants.{Unsupported, Redefined, Condition}
@@ -18,30 +20,43 @@ use Rattle.lx_forms.specs.Lexemes.{Lexeme, nth_lexeme, sort_at}
 use Rattle.lx_exprs.specs.Expressions.{ContextChecks, ExpressionChecks, IsExpression}
 use Rattle.lx_forms.specs.Forms.{Form}
 use Rattle.lx_exprs.specs.Defined.{Definition, Meaning, IsDefined, definition_of, one}
-use Rattle.lx_rules.specs.Environments.{Environment}
+use Rattle.lx_rules.specs.Environments.{Environment, KeptBlock, Settings, no_settings, settings_over, with_fill}
+use Rattle.lx_rules.specs.Rules.{RuleOf}
 use Rattle.lx_exprs.specs.Meanings.{IsMeaning}
 use Rattle.lx_rules.specs.Configurations.{config_fault, switch_of}
 use Rattle.lx_exprs.specs.Checks.{Check, Then, Finds, unsupported, is_among}
 
--- A rule: its conditions, its kind, the place of its head, what that means, the place of its target, and its action. Where
--- conditions are not in use it has one without a name; and that of `<*>` is named so.
-pub record RuleOf : Type 0 where
-  pub conds : List (List ℕ)
-  pub kind : Kind
-  pub at : Pos
-  pub meaning : Meaning
-  pub target : Option Pos
-  pub act : Act
-
 -- what is known behind some items of a block
 pub record State : Type 0 where
   pub definitions : List Definition
-  pub fill : Bool
+  pub settings : Settings
   pub rules : List RuleOf
 
--- what is known before them
-abbrev pub first_state : Environment → State
-first_state environment = record { definitions = environment.definitions; fill = environment.fill; rules = [] }
+-- one definition more is known, one rule more, or other settings
+abbrev pub with_definition : State → Definition → State
+with_definition state definition =
+    record { definitions = state.definitions ++ definition ∷ []; settings = state.settings; rules = state.rules }
+
+abbrev pub with_rule : State → RuleOf → State
+with_rule state rule = record { definitions = state.definitions; settings = state.settings; rules = state.rules ++ rule ∷ [] }
+
+abbrev pub with_settings : State → Settings → State
+with_settings state settings = record { definitions = state.definitions; settings = settings; rules = state.rules }
+
+-- what is known before the items, behind a rules block that is used, or none
+abbrev pub state_behind : Option KeptBlock → Environment → State
+state_behind None environment = record { definitions = environment.definitions; settings = environment.settings; rules = [] }
+state_behind (Some kept) environment = record {
+  definitions = kept.definitions ++ environment.definitions;
+  settings = settings_over kept.settings environment.settings;
+  rules = kept.rules;
+}
+
+-- what is known before the items of a block of this kind
+abbrev pub first_state : BlockKind → Environment → State
+first_state block.Rules environment = record { definitions = environment.definitions; settings = no_settings; rules = [] }
+first_state block.Use environment = state_behind environment.kept environment
+first_state kind environment = state_behind None environment
 
 -- what `*` means
 abbrev pub any_meaning : Meaning
@@ -143,35 +158,31 @@ module _ (options : Options) (lexemes : List Lexeme) where
       record { number = number; goes = Some (lexeme_at goes).text; code = None; at = (lexeme_at (goes - 1)).at }
   act_of number None None = record { number = number; goes = None; code = None; at = (lexeme_at 0).at }
 
+  -- the rule with this number, and with a head of this kind and meaning
+  abbrev pub rule_of : (number first head : ℕ) → (goes code : Option ℕ) → Kind → Meaning → RuleOf
+  rule_of number first head goes code sort meaning = record {
+    conds = conds_of first head;
+    kind = sort;
+    at = (lexeme_at head).at;
+    meaning = meaning;
+    target = option_map (λ place. (lexeme_at place).at) goes;
+    act = act_of number goes code;
+  }
+
   -- what is known behind one item more
   abbrev pub IsAfter : State → Item → State → Type 0
   IsAfter state (Define name from until) after =
       (form : Form) × (meaning : Meaning) × (definition : Definition) × IsExpression options lexemes from until form
       × IsMeaning options state.definitions false [] form meaning
       × IsDefined (lexeme_at name).text (lexeme_at name).at meaning definition
-      × (after ≡ record {
-        definitions = state.definitions ++ definition ∷ [];
-        fill = state.fill;
-        rules = state.rules;
-      })
+      × (after ≡ with_definition state definition)
   IsAfter state (Configure name value) after =
       (fill : Bool) × (switch_of (lexeme_at value).kind (lexeme_at value).text ≡ Some fill)
-      × (after ≡ record { definitions = state.definitions; fill = fill; rules = state.rules })
+      × (after ≡ with_settings state (with_fill state.settings fill))
   IsAfter state (Rule first head slash until goes code) after =
       (sort : Kind) × (meaning : Meaning)
       × IsHead state.definitions (head_sort (sort_at (lexeme_at head))) head slash until sort meaning
-      × (after ≡ record {
-        definitions = state.definitions;
-        fill = state.fill;
-        rules = state.rules ++ record {
-          conds = conds_of first head;
-          kind = sort;
-          at = (lexeme_at head).at;
-          meaning = meaning;
-          target = option_map (λ place. (lexeme_at place).at) goes;
-          act = act_of (suc (length state.rules)) goes code;
-        } ∷ [];
-      })
+      × (after ≡ with_rule state (rule_of (suc (length state.rules)) first head goes code sort meaning))
   IsAfter state (Text value) after = after ≡ state
 
   -- The items are taken in order: what is known behind all of them, or the first fault.

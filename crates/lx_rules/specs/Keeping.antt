@@ -23,12 +23,15 @@ use Rattle.lx_rules.specs.declared.heads.Head.TheVariants as head
 use Rattle.lx_forms.specs.Lexemes.{Lexeme, nth_lexeme, sort_at}
 use Rattle.lx_exprs.specs.Defined.{Meaning, fits, is_built, kept, term_of_meaning, whole_room}
 use Rattle.lx_exprs.specs.Checks.{StopsAt}
-use Rattle.lx_rules.specs.Items.{RuleOf, State, Goes, HeadChecks, head_sort, IsHead, ItemChecks, IsAfter, any_meaning, is_default}
+use Rattle.lx_exprs.specs.Meanings.{behind}
+use Rattle.lx_rules.specs.Rules.{RuleOf}
+use Rattle.lx_rules.specs.Items.{State, Goes, HeadChecks, head_sort, IsHead, ItemChecks, IsAfter, any_meaning, is_default}
 use Rattle.lx_rules.specs.Blocks.{given_names, of_kind, not_of_kind, pattern_of, size_of, nesting_of}
 use Rattle.lx_exprs.specs.declared.expressions.Reading.{Reading}
 use Rattle.lx_exprs.specs.declared.values.Room.{Room}
 use Rattle.lx_exprs.specs.Values.{IsBounded}
 use Rattle.lx_exprs.specs.Seen.{definitions_view}
+use Rattle.lx_rules.specs.Seen.{settings_view}
 use Rattle.lx_rules.specs.Soundness.{HasFitDefinitions, IsShort, rules_size}
 
 -- what a rule may have behind rules of this size and nesting, and with so many tags
@@ -70,7 +73,7 @@ DefaultWithin (Some default) acts = (0 < default.number) × (default.number ≤ 
 pub record Holds (conds : Bool) (known : Known) (state : State) : Type 0 where
   pub without_conds : conds ≡ true → state.rules ≡ []
   pub definitions : definitions_view known.env.definitions ≡ state.definitions
-  pub fill : known.env.fill ≡ state.fill
+  pub settings : settings_view known.env.settings ≡ state.settings
   pub acts : known.acts.items ≡ map (λ (rule : RuleOf). rule.act) state.rules
   pub size : known.size ≡ kept (size_of state.rules)
   pub nesting : known.nesting ≡ kept (nesting_of state.rules)
@@ -122,14 +125,10 @@ abbrev pub IsBoundedHead : Head → Type 0
 IsBoundedHead head.Default = Unit {0}
 IsBoundedHead (head.Plain reading) = IsBounded (length reading.tags) reading.value
 
--- what is known behind one rule more
-abbrev pub with_rule : State → RuleOf → State
-with_rule state rule = record { definitions = state.definitions; fill = state.fill; rules = state.rules ++ rule ∷ [] }
-
 -- a rule as a pattern, by the term of its expression and the names of its tags
 abbrev pub plain_pattern : (number : ℕ) → Term → (tags : List (List ℕ)) → Pattern
 plain_pattern number term tags =
-    record { number = number; kind = kind.Plain; term = term; many = map (λ name. false) tags; slash = None; groups = 0 }
+    record { number = number; kind = kind.Plain; term = behind (length tags) term; many = map (λ name. false) tags; slash = None; groups = 0 }
 
 -- the rule of an expression that was read is added, and left out only where it is not built
 abbrev pub AddsPlain : (room : Room) → (number : ℕ) → Reading → (before after : List regex_rules.Rule) → Type 0

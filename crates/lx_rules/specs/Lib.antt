@@ -5,6 +5,7 @@ pub mod Environments
 pub mod Finishing
 pub mod Items
 pub mod Keeping
+pub mod Rules
 pub mod Seen
 pub mod Soundness
 pub mod Within

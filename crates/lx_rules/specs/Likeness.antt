@@ -11,7 +11,7 @@ HaveSameRules [] (other ∷ others) = ⊥
 HaveSameRules (scanner ∷ scanners) [] = ⊥
 HaveSameRules (scanner ∷ scanners) (other ∷ others) = (patterns_of scanner.set.rules ≡ patterns_of other.set.rules) × HaveSameRules scanners others
 
--- what blocks resolve to is alike: refills are enabled in both or in none, and the scanners have the same rules
+-- what blocks resolve to is alike: the configurations are one, and the scanners have the same rules
 pub record AreAlike (resolved other : Resolved) : Type 0 where
-  pub fill : resolved.config.fill ≡ other.config.fill
+  pub config : resolved.config ≡ other.config
   pub scanners : HaveSameRules resolved.scanners other.scanners

@@ -1,7 +1,8 @@
 -- What holds of what blocks resolve to, whatever they say.
 use Rattle.lx_base.specs.declared.limits.TheConstants.{SIZE_LIMIT, SOURCE_LIMIT}
 use Rattle.lx_exprs.specs.Soundness.{DefinitionsFit}
-use Rattle.std.specs.Prelude.{ℕ, ◌+◌, ◌<◌, ◌≤◌, List, [], ◌∷◌, length, All, Option, Some, None}
+use Rattle.lx_base.specs.Names.{usual_names}
+use Rattle.std.specs.Prelude.{◌≡◌, ℕ, ◌+◌, ◌<◌, ◌≤◌, List, [], ◌∷◌, length, All, Option, Some, None}
 use Rattle.lx_regex.specs.Expr.{size_of}
 use Rattle.lx_regex.specs.declared.rules.Rule.{Rule}
 use Rattle.lx_rules.specs.declared.environment.Env.{Env}
@@ -29,8 +30,10 @@ abbrev pub IsShort : Option (List ℕ) → Type 0
 IsShort None = Unit {0}
 IsShort (Some code) = length code ≤ SOURCE_LIMIT
 
--- what a block resolves to is within the limits of a scanner, and the rule of number k has the k-th action
+-- what a block resolves to is within the limits of a scanner, and the rule of number k has the k-th action; its spellings are
+-- the usual ones
 pub record FitsLimits (resolved : Resolved) : Type 0 where
+  pub names : resolved.config.names ≡ usual_names
   pub scanners : All (IsFit (length resolved.acts)) resolved.scanners
   pub acts : All (λ (act : Act). IsShort act.code) resolved.acts
   pub few : length resolved.acts ≤ SOURCE_LIMIT

@@ -7,12 +7,19 @@ ghost use Rattle.lx_rules.specs.Soundness.{HasFitDefinitions};
 use lx_exprs::definitions::Definitions;
 use std::alloc::Global;
 
+/// The configurations that are set, each with its last value. Contracts see them by `settings_view`.
+#[derive(Clone, Copy, Debug)]
+pub(crate) struct Settings {
+    /// Whether refills are enabled.
+    pub fill: Option<bool>,
+}
+
 /// What holds behind a block for the blocks after it: its definitions and its configuration. Contracts see it by
 /// `environment_view`.
 #[derive(Drop)]
 pub struct Env {
     pub(crate) definitions: Definitions,
-    pub(crate) fill: bool,
+    pub(crate) settings: Settings,
 }
 
 impl Env {
@@ -23,7 +30,7 @@ impl Env {
     {
         Env {
             definitions: Definitions::new(alloc),
-            fill: true,
+            settings: Settings { fill: None },
         }
     }
 }

@@ -3,7 +3,7 @@ ghost use Rattle.std.specs.Prelude.{◌≡◌, ◌↔◌, ◌≤◌, ◌||◌, B
 ghost use Rattle.std.specs.List.{AllByRecursion};
 ghost use Rattle.lx_base.specs.declared.limits.TheConstants.{NESTING_LIMIT, SIZE_LIMIT, SOURCE_LIMIT, TAG_LIMIT};
 ghost use Rattle.lx_base.specs.Names.{IsTagName};
-ghost use Rattle.lx_rules.specs.Blocks.{BlockChecks};
+ghost use Rattle.lx_rules.specs.Blocks.{ScannerChecks, SpellingsDiffer};
 ghost use Rattle.lx_rules.specs.Finishing.{AddsDefault, AreScannersOf, IsFinished, IsOneScanner};
 ghost use Rattle.lx_rules.specs.Items.{State};
 ghost use Rattle.lx_rules.specs.Keeping.{Holds};
@@ -14,11 +14,18 @@ use crate::items::{DefaultRule, Known};
 use crate::resolved::{Config, Resolved, Scanner};
 use crate::rules::simple_rule;
 use lx_base::limits::{NESTING_LIMIT, SIZE_LIMIT, TAG_LIMIT};
-use lx_base::names::{do_not_clash, is_tag_name};
+use lx_base::names::{do_not_clash, is_tag_name, name_primitives};
 use lx_base::{ByteText, Fault, Memory, Names, Pos, Sequence, Stop, usual_names};
 use lx_exprs::tags::SharedTags;
 use lx_regex::{Expr, Kind, Rule, RuleSet};
 use std::alloc::Global;
+
+/// Whether no two spellings clash, and none is the name of an input primitive where the input is custom.
+fn spellings_differ(names: &Names, custom: bool) -> bool
+    ensures { IsTrue result ↔ SpellingsDiffer custom names.now }
+{
+    do_not_clash(names) && !(custom && name_primitives(names))
+}
 
 /// Whether each of some names is one that a tag may have beside the spellings.
 fn are_tag_names(names: &Names, tags: &[ByteText]) -> bool
@@ -110,12 +117,17 @@ fn is_too_large(known: &Known) -> bool
 }
 
 /// What the block resolves to whose opener stands at this place, and what holds behind it.
-pub(crate) fn finish(alloc: Global, known: Known, at: Pos) -> Result<(Env, Resolved), Stop>
+pub(crate) fn finish(
+    alloc: Global,
+    known: Known,
+    custom: bool,
+    at: Pos,
+) -> Result<(Env, Resolved), Stop>
     requires { length known.acts.items ≤ SOURCE_LIMIT }
-    ensures { (conds : Bool) (state : State) → Holds conds known state → MatchResult result (IsFinished conds at state) (StopsAt (BlockChecks at state)) }
+    ensures { (conds : Bool) (state : State) → Holds conds known state → MatchResult result (IsFinished conds custom at state) (StopsAt (ScannerChecks custom at state)) }
 {
     let names = usual_names(alloc)?;
-    if !do_not_clash(&names) || !are_all_tag_names(&names, &known.tags) {
+    if !spellings_differ(&names, custom) || !are_all_tag_names(&names, &known.tags) {
         return Err(Stop::Fault(Fault::BadValue { at }));
     }
     if is_too_large(&known) {
@@ -127,7 +139,7 @@ pub(crate) fn finish(alloc: Global, known: Known, at: Pos) -> Result<(Env, Resol
         }));
     }
     let env = known.env;
-    let fill = env.fill;
+    let fill = env.settings.fill.unwrap_or(true);
     let acts = known.acts;
     let rules = known.rules;
     let default = known.default;

@@ -55,13 +55,15 @@ impl Known {
     ghost use Rattle.lx_parse.specs.Expressions.{alt};
     ghost use Rattle.lx_parse.specs.Ranges.{IsPart, HasExpressions};
     ghost use Rattle.lx_parse.specs.declared.items.Item.TheVariants as item;
-    ghost use Rattle.lx_rules.specs.Items.{State, ItemChecks, first_state, RuleOf};
-    ghost use Rattle.lx_rules.specs.Keeping.{Holds, IsTaken, room_behind, AddsPlain, IsNew, IsBoundedHead, with_rule};
+    ghost use Rattle.lx_rules.specs.Items.{State, ItemChecks, first_state, with_rule};
+    ghost use Rattle.lx_rules.specs.Rules.{RuleOf};
+    ghost use Rattle.lx_rules.specs.Keeping.{Holds, IsTaken, room_behind, AddsPlain, IsNew, IsBoundedHead};
     ghost use Rattle.lx_exprs.specs.Checks.{StopsAt};
     ghost use Rattle.lx_forms.specs.Lexemes.{sorts_at};
     ghost use Rattle.lx_forms.specs.Seen.{lexemes_view};
     ghost use Rattle.lx_rules.specs.Seen.{environment_view};
     ghost use Rattle.lx_rules.specs.Soundness.{HasFitDefinitions};
+    ghost use Rattle.lx_base.specs.declared.blocks.BlockKind.TheVariants.{Code};
     ghost use Rattle.lx_base.specs.declared.places.Pos.{Pos};
     ghost use Rattle.lx_rules.specs.declared.heads.Head.TheVariants as head;
     ghost use Rattle.lx_exprs.specs.Values.{IsBounded};
@@ -69,7 +71,7 @@ impl Known {
     /// What is known before the items.
     pub fn new(alloc: Global, env: Env) -> Known
         requires { HasFitDefinitions env }
-        ensures { (conds : Bool) → Holds conds result (first_state (environment_view env)) }
+        ensures { (conds : Bool) → Holds conds result (first_state Code (environment_view env)) }
     {
         Known {
             env,
@@ -157,7 +159,7 @@ impl Known {
     {
         let name = block.lexemes.at(name as usize);
         let value = block.lexemes.at(value as usize);
-        self.env.fill = read_config(alloc, &name, &value)?;
+        self.env.settings.fill = Some(read_config(alloc, &name, &value)?);
         Ok(())
     }
 

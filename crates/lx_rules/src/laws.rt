@@ -1,7 +1,6 @@
 //! What holds of all blocks: each law is the contract of a function with an empty body.
 ghost use Rattle.std.specs.Prelude.{◌≡◌, ℕ, List, Ok};
 ghost use Rattle.lx_base.specs.declared.blocks.BlockKind.{BlockKind};
-ghost use Rattle.lx_base.specs.declared.blocks.BlockKind.TheVariants.{Code};
 ghost use Rattle.lx_base.specs.declared.faults.Fault.{Fault};
 ghost use Rattle.lx_base.specs.declared.places.Pos.{Pos};
 ghost use Rattle.lx_base.specs.declared.settings.Enc.{Enc};
@@ -22,33 +21,33 @@ ghost use Rattle.lx_forms.specs.Lexemes.{Lexeme, lexemes_of};
 /// A block resolves or has a fault: that neither holds cannot be. The definitions before it can be copied within the limits and
 /// built, as `environments_stay_buildable` says that they can.
 pub fn blocks_resolve_or_have_a_fault()
-    ensures { (options : Options) (at : Pos) (environment : Environment) (body : List ℕ) (tokens : List Token) (items : List Item) →
-        HasBuildableDefinitions options.enc environment → IsBody (form_of Code) (sorts_of Code body tokens) items →
-        ((after : Environment) (resolved : Resolved) → Resolves options at environment (lexemes_of body tokens) items after resolved → ⊥) →
-        ((fault : Fault) → IsBlockFault options at environment (lexemes_of body tokens) items fault → ⊥) → ⊥ }
+    ensures { (options : Options) (kind : BlockKind) (at : Pos) (environment : Environment) (body : List ℕ) (tokens : List Token) (items : List Item) →
+        HasBuildableDefinitions options.enc environment → IsBody (form_of kind) (sorts_of kind body tokens) items →
+        ((after : Environment) (resolved : Resolved) → Resolves options kind at environment (lexemes_of body tokens) items after resolved → ⊥) →
+        ((fault : Fault) → IsBlockFault options kind at environment (lexemes_of body tokens) items fault → ⊥) → ⊥ }
 {}
 
 /// The definitions before the first block can be copied and built, and so can those behind a block that resolves.
 pub fn environments_stay_buildable()
     ensures first { (enc : Enc) → HasBuildableDefinitions enc first_environment }
-    ensures kept { (options : Options) (at : Pos) (environment after : Environment) (lexemes : List Lexeme) (items : List Item) (resolved : Resolved) →
-        HasBuildableDefinitions options.enc environment → Resolves options at environment lexemes items after resolved → HasBuildableDefinitions options.enc after }
+    ensures kept { (options : Options) (kind : BlockKind) (at : Pos) (environment after : Environment) (lexemes : List Lexeme) (items : List Item) (resolved : Resolved) →
+        HasBuildableDefinitions options.enc environment → Resolves options kind at environment lexemes items after resolved → HasBuildableDefinitions options.enc after }
 {}
 
 /// A block resolves in one way, as far as definitions tell results apart, or it has one fault, and not both.
 pub fn blocks_resolve_in_one_way()
-    ensures alike { (options : Options) (at : Pos) (environment after other : Environment) (lexemes : List Lexeme) (items : List Item) (resolved another : Resolved) →
-        Resolves options at environment lexemes items after resolved → Resolves options at environment lexemes items other another →
+    ensures alike { (options : Options) (kind : BlockKind) (at : Pos) (environment after other : Environment) (lexemes : List Lexeme) (items : List Item) (resolved another : Resolved) →
+        Resolves options kind at environment lexemes items after resolved → Resolves options kind at environment lexemes items other another →
         (after ≡ other) × AreAlike resolved another }
-    ensures fault { (options : Options) (at : Pos) (environment : Environment) (lexemes : List Lexeme) (items : List Item) (fault other : Fault) →
-        IsBlockFault options at environment lexemes items fault → IsBlockFault options at environment lexemes items other → fault ≡ other }
-    ensures apart { (options : Options) (at : Pos) (environment after : Environment) (lexemes : List Lexeme) (items : List Item) (resolved : Resolved) (fault : Fault) →
-        Resolves options at environment lexemes items after resolved → IsBlockFault options at environment lexemes items fault → ⊥ }
+    ensures fault { (options : Options) (kind : BlockKind) (at : Pos) (environment : Environment) (lexemes : List Lexeme) (items : List Item) (fault other : Fault) →
+        IsBlockFault options kind at environment lexemes items fault → IsBlockFault options kind at environment lexemes items other → fault ≡ other }
+    ensures apart { (options : Options) (kind : BlockKind) (at : Pos) (environment after : Environment) (lexemes : List Lexeme) (items : List Item) (resolved : Resolved) (fault : Fault) →
+        Resolves options kind at environment lexemes items after resolved → IsBlockFault options kind at environment lexemes items fault → ⊥ }
 {}
 
 /// The fault of a block stands in the file of its opener, whichever file that is, if its body begins in this file.
 pub fn block_faults_stand_in_the_file_of_the_opener()
     ensures { (options : Options) (at start : Pos) (environment : Environment) (kind : BlockKind) (body : List ℕ) (tokens : List Token) (items : List Item) (fault : Fault) →
         start.file ≡ at.file → tokens_of body start ≡ Ok tokens → IsBody (form_of kind) (sorts_of kind body tokens) items →
-        IsBlockFault options at environment (lexemes_of body tokens) items fault → StandsIn at.file fault }
+        IsBlockFault options kind at environment (lexemes_of body tokens) items fault → StandsIn at.file fault }
 {}

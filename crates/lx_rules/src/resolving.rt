@@ -22,15 +22,16 @@ use crate::environment::Env;
 use crate::finishing::finish;
 use crate::items::{Block, Known};
 use crate::resolved::Resolved;
-use lx_base::{Options, Pos, Stop};
+use lx_base::{BlockKind, Options, Pos, Stop};
+use lx_exprs::leaves::unsupported;
 use lx_forms::lexemes::Lexemes;
 use lx_parse::{BlockTree, Item, expressions_stand_in_ranges};
 use lx_token::{TokenList, tokens_stand_in_order};
 use std::alloc::Global;
 
-/// What a block with this body, these tokens and these items resolves to, and what holds behind it.
+/// What a block of this kind, with this body, these tokens and these items, resolves to, and what holds behind it.
 ///
-/// `at` is the place of the block's opener. It refuses with the first fault of the block: those of its items in their
+/// Blocks of kinds other than `Code` are refused at their openers, as not supported yet. `at` is the place of the block's opener. It refuses with the first fault of the block: those of its items in their
 /// order, and then those that stand at the opener. `Memory` says that memory is
 /// wanting; it may be answered at each block, and no clause ties it to a cause.
 ///
@@ -40,13 +41,14 @@ pub fn resolve(
     body: &[u8],
     tokens: &TokenList,
     tree: &BlockTree,
+    kind: BlockKind,
     at: Pos,
     env: Env,
     options: &Options,
 ) -> Result<(Env, Resolved), Stop>
     requires size { length body.now ≤ SOURCE_LIMIT }
     requires tokens { (start : Pos) × (tokens_of body.now start ≡ Ok tokens.now) }
-    requires tree { IsBody (form_of Code) (sorts_of Code body.now tokens.now) tree.now.items }
+    requires tree { IsBody (form_of kind) (sorts_of kind body.now tokens.now) tree.now.items }
     requires sound { HasFitDefinitions env }
     ensures sound { IfOk result (λ answer. HasFitDefinitions answer.0 × FitsLimits answer.1) }
     ensures within { AreDefinedWithin options.now.enc (environment_view env).definitions
@@ -54,9 +56,12 @@ pub fn resolve(
         × AllByRecursion (IsScannerWithin options.now.enc) answer.1.scanners) }
     ensures resolves { let lexemes = lexemes_of body.now tokens.now in
         MatchResult result
-        (λ answer. Resolves options.now at (environment_view env) lexemes tree.now.items (environment_view answer.0) answer.1)
-        (StopsWith options.now at (environment_view env) lexemes tree.now.items) }
+        (λ answer. Resolves options.now kind at (environment_view env) lexemes tree.now.items (environment_view answer.0) answer.1)
+        (StopsWith options.now kind at (environment_view env) lexemes tree.now.items) }
 {
+    if kind != BlockKind::Code {
+        return Err(unsupported(at));
+    }
     expressions_stand_in_ranges();
     tokens_stand_in_order();
     let block = Block {
@@ -67,7 +72,7 @@ pub fn resolve(
         },
     };
     let known = take_items(alloc, block, env, tree.items.as_slice())?;
-    finish(alloc, known, at)
+    finish(alloc, known, options.custom, at)
 }
 
 /// Takes the items of a block.
@@ -78,9 +83,9 @@ fn take_items(alloc: Global, block: Block<'_>, env: Env, items: &[Item]) -> Resu
     requires sound { HasFitDefinitions env }
     ensures few { IfOk result (λ known. length known.acts.items ≤ SOURCE_LIMIT) }
     ensures goes { MatchResult result
-        (λ known. (state : State) × Goes block.entry.options.now (lexemes_view block.entry.lexemes) (first_state (environment_view env)) items.now (Ok state)
+        (λ known. (state : State) × Goes block.entry.options.now (lexemes_view block.entry.lexemes) (first_state Code (environment_view env)) items.now (Ok state)
         × Holds block.entry.options.now.conds known state)
-        (StopsGoing block.entry.options.now (lexemes_view block.entry.lexemes) (first_state (environment_view env)) items.now) }
+        (StopsGoing block.entry.options.now (lexemes_view block.entry.lexemes) (first_state Code (environment_view env)) items.now) }
 {
     let mut known = Known::new(alloc, env);
     for item in items {

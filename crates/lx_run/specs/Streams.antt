@@ -1,8 +1,11 @@
 -- The stream that a scanner is run over: the input, and behind it what its way to know the end asks for.
-use Rattle.std.specs.Prelude.{ℕ, ◌*◌, ◌/◌, ◌||◌, Bool, true, List, [], ◌∷◌, ◌++◌, length, replicate, max, is_some, not, if◌then◌else◌}
+use Rattle.std.specs.Prelude.{ℕ, ◌*◌, ◌/◌, Bool, true, false, List, [], ◌∷◌, ◌++◌, length, replicate, max, Option, Some, None, is_some}
 use Rattle.std.specs.List.{list_any}
 use Rattle.lx_ccode.specs.declared.piece.Stmt.{Stmt}
 use Rattle.lx_ccode.specs.declared.piece.Stmt.TheVariants.{Need}
+use Rattle.lx_ccode.specs.declared.piece.Head.{Head}
+use Rattle.lx_ccode.specs.declared.piece.Mode.{Mode}
+use Rattle.lx_ccode.specs.declared.piece.Mode.TheVariants.{Plain, Count, EofFixed, Eof}
 use Rattle.lx_ccode.specs.declared.piece.Piece.{Piece}
 use Rattle.lx_ccode.specs.Statements.{all_statements, is_need, is_try}
 use Rattle.lx_step.specs.Streams.{stream_units}
@@ -17,21 +20,44 @@ abbrev pub most_needed : List Stmt → ℕ
 most_needed [] = 0
 most_needed (statement ∷ statements) = max (units_needed statement) (most_needed statements)
 
-abbrev pub has_need : Piece → Bool
-has_need piece = list_any is_need (all_statements piece.blocks)
+-- how a piece without a head finds the end of its input, by whether it has checks, tries refills, and has a unit for the end
+abbrev pub guessed_mode : (needs tries has_eof : Bool) → Mode
+guessed_mode true tries has_eof = Count
+guessed_mode false true has_eof = Eof
+guessed_mode false false true = EofFixed
+guessed_mode false false false = Plain
 
--- whether the piece knows where its input ends: it asks for more units one by one, or has a unit that stands at the end
-abbrev pub finds_end : Piece → Bool
-finds_end piece = list_any is_try (all_statements piece.blocks) || is_some piece.eof
+-- the mode that a head tells, or else the other one
+abbrev pub mode_by : Option Head → Mode → Mode
+mode_by None mode = mode
+mode_by (Some head) mode = head.mode
 
--- how many units 0 stand behind the input: as many as a check asks for, where there are checks; else one, where the piece does
--- not find the end by itself
+-- how a piece finds the end of its input
+abbrev pub mode_of : Piece → Mode
+mode_of piece =
+    mode_by piece.head (guessed_mode (list_any is_need (all_statements piece.blocks)) (list_any is_try (all_statements piece.blocks)) (is_some piece.eof))
+
+-- how many units 0 stand behind an input in a mode, where a check asks for so many units at most
+abbrev pub padding_in : Mode → (most : ℕ) → ℕ
+padding_in Plain most = 1
+padding_in Count most = most
+padding_in EofFixed most = 0
+padding_in Eof most = 0
+
+-- how many units 0 stand behind the input of a piece
 abbrev pub padding : Piece → ℕ
-padding piece = if has_need piece then most_needed (all_statements piece.blocks) else (if finds_end piece then 0 else 1)
+padding piece = padding_in (mode_of piece) (most_needed (all_statements piece.blocks))
+
+-- in this mode a run ends before a match that would start behind the input
+abbrev pub stops_in : Mode → Bool
+stops_in Plain = true
+stops_in Count = true
+stops_in EofFixed = false
+stops_in Eof = false
 
 -- whether a run ends before a match that would start behind the input
 abbrev pub stops_at_end : Piece → Bool
-stops_at_end piece = if has_need piece then true else not (finds_end piece)
+stops_at_end piece = stops_in (mode_of piece)
 
 -- the input and the padding, in bytes
 abbrev pub padded : Piece → (input : List ℕ) → List ℕ

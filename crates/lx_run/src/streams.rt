@@ -4,7 +4,7 @@ ghost use Rattle.lx_run.specs.Streams as spec;
 
 use crate::asks::asks_of;
 use lx_base::Memory;
-use lx_ccode::Piece;
+use lx_ccode::{Head, Mode, Piece};
 use std::alloc::Global;
 
 /// How the end of an input is dealt with.
@@ -16,22 +16,58 @@ pub struct Ending {
     pub stops: bool,
 }
 
+/// How a piece without a head finds the end of its input, by what it has.
+fn guessed_mode(needs: bool, tries: bool, has_eof: bool) -> Mode
+    ensures { result ≡ spec.guessed_mode needs tries has_eof }
+{
+    match (needs, tries, has_eof) {
+        (true, _, _) => Mode::Count,
+        (false, true, _) => Mode::Eof,
+        (false, false, true) => Mode::EofFixed,
+        (false, false, false) => Mode::Plain,
+    }
+}
+
+/// The mode that a head tells, or else the other one.
+fn mode_by(head: &Option<Head>, mode: Mode) -> Mode
+    ensures { result ≡ spec.mode_by head.now mode }
+{
+    match head {
+        None => mode,
+        Some(head) => head.mode,
+    }
+}
+
+fn padding_in(mode: Mode, most: u32) -> u32
+    ensures { result ≡ spec.padding_in mode most }
+{
+    match mode {
+        Mode::Plain => 1,
+        Mode::Count => most,
+        Mode::EofFixed | Mode::Eof => 0,
+    }
+}
+
+fn stops_in(mode: Mode) -> bool
+    ensures { result ≡ spec.stops_in mode }
+{
+    match mode {
+        Mode::Plain | Mode::Count => true,
+        Mode::EofFixed | Mode::Eof => false,
+    }
+}
+
 /// How a piece deals with the end of its input.
 pub fn ending_of(piece: &Piece) -> Ending
     ensures padding { result.padding ≡ spec.padding piece.now }
     ensures stops { result.stops ≡ spec.stops_at_end piece.now }
 {
     let asks = asks_of(piece.blocks.as_slice());
-    if asks.need {
-        return Ending {
-            padding: asks.most,
-            stops: true,
-        };
-    }
-    let finds_end = asks.tries || piece.eof.is_some();
+    let guessed = guessed_mode(asks.need, asks.tries, piece.eof.is_some());
+    let mode = mode_by(&piece.head, guessed);
     Ending {
-        padding: u32::from(!finds_end),
-        stops: !finds_end,
+        padding: padding_in(mode, asks.most),
+        stops: stops_in(mode),
     }
 }
 

@@ -40,15 +40,16 @@ with_features command =
     (with_flag (codes "conditions") (Some 99) (Some (codes "conditions"))
     (with_flag (codes "no-debug-info") (Some 105) (Some (codes "no-debug-info")) command))))))
 
--- encodings and policies
+-- encodings and policies, and how input is read
 abbrev pub with_encodings : App → App
 with_encodings command =
-    with_value (codes "empty-class") None (Some (codes "empty-class"))
+    with_value (codes "input") None (Some (codes "input"))
+    (with_value (codes "empty-class") None (Some (codes "empty-class"))
     (with_value (codes "encoding-policy") None (Some (codes "encoding-policy"))
     (with_flag (codes "ucs-2") (Some 119) None
     (with_flag (codes "utf-32") (Some 117) None
     (with_flag (codes "utf-16") (Some 120) (Some (codes "utf-16"))
-    (with_flag (codes "utf-8") (Some 56) (Some (codes "utf-8")) command)))))
+    (with_flag (codes "utf-8") (Some 56) (Some (codes "utf-8")) command))))))
 
 -- runs of emitted scanners, and generated sources
 abbrev pub with_runs : App → App

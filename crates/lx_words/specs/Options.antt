@@ -17,7 +17,7 @@ use Rattle.lx_base.specs.declared.faults.Stop.{Stop}
 use Rattle.lx_base.specs.declared.faults.Stop.TheVariants as stop
 use Rattle.clap.specs.declared.error.kind.ErrorKind.{ErrorKind}
 use Rattle.clap.specs.declared.error.kind.ErrorKind.TheVariants.{OutOfMemory}
-use Rattle.lx_words.specs.Line.{Line, line_of, is_refused, value, has_flag}
+use Rattle.lx_words.specs.Line.{Line, line_of, is_refused, value, has_flag, has_value}
 use Rattle.lx_words.specs.Points.{number_within, is_wrong}
 use Rattle.lx_words.specs.Waiting.{waits}
 
@@ -62,6 +62,7 @@ options_of line = record {
   tags = has_flag line (codes "tags");
   captures = has_flag line (codes "captures");
   posix = false;
+  custom = has_value line (codes "input");
   enc = encoding_of line;
   surrogates = option_map_or encoding_policy_named (value line (codes "encoding-policy")) Ignore;
   empty = option_map_or empty_policy_named (value line (codes "empty-class")) MatchEmpty;

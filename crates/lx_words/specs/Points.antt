@@ -50,6 +50,10 @@ has_wrong_policy line =
     option_map_or (λ text. not (is_encoding_policy text)) (value line (codes "encoding-policy")) false
     || option_map_or (λ text. not (is_empty_policy text)) (value line (codes "empty-class")) false
 
+-- input is to be read in a way that there is not
+abbrev pub has_wrong_input : Line → Bool
+has_wrong_input line = option_map_or (λ text. not (bytes_eq text (codes "custom"))) (value line (codes "input")) false
+
 -- an option says how a scanner is run
 abbrev pub says_how_to_run : Line → Bool
 says_how_to_run line = has_value line (codes "x-block") || (has_value line (codes "x-window") || has_value line (codes "x-piece"))
@@ -60,7 +64,7 @@ says_how_to_compile line =
     has_flag line (codes "no-debug-info") || (has_flag line (codes "conditions") || (has_flag line (codes "storable-state")
     || (has_flag line (codes "reusable") || (has_flag line (codes "tags") || (has_flag line (codes "nested-ifs")
     || (has_flag line (codes "captures") || (nat_lt 0 (encoding_count line) || (has_value line (codes "include")
-    || (has_value line (codes "encoding-policy") || has_value line (codes "empty-class"))))))))))
+    || (has_value line (codes "encoding-policy") || (has_value line (codes "empty-class") || has_value line (codes "input")))))))))))
 
 -- options of a run stand without one, or a run stands with other options
 abbrev pub mixes_run : Line → Bool
@@ -88,5 +92,5 @@ has_odd_name line id = option_map_or is_odd_name (value line id) false
 abbrev pub is_wrong : Line → Bool
 is_wrong line =
     misses_file line || (nat_lt 1 (encoding_count line) || (has_wrong_numbers line || (has_wrong_policy line
-    || (mixes_run line || (mixes_source line || (has_odd_name line (codes "file") || (has_odd_name line (codes "x-run")
-    || has_odd_name line (codes "include"))))))))
+    || (has_wrong_input line || (mixes_run line || (mixes_source line || (has_odd_name line (codes "file") || (has_odd_name line (codes "x-run")
+    || has_odd_name line (codes "include")))))))))

@@ -104,7 +104,7 @@ fn with_features<'a>(alloc: Global, command: Command<'a>) -> Result<Command<'a>,
     with_option(alloc, command, "captures", None, Some("captures"), count)
 }
 
-/// The command with encodings and policies.
+/// The command with encodings and policies, and with how input is read.
 fn with_encodings<'a>(alloc: Global, command: Command<'a>) -> Result<Command<'a>, Memory>
     ensures { IfOk result (λ longer. app_of longer ≡ with_encodings (app_of command.entry)) }
 {
@@ -122,14 +122,15 @@ fn with_encodings<'a>(alloc: Global, command: Command<'a>) -> Result<Command<'a>
         Some("encoding-policy"),
         set,
     )?;
-    with_option(
+    let command = with_option(
         alloc,
         command,
         "empty-class",
         None,
         Some("empty-class"),
         set,
-    )
+    )?;
+    with_option(alloc, command, "input", None, Some("input"), set)
 }
 
 /// The command with the options of runs and of generated sources.

@@ -4,7 +4,7 @@ ghost use Rattle.clap.specs.Words.{found_of, rows_of};
 ghost use Rattle.lx_words.specs.Line.{value};
 ghost use Rattle.lx_words.specs.Options as spec;
 
-use crate::line::{has_flag, value};
+use crate::line::{has_flag, has_value, value};
 use crate::numbers::number_within;
 use clap::ArgMatches;
 use lx_base::{EmptyPolicy, Enc, FileName, Job, Memory, Options, SurPolicy};
@@ -132,6 +132,7 @@ pub fn options_of(alloc: Global, line: &ArgMatches<'_>) -> Result<Options, Memor
         tags: has_flag(line, "tags"),
         captures: has_flag(line, "captures"),
         posix: false,
+        custom: has_value(line, "input"),
         enc: encoding_of(line),
         surrogates,
         empty,

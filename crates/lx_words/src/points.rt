@@ -72,6 +72,15 @@ fn has_wrong_policy(line: &ArgMatches<'_>) -> bool
     encoding || empty
 }
 
+fn has_wrong_input(line: &ArgMatches<'_>) -> bool
+    ensures { result ≡ point.has_wrong_input (rows_of (found_of line.now)) }
+{
+    match value(line, "input") {
+        Some(text) => text != "custom",
+        None => false,
+    }
+}
+
 fn says_how_to_run(line: &ArgMatches<'_>) -> bool
     ensures { result ≡ point.says_how_to_run (rows_of (found_of line.now)) }
 {
@@ -92,6 +101,7 @@ fn says_how_to_compile(line: &ArgMatches<'_>) -> bool
         || has_value(line, "include")
         || has_value(line, "encoding-policy")
         || has_value(line, "empty-class")
+        || has_value(line, "input")
 }
 
 fn mixes_run(line: &ArgMatches<'_>) -> bool
@@ -142,6 +152,7 @@ pub fn is_wrong(line: &ArgMatches<'_>) -> bool
         || encoding_count(line) > 1
         || has_wrong_numbers(line)
         || has_wrong_policy(line)
+        || has_wrong_input(line)
         || mixes_run(line)
         || mixes_source(line)
         || has_odd_name(line, "file")

@@ -17,7 +17,7 @@ use Rattle.lx_regex.specs.PartList.{set_of}
 use Rattle.lx_regex.specs.Term.{Term, Terms, IsInRanges, empty, class, any_unit, cat, alt, repeat, tag, group, nil, cons}
 use Rattle.lx_exprs.specs.Checks.{IsIn, both_cases}
 use Rattle.lx_exprs.specs.Defined.{both_classes, class_in, classes_in}
-use Rattle.lx_exprs.specs.Meanings.{character_set, class_term, set_term, shifted, shifted_all, string_term}
+use Rattle.lx_exprs.specs.Meanings.{all_behind, behind, character_set, class_term, set_term, shifted, shifted_all, string_term}
 use Rattle.lx_exprs.specs.Points.{singles}
 use Rattle.lx_exprs.specs.Within.{IsPlain, ArePlain}
 use Rattle.lx_exprs.proofs.Forms.ClassForms.{cases_of, character_after, in_ranges_of}
@@ -38,26 +38,43 @@ module _ (enc : Enc) where
     classes_fit (alt members) plain = classes_fit-among members plain
     classes_fit (repeat body low high) plain = classes_fit body plain
     classes_fit (tag number) plain = tt
-    classes_fit (group opening closing body) plain = absurd plain
+    classes_fit (group opening closing body) plain = classes_fit body plain
 
     classes_fit-among : (members : Terms) → ArePlain enc members → ClassesFitAmong enc members
     classes_fit-among nil plain = tt
     classes_fit-among (cons member members) plain = (classes_fit member plain.0, classes_fit-among members plain.1)
 
+  -- other numbers of tags and groups change no class
   mutual
-    pub plain-shifted : (by : ℕ) (term : Term) → IsPlain enc term → IsPlain enc (shifted by term)
-    plain-shifted by empty plain = tt
-    plain-shifted by (class ranges) plain = plain
-    plain-shifted by any_unit plain = tt
-    plain-shifted by (cat members) plain = plain_all-shifted by members plain
-    plain-shifted by (alt members) plain = plain_all-shifted by members plain
-    plain-shifted by (repeat body low high) plain = plain-shifted by body plain
-    plain-shifted by (tag number) plain = tt
-    plain-shifted by (group opening closing body) plain = absurd plain
+    pub plain-shifted : (by groups : ℕ) (term : Term) → IsPlain enc term → IsPlain enc (shifted by groups term)
+    plain-shifted by groups empty plain = tt
+    plain-shifted by groups (class ranges) plain = plain
+    plain-shifted by groups any_unit plain = tt
+    plain-shifted by groups (cat members) plain = plain_all-shifted by groups members plain
+    plain-shifted by groups (alt members) plain = plain_all-shifted by groups members plain
+    plain-shifted by groups (repeat body low high) plain = plain-shifted by groups body plain
+    plain-shifted by groups (tag number) plain = tt
+    plain-shifted by groups (group opening closing body) plain = plain-shifted by groups body plain
 
-    plain_all-shifted : (by : ℕ) (members : Terms) → ArePlain enc members → ArePlain enc (shifted_all by members)
-    plain_all-shifted by nil plain = tt
-    plain_all-shifted by (cons member members) plain = (plain-shifted by member plain.0, plain_all-shifted by members plain.1)
+    plain_all-shifted : (by groups : ℕ) (members : Terms) → ArePlain enc members → ArePlain enc (shifted_all by groups members)
+    plain_all-shifted by groups nil plain = tt
+    plain_all-shifted by groups (cons member members) plain =
+        (plain-shifted by groups member plain.0, plain_all-shifted by groups members plain.1)
+
+  mutual
+    pub plain-behind : (tags : ℕ) (term : Term) → IsPlain enc term → IsPlain enc (behind tags term)
+    plain-behind tags empty plain = tt
+    plain-behind tags (class ranges) plain = plain
+    plain-behind tags any_unit plain = tt
+    plain-behind tags (cat members) plain = plain-all_behind tags members plain
+    plain-behind tags (alt members) plain = plain-all_behind tags members plain
+    plain-behind tags (repeat body low high) plain = plain-behind tags body plain
+    plain-behind tags (tag number) plain = tt
+    plain-behind tags (group opening closing body) plain = plain-behind tags body plain
+
+    plain-all_behind : (tags : ℕ) (members : Terms) → ArePlain enc members → ArePlain enc (all_behind tags members)
+    plain-all_behind tags nil plain = tt
+    plain-all_behind tags (cons member members) plain = (plain-behind tags member plain.0, plain-all_behind tags members plain.1)
 
   pub plain-append : (front back : List Term) → ArePlain enc (members_of front) → ArePlain enc (members_of back)
       → ArePlain enc (members_of (front ++ back))

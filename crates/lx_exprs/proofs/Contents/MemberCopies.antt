@@ -1,12 +1,13 @@
 -- Copies of expressions, form by form.
-use Rattle.std.proofs.Common.{◌≡◌, ℕ, zero, suc, ◌<◌, arith, List, [], ◌∷◌, ◌++◌, map, take, get_or, length, Vec, Box, Global, Option, refl, sym, ap, ap₂, ◌∙◌, subst}
+use Rattle.std.proofs.Common.{◌≡◌, ℕ, zero, suc, ◌+◌, ◌*◌, ◌<◌, ◌≤◌, arith, Bool, false, List, [], ◌∷◌, ◌++◌, map, take, get_or, length, Vec, Box, Global, Option, refl, sym, ap, ap₂, ◌∙◌, subst}
 use Rattle.std.proofs.Math.Seq.{take-suc}
 use Rattle.std.proofs.lemmas.List.{map-append}
-use Rattle.lx_regex.specs.Term.{cat, alt, repeat, cons}
-use Rattle.lx_regex.specs.Expr.{members_of, term_of}
+use Rattle.std.specs.Prelude.{◌==◌, if◌then◌else◌}
+use Rattle.lx_regex.specs.Term.{cat, alt, repeat, group, cons}
+use Rattle.lx_regex.specs.Expr.{members_of, size_of, term_of}
 use Rattle.lx_regex.specs.declared.expr.Expr.{Expr}
 use Rattle.lx_regex.specs.declared.expr.Expr.TheVariants.{Cat, Alt, Rep, Group}
-use Rattle.lx_regex.proofs.Trees.Folds.{term_of-cat, term_of-alt, term_of-rep, term_of-group}
+use Rattle.lx_regex.proofs.Trees.Folds.{size_of-group, term_of-cat, term_of-alt, term_of-rep, term_of-group}
 use Rattle.lx_exprs.specs.Meanings.{shifted, shifted_all}
 use Rattle.lx_exprs.specs.Values.{HasTagsBelow, HaveTagsBelow}
 
@@ -21,10 +22,12 @@ map-copies f g i members copies after item copy lt is pushed same before =
     ∙ ap (map g) (sym (take-suc members i item lt))
 
 -- members one by one
-shifted_all-members : (by : ℕ) (members : List Expr)
-    → members_of (map (λ (member : Expr). shifted by (term_of 0 member)) members) ≡ shifted_all by (members_of (map (term_of 0) members))
-shifted_all-members by [] = refl
-shifted_all-members by (member ∷ members) = ap (cons (shifted by (term_of 0 member))) (shifted_all-members by members)
+shifted_all-members : (by groups : ℕ) (members : List Expr)
+    → members_of (map (λ (member : Expr). shifted by groups (term_of 0 member)) members)
+    ≡ shifted_all by groups (members_of (map (term_of 0) members))
+shifted_all-members by groups [] = refl
+shifted_all-members by groups (member ∷ members) =
+    ap (cons (shifted by groups (term_of 0 member))) (shifted_all-members by groups members)
 
 pub member_below : (bound i : ℕ) (members : List Expr) (item : Expr) → HaveTagsBelow bound (members_of (map (term_of 0) members)) → i < length members
     → item ≡ get_or members i item → HasTagsBelow bound (term_of 0 item)
@@ -33,24 +36,35 @@ member_below bound zero (member ∷ members) item below lt is = subst (λ e. Has
 member_below bound (suc i) (member ∷ members) item below lt is = member_below bound i members item below.1 (omega (arith, lt)) is
 
 -- expressions that hold copies in the same way are copies
-pub cat-copies : (tags by : ℕ) (copies members : Vec Expr Global)
-    → map (term_of tags) copies.items ≡ map (λ (member : Expr). shifted by (term_of 0 member)) members.items
-    → term_of tags (Cat copies) ≡ shifted by (term_of 0 (Cat members))
-cat-copies tags by copies members same =
-    term_of-cat tags copies ∙ ap (λ terms. cat (members_of terms)) same ∙ ap cat (shifted_all-members by members.items)
-    ∙ ap (shifted by) (sym (term_of-cat 0 members))
+module _ (by groups : ℕ) where
+  pub cat-copies : (copies members : Vec Expr Global)
+      → map (term_of 0) copies.items ≡ map (λ (member : Expr). shifted by groups (term_of 0 member)) members.items
+      → term_of 0 (Cat copies) ≡ shifted by groups (term_of 0 (Cat members))
+  cat-copies copies members same =
+      term_of-cat 0 copies ∙ ap (λ terms. cat (members_of terms)) same ∙ ap cat (shifted_all-members by groups members.items)
+      ∙ ap (shifted by groups) (sym (term_of-cat 0 members))
 
-pub alt-copies : (tags by : ℕ) (copies members : Vec Expr Global)
-    → map (term_of tags) copies.items ≡ map (λ (member : Expr). shifted by (term_of 0 member)) members.items
-    → term_of tags (Alt copies) ≡ shifted by (term_of 0 (Alt members))
-alt-copies tags by copies members same =
-    term_of-alt tags copies ∙ ap (λ terms. alt (members_of terms)) same ∙ ap alt (shifted_all-members by members.items)
-    ∙ ap (shifted by) (sym (term_of-alt 0 members))
+  pub alt-copies : (copies members : Vec Expr Global)
+      → map (term_of 0) copies.items ≡ map (λ (member : Expr). shifted by groups (term_of 0 member)) members.items
+      → term_of 0 (Alt copies) ≡ shifted by groups (term_of 0 (Alt members))
+  alt-copies copies members same =
+      term_of-alt 0 copies ∙ ap (λ terms. alt (members_of terms)) same ∙ ap alt (shifted_all-members by groups members.items)
+      ∙ ap (shifted by groups) (sym (term_of-alt 0 members))
 
-pub rep-copies : (tags by : ℕ) (copy body : Box Expr Global) (low : ℕ) (high : Option ℕ) → term_of tags copy.value ≡ shifted by (term_of 0 body.value)
-    → term_of tags (Rep copy low high) ≡ shifted by (term_of 0 (Rep body low high))
-rep-copies tags by copy body low high same =
-    term_of-rep tags copy low high ∙ ap (λ e. repeat e low high) same ∙ ap (shifted by) (sym (term_of-rep 0 body low high))
+  pub rep-copies : (copy body : Box Expr Global) (low : ℕ) (high : Option ℕ) → term_of 0 copy.value ≡ shifted by groups (term_of 0 body.value)
+      → term_of 0 (Rep copy low high) ≡ shifted by groups (term_of 0 (Rep body low high))
+  rep-copies copy body low high same =
+      term_of-rep 0 copy low high ∙ ap (λ e. repeat e low high) same ∙ ap (shifted by groups) (sym (term_of-rep 0 body low high))
+
+  pub group-copies : (copy body : Box Expr Global) (number : ℕ) → term_of 0 copy.value ≡ shifted by groups (term_of 0 body.value)
+      → term_of 0 (Group (number + groups) copy) ≡ shifted by groups (term_of 0 (Group number body))
+  group-copies copy body number same =
+      let opening : 0 + 2 * (number + groups) ≡ 0 + 2 * number + 2 * groups = omega arith in
+      let closing : 0 + 2 * (number + groups) + 1 ≡ 0 + 2 * number + 1 + 2 * groups = omega arith in
+      term_of-group 0 (number + groups) copy
+      ∙ ap₂ (λ a b. group a b (term_of 0 copy.value)) opening closing
+      ∙ ap (group (0 + 2 * number + 2 * groups) (0 + 2 * number + 1 + 2 * groups)) same
+      ∙ ap (shifted by groups) (sym (term_of-group 0 number body))
 
 -- what stands in an expression has lesser tags, too
 pub cat-below : (bound : ℕ) (members : Vec Expr Global) → HasTagsBelow bound (term_of 0 (Cat members))
@@ -65,5 +79,18 @@ pub rep-below : (bound : ℕ) (body : Box Expr Global) (low : ℕ) (high : Optio
     → HasTagsBelow bound (term_of 0 body.value)
 rep-below bound body low high below = subst (HasTagsBelow bound) (term_of-rep 0 body low high) below
 
-pub group-below : (bound number : ℕ) (body : Box Expr Global) → HasTagsBelow bound (term_of 0 (Group number body)) → ⊥
-group-below bound number body below = subst (HasTagsBelow bound) (term_of-group 0 number body) below
+-- and a group has its number
+pub group-below : (bound number : ℕ) (body : Box Expr Global) → HasTagsBelow bound (term_of 0 (Group number body))
+    → (1 ≤ number) × (2 * number ≤ bound) × HasTagsBelow bound (term_of 0 body.value)
+group-below bound number body below =
+    let is = subst (HasTagsBelow bound) (term_of-group 0 number body) below in
+    (omega (arith, is.0), omega (arith, is.1), is.2)
+
+-- a copy of a group that has a number has its size
+pub group-size : (groups number : ℕ) (copy body : Box Expr Global) → 1 ≤ number → size_of copy.value ≡ size_of body.value
+    → size_of (Group (number + groups) copy) ≡ size_of (Group number body)
+group-size groups number copy body some same =
+    let other : (number + groups == 0) ≡ false = search (arith, some) in
+    let none : (number == 0) ≡ false = search (arith, some) in
+    size_of-group (number + groups) copy ∙ ap (λ (b : Bool). if b then size_of copy.value else size_of copy.value + 2) other
+    ∙ ap (λ n. n + 2) same ∙ sym (size_of-group number body ∙ ap (λ (b : Bool). if b then size_of body.value else size_of body.value + 2) none)

@@ -23,9 +23,9 @@ use Rattle.lx_exprs.specs.Values.{AreTagsBelow, HasPoints, HasTagsBelow, HaveTag
 
 -- whether alternatives stand there can be seen
 pub choice_content : (built : Bool) (meaning : Meaning) (held : Content) → IsContent built meaning held → is_choice_content held ≡ is_choice meaning.shape
-choice_content built meaning (content.One expr) is = sym (ap is_choice (is 0))
-choice_content built meaning (content.Row members) is = sym (ap is_choice (is 0))
-choice_content built meaning (content.Choice members) is = sym (ap is_choice (is 0))
+choice_content built meaning (content.One expr) is = sym (ap is_choice is)
+choice_content built meaning (content.Row members) is = sym (ap is_choice is)
+choice_content built meaning (content.Choice members) is = sym (ap is_choice is)
 choice_content built meaning (content.Past set alternatives) is = is.2
 
 pub past_of : (b : Bool) → false ≡ not b → b ≡ true
@@ -41,27 +41,27 @@ past_unbuilt built meaning (content.Past set alternatives) is past = is.0
 
 -- the expression of what is built
 pub one_whole : (built : Bool) (meaning : Meaning) (held : Content) (expr : Expr) → held ≡ content.One expr → IsContent built meaning held
-    → (tags : ℕ) → term_of tags expr ≡ term_of_meaning meaning
-one_whole built meaning held expr same is tags = sym (ap whole (subst (IsContent built meaning) same is tags))
+    → term_of 0 expr ≡ term_of_meaning meaning
+one_whole built meaning held expr same is = sym (ap whole (subst (IsContent built meaning) same is))
 
 pub row_whole : (built : Bool) (meaning : Meaning) (held : Content) (members : Vec Expr Global) → held ≡ content.Row members → IsContent built meaning held
-    → (tags : ℕ) → term_of tags (Cat members) ≡ term_of_meaning meaning
-row_whole built meaning held members same is tags =
-    term_of-cat tags members ∙ sym (ap whole (subst (IsContent built meaning) same is tags))
+    → term_of 0 (Cat members) ≡ term_of_meaning meaning
+row_whole built meaning held members same is =
+    term_of-cat 0 members ∙ sym (ap whole (subst (IsContent built meaning) same is))
 
 pub choice_whole : (built : Bool) (meaning : Meaning) (held : Content) (members : Vec Expr Global) → held ≡ content.Choice members → IsContent built meaning held
-    → (tags : ℕ) → term_of tags (Alt members) ≡ term_of_meaning meaning
-choice_whole built meaning held members same is tags =
-    term_of-alt tags members ∙ sym (ap whole (subst (IsContent built meaning) same is tags))
+    → term_of 0 (Alt members) ≡ term_of_meaning meaning
+choice_whole built meaning held members same is =
+    term_of-alt 0 members ∙ sym (ap whole (subst (IsContent built meaning) same is))
 
 -- what stands in a sequence, and in an alternation
 pub row_members : (built : Bool) (meaning : Meaning) (held : Content) (members : Vec Expr Global) → held ≡ content.Row members → IsContent built meaning held
-    → (tags : ℕ) → map (term_of tags) members.items ≡ in_row meaning.shape
-row_members built meaning held members same is tags = sym (ap in_row (subst (IsContent built meaning) same is tags))
+    → map (term_of 0) members.items ≡ in_row meaning.shape
+row_members built meaning held members same is = sym (ap in_row (subst (IsContent built meaning) same is))
 
 pub choice_members : (built : Bool) (meaning : Meaning) (held : Content) (members : Vec Expr Global) → held ≡ content.Choice members → IsContent built meaning held
-    → (tags : ℕ) → map (term_of tags) members.items ≡ in_choice meaning.shape
-choice_members built meaning held members same is tags = sym (ap in_choice (subst (IsContent built meaning) same is tags))
+    → map (term_of 0) members.items ≡ in_choice meaning.shape
+choice_members built meaning held members same is = sym (ap in_choice (subst (IsContent built meaning) same is))
 
 -- whether terms stand there one behind another
 abbrev is_row : Shape → Bool
@@ -71,15 +71,15 @@ is_row (choice terms) = false
 
 pub row_free : (built : Bool) (meaning : Meaning) (held : Content) → IsContent built meaning held → is_past held ≡ false
     → ((members : Vec Expr Global) → held ≡ content.Row members → ⊥) → is_row meaning.shape ≡ false
-row_free built meaning (content.One expr) is kept free = ap is_row (is 0)
+row_free built meaning (content.One expr) is kept free = ap is_row is
 row_free built meaning (content.Row members) is kept free = absurd (free members refl)
-row_free built meaning (content.Choice members) is kept free = ap is_row (is 0)
+row_free built meaning (content.Choice members) is kept free = ap is_row is
 row_free built meaning (content.Past set alternatives) is kept free = absurd (let h : true ≡ false = kept in cc)
 
 pub choice_free : (built : Bool) (meaning : Meaning) (held : Content) → IsContent built meaning held → is_past held ≡ false
     → ((members : Vec Expr Global) → held ≡ content.Choice members → ⊥) → is_choice meaning.shape ≡ false
-choice_free built meaning (content.One expr) is kept free = ap is_choice (is 0)
-choice_free built meaning (content.Row members) is kept free = ap is_choice (is 0)
+choice_free built meaning (content.One expr) is kept free = ap is_choice is
+choice_free built meaning (content.Row members) is kept free = ap is_choice is
 choice_free built meaning (content.Choice members) is kept free = absurd (free members refl)
 choice_free built meaning (content.Past set alternatives) is kept free = absurd (let h : true ≡ false = kept in cc)
 
@@ -92,9 +92,9 @@ choice_other (content.Past set others) kept free alternatives = let h : true ≡
 
 -- one expression by itself
 pub choice_one : (meaning : Meaning) (expr : Expr) (members : List Expr) → is_choice meaning.shape ≡ false → members ≡ expr ∷ []
-    → ((tags : ℕ) → term_of tags expr ≡ term_of_meaning meaning) → (tags : ℕ) → map (term_of tags) members ≡ in_choice meaning.shape
-choice_one meaning expr members no_choice is same tags =
-    ap (map (term_of tags)) is ∙ ap (λ term. term ∷ []) (same tags) ∙ at meaning.shape no_choice
+    → term_of 0 expr ≡ term_of_meaning meaning → map (term_of 0) members ≡ in_choice meaning.shape
+choice_one meaning expr members no_choice is same =
+    ap (map (term_of 0)) is ∙ ap (λ term. term ∷ []) same ∙ at meaning.shape no_choice
   where
     at : (shape : Shape) → is_choice shape ≡ false → whole shape ∷ [] ≡ in_choice shape
     at (one term) off = refl
@@ -102,8 +102,8 @@ choice_one meaning expr members no_choice is same tags =
     at (choice terms) off = absurd (let h : true ≡ false = off in cc)
 
 pub row_one : (meaning : Meaning) (expr : Expr) (members : List Expr) → is_row meaning.shape ≡ false → members ≡ expr ∷ []
-    → ((tags : ℕ) → term_of tags expr ≡ term_of_meaning meaning) → (tags : ℕ) → map (term_of tags) members ≡ in_row meaning.shape
-row_one meaning expr members no_row is same tags = ap (map (term_of tags)) is ∙ ap (λ term. term ∷ []) (same tags) ∙ at meaning.shape no_row
+    → term_of 0 expr ≡ term_of_meaning meaning → map (term_of 0) members ≡ in_row meaning.shape
+row_one meaning expr members no_row is same = ap (map (term_of 0)) is ∙ ap (λ term. term ∷ []) same ∙ at meaning.shape no_row
   where
     at : (shape : Shape) → is_row shape ≡ false → whole shape ∷ [] ≡ in_row shape
     at (one term) off = refl
@@ -160,15 +160,15 @@ classes-next i members item lt is =
 -- the class of what stands there
 pub one_class : (built : Bool) (meaning : Meaning) (held : Content) (expr : Expr) → held ≡ content.One expr → IsContent built meaning held
     → class_in (term_of 0 expr) ≡ meant_class meaning
-one_class built meaning held expr same is = ap class_in (one_whole built meaning held expr same is 0)
+one_class built meaning held expr same is = ap class_in (one_whole built meaning held expr same is)
 
 pub row_class : (built : Bool) (meaning : Meaning) (held : Content) (members : Vec Expr Global) → held ≡ content.Row members → IsContent built meaning held
     → meant_class meaning ≡ None
-row_class built meaning held members same is = ap (λ shape. class_in (whole shape)) (subst (IsContent built meaning) same is 0)
+row_class built meaning held members same is = ap (λ shape. class_in (whole shape)) (subst (IsContent built meaning) same is)
 
 pub choice_class : (built : Bool) (meaning : Meaning) (held : Content) (members : Vec Expr Global) → held ≡ content.Choice members → IsContent built meaning held
     → meant_class meaning ≡ classes_in (members_of (map (term_of 0) members.items))
-choice_class built meaning held members same is = ap (λ shape. class_in (whole shape)) (subst (IsContent built meaning) same is 0)
+choice_class built meaning held members same is = ap (λ shape. class_in (whole shape)) (subst (IsContent built meaning) same is)
 
 -- the class of alternatives
 pub has_choice : (both : Option (List Range)) (first second : Meaning) → HasPoints both (both_classes (meant_class first) (meant_class second))
@@ -178,11 +178,11 @@ has_choice both first second has =
 
 -- one alternative more
 pub choice_more : (first second : Meaning) (members all : List Expr) (expr : Expr) → all ≡ members ++ expr ∷ []
-    → ((tags : ℕ) → map (term_of tags) members ≡ in_choice first.shape) → ((tags : ℕ) → term_of tags expr ≡ term_of_meaning second)
-    → (tags : ℕ) → choice (in_choice first.shape ++ whole second.shape ∷ []) ≡ choice (map (term_of tags) all)
-choice_more first second members all expr same left right tags =
+    → map (term_of 0) members ≡ in_choice first.shape → term_of 0 expr ≡ term_of_meaning second
+    → choice (in_choice first.shape ++ whole second.shape ∷ []) ≡ choice (map (term_of 0) all)
+choice_more first second members all expr same left right =
     sym (ap choice
-    (ap (map (term_of tags)) same ∙ map-append (term_of tags) members (expr ∷ []) ∙ ap₂ (λ l t. l ++ t ∷ []) (left tags) (right tags)))
+    (ap (map (term_of 0)) same ∙ map-append (term_of 0) members (expr ∷ []) ∙ ap₂ (λ l t. l ++ t ∷ []) left right))
 
 pub sizes-more : (members all : List Expr) (expr : Expr) → all ≡ members ++ expr ∷ [] → sum (map size_of all) ≡ sum (map size_of members) + size_of expr
 sizes-more members all expr same =
@@ -203,10 +203,10 @@ below-more bound members all expr same left right = subst (λ l. HaveTagsBelow b
 
 -- a sequence, and something behind it
 pub row_more : (first second : Meaning) (front back all : List Expr) → all ≡ front ++ back
-    → ((tags : ℕ) → map (term_of tags) front ≡ in_row first.shape) → ((tags : ℕ) → map (term_of tags) back ≡ in_row second.shape)
-    → (tags : ℕ) → row (in_row first.shape ++ in_row second.shape) ≡ row (map (term_of tags) all)
-row_more first second front back all same left right tags =
-    sym (ap row (ap (map (term_of tags)) same ∙ map-append (term_of tags) front back ∙ ap₂ (λ l r. l ++ r) (left tags) (right tags)))
+    → map (term_of 0) front ≡ in_row first.shape → map (term_of 0) back ≡ in_row second.shape
+    → row (in_row first.shape ++ in_row second.shape) ≡ row (map (term_of 0) all)
+row_more first second front back all same left right =
+    sym (ap row (ap (map (term_of 0)) same ∙ map-append (term_of 0) front back ∙ ap₂ (λ l r. l ++ r) left right))
 
 pub below-both : (bound : ℕ) (front back all : List Expr) → all ≡ front ++ back → HaveTagsBelow bound (members_of (map (term_of 0) front))
     → HaveTagsBelow bound (members_of (map (term_of 0) back)) → HaveTagsBelow bound (members_of (map (term_of 0) all))
@@ -218,10 +218,9 @@ below-both bound front back all same left right = subst (λ l. HaveTagsBelow bou
 
 -- a repetition
 pub repeated_one : (meaning : Meaning) (body : Expr) (held : Box Expr Global) (low : ℕ) (high most : Option ℕ) → held.value ≡ body → most ≡ high
-    → ((tags : ℕ) → term_of tags body ≡ term_of_meaning meaning)
-    → (tags : ℕ) → one (repeat (whole meaning.shape) low high) ≡ one (term_of tags (Rep held low most))
-repeated_one meaning body held low high most same bound is tags =
-    sym (ap one (term_of-rep tags held low most ∙ ap₂ (λ e h. repeat e low h) (ap (term_of tags) same ∙ is tags) bound))
+    → term_of 0 body ≡ term_of_meaning meaning → one (repeat (whole meaning.shape) low high) ≡ one (term_of 0 (Rep held low most))
+repeated_one meaning body held low high most same bound is =
+    sym (ap one (term_of-rep 0 held low most ∙ ap₂ (λ e h. repeat e low h) (ap (term_of 0) same ∙ is) bound))
 
 -- what is kept of what is built, and past the limits
 pub kept_fits : (found : Option Expr) (held : Content) (size count : ℕ) → 1 ≤ size → content_size held ≤ size → AreTagsBelow count held
@@ -235,12 +234,12 @@ not_past (content.Row members) free = refl
 not_past (content.Choice members) free = refl
 not_past (content.Past set alternatives) free = absurd (free set alternatives refl)
 
-pub term_kept : (built : Bool) (meaning : Meaning) (held : Content) (found : Option Expr) (tags : ℕ) → is_past held ≡ not built → is_past held ≡ false
-    → IfNone found (is_past held ≡ true) → IfSome found (λ e. (tags : ℕ) → term_of tags e ≡ term_of_meaning meaning)
-    → IsTermKept built meaning (option_map (term_of tags) found)
-term_kept true meaning held None tags past kept none some = absurd (let h : false ≡ true = sym kept ∙ none in cc)
-term_kept true meaning held (Some expr) tags past kept none some = ap Some (some tags)
-term_kept false meaning held found tags past kept none some = absurd (let h : false ≡ true = sym kept ∙ past in cc)
+pub term_kept : (built : Bool) (meaning : Meaning) (held : Content) (found : Option Expr) → is_past held ≡ not built → is_past held ≡ false
+    → IfNone found (is_past held ≡ true) → IfSome found (λ e. term_of 0 e ≡ term_of_meaning meaning)
+    → IsTermKept built meaning (option_map (term_of 0) found)
+term_kept true meaning held None past kept none some = absurd (let h : false ≡ true = sym kept ∙ none in cc)
+term_kept true meaning held (Some expr) past kept none some = ap Some some
+term_kept false meaning held found past kept none some = absurd (let h : false ≡ true = sym kept ∙ past in cc)
 
 pub class_kept : (built : Bool) (meaning : Meaning) (held : Content) (collected set : List Range) (alternatives : Bool) (expr : Term)
     → held ≡ content.Past (Some collected) alternatives → IsContent built meaning held → IsCanonical set → HaveSamePoints collected set

@@ -22,10 +22,11 @@ use Rattle.lx_regex.specs.Expr.{ranges_of}
 use Rattle.lx_forms.specs.Lexemes.{Lexeme, points_in}
 use Rattle.lx_exprs.specs.Points.{replaced, singles}
 use Rattle.lx_exprs.specs.Defined.{Definition, Meaning, Shape, one, both_classes, class_in, classes_in, definition_of, meant_class, whole}
-use Rattle.lx_exprs.specs.Meanings.{IsClassMeaning, IsLeafMeaning, IsMeaning, character_set, copied, shifted, shifted_all, string_term, term_or_empty}
+use Rattle.lx_exprs.specs.Meanings.{IsClassMeaning, IsLeafMeaning, IsMeaning, character_set, copied, shifted, string_term, term_or_empty}
 use Rattle.lx_exprs.specs.Checks.{Check, Checks, HasPoint, IsFilled, IsIn, LeafHas, Then, are_groups, both_cases, defined_points, group_fault, is_class, leaf_is_class, tags_of, unsupported}
 use Rattle.lx_forms.specs.Forms.{Form, leaf, group, repeated, sequence, difference, alternative}
 use Rattle.lx_exprs.proofs.Classes.ClassUnions.{class_in-choice}
+use Rattle.lx_exprs.proofs.TagLists.TermTags.{class_in-shifted}
 
 -- the ranges of a set have its points
 pub in_ranges_of : (set : List Range) (point : ℕ) → IsInRanges (ranges_of set) point ↔ InRanges set point
@@ -58,17 +59,6 @@ is_some-both (Some ranges) (Some others) = refl
 pub both_hold : (first second : Bool) → (first && second) ≡ true → (first ≡ true) × (second ≡ true)
 both_hold true second is = (refl, is)
 both_hold false second is = absurd (let h : false ≡ true = is in cc)
-
--- a copy is the same class
-mutual
-  class_in-shifted : (by : ℕ) (body : Term) → class_in (shifted by body) ≡ class_in body
-  class_in-shifted by (term.alt members) = classes_in-shifted by members
-  class_in-shifted by body = refl
-
-  classes_in-shifted : (by : ℕ) (members : Terms) → classes_in (shifted_all by members) ≡ classes_in members
-  classes_in-shifted by term.nil = refl
-  classes_in-shifted by (term.cons member members) =
-      ap₂ both_classes (class_in-shifted by member) (classes_in-shifted by members)
 
 -- the ranges of a meaning are the class of these points, or it is none
 pub record Agrees (is_class : Bool) (Has : ℕ → Type 0) (class : Option (List (ℕ × ℕ))) : Type 0 where
@@ -216,9 +206,9 @@ module _ (options : Options) (definitions : List Definition) where
         subst (λ class. IsIn class point ↔ IsIn (defined_points options definitions (Some definition)) point) same_class (λ is. is, λ is. is);
   })
     where
-      same : (term : Option Term) → class_in (shifted by (term_or_empty term)) ≡ option_and_then class_in term
+      same : (term : Option Term) → class_in (shifted by 0 (term_or_empty term)) ≡ option_and_then class_in term
       same None = refl
-      same (Some term) = class_in-shifted by term
+      same (Some term) = class_in-shifted by 0 term
 
       same_class : defined_points options definitions (Some definition) ≡ meant_class meaning
       same_class = sym (same definition.term) ∙ ap (λ (m : Meaning). meant_class m) (sym means)

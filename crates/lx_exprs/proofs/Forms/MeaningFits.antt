@@ -1,5 +1,5 @@
 -- What the meanings of expressions have so that scanners can be built from them.
-use Rattle.std.proofs.Common.{◌≡◌, ℕ, ◌+◌, ◌≤◌, Bool, true, false, List, [], ◌∷◌, ◌++◌, length, map, Option, None, Some, refl, sym, ap, ap₂, ◌∙◌, subst, arith, length-append}
+use Rattle.std.proofs.Common.{◌≡◌, ℕ, ◌+◌, ◌*◌, ◌≤◌, Bool, true, false, List, [], ◌∷◌, ◌++◌, length, map, Option, None, Some, refl, sym, ap, ap₂, ◌∙◌, subst, arith, length-append}
 use Rattle.std.specs.Prelude.{is_some}
 use Rattle.std.specs.Option.{option_and_then}
 use Rattle.std.specs.Str.{bytes_eq}
@@ -10,16 +10,16 @@ use Rattle.lx_class.specs.declared.ranges.Range.{Range}
 use Rattle.lx_encode.specs.Policy.{FitsEncoding}
 use Rattle.lx_regex.specs.Expr.{members_of, times}
 use Rattle.lx_regex.specs.Limits.{HasLongSequences, HaveLongSequences, member_count, numbers_from}
-use Rattle.lx_regex.specs.Script.{merge_tags, tags_among}
+use Rattle.lx_regex.specs.Script.{merge_tags}
 use Rattle.lx_regex.specs.Term.{Term, empty, alt, cat}
 use Rattle.lx_token.specs.declared.numbers.Repeat.{Repeat}
 use Rattle.lx_exprs.specs.Defined.{Definition, Meaning, Shape, one, row, choice, class_in, definition_of, fits, is_built, meant_class, whole, whole_room}
 use Rattle.lx_exprs.specs.Meanings.{alternated, class_meaning, class_term, copied, enclosed, followed, in_choice, in_row, repeated_by, set_term, shifted, string_meaning, string_term, tag_meaning, term_or_empty}
-use Rattle.lx_exprs.specs.Within.{AreDefinedWithin, IsDefinedWithin, IsNumbered, IsPlain, ArePlain}
+use Rattle.lx_exprs.specs.Within.{AreDefinedWithin, IsDefinedWithin, IsNumbered, IsPlain, ArePlain, ends_among, own_tags_among}
 use Rattle.lx_exprs.proofs.Classes.ClassFits.{class_plain, plain-append, plain-shifted}
 use Rattle.lx_exprs.proofs.Forms.ClassForms.{both_hold, is_some-both}
 use Rattle.lx_exprs.proofs.Classes.ClassUnions.{class_in-choice}
-use Rattle.lx_exprs.proofs.TagLists.TagNumbers.{long-append, member_count-append, merge_tags-numbers, numbered-shifted, tags_among-append}
+use Rattle.lx_exprs.proofs.TagLists.TagNumbers.{ends_among-append, long-append, member_count-append, merge_tags-numbers, numbered-shifted, own_tags_among-append}
 use Rattle.lx_exprs.proofs.TagLists.TermTags.{class_in-shifted}
 use Rattle.lx_exprs.proofs.Contents.ValueLimits.{at_least, grows, times-some}
 
@@ -29,7 +29,7 @@ pub record IsMeantWithin (enc : Enc) (start : ℕ) (meaning : Meaning) : Type 0 
   pub plain : IsPlain enc (whole meaning.shape)
   pub count : meaning.count ≡ start + length meaning.tags
   pub untagged : is_some (meant_class meaning) ≡ true → meaning.tags ≡ []
-  pub numbered : is_built whole_room meaning ≡ true → IsNumbered start (length meaning.tags) (whole meaning.shape)
+  pub numbered : is_built whole_room meaning ≡ true → IsNumbered start (length meaning.tags) 1 0 (whole meaning.shape)
 
 -- what stands in an expression that is built is built
 built_part : (part around : Meaning) → part.size ≤ around.size → part.nesting ≤ around.nesting → part.count ≤ around.count
@@ -43,33 +43,47 @@ built_part part around size nesting count built = at (is_built whole_room part) 
 no_class : {A : Type 0} → false ≡ true → A
 no_class held = absurd (let h : false ≡ true = held in cc)
 
--- terms whose tags are numbered in order
-abbrev AreNumbered : (start count : ℕ) → List Term → Type 0
-AreNumbered start count terms = HaveLongSequences (members_of terms) × (tags_among (members_of terms) ≡ numbers_from start count)
+-- terms whose tags and groups are numbered in order
+record AreNumbered (start count first groups : ℕ) (terms : List Term) : Type 0 where
+  sequences : HaveLongSequences (members_of terms)
+  tags : own_tags_among (members_of terms) ≡ numbers_from start count
+  ends : ends_among (members_of terms) ≡ numbers_from (2 * first) (2 * groups)
 
-numbered-one : (start count : ℕ) (term : Term) → IsNumbered start count term → AreNumbered start count (term ∷ [])
-numbered-one start count term is =
-    let all : count + 0 ≡ count = omega arith in (
-      (is.0, tt),
-      ap (λ l. merge_tags l []) is.1 ∙ merge_tags-numbers start count 0 ∙ ap (numbers_from start) all,
-    )
+numbered-one : (start count first groups : ℕ) (term : Term) → IsNumbered start count first groups term
+    → AreNumbered start count first groups (term ∷ [])
+numbered-one start count first groups term is = record {
+  sequences = (is.sequences, tt);
+  tags = ap (λ l. merge_tags l []) is.tags ∙ alone start count;
+  ends = ap (λ l. merge_tags l []) is.ends ∙ alone (2 * first) (2 * groups);
+}
+  where
+    alone : (number many : ℕ) → merge_tags (numbers_from number many) [] ≡ numbers_from number many
+    alone number many =
+        let all : many + 0 ≡ many = omega arith in merge_tags-numbers number many 0 ∙ ap (numbers_from number) all
 
-numbered-append : (start count more : ℕ) (front back : List Term) → AreNumbered start count front → AreNumbered (start + count) more back
-    → AreNumbered start (count + more) (front ++ back)
-numbered-append start count more front back here there = (
-  long-append front back here.0 there.0,
-  tags_among-append front back ∙ ap₂ merge_tags here.1 there.1 ∙ merge_tags-numbers start count more,
-)
+numbered-append : (start count more first groups others : ℕ) (front back : List Term) → AreNumbered start count first groups front
+    → AreNumbered (start + count) more (first + groups) others back → AreNumbered start (count + more) first (groups + others) (front ++ back)
+numbered-append start count more first groups others front back here there =
+    let next : 2 * (first + groups) ≡ 2 * first + 2 * groups = omega arith in
+    let all : 2 * groups + 2 * others ≡ 2 * (groups + others) = omega arith in record {
+      sequences = long-append front back here.sequences there.sequences;
+      tags = own_tags_among-append front back ∙ ap₂ merge_tags here.tags there.tags ∙ merge_tags-numbers start count more;
+      ends =
+          ends_among-append front back ∙ ap₂ merge_tags here.ends (there.ends ∙ ap (λ n. numbers_from n (2 * others)) next)
+          ∙ merge_tags-numbers (2 * first) (2 * groups) (2 * others) ∙ ap (numbers_from (2 * first)) all;
+    }
 
-in_row-numbered : (start count : ℕ) (shape : Shape) → IsNumbered start count (whole shape) → AreNumbered start count (in_row shape)
-in_row-numbered start count (one term) is = numbered-one start count term is
-in_row-numbered start count (row terms) is = (is.0.1, is.1)
-in_row-numbered start count (choice terms) is = numbered-one start count (alt (members_of terms)) is
+in_row-numbered : (start count first groups : ℕ) (shape : Shape) → IsNumbered start count first groups (whole shape)
+    → AreNumbered start count first groups (in_row shape)
+in_row-numbered start count first groups (one term) is = numbered-one start count first groups term is
+in_row-numbered start count first groups (row terms) is = record { sequences = is.sequences.1; tags = is.tags; ends = is.ends }
+in_row-numbered start count first groups (choice terms) is = numbered-one start count first groups (alt (members_of terms)) is
 
-in_choice-numbered : (start count : ℕ) (shape : Shape) → IsNumbered start count (whole shape) → AreNumbered start count (in_choice shape)
-in_choice-numbered start count (one term) is = numbered-one start count term is
-in_choice-numbered start count (row terms) is = numbered-one start count (cat (members_of terms)) is
-in_choice-numbered start count (choice terms) is = is
+in_choice-numbered : (start count first groups : ℕ) (shape : Shape) → IsNumbered start count first groups (whole shape)
+    → AreNumbered start count first groups (in_choice shape)
+in_choice-numbered start count first groups (one term) is = numbered-one start count first groups term is
+in_choice-numbered start count first groups (row terms) is = numbered-one start count first groups (cat (members_of terms)) is
+in_choice-numbered start count first groups (choice terms) is = record { sequences = is.sequences; tags = is.tags; ends = is.ends }
 
 -- a sequence has terms
 in_row-some : (shape : Shape) → HasLongSequences (whole shape) → 1 ≤ member_count (members_of (in_row shape))
@@ -89,12 +103,12 @@ module _ (enc : Enc) where
   in_choice-plain (choice terms) plain = plain
 
   -- a class
-  class_numbered : (operand : Bool) (policy : EmptyPolicy) (set : List Range) (start : ℕ) → IsNumbered start 0 (class_term operand policy set)
-  class_numbered true policy set start = (tt, refl)
-  class_numbered false MatchEmpty [] start = (tt, refl)
-  class_numbered false MatchEmpty (range ∷ set) start = (tt, refl)
-  class_numbered false MatchNone set start = (tt, refl)
-  class_numbered false Error set start = (tt, refl)
+  class_numbered : (operand : Bool) (policy : EmptyPolicy) (set : List Range) (start : ℕ) → IsNumbered start 0 1 0 (class_term operand policy set)
+  class_numbered true policy set start = record { sequences = tt; tags = refl; ends = refl }
+  class_numbered false MatchEmpty [] start = record { sequences = tt; tags = refl; ends = refl }
+  class_numbered false MatchEmpty (range ∷ set) start = record { sequences = tt; tags = refl; ends = refl }
+  class_numbered false MatchNone set start = record { sequences = tt; tags = refl; ends = refl }
+  class_numbered false Error set start = record { sequences = tt; tags = refl; ends = refl }
 
   pub class_within : (operand : Bool) (policy : EmptyPolicy) (nesting : ℕ) (tags : List (List ℕ)) (count start : ℕ) (set : List Range)
       → FitsEncoding enc set → tags ≡ [] → count ≡ start → IsMeantWithin enc start (class_meaning operand policy nesting tags count set)
@@ -106,15 +120,17 @@ module _ (enc : Enc) where
   }
 
   -- a string
-  sets_numbered : (start : ℕ) (sets : List (List Range)) → AreNumbered start 0 (map set_term sets)
-  sets_numbered start [] = (tt, refl)
-  sets_numbered start (set ∷ sets) = let later = sets_numbered start sets in ((tt, later.0), later.1)
+  sets_numbered : (start : ℕ) (sets : List (List Range)) → AreNumbered start 0 1 0 (map set_term sets)
+  sets_numbered start [] = record { sequences = tt; tags = refl; ends = refl }
+  sets_numbered start (set ∷ sets) =
+      let later = sets_numbered start sets in record { sequences = (tt, later.sequences); tags = later.tags; ends = later.ends }
 
-  string_numbered : (start : ℕ) (sets : List (List Range)) → IsNumbered start 0 (string_term sets)
-  string_numbered start [] = (tt, refl)
-  string_numbered start (set ∷ []) = (tt, refl)
+  string_numbered : (start : ℕ) (sets : List (List Range)) → IsNumbered start 0 1 0 (string_term sets)
+  string_numbered start [] = record { sequences = tt; tags = refl; ends = refl }
+  string_numbered start (set ∷ []) = record { sequences = tt; tags = refl; ends = refl }
   string_numbered start (set ∷ next ∷ sets) =
-      let all = sets_numbered start (set ∷ next ∷ sets) in ((omega arith, all.0), all.1)
+      let all = sets_numbered start (set ∷ next ∷ sets) in
+      record { sequences = (omega arith, all.sequences); tags = all.tags; ends = all.ends }
 
   pub string_within : (start : ℕ) (sets : List (List Range)) → IsPlain enc (string_term sets) → IsMeantWithin enc start (string_meaning start sets)
   string_within start sets plain = record {
@@ -130,22 +146,22 @@ module _ (enc : Enc) where
     plain = tt;
     count = omega arith;
     untagged = λ held. no_class held;
-    numbered = λ built. (tt, refl);
+    numbered = λ built. record { sequences = tt; tags = refl; ends = refl };
   }
 
   -- a copy of a definition
   pub copied_within : (by : ℕ) (definition : Definition) → IsDefinedWithin enc definition → IsMeantWithin enc by (copied by definition)
   copied_within by definition is = record {
-    plain = plain-shifted enc by (term_or_empty definition.term) is.plain;
+    plain = plain-shifted enc by 0 (term_or_empty definition.term) is.plain;
     count = refl;
     untagged = λ held. is.untagged (ap is_some (sym (same definition.term)) ∙ held);
     numbered = λ built.
-        numbered-shifted enc by (length definition.tags) (term_or_empty definition.term) is.plain (is.numbered (within built));
+        numbered-shifted by 0 (length definition.tags) 0 (term_or_empty definition.term) (is.numbered (within built));
   }
     where
-      same : (term : Option Term) → class_in (shifted by (term_or_empty term)) ≡ option_and_then class_in term
+      same : (term : Option Term) → class_in (shifted by 0 (term_or_empty term)) ≡ option_and_then class_in term
       same None = refl
-      same (Some term) = class_in-shifted by term
+      same (Some term) = class_in-shifted by 0 term
 
       itself : Meaning
       itself = record {
@@ -189,7 +205,8 @@ module _ (enc : Enc) where
     untagged = λ held. no_class held;
     numbered = λ built.
         let more = at_least inner.size (times bounds.min bounds.max) (times-some bounds.min bounds.max) in
-        is.numbered (built_part inner (repeated_by bounds inner) (omega (arith, more)) (omega arith) (omega arith) built);
+        let inside = is.numbered (built_part inner (repeated_by bounds inner) (omega (arith, more)) (omega arith) (omega arith) built) in
+        record { sequences = inside.sequences; tags = inside.tags; ends = inside.ends };
   }
 
   -- a sequence
@@ -204,15 +221,16 @@ module _ (enc : Enc) where
         let here = is.numbered (built_part first (followed first second) (omega arith) (omega arith) (omega arith) built) in
         let there = is_too.numbered (built_part second (followed first second) (omega arith) (omega arith) (omega arith) built) in
         let all =
-        numbered-append start (length first.tags) (length second.tags) (in_row first.shape) (in_row second.shape)
-        (in_row-numbered start (length first.tags) first.shape here)
-        (in_row-numbered (start + length first.tags) (length second.tags) second.shape there) in
-        let one = in_row-some first.shape here.0 in
-        let two = in_row-some second.shape there.0 in
-        let sum = member_count-append (in_row first.shape) (in_row second.shape) in (
-          (omega (arith, one, two, sum), all.0),
-          all.1 ∙ ap (numbers_from start) (sym (length-append first.tags second.tags)),
-        );
+        numbered-append start (length first.tags) (length second.tags) 1 0 0 (in_row first.shape) (in_row second.shape)
+        (in_row-numbered start (length first.tags) 1 0 first.shape here)
+        (in_row-numbered (start + length first.tags) (length second.tags) 1 0 second.shape there) in
+        let one = in_row-some first.shape here.sequences in
+        let two = in_row-some second.shape there.sequences in
+        let sum = member_count-append (in_row first.shape) (in_row second.shape) in record {
+          sequences = (omega (arith, one, two, sum), all.sequences);
+          tags = all.tags ∙ ap (numbers_from start) (sym (length-append first.tags second.tags));
+          ends = all.ends;
+        };
   }
 
   -- an alternation
@@ -231,8 +249,11 @@ module _ (enc : Enc) where
         let here = is.numbered (built_part first (alternated first second) (omega arith) (omega arith) (omega arith) built) in
         let there = is_too.numbered (built_part second (alternated first second) (omega arith) (omega arith) (omega arith) built) in
         let all =
-        numbered-append start (length first.tags) (length second.tags) (in_choice first.shape) (whole second.shape ∷ [])
-        (in_choice-numbered start (length first.tags) first.shape here)
-        (numbered-one (start + length first.tags) (length second.tags) (whole second.shape) there) in
-        (all.0, all.1 ∙ ap (numbers_from start) (sym (length-append first.tags second.tags)));
+        numbered-append start (length first.tags) (length second.tags) 1 0 0 (in_choice first.shape) (whole second.shape ∷ [])
+        (in_choice-numbered start (length first.tags) 1 0 first.shape here)
+        (numbered-one (start + length first.tags) (length second.tags) 1 0 (whole second.shape) there) in record {
+          sequences = all.sequences;
+          tags = all.tags ∙ ap (numbers_from start) (sym (length-append first.tags second.tags));
+          ends = all.ends;
+        };
   }

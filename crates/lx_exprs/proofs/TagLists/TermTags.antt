@@ -1,5 +1,5 @@
 -- Terms whose tags are numbered from another number on.
-use Rattle.std.proofs.Common.{◌≡◌, ℕ, ◌+◌, ◌≤◌, arith, refl, ap₂}
+use Rattle.std.proofs.Common.{◌≡◌, ℕ, ◌+◌, ◌*◌, ◌≤◌, arith, refl, ap₂}
 use Rattle.lx_regex.specs.Term.{Term, Terms, empty, class, any_unit, cat, alt, repeat, tag, group, nil, cons}
 use Rattle.lx_exprs.specs.Defined.{both_classes, class_in, classes_in}
 use Rattle.lx_exprs.specs.Meanings.{shifted, shifted_all}
@@ -15,36 +15,41 @@ mutual
   HasTagsBelow-greater bound greater (alt members) le below = HaveTagsBelow-greater bound greater members le below
   HasTagsBelow-greater bound greater (repeat body low high) le below = HasTagsBelow-greater bound greater body le below
   HasTagsBelow-greater bound greater (tag number) le below = omega (arith, le, below)
-  HasTagsBelow-greater bound greater (group opening closing body) le below = absurd below
+  HasTagsBelow-greater bound greater (group opening closing body) le below =
+      (below.0, omega (arith, le, below.1), HasTagsBelow-greater bound greater body le below.2)
 
   pub HaveTagsBelow-greater : (bound greater : ℕ) (members : Terms) → bound ≤ greater → HaveTagsBelow bound members → HaveTagsBelow greater members
   HaveTagsBelow-greater bound greater nil le below = tt
   HaveTagsBelow-greater bound greater (cons member members) le below =
       (HasTagsBelow-greater bound greater member le below.0, HaveTagsBelow-greater bound greater members le below.1)
 
--- the bound goes up with the tags
+-- the bound goes up with the tags and the groups
 mutual
-  pub HasTagsBelow-shifted : (by bound : ℕ) (body : Term) → HasTagsBelow bound body → HasTagsBelow (by + bound) (shifted by body)
-  HasTagsBelow-shifted by bound empty below = tt
-  HasTagsBelow-shifted by bound (class ranges) below = tt
-  HasTagsBelow-shifted by bound any_unit below = tt
-  HasTagsBelow-shifted by bound (cat members) below = HaveTagsBelow-shifted by bound members below
-  HasTagsBelow-shifted by bound (alt members) below = HaveTagsBelow-shifted by bound members below
-  HasTagsBelow-shifted by bound (repeat body low high) below = HasTagsBelow-shifted by bound body below
-  HasTagsBelow-shifted by bound (tag number) below = omega (arith, below)
-  HasTagsBelow-shifted by bound (group opening closing body) below = absurd below
+  pub HasTagsBelow-shifted : (by groups bound : ℕ) (body : Term) → HasTagsBelow bound body
+      → HasTagsBelow (by + 2 * groups + bound) (shifted by groups body)
+  HasTagsBelow-shifted by groups bound empty below = tt
+  HasTagsBelow-shifted by groups bound (class ranges) below = tt
+  HasTagsBelow-shifted by groups bound any_unit below = tt
+  HasTagsBelow-shifted by groups bound (cat members) below = HaveTagsBelow-shifted by groups bound members below
+  HasTagsBelow-shifted by groups bound (alt members) below = HaveTagsBelow-shifted by groups bound members below
+  HasTagsBelow-shifted by groups bound (repeat body low high) below = HasTagsBelow-shifted by groups bound body below
+  HasTagsBelow-shifted by groups bound (tag number) below = omega (arith, below)
+  HasTagsBelow-shifted by groups bound (group opening closing body) below =
+      (omega (arith, below.0), omega (arith, below.1), HasTagsBelow-shifted by groups bound body below.2)
 
-  HaveTagsBelow-shifted : (by bound : ℕ) (members : Terms) → HaveTagsBelow bound members → HaveTagsBelow (by + bound) (shifted_all by members)
-  HaveTagsBelow-shifted by bound nil below = tt
-  HaveTagsBelow-shifted by bound (cons member members) below =
-      (HasTagsBelow-shifted by bound member below.0, HaveTagsBelow-shifted by bound members below.1)
+  HaveTagsBelow-shifted : (by groups bound : ℕ) (members : Terms) → HaveTagsBelow bound members
+      → HaveTagsBelow (by + 2 * groups + bound) (shifted_all by groups members)
+  HaveTagsBelow-shifted by groups bound nil below = tt
+  HaveTagsBelow-shifted by groups bound (cons member members) below =
+      (HasTagsBelow-shifted by groups bound member below.0, HaveTagsBelow-shifted by groups bound members below.1)
 
 -- and the class is the same
 mutual
-  pub class_in-shifted : (by : ℕ) (body : Term) → class_in (shifted by body) ≡ class_in body
-  class_in-shifted by (alt members) = classes_in-shifted by members
-  class_in-shifted by body = refl
+  pub class_in-shifted : (by groups : ℕ) (body : Term) → class_in (shifted by groups body) ≡ class_in body
+  class_in-shifted by groups (alt members) = classes_in-shifted by groups members
+  class_in-shifted by groups body = refl
 
-  classes_in-shifted : (by : ℕ) (members : Terms) → classes_in (shifted_all by members) ≡ classes_in members
-  classes_in-shifted by nil = refl
-  classes_in-shifted by (cons member members) = ap₂ both_classes (class_in-shifted by member) (classes_in-shifted by members)
+  classes_in-shifted : (by groups : ℕ) (members : Terms) → classes_in (shifted_all by groups members) ≡ classes_in members
+  classes_in-shifted by groups nil = refl
+  classes_in-shifted by groups (cons member members) =
+      ap₂ both_classes (class_in-shifted by groups member) (classes_in-shifted by groups members)

@@ -1,15 +1,18 @@
 -- A piece whose blocks are the layout of the automaton of rules is a scanner of these rules.
-use Rattle.std.specs.Prelude.{◌≡◌, ℕ, zero, suc, ◌-◌, ◌<◌, ◌≤◌, List, None, Some, slice_get}
+use Rattle.std.specs.Prelude.{◌≡◌, ℕ, zero, suc, ◌-◌, ◌<◌, ◌≤◌, Bool, true, false, List, None, Some, slice_get}
 use Rattle.std.proofs.Common.{sym, ap, ◌∙◌, subst, arith}
 use Rattle.lx_base.specs.declared.limits.TheConstants.{STATEMENT_LIMIT}
 use Rattle.lx_auto.specs.declared.automaton.Auto.{Auto}
 use Rattle.lx_base.specs.Names.{AreAllowed, DoNotClash, Spellings}
+use Rattle.lx_ccode.specs.Counts.{mregs_of}
+use Rattle.lx_base.specs.Names.{name_primitives}
 use Rattle.lx_base.specs.Spelling.{greatest_unit}
 use Rattle.lx_base.specs.declared.settings.Enc.{Enc}
 use Rattle.lx_base.specs.declared.settings.Enc.TheVariants.{Byte, Ucs2, Utf8, Utf16, Utf32}
 use Rattle.lx_ccode.specs.Runs.{entry_block}
 use Rattle.lx_ccode.specs.Statements.{all_statements, code_of, statement_count}
 use Rattle.lx_ccode.specs.Validity.{IsShort}
+use Rattle.lx_ccode.specs.declared.piece.CodeBlock.{CodeBlock}
 use Rattle.lx_ccode.specs.declared.piece.CondCase.{CondCase}
 use Rattle.lx_ccode.specs.declared.piece.Piece.{Piece}
 use Rattle.lx_ccode.specs.declared.piece.Stmt.{Stmt}
@@ -34,7 +37,7 @@ use Rattle.lx_gen.proofs.Validity.QuietCodes.{layout_asks_nothing}
 use Rattle.lx_gen.proofs.Rules.RuleEndings.{endings-action, endings-no_line, limited_ends}
 use Rattle.lx_gen.proofs.Rules.RuleNames.{rules_written}
 use Rattle.lx_gen.proofs.BlockLayouts.StandingCodes.{StandsFrom-itself}
-use Rattle.lx_gen.proofs.Validity.ValidLayouts.{blocks_fine, layout_valid}
+use Rattle.lx_gen.proofs.Validity.ValidLayouts.{layout_mregs, blocks_fine, layout_valid}
 
 greatest_unit-short : (enc : Enc) → IsShort (greatest_unit enc)
 greatest_unit-short Byte = omega arith
@@ -61,30 +64,38 @@ HasAction-own names rules texts (Code number line action) own fine =
 HasAction-own names rules texts (Jump cond number) own fine = absurd fine
 HasAction-own names rules texts _ own fine = tt
 
-module _ (policy : Policy) (enc : Enc) (counted : ℕ) (spellings : Spellings) (rules : List Rule) (texts : List (List ℕ)) (auto : Auto) (piece : Piece)
+-- the numbers of histories in the scanner of rules leave room for one more
+pub scanner_mregs : (policy : Policy) (enc : Enc) (spellings : Spellings) (rules : List Rule) (texts : List (List ℕ)) (auto : Auto) (blocks : List CodeBlock)
+    → IsAutoUnder policy enc (patterns_of rules) auto → IsWithinLimits rules → AreShort texts → AreNamed spellings texts rules
+    → code_of blocks ≡ layout (endings_of rules texts) (greatest_unit enc) auto 0 → IsShort (mregs_of blocks)
+scanner_mregs policy enc spellings rules texts auto blocks is limits short named same =
+    layout_mregs spellings (endings_of rules texts) (greatest_unit enc) auto blocks is.fits.formed is.fits.units (greatest_unit-short enc)
+    (rules_written spellings enc rules texts auto.states limits short named is.fits.rules) same
+
+module _ (policy : Policy) (enc : Enc) (custom : Bool) (counted : ℕ) (spellings : Spellings) (rules : List Rule) (texts : List (List ℕ)) (auto : Auto) (piece : Piece)
     (is : IsAutoUnder policy enc (patterns_of rules) auto) (no_end : end_rule (patterns_of rules) ≡ None) (limits : IsWithinLimits rules)
     (short : AreShort texts) (named : AreNamed spellings texts rules)
-    (same : code_of piece.blocks ≡ layout (endings_of rules texts) (greatest_unit enc) auto 0) (bare : IsUnconditional enc counted spellings piece)
+    (same : code_of piece.blocks ≡ layout (endings_of rules texts) (greatest_unit enc) auto 0) (bare : IsUnconditional enc custom counted spellings piece)
     (number : IsShort counted) (allowed : AreAllowed spellings) (differ : DoNotClash spellings)
-    (few : statement_count piece.blocks ≤ STATEMENT_LIMIT) where
+    (free : custom ≡ true → name_primitives spellings ≡ false) (few : statement_count piece.blocks ≤ STATEMENT_LIMIT) where
   written : AreWritten spellings (endings_of rules texts) auto.states
   written = rules_written spellings enc rules texts auto.states limits short named is.fits.rules
 
-  pub scanner : IsScannerUnder policy enc counted spellings rules texts piece
+  pub scanner : IsScannerUnder policy enc custom counted spellings rules texts piece
   scanner =
       let endings : ℕ → Ending = endings_of rules texts in
       let greatest : ℕ = greatest_unit enc in
       let quiet = layout_asks_nothing endings greatest auto 0 piece.blocks same in
       record {
-        valid = layout_valid enc counted spellings endings greatest auto piece is.fits.formed is.fits.units (greatest_unit-short enc) written same bare
-            number allowed differ few;
+        valid = layout_valid enc custom counted spellings endings greatest auto piece is.fits.formed is.fits.units (greatest_unit-short enc) written same bare
+            number allowed differ free few;
         fields = bare;
         no_refill = quiet.0;
         no_state = quiet.1;
         actions = each-both (IsOwnAction endings) (CanBeSpelled spellings) (HasAction texts) (HasAction-own spellings rules texts)
             (all_statements piece.blocks) (actions_own endings greatest auto 0 piece.blocks same)
-            (all_fine spellings piece.blocks (blocks_fine enc counted spellings endings greatest auto piece is.fits.formed is.fits.units
-            (greatest_unit-short enc) written same bare number allowed differ few));
+            (all_fine spellings piece.blocks (blocks_fine enc custom counted spellings endings greatest auto piece is.fits.formed is.fits.units
+            (greatest_unit-short enc) written same bare number allowed differ free few));
         one_action = actions_once endings greatest auto 0 piece.blocks same;
         right = λ cond. layout_right policy enc (patterns_of rules) auto endings piece 0 cond is (limited_ends enc rules texts limits no_end)
             (subst (λ l. StandsFrom l 0 (layout endings greatest auto 0)) (sym same) (StandsFrom-itself (layout endings greatest auto 0)))

@@ -26,6 +26,10 @@ use Rattle.lx_gen.proofs.BlockLayouts.BalancedTrees.{EachTest}
 use Rattle.lx_gen.proofs.Operations.SmallOps.{AreSmall, AreSmall-ops, IsSmall, sequentialized-small}
 use Rattle.lx_gen.proofs.BlockLayouts.TreeCodes.{each-front_blocks}
 
+-- the number of a history, and one more, can be written
+abbrev pub HasRoom : ℕ → Type 0
+HasRoom history = IsShort (history + 1)
+
 module _ (names : Spellings) where
   -- the statement has a spelling if its block has one, it has few groups, and is none of a refill, a stored state or a condition
   abbrev pub CanBeSpelled : Stmt → Type 0
@@ -38,13 +42,13 @@ module _ (names : Spellings) where
   CanBeSpelled (Set register) = IsRegister register
   CanBeSpelled (Unset register) = IsRegister register
   CanBeSpelled (Copy register source) = IsRegister register × IsRegister source
-  CanBeSpelled (MSet history) = IsShort history
-  CanBeSpelled (MUnset history) = IsShort history
-  CanBeSpelled (MCopy history source) = IsShort history × IsShort source
+  CanBeSpelled (MSet history) = HasRoom history
+  CanBeSpelled (MUnset history) = HasRoom history
+  CanBeSpelled (MCopy history source) = HasRoom history × HasRoom source
   CanBeSpelled (IfUnit greatest block) = IsShort greatest
   CanBeSpelled (IfAccept accept block) = IsShort accept
   CanBeSpelled (Goto block) = Unit {0}
-  CanBeSpelled (Tag tag true history) = IsTagName names tag × IsShort history
+  CanBeSpelled (Tag tag true history) = IsTagName names tag × HasRoom history
   CanBeSpelled (Tag tag false register) = IsTagName names tag × IsRegister register
   CanBeSpelled (Count groups) = groups ≤ 65
   CanBeSpelled (End place register) = (place ≤ 129) × IsRegister register

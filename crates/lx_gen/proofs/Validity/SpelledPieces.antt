@@ -5,13 +5,14 @@ use Rattle.std.proofs.lemmas.Bool.{false≢true}
 use Rattle.std.specs.List.{AllByRecursion, list_any}
 use Rattle.lx_base.specs.declared.limits.TheConstants.{STATEMENT_LIMIT}
 use Rattle.lx_base.specs.Names.{Spellings}
+use Rattle.lx_ccode.specs.Counts.{greatest_of, history_in, mregs_of, register_in, regs_of}
 use Rattle.lx_ccode.specs.States.{states_from, states_in}
-use Rattle.lx_ccode.specs.Statements.{all_statements, code_of, is_need, is_state, statement_count}
-use Rattle.lx_ccode.specs.Validity.{EachBlockHasSpelling, EachHasSpelling, HasFewGroups, HasSpelling, IsLabel, JumpsBelow, NamesOneOf, ends_once, labels, last_statements, refill_first, refills_after_states, tries_after_state}
+use Rattle.lx_ccode.specs.Statements.{all_statements, code_of, is_need, is_state, is_try, statement_count}
+use Rattle.lx_ccode.specs.Validity.{EachBlockHasSpelling, EachHasSpelling, HasFewGroups, HasSpelling, IsLabel, IsShort, JumpsBelow, NamesOneOf, ends_once, labels, last_statements, refill_first, refills_after_states, tries_after_state}
 use Rattle.lx_ccode.specs.declared.piece.CodeBlock.{CodeBlock}
 use Rattle.lx_ccode.specs.declared.piece.StateCase.{StateCase}
 use Rattle.lx_ccode.specs.declared.piece.Stmt.{Stmt}
-use Rattle.lx_ccode.specs.declared.piece.Stmt.TheVariants.{Accept, Back, Backup, Code, Cond, Copy, Count, End, Goto, IfAccept, IfUnit, Jump, Leave, MCopy, MSet, MUnset, Need, Peek, Restore, Set, Skip, State, Tag, Unset}
+use Rattle.lx_ccode.specs.declared.piece.Stmt.TheVariants.{Accept, Back, Backup, Code, Cond, Copy, Count, End, Goto, IfAccept, IfUnit, Jump, Leave, MCopy, MSet, MUnset, Need, Peek, Restore, Set, Skip, State, Tag, Try, Unset}
 use Rattle.lx_gen.proofs.Validity.EachElement.{each-append, each-back, each-front}
 use Rattle.lx_gen.proofs.Validity.SpelledCodes.{CodeCanBeSpelled, CanBeSpelled}
 
@@ -51,13 +52,13 @@ module _ (names : Spellings) where
   HasSpelling-fine count (Set register) small fine below = fine
   HasSpelling-fine count (Unset register) small fine below = fine
   HasSpelling-fine count (Copy register source) small fine below = fine
-  HasSpelling-fine count (MSet history) small fine below = fine
-  HasSpelling-fine count (MUnset history) small fine below = fine
-  HasSpelling-fine count (MCopy history source) small fine below = fine
+  HasSpelling-fine count (MSet history) small fine below = omega (arith, fine)
+  HasSpelling-fine count (MUnset history) small fine below = omega (arith, fine)
+  HasSpelling-fine count (MCopy history source) small fine below = (omega (arith, fine.0), omega (arith, fine.1))
   HasSpelling-fine count (IfUnit greatest block) small fine below = (fine, omega (arith, below, small))
   HasSpelling-fine count (IfAccept accept block) small fine below = (fine, omega (arith, below, small))
   HasSpelling-fine count (Goto block) small fine below = omega (arith, below, small)
-  HasSpelling-fine count (Tag tag true history) small fine below = fine
+  HasSpelling-fine count (Tag tag true history) small fine below = (fine.0, omega (arith, fine.1))
   HasSpelling-fine count (Tag tag false register) small fine below = fine
   HasSpelling-fine count (Count groups) small fine below = omega (arith, fine)
   HasSpelling-fine count (End place register) small fine below = (omega (arith, fine.0), fine.1)
@@ -68,6 +69,36 @@ module _ (names : Spellings) where
   is_need-fine : (statement : Stmt) → CanBeSpelled names statement → is_need statement ≡ false
   is_need-fine (Need units) fine = absurd fine
   is_need-fine _ fine = refl
+
+  is_try-fine : (statement : Stmt) → CanBeSpelled names statement → is_try statement ≡ false
+  is_try-fine (Try block) fine = absurd fine
+  is_try-fine _ fine = refl
+
+  register_in-fine : (statement : Stmt) → CanBeSpelled names statement → IsShort (register_in statement)
+  register_in-fine (Set register) fine = fine.1
+  register_in-fine (Unset register) fine = fine.1
+  register_in-fine (Copy register source) fine = let one = fine.0.1 in let other = fine.1.1 in omega (arith, one, other)
+  register_in-fine (Tag tag true history) fine = omega arith
+  register_in-fine (Tag tag false register) fine = fine.1.1
+  register_in-fine (End place register) fine = fine.1.1
+  register_in-fine (Back register) fine = fine.1
+  register_in-fine _ fine = omega arith
+
+  history_in-fine : (statement : Stmt) → CanBeSpelled names statement → IsShort (history_in statement)
+  history_in-fine (MSet history) fine = fine
+  history_in-fine (MUnset history) fine = fine
+  history_in-fine (MCopy history source) fine = let one = fine.0 in let other = fine.1 in omega (arith, one, other)
+  history_in-fine (Tag tag true history) fine = fine.1
+  history_in-fine (Tag tag false register) fine = omega arith
+  history_in-fine _ fine = omega arith
+
+  greatest_of-fine : (number : Stmt → ℕ) → ((statement : Stmt) → CanBeSpelled names statement → IsShort (number statement)) → (code : List Stmt)
+      → CodeCanBeSpelled names code → IsShort (greatest_of number code)
+  greatest_of-fine number short [] fine = omega arith
+  greatest_of-fine number short (statement ∷ code) fine =
+      let here = short statement fine.0 in
+      let again = greatest_of-fine number short code fine.1 in
+      omega (arith, here, again)
 
   is_state-fine : (statement : Stmt) → CanBeSpelled names statement → is_state statement ≡ false
   is_state-fine (State state) fine = absurd fine
@@ -105,6 +136,10 @@ module _ (names : Spellings) where
   no_need-fine [] fine = refl
   no_need-fine (statement ∷ code) fine = ap (λ t. t || list_any is_need code) (is_need-fine statement fine.0) ∙ no_need-fine code fine.1
 
+  no_try-fine : (code : List Stmt) → CodeCanBeSpelled names code → list_any is_try code ≡ false
+  no_try-fine [] fine = refl
+  no_try-fine (statement ∷ code) fine = ap (λ t. t || list_any is_try code) (is_try-fine statement fine.0) ∙ no_try-fine code fine.1
+
   -- ---- all blocks
 
   abbrev pub BlocksCanBeSpelled : List CodeBlock → Type 0
@@ -135,6 +170,15 @@ module _ (names : Spellings) where
 
   pub no_need : (blocks : List CodeBlock) → BlocksCanBeSpelled blocks → list_any is_need (all_statements blocks) ≡ false
   no_need blocks fine = no_need-fine (all_statements blocks) (all_fine blocks fine)
+
+  pub no_try : (blocks : List CodeBlock) → BlocksCanBeSpelled blocks → list_any is_try (all_statements blocks) ≡ false
+  no_try blocks fine = no_try-fine (all_statements blocks) (all_fine blocks fine)
+
+  pub regs_short : (blocks : List CodeBlock) → BlocksCanBeSpelled blocks → IsShort (regs_of blocks)
+  regs_short blocks fine = greatest_of-fine register_in register_in-fine (all_statements blocks) (all_fine blocks fine)
+
+  pub mregs_short : (blocks : List CodeBlock) → BlocksCanBeSpelled blocks → IsShort (mregs_of blocks)
+  mregs_short blocks fine = greatest_of-fine history_in history_in-fine (all_statements blocks) (all_fine blocks fine)
 
   EachHasSpelling-fine : (count : ℕ) (code : List Stmt) → count ≤ STATEMENT_LIMIT → CodeCanBeSpelled names code
       → AllByRecursion (JumpsBelow count) code → EachHasSpelling names code

@@ -1,5 +1,5 @@
 -- A piece whose blocks are a layout is valid.
-use Rattle.std.specs.Prelude.{◌≡◌, ℕ, ◌*◌, ◌<◌, ◌≤◌, ◌^◌, ◌⊎◌, IfSome, List, [], length, map, Option, Some, All, true, false, refl}
+use Rattle.std.specs.Prelude.{◌≡◌, ℕ, ◌*◌, ◌<◌, ◌≤◌, ◌^◌, ◌⊎◌, IfSome, List, [], length, map, Option, Some, All, Bool, true, false, refl}
 use Rattle.std.proofs.Common.{inl, inr, sym, ap, ◌∙◌, subst, arith}
 use Rattle.std.proofs.lemmas.Bool.{false≢true}
 use Rattle.std.proofs.lemmas.List.{length-map}
@@ -11,22 +11,27 @@ use Rattle.lx_auto.specs.declared.automaton.Edge.{Edge}
 use Rattle.lx_auto.specs.declared.automaton.State.{State}
 use Rattle.lx_base.specs.Letters.{IsIdentifier}
 use Rattle.lx_base.specs.Names.{AreAllowed, AreDistinct, DoNotClash, Spellings}
+use Rattle.lx_base.specs.Names.{name_primitives}
 use Rattle.lx_base.specs.declared.settings.Enc.{Enc}
 use Rattle.lx_base.specs.declared.settings.Enc.TheVariants.{Byte, Ucs2, Utf8, Utf16, Utf32}
+use Rattle.lx_ccode.specs.Agreement.{Agrees}
+use Rattle.lx_ccode.specs.Counts.{mregs_of}
+use Rattle.lx_ccode.specs.Heads.{is_custom}
 use Rattle.lx_ccode.specs.Statements.{all_statements, code_of, is_state, statement_count}
 use Rattle.lx_ccode.specs.Validity.{AreOnce, EachBlockHasSpelling, HasFewGroups, IsLine, IsLong, IsShort, IsStateSwitch, IsValid, JumpsBelow, NamesOneOf, ends_once, label_of, labels}
 use Rattle.lx_ccode.specs.declared.piece.CodeBlock.{CodeBlock}
 use Rattle.lx_ccode.specs.declared.piece.CondCase.{CondCase}
+use Rattle.lx_ccode.specs.declared.piece.Head.{Head}
 use Rattle.lx_ccode.specs.declared.piece.Piece.{Piece}
 use Rattle.lx_ccode.specs.declared.piece.StateCase.{StateCase}
 use Rattle.lx_encode.specs.Units.{unit_size}
 use Rattle.lx_gen.specs.Endings.{Ending}
 use Rattle.lx_gen.specs.Layout.{layout}
-use Rattle.lx_gen.specs.Written.{AreWritten, IsUnconditional}
+use Rattle.lx_gen.specs.Written.{AreWritten, IsUnconditional, plain_head}
 use Rattle.lx_gen.proofs.Validity.EachElement.{each-map}
 use Rattle.lx_gen.proofs.Validity.SpelledCodes.{CodeCanBeSpelled, CanBeSpelled}
 use Rattle.lx_gen.proofs.Validity.SpelledLayouts.{layout_fine}
-use Rattle.lx_gen.proofs.Validity.SpelledPieces.{BlocksCanBeSpelled, FineBlocks-codes, HasFewGroups-fine, NamesOneOf-fine, after_states-fine, all_fine, blocks-few, blocks_spelled, labels-none, last_statements-fine, no_need, states_from-fine}
+use Rattle.lx_gen.proofs.Validity.SpelledPieces.{BlocksCanBeSpelled, FineBlocks-codes, HasFewGroups-fine, NamesOneOf-fine, after_states-fine, all_fine, blocks-few, blocks_spelled, labels-none, last_statements-fine, mregs_short, no_need, no_try, regs_short, states_from-fine}
 use Rattle.lx_gen.proofs.Validity.LayoutFits.{layout_ends, layout_jumps}
 use Rattle.lx_gen.proofs.BlockLayouts.LayoutLengths.{length-layout}
 use Rattle.lx_gen.proofs.Validity.QuietCodes.{layout_asks_nothing}
@@ -38,12 +43,20 @@ unit_size-is Utf8 = inl refl
 unit_size-is Utf16 = inr (inl refl)
 unit_size-is Utf32 = inr (inr refl)
 
-module _ (enc : Enc) (counted : ℕ) (spellings : Spellings) (endings : ℕ → Ending) (greatest : ℕ) (auto : Auto) (piece : Piece)
+-- the numbers of histories in a layout leave room for one more
+pub layout_mregs : (spellings : Spellings) (endings : ℕ → Ending) (greatest : ℕ) (auto : Auto) (blocks : List CodeBlock) → IsAuto auto
+    → All (λ (state : State). All (λ (edge : Edge). edge.hi ≤ greatest) state.edges) auto.states → IsShort greatest
+    → AreWritten spellings endings auto.states → code_of blocks ≡ layout endings greatest auto 0 → IsShort (mregs_of blocks)
+layout_mregs spellings endings greatest auto blocks formed units short written same =
+    mregs_short spellings blocks (FineBlocks-codes spellings blocks
+    (subst (λ l. AllByRecursion (CodeCanBeSpelled spellings) l) (sym same) (layout_fine spellings endings greatest auto 0 short formed units written)))
+
+module _ (enc : Enc) (custom : Bool) (counted : ℕ) (spellings : Spellings) (endings : ℕ → Ending) (greatest : ℕ) (auto : Auto) (piece : Piece)
     (formed : IsAuto auto) (units : All (λ (state : State). All (λ (edge : Edge). edge.hi ≤ greatest) state.edges) auto.states)
     (short : IsShort greatest) (written : AreWritten spellings endings auto.states)
-    (same : code_of piece.blocks ≡ layout endings greatest auto 0) (bare : IsUnconditional enc counted spellings piece)
+    (same : code_of piece.blocks ≡ layout endings greatest auto 0) (bare : IsUnconditional enc custom counted spellings piece)
     (number : IsShort counted) (allowed : AreAllowed spellings) (differ : DoNotClash spellings)
-    (few : statement_count piece.blocks ≤ STATEMENT_LIMIT) where
+    (free : custom ≡ true → name_primitives spellings ≡ false) (few : statement_count piece.blocks ≤ STATEMENT_LIMIT) where
   pub blocks_fine : BlocksCanBeSpelled spellings piece.blocks
   blocks_fine = FineBlocks-codes spellings piece.blocks
       (subst (λ l. AllByRecursion (CodeCanBeSpelled spellings) l) (sym same) (layout_fine spellings endings greatest auto 0 short formed units written))
@@ -70,6 +83,15 @@ module _ (enc : Enc) (counted : ℕ) (spellings : Spellings) (endings : ℕ → 
   no_labels : labels piece.blocks ≡ []
   no_labels = labels-none piece.blocks bare.labels
 
+  agrees : Agrees piece (plain_head enc custom piece.blocks)
+  agrees = record {
+    unit = bare.unit;
+    mode = rw (bare.eof, no_need spellings piece.blocks blocks_fine, no_try spellings piece.blocks blocks_fine) refl;
+    regs = refl;
+    mregs = refl;
+    states = sym (ap (λ l. length l) (states_from-fine spellings 0 piece.blocks blocks_fine));
+  }
+
   pub layout_valid : IsValid piece
   layout_valid = record {
     range = record {
@@ -78,6 +100,8 @@ module _ (enc : Enc) (counted : ℕ) (spellings : Spellings) (endings : ℕ → 
       states = subst (λ (o : Option (List StateCase)). IfSome o (λ cases. AllByRecursion (λ case. IsLong case.state × IsLong case.block) cases))
           (sym bare.states) tt;
       conds = subst (λ (l : List CondCase). AllByRecursion (λ case. IsIdentifier case.cond × IsLong case.block) l) (sym bare.conds) tt;
+      head = subst (λ (o : Option Head). IfSome o (λ head. IsShort head.regs × IsShort head.mregs × IsLong head.states)) (sym bare.head)
+          (regs_short spellings piece.blocks blocks_fine, mregs_short spellings piece.blocks blocks_fine, omega arith);
     };
     unit = subst (λ n. (n ≡ 1) ⊎ ((n ≡ 2) ⊎ (n ≡ 4))) (sym bare.unit) (unit_size-is enc);
     eof = subst (λ (o : Option ℕ). IfSome o (λ eof. eof < 2 ^ (8 * piece.unit))) (sym bare.eof) tt;
@@ -101,6 +125,8 @@ module _ (enc : Enc) (counted : ℕ) (spellings : Spellings) (endings : ℕ → 
     ctx = λ e. absurd (false≢true (sym bare.ctx ∙ e));
     names = subst AreAllowed (sym bare.names) allowed;
     names_differ = subst DoNotClash (sym bare.names) differ;
+    no_primitive = λ e. subst (λ names. name_primitives names ≡ false) (sym bare.names) (free (sym (ap is_custom bare.head) ∙ e));
+    head = subst (λ (o : Option Head). IfSome o (Agrees piece)) (sym bare.head) agrees;
     spelled = subst (λ names. EachBlockHasSpelling names piece.blocks) (sym bare.names)
         (blocks_spelled spellings (length piece.blocks) piece.blocks few_blocks blocks_fine bare.labels ends jumps);
   }

@@ -20,6 +20,7 @@ fn options(alloc: Global, conds: bool, states: bool) -> Options {
         tags: false,
         captures: false,
         posix: false,
+        custom: false,
         enc: Enc::Byte,
         surrogates: SurPolicy::Ignore,
         empty: EmptyPolicy::MatchEmpty,

@@ -1,5 +1,12 @@
-use Rattle.lx_ccode.proofs.ValidExamples.{IsValid-checked, IsValid-context, IsValid-stored}
+use Rattle.lx_ccode.proofs.ValidExamples.{IsValid-checked, IsValid-checked_head, IsValid-context, IsValid-context_head, IsValid-stored, IsValid-stored_head}
 use Rattle.lx_ccode.proofs.examples.examples_are_valid.Goals as goal
 
 pub returns : goal.returns
-returns c = record { context = IsValid-context; stored = IsValid-stored; checked = IsValid-checked }
+returns c = record {
+  context = IsValid-context;
+  stored = IsValid-stored;
+  checked = IsValid-checked;
+  context_with_head = IsValid-context_head;
+  stored_with_head = IsValid-stored_head;
+  checked_with_head = IsValid-checked_head;
+}

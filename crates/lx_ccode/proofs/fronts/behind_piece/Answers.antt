@@ -15,7 +15,7 @@ returns-in_default-2 c =
     let piece = c.args.piece.now in
     let scope = c.of-scope.ensures in
     let opening = written (opening_then piece) _ _ _ (opening_then-append piece []) c.as_slice.ensures.value c.in_ok-append_opening.ensures c.new-text.ensures.items in
-    let none = rw (scope.number, scope.names, scope.ctx, c.as_slice-2.ensures, c.in_default-2.is) at c.in_ok-closing.ensures in
+    let none = rw (scope.number, scope.names, scope.ctx, scope.custom, c.as_slice-2.ensures, c.in_default-2.is) at c.in_ok-closing.ensures in
     none_second (opening_then piece) (λ tail. all_blocks_then piece (closing_then piece tail)) c.args.bytes.now c.in-Some.rest.now (opening_then-append piece [])
     (c.in-Some.ensures ∙ opening c.in-Some.rest.now) (λ tail. none (closing_then piece tail))
 
@@ -28,5 +28,5 @@ returns c =
     found_second (opening_then piece) (λ tail. all_blocks_then piece (closing_then piece tail)) c.args.bytes.now c.in-Some.rest.now c.behind-2.result (opening_then-append piece [])
     (c.in-Some.ensures ∙ opening c.in-Some.rest.now)
     (found_second (all_blocks_then piece) (closing_then piece) c.in-Some.rest.now c.in-Some-2.closing.now c.behind-2.result (all_blocks_then-append piece)
-    (rw (scope.number, scope.names, scope.ctx, c.as_slice-2.ensures, c.in-Some-2.is) at c.in_ok-closing.ensures)
+    (rw (scope.number, scope.names, scope.ctx, scope.custom, c.as_slice-2.ensures, c.in-Some-2.is) at c.in_ok-closing.ensures)
     (found_as (closing_then piece) c.as_slice-3.result.now c.in-Some-2.closing.now c.behind-2.result closing c.behind-2.ensures))

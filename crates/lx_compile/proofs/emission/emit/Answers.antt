@@ -7,7 +7,8 @@ use Rattle.lx_compile.proofs.emission.emit.Goals.{in-Outside+in_ok-extend_from_s
 
 pub loop-part-preserved : goal.loop-part-preserved
 loop-part-preserved c =
-    let enc = c.args.enc in
+    let enc = c.args.options.now.enc in
+    let custom = c.args.options.now.custom in
     let parts = c.args.parts.now in
     let i = c.loop-part.part-index in
     let number = c.loop-part.number in
@@ -19,14 +20,14 @@ loop-part-preserved c =
       | in-Outside+in_ok-extend_from_slice-in-Outside w ↦ record {
         texts =
             rw (w.number-is, w.output-is, w.in_ok-extend_from_slice-in-Outside.ensures.items, w.as_slice.ensures)
-            (HasTexts-outside enc parts (drop (i + 1) parts) number output w.in-Outside.text (rw w.in-Outside.is at texts));
+            (HasTexts-outside enc custom parts (drop (i + 1) parts) number output w.in-Outside.text (rw w.in-Outside.is at texts));
         none = HasNoneBefore-outside enc parts (drop (i + 1) parts) w.in-Outside.text (rw w.in-Outside.is at none);
         small = omega arith;
       }
       | in-Block+in_ok-append_block-in-Block w ↦ let text = w.in_ok-append_block-in-Block.ensures in record {
         texts =
             rw (w.number-is, w.output-is, text.2)
-            (HasTexts-block enc parts (drop (i + 1) parts) number output text.0 w.in-Block.at w.in-Block.resolved (rw w.in-Block.is at texts) text.1);
+            (HasTexts-block enc custom parts (drop (i + 1) parts) number output text.0 w.in-Block.at w.in-Block.resolved (rw w.in-Block.is at texts) text.1);
         none = HasNoneBefore-block enc parts (drop (i + 1) parts) w.in-Block.at w.in-Block.resolved (rw w.in-Block.is at none) text.3;
         small = omega arith;
       }
@@ -34,10 +35,11 @@ loop-part-preserved c =
 
 pub returns : goal.returns
 returns c =
-    let enc = c.args.enc in
+    let enc = c.args.options.now.enc in
+    let custom = c.args.options.now.custom in
     let parts = c.args.parts.now in
     let i = c.loop-part.part-index in
     let ended : length parts ≤ i = omega arith in (
-      HasTexts-end enc parts c.loop-part.number c.loop-part.output.items (rw (drop_of_length-le parts ended) at c.loop-part.invariant.texts),
+      HasTexts-end enc custom parts c.loop-part.number c.loop-part.output.items (rw (drop_of_length-le parts ended) at c.loop-part.invariant.texts),
       IsKernelFault-end enc parts (rw (drop_of_length-le parts ended) at c.loop-part.invariant.none),
     )

@@ -13,10 +13,10 @@ copy_members-loop-member-preserved t c =
     let place = c.loop-member.member-index in
     let pushed = c.in_ok-push.ensures.items in
     let copy = c.in_ok-copy.field-0 in record {
-      terms = λ tags.
+      terms =
           rw next
-          (map-copies (term_of tags) (λ (member : Expr). shifted c.args.by (term_of 0 member)) place members c.loop-member.copies.items c.push.new.self.items c.member-item.result copy c.loop-member-test.true
-          c.member-item.is pushed (c.in_ok-copy.ensures.term tags) (c.loop-member.invariant.terms tags));
+          (map-copies (term_of 0) (λ (member : Expr). shifted c.args.by c.args.groups (term_of 0 member)) place members c.loop-member.copies.items c.push.new.self.items c.member-item.result copy c.loop-member-test.true
+          c.member-item.is pushed c.in_ok-copy.ensures.term c.loop-member.invariant.terms);
       sizes =
           rw next
           (map-copies size_of size_of place members c.loop-member.copies.items c.push.new.self.items c.member-item.result copy c.loop-member-test.true
@@ -24,29 +24,35 @@ copy_members-loop-member-preserved t c =
     }
 
 pub copy_members-returns-clause-terms : goal.copy_members-returns-clause-terms
-copy_members-returns-clause-terms t c tags =
-    c.loop-member.invariant.terms tags
-    ∙ ap (map (λ (member : Expr). shifted c.args.by (term_of 0 member))) (take_all c.loop-member.member-index c.args.members.now c.loop-member-test.false)
+copy_members-returns-clause-terms t c =
+    c.loop-member.invariant.terms
+    ∙ ap (map (λ (member : Expr). shifted c.args.by c.args.groups (term_of 0 member))) (take_all c.loop-member.member-index c.args.members.now c.loop-member-test.false)
 
 pub copy-returns-in_ok-copy_members-in-Cat-clause-term : goal.copy-returns-in_ok-copy_members-in-Cat-clause-term
-copy-returns-in_ok-copy_members-in-Cat-clause-term t c tags =
-    cat-copies tags c.args.by c.in_ok-copy_members-in-Cat.field-0 c.in-Cat.members
-    (c.in_ok-copy_members-in-Cat.ensures.terms tags ∙ ap (map (λ (member : Expr). shifted c.args.by (term_of 0 member))) c.deref.ensures.value)
-    ∙ ap (λ e. shifted c.args.by (term_of 0 e)) (sym c.in-Cat.is)
+copy-returns-in_ok-copy_members-in-Cat-clause-term t c =
+    let by = c.args.by in
+    let groups = c.args.groups in
+    cat-copies by groups c.in_ok-copy_members-in-Cat.field-0 c.in-Cat.members
+    (c.in_ok-copy_members-in-Cat.ensures.terms ∙ ap (map (λ (member : Expr). shifted by groups (term_of 0 member))) c.deref.ensures.value)
+    ∙ ap (λ e. shifted by groups (term_of 0 e)) (sym c.in-Cat.is)
 
 pub copy-returns-in_ok-copy_members-in-Alt-clause-term : goal.copy-returns-in_ok-copy_members-in-Alt-clause-term
-copy-returns-in_ok-copy_members-in-Alt-clause-term t c tags =
-    alt-copies tags c.args.by c.in_ok-copy_members-in-Alt.field-0 c.in-Alt.members
-    (c.in_ok-copy_members-in-Alt.ensures.terms tags ∙ ap (map (λ (member : Expr). shifted c.args.by (term_of 0 member))) c.deref-in-Alt.ensures.value)
-    ∙ ap (λ e. shifted c.args.by (term_of 0 e)) (sym c.in-Alt.is)
+copy-returns-in_ok-copy_members-in-Alt-clause-term t c =
+    let by = c.args.by in
+    let groups = c.args.groups in
+    alt-copies by groups c.in_ok-copy_members-in-Alt.field-0 c.in-Alt.members
+    (c.in_ok-copy_members-in-Alt.ensures.terms ∙ ap (map (λ (member : Expr). shifted by groups (term_of 0 member))) c.deref-in-Alt.ensures.value)
+    ∙ ap (λ e. shifted by groups (term_of 0 e)) (sym c.in-Alt.is)
 
 pub copy-returns-in_ok-body-in-Rep-clause-term : goal.copy-returns-in_ok-body-in-Rep-clause-term
-copy-returns-in_ok-body-in-Rep-clause-term t c tags =
-    rep-copies tags c.args.by c.in_ok-body-in-Rep.body c.in-Rep.body c.in-Rep.low c.in-Rep.high
-    (ap (term_of tags) c.in_ok-body-in-Rep.ensures.ok ∙ c.in_ok-copy-in-Rep.ensures.term tags ∙ ap (λ e. shifted c.args.by (term_of 0 e)) c.deref-in-Rep.ensures)
-    ∙ ap (λ e. shifted c.args.by (term_of 0 e)) (sym c.in-Rep.is)
+copy-returns-in_ok-body-in-Rep-clause-term t c =
+    let by = c.args.by in
+    let groups = c.args.groups in
+    rep-copies by groups c.in_ok-body-in-Rep.body c.in-Rep.body c.in-Rep.low c.in-Rep.high
+    (ap (term_of 0) c.in_ok-body-in-Rep.ensures.ok ∙ c.in_ok-copy-in-Rep.ensures.term ∙ ap (λ e. shifted by groups (term_of 0 e)) c.deref-in-Rep.ensures)
+    ∙ ap (λ e. shifted by groups (term_of 0 e)) (sym c.in-Rep.is)
 
 pub copy_members-copy-requires : goal.copy_members-copy-requires
 copy_members-copy-requires t c =
     let below = member_below 128 c.loop-member.member-index c.args.members.now c.member-item.result c.requires.tags c.loop-member-test.true c.member-item.is in
-    (search (rules, the_lemmas), (c.requires.by, below))
+    (search (rules, the_lemmas), (c.requires.by, (c.requires.groups, below)))

@@ -16,21 +16,21 @@ pub loop-character-preserved : goal.loop-character-preserved
 loop-character-preserved c =
     let pushed = c.in_ok-push.ensures.items in
     let one : size_of (Class c.in_ok-set.set) ≡ 1 = search (rules, the_lemmas) in record {
-      terms = λ tags.
-          map-taken (term_of tags) (λ (character : Character). set_term (character_set c.args.policy c.args.is_caseless character.point))
+      terms =
+          map-taken (term_of 0) (λ (character : Character). set_term (character_set c.args.policy c.args.is_caseless character.point))
           c.loop-character.members.items c.push.new.self.items (Class c.in_ok-set.set) c.args.characters.now c.loop-character.character-index _ c.loop-character-test.true pushed
-          (term_of-class tags c.in_ok-set.set ∙ ap set_term c.in_ok-set.ensures) (c.loop-character.invariant.terms tags);
+          (term_of-class 0 c.in_ok-set.set ∙ ap set_term c.in_ok-set.ensures) c.loop-character.invariant.terms;
       sizes =
           ap (λ members. sum (map size_of members)) pushed ∙ ap sum (map_push size_of c.loop-character.members.items (Class c.in_ok-set.set))
           ∙ sum_by_push (λ size. size) (map size_of c.loop-character.members.items) (size_of (Class c.in_ok-set.set)) ∙ ap₂ ◌+◌ c.loop-character.invariant.sizes one;
     }
 
 pub returns-clause-term : goal.returns-clause-term
-returns-clause-term c tags =
+returns-clause-term c =
     let characters = c.args.characters.now in
     let set = character_set c.args.policy c.args.is_caseless in
     let all = take_all c.loop-character.character-index characters c.loop-character-test.false in
     let each = λ (character : Character). set_term (set character.point) in
     let fused = ap (map set_term) (map-map set (λ (character : Character). character.point) characters) ∙ map-map set_term (λ (character : Character). set character.point) characters in
-    term_of-cat tags c.loop-character.members
-    ∙ ap (λ terms. cat (members_of terms)) (c.loop-character.invariant.terms tags ∙ ap (map each) all ∙ sym fused)
+    term_of-cat 0 c.loop-character.members
+    ∙ ap (λ terms. cat (members_of terms)) (c.loop-character.invariant.terms ∙ ap (map each) all ∙ sym fused)

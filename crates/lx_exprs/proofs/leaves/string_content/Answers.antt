@@ -8,13 +8,13 @@ use Rattle.lx_exprs.proofs.Contents.LeafContents.{set_terms-below, string_term-m
 use Rattle.lx_exprs.proofs.leaves.string_content.Goals as goal
 
 pub returns-in_ok-expr-in_default-clause-stands : goal.returns-in_ok-expr-in_default-clause-stands
-returns-in_ok-expr-in_default-clause-stands c built count past tags =
+returns-in_ok-expr-in_default-clause-stands c built count past =
     let characters = c.args.characters.now in
     let sets = map (character_set c.args.policy c.args.is_caseless) (points_of characters) in
     let many : length sets ≡ length characters = length-map (points_of characters) _ ∙ length-map characters _ in
-    ap one (string_term-many sets (omega (arith, many, c.in_default.len_at_least)) ∙ sym (c.in_ok-expr-in_default.ensures.term tags))
+    ap one (string_term-many sets (omega (arith, many, c.in_default.len_at_least)) ∙ sym c.in_ok-expr-in_default.ensures.term)
 
 pub returns-in_ok-expr-in_default-clause-tags : goal.returns-in_ok-expr-in_default-clause-tags
 returns-in_ok-expr-in_default-clause-tags c bound =
     let sets = map (character_set c.args.policy c.args.is_caseless) (points_of c.args.characters.now) in
-    subst (HasTagsBelow bound) (sym (c.in_ok-expr-in_default.ensures.term 0)) (set_terms-below bound sets)
+    subst (HasTagsBelow bound) (sym c.in_ok-expr-in_default.ensures.term) (set_terms-below bound sets)

@@ -1,17 +1,19 @@
-use Rattle.std.proofs.Common.{◌≡◌, ℕ, ◌+◌, ◌≤◌, ◌^◌, List, None, arith, ap, refl, subst, sym, ◌∙◌}
+use Rattle.std.proofs.Common.{◌≡◌, ℕ, ◌+◌, ◌<◌, ◌≤◌, ◌^◌, List, None, Some, arith, ap, refl, subst, sym, ◌∙◌}
 use Rattle.std.specs.List.{AllByRecursion}
 use Rattle.lx_base.specs.declared.limits.TheConstants.{STATEMENT_LIMIT}
 use Rattle.lx_base.specs.Spelling.{greatest_unit}
 use Rattle.lx_base.specs.declared.settings.Enc.{Enc}
 use Rattle.lx_base.specs.declared.settings.Enc.TheVariants.{Byte, Ucs2, Utf8, Utf16, Utf32}
+use Rattle.lx_ccode.specs.Counts.{mregs_of, regs_of}
 use Rattle.lx_ccode.specs.Statements.{code_of, statement_count}
 use Rattle.lx_ccode.specs.declared.piece.CodeBlock.{CodeBlock}
+use Rattle.lx_ccode.specs.declared.piece.Mode.TheVariants.{Plain}
 use Rattle.lx_encode.specs.Units.{unit_size}
 use Rattle.lx_regex.specs.Order.{greedy}
 use Rattle.lx_gen.specs.Layout.{layout}
 use Rattle.lx_gen.specs.Rules.{endings_of}
 use Rattle.lx_gen.proofs.Rules.RuleTold.{rules_told}
-use Rattle.lx_gen.proofs.Rules.Scanners.{scanner}
+use Rattle.lx_gen.proofs.Rules.Scanners.{scanner, scanner_mregs}
 use Rattle.lx_gen.proofs.scanner.generate.Goals as goal
 
 greatest_is : (enc : Enc) (unit : ℕ) → unit + 1 ≡ 256 ^ unit_size enc → unit ≡ greatest_unit enc
@@ -26,16 +28,30 @@ blocks_of-requires-clause-told c =
     rules_told c.args.names.now c.args.enc c.args.rules.now c.args.texts.now c.args.auto.now.states
     c.requires.limits c.requires.named c.requires.auto.fits.rules
 
+pub overflow_cast-head : goal.overflow_cast-head
+overflow_cast-head c =
+    let endings = endings_of c.args.rules.now c.args.texts.now in
+    let units = greatest_is c.args.enc c.greatest_unit.result c.greatest_unit.ensures in
+    let code = c.in_ok-blocks.ensures.code ∙ ap (λ n. layout endings n c.args.auto.now 0) units in
+    let few : mregs_of c.in_ok-blocks.blocks.items < 2 ^ 32 =
+    scanner_mregs greedy c.args.enc c.args.names.now c.args.rules.now c.args.texts.now c.args.auto.now c.in_ok-blocks.blocks.items
+    c.requires.auto c.requires.limits c.requires.short c.requires.named code in
+    let is : c.mregs_of-mregs.result ≡ mregs_of c.in_ok-blocks.blocks.items = c.mregs_of-mregs.ensures ∙ ap mregs_of c.deref-2.ensures.value in
+    omega (arith, few, is)
+
 pub returns : goal.returns
 returns c =
     let endings = endings_of c.args.rules.now c.args.texts.now in
     let units = greatest_is c.args.enc c.greatest_unit.result c.greatest_unit.ensures in
     let blocks = c.from_vec.ensures in
     let code = ap (λ l. code_of l) blocks ∙ c.in_ok-blocks.ensures.code ∙ ap (λ n. layout endings n c.args.auto.now 0) units in
-    scanner greedy c.args.enc c.args.number c.args.names.now c.args.rules.now c.args.texts.now c.args.auto.now _
+    let regs_is : c.regs_of-regs.result ≡ regs_of c.from_vec.result = c.regs_of-regs.ensures ∙ ap regs_of (c.deref.ensures.value ∙ sym blocks) in
+    let mregs_is : c.mregs_of-mregs.result ≡ mregs_of c.from_vec.result = c.mregs_of-mregs.ensures ∙ ap mregs_of (c.deref-2.ensures.value ∙ sym blocks) in
+    scanner greedy c.args.enc c.args.custom c.args.number c.args.names.now c.args.rules.now c.args.texts.now c.args.auto.now _
     c.requires.auto c.requires.no_end c.requires.limits c.requires.short c.requires.named code
     (record {
       number = refl;
+      head = λ i. Some (record { custom = c.args.custom; enc = c.args.enc; mode = Plain; regs = regs_is i; mregs = mregs_is i; states = 0 });
       names = c.in_ok-names.ensures ∙ c.as_slice.ensures;
       unit = c.unit_bytes.ensures;
       eof = refl;
@@ -46,5 +62,5 @@ returns c =
       line = refl;
       labels = subst (λ (l : List CodeBlock). AllByRecursion (λ (block : CodeBlock). block.cond ≡ None) l) (sym blocks) c.in_ok-blocks.ensures.labels;
     })
-    (omega (arith, c.ranges.number)) c.requires.allowed c.requires.differ
+    (omega (arith, c.ranges.number)) c.requires.allowed c.requires.differ c.requires.free
     (subst (λ l. statement_count l ≤ STATEMENT_LIMIT) (sym blocks) c.in_ok-blocks.ensures.few)

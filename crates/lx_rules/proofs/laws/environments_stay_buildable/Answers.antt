@@ -5,5 +5,5 @@ pub returns-clause-first : goal.returns-clause-first
 returns-clause-first c = λ enc. first_ready enc
 
 pub returns-clause-kept : goal.returns-clause-kept
-returns-clause-kept c = λ options at environment after lexemes items resolved ready resolves.
-    ready_after options at environment lexemes items ready after resolved resolves
+returns-clause-kept c = λ options kind at environment after lexemes items resolved ready resolves.
+    ready_after options at environment lexemes items ready kind after resolved resolves

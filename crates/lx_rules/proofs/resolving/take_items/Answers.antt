@@ -3,6 +3,7 @@ use Rattle.std.proofs.Math.Seq.{take-suc, drop-cons}
 use Rattle.std.proofs.lemmas.List.{take-append-drop}
 use Rattle.std.proofs.lemmas.Result.{err_from_is_err_and}
 use Rattle.lx_parse.specs.declared.items.Item.TheVariants.{Define}
+use Rattle.lx_base.specs.declared.blocks.BlockKind.TheVariants.{Code}
 use Rattle.lx_rules.specs.Items.{Goes, ends, first_state}
 use Rattle.lx_rules.specs.Keeping.{StopsGoing}
 use Rattle.lx_forms.specs.Lexemes.{sorts_at}
@@ -16,7 +17,7 @@ loop-item-init c =
     let holds = c.new-known.ensures c.args.block.options.now.conds in
     let none = ap length holds.acts in record {
       few = omega (arith, none);
-      goes = (first_state (environment_view c.args.env), ends, holds);
+      goes = (first_state Code (environment_view c.args.env), ends, holds);
     }
 
 pub take-requires-clause-expressions : goal.take-requires-clause-expressions
@@ -35,8 +36,8 @@ returns-in_err-take-clause-goes c =
     ap (λ l. take place items ++ l) (sym (drop-cons items place (Define 0 0 0) c.loop-item-test.true)) ∙ take-append-drop place items in
     let p = err_from_is_err_and c.from_residual.result c.from_residual.ensures.1 in
     rw (p.1, p.2)
-    (subst (λ l. StopsGoing options lexemes (first_state (environment_view c.args.env)) l c.in_err-take.field-0.0) whole
-    (goes-stops options lexemes (first_state (environment_view c.args.env)) goes.0 (take place items) item (drop (suc place) items) c.in_err-take.field-0.0 goes.1
+    (subst (λ l. StopsGoing options lexemes (first_state Code (environment_view c.args.env)) l c.in_err-take.field-0.0) whole
+    (goes-stops options lexemes (first_state Code (environment_view c.args.env)) goes.0 (take place items) item (drop (suc place) items) c.in_err-take.field-0.0 goes.1
     (c.in_err-take.ensures.taken goes.0 goes.2)))
 
 pub loop-item-preserved : goal.loop-item-preserved
@@ -54,8 +55,8 @@ loop-item-preserved c =
       goes =
           rw (next) (
             taken.next,
-            subst (λ l. Goes options lexemes (first_state (environment_view c.args.env)) l (Ok taken.next)) (sym (take-suc items place (Define 0 0 0) c.loop-item-test.true))
-                (goes-snoc options lexemes (first_state (environment_view c.args.env)) goes.0 taken.next (take place items) (get_or items place (Define 0 0 0)) goes.1 taken.checked taken.is_after),
+            subst (λ l. Goes options lexemes (first_state Code (environment_view c.args.env)) l (Ok taken.next)) (sym (take-suc items place (Define 0 0 0) c.loop-item-test.true))
+                (goes-snoc options lexemes (first_state Code (environment_view c.args.env)) goes.0 taken.next (take place items) (get_or items place (Define 0 0 0)) goes.1 taken.checked taken.is_after),
             taken.holds,
           );
     }

@@ -1,4 +1,5 @@
 use Rattle.std.proofs.Common.{◌≤◌, length, take, Ok}
+use Rattle.lx_base.specs.declared.blocks.BlockKind.TheVariants.{Code}
 use Rattle.lx_rules.specs.Items.{State, Goes, first_state}
 use Rattle.lx_rules.specs.Keeping.{Holds}
 use Rattle.lx_forms.specs.Seen.{lexemes_view}
@@ -9,6 +10,6 @@ abbrev pub invariant-loop-item : goal.invariant-loop-item
 invariant-loop-item l = record {
   few : length l.known.acts.items ≤ l.item-index;
   goes : (state : State)
-      × Goes l.block.options.now (lexemes_view l.block.lexemes) (first_state (environment_view l.fn.env)) (take l.item-index l.items) (Ok state)
+      × Goes l.block.options.now (lexemes_view l.block.lexemes) (first_state Code (environment_view l.fn.env)) (take l.item-index l.items) (Ok state)
       × Holds l.block.options.now.conds l.known state;
 }

@@ -1,8 +1,9 @@
 use Rattle.std.proofs.Common.{◌≡◌, ◌++◌, [], drop}
 use Rattle.lx_ccode.specs.Text.{blocks_then}
+use Rattle.lx_ccode.specs.Wording.{scope_wording}
 use Rattle.lx_ccode.proofs.lines.Scope.append_blocks.Given as goal
 
 abbrev pub invariant-loop-place : goal.invariant-loop-place
 invariant-loop-place l =
-    l.text.items ++ blocks_then l.self.number l.self.names.now l.self.ctx l.place (drop l.place l.blocks) []
-    ≡ l.initial.text.items ++ blocks_then l.self.number l.self.names.now l.self.ctx 0 l.blocks []
+    l.text.items ++ blocks_then (scope_wording l.self) l.place (drop l.place l.blocks) []
+    ≡ l.initial.text.items ++ blocks_then (scope_wording l.self) 0 l.blocks []

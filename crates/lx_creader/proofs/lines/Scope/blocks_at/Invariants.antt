@@ -7,10 +7,10 @@ use Rattle.lx_creader.proofs.lines.Scope.blocks_at.Given as goal
 
 abbrev pub invariant-loop-left : goal.invariant-loop-left
 invariant-loop-left l =
-    (l.blocks.items ++ map fitted_block (blocks_at l.left l.fuel l.self.names.now l.bytes).0 ≡ map fitted_block (blocks_at l.fuel l.fuel l.self.names.now l.fn.bytes).0)
-    × ((l.ctx || (blocks_at l.left l.fuel l.self.names.now l.bytes).1) ≡ (blocks_at l.fuel l.fuel l.self.names.now l.fn.bytes).1)
-    × ((blocks_at l.left l.fuel l.self.names.now l.bytes).2 ≡ (blocks_at l.fuel l.fuel l.self.names.now l.fn.bytes).2)
-    × (AllByRecursion (λ block. 0 < length block.stmts) (blocks_at l.fuel l.fuel l.self.names.now l.fn.bytes).0 → AllByRecursion (λ block. 0 < length block.stmts) (blocks_at l.left l.fuel l.self.names.now l.bytes).0)
+    (l.blocks.items ++ map fitted_block (blocks_at l.left l.fuel l.self.custom l.self.names.now l.bytes).0 ≡ map fitted_block (blocks_at l.fuel l.fuel l.self.custom l.self.names.now l.fn.bytes).0)
+    × ((l.ctx || (blocks_at l.left l.fuel l.self.custom l.self.names.now l.bytes).1) ≡ (blocks_at l.fuel l.fuel l.self.custom l.self.names.now l.fn.bytes).1)
+    × ((blocks_at l.left l.fuel l.self.custom l.self.names.now l.bytes).2 ≡ (blocks_at l.fuel l.fuel l.self.custom l.self.names.now l.fn.bytes).2)
+    × (AllByRecursion (λ block. 0 < length block.stmts) (blocks_at l.fuel l.fuel l.self.custom l.self.names.now l.fn.bytes).0 → AllByRecursion (λ block. 0 < length block.stmts) (blocks_at l.left l.fuel l.self.custom l.self.names.now l.bytes).0)
 
 abbrev pub decreases-loop-left : goal.decreases-loop-left
 decreases-loop-left l = l.left

@@ -1,4 +1,4 @@
-use Rattle.std.proofs.Common.{◌≡◌, ◌+◌, ◌≤◌, map, sum, IfSome, ℕ, refl, subst, arith}
+use Rattle.std.proofs.Common.{◌≡◌, ◌+◌, ◌≤◌, map, sum, IfSome, refl, subst, arith}
 use Rattle.lx_regex.specs.Expr.{members_of, size_of, term_of}
 use Rattle.lx_exprs.specs.Defined.{meant_class}
 use Rattle.lx_exprs.specs.Meanings.{in_choice}
@@ -21,7 +21,7 @@ returns-then-not-is_built-clause-stands c left right around first second is is' 
 pub returns-clause-stands : goal.returns-clause-stands
 returns-clause-stands c left right around first second is is' off off' =
     choice_more first second c.in-Some.members.items c.push.new.self.items c.in-Some-into_expr.expr c.in_ok-push.ensures.items
-    (subst (λ o. IfSome o (λ members. (tags : ℕ) → map (term_of tags) members.items ≡ in_choice first.shape)) c.in-Some.is (c.in_ok-members.ensures.built left first is)) (c.in-Some-into_expr.ensures.built right second is')
+    (subst (λ o. IfSome o (λ members. map (term_of 0) members.items ≡ in_choice first.shape)) c.in-Some.is (c.in_ok-members.ensures.built left first is)) (c.in-Some-into_expr.ensures.built right second is')
 
 pub returns-clause-choice : goal.returns-clause-choice
 returns-clause-choice c choice =

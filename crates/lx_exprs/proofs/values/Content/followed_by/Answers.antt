@@ -1,4 +1,4 @@
-use Rattle.std.proofs.Common.{◌≡◌, ℕ, IfSome, map, subst}
+use Rattle.std.proofs.Common.{◌≡◌, IfSome, map, subst}
 use Rattle.lx_regex.specs.Expr.{members_of, term_of}
 use Rattle.lx_exprs.specs.Meanings.{in_row}
 use Rattle.lx_exprs.specs.Values.{HaveTagsBelow}
@@ -8,8 +8,8 @@ use Rattle.lx_exprs.proofs.values.Content.followed_by.Goals as goal
 pub returns-clause-stands : goal.returns-clause-stands
 returns-clause-stands c front back around first second is is' off off' =
     row_more first second c.in-Some.front.items c.in-Some-back.back.items c.in_ok-joined.field-0.items c.in_ok-joined.ensures
-    (subst (λ o. IfSome o (λ members. (tags : ℕ) → map (term_of tags) members.items ≡ in_row first.shape)) c.in-Some.is (c.in_ok-front.ensures.built front first is))
-    (subst (λ o. IfSome o (λ members. (tags : ℕ) → map (term_of tags) members.items ≡ in_row second.shape)) c.in-Some-back.is (c.in_ok-back.ensures.built back second is'))
+    (subst (λ o. IfSome o (λ members. map (term_of 0) members.items ≡ in_row first.shape)) c.in-Some.is (c.in_ok-front.ensures.built front first is))
+    (subst (λ o. IfSome o (λ members. map (term_of 0) members.items ≡ in_row second.shape)) c.in-Some-back.is (c.in_ok-back.ensures.built back second is'))
 
 pub returns-clause-tags : goal.returns-clause-tags
 returns-clause-tags c bound left right =

@@ -4,8 +4,8 @@ use Rattle.lx_exprs.proofs.values.Value.into_kept.Goals as goal
 
 pub returns-in_default : goal.returns-in_default
 returns-in_default c = record {
-  term = λ tags meaning is.
-      term_kept (is_built whole_room meaning) meaning c.args.self.content c.into_expr.result tags is.past
+  term = λ meaning is.
+      term_kept (is_built whole_room meaning) meaning c.args.self.content c.into_expr.result is.past
       (not_past c.args.self.content (λ set alternatives same. c.in_default.not-Past set alternatives same)) c.into_expr.ensures.past
       (c.into_expr.ensures.built (is_built whole_room meaning) meaning is.content);
   kept = λ count is.

@@ -39,7 +39,7 @@ returns-clause-taken c = λ state holds.
       size = counted.size_is;
       nesting = counted.nesting_is;
       tags = read.stands.tags;
-      term = c.in_ok-into_kept.ensures.term 0 read.meaning read.stands.value;
+      term = c.in_ok-into_kept.ensures.term read.meaning read.stands.value;
     } in
     define_taken c.args.block.options.now lexemes c.args.self.now state holds c.args.name c.args.from c.args.until _ given reading none read defined
     (subst (λ (l : Lexeme). definitions_view c.add.new.self ≡ definitions_view c.args.self.now.env.definitions ++ definition_view l.text given ∷ []) c.at-name.ensures c.in_ok-add.ensures.added)

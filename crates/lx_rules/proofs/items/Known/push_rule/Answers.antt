@@ -2,6 +2,8 @@ use Rattle.std.proofs.Common.{◌≡◌, ◌≤◌, ◌∙◌, ◌++◌, false, 
 use Rattle.lx_regex.specs.Expr.{size_of}
 use Rattle.lx_regex.specs.Pattern.{Pattern}
 use Rattle.lx_regex.specs.declared.rules.Kind.TheVariants as kind
+use Rattle.lx_exprs.specs.Meanings.{behind}
+use Rattle.lx_exprs.proofs.Contents.TermsBehind.{term_of-behind}
 use Rattle.lx_rules.specs.Keeping.{room_behind}
 use Rattle.lx_rules.proofs.RuleSteps.{adds_built}
 use Rattle.lx_rules.proofs.items.Known.push_rule.Goals as goal
@@ -22,10 +24,11 @@ returns-clause-rules c =
     c.names-in-Some.ensures ∙ c.in_ok-copy_to-in-Some.ensures ∙ ap (λ names. names ++ reading.tags) c.new-names.ensures in
     let size : size_of c.simple_rule.result.expr ≤ reading.value.size =
     subst (λ e. size_of e ≤ reading.value.size) (sym c.simple_rule.ensures.expr) kept.1 in
+    let count : length tags.tags ≡ length reading.tags = tags.ensures.count ∙ ap length named in
     adds_built room c.args.number reading known.rules.items c.push.new.self.items c.simple_rule.result c.in_ok-push-in-Some.ensures.items
     (ap (λ (p : Pattern). p.number) c.simple_rule.ensures.pattern) size
     (c.simple_rule.ensures.names ∙ tags.ensures.names ∙ named)
     (λ meaning is.
     c.simple_rule.ensures.pattern
     ∙ ap₂ (λ term many. record { number = c.args.number; kind = kind.Plain; term = term; many = many; slash = None; groups = 0 })
-    (c.in-Some.ensures.built room meaning is.value (length tags.tags)) (tags.ensures.many ∙ ap (map (λ name. false)) named))
+    (term_of-behind c.in-Some.expr (length tags.tags) ∙ ap₂ behind count (c.in-Some.ensures.built room meaning is.value)) (tags.ensures.many ∙ ap (map (λ name. false)) named))

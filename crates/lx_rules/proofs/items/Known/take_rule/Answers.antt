@@ -2,7 +2,8 @@ use Rattle.std.proofs.Common.{◌≡◌, ◌∙◌, ◌+◌, suc, ap, sym, subst
 use Rattle.lx_parse.specs.declared.items.Item.TheVariants as item
 use Rattle.std.proofs.lemmas.List.{length-map}
 use Rattle.lx_forms.specs.Lexemes.{Lexeme, nth_lexeme}
-use Rattle.lx_rules.specs.Items.{RuleOf, act_of}
+use Rattle.lx_rules.specs.Items.{act_of}
+use Rattle.lx_rules.specs.Rules.{RuleOf}
 use Rattle.lx_rules.specs.Keeping.{IsNew, IsTaken}
 use Rattle.lx_forms.specs.Seen.{lexemes_view}
 use Rattle.lx_rules.proofs.RuleItems.{taken, taken_new, rule_taken}

@@ -1,0 +1,76 @@
+//! How many registers and histories a piece has.
+ghost use Rattle.std.specs.Prelude.{◌≡◌, max};
+ghost use Rattle.lx_ccode.specs.Counts.{greatest_of, history_in, mregs_of, register_in, regs_of};
+ghost use Rattle.lx_ccode.specs.Statements.{all_statements};
+
+use crate::piece::{CodeBlock, Stmt};
+
+/// The greatest number of a register that the statement names, or 0.
+fn register_in(statement: &Stmt) -> u32
+    ensures { result ≡ register_in statement.now }
+{
+    match statement {
+        Stmt::Set(register)
+        | Stmt::Unset(register)
+        | Stmt::Tag(_, false, register)
+        | Stmt::End(_, register)
+        | Stmt::Back(register) => *register,
+        Stmt::Copy(register, source) => (*register).max(*source),
+        _ => 0,
+    }
+}
+
+/// One more than the greatest number of a history that the statement names, or 0.
+fn history_in(statement: &Stmt) -> u64
+    ensures { result ≡ history_in statement.now }
+{
+    match statement {
+        Stmt::MSet(history) | Stmt::MUnset(history) | Stmt::Tag(_, true, history) => {
+            u64::from(*history) + 1
+        }
+        Stmt::MCopy(history, source) => u64::from((*history).max(*source)) + 1,
+        _ => 0,
+    }
+}
+
+fn greatest_register(statements: &[Stmt]) -> u32
+    ensures { result ≡ greatest_of register_in statements.now }
+{
+    let mut greatest = 0;
+    for statement in statements {
+        greatest = register_in(statement).max(greatest);
+    }
+    greatest
+}
+
+fn greatest_history(statements: &[Stmt]) -> u64
+    ensures { result ≡ greatest_of history_in statements.now }
+{
+    let mut greatest = 0;
+    for statement in statements {
+        greatest = history_in(statement).max(greatest);
+    }
+    greatest
+}
+
+/// The greatest number of a register in the blocks, or 0.
+pub fn regs_of(blocks: &[CodeBlock]) -> u32
+    ensures { result ≡ regs_of blocks.now }
+{
+    let mut greatest = 0;
+    for block in blocks {
+        greatest = greatest_register(block.stmts.as_slice()).max(greatest);
+    }
+    greatest
+}
+
+/// One more than the greatest number of a history in the blocks, or 0.
+pub fn mregs_of(blocks: &[CodeBlock]) -> u64
+    ensures { result ≡ mregs_of blocks.now }
+{
+    let mut greatest = 0;
+    for block in blocks {
+        greatest = greatest_history(block.stmts.as_slice()).max(greatest);
+    }
+    greatest
+}
