@@ -21,8 +21,9 @@ use Rattle.lx_regex.specs.Pattern.{Pattern}
 use Rattle.lx_regex.specs.declared.rules.Kind.{Kind}
 use Rattle.lx_regex.specs.declared.rules.Kind.TheVariants as kind
 use Rattle.lx_regex.specs.declared.rules.Rule.{Rule}
-use Rattle.lx_rules.specs.Blocks.{AreScanners, ClashCheck, IsScanner, NoClash, Resolves, ScannerChecks, conditions_of, given_names, lonely_fault, pattern_of, scanners_fault, targets_fault}
-use Rattle.lx_exprs.specs.Checks.{Check, Finds, Then}
+use Rattle.lx_regex.specs.declared.rules.Tag.{Tag}
+use Rattle.lx_rules.specs.Blocks.{AreScanners, ClashCheck, IsScanner, NoClash, Resolves, ScannerChecks, conditions_of, given_names, lonely_fault, names_of, pattern_of, scanners_fault, targets_fault}
+use Rattle.lx_exprs.specs.Checks.{Check, Finds, Then, tag_names}
 use Rattle.lx_exprs.specs.Defined.{Definition, Meaning}
 use Rattle.lx_rules.specs.Environments.{Environment, config_of}
 use Rattle.lx_rules.specs.Items.{Goes, HeadChecks, HeadSort, IsAfter, IsHead, ItemChecks, ListChecks, State, TargetChecks, act_of, any, conds_of, end, ends, expression, head_sort, next, refused}
@@ -112,19 +113,25 @@ MayStand-of names slash number [] are = tt
 MayStand-of names slash number (tag ∷ tags) are =
     (OnFalse_from (is_slash slash number) (IsTagName names tag) (λ _. are.0), MayStand-of names slash (suc number) tags are.1)
 
+-- the names of tags that may have them
+names_may : (names : Spellings) (tags : List Tag) → AllByRecursion (λ (tag : Tag). IsTagName names tag.name) tags
+    → AllByRecursion (IsTagName names) (tag_names tags)
+names_may names [] are = tt
+names_may names (tag ∷ tags) are = (are.0, names_may names tags are.1)
+
 AreNamed-of : (names : Spellings) (texts : List (List ℕ)) (built : List Rule) (rules : List RuleOf)
-    → map given_names built ≡ map (λ (rule : RuleOf). rule.meaning.tags) rules
-    → AllByRecursion (λ (rule : RuleOf). AllByRecursion (IsTagName names) rule.meaning.tags) rules
+    → map given_names built ≡ map names_of rules
+    → AllByRecursion (λ (rule : RuleOf). AllByRecursion (λ (tag : Tag). IsTagName names tag.name) rule.meaning.tags) rules
     → AllByRecursion (λ (rule : Rule). (0 < rule.number) × (rule.number ≤ length texts)) built → AreNamed names texts built
 AreNamed-of names texts [] rules same are numbers = tt
 AreNamed-of names texts (one ∷ built) [] same are numbers = absurd (let h = same in cc)
 AreNamed-of names texts (one ∷ built) (rule ∷ rules) same are numbers =
-    let first : given_names one ≡ rule.meaning.tags = let h = same in cc in
-    let rest : map given_names built ≡ map (λ (rule : RuleOf). rule.meaning.tags) rules = let h = same in cc in (
+    let first : given_names one ≡ names_of rule = let h = same in cc in
+    let rest : map given_names built ≡ map names_of rules = let h = same in cc in (
       (
         numbers.0.0,
         numbers.0.1,
-        MayStand-of names one.slash 0 (given_names one) (subst (λ l. AllByRecursion (IsTagName names) l) (sym first) are.0),
+        MayStand-of names one.slash 0 (given_names one) (subst (λ l. AllByRecursion (IsTagName names) l) (sym first) (names_may names rule.meaning.tags are.0)),
       ),
       AreNamed-of names texts built rules rest are.1 numbers.1,
     )
@@ -153,13 +160,13 @@ module _ (enc : Enc) (custom : Bool) (at : Pos) (state : State) (usual : AreUsua
   emitted scanner is fit within =
       let tags = (subst (λ (words : Spellings). NoClash custom words state.rules) usually (no_clash custom at state checked)).1 in
       let same = is.patterns ∙ ap (map pattern_of) (rules_of-usual state.rules usual) in
-      let names = is.names ∙ ap (map (λ (rule : RuleOf). rule.meaning.tags)) (rules_of-usual state.rules usual) in
+      let names = is.names ∙ ap (map names_of) (rules_of-usual state.rules usual) in
       let numbers = recursion_from_All (λ (rule : Rule). (0 < rule.number) × (rule.number ≤ length acts)) scanner.set.rules fit.numbers in record {
         within = within;
         simple = AreSimple-of scanner.set.rules (in_order state.rules) same (all_in_order IsUsual state.rules usual);
         named =
             AreNamed-of usual_names (actions_of acts) scanner.set.rules (in_order state.rules) names
-            (all_in_order (λ (rule : RuleOf). AllByRecursion (IsTagName usual_names) rule.meaning.tags) state.rules tags)
+            (all_in_order (λ (rule : RuleOf). AllByRecursion (λ (tag : Tag). IsTagName usual_names tag.name) rule.meaning.tags) state.rules tags)
             (subst (λ n. AllByRecursion (λ (rule : Rule). (0 < rule.number) × (rule.number ≤ n)) scanner.set.rules)
             (sym (length-actions_of acts)) numbers);
       }

@@ -7,5 +7,6 @@ pub mod FormFits
 pub mod FormRuns
 pub mod FormVerdicts
 pub mod MeaningFits
+pub mod NoGroups
 pub mod OneCheck
 pub mod StepOrder

@@ -1,5 +1,5 @@
 -- The checks of an expression, at its tokens from left to right.
-use Rattle.std.specs.Prelude.{◌≡◌, ◌≢◌, ℕ, ◌+◌, ◌-◌, ◌⊎◌, Bool, true, false, List, [], ◌∷◌, ◌++◌, length, map, drop, nat_lt, ◌==◌, ◌&&◌, ◌||◌, Option, Some, None, is_some, if◌then◌else◌}
+use Rattle.std.specs.Prelude.{◌≡◌, ◌≢◌, ℕ, suc, ◌+◌, ◌-◌, ◌⊎◌, Bool, true, false, List, [], ◌∷◌, ◌++◌, length, map, drop, nat_lt, ◌==◌, ◌&&◌, ◌||◌, Option, Some, None, is_some, not, if◌then◌else◌}
 use Rattle.std.specs.Option.{option_and_then}
 use Rattle.std.specs.Str.{bytes_eq}
 use Rattle.lx_base.specs.declared.limits.TheConstants.{BOUND_LIMIT}
@@ -25,7 +25,8 @@ use Rattle.lx_encode.specs.Policy.{IsAfter, IsPoint}
 use Rattle.lx_forms.specs.Lexemes.{Lexeme, points_in, sort_at}
 use Rattle.lx_exprs.specs.Points.{singles, points_fault}
 use Rattle.lx_regex.specs.Term.{IsInRanges}
-use Rattle.lx_exprs.specs.Defined.{Definition, class_in, definition_of}
+use Rattle.lx_regex.specs.declared.rules.Tag.{Tag}
+use Rattle.lx_exprs.specs.Defined.{Definition, class_in, definition_of, kept}
 use Rattle.lx_forms.specs.Forms.{Form, leaf, group, repeated, sequence, difference, alternative}
 
 -- a check says which fault is found, or none
@@ -63,14 +64,25 @@ both_cases (point ∷ points) =
     if is_within 65 90 point then point ∷ (point + 32) ∷ both_cases points
     else (if is_within 97 122 point then point ∷ (point - 32) ∷ both_cases points else point ∷ both_cases points)
 
--- a tag that stands among those before it
+-- a name that is one of these
 abbrev pub is_among : (name : List ℕ) → List (List ℕ) → Bool
 is_among name [] = false
 is_among name (other ∷ others) = bytes_eq name other || is_among name others
 
-abbrev pub repeated_tag : Pos → (tags seen : List (List ℕ)) → Option Fault
+-- the names of tags
+abbrev pub tag_names : List Tag → List (List ℕ)
+tag_names tags = map (λ (tag : Tag). tag.name) tags
+
+-- the name of one of the tags
+abbrev pub is_tag_among : (name : List ℕ) → List Tag → Bool
+is_tag_among name [] = false
+is_tag_among name (tag ∷ tags) = bytes_eq name tag.name || is_tag_among name tags
+
+-- a tag whose name one before it has
+abbrev pub repeated_tag : Pos → (tags seen : List Tag) → Option Fault
 repeated_tag at [] seen = None
-repeated_tag at (tag ∷ tags) seen = if is_among tag seen then Some (DuplicateTag at tag) else repeated_tag at tags seen
+repeated_tag at (tag ∷ tags) seen =
+    if is_tag_among tag.name seen then Some (DuplicateTag at tag.name) else repeated_tag at tags seen
 
 -- bounds in the wrong order, or with a number over 4,096
 abbrev pub is_wrong : (least : ℕ) → (greatest : Option ℕ) → Bool
@@ -94,6 +106,10 @@ bounds_fault sign =
 -- the tag's name, behind its mark
 abbrev pub tag_name : Lexeme → List ℕ
 tag_name lexeme = drop 1 lexeme.text
+
+-- the tag of a token: `#` marks one that has all its values
+abbrev pub tag_of : (many : Bool) → Lexeme → Tag
+tag_of many lexeme = record { name = tag_name lexeme; many = many }
 
 -- the point is one of a class
 abbrev pub IsIn : Option (List (ℕ × ℕ)) → ℕ → Type 0
@@ -171,17 +187,17 @@ module _ (options : Options) (definitions : List Definition) where
   AreClasses left right sign = Finds (if is_class left && is_class right then None else Some (NotClass sign.at))
 
   -- the tags of a form, in order; those of a name are its definition's
-  abbrev pub defined_tags : Option Definition → List (List ℕ)
+  abbrev pub defined_tags : Option Definition → List Tag
   defined_tags None = []
   defined_tags (Some definition) = definition.tags
 
-  abbrev pub leaf_tags : TokenKind → Lexeme → List (List ℕ)
+  abbrev pub leaf_tags : TokenKind → Lexeme → List Tag
   leaf_tags kind.Name lexeme = defined_tags (definition_of definitions lexeme.text)
-  leaf_tags kind.STag lexeme = tag_name lexeme ∷ []
-  leaf_tags kind.MTag lexeme = tag_name lexeme ∷ []
+  leaf_tags kind.STag lexeme = tag_of false lexeme ∷ []
+  leaf_tags kind.MTag lexeme = tag_of true lexeme ∷ []
   leaf_tags kind lexeme = []
 
-  abbrev pub tags_of : Form → List (List ℕ)
+  abbrev pub tags_of : Form → List Tag
   tags_of (leaf lexeme) = leaf_tags lexeme.kind lexeme
   tags_of (group opening inner) = tags_of inner
   tags_of (repeated inner sign) = tags_of inner
@@ -189,31 +205,53 @@ module _ (options : Options) (definitions : List Definition) where
   tags_of (difference left sign right) = tags_of left ++ tags_of right
   tags_of (alternative left sign right) = tags_of left ++ tags_of right
 
+  -- how many groups a form has; those of a name are its definition's
+  abbrev pub defined_groups : Option Definition → ℕ
+  defined_groups None = 0
+  defined_groups (Some definition) = definition.groups
+
+  abbrev pub leaf_groups : TokenKind → Lexeme → ℕ
+  leaf_groups kind.Name lexeme = defined_groups (definition_of definitions lexeme.text)
+  leaf_groups kind lexeme = 0
+
+  abbrev pub groups_of : Form → ℕ
+  groups_of (leaf lexeme) = leaf_groups lexeme.kind lexeme
+  groups_of (group opening inner) = if are_groups then kept (suc (groups_of inner)) else groups_of inner
+  groups_of (repeated inner sign) = groups_of inner
+  groups_of (sequence front back) = kept (groups_of front + groups_of back)
+  groups_of (difference left sign right) = kept (groups_of left + groups_of right)
+  groups_of (alternative left sign right) = kept (groups_of left + groups_of right)
+
   -- the name is defined, and its definition has no tag that was seen before
-  abbrev pub name_fault : Option Definition → Lexeme → (seen : List (List ℕ)) → Option Fault
+  abbrev pub name_fault : Option Definition → Lexeme → (seen : List Tag) → Option Fault
   name_fault None lexeme seen = Some (UnknownName lexeme.at lexeme.text)
   name_fault (Some definition) lexeme seen = repeated_tag lexeme.at definition.tags seen
 
   -- tags are allowed, and the tag was not seen before
-  abbrev pub tag_fault : Lexeme → (seen : List (List ℕ)) → Option Fault
-  tag_fault lexeme seen = if options.tags then repeated_tag lexeme.at (tag_name lexeme ∷ []) seen else Some (TagsOff lexeme.at)
+  abbrev pub tag_fault : (many : Bool) → Lexeme → (seen : List Tag) → Option Fault
+  tag_fault many lexeme seen =
+      if options.tags then repeated_tag lexeme.at (tag_of many lexeme ∷ []) seen else Some (TagsOff lexeme.at)
 
   -- the checks at a token of an expression that is no sign between other forms
-  abbrev pub LeafChecks : TokenKind → (is_operand : Bool) → (seen : List (List ℕ)) → Lexeme → Check
+  abbrev pub LeafChecks : TokenKind → (is_operand : Bool) → (seen : List Tag) → Lexeme → Check
   LeafChecks kind.Str is_operand seen lexeme = PointsAre lexeme (singles (points_in lexeme))
   LeafChecks kind.Name is_operand seen lexeme = Finds (name_fault (definition_of definitions lexeme.text) lexeme seen)
-  LeafChecks kind.STag is_operand seen lexeme = Finds (tag_fault lexeme seen)
-  LeafChecks kind.MTag is_operand seen lexeme = Then (Finds (unsupported lexeme)) (Finds (tag_fault lexeme seen))
+  LeafChecks kind.STag is_operand seen lexeme = Finds (tag_fault false lexeme seen)
+  LeafChecks kind.MTag is_operand seen lexeme = Then (Finds (unsupported lexeme)) (Finds (tag_fault true lexeme seen))
   LeafChecks kind.IStr is_operand seen lexeme = PointsAre lexeme (singles (points_in lexeme))
   LeafChecks kind.Class is_operand seen lexeme =
       Then (PointsAre lexeme (class_ranges lexeme)) (IsFilled options.empty is_operand lexeme.at (LeafHas kind.Class lexeme))
   LeafChecks kind.Signs is_operand seen lexeme = Finds None
   LeafChecks kind is_operand seen lexeme = Finds (unsupported lexeme)
 
+  -- parentheses around an operand of a difference are one, where they are no group
+  abbrev pub inner_operand : (is_operand : Bool) → Bool
+  inner_operand is_operand = is_operand && not are_groups
+
   -- the checks of an expression, behind tags that were seen before
-  abbrev pub Checks : (is_operand : Bool) → (seen : List (List ℕ)) → Form → Check
+  abbrev pub Checks : (is_operand : Bool) → (seen : List Tag) → Form → Check
   Checks is_operand seen (leaf lexeme) = LeafChecks lexeme.kind is_operand seen lexeme
-  Checks is_operand seen (group opening inner) = Then (Finds (group_fault opening)) (Checks is_operand seen inner)
+  Checks is_operand seen (group opening inner) = Then (Finds (group_fault opening)) (Checks (inner_operand is_operand) seen inner)
   Checks is_operand seen (repeated inner sign) = Then (Checks false seen inner) (Finds (bounds_fault sign))
   Checks is_operand seen (sequence front back) = Then (Checks false seen front) (Checks false (seen ++ tags_of front) back)
   Checks is_operand seen (difference left sign right) =

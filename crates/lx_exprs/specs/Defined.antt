@@ -1,5 +1,5 @@
 -- Definitions, and what the expressions behind them mean.
-use Rattle.std.specs.Prelude.{◌≡◌, ℕ, ◌^◌, ◌↔◌, Bool, true, false, List, [], ◌∷◌, ◌++◌, min, nat_le, ◌&&◌, Option, Some, None, if◌then◌else◌}
+use Rattle.std.specs.Prelude.{◌≡◌, ℕ, ◌+◌, ◌*◌, ◌^◌, ◌↔◌, Bool, true, false, List, [], ◌∷◌, ◌++◌, length, min, nat_le, ◌&&◌, Option, Some, None, if◌then◌else◌}
 use Rattle.std.specs.Str.{bytes_eq}
 use Rattle.lx_base.specs.declared.limits.TheConstants.{NESTING_LIMIT, SIZE_LIMIT, TAG_LIMIT}
 use Rattle.lx_base.specs.declared.places.Pos.{Pos}
@@ -7,6 +7,7 @@ use Rattle.lx_class.specs.Ranges.{InRanges, IsCanonical}
 use Rattle.lx_class.specs.declared.ranges.Range.{Range}
 use Rattle.lx_regex.specs.Term.{Term, Terms, IsInRanges, empty, class, any_unit, cat, alt, repeat, tag, group, nil, cons}
 use Rattle.lx_regex.specs.Expr.{members_of, ranges_of}
+use Rattle.lx_regex.specs.declared.rules.Tag.{Tag}
 use Rattle.lx_exprs.specs.declared.values.Room.{Room}
 
 -- What stands in an expression: one term, terms one behind another, or terms of which one is chosen.
@@ -21,21 +22,40 @@ whole (one term) = term
 whole (row terms) = cat (members_of terms)
 whole (choice terms) = alt (members_of terms)
 
--- What an expression means: what stands in it, its size and nesting, the names of its tags, in order, and how many tags its
--- item has up to its end.
+-- What an expression means: what stands in it, where group k has the ends 2 k and 2 k + 1, its size and nesting, its tags, in
+-- order, how many groups it has, and how many tags its item has up to its end, two for each group. Of groups, 2^40 stands for
+-- itself and for more.
 pub record Meaning : Type 0 where
   pub shape : Shape
   pub size : ℕ
   pub nesting : ℕ
-  pub tags : List (List ℕ)
+  pub tags : List Tag
+  pub groups : ℕ
   pub count : ℕ
 
 abbrev pub term_of_meaning : Meaning → Term
 term_of_meaning meaning = whole meaning.shape
 
--- what is kept of a size or a nesting: 2^40 stands for itself and for more
+-- what is kept of a size, a nesting or a number of groups: 2^40 stands for itself and for more
 abbrev pub kept : ℕ → ℕ
 kept number = min (2 ^ 40) number
+
+-- what stands in an item before an expression: its tags, in order, and how many groups
+pub record Before : Type 0 where
+  pub tags : List Tag
+  pub groups : ℕ
+
+-- nothing stands before it
+abbrev pub nothing : Before
+nothing = record { tags = []; groups = 0 }
+
+-- these tags and so many groups more
+abbrev pub and_more : Before → List Tag → (groups : ℕ) → Before
+and_more before tags groups = record { tags = before.tags ++ tags; groups = kept (before.groups + groups) }
+
+-- how many tags these are, two for each group
+abbrev pub count_of : Before → ℕ
+count_of before = length before.tags + 2 * kept before.groups
 
 -- an expression is built within a room for its size and the tags of its item, if its nesting is within the limit of 256
 abbrev pub fits : Room → (size nesting count : ℕ) → Bool
@@ -97,7 +117,8 @@ pub record Definition : Type 0 where
   pub at : Pos
   pub size : ℕ
   pub nesting : ℕ
-  pub tags : List (List ℕ)
+  pub tags : List Tag
+  pub groups : ℕ
   pub term : Option Term
 
 -- what is kept of an expression with a name
@@ -107,6 +128,7 @@ pub record IsDefined (name : List ℕ) (at : Pos) (meaning : Meaning) (definitio
   pub size : definition.size ≡ kept meaning.size
   pub nesting : definition.nesting ≡ kept meaning.nesting
   pub tags : definition.tags ≡ meaning.tags
+  pub groups : definition.groups ≡ meaning.groups
   pub term : IsTermKept (is_built whole_room meaning) meaning definition.term
 
 -- the definition of a name

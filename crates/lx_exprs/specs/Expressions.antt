@@ -2,7 +2,7 @@
 use Rattle.std.specs.Prelude.{◌≡◌, ℕ, suc, length, false, List, [], drop, None}
 use Rattle.lx_base.specs.declared.settings.Options.{Options}
 use Rattle.lx_forms.specs.Lexemes.{Lexeme, nth_lexeme}
-use Rattle.lx_exprs.specs.Defined.{Definition, Meaning}
+use Rattle.lx_exprs.specs.Defined.{Definition, Meaning, nothing}
 use Rattle.lx_exprs.specs.Checks.{Checks}
 use Rattle.lx_forms.specs.Forms.{Form}
 use Rattle.lx_exprs.specs.Meanings.{IsMeaning}
@@ -30,10 +30,11 @@ module _ (options : Options) (lexemes : List Lexeme) where
       × Then (Checks options definitions false [] form)
       (Then (Finds (unsupported (nth_lexeme lexemes slash))) (Checks options definitions false (tags_of options definitions form) behind)) fault
 
--- what is read stands for a meaning, whose item has no tags but its own
+-- what is read stands for a meaning, whose item has no tags but its own, and no groups, which are not supported yet
 pub record IsReadAs (room : Room) (meaning : Meaning) (reading : Reading) : Type 0 where
   pub value : IsValue room meaning reading.value
   pub tags : reading.tags ≡ meaning.tags
+  pub groups : meaning.groups ≡ 0
   pub count : meaning.count ≡ length meaning.tags
 
 -- an expression is read: its checks find nothing, and what is read stands for its meaning
@@ -42,5 +43,5 @@ pub record IsRead (options : Options) (lexemes : List Lexeme) (definitions : Lis
   pub stands_there : IsExpression options lexemes from until form
   pub checked : Checks options definitions false [] form None
   pub meaning : Meaning
-  pub means : IsMeaning options definitions false [] form meaning
+  pub means : IsMeaning options definitions false nothing form meaning
   pub stands : IsReadAs room meaning reading

@@ -1,4 +1,4 @@
--- What expressions mean, in the forms that are supported: all but m-tags and groups of captures.
+-- What expressions mean.
 use Rattle.std.specs.Prelude.{◌≡◌, ℕ, suc, ◌+◌, ◌-◌, ◌*◌, ◌↔◌, max, if◌then◌else◌, Bool, true, false, List, [], ◌∷◌, ◌++◌, length, map, Option, Some, None}
 use Rattle.lx_base.specs.Letters.{is_within}
 use Rattle.lx_base.specs.declared.settings.EmptyPolicy.{EmptyPolicy}
@@ -12,12 +12,13 @@ use Rattle.lx_token.specs.declared.kinds.TokenKind.TheVariants as kind
 use Rattle.lx_token.specs.declared.numbers.Repeat.{Repeat}
 use Rattle.lx_regex.specs.Term.{Term, Terms, empty, class, any_unit, cat, alt, repeat, tag, group, nil, cons}
 use Rattle.lx_regex.specs.Expr.{members_of, ranges_of, times}
+use Rattle.lx_regex.specs.declared.rules.Tag.{Tag}
 use Rattle.lx_forms.specs.Lexemes.{Lexeme, points_in}
 use Rattle.lx_exprs.specs.Points.{replaced, singles}
-use Rattle.lx_exprs.specs.Defined.{Definition, Meaning, Shape, one, row, choice, whole, definition_of}
+use Rattle.lx_exprs.specs.Defined.{Before, Definition, Meaning, Shape, one, row, choice, and_more, count_of, kept, whole, definition_of}
 use Rattle.lx_forms.specs.Forms as forms
 use Rattle.lx_forms.specs.Forms.{Form, leaf, repeated, sequence, difference, alternative}
-use Rattle.lx_exprs.specs.Checks.{HasPoint, LeafHas, bounds_of, tag_name, tags_of}
+use Rattle.lx_exprs.specs.Checks.{HasPoint, LeafHas, are_groups, bounds_of, groups_of, inner_operand, tag_of, tags_of}
 
 -- the sorted ranges of these points, and of no others
 pub record IsSetOf (Has : ℕ → Type 0) (set : List Range) : Type 0 where
@@ -34,10 +35,10 @@ class_term true policy set = set_term set
 class_term false MatchEmpty [] = empty
 class_term false policy set = set_term set
 
--- a class has the tags of its operands, where it is a difference: none, since these are classes
-abbrev pub class_meaning : (is_operand : Bool) → EmptyPolicy → (nesting : ℕ) → (tags : List (List ℕ)) → (count : ℕ) → List Range → Meaning
-class_meaning is_operand policy nesting tags count set =
-    record { shape = one (class_term is_operand policy set); size = 1; nesting = nesting; tags = tags; count = count }
+-- a class has the tags and groups of its operands, where it is a difference: none, since these are classes
+abbrev pub class_meaning : (is_operand : Bool) → EmptyPolicy → (nesting : ℕ) → (tags : List Tag) → (groups count : ℕ) → List Range → Meaning
+class_meaning is_operand policy nesting tags groups count set =
+    record { shape = one (class_term is_operand policy set); size = 1; nesting = nesting; tags = tags; groups = groups; count = count }
 
 -- the set of a character: its code point as the policy takes it, and an ASCII letter in both cases where these are one
 abbrev pub character_set : SurPolicy → (is_caseless : Bool) → ℕ → List Range
@@ -54,7 +55,7 @@ string_term (set ∷ next ∷ sets) = cat (members_of (map set_term (set ∷ nex
 
 abbrev pub string_meaning : (count : ℕ) → (sets : List (List Range)) → Meaning
 string_meaning count sets =
-    record { shape = one (string_term sets); size = max 1 (length sets); nesting = 0; tags = []; count = count }
+    record { shape = one (string_term sets); size = max 1 (length sets); nesting = 0; tags = []; groups = 0; count = count }
 
 -- the term of a definition; one that is past a limit is missed nowhere, since what it stands in is past that limit too
 abbrev pub term_or_empty : Option Term → Term
@@ -94,20 +95,21 @@ abbrev mutual
   all_behind tags nil = nil
   all_behind tags (cons member members) = cons (behind tags member) (all_behind tags members)
 
--- a copy of a definition behind so many tags
-abbrev pub copied : (by : ℕ) → Definition → Meaning
-copied by definition = record {
-  shape = one (shifted by 0 (term_or_empty definition.term));
+-- a copy of a definition
+abbrev pub copied : Before → Definition → Meaning
+copied before definition = record {
+  shape = one (shifted (length before.tags) before.groups (term_or_empty definition.term));
   size = definition.size;
   nesting = suc definition.nesting;
   tags = definition.tags;
-  count = by + length definition.tags;
+  groups = definition.groups;
+  count = count_of (and_more before definition.tags definition.groups);
 }
 
--- a tag behind so many others
-abbrev pub tag_meaning : (number : ℕ) → (name : List ℕ) → Meaning
-tag_meaning number name =
-    record { shape = one (tag number); size = 1; nesting = 0; tags = name ∷ []; count = suc number }
+-- a tag
+abbrev pub tag_meaning : Before → Tag → Meaning
+tag_meaning before named =
+    record { shape = one (tag (length before.tags)); size = 1; nesting = 0; tags = named ∷ []; groups = 0; count = suc (count_of before) }
 
 -- parentheses that are no group
 abbrev pub enclosed : Meaning → Meaning
@@ -116,8 +118,33 @@ enclosed inner = record {
   size = inner.size;
   nesting = suc inner.nesting;
   tags = inner.tags;
+  groups = inner.groups;
   count = inner.count;
 }
+
+-- what stands before the expression in a group: the group too, whose number is that of all groups up to it
+abbrev pub in_group : Before → Before
+in_group before = record { tags = before.tags; groups = kept (suc before.groups) }
+
+-- parentheses that are the group with a number
+abbrev pub grouped : (number : ℕ) → Meaning → Meaning
+grouped number inner = record {
+  shape = one (group (2 * number) (2 * number + 1) (whole inner.shape));
+  size = inner.size + 2;
+  nesting = suc inner.nesting;
+  tags = inner.tags;
+  groups = kept (suc inner.groups);
+  count = max inner.count (2 * number);
+}
+
+-- parentheses that are a group or none: what stands before the expression in them, and what they mean
+abbrev pub in_parentheses : (is_group : Bool) → Before → Before
+in_parentheses true before = in_group before
+in_parentheses false before = before
+
+abbrev pub parenthesized : (is_group : Bool) → Before → Meaning → Meaning
+parenthesized true before inner = grouped (in_group before).groups inner
+parenthesized false before inner = enclosed inner
 
 -- a repetition
 abbrev pub repeated_by : Repeat → Meaning → Meaning
@@ -126,6 +153,7 @@ repeated_by bounds inner = record {
   size = inner.size * times bounds.min bounds.max + 1;
   nesting = suc inner.nesting;
   tags = inner.tags;
+  groups = inner.groups;
   count = inner.count;
 }
 
@@ -141,6 +169,7 @@ followed front back = record {
   size = front.size + back.size;
   nesting = max front.nesting back.nesting;
   tags = front.tags ++ back.tags;
+  groups = kept (front.groups + back.groups);
   count = max front.count back.count;
 }
 
@@ -161,6 +190,7 @@ alternated left right = record {
   size = left.size + choice_size left.shape + right.size;
   nesting = max left.nesting right.nesting;
   tags = left.tags ++ right.tags;
+  groups = kept (left.groups + right.groups);
   count = max left.count right.count;
 }
 
@@ -171,38 +201,44 @@ module _ (options : Options) (definitions : List Definition) where
       string_meaning count (map (character_set options.surrogates is_caseless) (points_in lexeme))
 
   -- the meaning of a class of these points
-  abbrev pub IsClassMeaning : (is_operand : Bool) → (nesting : ℕ) → (tags : List (List ℕ)) → (count : ℕ) → (Has : ℕ → Type 0) → Meaning → Type 0
-  IsClassMeaning is_operand nesting tags count Has meaning =
-      (set : List Range) × IsSetOf Has set × (meaning ≡ class_meaning is_operand options.empty nesting tags count set)
+  abbrev pub IsClassMeaning : (is_operand : Bool) → (nesting : ℕ) → (tags : List Tag) → (groups count : ℕ) → (Has : ℕ → Type 0) → Meaning → Type 0
+  IsClassMeaning is_operand nesting tags groups count Has meaning =
+      (set : List Range) × IsSetOf Has set × (meaning ≡ class_meaning is_operand options.empty nesting tags groups count set)
 
-  -- the meaning of a token that is no sign between other forms, behind tags that were seen before
-  abbrev pub IsLeafMeaning : (is_operand : Bool) → TokenKind → (seen : List (List ℕ)) → Lexeme → Meaning → Type 0
-  IsLeafMeaning is_operand kind.Str seen lexeme meaning = meaning ≡ meaning_of_string false (length seen) lexeme
-  IsLeafMeaning is_operand kind.IStr seen lexeme meaning = meaning ≡ meaning_of_string true (length seen) lexeme
-  IsLeafMeaning is_operand kind.Class seen lexeme meaning =
-      IsClassMeaning is_operand 0 [] (length seen) (LeafHas options definitions kind.Class lexeme) meaning
-  IsLeafMeaning is_operand kind.Signs seen lexeme meaning =
-      IsClassMeaning is_operand 0 [] (length seen) (LeafHas options definitions kind.Signs lexeme) meaning
-  IsLeafMeaning is_operand kind.Name seen lexeme meaning =
-      (definition : Definition) × (definition_of definitions lexeme.text ≡ Some definition) × (meaning ≡ copied (length seen) definition)
-  IsLeafMeaning is_operand kind.STag seen lexeme meaning = meaning ≡ tag_meaning (length seen) (tag_name lexeme)
-  IsLeafMeaning is_operand kind seen lexeme meaning = ⊥
+  -- the meaning of a token that is no sign between other forms
+  abbrev pub IsLeafMeaning : (is_operand : Bool) → TokenKind → Before → Lexeme → Meaning → Type 0
+  IsLeafMeaning is_operand kind.Str before lexeme meaning = meaning ≡ meaning_of_string false (count_of before) lexeme
+  IsLeafMeaning is_operand kind.IStr before lexeme meaning = meaning ≡ meaning_of_string true (count_of before) lexeme
+  IsLeafMeaning is_operand kind.Class before lexeme meaning =
+      IsClassMeaning is_operand 0 [] 0 (count_of before) (LeafHas options definitions kind.Class lexeme) meaning
+  IsLeafMeaning is_operand kind.Signs before lexeme meaning =
+      IsClassMeaning is_operand 0 [] 0 (count_of before) (LeafHas options definitions kind.Signs lexeme) meaning
+  IsLeafMeaning is_operand kind.Name before lexeme meaning =
+      (definition : Definition) × (definition_of definitions lexeme.text ≡ Some definition) × (meaning ≡ copied before definition)
+  IsLeafMeaning is_operand kind.STag before lexeme meaning = meaning ≡ tag_meaning before (tag_of false lexeme)
+  IsLeafMeaning is_operand kind.MTag before lexeme meaning = meaning ≡ tag_meaning before (tag_of true lexeme)
+  IsLeafMeaning is_operand kind before lexeme meaning = ⊥
 
-  -- the meaning of an expression, behind tags that were seen before
-  abbrev pub IsMeaning : (is_operand : Bool) → (seen : List (List ℕ)) → Form → Meaning → Type 0
-  IsMeaning is_operand seen (leaf lexeme) meaning = IsLeafMeaning is_operand lexeme.kind seen lexeme meaning
-  IsMeaning is_operand seen (forms.group opening inner) meaning =
-      (body : Meaning) × IsMeaning is_operand seen inner body × (meaning ≡ enclosed body)
-  IsMeaning is_operand seen (repeated inner sign) meaning =
-      (body : Meaning) × IsMeaning false seen inner body × (meaning ≡ repeated_by (bounds_of sign) body)
-  IsMeaning is_operand seen (sequence front back) meaning =
-      (first second : Meaning) × IsMeaning false seen front first
-      × IsMeaning false (seen ++ tags_of options definitions front) back second × (meaning ≡ followed first second)
-  IsMeaning is_operand seen (difference left sign right) meaning =
-      (first second : Meaning) × IsMeaning true seen left first
-      × IsMeaning true (seen ++ tags_of options definitions left) right second
-      × IsClassMeaning is_operand (max first.nesting second.nesting) (first.tags ++ second.tags)
+  -- what stands before what is behind a form
+  abbrev pub past : Before → Form → Before
+  past before form = and_more before (tags_of options definitions form) (groups_of options definitions form)
+
+  -- the meaning of an expression
+  abbrev pub IsMeaning : (is_operand : Bool) → Before → Form → Meaning → Type 0
+  IsMeaning is_operand before (leaf lexeme) meaning = IsLeafMeaning is_operand lexeme.kind before lexeme meaning
+  IsMeaning is_operand before (forms.group opening inner) meaning =
+      (body : Meaning)
+      × IsMeaning (inner_operand options definitions is_operand) (in_parentheses (are_groups options definitions) before) inner body
+      × (meaning ≡ parenthesized (are_groups options definitions) before body)
+  IsMeaning is_operand before (repeated inner sign) meaning =
+      (body : Meaning) × IsMeaning false before inner body × (meaning ≡ repeated_by (bounds_of sign) body)
+  IsMeaning is_operand before (sequence front back) meaning =
+      (first second : Meaning) × IsMeaning false before front first × IsMeaning false (past before front) back second
+      × (meaning ≡ followed first second)
+  IsMeaning is_operand before (difference left sign right) meaning =
+      (first second : Meaning) × IsMeaning true before left first × IsMeaning true (past before left) right second
+      × IsClassMeaning is_operand (max first.nesting second.nesting) (first.tags ++ second.tags) (kept (first.groups + second.groups))
       (max first.count second.count) (HasPoint options definitions (difference left sign right)) meaning
-  IsMeaning is_operand seen (alternative left sign right) meaning =
-      (first second : Meaning) × IsMeaning is_operand seen left first
-      × IsMeaning is_operand (seen ++ tags_of options definitions left) right second × (meaning ≡ alternated first second)
+  IsMeaning is_operand before (alternative left sign right) meaning =
+      (first second : Meaning) × IsMeaning is_operand before left first × IsMeaning is_operand (past before left) right second
+      × (meaning ≡ alternated first second)

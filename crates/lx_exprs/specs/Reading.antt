@@ -1,5 +1,5 @@
 -- The reading of an expression, step by step.
-use Rattle.std.specs.Prelude.{◌≡◌, ◌≤◌, ℕ, suc, ◌-◌, max, Bool, List, [], ◌∷◌, ◌++◌, reverse, Some, None, Result, Ok, Err, MatchResult, ◌&&◌, is_some, if◌then◌else◌}
+use Rattle.std.specs.Prelude.{◌≡◌, ◌≤◌, ℕ, suc, ◌+◌, ◌-◌, max, true, false, Bool, List, [], ◌∷◌, ◌++◌, reverse, Some, None, Result, Ok, Err, MatchResult, ◌&&◌, is_some, if◌then◌else◌}
 use Rattle.lx_base.specs.declared.faults.Fault.{Fault}
 use Rattle.lx_base.specs.declared.faults.Fault.TheVariants.{NotClass}
 use Rattle.lx_base.specs.declared.faults.Stop.{Stop}
@@ -11,24 +11,31 @@ use Rattle.lx_exprs.specs.declared.expressions.Pairing.TheVariants.{Alternation,
 use Rattle.lx_exprs.specs.declared.values.Room.{Room}
 use Rattle.lx_exprs.specs.declared.values.Value.{Value}
 use Rattle.lx_forms.specs.Lexemes.{Lexeme}
-use Rattle.lx_exprs.specs.Defined.{Definition, Meaning, meant_class}
-use Rattle.lx_exprs.specs.Meanings.{IsClassMeaning, IsLeafMeaning, alternated, enclosed, followed, repeated_by}
-use Rattle.lx_exprs.specs.Checks.{Check, Then, Finds, IsFilled, IsIn, LeafChecks, StopsAt, bounds_fault, bounds_of, group_fault}
+use Rattle.lx_regex.specs.declared.rules.Tag.{Tag}
+use Rattle.lx_exprs.specs.Defined.{Before, Definition, Meaning, and_more, kept, meant_class, nothing}
+use Rattle.lx_exprs.specs.Meanings.{IsClassMeaning, IsLeafMeaning, alternated, enclosed, followed, grouped, in_group, repeated_by}
+use Rattle.lx_exprs.specs.Checks.{Check, Then, Finds, IsFilled, IsIn, LeafChecks, StopsAt, are_groups, bounds_fault, bounds_of, group_fault}
 use Rattle.lx_forms.specs.Steps.{Step, reads, opens, closes, repeats, joins, subtracts, chooses}
 use Rattle.lx_exprs.specs.Values.{IsBounded, IsValue}
 
--- what is read before a step: meanings that are not yet put together, the last one first, and all tags so far
+-- What is read before a step: meanings that are not yet put together, the last one first, all tags and groups so far, and how many
+-- groups there are before each one that is open, the innermost first.
 pub record Operands : Type 0 where
   pub meanings : List Meaning
-  pub seen : List (List ℕ)
+  pub seen : Before
+  pub open_groups : List ℕ
 
 -- nothing is read
 abbrev pub no_operands : Operands
-no_operands = record { meanings = []; seen = [] }
+no_operands = record { meanings = []; seen = nothing; open_groups = [] }
 
 -- one meaning more
 abbrev pub with_more : Operands → Meaning → Operands
-with_more operands meaning = record { meanings = meaning ∷ operands.meanings; seen = operands.seen ++ meaning.tags }
+with_more operands meaning = record {
+  meanings = meaning ∷ operands.meanings;
+  seen = and_more operands.seen meaning.tags meaning.groups;
+  open_groups = operands.open_groups;
+}
 
 -- something else in the place of the last meaning
 abbrev pub with_last : (Meaning → Meaning) → List Meaning → List Meaning
@@ -47,7 +54,29 @@ with_both put (last ∷ []) = last ∷ []
 with_both put (last ∷ other ∷ meanings) = put other last ∷ meanings
 
 abbrev pub in_place : Operands → List Meaning → Operands
-in_place operands meanings = record { meanings = meanings; seen = operands.seen }
+in_place operands meanings = record { meanings = meanings; seen = operands.seen; open_groups = operands.open_groups }
+
+-- in parentheses, which are a group or none
+abbrev pub opened : (is_group : Bool) → Operands → Operands
+opened false operands = operands
+opened true operands = record {
+  meanings = operands.meanings;
+  seen = in_group operands.seen;
+  open_groups = operands.seen.groups ∷ operands.open_groups;
+}
+
+-- behind parentheses
+abbrev pub closed : (is_group : Bool) → Operands → Operands
+closed false operands = in_place operands (with_last enclosed operands.meanings)
+closed true operands = by operands.open_groups
+  where
+    by : List ℕ → Operands
+    by [] = operands
+    by (number ∷ others) = record {
+      meanings = with_last (grouped (kept (suc number))) operands.meanings;
+      seen = operands.seen;
+      open_groups = others;
+    }
 
 module _ (options : Options) (definitions : List Definition) where
   -- the difference of two meanings: both are classes, and it has the points of the left one that the right one does not have
@@ -61,7 +90,7 @@ module _ (options : Options) (definitions : List Definition) where
 
   abbrev pub IsDifference : (is_operand : Bool) → (left right meaning : Meaning) → Type 0
   IsDifference is_operand left right meaning =
-      IsClassMeaning options definitions is_operand (max left.nesting right.nesting) (left.tags ++ right.tags) (max left.count right.count)
+      IsClassMeaning options definitions is_operand (max left.nesting right.nesting) (left.tags ++ right.tags) (kept (left.groups + right.groups)) (max left.count right.count)
       (DifferenceHas left right) meaning
 
   -- the checks of the difference of the last two meanings
@@ -79,7 +108,7 @@ module _ (options : Options) (definitions : List Definition) where
 
   -- the checks of a step
   abbrev pub StepChecks : Operands → Step → Check
-  StepChecks operands (reads is_operand lexeme) = LeafChecks options definitions lexeme.kind is_operand operands.seen lexeme
+  StepChecks operands (reads is_operand lexeme) = LeafChecks options definitions lexeme.kind is_operand operands.seen.tags lexeme
   StepChecks operands (opens opening) = Finds (group_fault options definitions opening)
   StepChecks operands (closes opening) = Finds None
   StepChecks operands (repeats sign) = Finds (bounds_fault sign)
@@ -92,8 +121,8 @@ module _ (options : Options) (definitions : List Definition) where
   IsStepped operands (reads is_operand lexeme) after =
       (meaning : Meaning) × IsLeafMeaning options definitions is_operand lexeme.kind operands.seen lexeme meaning
       × (after ≡ with_more operands meaning)
-  IsStepped operands (opens opening) after = after ≡ operands
-  IsStepped operands (closes opening) after = after ≡ in_place operands (with_last enclosed operands.meanings)
+  IsStepped operands (opens opening) after = after ≡ opened (are_groups options definitions) operands
+  IsStepped operands (closes opening) after = after ≡ closed (are_groups options definitions) operands
   IsStepped operands (repeats sign) after =
       after ≡ in_place operands (with_last (repeated_by (bounds_of sign)) operands.meanings)
   IsStepped operands joins after = after ≡ in_place operands (with_both followed operands.meanings)
@@ -146,14 +175,16 @@ AreValues room (meaning ∷ meanings) [] = ⊥
 AreValues room (meaning ∷ meanings) (value ∷ values) = IsValue room meaning value × AreValues room meanings values
 
 -- each value is bounded
-abbrev pub AreBounded : (count : ℕ) → List Value → Type 0
-AreBounded count [] = Unit {0}
-AreBounded count (value ∷ values) = IsBounded count value × AreBounded count values
+abbrev pub AreBounded : List Value → Type 0
+AreBounded [] = Unit {0}
+AreBounded (value ∷ values) = IsBounded value × AreBounded values
 
 -- what is held stands for what is read
 pub record AreOperands (room : Room) (operands : Operands) (held : Held) : Type 0 where
   pub values : AreValues room operands.meanings (reverse held.values.items)
-  pub seen : held.seen ≡ operands.seen
+  pub tags : held.seen ≡ operands.seen.tags
+  pub groups : held.groups ≡ operands.seen.groups
+  pub open_groups : reverse held.open_groups.items ≡ operands.open_groups
 
 -- a step is taken: its checks find nothing, and what is held stands for what is read behind it
 pub record IsStepTaken (options : Options) (definitions : List Definition) (room : Room) (operands : Operands) (step : Step) (held : Held) : Type 0 where
@@ -168,16 +199,16 @@ pub record AreTaken (options : Options) (definitions : List Definition) (room : 
   pub goes : Goes options definitions operands steps (Ok after)
   pub stands : AreOperands room after held
 
--- a token is read behind tags that were seen before
-pub record IsLeafRead (options : Options) (definitions : List Definition) (room : Room) (is_operand : Bool) (before : List (List ℕ)) (lexeme : Lexeme) (after : List (List ℕ)) (value : Value) : Type 0 where
-  pub checked : LeafChecks options definitions lexeme.kind is_operand before lexeme None
+-- a token is read behind others
+pub record IsLeafRead (options : Options) (definitions : List Definition) (room : Room) (is_operand : Bool) (before : Before) (lexeme : Lexeme) (after : List Tag) (value : Value) : Type 0 where
+  pub checked : LeafChecks options definitions lexeme.kind is_operand before.tags lexeme None
   pub meaning : Meaning
   pub means : IsLeafMeaning options definitions is_operand lexeme.kind before lexeme meaning
   pub stands : IsValue room meaning value
-  pub seen : after ≡ before ++ meaning.tags
+  pub seen : after ≡ before.tags ++ meaning.tags
 
 -- a call reads a token so, or stops with the first fault of its checks
-abbrev pub IsLeafResult : Options → List Definition → Room → (is_operand : Bool) → (before : List (List ℕ)) → Lexeme → (after : List (List ℕ)) → Result Value Stop → Type 0
+abbrev pub IsLeafResult : Options → List Definition → Room → (is_operand : Bool) → Before → Lexeme → (after : List Tag) → Result Value Stop → Type 0
 IsLeafResult options definitions room is_operand before lexeme after result =
     MatchResult result (IsLeafRead options definitions room is_operand before lexeme after)
-    (StopsAt (LeafChecks options definitions lexeme.kind is_operand before lexeme))
+    (StopsAt (LeafChecks options definitions lexeme.kind is_operand before.tags lexeme))

@@ -19,6 +19,7 @@ definition_view name kept = record {
   size = kept.size;
   nesting = kept.nesting;
   tags = kept.tags;
+  groups = kept.groups;
   term = option_map (term_of 0) kept.expr;
 }
 

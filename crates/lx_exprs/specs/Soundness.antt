@@ -1,15 +1,19 @@
 -- What holds of definitions that are kept, whatever they say.
-use Rattle.std.specs.Prelude.{ℕ, ◌≤◌, length, All, Option, Some, None}
+use Rattle.std.specs.Prelude.{◌≡◌, ℕ, ◌+◌, ◌*◌, ◌≤◌, length, All, Option, Some, None}
 use Rattle.lx_regex.specs.Expr.{size_of, term_of}
 use Rattle.lx_regex.specs.declared.expr.Expr.{Expr}
 use Rattle.lx_exprs.specs.declared.definitions.Definitions.{Definitions}
+use Rattle.lx_exprs.specs.declared.definitions.Kept.{Kept}
 use Rattle.lx_exprs.specs.Values.{HasTagsBelow}
 
--- an expression that is kept has at most the size that is kept of it, which is at least 1, and so many tags
+-- an expression that is kept has at most the size that is kept of it, which is at least 1, and so many tags, two for each group
 abbrev pub FitsKept : Option Expr → (size count : ℕ) → Type 0
 FitsKept None size count = 1 ≤ size
 FitsKept (Some expr) size count = (1 ≤ size) × (size_of expr ≤ size) × HasTagsBelow count (term_of 0 expr)
 
--- each definition has the size and the tags of its expression
+-- a definition has the size and the tags of its expression, and no groups, which are not supported yet
+abbrev pub IsSound : Kept → Type 0
+IsSound kept = FitsKept kept.expr kept.size (length kept.tags + 2 * kept.groups) × (kept.groups ≡ 0)
+
 abbrev pub DefinitionsFit : Definitions → Type 0
-DefinitionsFit definitions = All (λ entry. FitsKept entry.1.expr entry.1.size (length entry.1.tags)) definitions.by_name.entries
+DefinitionsFit definitions = All (λ entry. IsSound entry.1) definitions.by_name.entries

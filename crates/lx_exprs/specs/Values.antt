@@ -46,15 +46,16 @@ IsContent is_built meaning (content.Choice members) = meaning.shape ≡ choice (
 IsContent is_built meaning (content.Past set alternatives) =
     (is_built ≡ false) × HasPoints set (meant_class meaning) × (alternatives ≡ is_choice meaning.shape)
 
--- the size, the nesting and the number of tags of a meaning, as far as they are kept
-pub record IsCounted (meaning : Meaning) (size nesting tags : ℕ) : Type 0 where
+-- the size, the nesting and the numbers of groups and tags of a meaning, as far as they are kept
+pub record IsCounted (meaning : Meaning) (size nesting groups tags : ℕ) : Type 0 where
   pub size_is : size ≡ kept meaning.size
   pub nesting_is : nesting ≡ kept meaning.nesting
+  pub groups_is : groups ≡ meaning.groups
   pub tags_is : tags ≡ kept meaning.count
 
 -- what is read stands for a meaning
 pub record IsValue (room : Room) (meaning : Meaning) (value : Value) : Type 0 where
-  pub counted : IsCounted meaning value.size value.nesting value.tags
+  pub counted : IsCounted meaning value.size value.nesting value.groups value.tags
   pub content : IsContent (is_built room meaning) meaning value.content
   pub past : is_past value.content ≡ not (is_built room meaning)
 
@@ -92,8 +93,9 @@ AreTagsBelow bound (content.Row members) = HaveTagsBelow bound (members_of (map 
 AreTagsBelow bound (content.Choice members) = HaveTagsBelow bound (members_of (map (term_of 0) members.items))
 AreTagsBelow bound (content.Past set alternatives) = Unit {0}
 
--- what is read has at least the size of what is kept, and 1 at least, and its tags have lesser numbers than this
-pub record IsBounded (count : ℕ) (value : Value) : Type 0 where
+-- what is read has at least the size of what is kept, and 1 at least, and the tags of what is kept have lesser numbers than those
+-- that its item has up to its end
+pub record IsBounded (value : Value) : Type 0 where
   pub some : 1 ≤ value.size
   pub size : content_size value.content ≤ value.size
-  pub tags : AreTagsBelow count value.content
+  pub tags : AreTagsBelow value.tags value.content

@@ -1,5 +1,5 @@
 -- What definitions have so that scanners can be built from them.
-use Rattle.std.specs.Prelude.{◌≡◌, ℕ, ◌*◌, ◌≤◌, true, List, [], ◌∷◌, length, is_some}
+use Rattle.std.specs.Prelude.{◌≡◌, ℕ, ◌+◌, ◌*◌, ◌≤◌, true, List, [], ◌∷◌, length, is_some}
 use Rattle.std.specs.Option.{option_and_then}
 use Rattle.lx_base.specs.Spelling.{greatest_point}
 use Rattle.lx_base.specs.declared.settings.Enc.{Enc}
@@ -63,13 +63,14 @@ pub record IsNumbered (from count first groups : ℕ) (term : Term) : Type 0 whe
   pub tags : own_tags term ≡ numbers_from from count
   pub ends : ends_in term ≡ numbers_from (2 * first) (2 * groups)
 
--- A definition is ready for copies: its classes fit the encoding, a class has no tags, and within the limits of a scanner its
--- tags are numbered in order.
+-- A definition is ready for copies: its classes fit the encoding, a class has no tags and no groups, and within the limits of a
+-- scanner its tags and groups are numbered in order. Groups are not supported yet.
 pub record IsDefinedWithin (enc : Enc) (definition : Definition) : Type 0 where
   pub plain : IsPlain enc (term_or_empty definition.term)
-  pub untagged : is_some (option_and_then class_in definition.term) ≡ true → definition.tags ≡ []
-  pub numbered : fits whole_room definition.size definition.nesting (length definition.tags) ≡ true
-      → IsNumbered 0 (length definition.tags) 1 0 (term_or_empty definition.term)
+  pub untagged : is_some (option_and_then class_in definition.term) ≡ true → (definition.tags ≡ []) × (definition.groups ≡ 0)
+  pub ungrouped : definition.groups ≡ 0
+  pub numbered : fits whole_room definition.size definition.nesting (length definition.tags + 2 * definition.groups) ≡ true
+      → IsNumbered 0 (length definition.tags) 1 definition.groups (term_or_empty definition.term)
 
 abbrev pub AreDefinedWithin : Enc → List Definition → Type 0
 AreDefinedWithin enc [] = Unit {0}

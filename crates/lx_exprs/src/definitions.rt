@@ -1,9 +1,9 @@
 //! Definitions by name.
-ghost use Rattle.std.specs.Prelude.{◌≡◌, [], ◌∷◌, ◌++◌, None, Some, IfSome, OnOk, length};
+ghost use Rattle.std.specs.Prelude.{◌≡◌, [], ◌∷◌, ◌++◌, None, Some, IfSome, OnOk};
 ghost use Rattle.std.specs.Option.{option_map};
 ghost use Rattle.lx_exprs.specs.Defined.{definition_of};
 ghost use Rattle.lx_exprs.specs.Seen.{definition_view, definitions_view};
-ghost use Rattle.lx_exprs.specs.Soundness.{DefinitionsFit, FitsKept};
+ghost use Rattle.lx_exprs.specs.Soundness.{DefinitionsFit, IsSound};
 
 use crate::tags::SharedTags;
 use indexmap::IndexMap;
@@ -20,8 +20,10 @@ pub struct Kept {
     pub size: u64,
     /// Its nesting; 2^40 stands for itself and for more.
     pub nesting: u64,
-    /// The names of its tags, in order. They are shared with definitions that have these of it.
+    /// Its tags, in order. They are shared with definitions that have these of it.
     pub tags: SharedTags,
+    /// How many groups it has; 2^40 stands for itself and for more.
+    pub groups: u64,
     /// Its expression, where that is within the limits of a scanner, and else its class, if it is one.
     pub expr: Option<Expr>,
 }
@@ -45,7 +47,7 @@ impl Definitions {
     /// The definition of a name.
     pub fn get(&self, name: &[u8]) -> Option<&Kept>
         ensures found { option_map (λ kept. definition_view name.now kept.now) result ≡ definition_of (definitions_view self.now) name.now }
-        ensures sound { DefinitionsFit self.now → IfSome result (λ kept. FitsKept kept.now.expr kept.now.size (length kept.now.tags)) }
+        ensures sound { DefinitionsFit self.now → IfSome result (λ kept. IsSound kept.now) }
     {
         self.by_name.get(name)
     }
@@ -54,7 +56,7 @@ impl Definitions {
     pub fn add(&mut self, alloc: Global, name: &[u8], kept: Kept) -> Result<(), Memory>
         requires { definition_of (definitions_view self.old) name.now ≡ None }
         ensures added { OnOk result (definitions_view self.new ≡ definitions_view self.old ++ definition_view name.now kept ∷ []) }
-        ensures sound { DefinitionsFit self.old → FitsKept kept.expr kept.size (length kept.tags) → OnOk result (DefinitionsFit self.new) }
+        ensures sound { DefinitionsFit self.old → IsSound kept → OnOk result (DefinitionsFit self.new) }
     {
         let name = Vec::from_slice(alloc, name)?;
         self.by_name.insert(name, kept)?;

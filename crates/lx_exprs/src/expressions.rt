@@ -4,7 +4,7 @@ ghost use Rattle.lx_base.specs.declared.limits.TheConstants.{BOUND_LIMIT};
 ghost use Rattle.lx_base.specs.declared.settings.Options.{Options};
 ghost use Rattle.lx_parse.specs.Expressions.{alt};
 ghost use Rattle.lx_parse.specs.Ranges.{IsPart};
-ghost use Rattle.lx_exprs.specs.Checks.{Finds, StopsAt, bounds_at, bounds_fault, bounds_of, group_fault, is_wrong};
+ghost use Rattle.lx_exprs.specs.Checks.{Finds, StopsAt, are_groups, bounds_at, bounds_fault, bounds_of, is_wrong};
 ghost use Rattle.lx_exprs.specs.Defined.{Definition, Meaning};
 ghost use Rattle.lx_exprs.specs.Expressions.{ExpressionChecks};
 ghost use Rattle.lx_exprs.specs.Expressions.{IsRead};
@@ -19,7 +19,7 @@ ghost use Rattle.lx_exprs.specs.Values.{IsBounded, IsRoom, IsValue};
 
 use crate::leaves::{Reader, read_leaf, read_set, unsupported};
 use crate::tags::{SeenTags, SharedTags};
-use crate::values::{Room, Value};
+use crate::values::{Room, Value, sum};
 use lx_base::limits::BOUND_LIMIT;
 use lx_base::{Fault, Memory, Options, Pos, Stop};
 use lx_forms::lexemes::{Lexeme, Lexemes};
@@ -28,14 +28,18 @@ use lx_parse::Sort;
 use lx_token::{Repeat, repeat_of};
 use std::alloc::Global;
 
-/// What is read of an expression so far: values that are not yet put together, in order, and the names of all tags.
+/// What is read of an expression so far: values that are not yet put together, in order, and all tags.
 #[derive(Drop)]
 pub struct Operands {
     values: Vec<Value>,
     seen: SeenTags,
+    /// How many groups there are; 2^40 stands for itself and for more.
+    groups: u64,
+    /// How many groups there are before each one that is open, the innermost last.
+    open_groups: Vec<u64>,
 }
 
-/// What is read of a whole expression, with the names of its tags, in order.
+/// What is read of a whole expression, with its tags, in order.
 #[derive(Drop)]
 pub struct Reading {
     pub value: Value,
@@ -95,6 +99,13 @@ fn checked_bounds(sign: &Lexeme<'_>) -> Result<Repeat, Fault>
     Ok(bounds)
 }
 
+/// Whether parentheses are groups of captures.
+fn are_groups(options: &Options) -> bool
+    ensures { (definitions : List Definition) → result ≡ are_groups options.now definitions }
+{
+    options.captures || options.posix
+}
+
 /// The difference of two values, whose sign stands at a place.
 fn difference(
     alloc: Global,
@@ -111,9 +122,10 @@ fn difference(
         (λ value. DifferenceChecks reader.entry.options.now definitions is_operand first second sign None
         × ((meaning : Meaning) × IsDifference reader.entry.options.now definitions is_operand first second meaning × IsValue reader.entry.room meaning value))
         (StopsAt (DifferenceChecks reader.entry.options.now definitions is_operand first second sign)) }
-    ensures bounded { (count : ℕ) → IfOk result (IsBounded count) }
+    ensures bounded { IfOk result IsBounded }
 {
     let nesting = left.nesting.max(right.nesting);
+    let groups = sum(left.groups, right.groups);
     let tags = left.tags.max(right.tags);
     let Some(whole) = left.into_class(alloc)? else {
         return Err(Stop::Fault(Fault::NotClass { at }));
@@ -122,7 +134,7 @@ fn difference(
         return Err(Stop::Fault(Fault::NotClass { at }));
     };
     let set = whole.minus(alloc, &holes)?;
-    read_set(alloc, reader, tags, set, is_operand, nesting, at)
+    read_set(alloc, reader, tags, set, is_operand, nesting, groups, at)
 }
 
 /// The sequence or the alternation of two values.
@@ -135,7 +147,7 @@ fn paired(
 ) -> Result<Value, Memory>
     requires { IsRoom room }
     ensures stands { (first second : Meaning) → IsValue room first left → IsValue room second right → IfOk result (IsValue room (paired pairing first second)) }
-    ensures bounded { (count : ℕ) → IsBounded count left → IsBounded count right → IfOk result (IsBounded count) }
+    ensures bounded { IsBounded left → IsBounded right → IfOk result IsBounded }
 {
     match pairing {
         Pairing::Sequence => left.followed_by(alloc, room, right),
@@ -144,31 +156,32 @@ fn paired(
 }
 
 impl Operands {
-    ghost use Rattle.std.specs.Prelude.{◌≡◌, ◌≤◌, ◌<◌, ◌++◌, ◌∷◌, [], OnOk, MatchResult, length, suc};
+    ghost use Rattle.std.specs.Prelude.{◌≡◌, ◌≤◌, ◌<◌, ◌++◌, ◌∷◌, [], OnOk, MatchResult, false, length, suc, true};
     ghost use Rattle.std.specs.Prelude.{ℕ, List};
     ghost use Rattle.lx_base.specs.declared.settings.Options.{Options};
     ghost use Rattle.lx_exprs.specs.Checks.{StopsAt};
     ghost use Rattle.lx_exprs.specs.Defined.{Definition};
-    ghost use Rattle.lx_exprs.specs.Meanings.{enclosed};
     ghost use Rattle.lx_exprs.specs.Reading as reading;
-    ghost use Rattle.lx_exprs.specs.Reading.{AreBounded, AreOperands, IsStepTaken, Needs, StepChecks, depth_behind, in_place, no_operands, paired, with_both, with_last};
+    ghost use Rattle.lx_exprs.specs.Reading.{AreBounded, AreOperands, IsStepTaken, Needs, StepChecks, closed, depth_behind, in_place, no_operands, opened, paired, with_both};
     ghost use Rattle.lx_exprs.specs.Seen.{definitions_view};
     ghost use Rattle.lx_forms.specs.Seen.{lexeme_view, lexemes_view};
     ghost use Rattle.lx_exprs.specs.Soundness.{DefinitionsFit};
     ghost use Rattle.lx_forms.specs.StepViews.{step_view};
-    ghost use Rattle.lx_forms.specs.Steps.{reads, repeats, subtracts};
+    ghost use Rattle.lx_forms.specs.Steps.{opens, reads, repeats, subtracts};
     ghost use Rattle.lx_exprs.specs.Values.{IsRoom};
     ghost use Rattle.lx_exprs.specs.declared.values.Room.{Room};
 
     /// Nothing is read.
     fn new(alloc: Global) -> Operands
         ensures stands { (room : Room) → AreOperands room no_operands result }
-        ensures bounded { (count : ℕ) → AreBounded count result.values.items }
+        ensures bounded { AreBounded result.values.items }
         ensures none { result.values.items ≡ [] }
     {
         Operands {
             values: Vec::new(alloc),
             seen: SeenTags::new(alloc),
+            groups: 0,
+            open_groups: Vec::new(alloc),
         }
     }
 
@@ -176,6 +189,8 @@ impl Operands {
     fn push(&mut self, value: Value) -> Result<(), Memory>
         ensures values { OnOk result (self.new.values.items ≡ self.old.values.items ++ value ∷ []) }
         ensures seen { self.new.seen ≡ self.old.seen }
+        ensures groups { self.new.groups ≡ self.old.groups }
+        ensures open_groups { self.new.open_groups ≡ self.old.open_groups }
     {
         self.values.push(value)?;
         Ok(())
@@ -186,6 +201,8 @@ impl Operands {
         requires { 0 < length self.old.values.items }
         ensures values { self.old.values.items ≡ self.new.values.items ++ result ∷ [] }
         ensures seen { self.new.seen ≡ self.old.seen }
+        ensures groups { self.new.groups ≡ self.old.groups }
+        ensures open_groups { self.new.open_groups ≡ self.old.open_groups }
     {
         match self.values.pop() {
             Some(value) => value,
@@ -207,26 +224,92 @@ impl Operands {
             (operands : reading.Operands) → AreOperands reader.entry.room operands self.old → MatchResult result
             (λ _. IsStepTaken reader.entry.options.now definitions reader.entry.room operands (reads is_operand (lexeme_view lexeme.now)) self.new)
             (StopsAt (StepChecks reader.entry.options.now definitions operands (reads is_operand (lexeme_view lexeme.now)))) }
-        ensures bounded { AreBounded (length self.old.seen) self.old.values.items → OnOk result (AreBounded (length self.new.seen) self.new.values.items) }
+        ensures bounded { AreBounded self.old.values.items → OnOk result (AreBounded self.new.values.items) }
         ensures depth { OnOk result (length self.new.values.items ≡ suc (length self.old.values.items)) }
     {
-        let value = read_leaf(alloc, reader, &mut self.seen, lexeme, is_operand)?;
+        let value = read_leaf(
+            alloc,
+            reader,
+            &mut self.seen,
+            self.groups,
+            lexeme,
+            is_operand,
+        )?;
+        self.groups = sum(self.groups, value.groups);
         self.push(value)?;
         Ok(())
     }
 
-    /// Closes a parenthesis.
-    fn close(&mut self, alloc: Global, room: Room) -> Result<(), Memory>
+    /// Opens a parenthesis, which is a group or none.
+    fn open(&mut self, is_group: bool) -> Result<(), Memory>
+        ensures stands { (room : Room) (operands : reading.Operands) → AreOperands room operands self.old → OnOk result (AreOperands room (opened is_group operands) self.new) }
+        ensures values { self.new.values ≡ self.old.values }
+    {
+        if is_group {
+            self.open_groups.push(self.groups)?;
+            self.groups = sum(self.groups, 1);
+        }
+        Ok(())
+    }
+
+    /// Reads an opening parenthesis. Groups are not supported yet.
+    fn read_open(&mut self, options: &Options, opening: &Lexeme<'_>) -> Result<(), Stop>
+        ensures stands { (definitions : List Definition) (room : Room) (operands : reading.Operands) → AreOperands room operands self.old → MatchResult result
+            (λ _. IsStepTaken options.now definitions room operands (opens (lexeme_view opening.now)) self.new)
+            (StopsAt (StepChecks options.now definitions operands (opens (lexeme_view opening.now)))) }
+        ensures values { self.new.values ≡ self.old.values }
+    {
+        let is_group = are_groups(options);
+        if is_group {
+            return Err(unsupported(opening.at));
+        }
+        self.open(is_group)?;
+        Ok(())
+    }
+
+    /// Closes a parenthesis that is no group.
+    fn enclose(&mut self, alloc: Global, room: Room) -> Result<(), Memory>
         requires room { IsRoom room }
         requires depth { 1 ≤ length self.old.values.items }
-        ensures stands { (operands : reading.Operands) → AreOperands room operands self.old
-            → OnOk result (AreOperands room (in_place operands (with_last enclosed operands.meanings)) self.new) }
-        ensures bounded { AreBounded (length self.old.seen) self.old.values.items → OnOk result (AreBounded (length self.new.seen) self.new.values.items) }
+        ensures stands { (operands : reading.Operands) → AreOperands room operands self.old → OnOk result (AreOperands room (closed false operands) self.new) }
+        ensures bounded { AreBounded self.old.values.items → OnOk result (AreBounded self.new.values.items) }
         ensures depth { OnOk result (length self.new.values.items ≡ length self.old.values.items) }
     {
         let value = self.pop().enclosed(alloc, room)?;
         self.push(value)?;
         Ok(())
+    }
+
+    /// Closes a group.
+    fn group(&mut self, alloc: Global, room: Room) -> Result<(), Memory>
+        requires room { IsRoom room }
+        requires depth { 1 ≤ length self.old.values.items }
+        ensures stands { (operands : reading.Operands) → AreOperands room operands self.old → OnOk result (AreOperands room (closed true operands) self.new) }
+        ensures bounded { AreBounded self.old.values.items → OnOk result (AreBounded self.new.values.items) }
+        ensures depth { OnOk result (length self.new.values.items ≡ length self.old.values.items) }
+    {
+        let Some(before) = self.open_groups.pop() else {
+            return Ok(());
+        };
+        let inner = self.pop();
+        let value = inner.grouped(alloc, room, before)?;
+        self.push(value)?;
+        Ok(())
+    }
+
+    /// Closes a parenthesis, which is a group or none.
+    fn close(&mut self, alloc: Global, room: Room, is_group: bool) -> Result<(), Memory>
+        requires room { IsRoom room }
+        requires depth { 1 ≤ length self.old.values.items }
+        ensures stands { (operands : reading.Operands) → AreOperands room operands self.old → OnOk result (AreOperands room (closed is_group operands) self.new) }
+        ensures bounded { AreBounded self.old.values.items → OnOk result (AreBounded self.new.values.items) }
+        ensures depth { OnOk result (length self.new.values.items ≡ length self.old.values.items) }
+    {
+        if is_group {
+            self.group(alloc, room)
+        } else {
+            self.enclose(alloc, room)
+        }
     }
 
     /// Repeats what was read last.
@@ -236,7 +319,7 @@ impl Operands {
         ensures stands { (options : Options) (definitions : List Definition) (operands : reading.Operands) → AreOperands room operands self.old → MatchResult result
             (λ _. IsStepTaken options definitions room operands (repeats (lexeme_view sign.now)) self.new)
             (StopsAt (StepChecks options definitions operands (repeats (lexeme_view sign.now)))) }
-        ensures bounded { AreBounded (length self.old.seen) self.old.values.items → OnOk result (AreBounded (length self.new.seen) self.new.values.items) }
+        ensures bounded { AreBounded self.old.values.items → OnOk result (AreBounded self.new.values.items) }
         ensures depth { OnOk result (length self.new.values.items ≡ length self.old.values.items) }
     {
         let bounds = match checked_bounds(sign) {
@@ -254,7 +337,7 @@ impl Operands {
         requires depth { 2 ≤ length self.old.values.items }
         ensures stands { (operands : reading.Operands) → AreOperands room operands self.old
             → OnOk result (AreOperands room (in_place operands (with_both (paired pairing) operands.meanings)) self.new) }
-        ensures bounded { AreBounded (length self.old.seen) self.old.values.items → OnOk result (AreBounded (length self.new.seen) self.new.values.items) }
+        ensures bounded { AreBounded self.old.values.items → OnOk result (AreBounded self.new.values.items) }
         ensures depth { OnOk result (suc (length self.new.values.items) ≡ length self.old.values.items) }
     {
         let right = self.pop();
@@ -278,7 +361,7 @@ impl Operands {
             (operands : reading.Operands) → AreOperands reader.entry.room operands self.old → MatchResult result
             (λ _. IsStepTaken reader.entry.options.now definitions reader.entry.room operands (subtracts is_operand (lexeme_view sign.now)) self.new)
             (StopsAt (StepChecks reader.entry.options.now definitions operands (subtracts is_operand (lexeme_view sign.now)))) }
-        ensures bounded { AreBounded (length self.old.seen) self.old.values.items → OnOk result (AreBounded (length self.new.seen) self.new.values.items) }
+        ensures bounded { AreBounded self.old.values.items → OnOk result (AreBounded self.new.values.items) }
         ensures depth { OnOk result (suc (length self.new.values.items) ≡ length self.old.values.items) }
     {
         let right = self.pop();
@@ -303,32 +386,20 @@ impl Operands {
             (operands : reading.Operands) → AreOperands reader.entry.room operands self.old → MatchResult result
             (λ _. IsStepTaken reader.entry.options.now definitions reader.entry.room operands (step_view (lexemes_view lexemes.entry) step) self.new)
             (StopsAt (StepChecks reader.entry.options.now definitions operands (step_view (lexemes_view lexemes.entry) step))) }
-        ensures bounded { AreBounded (length self.old.seen) self.old.values.items → OnOk result (AreBounded (length self.new.seen) self.new.values.items) }
+        ensures bounded { AreBounded self.old.values.items → OnOk result (AreBounded self.new.values.items) }
         ensures depth { OnOk result (length self.new.values.items ≡ depth_behind (step_view (lexemes_view lexemes.entry) step) (length self.old.values.items)) }
     {
         let lexeme = lexemes.at(step.place as usize);
         match step.sort {
             StepSort::Read => self.read(alloc, reader, &lexeme, step.is_operand),
-            StepSort::Open => open(reader.options, &lexeme),
-            StepSort::Close => Ok(self.close(alloc, reader.room)?),
+            StepSort::Open => self.read_open(reader.options, &lexeme),
+            StepSort::Close => Ok(self.close(alloc, reader.room, are_groups(reader.options))?),
             StepSort::Repeat => self.repeat(alloc, reader.room, &lexeme),
             StepSort::Join => Ok(self.combine(alloc, reader.room, Pairing::Sequence)?),
             StepSort::Subtract => self.subtract(alloc, reader, &lexeme, step.is_operand),
             StepSort::Choose => Ok(self.combine(alloc, reader.room, Pairing::Alternation)?),
         }
     }
-}
-
-/// Opens a parenthesis. Groups of captures are not supported yet.
-fn open(options: &Options, opening: &Lexeme<'_>) -> Result<(), Stop>
-    ensures { (definitions : List Definition) → MatchResult result
-        (λ _. group_fault options.now definitions (lexeme_view opening.now) ≡ None)
-        (StopsAt (Finds (group_fault options.now definitions (lexeme_view opening.now)))) }
-{
-    if options.captures || options.posix {
-        return Err(unsupported(opening.at));
-    }
-    Ok(())
 }
 
 /// Takes steps in their order.
@@ -345,7 +416,7 @@ fn take_steps(
         MatchResult result
         (AreTaken reader.entry.options.now definitions reader.entry.room no_operands (map (step_view (lexemes_view lexemes.entry)) steps.now))
         (StopsReading reader.entry.options.now definitions no_operands (map (step_view (lexemes_view lexemes.entry)) steps.now)) }
-    ensures bounded { IfOk result (λ operands. AreBounded (length operands.seen) operands.values.items) }
+    ensures bounded { IfOk result (λ operands. AreBounded operands.values.items) }
     ensures one { IfOk result (λ operands. length operands.values.items ≡ 1) }
 {
     let mut operands = Operands::new(alloc);
@@ -367,12 +438,12 @@ pub fn read_expression(
     requires sound { DefinitionsFit reader.definitions.now }
     requires part { IsPart (sorts_at (lexemes_view lexemes)) alt from until }
     requires few { until < 2 ^ 32 }
-    ensures bounded { IfOk result (λ reading. IsBounded (length reading.tags) reading.value) }
+    ensures bounded { IfOk result (λ reading. IsBounded reading.value) }
     ensures read { let definitions = definitions_view reader.entry.definitions.now in
         MatchResult result (IsRead reader.entry.options.now (lexemes_view lexemes.entry) definitions reader.entry.room from until)
         (StopsAt (ExpressionChecks reader.entry.options.now (lexemes_view lexemes.entry) definitions from until)) }
 {
-    let steps = expression_steps(alloc, lexemes, from, until)?;
+    let steps = expression_steps(alloc, lexemes, from, until, are_groups(reader.options))?;
     let mut operands = take_steps(alloc, reader, lexemes, &steps)?;
     let value = operands.pop();
     let tags = operands.seen.into_shared(alloc)?;

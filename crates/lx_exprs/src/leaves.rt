@@ -8,8 +8,9 @@ ghost use Rattle.lx_base.specs.declared.settings.Options.{Options};
 ghost use Rattle.lx_class.specs.Ranges.{InRanges, IsCanonical};
 ghost use Rattle.lx_regex.specs.Expr.{members_of, size_of, term_of};
 ghost use Rattle.lx_regex.specs.Term.{cat};
+ghost use Rattle.lx_regex.specs.declared.rules.Tag.{Tag as tag_type};
 ghost use Rattle.lx_exprs.specs.Checks.{IsFilled, PointsAre, StopsAt};
-ghost use Rattle.lx_exprs.specs.Defined.{Definition, is_built, kept};
+ghost use Rattle.lx_exprs.specs.Defined.{Before, Definition, and_more, count_of, is_built, kept};
 ghost use Rattle.lx_forms.specs.Lexemes as lexical;
 ghost use Rattle.lx_forms.specs.Lexemes.{points_in};
 ghost use Rattle.lx_exprs.specs.Meanings.{IsSetOf, character_set, class_meaning, copied, meaning_of_string, set_term, string_meaning, tag_meaning};
@@ -17,7 +18,7 @@ ghost use Rattle.lx_exprs.specs.Points.{singles};
 ghost use Rattle.lx_exprs.specs.Reading.{IsLeafRead, IsLeafResult};
 ghost use Rattle.lx_exprs.specs.Seen.{AreCodePoints, IsStop, definition_view, definitions_view, points_of};
 ghost use Rattle.lx_forms.specs.Seen.{lexeme_view};
-ghost use Rattle.lx_exprs.specs.Soundness.{DefinitionsFit, FitsKept};
+ghost use Rattle.lx_exprs.specs.Soundness.{DefinitionsFit, IsSound};
 ghost use Rattle.lx_exprs.specs.Values.{AreTagsBelow, IsContent, IsBounded, IsRoom, IsValue, content_size, is_past};
 ghost use Rattle.lx_token.specs.declared.kinds.TokenKind.TheVariants as kind;
 
@@ -99,7 +100,7 @@ fn string_content(
 
 /// A class. One that is no operand of a difference and has no point is the empty word, where empty classes match that.
 fn class_content(policy: EmptyPolicy, is_operand: bool, set: ClassSet) -> Content
-    ensures stands { (is_built : Bool) (nesting count : ℕ) (tags : List (List ℕ)) → IsContent is_built (class_meaning is_operand policy nesting tags count set) result }
+    ensures stands { (is_built : Bool) (nesting groups count : ℕ) (tags : List tag_type) → IsContent is_built (class_meaning is_operand policy nesting tags groups count set) result }
     ensures size { content_size result ≡ 1 }
     ensures tags { (bound : ℕ) → AreTagsBelow bound result }
 {
@@ -109,23 +110,33 @@ fn class_content(policy: EmptyPolicy, is_operand: bool, set: ClassSet) -> Conten
     Content::One(Expr::Class(set))
 }
 
-/// A copy of the expression of a definition, behind so many tags. A definition without one is past a limit, and so is each
-/// expression that names it: what stands for it here is dropped when the value is limited.
-fn kept_content(alloc: Global, kept: &Kept, by: u64) -> Result<Content, Memory>
-    requires { FitsKept kept.now.expr kept.now.size (length kept.now.tags) }
-    ensures stands { (is_built : Bool) (before : ℕ) → by ≡ min (2 ^ 40) before → (128 + 1 ≤ before + length kept.now.tags → is_built ≡ false)
-        → IfOk result (IsContent is_built (copied before (definition_view [] kept.now))) }
-    ensures size { IfOk result (λ content. content_size content ≤ kept.now.size) }
-    ensures tags { (before : ℕ) → by ≡ min (2 ^ 40) before → IfOk result (AreTagsBelow (before + length kept.now.tags)) }
+/// How many tags these are, two for each group; 2^40 stands for itself and for more.
+fn count_of(tags: u64, groups: u64) -> u64
+    ensures { result ≡ min (2 ^ 40) (tags + min (2 ^ 40) (groups + groups)) }
 {
-    let Some(expr) = &kept.expr else {
+    sum(tags, sum(groups, groups))
+}
+
+/// A copy of the expression of a definition, behind so many tags and groups. A definition without one is past a limit, and so is
+/// each expression that names it: what stands for it here is dropped when the value is limited.
+fn kept_content(alloc: Global, definition: &Kept, by: u64, groups: u64) -> Result<Content, Memory>
+    requires { IsSound definition.now }
+    ensures stands { (is_built : Bool) (before : Before) → by ≡ kept (length before.tags) → groups ≡ before.groups
+        → (128 + 1 ≤ count_of (and_more before definition.now.tags definition.now.groups) → is_built ≡ false)
+        → IfOk result (IsContent is_built (copied before (definition_view [] definition.now))) }
+    ensures size { IfOk result (λ content. content_size content ≤ definition.now.size) }
+    ensures tags { (before : Before) → by ≡ kept (length before.tags) → groups ≡ before.groups
+        → IfOk result (AreTagsBelow (min (2 ^ 40) (count_of (and_more before definition.now.tags definition.now.groups)))) }
+{
+    let Some(expr) = &definition.expr else {
         return Ok(Content::One(Expr::Empty));
     };
-    if sum(by, kept.tags.len()) > TAG_LIMIT {
+    let tags = sum(by, definition.tags.len());
+    if count_of(tags, sum(groups, definition.groups)) > TAG_LIMIT {
         let class = class_of(alloc, expr)?;
         return Ok(Content::Past(class, false));
     }
-    Ok(Content::One(copy(alloc, expr, by as u32, 0)?))
+    Ok(Content::One(copy(alloc, expr, by as u32, groups as u32)?))
 }
 
 /// The fault of a name that has no definition.
@@ -154,7 +165,7 @@ fn read_string(
         (λ value. PointsAre reader.entry.options.now definitions (lexeme_view lexeme.now) (singles (points_in (lexeme_view lexeme.now))) None
         × IsValue reader.entry.room (meaning_of_string reader.entry.options.now definitions is_caseless before (lexeme_view lexeme.now)) value)
         (StopsAt (PointsAre reader.entry.options.now definitions (lexeme_view lexeme.now) (singles (points_in (lexeme_view lexeme.now))))) }
-    ensures bounded { (all : ℕ) → IfOk result (IsBounded all) }
+    ensures bounded { IfOk result IsBounded }
 {
     let options = reader.options;
     let characters = characters_of(alloc, lexeme.text)?;
@@ -165,7 +176,7 @@ fn read_string(
     }
     let content = string_content(alloc, options.surrogates, is_caseless, characters)?;
     let size = sum((characters.len() as u64).max(1), 0);
-    Ok(Value::limited(alloc, reader.room, content, size, 0, count)?)
+    Ok(Value::limited(alloc, reader.room, content, size, 0, 0, count)?)
 }
 
 /// Whether a class is refused since it is empty.
@@ -178,7 +189,7 @@ fn is_refused(policy: EmptyPolicy, is_operand: bool, set: &ClassSet) -> bool
     policy == EmptyPolicy::Error && !is_operand && set.ranges().is_empty()
 }
 
-/// A class of this nesting and at this place, behind so many tags. One that has no point may be refused.
+/// A class of this nesting, with so many groups and at this place, behind so many tags. One that has no point may be refused.
 pub fn read_set(
     alloc: Global,
     reader: Reader<'_>,
@@ -186,21 +197,22 @@ pub fn read_set(
     set: ClassSet,
     is_operand: bool,
     nesting: u64,
+    groups: u64,
     at: Pos,
 ) -> Result<Value, Stop>
     requires { IsRoom reader.room }
-    ensures read { (definitions : List Definition) (depth all : ℕ) (tags : List (List ℕ)) → nesting ≡ kept depth → count ≡ kept all → MatchResult result
+    ensures read { (definitions : List Definition) (depth all : ℕ) (tags : List tag_type) → nesting ≡ kept depth → count ≡ kept all → MatchResult result
         (λ value. IsFilled reader.entry.options.now definitions reader.entry.options.now.empty is_operand at (InRanges set) None
-        × IsValue reader.entry.room (class_meaning is_operand reader.entry.options.now.empty depth tags all set) value)
+        × IsValue reader.entry.room (class_meaning is_operand reader.entry.options.now.empty depth tags groups all set) value)
         (StopsAt (IsFilled reader.entry.options.now definitions reader.entry.options.now.empty is_operand at (InRanges set))) }
-    ensures bounded { (all : ℕ) → IfOk result (IsBounded all) }
+    ensures bounded { IfOk result IsBounded }
 {
     let policy = reader.options.empty;
     if is_refused(policy, is_operand, &set) {
         return Err(Stop::Fault(Fault::EmptyClass { at }));
     }
     let content = class_content(policy, is_operand, set);
-    Ok(Value::limited(alloc, reader.room, content, 1, nesting, count)?)
+    Ok(Value::limited(alloc, reader.room, content, 1, nesting, groups, count)?)
 }
 
 /// Reads a class behind so many tags.
@@ -213,9 +225,9 @@ fn read_class(
 ) -> Result<Value, Stop>
     requires room { IsRoom reader.room }
     requires sort { (lexeme_view lexeme.now).kind ≡ kind.Class }
-    ensures read { (before : List (List ℕ)) → count ≡ kept (length before)
-        → IsLeafResult reader.entry.options.now (definitions_view reader.entry.definitions.now) reader.entry.room is_operand before (lexeme_view lexeme.now) before result }
-    ensures bounded { (all : ℕ) → IfOk result (IsBounded all) }
+    ensures read { (before : Before) → count ≡ kept (count_of before)
+        → IsLeafResult reader.entry.options.now (definitions_view reader.entry.definitions.now) reader.entry.room is_operand before (lexeme_view lexeme.now) before.tags result }
+    ensures bounded { IfOk result IsBounded }
 {
     let options = reader.options;
     let class = written_class(alloc, lexeme.text)?;
@@ -224,7 +236,7 @@ fn read_class(
         return Err(Stop::Fault(fault));
     }
     let set = class_set(alloc, options, class.is_negated, &ranges)?;
-    read_set(alloc, reader, count, set, is_operand, 0, lexeme.at)
+    read_set(alloc, reader, count, set, is_operand, 0, 0, lexeme.at)
 }
 
 /// Reads `.`, which is all code points but the line feed, behind so many tags.
@@ -236,28 +248,29 @@ fn read_line(
 ) -> Result<Value, Memory>
     requires { IsRoom reader.room }
     ensures read { let definitions = definitions_view reader.entry.definitions.now in
-        (before : List (List ℕ)) (lexeme : lexical.Lexeme) → count ≡ kept (length before) → lexeme.kind ≡ kind.Signs
-        → IfOk result (IsLeafRead reader.entry.options.now definitions reader.entry.room is_operand before lexeme before) }
-    ensures bounded { (all : ℕ) → IfOk result (IsBounded all) }
+        (before : Before) (lexeme : lexical.Lexeme) → count ≡ kept (count_of before) → lexeme.kind ≡ kind.Signs
+        → IfOk result (IsLeafRead reader.entry.options.now definitions reader.entry.room is_operand before lexeme before.tags) }
+    ensures bounded { IfOk result IsBounded }
 {
     let set = line_set(alloc, reader.options)?;
     let content = class_content(reader.options.empty, is_operand, set);
-    Value::limited(alloc, reader.room, content, 1, 0, count)
+    Value::limited(alloc, reader.room, content, 1, 0, 0, count)
 }
 
-/// Reads a name: a copy of what is kept of its definition, whose tags come behind those that were seen before.
+/// Reads a name behind so many groups: a copy of what is kept of its definition, whose tags come behind those that were seen before.
 fn read_name(
     alloc: Global,
     reader: Reader<'_>,
     seen: &mut SeenTags,
+    groups: u64,
     lexeme: &Lexeme<'_>,
 ) -> Result<Value, Stop>
     requires sort { (lexeme_view lexeme.now).kind ≡ kind.Name }
     requires room { IsRoom reader.room }
     requires sound { DefinitionsFit reader.definitions.now }
     ensures read { (is_operand : Bool)
-        → IsLeafResult reader.entry.options.now (definitions_view reader.entry.definitions.now) reader.entry.room is_operand seen.old (lexeme_view lexeme.now) seen.new result }
-    ensures bounded { IfOk result (IsBounded (length seen.new)) }
+        → IsLeafResult reader.entry.options.now (definitions_view reader.entry.definitions.now) reader.entry.room is_operand (record { tags = seen.old; groups = groups }) (lexeme_view lexeme.now) seen.new result }
+    ensures bounded { IfOk result IsBounded }
 {
     let Some(kept) = reader.definitions.get(lexeme.text) else {
         return Err(unknown(alloc, lexeme));
@@ -267,39 +280,51 @@ fn read_name(
     }
     let by = seen.len();
     seen.add(alloc, &kept.tags)?;
-    let content = kept_content(alloc, kept, by)?;
+    let content = kept_content(alloc, kept, by, groups)?;
     let nesting = sum(kept.nesting, 1);
-    let tags = seen.len();
+    let tags = count_of(seen.len(), sum(groups, kept.groups));
     let size = sum(kept.size, 0);
-    Ok(Value::limited(alloc, reader.room, content, size, nesting, tags)?)
+    Ok(Value::limited(
+        alloc,
+        reader.room,
+        content,
+        size,
+        nesting,
+        kept.groups,
+        tags,
+    )?)
 }
 
 /// A tag behind so many others. One that is past the limit is not built.
-fn tag_content(number: u64) -> Content
-    ensures stands { (is_built : Bool) (before : ℕ) (name : List ℕ) → number ≡ kept before → (128 + 1 ≤ suc before → is_built ≡ false)
-        → IsContent is_built (tag_meaning before name) result }
+fn tag_content(number: u64, many: bool) -> Content
+    ensures stands { (is_built : Bool) (before : Before) (named : tag_type) → number ≡ kept (length before.tags) → (128 + 1 ≤ suc (count_of before) → is_built ≡ false)
+        → IsContent is_built (tag_meaning before named) result }
     ensures size { content_size result ≤ 1 }
-    ensures tags { (before : ℕ) → number ≡ kept before → AreTagsBelow (suc before) result }
+    ensures tags { (before : Before) → number ≡ kept (length before.tags) → AreTagsBelow (kept (suc (count_of before))) result }
 {
-    if number < TAG_LIMIT {
-        Content::One(Expr::STag(number as u32))
-    } else {
-        Content::Past(None, false)
+    if number >= TAG_LIMIT {
+        return Content::Past(None, false);
     }
+    Content::One(if many {
+        Expr::MTag(number as u32)
+    } else {
+        Expr::STag(number as u32)
+    })
 }
 
-/// Reads a tag.
+/// Reads a tag behind so many groups.
 fn read_tag(
     alloc: Global,
     reader: Reader<'_>,
     seen: &mut SeenTags,
+    groups: u64,
     lexeme: &Lexeme<'_>,
 ) -> Result<Value, Stop>
     requires sort { (lexeme_view lexeme.now).kind ≡ kind.STag }
     requires room { IsRoom reader.room }
     ensures read { (is_operand : Bool)
-        → IsLeafResult reader.entry.options.now (definitions_view reader.entry.definitions.now) reader.entry.room is_operand seen.old (lexeme_view lexeme.now) seen.new result }
-    ensures bounded { IfOk result (IsBounded (length seen.new)) }
+        → IsLeafResult reader.entry.options.now (definitions_view reader.entry.definitions.now) reader.entry.room is_operand (record { tags = seen.old; groups = groups }) (lexeme_view lexeme.now) seen.new result }
+    ensures bounded { IfOk result IsBounded }
 {
     if !reader.options.tags {
         return Err(Stop::Fault(Fault::TagsOff { at: lexeme.at }));
@@ -313,32 +338,35 @@ fn read_tag(
         }));
     }
     let number = seen.len();
-    seen.push(alloc, name)?;
-    let tags = sum(number, 1);
-    let content = tag_content(number);
-    Ok(Value::limited(alloc, reader.room, content, 1, 0, tags)?)
+    seen.push(alloc, name, false)?;
+    let tags = sum(count_of(number, groups), 1);
+    let content = tag_content(number, false);
+    Ok(Value::limited(alloc, reader.room, content, 1, 0, 0, tags)?)
 }
 
-/// Reads a token that is no sign between others, behind the tags that were seen before. M-tags are not supported yet.
+/// Reads a token that is no sign between others, behind the tags that were seen before and so many groups. M-tags are not
+/// supported yet.
 pub fn read_leaf(
     alloc: Global,
     reader: Reader<'_>,
     seen: &mut SeenTags,
+    groups: u64,
     lexeme: &Lexeme<'_>,
     is_operand: bool,
 ) -> Result<Value, Stop>
     requires room { IsRoom reader.room }
     requires sound { DefinitionsFit reader.definitions.now }
-    ensures read { IsLeafResult reader.entry.options.now (definitions_view reader.entry.definitions.now) reader.entry.room is_operand seen.old (lexeme_view lexeme.now) seen.new result }
-    ensures bounded { IfOk result (IsBounded (length seen.new)) }
+    ensures read { IsLeafResult reader.entry.options.now (definitions_view reader.entry.definitions.now) reader.entry.room is_operand (record { tags = seen.old; groups = groups }) (lexeme_view lexeme.now) seen.new result }
+    ensures bounded { IfOk result IsBounded }
 {
+    let count = count_of(seen.len(), groups);
     match lexeme.kind {
-        TokenKind::Str => read_string(alloc, reader, seen.len(), lexeme, false),
-        TokenKind::IStr => read_string(alloc, reader, seen.len(), lexeme, true),
-        TokenKind::Class => read_class(alloc, reader, seen.len(), lexeme, is_operand),
-        TokenKind::Signs => Ok(read_line(alloc, reader, seen.len(), is_operand)?),
-        TokenKind::Name => read_name(alloc, reader, seen, lexeme),
-        TokenKind::STag => read_tag(alloc, reader, seen, lexeme),
+        TokenKind::Str => read_string(alloc, reader, count, lexeme, false),
+        TokenKind::IStr => read_string(alloc, reader, count, lexeme, true),
+        TokenKind::Class => read_class(alloc, reader, count, lexeme, is_operand),
+        TokenKind::Signs => Ok(read_line(alloc, reader, count, is_operand)?),
+        TokenKind::Name => read_name(alloc, reader, seen, groups, lexeme),
+        TokenKind::STag => read_tag(alloc, reader, seen, groups, lexeme),
         _ => Err(Stop::Fault(Fault::Unsupported {
             at: Some(lexeme.at),
         })),

@@ -1,96 +1,98 @@
-//! Names of tags.
+//! Tags, looked up by their names.
 ghost use Rattle.std.specs.Prelude.{◌≡◌, ◌<◌, ◌^◌, ◌++◌, ◌∷◌, [], ℕ, List, IfOk, OnOk, drop, is_some, length, not};
 ghost use Rattle.std.specs.List.{flat_map, list_any};
 ghost use Rattle.std.specs.Map.{lookup};
 ghost use Rattle.std.specs.Str.{bytes_eq};
-ghost use Rattle.lx_exprs.specs.Checks.{is_among, repeated_tag};
+ghost use Rattle.lx_exprs.specs.Checks.{is_tag_among, repeated_tag};
 ghost use Rattle.lx_exprs.specs.Defined.{kept};
+ghost use Rattle.lx_regex.specs.declared.rules.Tag.{Tag as tag_type};
 
 use crate::values::sum;
 use indexmap::IndexMap;
 use lx_base::{ByteText, Fault, Memory, Pos};
+use lx_regex::Tag;
 use std::alloc::Global;
 use std::marker::Model;
 use std::mem::replace;
 use std::rc::Rc;
 
-/// How many names are copied rather than shared, at most.
+/// How many tags are copied rather than shared, at most.
 const MOST_COPIED: usize = 64;
 
-/// Names of tags, in order, and an index of them. Contracts see the names.
+/// Tags, in order, and an index of their names. Contracts see the tags.
 #[derive(Drop)]
 pub struct TagNames {
-    names: Vec<ByteText>,
+    tags: Vec<Tag>,
     index: IndexMap<Vec<u8>, ()>,
 }
 
 impl Model for TagNames {
-    ghost Value = { List (List ℕ) };
+    ghost Value = { List tag_type };
 
-    ghost view = { λ tags. tags.names.items };
+    ghost view = { λ held. held.tags.items };
 
-    ghost invariant = { λ tags. (name : List ℕ) → is_some (lookup (λ key. bytes_eq name key.items) tags.index.entries) ≡ is_among name tags.names.items };
+    ghost invariant = { λ held. (name : List ℕ) → is_some (lookup (λ key. bytes_eq name key.items) held.index.entries) ≡ is_tag_among name held.tags.items };
 }
 
 impl TagNames {
-    /// No names. It takes no memory.
+    /// No tags. It takes no memory.
     pub fn new(alloc: Global) -> TagNames
         ensures { result ≡ [] }
     {
         TagNames {
-            names: Vec::new(alloc),
+            tags: Vec::new(alloc),
             index: IndexMap::new(alloc),
         }
     }
 
-    /// How many names there are.
+    /// How many tags there are.
     pub fn len(&self) -> usize
         ensures count { result ≡ length self.now }
         ensures few { result < 2 ^ 63 }
     {
-        self.names.len()
+        self.tags.len()
     }
 
-    /// Whether a name is one of them.
+    /// Whether one of them has a name.
     pub fn contains(&self, name: &[u8]) -> bool
-        ensures { result ≡ is_among name.now self.now }
+        ensures { result ≡ is_tag_among name.now self.now }
     {
         self.index.get(name).is_some()
     }
 
-    /// Appends a copy of a name.
-    pub fn push(&mut self, alloc: Global, name: &[u8]) -> Result<(), Memory>
-        ensures { OnOk result (self.new ≡ self.old ++ name.now ∷ []) }
+    /// Appends a tag with a copy of a name; `many` says whether it has all its values.
+    pub fn push(&mut self, alloc: Global, name: &[u8], many: bool) -> Result<(), Memory>
+        ensures { OnOk result (self.new ≡ self.old ++ record { name = name.now; many = many } ∷ []) }
     {
         let key = Vec::from_slice(alloc, name)?;
         let name = ByteText::copy_of(alloc, name)?;
-        self.names.push(name)?;
+        self.tags.push(Tag { name, many })?;
         if self.index.insert(key, ()).is_err() {
-            let _last = self.names.pop();
+            let _last = self.tags.pop();
             return Err(Memory);
         }
         Ok(())
     }
 
-    /// Appends copies of names.
-    pub fn push_all(&mut self, alloc: Global, more: &[ByteText]) -> Result<(), Memory>
+    /// Appends copies of tags.
+    pub fn push_all(&mut self, alloc: Global, more: &[Tag]) -> Result<(), Memory>
         ensures { OnOk result (self.new ≡ self.old ++ more.now) }
     {
-        for name in more {
-            self.push(alloc, name.as_slice())?;
+        for tag in more {
+            self.push(alloc, tag.name.as_slice(), tag.many)?;
         }
         Ok(())
     }
 
-    /// The names.
-    pub fn names(&self) -> &[ByteText]
+    /// The tags.
+    pub fn tags(&self) -> &[Tag]
         ensures { result.now ≡ self.now }
     {
-        self.names.as_slice()
+        self.tags.as_slice()
     }
 }
 
-/// Names of tags in shared segments, each with its index. Contracts see all names, in order.
+/// Tags in shared segments, each with its index. Contracts see all tags, in order.
 #[derive(Drop)]
 pub struct SharedTags {
     segments: Vec<Rc<TagNames>>,
@@ -98,15 +100,15 @@ pub struct SharedTags {
 }
 
 impl Model for SharedTags {
-    ghost Value = { List (List ℕ) };
+    ghost Value = { List tag_type };
 
-    ghost view = { λ tags. flat_map (λ names. names.value) tags.segments.items };
+    ghost view = { λ held. flat_map (λ tags. tags.value) held.segments.items };
 
-    ghost invariant = { λ tags. tags.count ≡ kept (length (flat_map (λ names. names.value) tags.segments.items)) };
+    ghost invariant = { λ held. held.count ≡ kept (length (flat_map (λ tags. tags.value) held.segments.items)) };
 }
 
 impl SharedTags {
-    /// No names. It takes no memory.
+    /// No tags. It takes no memory.
     pub fn new(alloc: Global) -> SharedTags
         ensures { result ≡ [] }
     {
@@ -116,7 +118,7 @@ impl SharedTags {
         }
     }
 
-    /// How many names there are; 2^40 stands for itself and for more.
+    /// How many tags there are; 2^40 stands for itself and for more.
     pub fn len(&self) -> u64
         ensures { result ≡ kept (length self.now) }
     {
@@ -125,14 +127,14 @@ impl SharedTags {
 
     /// The segments.
     pub fn segments(&self) -> &[Rc<TagNames>]
-        ensures { flat_map (λ names. names.value) result.now ≡ self.now }
+        ensures { flat_map (λ tags. tags.value) result.now ≡ self.now }
     {
         self.segments.as_slice()
     }
 
-    /// Whether a name is one of them.
+    /// Whether one of them has a name.
     pub fn contains(&self, name: &[u8]) -> bool
-        ensures { result ≡ is_among name.now self.now }
+        ensures { result ≡ is_tag_among name.now self.now }
     {
         let segments = self.segments();
         for segment in segments {
@@ -175,22 +177,22 @@ impl SharedTags {
         Ok(SharedTags { segments, count })
     }
 
-    /// These, and other names behind them.
-    fn with(self, alloc: Global, names: TagNames) -> Result<SharedTags, Memory>
-        ensures { IfOk result (λ all. all ≡ self ++ names) }
+    /// These, and other tags behind them.
+    fn with(self, alloc: Global, tags: TagNames) -> Result<SharedTags, Memory>
+        ensures { IfOk result (λ all. all ≡ self ++ tags) }
     {
-        if names.len() == 0 {
+        if tags.len() == 0 {
             return Ok(self);
         }
-        self.joined(alloc, Rc::new(alloc, names)?)
+        self.joined(alloc, Rc::new(alloc, tags)?)
     }
 
-    /// Whether any of some names is one of them.
-    fn has_any(&self, names: &[ByteText]) -> bool
-        ensures { result ≡ list_any (λ name. is_among name self.now) names.now }
+    /// Whether any of some tags has the name of one of them.
+    fn has_any(&self, tags: &[Tag]) -> bool
+        ensures { result ≡ list_any (λ (tag : tag_type). is_tag_among tag.name self.now) tags.now }
     {
-        for name in names {
-            if self.contains(name.as_slice()) {
+        for tag in tags {
+            if self.contains(tag.name.as_slice()) {
                 return true;
             }
         }
@@ -209,26 +211,26 @@ impl SharedTags {
         Ok(all)
     }
 
-    /// Appends copies of the names to others.
-    pub fn copy_to(&self, alloc: Global, names: &mut TagNames) -> Result<(), Memory>
-        ensures { OnOk result (names.new ≡ names.old ++ self.now) }
+    /// Appends copies of the tags to others.
+    pub fn copy_to(&self, alloc: Global, tags: &mut TagNames) -> Result<(), Memory>
+        ensures { OnOk result (tags.new ≡ tags.old ++ self.now) }
     {
         let segments = self.segments();
         for segment in segments {
-            names.push_all(alloc, segment.names())?;
+            tags.push_all(alloc, segment.tags())?;
         }
         Ok(())
     }
 }
 
-/// Copies of names, and of others behind them.
-fn both_names(alloc: Global, front: &[ByteText], back: &[ByteText]) -> Result<Rc<TagNames>, Memory>
-    ensures { IfOk result (λ names. names.value ≡ front.now ++ back.now) }
+/// Copies of tags, and of others behind them.
+fn both_tags(alloc: Global, front: &[Tag], back: &[Tag]) -> Result<Rc<TagNames>, Memory>
+    ensures { IfOk result (λ tags. tags.value ≡ front.now ++ back.now) }
 {
-    let mut names = TagNames::new(alloc);
-    names.push_all(alloc, front)?;
-    names.push_all(alloc, back)?;
-    Ok(Rc::new(alloc, names)?)
+    let mut tags = TagNames::new(alloc);
+    tags.push_all(alloc, front)?;
+    tags.push_all(alloc, back)?;
+    Ok(Rc::new(alloc, tags)?)
 }
 
 /// Appends a segment. It is joined with the last one where both are short.
@@ -237,7 +239,7 @@ fn join(
     segments: &mut Vec<Rc<TagNames>>,
     segment: Rc<TagNames>,
 ) -> Result<(), Memory>
-    ensures { OnOk result (flat_map (λ names. names.value) segments.new.items ≡ flat_map (λ names. names.value) segments.old.items ++ segment.value) }
+    ensures { OnOk result (flat_map (λ tags. tags.value) segments.new.items ≡ flat_map (λ tags. tags.value) segments.old.items ++ segment.value) }
 {
     let Some(last) = segments.pop() else {
         segments.push(segment)?;
@@ -248,13 +250,12 @@ fn join(
         segments.push(segment)?;
         return Ok(());
     }
-    let both = both_names(alloc, last.names(), segment.names())?;
+    let both = both_tags(alloc, last.tags(), segment.tags())?;
     segments.push(both)?;
     Ok(())
 }
 
-/// The names of an expression's tags: those that are shared with definitions, and its own behind them. Contracts see all of them,
-/// in order.
+/// The tags of an expression: those that are shared with definitions, and its own behind them. Contracts see all of them, in order.
 #[derive(Drop)]
 pub struct SeenTags {
     shared: SharedTags,
@@ -262,13 +263,13 @@ pub struct SeenTags {
 }
 
 impl Model for SeenTags {
-    ghost Value = { List (List ℕ) };
+    ghost Value = { List tag_type };
 
     ghost view = { λ seen. seen.shared ++ seen.own };
 }
 
 impl SeenTags {
-    /// No names. It takes no memory.
+    /// No tags. It takes no memory.
     pub fn new(alloc: Global) -> SeenTags
         ensures { result ≡ [] }
     {
@@ -278,28 +279,28 @@ impl SeenTags {
         }
     }
 
-    /// How many names there are; 2^40 stands for itself and for more.
+    /// How many tags there are; 2^40 stands for itself and for more.
     pub fn len(&self) -> u64
         ensures { result ≡ kept (length self.now) }
     {
         sum(self.shared.len(), self.own.len() as u64)
     }
 
-    /// Whether a name is one of them.
+    /// Whether one of them has a name.
     pub fn contains(&self, name: &[u8]) -> bool
-        ensures { result ≡ is_among name.now self.now }
+        ensures { result ≡ is_tag_among name.now self.now }
     {
         self.shared.contains(name) || self.own.contains(name)
     }
 
-    /// Appends a copy of a name.
-    pub fn push(&mut self, alloc: Global, name: &[u8]) -> Result<(), Memory>
-        ensures { OnOk result (self.new ≡ self.old ++ name.now ∷ []) }
+    /// Appends a tag with a copy of a name; `many` says whether it has all its values.
+    pub fn push(&mut self, alloc: Global, name: &[u8], many: bool) -> Result<(), Memory>
+        ensures { OnOk result (self.new ≡ self.old ++ record { name = name.now; many = many } ∷ []) }
     {
-        self.own.push(alloc, name)
+        self.own.push(alloc, name, many)
     }
 
-    /// Appends the names of a definition. They are copied where they are few, and else shared.
+    /// Appends the tags of a definition. They are copied where they are few, and else shared.
     pub fn add(&mut self, alloc: Global, more: &SharedTags) -> Result<(), Memory>
         ensures { OnOk result (self.new ≡ self.old ++ more.now) }
     {
@@ -313,22 +314,22 @@ impl SeenTags {
         Ok(())
     }
 
-    /// Whether none of them is a name of a definition.
+    /// Whether none of them has the name of a definition's tag.
     fn is_apart(&self, tags: &SharedTags) -> bool
-        ensures { result ≡ not (list_any (λ name. is_among name tags.now) self.now) }
+        ensures { result ≡ not (list_any (λ (tag : tag_type). is_tag_among tag.name tags.now) self.now) }
     {
         let segments = self.shared.segments();
         for segment in segments {
-            if tags.has_any(segment.names()) {
+            if tags.has_any(segment.tags()) {
                 return false;
             }
         }
-        !tags.has_any(self.own.names())
+        !tags.has_any(self.own.tags())
     }
 
-    /// The same names, all of them to be shared.
+    /// The same tags, all of them to be shared.
     pub fn into_shared(self, alloc: Global) -> Result<SharedTags, Memory>
-        ensures { IfOk result (λ names. names ≡ self) }
+        ensures { IfOk result (λ tags. tags ≡ self) }
     {
         let SeenTags { shared, own } = self;
         shared.with(alloc, own)
@@ -349,14 +350,14 @@ pub fn tag_name(text: &[u8]) -> &[u8]
 fn repeated_among(
     alloc: Global,
     at: Pos,
-    tags: &[ByteText],
+    tags: &[Tag],
     seen: &SeenTags,
 ) -> Result<Option<Fault>, Memory>
     ensures { IfOk result (λ found. found ≡ repeated_tag at tags.now seen.now) }
 {
     for tag in tags {
-        if seen.contains(tag.as_slice()) {
-            let name = ByteText::copy_of(alloc, tag.as_slice())?;
+        if seen.contains(tag.name.as_slice()) {
+            let name = ByteText::copy_of(alloc, tag.name.as_slice())?;
             return Ok(Some(Fault::DuplicateTag { at, name }));
         }
     }
@@ -378,7 +379,7 @@ pub fn repeated_tag(
     }
     let segments = tags.segments();
     for segment in segments {
-        let found = repeated_among(alloc, at, segment.names(), seen)?;
+        let found = repeated_among(alloc, at, segment.tags(), seen)?;
         if found.is_some() {
             return Ok(found);
         }

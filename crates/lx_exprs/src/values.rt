@@ -8,7 +8,7 @@ ghost use Rattle.lx_exprs.specs.Values.{HasPoints};
 
 use crate::sets::Collected;
 use lx_base::Memory;
-use lx_base::limits::NESTING_LIMIT;
+use lx_base::limits::{NESTING_LIMIT, TAG_LIMIT};
 use lx_class::ClassSet;
 use lx_regex::Expr;
 use lx_token::Repeat;
@@ -28,7 +28,7 @@ impl Room {
     ghost use Rattle.std.specs.Prelude.{◌≡◌};
     ghost use Rattle.lx_exprs.specs.Defined.{fits};
 
-    /// Whether an expression of this size and nesting, with so many tags up to its end, is built.
+    /// Whether an expression of this size and nesting, with so many tags up to its end, two for each group, is built.
     fn fits(self, size: u64, nesting: u64, tags: u64) -> bool
         ensures { result ≡ fits self size nesting tags }
     {
@@ -55,7 +55,9 @@ pub struct Value {
     content: Content,
     pub size: u64,
     pub nesting: u64,
-    /// How many tags its item has up to its end.
+    /// How many groups it has.
+    pub groups: u64,
+    /// How many tags its item has up to its end, two for each group.
     pub tags: u64,
 }
 
@@ -137,10 +139,11 @@ fn joined(front: Vec<Expr>, back: Vec<Expr>) -> Result<Vec<Expr>, Memory>
 }
 
 impl Content {
-    ghost use Rattle.std.specs.Prelude.{◌≡◌, ◌≤◌, ◌+◌, ◌*◌, ℕ, Bool, IfOk, IfSome, IfNone, false, not, true, map, sum};
+    ghost use Rattle.std.specs.Prelude.{◌≡◌, ◌<◌, ◌≤◌, ◌+◌, ◌*◌, ℕ, suc, Bool, IfOk, IfSome, IfNone, false, not, true, map, sum};
+    ghost use Rattle.lx_base.specs.declared.limits.TheConstants.{TAG_LIMIT};
     ghost use Rattle.lx_regex.specs.Expr.{members_of, size_of, term_of, times};
-    ghost use Rattle.lx_exprs.specs.Defined.{Meaning, meant_class, term_of_meaning};
-    ghost use Rattle.lx_exprs.specs.Meanings.{alternated, enclosed, followed, in_choice, in_row, repeated_by};
+    ghost use Rattle.lx_exprs.specs.Defined.{Meaning, kept, meant_class, term_of_meaning};
+    ghost use Rattle.lx_exprs.specs.Meanings.{alternated, enclosed, followed, grouped, in_choice, in_row, repeated_by};
     ghost use Rattle.lx_exprs.specs.Values.{AreTagsBelow, HasPoints, HasTagsBelow, HaveTagsBelow, IsContent, content_size, is_choice_content, is_past};
 
     /// Whether it is built.
@@ -292,7 +295,7 @@ impl Content {
         Ok(Content::One(Expr::Rep(body, bounds.min as u32, high)))
     }
 
-    /// The same in parentheses.
+    /// The same in parentheses that are no group.
     fn enclosed(self) -> Content
         ensures stands { (is_built is_built_around : Bool) (meaning : Meaning) → IsContent is_built meaning self
             → (is_built ≡ false → is_built_around ≡ false) → IsContent is_built_around (enclosed meaning) result }
@@ -306,14 +309,32 @@ impl Content {
             Content::Past(class, _) => Content::Past(class, false),
         }
     }
+
+    /// The same in parentheses that are a group, behind so many others. One that is past the limit is not built.
+    fn grouped(self, alloc: Global, before: u64) -> Result<Content, Memory>
+        ensures stands { (is_built is_built_around : Bool) (meaning : Meaning) → IsContent is_built meaning self
+            → (is_built ≡ false → is_built_around ≡ false) → (TAG_LIMIT ≤ before → is_built_around ≡ false)
+            → IfOk result (IsContent is_built_around (grouped (kept (suc before)) meaning)) }
+        ensures size { IfOk result (λ around. content_size around ≤ content_size self + 2) }
+        ensures tags { (bound : ℕ) → AreTagsBelow bound self → (before < TAG_LIMIT → 2 * suc before ≤ bound) → IfOk result (AreTagsBelow bound) }
+    {
+        if before >= TAG_LIMIT {
+            return Ok(Content::Past(None, false));
+        }
+        let Some(body) = self.into_expr() else {
+            return Ok(Content::Past(None, false));
+        };
+        let body = Box::new(alloc, body)?;
+        Ok(Content::One(Expr::Group(before as u32 + 1, body)))
+    }
 }
 
 impl Value {
-    ghost use Rattle.std.specs.Prelude.{◌≡◌, ◌≤◌, ℕ, IfNone, IfOk, IfSome, false};
+    ghost use Rattle.std.specs.Prelude.{◌≡◌, ◌≤◌, suc, IfNone, IfOk, IfSome, false};
     ghost use Rattle.std.specs.Option.{option_map};
     ghost use Rattle.lx_regex.specs.Expr.{size_of, term_of};
-    ghost use Rattle.lx_exprs.specs.Defined.{HasClass, IsTermKept, Meaning, is_built, meant_class, term_of_meaning, whole_room};
-    ghost use Rattle.lx_exprs.specs.Meanings.{alternated, enclosed, followed, repeated_by};
+    ghost use Rattle.lx_exprs.specs.Defined.{HasClass, IsTermKept, Meaning, is_built, kept, meant_class, term_of_meaning, whole_room};
+    ghost use Rattle.lx_exprs.specs.Meanings.{alternated, enclosed, followed, grouped, repeated_by};
     ghost use Rattle.lx_exprs.specs.Values.{AreTagsBelow, IsContent, IsCounted, IsBounded, IsRoom, IsValue, content_size};
     ghost use Rattle.lx_exprs.specs.Soundness.{FitsKept};
 
@@ -324,17 +345,20 @@ impl Value {
         content: Content,
         size: u64,
         nesting: u64,
+        groups: u64,
         tags: u64,
     ) -> Result<Value, Memory>
         requires { IsRoom room }
-        ensures stands { (meaning : Meaning) → IsCounted meaning size nesting tags → IsContent (is_built room meaning) meaning content → IfOk result (IsValue room meaning) }
-        ensures bounded { (count : ℕ) → 1 ≤ size → (size ≤ SIZE_LIMIT → content_size content ≤ size) → AreTagsBelow count content → IfOk result (IsBounded count) }
+        ensures stands { (meaning : Meaning) → IsCounted meaning size nesting groups tags → IsContent (is_built room meaning) meaning content → IfOk result (IsValue room meaning) }
+        ensures bounded { 1 ≤ size → (size ≤ SIZE_LIMIT → content_size content ≤ size) → AreTagsBelow tags content → IfOk result IsBounded }
+        ensures groups { IfOk result (λ value. value.groups ≡ groups) }
     {
         if room.fits(size, nesting, tags) {
             return Ok(Value {
                 content,
                 size,
                 nesting,
+                groups,
                 tags,
             });
         }
@@ -344,20 +368,36 @@ impl Value {
             content: Content::Past(class, alternatives),
             size,
             nesting,
+            groups,
             tags,
         })
     }
 
-    /// This in parentheses.
+    /// This in parentheses that are no group.
     pub fn enclosed(self, alloc: Global, room: Room) -> Result<Value, Memory>
         requires { IsRoom room }
         ensures stands { (meaning : Meaning) → IsValue room meaning self → IfOk result (IsValue room (enclosed meaning)) }
-        ensures bounded { (count : ℕ) → IsBounded count self → IfOk result (IsBounded count) }
+        ensures bounded { IsBounded self → IfOk result IsBounded }
     {
-        let (size, tags) = (self.size, self.tags);
+        let (size, groups, tags) = (self.size, self.groups, self.tags);
         let nesting = sum(self.nesting, 1);
         let content = self.content.enclosed();
-        Value::limited(alloc, room, content, size, nesting, tags)
+        Value::limited(alloc, room, content, size, nesting, groups, tags)
+    }
+
+    /// This in parentheses that are a group, behind so many others.
+    pub fn grouped(self, alloc: Global, room: Room, before: u64) -> Result<Value, Memory>
+        requires { IsRoom room }
+        ensures stands { (meaning : Meaning) → IsValue room meaning self → IfOk result (IsValue room (grouped (kept (suc before)) meaning)) }
+        ensures bounded { IsBounded self → IfOk result IsBounded }
+    {
+        let size = sum(self.size, 2);
+        let nesting = sum(self.nesting, 1);
+        let groups = sum(self.groups, 1);
+        let number = sum(before, 1);
+        let tags = self.tags.max(sum(number, number));
+        let content = self.content.grouped(alloc, before)?;
+        Value::limited(alloc, room, content, size, nesting, groups, tags)
     }
 
     /// This, repeated.
@@ -366,40 +406,42 @@ impl Value {
         requires least { bounds.min ≤ BOUND_LIMIT }
         requires most { IfSome bounds.max (λ most. most ≤ BOUND_LIMIT) }
         ensures stands { (meaning : Meaning) → IsValue room meaning self → IfOk result (IsValue room (repeated_by bounds meaning)) }
-        ensures bounded { (count : ℕ) → IsBounded count self → IfOk result (IsBounded count) }
+        ensures bounded { IsBounded self → IfOk result IsBounded }
     {
         let size = sum(MOST_KEPT.min(self.size.saturating_mul(times(bounds))), 1);
         let nesting = sum(self.nesting, 1);
-        let tags = self.tags;
+        let (groups, tags) = (self.groups, self.tags);
         let content = self.content.repeated(alloc, bounds)?;
-        Value::limited(alloc, room, content, size, nesting, tags)
+        Value::limited(alloc, room, content, size, nesting, groups, tags)
     }
 
     /// This, and something behind it.
     pub fn followed_by(self, alloc: Global, room: Room, back: Value) -> Result<Value, Memory>
         requires { IsRoom room }
         ensures stands { (first second : Meaning) → IsValue room first self → IsValue room second back → IfOk result (IsValue room (followed first second)) }
-        ensures bounded { (count : ℕ) → IsBounded count self → IsBounded count back → IfOk result (IsBounded count) }
+        ensures bounded { IsBounded self → IsBounded back → IfOk result IsBounded }
     {
         let size = sum(self.size, back.size);
         let nesting = self.nesting.max(back.nesting);
+        let groups = sum(self.groups, back.groups);
         let tags = self.tags.max(back.tags);
         let content = self.content.followed_by(alloc, back.content)?;
-        Value::limited(alloc, room, content, size, nesting, tags)
+        Value::limited(alloc, room, content, size, nesting, groups, tags)
     }
 
     /// This, or something else.
     pub fn beside(self, alloc: Global, room: Room, right: Value) -> Result<Value, Memory>
         requires { IsRoom room }
         ensures stands { (first second : Meaning) → IsValue room first self → IsValue room second right → IfOk result (IsValue room (alternated first second)) }
-        ensures bounded { (count : ℕ) → IsBounded count self → IsBounded count right → IfOk result (IsBounded count) }
+        ensures bounded { IsBounded self → IsBounded right → IfOk result IsBounded }
     {
         let more = if self.content.is_choice() { 0 } else { 1 };
         let size = sum(sum(self.size, more), right.size);
         let nesting = self.nesting.max(right.nesting);
+        let groups = sum(self.groups, right.groups);
         let tags = self.tags.max(right.tags);
         let content = self.content.beside(alloc, right.content)?;
-        Value::limited(alloc, room, content, size, nesting, tags)
+        Value::limited(alloc, room, content, size, nesting, groups, tags)
     }
 
     /// The class that it is, if it is one.
@@ -416,7 +458,7 @@ impl Value {
     pub fn into_kept(self, alloc: Global) -> Result<Option<Expr>, Memory>
         ensures term { (meaning : Meaning) → IsValue whole_room meaning self
             → IfOk result (λ found. IsTermKept (is_built whole_room meaning) meaning (option_map (term_of 0) found)) }
-        ensures kept { (count : ℕ) → IsBounded count self → IfOk result (λ found. FitsKept found self.size count) }
+        ensures kept { IsBounded self → IfOk result (λ found. FitsKept found self.size self.tags) }
     {
         match self.content {
             Content::Past(class, _) => match class {
@@ -432,7 +474,7 @@ impl Value {
         ensures built { (room : Room) (meaning : Meaning) → IsValue room meaning self
             → IfSome result (λ expr. term_of 0 expr ≡ term_of_meaning meaning) }
         ensures past { (room : Room) (meaning : Meaning) → IsValue room meaning self → IfNone result (is_built room meaning ≡ false) }
-        ensures kept { (count : ℕ) → IsBounded count self → FitsKept result self.size count }
+        ensures kept { IsBounded self → FitsKept result self.size self.tags }
     {
         self.content.into_expr()
     }

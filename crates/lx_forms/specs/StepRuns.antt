@@ -1,6 +1,6 @@
 -- How the steps of an expression are found. From left to right each token puts out what is done, with no operand marked, and what
 -- is done only behind other tokens is owed. Then, from right to left, each step tells of what it takes whether that is an operand.
-use Rattle.std.specs.Prelude.{Bool, true, false, List, [], ◌∷◌, ◌++◌, drop, Option, None, Some}
+use Rattle.std.specs.Prelude.{Bool, true, false, not, ◌&&◌, List, [], ◌∷◌, ◌++◌, drop, Option, None, Some}
 use Rattle.lx_parse.specs.declared.sorts.Sort.{Sort}
 use Rattle.lx_parse.specs.declared.sorts.Sort.TheVariants.{Bar, Backslash, Open, Close, Star, Plus, Question, Bounds}
 use Rattle.lx_forms.specs.Lexemes.{Lexeme, sort_at}
@@ -122,21 +122,23 @@ marked mark (reads is_operand lexeme) = reads mark lexeme
 marked mark (subtracts is_operand sign) = subtracts mark sign
 marked mark step = step
 
--- The marks that are left before a step, where those behind it are these: its own is taken, and of each thing that it takes there is one more.
-abbrev pub marks_before : Step → List Bool → List Bool
-marks_before (reads is_operand lexeme) marks = drop 1 marks
-marks_before (opens opening) marks = marks
-marks_before (closes opening) marks = marks
-marks_before (repeats sign) marks = false ∷ drop 1 marks
-marks_before joins marks = false ∷ (false ∷ drop 1 marks)
-marks_before (subtracts is_operand sign) marks = true ∷ (true ∷ drop 1 marks)
-marks_before chooses marks = first_mark marks ∷ (first_mark marks ∷ drop 1 marks)
+module _ (are_groups : Bool) where
+  -- The marks that are left before a step, where those behind it are these: its own is taken, and of each thing that it takes there
+  -- is one more. What stands in parentheses has their mark, unless they are a group.
+  abbrev pub marks_before : Step → List Bool → List Bool
+  marks_before (reads is_operand lexeme) marks = drop 1 marks
+  marks_before (opens opening) marks = marks
+  marks_before (closes opening) marks = (first_mark marks && not are_groups) ∷ drop 1 marks
+  marks_before (repeats sign) marks = false ∷ drop 1 marks
+  marks_before joins marks = false ∷ (false ∷ drop 1 marks)
+  marks_before (subtracts is_operand sign) marks = true ∷ (true ∷ drop 1 marks)
+  marks_before chooses marks = first_mark marks ∷ (first_mark marks ∷ drop 1 marks)
 
--- the marks that are left before steps, and the steps with their marks
-abbrev pub marks_at : List Step → List Bool → List Bool
-marks_at [] marks = marks
-marks_at (step ∷ steps) marks = marks_before step (marks_at steps marks)
+  -- the marks that are left before steps, and the steps with their marks
+  abbrev pub marks_at : List Step → List Bool → List Bool
+  marks_at [] marks = marks
+  marks_at (step ∷ steps) marks = marks_before step (marks_at steps marks)
 
-abbrev pub marked_steps : List Step → List Bool → List Step
-marked_steps [] marks = []
-marked_steps (step ∷ steps) marks = marked (first_mark (marks_at steps marks)) step ∷ marked_steps steps marks
+  abbrev pub marked_steps : List Step → List Bool → List Step
+  marked_steps [] marks = []
+  marked_steps (step ∷ steps) marks = marked (first_mark (marks_at steps marks)) step ∷ marked_steps steps marks

@@ -1,5 +1,5 @@
 -- The steps in which an expression is read: what stands in a form comes before the form.
-use Rattle.std.specs.Prelude.{Bool, true, false, List, [], ◌∷◌, ◌++◌}
+use Rattle.std.specs.Prelude.{Bool, true, false, not, ◌&&◌, List, [], ◌∷◌, ◌++◌}
 use Rattle.lx_forms.specs.Forms.{Form, leaf, group, repeated, sequence, difference, alternative}
 use Rattle.lx_forms.specs.Lexemes.{Lexeme}
 
@@ -14,11 +14,16 @@ pub data Step : Type 0 where
   subtracts : (is_operand : Bool) (sign : Lexeme) → Step
   chooses : Step
 
--- the steps of a form, which is an operand of a difference or not
-abbrev pub steps_of : (is_operand : Bool) → Form → List Step
-steps_of is_operand (leaf lexeme) = reads is_operand lexeme ∷ []
-steps_of is_operand (group opening inner) = opens opening ∷ (steps_of is_operand inner ++ closes opening ∷ [])
-steps_of is_operand (repeated inner sign) = steps_of false inner ++ repeats sign ∷ []
-steps_of is_operand (sequence front back) = steps_of false front ++ (steps_of false back ++ joins ∷ [])
-steps_of is_operand (difference left sign right) = steps_of true left ++ (steps_of true right ++ subtracts is_operand sign ∷ [])
-steps_of is_operand (alternative left sign right) = steps_of is_operand left ++ (steps_of is_operand right ++ chooses ∷ [])
+-- The steps of a form, which is an operand of a difference or not. What stands in parentheses around an operand is one too, unless
+-- parentheses are groups.
+abbrev pub steps_of : (are_groups is_operand : Bool) → Form → List Step
+steps_of are_groups is_operand (leaf lexeme) = reads is_operand lexeme ∷ []
+steps_of are_groups is_operand (group opening inner) =
+    opens opening ∷ (steps_of are_groups (is_operand && not are_groups) inner ++ closes opening ∷ [])
+steps_of are_groups is_operand (repeated inner sign) = steps_of are_groups false inner ++ repeats sign ∷ []
+steps_of are_groups is_operand (sequence front back) =
+    steps_of are_groups false front ++ (steps_of are_groups false back ++ joins ∷ [])
+steps_of are_groups is_operand (difference left sign right) =
+    steps_of are_groups true left ++ (steps_of are_groups true right ++ subtracts is_operand sign ∷ [])
+steps_of are_groups is_operand (alternative left sign right) =
+    steps_of are_groups is_operand left ++ (steps_of are_groups is_operand right ++ chooses ∷ [])

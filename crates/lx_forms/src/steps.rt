@@ -272,14 +272,19 @@ fn put_two(marks: &mut Vec<bool>, mark: bool) -> Result<(), Memory>
     Ok(())
 }
 
-/// A step with its mark, which is taken from the marks; those of what it takes are put there.
-fn marked(step: Step, marks: &mut Vec<bool>) -> Result<Step, Memory>
+/// A step with its mark, which is taken from the marks; those of what it takes are put there. What stands in parentheses has their
+/// mark, unless they are a group.
+fn marked(step: Step, marks: &mut Vec<bool>, are_groups: bool) -> Result<Step, Memory>
     ensures step { IfOk result (λ after. (lexemes : List lexical.Lexeme) → step_view lexemes after ≡ marked (first_mark (reverse marks.old.items)) (step_view lexemes step)) }
-    ensures marks { OnOk result ((lexemes : List lexical.Lexeme) → reverse marks.new.items ≡ marks_before (step_view lexemes step) (reverse marks.old.items)) }
+    ensures marks { OnOk result ((lexemes : List lexical.Lexeme) → reverse marks.new.items ≡ marks_before are_groups (step_view lexemes step) (reverse marks.old.items)) }
 {
     let mut step = step;
     match step.sort {
-        StepSort::Open | StepSort::Close => {}
+        StepSort::Open => {}
+        StepSort::Close => {
+            let is_operand = take_mark(marks);
+            marks.push(is_operand && !are_groups)?;
+        }
         StepSort::Read => step.is_operand = take_mark(marks),
         StepSort::Repeat => {
             take_mark(marks);
@@ -302,31 +307,32 @@ fn marked(step: Step, marks: &mut Vec<bool>) -> Result<Step, Memory>
 }
 
 /// Marks the leaves and differences that are operands of a difference, in the steps of an expression that is none itself.
-fn mark_operands(alloc: Global, steps: &mut [Step]) -> Result<(), Memory>
-    ensures { OnOk result ((lexemes : List lexical.Lexeme) → map (step_view lexemes) steps.new ≡ marked_steps (map (step_view lexemes) steps.old) (false ∷ [])) }
+fn mark_operands(alloc: Global, steps: &mut [Step], are_groups: bool) -> Result<(), Memory>
+    ensures { OnOk result ((lexemes : List lexical.Lexeme) → map (step_view lexemes) steps.new ≡ marked_steps are_groups (map (step_view lexemes) steps.old) (false ∷ [])) }
 {
     let mut marks = Vec::new(alloc);
     marks.push(false)?;
     for index in (0..steps.len()).rev() {
-        steps[index] = marked(steps[index], &mut marks)?;
+        steps[index] = marked(steps[index], &mut marks, are_groups)?;
     }
     Ok(())
 }
 
-/// The steps of the expression that stands from one token up to another.
+/// The steps of the expression that stands from one token up to another, where parentheses are groups or none.
 pub fn expression_steps(
     alloc: Global,
     lexemes: Lexemes<'_>,
     from: usize,
     until: usize,
+    are_groups: bool,
 ) -> Result<Vec<Step>, Memory>
     requires part { IsPart (sorts_at (lexemes_view lexemes)) alt from until }
     requires few { until < 2 ^ 32 }
     ensures { let texts = lexemes_view lexemes.entry in
         IfOk result (λ steps. (form : Form) → IsForm alt (drop from texts) (drop until texts) form
-        → map (step_view texts) steps.items ≡ steps_of false form) }
+        → map (step_view texts) steps.items ≡ steps_of are_groups false form) }
 {
     let mut steps = unmarked_steps(alloc, lexemes, from, until)?;
-    mark_operands(alloc, &mut steps)?;
+    mark_operands(alloc, &mut steps, are_groups)?;
     Ok(steps)
 }

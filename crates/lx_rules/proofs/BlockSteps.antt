@@ -8,13 +8,14 @@ use Rattle.lx_base.specs.declared.faults.Fault.{Fault}
 use Rattle.lx_base.specs.declared.faults.Fault.TheVariants.{BadValue, EofPair, NoRules}
 use Rattle.lx_regex.specs.declared.rules.Kind.{Kind}
 use Rattle.lx_regex.specs.declared.rules.Kind.TheVariants as kind
+use Rattle.lx_regex.specs.declared.rules.Tag.{Tag}
 use Rattle.lx_exprs.specs.Checks.{is_among}
 use Rattle.lx_exprs.proofs.TagLists.SharedNames.{each_apart, each_both}
 use Rattle.lx_rules.specs.Items.{State, is_default, is_end}
 use Rattle.lx_rules.specs.Rules.{RuleOf}
 use Rattle.lx_rules.specs.Environments.{config_of}
 use Rattle.lx_rules.specs.Blocks.{every, conditions_behind, conditions_of, rules_under, of_kind, not_of_kind, own_or, shared_beside, scanner_rules, rules_of, size_of, nesting_of, tags_of, limits_fault, scanner_fault, scanners_fault, lonely_fault, targets_fault, ScannerChecks, NoClash}
-use Rattle.lx_rules.specs.Keeping.{IsUsual, names_of}
+use Rattle.lx_rules.specs.Keeping.{IsUsual, tags_in}
 
 -- the rules are usual ones
 abbrev pub AreUsual : List RuleOf → Type 0
@@ -105,17 +106,17 @@ size_of-in_order rules = size_of-both (not_of_kind is_default rules) (of_kind is
         at true e later = rw (e) (omega (arith, later))
         at false e later = rw (e) (omega (arith, later))
 
-pub tags_of-in_order : (rules : List RuleOf) → tags_of (in_order rules) ≡ length (names_of rules)
+pub tags_of-in_order : (rules : List RuleOf) → tags_of (in_order rules) ≡ length (tags_in rules)
 tags_of-in_order rules = tags_of-both (not_of_kind is_default rules) (of_kind is_default rules) ∙ apart rules
   where
-    apart : (rules : List RuleOf) → tags_of (not_of_kind is_default rules) + tags_of (of_kind is_default rules) ≡ length (names_of rules)
+    apart : (rules : List RuleOf) → tags_of (not_of_kind is_default rules) + tags_of (of_kind is_default rules) ≡ length (tags_in rules)
     apart [] = omega arith
     apart (rule ∷ rules) = at (is_default rule.kind) refl (apart rules)
       where
-        at : (b : Bool) → is_default rule.kind ≡ b → tags_of (not_of_kind is_default rules) + tags_of (of_kind is_default rules) ≡ length (names_of rules)
-            → tags_of (not_of_kind is_default (rule ∷ rules)) + tags_of (of_kind is_default (rule ∷ rules)) ≡ length (names_of (rule ∷ rules))
-        at true e later = let longer = length-append rule.meaning.tags (names_of rules) in rw (e) (omega (arith, later, longer))
-        at false e later = let longer = length-append rule.meaning.tags (names_of rules) in rw (e) (omega (arith, later, longer))
+        at : (b : Bool) → is_default rule.kind ≡ b → tags_of (not_of_kind is_default rules) + tags_of (of_kind is_default rules) ≡ length (tags_in rules)
+            → tags_of (not_of_kind is_default (rule ∷ rules)) + tags_of (of_kind is_default (rule ∷ rules)) ≡ length (tags_in (rule ∷ rules))
+        at true e later = let longer = length-append rule.meaning.tags (tags_in rules) in rw (e) (omega (arith, later, longer))
+        at false e later = let longer = length-append rule.meaning.tags (tags_in rules) in rw (e) (omega (arith, later, longer))
 
 nesting_of-in_order : (rules : List RuleOf) → nesting_of (in_order rules) ≡ nesting_of rules
 nesting_of-in_order rules = nesting_of-both (not_of_kind is_default rules) (of_kind is_default rules) ∙ apart rules
@@ -165,21 +166,21 @@ no_targets : (rules : List RuleOf) (conds : List (List ℕ)) → AreUsual rules 
 no_targets [] conds usual = refl
 no_targets (rule ∷ rules) conds usual = let goes = usual.0.no_target in rw (goes) (no_targets rules conds usual.1)
 
--- a fact of the names of all tags is one of those of each rule
-module _ (P : List ℕ → Type 0) where
-  pub each_name : (rules : List RuleOf) → AllByRecursion P (names_of rules) → AllByRecursion (λ (rule : RuleOf). AllByRecursion P rule.meaning.tags) rules
-  each_name [] all = tt
-  each_name (rule ∷ rules) all =
-      let apart = each_apart P rule.meaning.tags (names_of rules) all in (apart.0, each_name rules apart.1)
+-- a fact of all tags is one of those of each rule
+module _ (P : Tag → Type 0) where
+  pub each_tag : (rules : List RuleOf) → AllByRecursion P (tags_in rules) → AllByRecursion (λ (rule : RuleOf). AllByRecursion P rule.meaning.tags) rules
+  each_tag [] all = tt
+  each_tag (rule ∷ rules) all =
+      let apart = each_apart P rule.meaning.tags (tags_in rules) all in (apart.0, each_tag rules apart.1)
 
-  pub all_names : (rules : List RuleOf) → AllByRecursion (λ (rule : RuleOf). AllByRecursion P rule.meaning.tags) rules → AllByRecursion P (names_of rules)
-  all_names [] all = tt
-  all_names (rule ∷ rules) all = each_both P rule.meaning.tags (names_of rules) all.0 (all_names rules all.1)
+  pub all_tags : (rules : List RuleOf) → AllByRecursion (λ (rule : RuleOf). AllByRecursion P rule.meaning.tags) rules → AllByRecursion P (tags_in rules)
+  all_tags [] all = tt
+  all_tags (rule ∷ rules) all = each_both P rule.meaning.tags (tags_in rules) all.0 (all_tags rules all.1)
 
 module _ (at : Pos) (state : State) (usual : AreUsual state.rules) where
   -- what the limits say of rules
   abbrev pub over : List RuleOf → Option Fault
-  over rules = limits_fault at (size_of rules) (nesting_of rules) (length (names_of rules))
+  over rules = limits_fault at (size_of rules) (nesting_of rules) (length (tags_in rules))
 
   scanner_usual : (rule : RuleOf) (rules : List RuleOf) → AreUsual (rule ∷ rules) → scanner_fault at (rules_of [] (rule ∷ rules)) ≡ over (rule ∷ rules)
   scanner_usual rule rules are =

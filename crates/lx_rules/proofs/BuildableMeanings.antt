@@ -15,13 +15,14 @@ use Rattle.lx_regex.specs.Expr.{members_of, times}
 use Rattle.lx_regex.specs.Limits.{member_count}
 use Rattle.lx_regex.specs.Term.{Term, Terms, empty, class, any_unit, cat, alt, repeat, tag, nil, cons}
 use Rattle.lx_regex.specs.Term as term
+use Rattle.lx_regex.specs.declared.rules.Tag.{Tag}
 use Rattle.lx_rules.specs.Buildable.{IsExpressible, AreExpressible, IsBuildable}
-use Rattle.lx_exprs.specs.Checks.{tag_name, bounds_of, tags_of}
-use Rattle.lx_exprs.specs.Defined.{Definition, IsClassKept, IsDefined, IsTermKept, Meaning, Shape, one, row, choice, definition_of, is_built, meant_class, whole, whole_room}
+use Rattle.lx_exprs.specs.Checks.{are_groups, bounds_of, inner_operand, tag_of}
+use Rattle.lx_exprs.specs.Defined.{Before, Definition, IsClassKept, IsDefined, IsTermKept, Meaning, Shape, one, row, choice, count_of, definition_of, is_built, kept, meant_class, whole, whole_room}
 use Rattle.lx_forms.specs.Forms.{Form, leaf, group, repeated, sequence, difference, alternative}
 use Rattle.lx_rules.specs.Items.{any_meaning}
 use Rattle.lx_forms.specs.Lexemes.{Lexeme, points_in}
-use Rattle.lx_exprs.specs.Meanings.{IsLeafMeaning, IsMeaning, alternated, character_set, class_meaning, class_term, copied, enclosed, followed, in_choice, in_row, repeated_by, set_term, shifted, shifted_all, string_meaning, string_term, tag_meaning, term_or_empty}
+use Rattle.lx_exprs.specs.Meanings.{IsLeafMeaning, IsMeaning, alternated, character_set, class_meaning, class_term, copied, enclosed, followed, grouped, in_choice, in_group, in_parentheses, in_row, parenthesized, past, repeated_by, set_term, shifted, shifted_all, string_meaning, string_term, tag_meaning, term_or_empty}
 use Rattle.lx_exprs.proofs.Contents.ValueLimits.{at_least, both_of, times-some}
 use Rattle.lx_exprs.proofs.TagLists.TagNumbers.{member_count-shifted}
 
@@ -77,9 +78,9 @@ class_expressible false MatchEmpty (range ∷ set) = tt
 class_expressible false MatchNone set = tt
 class_expressible false Error set = tt
 
-class_buildable : (operand : Bool) (policy : EmptyPolicy) (nesting : ℕ) (tags : List (List ℕ)) (count : ℕ) (set : List Range)
-    → IsMeantBuildable (class_meaning operand policy nesting tags count set)
-class_buildable operand policy nesting tags count set =
+class_buildable : (operand : Bool) (policy : EmptyPolicy) (nesting : ℕ) (tags : List Tag) (groups count : ℕ) (set : List Range)
+    → IsMeantBuildable (class_meaning operand policy nesting tags groups count set)
+class_buildable operand policy nesting tags groups count set =
     record { some = omega arith; few = omega arith; expressible = λ within. class_expressible operand policy set }
 
 sets_expressible : (sets : List (List Range)) → AreExpressible (members_of (map set_term sets))
@@ -103,8 +104,8 @@ string_buildable count sets =
 pub any_buildable : IsMeantBuildable any_meaning
 any_buildable = record { some = omega arith; few = omega arith; expressible = λ within. tt }
 
-tag_buildable : (number : ℕ) (name : List ℕ) → IsMeantBuildable (tag_meaning number name)
-tag_buildable number name = record { some = omega arith; few = omega arith; expressible = λ within. tt }
+tag_buildable : (before : Before) (named : Tag) → IsMeantBuildable (tag_meaning before named)
+tag_buildable before named = record { some = omega arith; few = omega arith; expressible = λ within. tt }
 
 -- a copy of a definition
 module _ (by groups : ℕ) where
@@ -126,12 +127,27 @@ module _ (by groups : ℕ) where
     shifted_all_expressible nil are = tt
     shifted_all_expressible (cons member members) are = (shifted_expressible member are.0, shifted_all_expressible members are.1)
 
-copied_buildable : (by : ℕ) (definition : Definition) → IsBuildable definition → IsMeantBuildable (copied by definition)
-copied_buildable by definition is =
-    record { some = is.0; few = is.0; expressible = λ within. shifted_expressible by 0 (term_or_empty definition.term) is.1 }
+copied_buildable : (before : Before) (definition : Definition) → IsBuildable definition → IsMeantBuildable (copied before definition)
+copied_buildable before definition is = record {
+  some = is.0;
+  few = is.0;
+  expressible = λ within. shifted_expressible (length before.tags) before.groups (term_or_empty definition.term) is.1;
+}
 
 enclosed_buildable : (inner : Meaning) → IsMeantBuildable inner → IsMeantBuildable (enclosed inner)
 enclosed_buildable inner is = record { some = is.some; few = is.some; expressible = is.expressible }
+
+grouped_buildable : (number : ℕ) (inner : Meaning) → IsMeantBuildable inner → IsMeantBuildable (grouped number inner)
+grouped_buildable number inner is = record {
+  some = omega arith;
+  few = omega arith;
+  expressible = λ within. (number, refl, refl, is.expressible (omega (arith, within)));
+}
+
+parenthesized_buildable : (is_group : Bool) (before : Before) (inner : Meaning) → IsMeantBuildable inner
+    → IsMeantBuildable (parenthesized is_group before inner)
+parenthesized_buildable true before inner is = grouped_buildable (in_group before).groups inner is
+parenthesized_buildable false before inner is = enclosed_buildable inner is
 
 repeated_buildable : (bounds : Repeat) (inner : Meaning) → IsMeantBuildable inner → IsMeantBuildable (repeated_by bounds inner)
 repeated_buildable bounds inner is =
@@ -191,41 +207,45 @@ definition_buildable (first ∷ definitions) name definition are found =
     at false e later = later (rw (e) at found)
 
 module _ (options : Options) (definitions : List Definition) (ready : AllByRecursion IsBuildable definitions) where
-  leaf_buildable : (operand : Bool) (sort : TokenKind) (seen : List (List ℕ)) (lexeme : Lexeme) (meaning : Meaning)
-      → IsLeafMeaning options definitions operand sort seen lexeme meaning → IsMeantBuildable meaning
-  leaf_buildable operand kind.Str seen lexeme meaning is =
-      subst IsMeantBuildable (sym is) (string_buildable (length seen) (map (character_set options.surrogates false) (points_in lexeme)))
-  leaf_buildable operand kind.IStr seen lexeme meaning is =
-      subst IsMeantBuildable (sym is) (string_buildable (length seen) (map (character_set options.surrogates true) (points_in lexeme)))
-  leaf_buildable operand kind.Class seen lexeme meaning is =
-      subst IsMeantBuildable (sym is.2) (class_buildable operand options.empty 0 [] (length seen) is.0)
-  leaf_buildable operand kind.Signs seen lexeme meaning is =
-      subst IsMeantBuildable (sym is.2) (class_buildable operand options.empty 0 [] (length seen) is.0)
-  leaf_buildable operand kind.Name seen lexeme meaning is =
-      subst IsMeantBuildable (sym is.2) (copied_buildable (length seen) is.0 (definition_buildable definitions lexeme.text is.0 ready is.1))
-  leaf_buildable operand kind.STag seen lexeme meaning is =
-      subst IsMeantBuildable (sym is) (tag_buildable (length seen) (tag_name lexeme))
-  leaf_buildable operand sort seen lexeme meaning is = absurd is
+  leaf_buildable : (operand : Bool) (sort : TokenKind) (before : Before) (lexeme : Lexeme) (meaning : Meaning)
+      → IsLeafMeaning options definitions operand sort before lexeme meaning → IsMeantBuildable meaning
+  leaf_buildable operand kind.Str before lexeme meaning is =
+      subst IsMeantBuildable (sym is) (string_buildable (count_of before) (map (character_set options.surrogates false) (points_in lexeme)))
+  leaf_buildable operand kind.IStr before lexeme meaning is =
+      subst IsMeantBuildable (sym is) (string_buildable (count_of before) (map (character_set options.surrogates true) (points_in lexeme)))
+  leaf_buildable operand kind.Class before lexeme meaning is =
+      subst IsMeantBuildable (sym is.2) (class_buildable operand options.empty 0 [] 0 (count_of before) is.0)
+  leaf_buildable operand kind.Signs before lexeme meaning is =
+      subst IsMeantBuildable (sym is.2) (class_buildable operand options.empty 0 [] 0 (count_of before) is.0)
+  leaf_buildable operand kind.Name before lexeme meaning is =
+      subst IsMeantBuildable (sym is.2) (copied_buildable before is.0 (definition_buildable definitions lexeme.text is.0 ready is.1))
+  leaf_buildable operand kind.STag before lexeme meaning is =
+      subst IsMeantBuildable (sym is) (tag_buildable before (tag_of false lexeme))
+  leaf_buildable operand kind.MTag before lexeme meaning is =
+      subst IsMeantBuildable (sym is) (tag_buildable before (tag_of true lexeme))
+  leaf_buildable operand sort before lexeme meaning is = absurd is
 
   -- the meaning of each expression
-  pub form_buildable : (operand : Bool) (seen : List (List ℕ)) (form : Form) (meaning : Meaning)
-      → IsMeaning options definitions operand seen form meaning → IsMeantBuildable meaning
-  form_buildable operand seen (leaf lexeme) meaning is = leaf_buildable operand lexeme.kind seen lexeme meaning is
-  form_buildable operand seen (group opening inner) meaning is =
-      subst IsMeantBuildable (sym is.2) (enclosed_buildable is.0 (form_buildable operand seen inner is.0 is.1))
-  form_buildable operand seen (repeated inner sign) meaning is =
-      subst IsMeantBuildable (sym is.2) (repeated_buildable (bounds_of sign) is.0 (form_buildable false seen inner is.0 is.1))
-  form_buildable operand seen (sequence front back) meaning is =
+  pub form_buildable : (operand : Bool) (before : Before) (form : Form) (meaning : Meaning)
+      → IsMeaning options definitions operand before form meaning → IsMeantBuildable meaning
+  form_buildable operand before (leaf lexeme) meaning is = leaf_buildable operand lexeme.kind before lexeme meaning is
+  form_buildable operand before (group opening inner) meaning is =
+      subst IsMeantBuildable (sym is.2)
+      (parenthesized_buildable (are_groups options definitions) before is.0
+      (form_buildable (inner_operand options definitions operand) (in_parentheses (are_groups options definitions) before) inner is.0 is.1))
+  form_buildable operand before (repeated inner sign) meaning is =
+      subst IsMeantBuildable (sym is.2) (repeated_buildable (bounds_of sign) is.0 (form_buildable false before inner is.0 is.1))
+  form_buildable operand before (sequence front back) meaning is =
       subst IsMeantBuildable (sym is.4)
-      (followed_buildable is.0 is.1 (form_buildable false seen front is.0 is.2)
-      (form_buildable false (seen ++ tags_of options definitions front) back is.1 is.3))
-  form_buildable operand seen (difference left sign right) meaning is =
+      (followed_buildable is.0 is.1 (form_buildable false before front is.0 is.2)
+      (form_buildable false (past options definitions before front) back is.1 is.3))
+  form_buildable operand before (difference left sign right) meaning is =
       subst IsMeantBuildable (sym is.4.2)
-      (class_buildable operand options.empty (max is.0.nesting is.1.nesting) (is.0.tags ++ is.1.tags) (max is.0.count is.1.count) is.4.0)
-  form_buildable operand seen (alternative left sign right) meaning is =
+      (class_buildable operand options.empty (max is.0.nesting is.1.nesting) (is.0.tags ++ is.1.tags) (kept (is.0.groups + is.1.groups)) (max is.0.count is.1.count) is.4.0)
+  form_buildable operand before (alternative left sign right) meaning is =
       subst IsMeantBuildable (sym is.4)
-      (alternated_buildable is.0 is.1 (form_buildable operand seen left is.0 is.2)
-      (form_buildable operand (seen ++ tags_of options definitions left) right is.1 is.3))
+      (alternated_buildable is.0 is.1 (form_buildable operand before left is.0 is.2)
+      (form_buildable operand (past options definitions before left) right is.1 is.3))
 
 -- what is kept of an expression
 class_kept_expressible : (ranges : Option (List (ℕ × ℕ))) (term : Option Term) → IsClassKept ranges term → IsExpressible (term_or_empty term)

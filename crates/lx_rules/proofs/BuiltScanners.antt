@@ -1,19 +1,17 @@
 -- A block whose checks find nothing resolves: each of its scanners can be built.
 use Rattle.std.proofs.Common.{◌≡◌, ℕ, ◌≤◌, Bool, true, false, not, List, [], ◌∷◌, ◌++◌, map, length, Option, None, Some, refl, sym, ap, ap₂, ◌∙◌, arith}
 use Rattle.std.specs.List.{AllByRecursion, list_any, filter}
-use Rattle.std.proofs.lemmas.List.{length-map}
 use Rattle.std.specs.Option.{option_or}
 use Rattle.std.specs.Prelude.{◌||◌, if◌then◌else◌}
 use Rattle.lx_base.specs.declared.faults.Fault.{Fault}
 use Rattle.lx_base.specs.declared.faults.Fault.TheVariants.{EofPair, NoRules}
 use Rattle.lx_base.specs.declared.places.Pos.{Pos}
-use Rattle.lx_regex.specs.Expr.{term_of}
 use Rattle.lx_regex.specs.Pattern as regex
 use Rattle.lx_regex.specs.Pattern.{Pattern, patterns_of}
 use Rattle.lx_regex.specs.Term.{Term}
 use Rattle.lx_regex.specs.declared.rules.Rule.{Rule}
 use Rattle.lx_regex.specs.declared.rules.Tag.{Tag}
-use Rattle.lx_rules.specs.Blocks.{AreScanners, ClashCheck, ScannerChecks, IsResolved, IsScanner, cond_name, conditions_of, every, given_names, is_bare, limits_fault, lonely_fault, nesting_of, not_of_kind, of_kind, own_or, pattern_of, rules_of, rules_under, scanner_fault, scanner_rules, scanners_fault, shared_beside, size_of, tags_of, targets_fault}
+use Rattle.lx_rules.specs.Blocks.{AreScanners, ClashCheck, ScannerChecks, IsResolved, IsScanner, cond_name, conditions_of, every, given_names, is_bare, limits_fault, lonely_fault, names_of, nesting_of, not_of_kind, of_kind, own_or, pattern_of, rules_of, rules_under, scanner_fault, scanner_rules, scanners_fault, shared_beside, size_of, tags_of, targets_fault}
 use Rattle.lx_exprs.specs.Checks.{Check, Finds, Then, is_among}
 use Rattle.lx_exprs.specs.Defined.{term_of_meaning}
 use Rattle.lx_rules.specs.Environments.{config_of}
@@ -99,46 +97,34 @@ scanner_small at rules none =
     each_small rules (no_fault has_end (EofPair at) two.0)
     (limits_say at (size_of (not_of_kind is_end rules)) (nesting_of (not_of_kind is_end rules)) (tags_of (not_of_kind is_end rules)) (sym two.1)).0
 
--- a tag with its name
-abbrev named_tag : List ℕ → Tag
-named_tag name = record { name = name; many = false }
-
-tags_many : (names : List (List ℕ)) → map (λ (tag : Tag). tag.many) (map named_tag names) ≡ map (λ name. false) names
-tags_many [] = refl
-tags_many (name ∷ names) = ap (λ l. false ∷ l) (tags_many names)
-
-tags_names : (names : List (List ℕ)) → map (λ (tag : Tag). tag.name) (map named_tag names) ≡ names
-tags_names [] = refl
-tags_names (name ∷ names) = ap (λ l. name ∷ l) (tags_names names)
-
 -- the rule of an expression that stands for its meaning
 abbrev built_rule : (rule : RuleOf) → Expressed (term_of_meaning rule.meaning) → Rule
 built_rule rule expr = record {
   number = rule.act.number;
   kind = rule.kind;
   expr = expr.0;
-  tags = map named_tag rule.meaning.tags;
+  tags = rule.meaning.tags;
   slash = None;
   groups = 0;
 }
 
 rule_pattern : (rule : RuleOf) (expr : Expressed (term_of_meaning rule.meaning)) → regex.pattern_of (built_rule rule expr) ≡ pattern_of rule
 rule_pattern rule expr =
-    ap₂ make term (tags_many rule.meaning.tags)
+    ap make (term_of-behind expr.0 (length rule.meaning.tags) ∙ ap (behind (length rule.meaning.tags)) expr.1)
   where
-    count : length (map named_tag rule.meaning.tags) ≡ length rule.meaning.tags
-    count = length-map rule.meaning.tags named_tag
-
-    term : term_of (length (map named_tag rule.meaning.tags)) expr.0 ≡ behind (length rule.meaning.tags) (term_of_meaning rule.meaning)
-    term = term_of-behind expr.0 (length (map named_tag rule.meaning.tags)) ∙ ap₂ behind count expr.1
-
-    make : Term → List Bool → Pattern
-    make term many =
-        record { number = rule.act.number; kind = rule.kind; term = term; many = many; slash = None; groups = 0 }
+    make : Term → Pattern
+    make term = record {
+      number = rule.act.number;
+      kind = rule.kind;
+      term = term;
+      many = map (λ (tag : Tag). tag.many) rule.meaning.tags;
+      slash = None;
+      groups = 0;
+    }
 
 -- rules with the patterns and the names that are wanted
 abbrev AreBuilt : List RuleOf → List Rule → Type 0
-AreBuilt rules built = (patterns_of built ≡ map pattern_of rules) × (map given_names built ≡ map (λ (rule : RuleOf). rule.meaning.tags) rules)
+AreBuilt rules built = (patterns_of built ≡ map pattern_of rules) × (map given_names built ≡ map names_of rules)
 
 rules_built : (rules : List RuleOf) → AllByRecursion (λ (rule : RuleOf). IsMeantBuildable rule.meaning) rules
     → AllByRecursion (λ (rule : RuleOf). rule.meaning.size ≤ 4096) rules → (built : List Rule) × AreBuilt rules built
@@ -149,7 +135,7 @@ rules_built (rule ∷ rules) buildable small =
       built_rule rule expr ∷ others.0,
       (
         ap₂ (λ (p : Pattern) (l : List Pattern). p ∷ l) (rule_pattern rule expr) others.1.0,
-        ap₂ (λ (n : List (List ℕ)) (l : List (List (List ℕ))). n ∷ l) (tags_names rule.meaning.tags) others.1.1,
+        ap (λ (l : List (List (List ℕ))). names_of rule ∷ l) others.1.1,
       ),
     )
 

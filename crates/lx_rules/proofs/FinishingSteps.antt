@@ -16,6 +16,8 @@ use Rattle.lx_regex.specs.declared.expr.Expr.TheVariants.{AnyUnit, rolls-AnyUnit
 use Rattle.lx_regex.specs.declared.expr.Expr.TheFolds.{fold-roll-Expr}
 use Rattle.lx_regex.specs.declared.rules.Rule.{Rule}
 use Rattle.lx_regex.specs.declared.rules.Kind.TheVariants as kind
+use Rattle.lx_regex.specs.declared.rules.Tag.{Tag}
+use Rattle.lx_exprs.specs.Checks.{tag_names}
 use Rattle.lx_regex.proofs.Trees.Folds.{term_of-any_unit}
 use Rattle.lx_rules.specs.declared.items.Known.{Known}
 use Rattle.lx_rules.specs.declared.items.DefaultRule.{DefaultRule}
@@ -29,11 +31,11 @@ use Rattle.lx_rules.specs.Rules.{RuleOf}
 use Rattle.lx_rules.specs.Blocks as blocks
 use Rattle.lx_rules.specs.Blocks.{ScannerChecks, SpellingsDiffer}
 use Rattle.lx_exprs.specs.Defined.{Definition, fits, kept, whole_room}
-use Rattle.lx_rules.specs.Keeping.{Holds, HoldsDefault, DefaultWithin, default_count, names_of}
+use Rattle.lx_rules.specs.Keeping.{Holds, HoldsDefault, DefaultWithin, default_count, tags_in}
 use Rattle.lx_rules.specs.Soundness.{IsFit, HasFitDefinitions, rules_size}
 use Rattle.lx_rules.specs.Seen.{environment_view, settings_view}
 use Rattle.lx_rules.specs.Finishing.{AddsDefault, AreScannersOf, IsFinished}
-use Rattle.lx_rules.proofs.BlockSteps.{AreUsual, all_names, block_checked, block_clashes, conditions_of-usual, each_name, in_order, over, rules_of-usual}
+use Rattle.lx_rules.proofs.BlockSteps.{AreUsual, all_tags, block_checked, block_clashes, conditions_of-usual, each_tag, in_order, over, rules_of-usual}
 use Rattle.lx_rules.proofs.RuleSteps.{rules_size-snoc}
 use Rattle.lx_exprs.proofs.TagLists.DefinitionLists.{All-one}
 
@@ -51,6 +53,10 @@ adds_default default rules all rule added expr names pattern = (
   names,
   pattern ∙ ap (λ t. record { number = default.number; kind = kind.Default; term = t; many = []; slash = None; groups = 0 }) (term_of-any_unit 0),
 )
+
+-- a tag has a name that it may have
+abbrev pub HasTagName : Tag → Type 0
+HasTagName tag = IsTagName usual_names tag.name
 
 -- past a limit
 abbrev pub is_over : (size nesting tags : ℕ) → Bool
@@ -89,36 +95,36 @@ module _ (conds custom : Bool) (known : Known) (state : State) (holds : Holds co
       → over at state holds.usual state.rules ≡ (if is then Some (TooManyParts at known.size known.nesting (kept (length known.tags))) else None)
   over_is is e =
       let sizes = sym holds.size in let depths = sym holds.nesting in let tagged = ap length (sym holds.tags) in
-      let same : is_over (blocks.size_of state.rules) (blocks.nesting_of state.rules) (length (names_of state.rules)) ≡ is =
-      sym (over_kept (blocks.size_of state.rules) (blocks.nesting_of state.rules) (length (names_of state.rules)))
-      ∙ ap₂ (λ a b. is_over a b (length (names_of state.rules))) sizes depths ∙ ap (is_over known.size known.nesting) tagged ∙ e in
+      let same : is_over (blocks.size_of state.rules) (blocks.nesting_of state.rules) (length (tags_in state.rules)) ≡ is =
+      sym (over_kept (blocks.size_of state.rules) (blocks.nesting_of state.rules) (length (tags_in state.rules)))
+      ∙ ap₂ (λ a b. is_over a b (length (tags_in state.rules))) sizes depths ∙ ap (is_over known.size known.nesting) tagged ∙ e in
       ap₂ (λ b t. if b then Some (TooManyParts at (kept (blocks.size_of state.rules)) (kept (blocks.nesting_of state.rules)) (kept t)) else None) same tagged
       ∙ ap₂ (λ a b. if is then Some (TooManyParts at a b (kept (length known.tags))) else None) sizes depths
 
   -- the tags that are known have names that they may have
-  pub free_names : SpellingsDiffer custom usual_names → AllByRecursion (IsTagName usual_names) known.tags → IsFree
+  pub free_names : SpellingsDiffer custom usual_names → AllByRecursion HasTagName known.tags → IsFree
   free_names differ names =
       subst (λ (words : Spellings). blocks.NoClash custom words state.rules) (sym usually)
-      (differ, each_name (IsTagName usual_names) state.rules (subst (AllByRecursion (IsTagName usual_names)) holds.tags names))
+      (differ, each_tag HasTagName state.rules (subst (AllByRecursion HasTagName) holds.tags names))
 
   -- names that clash are refused
-  pub clashing : (SpellingsDiffer custom usual_names → AllByRecursion (IsTagName usual_names) known.tags → ⊥) → ScannerChecks custom at state (Some (BadValue at))
+  pub clashing : (SpellingsDiffer custom usual_names → AllByRecursion HasTagName known.tags → ⊥) → ScannerChecks custom at state (Some (BadValue at))
   clashing clash =
       block_clashes at state holds.usual custom
       (λ free.
       let plain = subst (λ (words : Spellings). blocks.NoClash custom words state.rules) usually free in
-      clash plain.0 (subst (AllByRecursion (IsTagName usual_names)) (sym holds.tags) (all_names (IsTagName usual_names) state.rules plain.1)))
+      clash plain.0 (subst (AllByRecursion HasTagName) (sym holds.tags) (all_tags HasTagName state.rules plain.1)))
 
   -- a scanner that is past a limit is refused
   pub too_large : IsFree → known_over ≡ true
       → ScannerChecks custom at state (Some (TooManyParts at known.size known.nesting (kept (length known.tags))))
   too_large free is = block_checked at state holds.usual custom (Some (TooManyParts at known.size known.nesting (kept (length known.tags)))) free (over_is true is)
 
-  known_fits : known_over ≡ false → fits whole_room (blocks.size_of state.rules) (blocks.nesting_of state.rules) (length (names_of state.rules)) ≡ true
+  known_fits : known_over ≡ false → fits whole_room (blocks.size_of state.rules) (blocks.nesting_of state.rules) (length (tags_in state.rules)) ≡ true
   known_fits under =
-      fits_under (blocks.size_of state.rules) (blocks.nesting_of state.rules) (length (names_of state.rules))
-      (sym (over_kept (blocks.size_of state.rules) (blocks.nesting_of state.rules) (length (names_of state.rules)))
-      ∙ ap₂ (λ a b. is_over a b (length (names_of state.rules))) (sym holds.size) (sym holds.nesting)
+      fits_under (blocks.size_of state.rules) (blocks.nesting_of state.rules) (length (tags_in state.rules))
+      (sym (over_kept (blocks.size_of state.rules) (blocks.nesting_of state.rules) (length (tags_in state.rules)))
+      ∙ ap₂ (λ a b. is_over a b (length (tags_in state.rules))) (sym holds.size) (sym holds.nesting)
       ∙ ap (is_over known.size known.nesting) (ap length (sym holds.tags)) ∙ under)
 
   no_rules : length known.acts.items ≡ 0 → state.rules ≡ []
@@ -147,17 +153,17 @@ module _ (conds custom : Bool) (known : Known) (state : State) (holds : Holds co
 
   -- the names of their tags
   names_all : (scanner : Scanner) (default : Option DefaultRule) → known.default ≡ default → AddsDefault default known.rules.items scanner.set.rules
-      → known_over ≡ false → map blocks.given_names scanner.set.rules ≡ map (λ (rule : RuleOf). rule.meaning.tags) (in_order state.rules)
+      → known_over ≡ false → map blocks.given_names scanner.set.rules ≡ map blocks.names_of (in_order state.rules)
   names_all scanner None is adds under =
       let none = subst (λ d. HoldsDefault d (blocks.of_kind is_default state.rules)) is holds.default in
-      ap (map blocks.given_names) adds ∙ holds.names (known_fits under) ∙ ap (map (λ (rule : RuleOf). rule.meaning.tags)) (sym (in_order-bare none))
+      ap (map blocks.given_names) adds ∙ holds.names (known_fits under) ∙ ap (map blocks.names_of) (sym (in_order-bare none))
   names_all scanner (Some default) is adds under =
       let one = subst (λ d. HoldsDefault d (blocks.of_kind is_default state.rules)) is holds.default in
-      let untagged = nothing_mapped (λ name. false) one.0.meaning.tags (ap (λ (p : Pattern). p.many) one.3) in
+      let untagged = ap (λ (l : List Tag). tag_names l) (nothing_mapped (λ (tag : Tag). tag.many) one.0.meaning.tags (ap (λ (p : Pattern). p.many) one.3)) in
       ap (map blocks.given_names) adds.1 ∙ map-append blocks.given_names known.rules.items (adds.0 ∷ [])
       ∙ ap₂ (λ a b. a ++ b ∷ []) (holds.names (known_fits under)) (adds.4 ∙ sym untagged)
-      ∙ sym (map-append (λ (rule : RuleOf). rule.meaning.tags) (blocks.not_of_kind is_default state.rules) (one.0 ∷ []))
-      ∙ ap (λ l. map (λ (rule : RuleOf). rule.meaning.tags) (blocks.not_of_kind is_default state.rules ++ l)) (sym one.1)
+      ∙ sym (map-append blocks.names_of (blocks.not_of_kind is_default state.rules) (one.0 ∷ []))
+      ∙ ap (λ l. map blocks.names_of (blocks.not_of_kind is_default state.rules ++ l)) (sym one.1)
 
   -- the scanner fits
   fit_all : (scanner : Scanner) (default : Option DefaultRule) → known.default ≡ default → AddsDefault default known.rules.items scanner.set.rules
@@ -210,7 +216,7 @@ module _ (conds custom : Bool) (known : Known) (state : State) (holds : Holds co
               patterns = patterns_all are.0 known.default refl are.3 under ∙ ap (map blocks.pattern_of) (sym (rules_of-usual state.rules holds.usual));
               names =
                   names_all are.0 known.default refl are.3 under
-                  ∙ ap (map (λ (rule : RuleOf). rule.meaning.tags)) (sym (rules_of-usual state.rules holds.usual));
+                  ∙ ap (map blocks.names_of) (sym (rules_of-usual state.rules holds.usual));
             },
             tt,
           )

@@ -1,5 +1,5 @@
 -- What is asked of definitions and rules holds behind each item.
-use Rattle.std.proofs.Common.{◌≡◌, ℕ, suc, ◌≤◌, Bool, true, false, List, [], ◌∷◌, ◌++◌, length, Option, None, Some, Ok, refl, sym, ap, ap₂, ◌∙◌, subst, arith, length-append}
+use Rattle.std.proofs.Common.{◌≡◌, ℕ, suc, ◌+◌, ◌*◌, ◌≤◌, Bool, true, false, List, [], ◌∷◌, ◌++◌, length, Option, None, Some, Ok, refl, sym, ap, ap₂, ◌∙◌, subst, arith, length-append}
 use Rattle.std.specs.List.{AllByRecursion}
 use Rattle.std.specs.Option.{option_and_then, option_map}
 use Rattle.std.specs.Prelude.{◌==◌, ◌&&◌, drop, is_some, nat_le}
@@ -11,8 +11,9 @@ use Rattle.lx_parse.specs.declared.items.Item.{Item}
 use Rattle.lx_parse.specs.declared.items.Item.TheVariants.{Define, Configure, Rule, Text}
 use Rattle.lx_regex.specs.Term.{Term}
 use Rattle.lx_regex.specs.declared.rules.Kind.{Kind}
+use Rattle.lx_regex.specs.declared.rules.Tag.{Tag}
 use Rattle.lx_exprs.specs.Checks.{Check, Checks, Finds, IsIn, Then}
-use Rattle.lx_exprs.specs.Defined.{Definition, IsClassKept, IsDefined, IsTermKept, Meaning, class_in, definition_of, fits, is_built, meant_class, whole, whole_room}
+use Rattle.lx_exprs.specs.Defined.{Definition, IsClassKept, IsDefined, IsTermKept, Meaning, class_in, definition_of, fits, is_built, meant_class, nothing, whole, whole_room}
 use Rattle.lx_forms.specs.Forms.{Form}
 use Rattle.lx_exprs.specs.Expressions.{ExpressionChecks, IsExpression}
 use Rattle.lx_rules.specs.Items.{Goes, HeadChecks, HeadSort, IsAfter, IsHead, ItemChecks, ListChecks, State, TargetChecks, act_of, any, any_meaning, conds_of, ends, end, expression, head_sort, next, twice, rule_of, with_rule}
@@ -24,6 +25,7 @@ use Rattle.lx_exprs.proofs.Classes.ClassFits.{plain_class}
 use Rattle.lx_exprs.proofs.Forms.ClassForms.{in_ranges_of, then-none}
 use Rattle.lx_exprs.proofs.Forms.FormFits.{form_ready}
 use Rattle.lx_exprs.proofs.Forms.MeaningFits.{IsMeantWithin}
+use Rattle.lx_exprs.proofs.Forms.NoGroups.{groups_of-none, ungrouped_within}
 use Rattle.lx_forms.proofs.OneForm.{one_form}
 use Rattle.lx_rules.proofs.RuleNumbers.{Differ, all_both, differ_snoc}
 use Rattle.lx_exprs.proofs.Contents.ValueLimits.{le_kept}
@@ -45,27 +47,42 @@ class_kept_some ranges None is held = no_way held
 class_kept_some None (Some term) is held = absurd is.1
 class_kept_some (Some ranges) (Some term) is held = refl
 
+-- what is asked of what an item means: it has no groups, which are not supported yet
+pub record IsItemWithin (enc : Enc) (meaning : Meaning) : Type 0 where
+  pub within : IsMeantWithin enc nothing meaning
+  pub ungrouped : meaning.groups ≡ 0
+
 module _ (enc : Enc) where
   -- a definition is ready for copies where its meaning is as is asked
   defined_within : (name : List ℕ) (at : Pos) (meaning : Meaning) (definition : Definition) → IsDefined name at meaning definition
-      → IsMeantWithin enc 0 meaning → IsDefinedWithin enc definition
-  defined_within name place meaning definition is within = at (is_built whole_room meaning) refl is.term
+      → IsItemWithin enc meaning → IsDefinedWithin enc definition
+  defined_within name place meaning definition is item = at (is_built whole_room meaning) refl is.term
     where
-      built_is : fits whole_room definition.size definition.nesting (length definition.tags) ≡ is_built whole_room meaning
+      within : IsMeantWithin enc nothing meaning
+      within = item.within
+
+      built_is : fits whole_room definition.size definition.nesting (length definition.tags + 2 * definition.groups) ≡ is_built whole_room meaning
       built_is =
-          let tags : length definition.tags ≡ meaning.count = let same = ap length is.tags in let all = within.count in omega (arith, same, all) in
+          let tags : nat_le (length definition.tags + 2 * definition.groups) 128 ≡ nat_le meaning.count 128 =
+          let same = ap (λ (l : List Tag). length l) is.tags in let groups = is.groups in let all = within.count in search (arith, same, groups, all) in
           ap₂ (λ a b. a && b) (ap (λ s. nat_le s 4096) is.size ∙ le_kept meaning.size 4096 (omega arith))
-          (ap₂ (λ a b. a && b) (ap (λ n. nat_le n 256) is.nesting ∙ le_kept meaning.nesting 256 (omega arith)) (ap (λ c. nat_le c 128) tags))
+          (ap₂ (λ a b. a && b) (ap (λ n. nat_le n 256) is.nesting ∙ le_kept meaning.nesting 256 (omega arith)) tags)
 
       at : (b : Bool) → is_built whole_room meaning ≡ b → IsTermKept b meaning definition.term → IsDefinedWithin enc definition
       at true e term = record {
         plain = rw (term) within.plain;
-        untagged = λ held. is.tags ∙ within.untagged (ap (λ t. is_some (option_and_then class_in t)) (sym term) ∙ held);
-        numbered = λ fit. rw (term, is.tags) (within.numbered e);
+        untagged = λ held.
+            let none = within.untagged (ap (λ t. is_some (option_and_then class_in t)) (sym term) ∙ held) in
+            (is.tags ∙ none.0, is.groups ∙ none.1);
+        ungrouped = is.groups ∙ item.ungrouped;
+        numbered = λ fit. rw (term, is.tags, is.groups) (within.numbered e);
       }
       at false e term = record {
         plain = class_kept_plain enc (meant_class meaning) definition.term term (plain_class enc (whole meaning.shape) within.plain);
-        untagged = λ held. is.tags ∙ within.untagged (class_kept_some (meant_class meaning) definition.term term held);
+        untagged = λ held.
+            let none = within.untagged (class_kept_some (meant_class meaning) definition.term term held) in
+            (is.tags ∙ none.0, is.groups ∙ none.1);
+        ungrouped = is.groups ∙ item.ungrouped;
         numbered = λ fit. no_way (sym e ∙ sym built_is ∙ fit);
       }
 
@@ -74,13 +91,21 @@ module _ (enc : Enc) where
   defined_snoc [] definition are is = (is, tt)
   defined_snoc (first ∷ definitions) definition are is = (are.0, defined_snoc definitions definition are.1 is)
 
-  pub any_within : IsMeantWithin enc 0 any_meaning
-  any_within = record { plain = tt; count = refl; untagged = λ held. refl; numbered = λ built. record { sequences = tt; tags = refl; ends = refl } }
+  pub any_within : IsItemWithin enc any_meaning
+  any_within = record {
+    within = record {
+      plain = tt;
+      count = refl;
+      untagged = λ held. (refl, refl);
+      numbered = λ built. record { sequences = tt; tags = refl; ends = refl };
+    };
+    ungrouped = refl;
+  }
 
 -- what is asked of what is known behind items; the rules have numbers in order
 pub record IsStateWithin (enc : Enc) (state : State) : Type 0 where
   pub definitions : AreDefinedWithin enc state.definitions
-  pub rules : AllByRecursion (λ (rule : RuleOf). IsMeantWithin enc 0 rule.meaning) state.rules
+  pub rules : AllByRecursion (λ (rule : RuleOf). IsItemWithin enc rule.meaning) state.rules
   pub numbers : AllByRecursion (λ (rule : RuleOf). rule.act.number ≤ length state.rules) state.rules
   pub differ : Differ state.rules
 
@@ -99,23 +124,26 @@ module _ (options : Options) (lexemes : List Lexeme) where
   -- an expression whose checks find nothing
   expression_within : (definitions : List Definition) → AreDefinedWithin options.enc definitions → (from until : ℕ) (form : Form) (meaning : Meaning)
       → ExpressionChecks options lexemes definitions from until None → IsExpression options lexemes from until form
-      → IsMeaning options definitions false [] form meaning → IsMeantWithin options.enc 0 meaning
+      → IsMeaning options definitions false nothing form meaning → IsItemWithin options.enc meaning
   expression_within definitions ready from until form meaning checked stands means =
       let same = one_form (drop from lexemes) (drop until lexemes) checked.0 form checked.1 stands in
-      (form_ready options definitions ready false [] form meaning
-      (subst (λ f. Checks options definitions false [] f None) same checked.2) means).0
+      let found = subst (λ f. Checks options definitions false [] f None) same checked.2 in
+      let meant = form_ready options definitions ready false nothing form meaning found means in record {
+        within = meant.within;
+        ungrouped = meant.groups_are ∙ groups_of-none options definitions (ungrouped_within options.enc definitions ready) false [] form found;
+      }
 
   head_within : (state : State) → AreDefinedWithin options.enc state.definitions → (sort : HeadSort) (conds : List (List ℕ)) (head : ℕ)
       (slash : Option ℕ) (until : ℕ) (kind : Kind) (meaning : Meaning) → HeadChecks options lexemes state sort conds head slash until None
-      → IsHead options lexemes state.definitions sort head slash until kind meaning → IsMeantWithin options.enc 0 meaning
+      → IsHead options lexemes state.definitions sort head slash until kind meaning → IsItemWithin options.enc meaning
   head_within state ready any conds head slash until kind meaning checked is =
-      subst (IsMeantWithin options.enc 0) (sym is.1) (any_within options.enc)
+      subst (IsItemWithin options.enc) (sym is.1) (any_within options.enc)
   head_within state ready end conds head slash until kind meaning checked is = absurd is
   head_within state ready expression conds head None until kind meaning checked is =
       expression_within state.definitions ready head until is.1.0 meaning checked is.1.1 is.1.2
   head_within state ready expression conds head (Some slash) until kind meaning checked is = absurd is
 
-  rule_within : (state after : State) (rule : RuleOf) → IsStateWithin options.enc state → IsMeantWithin options.enc 0 rule.meaning
+  rule_within : (state after : State) (rule : RuleOf) → IsStateWithin options.enc state → IsItemWithin options.enc rule.meaning
       → rule.act.number ≡ suc (length state.rules)
       → after ≡ with_rule state rule → IsStateWithin options.enc after
   rule_within state after rule within meant number is =
@@ -123,7 +151,7 @@ module _ (options : Options) (lexemes : List Lexeme) where
       let more : length state.rules ≤ length (state.rules ++ rule ∷ []) = omega (arith, longer) in
       subst (IsStateWithin options.enc) (sym is) (record {
         definitions = within.definitions;
-        rules = all_both (λ (r : RuleOf). IsMeantWithin options.enc 0 r.meaning) state.rules (rule ∷ []) within.rules (meant, tt);
+        rules = all_both (λ (r : RuleOf). IsItemWithin options.enc r.meaning) state.rules (rule ∷ []) within.rules (meant, tt);
         numbers =
             all_both (λ (r : RuleOf). r.act.number ≤ length (state.rules ++ rule ∷ [])) state.rules (rule ∷ [])
             (numbers_more state.rules (length state.rules) (length (state.rules ++ rule ∷ [])) more within.numbers)

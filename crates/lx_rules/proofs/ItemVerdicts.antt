@@ -18,7 +18,7 @@ use Rattle.lx_regex.specs.declared.rules.Kind.TheVariants as kind
 use Rattle.lx_rules.specs.Buildable.{IsBuildable}
 use Rattle.lx_exprs.specs.Checks.{Check, Checks, Finds, IsIn, Then, is_among, tags_of, unsupported}
 use Rattle.lx_rules.specs.Configurations.{config_fault, define_words, fill_word, other_words, switch_fault, switch_of}
-use Rattle.lx_exprs.specs.Defined.{Definition, IsClassKept, IsDefined, IsTermKept, Meaning, definition_of, is_built, kept, meant_class, term_of_meaning, whole, whole_room}
+use Rattle.lx_exprs.specs.Defined.{Definition, IsClassKept, IsDefined, IsTermKept, Meaning, definition_of, is_built, kept, nothing, meant_class, term_of_meaning, whole, whole_room}
 use Rattle.lx_exprs.specs.Expressions.{ContextChecks, ExpressionChecks}
 use Rattle.lx_rules.specs.Items.{Goes, HeadChecks, HeadSort, IsAfter, IsHead, ItemChecks, ListChecks, State, TargetChecks, any, any_meaning, conds_of, ends, end, expression, first_of, head_sort, is_default, is_end, next, refused, twice, unless, rule_of}
 use Rattle.lx_rules.specs.Rules.{RuleOf}
@@ -52,8 +52,8 @@ defined : (name : List ℕ) (at : Pos) (meaning : Meaning) → ((point : ℕ) �
 defined name place meaning fit =
     and_then (at (is_built whole_room meaning))
     (λ term. surely (
-      record { name = name; at = place; size = kept meaning.size; nesting = kept meaning.nesting; tags = meaning.tags; term = term.0 },
-      record { name_is = refl; at_is = refl; size = refl; nesting = refl; tags = refl; term = term.1 },
+      record { name = name; at = place; size = kept meaning.size; nesting = kept meaning.nesting; tags = meaning.tags; groups = meaning.groups; term = term.0 },
+      record { name_is = refl; at_is = refl; size = refl; nesting = refl; tags = refl; groups = refl; term = term.1 },
     ))
   where
     at : (b : Bool) → Surely ((term : Option Term) × IsTermKept b meaning term)
@@ -157,7 +157,7 @@ module _ (options : Options) (lexemes : List Lexeme) where
       then-none (Finds (unsupported (nth_lexeme lexemes head))) (Finds (twice (nth_lexeme lexemes head).at (first_of is_end conds state.rules))) checked in
       absurd (let h : None ≡ Some (Unsupported (Some (nth_lexeme lexemes head).at)) = found.0 in cc)
   head_means state ready expression conds head None until checked =
-      and_then (form_means options state.definitions ready false [] checked.0 checked.2)
+      and_then (form_means options state.definitions ready false nothing checked.0 checked.2)
       (λ means. surely (kind.Plain, means.0, (refl, (checked.0, checked.1, means.1))))
   head_means state ready expression conds head (Some slash) until checked =
       let First : Check = Checks options state.definitions false [] checked.0 in
@@ -175,9 +175,9 @@ module _ (options : Options) (lexemes : List Lexeme) where
       then-none
       (Finds (twice (nth_lexeme lexemes name).at (option_map (λ (d : Definition). d.at) (definition_of state.definitions (nth_lexeme lexemes name).text))))
       (ExpressionChecks options lexemes state.definitions from until) checked in
-      and_then (form_means options state.definitions ready false [] found.1.0 found.1.2)
+      and_then (form_means options state.definitions ready false nothing found.1.0 found.1.2)
       (λ means.
-      let plain = (form_ready options state.definitions ready false [] found.1.0 means.0 found.1.2 means.1).0.plain in
+      let plain = (form_ready options state.definitions ready false nothing found.1.0 means.0 found.1.2 means.1).within.plain in
       and_then
       (defined (nth_lexeme lexemes name).text (nth_lexeme lexemes name).at means.0
       (λ point is. le_greatest options.enc point (plain_class options.enc (whole means.0.shape) plain point is)))
@@ -206,7 +206,7 @@ module _ (options : Options) (lexemes : List Lexeme) where
   head_buildable state ready any head slash until sort_is meaning is = subst IsMeantBuildable (sym is.1) any_buildable
   head_buildable state ready end head slash until sort_is meaning is = absurd is
   head_buildable state ready expression head None until sort_is meaning is =
-      form_buildable options state.definitions ready false [] is.1.0 meaning is.1.2
+      form_buildable options state.definitions ready false nothing is.1.0 meaning is.1.2
   head_buildable state ready expression head (Some slash) until sort_is meaning is = absurd is
 
   item_buildable : (state after : State) (item : Item) → IsStateBuildable state → IsAfter options lexemes state item after → IsStateBuildable after
@@ -215,7 +215,7 @@ module _ (options : Options) (lexemes : List Lexeme) where
         definitions =
             all_both IsBuildable state.definitions (is.2 ∷ []) buildable.definitions (
               defined_buildable (nth_lexeme lexemes name).text (nth_lexeme lexemes name).at is.1 is.2 is.5
-                  (form_buildable options state.definitions buildable.definitions false [] is.0 is.1 is.4),
+                  (form_buildable options state.definitions buildable.definitions false nothing is.0 is.1 is.4),
               tt,
             );
         rules = buildable.rules;

@@ -18,12 +18,14 @@ use Rattle.lx_rules.specs.declared.items.Known.{Known}
 use Rattle.lx_rules.specs.declared.resolved.Act.{Act}
 use Rattle.lx_exprs.specs.declared.values.Room.{Room}
 use Rattle.lx_exprs.specs.Meanings.{behind}
+use Rattle.lx_exprs.specs.Checks.{tag_names}
+use Rattle.lx_regex.specs.declared.rules.Tag.{Tag}
 use Rattle.lx_exprs.specs.Defined.{Meaning, fits, is_built, kept, term_of_meaning, whole_room}
 use Rattle.lx_rules.specs.Items.{State, any_meaning, is_default, with_rule}
 use Rattle.lx_rules.specs.Rules.{RuleOf}
-use Rattle.lx_rules.specs.Blocks.{given_names, of_kind, not_of_kind, pattern_of, size_of, nesting_of}
+use Rattle.lx_rules.specs.Blocks.{given_names, names_of, of_kind, not_of_kind, pattern_of, size_of, nesting_of}
 use Rattle.lx_exprs.specs.Expressions.{IsReadAs}
-use Rattle.lx_rules.specs.Keeping.{Holds, HoldsDefault, DefaultWithin, AddsPlain, IsNew, IsUsual, default_count, default_pattern, names_of, plain_pattern, room_behind}
+use Rattle.lx_rules.specs.Keeping.{Holds, HoldsDefault, DefaultWithin, AddsPlain, IsNew, IsUsual, default_count, default_pattern, tags_in, plain_pattern, room_behind}
 use Rattle.lx_rules.specs.Soundness.{IsShort, HasFitDefinitions, rules_size}
 use Rattle.lx_exprs.specs.Seen.{definitions_view}
 use Rattle.lx_rules.specs.Seen.{settings_view}
@@ -49,10 +51,10 @@ nesting_of-snoc : (rules : List RuleOf) (rule : RuleOf) → nesting_of (rules ++
 nesting_of-snoc [] rule = omega arith
 nesting_of-snoc (first ∷ rules) rule = let later = nesting_of-snoc rules rule in omega (arith, later)
 
-names_of-snoc : (rules : List RuleOf) (rule : RuleOf) → names_of (rules ++ rule ∷ []) ≡ names_of rules ++ rule.meaning.tags
-names_of-snoc [] rule = append-nil rule.meaning.tags
-names_of-snoc (first ∷ rules) rule =
-    ap (λ l. first.meaning.tags ++ l) (names_of-snoc rules rule) ∙ sym (append_assoc first.meaning.tags (names_of rules) rule.meaning.tags)
+tags_in-snoc : (rules : List RuleOf) (rule : RuleOf) → tags_in (rules ++ rule ∷ []) ≡ tags_in rules ++ rule.meaning.tags
+tags_in-snoc [] rule = append-nil rule.meaning.tags
+tags_in-snoc (first ∷ rules) rule =
+    ap (λ l. first.meaning.tags ++ l) (tags_in-snoc rules rule) ∙ sym (append_assoc first.meaning.tags (tags_in rules) rule.meaning.tags)
 
 pub rules_size-snoc : (rules : List Rule) (rule : Rule) → rules_size (rules ++ rule ∷ []) ≡ rules_size rules + regex_size.size_of rule.expr
 rules_size-snoc [] rule = omega arith
@@ -92,7 +94,7 @@ fits_back size more nesting other count own e =
 -- a rule with the term, the names and the size of what was read is added
 pub adds_built : (room : Room) (number : ℕ) (reading : Reading) (before after : List Rule) (rule : Rule)
     → after ≡ before ++ rule ∷ [] → rule.number ≡ number → regex_size.size_of rule.expr ≤ reading.value.size
-    → given_names rule ≡ reading.tags
+    → given_names rule ≡ tag_names reading.tags
     → ((meaning : Meaning) → IsReadAs room meaning reading → regex.pattern_of rule ≡ plain_pattern number (term_of_meaning meaning) reading.tags)
     → AddsPlain room number reading before after
 adds_built room number reading before after rule added numbered size named pattern =
@@ -101,7 +103,7 @@ adds_built room number reading before after rule added numbered size named patte
       added,
       numbered,
       size,
-      λ meaning read. (named ∙ read.tags, pattern meaning read ∙ ap (plain_pattern number (term_of_meaning meaning)) read.tags),
+      λ meaning read. (named ∙ ap (λ (l : List Tag). tag_names l) read.tags, pattern meaning read ∙ ap (plain_pattern number (term_of_meaning meaning)) read.tags),
     )
 
 module _ (conds : Bool) (known after : Known) (state : State) (rule : RuleOf) (holds : Holds conds known state) where
@@ -118,7 +120,7 @@ module _ (conds : Bool) (known after : Known) (state : State) (rule : RuleOf) (h
 
   -- all rules fit
   abbrev AllFit : Type 0
-  AllFit = fits whole_room (size_of (state.rules ++ rule ∷ [])) (nesting_of (state.rules ++ rule ∷ [])) (length (names_of (state.rules ++ rule ∷ []))) ≡ true
+  AllFit = fits whole_room (size_of (state.rules ++ rule ∷ [])) (nesting_of (state.rules ++ rule ∷ [])) (length (tags_in (state.rules ++ rule ∷ []))) ≡ true
 
   abbrev Adds : Reading → Type 0
   Adds reading = AddsPlain room rule.act.number reading known.rules.items after.rules.items
@@ -140,7 +142,7 @@ module _ (conds : Bool) (known after : Known) (state : State) (rule : RuleOf) (h
     default =
         subst (HoldsDefault after.default) (sym (of_kind-snoc is_default state.rules rule false plain ∙ append-nil (of_kind is_default state.rules)))
         (subst (λ d. HoldsDefault d (of_kind is_default state.rules)) (sym default) holds.default);
-    tags = tags ∙ ap₂ (λ a b. a ++ b) holds.tags read.tags ∙ sym (names_of-snoc state.rules rule);
+    tags = tags ∙ ap₂ (λ a b. a ++ b) holds.tags read.tags ∙ sym (tags_in-snoc state.rules rule);
     rules = λ fit. rules_of_all fit adds;
     names = λ fit. names_of_all fit adds;
     sound = subst HasFitDefinitions (sym env) holds.sound;
@@ -172,22 +174,22 @@ module _ (conds : Bool) (known after : Known) (state : State) (rule : RuleOf) (h
       more_acts = omega (arith, ap length acts, length-append known.acts.items (rule.act ∷ []))
 
       fit_parts : AllFit
-          → fits whole_room (size_of state.rules + rule.meaning.size) (max (nesting_of state.rules) rule.meaning.nesting) (length (names_of state.rules) + length rule.meaning.tags) ≡ true
+          → fits whole_room (size_of state.rules + rule.meaning.size) (max (nesting_of state.rules) rule.meaning.nesting) (length (tags_in state.rules) + length rule.meaning.tags) ≡ true
       fit_parts fit =
           let sizes = size_of-snoc state.rules rule in let depths = nesting_of-snoc state.rules rule in
-          let counts = ap length (names_of-snoc state.rules rule) ∙ length-append (names_of state.rules) rule.meaning.tags in
+          let counts = ap length (tags_in-snoc state.rules rule) ∙ length-append (tags_in state.rules) rule.meaning.tags in
           rw (sym sizes, sym depths, sym counts) fit
 
-      fit_front : AllFit → fits whole_room (size_of state.rules) (nesting_of state.rules) (length (names_of state.rules)) ≡ true
+      fit_front : AllFit → fits whole_room (size_of state.rules) (nesting_of state.rules) (length (tags_in state.rules)) ≡ true
       fit_front fit =
-          fits_front (size_of state.rules) rule.meaning.size (nesting_of state.rules) rule.meaning.nesting (length (names_of state.rules)) (length rule.meaning.tags)
+          fits_front (size_of state.rules) rule.meaning.size (nesting_of state.rules) rule.meaning.nesting (length (tags_in state.rules)) (length rule.meaning.tags)
           (fit_parts fit)
 
       fit_built : AllFit → is_built room rule.meaning ≡ true
       fit_built fit =
           let sizes = holds.size in let depths = holds.nesting in let tagged = holds.tags in let count = read.count in
           rw (sizes, depths, tagged, count)
-          (fits_back (size_of state.rules) rule.meaning.size (nesting_of state.rules) rule.meaning.nesting (length (names_of state.rules)) (length rule.meaning.tags)
+          (fits_back (size_of state.rules) rule.meaning.size (nesting_of state.rules) rule.meaning.nesting (length (tags_in state.rules)) (length rule.meaning.tags)
           (fit_parts fit))
 
       bounds_of : Adds reading → after.size ≤ 4096
@@ -228,18 +230,18 @@ module _ (conds : Bool) (known after : Known) (state : State) (rule : RuleOf) (h
       rules_of_all fit (inl same) = let h : false ≡ true = sym (same.1 rule.meaning read) ∙ fit_built fit in cc
       rules_of_all fit (inr one) =
           let pattern : plain_pattern rule.act.number (term_of_meaning rule.meaning) rule.meaning.tags ≡ pattern_of rule =
-          ap (λ k. record { number = rule.act.number; kind = k; term = behind (length rule.meaning.tags) (term_of_meaning rule.meaning); many = map (λ name. false) rule.meaning.tags; slash = None; groups = 0 }) (sym plain_kind) in
+          ap (λ k. record { number = rule.act.number; kind = k; term = behind (length rule.meaning.tags) (term_of_meaning rule.meaning); many = map (λ (tag : Tag). tag.many) rule.meaning.tags; slash = None; groups = 0 }) (sym plain_kind) in
           ap (map regex.pattern_of) one.1 ∙ map-append regex.pattern_of known.rules.items (one.0 ∷ [])
           ∙ ap₂ (λ a b. a ++ b ∷ []) (holds.rules (fit_front fit)) ((one.4 rule.meaning read).1 ∙ pattern)
           ∙ sym (map-append pattern_of (not_of_kind is_default state.rules) (rule ∷ [])) ∙ ap (map pattern_of) (sym snoc)
 
-      names_of_all : AllFit → Adds reading → map given_names after.rules.items ≡ map (λ (r : RuleOf). r.meaning.tags) (not_of_kind is_default (state.rules ++ rule ∷ []))
+      names_of_all : AllFit → Adds reading → map given_names after.rules.items ≡ map names_of (not_of_kind is_default (state.rules ++ rule ∷ []))
       names_of_all fit (inl same) = let h : false ≡ true = sym (same.1 rule.meaning read) ∙ fit_built fit in cc
       names_of_all fit (inr one) =
           ap (map given_names) one.1 ∙ map-append given_names known.rules.items (one.0 ∷ [])
           ∙ ap₂ (λ a b. a ++ b ∷ []) (holds.names (fit_front fit)) (one.4 rule.meaning read).0
-          ∙ sym (map-append (λ (r : RuleOf). r.meaning.tags) (not_of_kind is_default state.rules) (rule ∷ []))
-          ∙ ap (map (λ (r : RuleOf). r.meaning.tags)) (sym snoc)
+          ∙ sym (map-append names_of (not_of_kind is_default state.rules) (rule ∷ []))
+          ∙ ap (map names_of) (sym snoc)
 
   -- the rule `*` is added
   pub holds_default :
@@ -261,7 +263,7 @@ module _ (conds : Bool) (known after : Known) (state : State) (rule : RuleOf) (h
         ap (λ (l : Vec Rule Global). map regex.pattern_of l.items) rules ∙ holds.rules (fit_front fit) ∙ ap (map pattern_of) (sym others);
     names = λ fit.
         ap (λ (l : Vec Rule Global). map given_names l.items) rules ∙ holds.names (fit_front fit)
-        ∙ ap (map (λ (r : RuleOf). r.meaning.tags)) (sym others);
+        ∙ ap (map names_of) (sym others);
     sound = subst HasFitDefinitions (sym env) holds.sound;
     within = λ low.
         let h = holds.size in
@@ -316,16 +318,16 @@ module _ (conds : Bool) (known after : Known) (state : State) (rule : RuleOf) (h
       others =
           of_kind-snoc (λ k. not (is_default k)) state.rules rule false (ap not is_star) ∙ append-nil (not_of_kind is_default state.rules)
 
-      same_names : names_of state.rules ≡ names_of (state.rules ++ rule ∷ [])
+      same_names : tags_in state.rules ≡ tags_in (state.rules ++ rule ∷ [])
       same_names =
-          sym (names_of-snoc state.rules rule ∙ ap (λ (m : Meaning). names_of state.rules ++ m.tags) means ∙ append-nil (names_of state.rules))
+          sym (tags_in-snoc state.rules rule ∙ ap (λ (m : Meaning). tags_in state.rules ++ m.tags) means ∙ append-nil (tags_in state.rules))
 
-      fit_front : AllFit → fits whole_room (size_of state.rules) (nesting_of state.rules) (length (names_of state.rules)) ≡ true
+      fit_front : AllFit → fits whole_room (size_of state.rules) (nesting_of state.rules) (length (tags_in state.rules)) ≡ true
       fit_front fit =
           let sizes = size_of-snoc state.rules rule in let depths = nesting_of-snoc state.rules rule in
-          let all = within_room whole_room (size_of (state.rules ++ rule ∷ [])) (nesting_of (state.rules ++ rule ∷ [])) (length (names_of (state.rules ++ rule ∷ []))) fit in
+          let all = within_room whole_room (size_of (state.rules ++ rule ∷ [])) (nesting_of (state.rules ++ rule ∷ [])) (length (tags_in (state.rules ++ rule ∷ []))) fit in
           let a = all.0 in let b = all.1 in let c = all.2 in let counts = ap length same_names in
-          fits_so whole_room (size_of state.rules) (nesting_of state.rules) (length (names_of state.rules)) (omega (arith, a, sizes)) (omega (arith, b, depths)) (omega (arith, c, counts))
+          fits_so whole_room (size_of state.rules) (nesting_of state.rules) (length (tags_in state.rules)) (omega (arith, a, sizes)) (omega (arith, b, depths)) (omega (arith, c, counts))
 
       pattern : pattern_of rule ≡ default_pattern rule.act.number
       pattern = rw (star, means) refl

@@ -1,5 +1,5 @@
 -- The scanners that a block resolves to are within the limits, and their classes fit the encoding.
-use Rattle.std.proofs.Common.{◌≡◌, ◌≢◌, ℕ, ◌+◌, ◌≤◌, Bool, true, false, List, [], ◌∷◌, length, map, None, Some, Ok, refl, sym, ap, ap₂, ◌∙◌, subst, arith}
+use Rattle.std.proofs.Common.{◌≡◌, ◌≢◌, ℕ, ◌+◌, ◌*◌, ◌≤◌, Bool, true, false, List, [], ◌∷◌, length, map, None, Some, Ok, refl, sym, ap, ap₂, ◌∙◌, subst, arith}
 use Rattle.std.specs.List.{AllByRecursion}
 use Rattle.std.specs.Prelude.{◌||◌, nat_le, nat_lt, if◌then◌else◌}
 use Rattle.std.proofs.lemmas.Bool.{OnFalse_from}
@@ -29,7 +29,7 @@ use Rattle.lx_exprs.specs.Defined.{Meaning, is_built, kept, whole, whole_room}
 use Rattle.lx_rules.specs.Environments.{Environment, config_of}
 use Rattle.lx_rules.specs.Items.{Goes, State, first_state}
 use Rattle.lx_rules.specs.Rules.{RuleOf}
-use Rattle.lx_rules.specs.Keeping.{names_of}
+use Rattle.lx_rules.specs.Keeping.{tags_in}
 use Rattle.lx_forms.specs.Lexemes.{Lexeme}
 use Rattle.lx_rules.specs.Soundness.{FitsLimits, IsFit, rules_size}
 use Rattle.lx_exprs.specs.Within.{AreDefinedWithin, IsPlain}
@@ -40,8 +40,7 @@ use Rattle.lx_regex.specs.Script.{merge_tags}
 use Rattle.lx_exprs.proofs.Classes.ClassFits.{classes_fit, plain-behind}
 use Rattle.lx_exprs.proofs.TagLists.TagNumbers.{long-behind, merge_tags-numbers, tags_in-behind}
 use Rattle.lx_exprs.proofs.Forms.ClassForms.{then-none}
-use Rattle.lx_rules.proofs.ItemFits.{IsStateWithin, goes_within}
-use Rattle.lx_exprs.proofs.Forms.MeaningFits.{IsMeantWithin}
+use Rattle.lx_rules.proofs.ItemFits.{IsItemWithin, IsStateWithin, goes_within}
 use Rattle.lx_rules.proofs.RuleNumbers.{Differ, all_in_order, differ_in_order}
 
 -- what is asked of one rule, which is not `$`
@@ -86,8 +85,8 @@ built_within meaning size nesting count =
 -- a rule without groups has as many sorts as tags
 sorts_many : (rule : RuleOf) → length rule.meaning.tags ≡ length (regex.sorts_of (blocks.pattern_of rule))
 sorts_many rule =
-    let all = length-append (map (λ (name : List ℕ). false) rule.meaning.tags) [] in
-    let named = length-map rule.meaning.tags (λ (name : List ℕ). false) in omega (arith, all, named)
+    let all = length-append (map (λ (tag : Tag). tag.many) rule.meaning.tags) [] in
+    let named = length-map rule.meaning.tags (λ (tag : Tag). tag.many) in omega (arith, all, named)
 
 module _ (enc : Enc) where
   -- none of the rules is `$`
@@ -119,7 +118,7 @@ module _ (enc : Enc) where
       let groups : one.groups ≡ 0 = ap (λ (p : Pattern). p.groups) first in
       let many = ap (λ (p : Pattern). length p.many) first in
       let given = length-map one.tags (λ (tag : Tag). tag.many) in
-      let named = length-map rule.meaning.tags (λ name. false) in
+      let named = length-map rule.meaning.tags (λ (tag : Tag). tag.many) in
       let count : length one.tags ≡ length rule.meaning.tags = sym given ∙ many ∙ named in
       rw (groups) (omega (arith, count, later))
 
@@ -164,20 +163,22 @@ module _ (enc : Enc) where
   alone count = omega arith
 
   -- each rule is built where all of them are within the limits
-  rules_within : (rules : List RuleOf) → AreUsual rules → AllByRecursion (λ (rule : RuleOf). IsMeantWithin enc 0 rule.meaning) rules
-      → blocks.size_of rules ≤ 4096 → nesting_of rules ≤ 256 → length (names_of rules) ≤ 128 → AreWithin enc rules
+  rules_within : (rules : List RuleOf) → AreUsual rules → AllByRecursion (λ (rule : RuleOf). IsItemWithin enc rule.meaning) rules
+      → blocks.size_of rules ≤ 4096 → nesting_of rules ≤ 256 → length (tags_in rules) ≤ 128 → AreWithin enc rules
   rules_within [] usual meant size nesting tags = tt
   rules_within (rule ∷ rules) usual meant size nesting tags =
-      let names = length-append rule.meaning.tags (names_of rules) in
-      let all = meant.0.count in
-      let numbered = meant.0.numbered (built_within rule.meaning (omega (arith, size)) (omega (arith, nesting)) (omega (arith, names, tags, all))) in (
+      let names = length-append rule.meaning.tags (tags_in rules) in
+      let all = meant.0.within.count in
+      let none = meant.0.ungrouped in
+      let numbered = meant.0.within.numbered (built_within rule.meaning (omega (arith, size)) (omega (arith, nesting)) (omega (arith, names, tags, all, none))) in
+      let ends = numbered.ends ∙ ap (λ n. limits.numbers_from 2 (2 * n)) none in (
         record {
           no_end = λ same. usual.0.no_end same;
-          plain = meant.0.plain;
+          plain = meant.0.within.plain;
           regular = record {
             sequences = long-behind (length rule.meaning.tags) (whole rule.meaning.shape) numbered.sequences;
             tags =
-                tags_in-behind (length rule.meaning.tags) (whole rule.meaning.shape) ∙ ap₂ merge_tags numbered.tags (ap (map (λ n. n + length rule.meaning.tags)) numbered.ends)
+                tags_in-behind (length rule.meaning.tags) (whole rule.meaning.shape) ∙ ap₂ merge_tags numbered.tags (ap (map (λ n. n + length rule.meaning.tags)) ends)
                 ∙ merge_tags-numbers 0 (length rule.meaning.tags) 0 ∙ ap (limits.numbers_from 0) (alone (length rule.meaning.tags) ∙ sorts_many rule);
             slash = tt;
           };
@@ -198,7 +199,7 @@ limits_say place size nesting tags none = at (nat_lt 4096 size || nat_lt 256 nes
 module _ (options : Options) (place : Pos) (state : State) (usual : AreUsual state.rules) (checked : ScannerChecks options.custom place state None)
     (within : IsStateWithin options.enc state) where
   -- the limits on the rules
-  limited : (blocks.size_of state.rules ≤ 4096) × (nesting_of state.rules ≤ 256) × (length (names_of state.rules) ≤ 128)
+  limited : (blocks.size_of state.rules ≤ 4096) × (nesting_of state.rules ≤ 256) × (length (tags_in state.rules) ≤ 128)
   limited =
       let Scanners : Check = Finds (scanners_fault place state.rules (conditions_of state.rules)) in
       let Targets : Check = Finds (targets_fault state.rules (conditions_of state.rules)) in
@@ -206,7 +207,7 @@ module _ (options : Options) (place : Pos) (state : State) (usual : AreUsual sta
       let one = then-none (ClashCheck options.custom place (config_of state.settings).names state.rules) (Then Lonely (Then Targets Scanners)) checked in
       let two = then-none Lonely (Then Targets Scanners) one.1 in
       let three = then-none Targets Scanners two.1 in
-      limits_say place (blocks.size_of state.rules) (nesting_of state.rules) (length (names_of state.rules))
+      limits_say place (blocks.size_of state.rules) (nesting_of state.rules) (length (tags_in state.rules))
       (three.1 ∙ scanners_usual place state usual state.rules usual)
 
   -- the one scanner of the rules

@@ -24,7 +24,7 @@ use Rattle.lx_exprs.specs.Defined.{kept, term_of_meaning}
 use Rattle.lx_exprs.specs.Meanings.{behind}
 use Rattle.lx_rules.specs.Environments.{Environment, KeptBlock, config_of}
 use Rattle.lx_rules.specs.Rules.{RuleOf}
-use Rattle.lx_exprs.specs.Checks.{Check, Then, Finds, is_among}
+use Rattle.lx_exprs.specs.Checks.{Check, Then, Finds, is_among, tag_names}
 use Rattle.lx_rules.specs.Items.{State, first_state, Goes, is_default, is_end}
 
 -- the condition of `<*>`
@@ -80,14 +80,17 @@ pattern_of rule = record {
   number = rule.act.number;
   kind = rule.kind;
   term = behind (length rule.meaning.tags) (term_of_meaning rule.meaning);
-  many = map (λ name. false) rule.meaning.tags;
+  many = map (λ (tag : Tag). tag.many) rule.meaning.tags;
   slash = None;
   groups = 0;
 }
 
--- the names of the tags of a rule that is built
+-- the names of the tags of a rule, and of one that is built
+abbrev pub names_of : RuleOf → List (List ℕ)
+names_of rule = tag_names rule.meaning.tags
+
 abbrev pub given_names : Rule → List (List ℕ)
-given_names rule = map (λ (tag : Tag). tag.name) rule.tags
+given_names rule = tag_names rule.tags
 
 -- a scanner of this condition, which has a name where conditions are in use
 abbrev pub cond_name : (named : Bool) → (cond : List ℕ) → Option (List ℕ)
@@ -98,7 +101,7 @@ cond_name false cond = None
 pub record IsScanner (named : Bool) (rules : List RuleOf) (cond : List ℕ) (scanner : Scanner) : Type 0 where
   pub name : scanner.cond ≡ cond_name named cond
   pub patterns : patterns_of scanner.set.rules ≡ map pattern_of (rules_of cond rules)
-  pub names : map given_names scanner.set.rules ≡ map (λ (rule : RuleOf). rule.meaning.tags) (rules_of cond rules)
+  pub names : map given_names scanner.set.rules ≡ map names_of (rules_of cond rules)
 
 abbrev pub AreScanners : (named : Bool) → List RuleOf → (conds : List (List ℕ)) → List Scanner → Type 0
 AreScanners named rules [] [] = Unit {0}
@@ -145,7 +148,7 @@ SpellingsDiffer custom names = DoNotClash names × (custom ≡ true → name_pri
 
 -- the spellings differ, and each tag has a name that it may have beside them
 abbrev pub NoClash : (custom : Bool) → Spellings → List RuleOf → Type 0
-NoClash custom names rules = SpellingsDiffer custom names × AllByRecursion (λ (rule : RuleOf). AllByRecursion (IsTagName names) rule.meaning.tags) rules
+NoClash custom names rules = SpellingsDiffer custom names × AllByRecursion (λ (rule : RuleOf). AllByRecursion (λ (tag : Tag). IsTagName names tag.name) rule.meaning.tags) rules
 
 abbrev pub ClashCheck : (custom : Bool) → Pos → Spellings → List RuleOf → Check
 ClashCheck custom at names rules fault =

@@ -19,7 +19,7 @@ use Rattle.lx_rules.specs.declared.resolved.Act.{Act}
 use Rattle.lx_forms.specs.Lexemes.{Lexeme, nth_lexeme, sort_at}
 use Rattle.lx_exprs.specs.Expressions.{ContextChecks, ExpressionChecks, IsExpression}
 use Rattle.lx_forms.specs.Forms.{Form}
-use Rattle.lx_exprs.specs.Defined.{Definition, Meaning, IsDefined, definition_of, one}
+use Rattle.lx_exprs.specs.Defined.{Definition, Meaning, IsDefined, definition_of, nothing, one}
 use Rattle.lx_rules.specs.Environments.{Environment, KeptBlock, Settings, no_settings, settings_over, with_fill}
 use Rattle.lx_rules.specs.Rules.{RuleOf}
 use Rattle.lx_exprs.specs.Meanings.{IsMeaning}
@@ -60,7 +60,7 @@ first_state kind environment = state_behind None environment
 
 -- what `*` means
 abbrev pub any_meaning : Meaning
-any_meaning = record { shape = one any_unit; size = 1; nesting = 0; tags = []; count = 0 }
+any_meaning = record { shape = one any_unit; size = 1; nesting = 0; tags = []; groups = 0; count = 0 }
 
 -- the heads of rules: `*`, `$`, or an expression
 pub data HeadSort : Type 0 where
@@ -143,7 +143,7 @@ module _ (options : Options) (lexemes : List Lexeme) where
   IsHead definitions any head slash until sort meaning = (sort ≡ kind.Default) × (meaning ≡ any_meaning)
   IsHead definitions end head slash until sort meaning = ⊥
   IsHead definitions expression head None until sort meaning =
-      (sort ≡ kind.Plain) × ((form : Form) × IsExpression options lexemes head until form × IsMeaning options definitions false [] form meaning)
+      (sort ≡ kind.Plain) × ((form : Form) × IsExpression options lexemes head until form × IsMeaning options definitions false nothing form meaning)
   IsHead definitions expression head (Some slash) until sort meaning = ⊥
 
   -- the action of a rule with this number: its target, its text with the braces, and the place of that or of `:=>`
@@ -173,7 +173,7 @@ module _ (options : Options) (lexemes : List Lexeme) where
   abbrev pub IsAfter : State → Item → State → Type 0
   IsAfter state (Define name from until) after =
       (form : Form) × (meaning : Meaning) × (definition : Definition) × IsExpression options lexemes from until form
-      × IsMeaning options state.definitions false [] form meaning
+      × IsMeaning options state.definitions false nothing form meaning
       × IsDefined (lexeme_at name).text (lexeme_at name).at meaning definition
       × (after ≡ with_definition state definition)
   IsAfter state (Configure name value) after =

@@ -14,6 +14,7 @@ use Rattle.lx_regex.specs.Pattern as regex
 use Rattle.lx_regex.specs.Pattern.{Pattern}
 use Rattle.lx_regex.specs.declared.rules.Rule as regex_rules
 use Rattle.lx_regex.specs.declared.rules.Kind.{Kind}
+use Rattle.lx_regex.specs.declared.rules.Tag.{Tag}
 use Rattle.lx_regex.specs.declared.rules.Kind.TheVariants as kind
 use Rattle.lx_rules.specs.declared.resolved.Act.{Act}
 use Rattle.lx_rules.specs.declared.items.Known.{Known}
@@ -22,11 +23,11 @@ use Rattle.lx_rules.specs.declared.heads.Head.{Head}
 use Rattle.lx_rules.specs.declared.heads.Head.TheVariants as head
 use Rattle.lx_forms.specs.Lexemes.{Lexeme, nth_lexeme, sort_at}
 use Rattle.lx_exprs.specs.Defined.{Meaning, fits, is_built, kept, term_of_meaning, whole_room}
-use Rattle.lx_exprs.specs.Checks.{StopsAt}
+use Rattle.lx_exprs.specs.Checks.{StopsAt, tag_names}
 use Rattle.lx_exprs.specs.Meanings.{behind}
 use Rattle.lx_rules.specs.Rules.{RuleOf}
 use Rattle.lx_rules.specs.Items.{State, Goes, HeadChecks, head_sort, IsHead, ItemChecks, IsAfter, any_meaning, is_default}
-use Rattle.lx_rules.specs.Blocks.{given_names, of_kind, not_of_kind, pattern_of, size_of, nesting_of}
+use Rattle.lx_rules.specs.Blocks.{given_names, names_of, of_kind, not_of_kind, pattern_of, size_of, nesting_of}
 use Rattle.lx_exprs.specs.declared.expressions.Reading.{Reading}
 use Rattle.lx_exprs.specs.declared.values.Room.{Room}
 use Rattle.lx_exprs.specs.Values.{IsBounded}
@@ -45,10 +46,10 @@ pub record IsUsual (rule : RuleOf) : Type 0 where
   pub no_end : rule.kind ≡ kind.Eof → ⊥
   pub no_target : rule.act.goes ≡ None
 
--- the names of all tags, rule by rule
-abbrev pub names_of : List RuleOf → List (List ℕ)
-names_of [] = []
-names_of (rule ∷ rules) = rule.meaning.tags ++ names_of rules
+-- all tags, rule by rule
+abbrev pub tags_in : List RuleOf → List Tag
+tags_in [] = []
+tags_in (rule ∷ rules) = rule.meaning.tags ++ tags_in rules
 
 -- the rule `*` with this number
 abbrev pub default_pattern : (number : ℕ) → Pattern
@@ -79,11 +80,11 @@ pub record Holds (conds : Bool) (known : Known) (state : State) : Type 0 where
   pub nesting : known.nesting ≡ kept (nesting_of state.rules)
   pub usual : AllByRecursion IsUsual state.rules
   pub default : HoldsDefault known.default (of_kind is_default state.rules)
-  pub tags : known.tags ≡ names_of state.rules
-  pub rules : fits whole_room (size_of state.rules) (nesting_of state.rules) (length (names_of state.rules)) ≡ true
+  pub tags : known.tags ≡ tags_in state.rules
+  pub rules : fits whole_room (size_of state.rules) (nesting_of state.rules) (length (tags_in state.rules)) ≡ true
       → map regex.pattern_of known.rules.items ≡ map pattern_of (not_of_kind is_default state.rules)
-  pub names : fits whole_room (size_of state.rules) (nesting_of state.rules) (length (names_of state.rules)) ≡ true
-      → map given_names known.rules.items ≡ map (λ (rule : RuleOf). rule.meaning.tags) (not_of_kind is_default state.rules)
+  pub names : fits whole_room (size_of state.rules) (nesting_of state.rules) (length (tags_in state.rules)) ≡ true
+      → map given_names known.rules.items ≡ map names_of (not_of_kind is_default state.rules)
   pub sound : HasFitDefinitions known.env
   pub within : known.size ≤ SIZE_LIMIT → rules_size known.rules.items + default_count known.default ≤ known.size
   pub few : known.size ≤ SIZE_LIMIT → length known.rules.items + default_count known.default ≤ known.size
@@ -123,12 +124,12 @@ IsFresh default (head.Plain reading) = Unit {0}
 -- an expression that was read has the size and the tags of what is kept of it
 abbrev pub IsBoundedHead : Head → Type 0
 IsBoundedHead head.Default = Unit {0}
-IsBoundedHead (head.Plain reading) = IsBounded (length reading.tags) reading.value
+IsBoundedHead (head.Plain reading) = IsBounded reading.value
 
--- a rule as a pattern, by the term of its expression and the names of its tags
-abbrev pub plain_pattern : (number : ℕ) → Term → (tags : List (List ℕ)) → Pattern
+-- a rule as a pattern, by the term of its expression and its tags
+abbrev pub plain_pattern : (number : ℕ) → Term → (tags : List Tag) → Pattern
 plain_pattern number term tags =
-    record { number = number; kind = kind.Plain; term = behind (length tags) term; many = map (λ name. false) tags; slash = None; groups = 0 }
+    record { number = number; kind = kind.Plain; term = behind (length tags) term; many = map (λ (tag : Tag). tag.many) tags; slash = None; groups = 0 }
 
 -- the rule of an expression that was read is added, and left out only where it is not built
 abbrev pub AddsPlain : (room : Room) → (number : ℕ) → Reading → (before after : List regex_rules.Rule) → Type 0
@@ -136,7 +137,7 @@ AddsPlain room number reading before after =
     ((after ≡ before) × ((meaning : Meaning) → IsReadAs room meaning reading → is_built room meaning ≡ false))
     ⊎ ((rule : regex_rules.Rule) × (after ≡ before ++ rule ∷ []) × (rule.number ≡ number) × (regex_size.size_of rule.expr ≤ reading.value.size)
     × ((meaning : Meaning) → IsReadAs room meaning reading
-    → (given_names rule ≡ meaning.tags) × (regex.pattern_of rule ≡ plain_pattern number (term_of_meaning meaning) meaning.tags)))
+    → (given_names rule ≡ tag_names meaning.tags) × (regex.pattern_of rule ≡ plain_pattern number (term_of_meaning meaning) meaning.tags)))
 
 -- a rule may be added whose head and action these are
 pub record IsNew (conds : Bool) (known : Known) (read : Head) (at : Pos) (act : Act) (rule : RuleOf) : Type 0 where

@@ -8,6 +8,7 @@ ghost use Rattle.lx_rules.specs.Finishing.{AddsDefault, AreScannersOf, IsFinishe
 ghost use Rattle.lx_rules.specs.Items.{State};
 ghost use Rattle.lx_rules.specs.Keeping.{Holds};
 ghost use Rattle.lx_exprs.specs.Checks.{StopsAt};
+ghost use Rattle.lx_regex.specs.declared.rules.Tag.{Tag as tag_type};
 
 use crate::environment::Env;
 use crate::items::{DefaultRule, Known};
@@ -15,9 +16,9 @@ use crate::resolved::{Config, Resolved, Scanner};
 use crate::rules::simple_rule;
 use lx_base::limits::{NESTING_LIMIT, SIZE_LIMIT, TAG_LIMIT};
 use lx_base::names::{do_not_clash, is_tag_name, name_primitives};
-use lx_base::{ByteText, Fault, Memory, Names, Pos, Sequence, Stop, usual_names};
+use lx_base::{Fault, Memory, Names, Pos, Sequence, Stop, usual_names};
 use lx_exprs::tags::SharedTags;
-use lx_regex::{Expr, Kind, Rule, RuleSet};
+use lx_regex::{Expr, Kind, Rule, RuleSet, Tag};
 use std::alloc::Global;
 
 /// Whether no two spellings clash, and none is the name of an input primitive where the input is custom.
@@ -27,25 +28,25 @@ fn spellings_differ(names: &Names, custom: bool) -> bool
     do_not_clash(names) && !(custom && name_primitives(names))
 }
 
-/// Whether each of some names is one that a tag may have beside the spellings.
-fn are_tag_names(names: &Names, tags: &[ByteText]) -> bool
-    ensures { IsTrue result ↔ AllByRecursion (IsTagName names.now) tags.now }
+/// Whether each of some tags has a name that it may have beside the spellings.
+fn are_tag_names(names: &Names, tags: &[Tag]) -> bool
+    ensures { IsTrue result ↔ AllByRecursion (λ (tag : tag_type). IsTagName names.now tag.name) tags.now }
 {
     for tag in tags {
-        if !is_tag_name(names, tag.as_slice()) {
+        if !is_tag_name(names, tag.name.as_slice()) {
             return false;
         }
     }
     true
 }
 
-/// Whether each of the names of all tags is one that a tag may have beside the spellings.
+/// Whether each of all tags has a name that it may have beside the spellings.
 fn are_all_tag_names(names: &Names, tags: &SharedTags) -> bool
-    ensures { IsTrue result ↔ AllByRecursion (IsTagName names.now) tags.now }
+    ensures { IsTrue result ↔ AllByRecursion (λ (tag : tag_type). IsTagName names.now tag.name) tags.now }
 {
     let segments = tags.segments();
     for segment in segments {
-        if !are_tag_names(names, segment.names()) {
+        if !are_tag_names(names, segment.tags()) {
             return false;
         }
     }

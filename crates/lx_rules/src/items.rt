@@ -6,7 +6,7 @@ use crate::configurations::read_config;
 use crate::environment::Env;
 use crate::heads::{Head, read_head};
 use crate::resolved::Act;
-use crate::rules::{act, simple_rule, tags_with};
+use crate::rules::{act, copies_of, simple_rule};
 use lx_base::limits::{NESTING_LIMIT, SIZE_LIMIT, TAG_LIMIT};
 use lx_base::{Fault, Memory, Options, Pos, Stop};
 use lx_exprs::definitions::Kept;
@@ -46,7 +46,7 @@ pub(crate) struct Known {
     pub size: u64,
     /// The greatest nesting; 2^40 stands for itself and for more.
     pub nesting: u64,
-    /// The names of all tags, rule by rule.
+    /// All tags, rule by rule.
     pub tags: SharedTags,
 }
 
@@ -138,6 +138,7 @@ impl Known {
             size: value.size,
             nesting: value.nesting,
             tags,
+            groups: value.groups,
             expr: value.into_kept(alloc)?,
         };
         self.env.definitions.add(alloc, name.text, kept)?;
@@ -165,7 +166,7 @@ impl Known {
 
     /// Adds the rule of an expression, where it is built.
     fn push_rule(&mut self, alloc: Global, number: u32, reading: Reading) -> Result<(), Memory>
-        requires { IsBounded (length reading.tags) reading.value }
+        requires { IsBounded reading.value }
         ensures size { OnOk result (self.new.size ≡ min (2 ^ 40) (self.old.size + reading.value.size)) }
         ensures nesting { OnOk result (self.new.nesting ≡ max self.old.nesting reading.value.nesting) }
         ensures tags { OnOk result (self.new.tags ≡ self.old.tags ++ reading.tags) }
@@ -181,9 +182,9 @@ impl Known {
         match value.into_expr() {
             None => Ok(()),
             Some(expr) => {
-                let mut names = TagNames::new(alloc);
-                tags.copy_to(alloc, &mut names)?;
-                let tags = tags_with(alloc, names.names())?;
+                let mut held = TagNames::new(alloc);
+                tags.copy_to(alloc, &mut held)?;
+                let tags = copies_of(alloc, held.tags())?;
                 self.rules
                     .push(simple_rule(number, Kind::Plain, expr, tags))?;
                 Ok(())
@@ -208,7 +209,7 @@ impl Known {
 
     /// Adds the rule of an expression.
     fn add_plain(&mut self, alloc: Global, reading: Reading, act: Act) -> Result<(), Memory>
-        requires { IsBounded (length reading.tags) reading.value }
+        requires { IsBounded reading.value }
         ensures few { OnOk result (length self.new.acts.items ≤ suc (length self.old.acts.items)) }
         ensures added { (conds : Bool) (state : State) (at : Pos) (rule : RuleOf) → Holds conds self.old state → IsNew conds self.old (head.Plain reading) at act rule
             → OnOk result (Holds conds self.new (with_rule state rule)) }

@@ -1,5 +1,6 @@
 //! Rules as they are built, and what they do.
-ghost use Rattle.std.specs.Prelude.{◌≡◌, IfOk, None, false, length, map};
+ghost use Rattle.std.specs.Prelude.{◌≡◌, IfOk, None, length, map};
+ghost use Rattle.lx_exprs.specs.Checks.{tag_names};
 ghost use Rattle.lx_regex.specs.Expr.{term_of};
 ghost use Rattle.lx_regex.specs.Pattern as regex;
 ghost use Rattle.lx_regex.specs.declared.rules.Tag.{Tag as tag_type};
@@ -16,7 +17,7 @@ use std::alloc::Global;
 /// A rule with tags, without groups and context.
 pub(crate) fn simple_rule(number: u32, kind: Kind, expr: Expr, tags: Sequence<Tag>) -> Rule
     ensures expr { result.expr ≡ expr }
-    ensures names { given_names result ≡ map (λ (tag : tag_type). tag.name) tags }
+    ensures names { given_names result ≡ tag_names tags }
     ensures pattern { regex.pattern_of result ≡ record { number = number; kind = kind; term = term_of (length tags) expr; many = map (λ (tag : tag_type). tag.many) tags; slash = None; groups = 0 } }
 {
     Rule {
@@ -29,20 +30,18 @@ pub(crate) fn simple_rule(number: u32, kind: Kind, expr: Expr, tags: Sequence<Ta
     }
 }
 
-/// S-tags with these names.
-pub(crate) fn tags_with(alloc: Global, names: &[ByteText]) -> Result<Sequence<Tag>, Memory>
-    ensures names { IfOk result (λ tags. map (λ (tag : tag_type). tag.name) tags ≡ names.now) }
-    ensures many { IfOk result (λ tags. map (λ (tag : tag_type). tag.many) tags ≡ map (λ name. false) names.now) }
-    ensures count { IfOk result (λ tags. length tags ≡ length names.now) }
+/// Copies of tags.
+pub(crate) fn copies_of(alloc: Global, tags: &[Tag]) -> Result<Sequence<Tag>, Memory>
+    ensures { IfOk result (λ copies. copies ≡ tags.now) }
 {
-    let mut tags = Vec::new(alloc);
-    for name in names {
-        tags.push(Tag {
-            name: ByteText::copy_of(alloc, name.as_slice())?,
-            many: false,
+    let mut copies = Vec::new(alloc);
+    for tag in tags {
+        copies.push(Tag {
+            name: ByteText::copy_of(alloc, tag.name.as_slice())?,
+            many: tag.many,
         })?;
     }
-    Ok(Sequence::from_vec(tags))
+    Ok(Sequence::from_vec(copies))
 }
 
 /// What a rule without a target does.

@@ -1,24 +1,25 @@
 -- What is kept of what is read, form by form.
-use Rattle.std.proofs.Common.{◌≡◌, ℕ, suc, ◌+◌, ◌<◌, ◌≤◌, ◌↔◌, ◌⊎◌, arith, inl, inr, ⊎_elim, Bool, true, false, List, [], ◌∷◌, ◌++◌, map, sum, length, take, get_or, Vec, Box, Global, Option, None, Some, IfNone, IfSome, refl, sym, ap, ap₂, ◌∙◌, subst}
+use Rattle.std.proofs.Common.{◌≡◌, ℕ, suc, ◌+◌, ◌*◌, ◌<◌, ◌≤◌, ◌↔◌, ◌⊎◌, arith, inl, inr, ⊎_elim, Bool, true, false, List, [], ◌∷◌, ◌++◌, map, sum, length, take, get_or, Vec, Box, Global, Option, None, Some, IfNone, IfSome, refl, sym, ap, ap₂, ◌∙◌, subst}
 use Rattle.std.specs.Prelude.{not}
 use Rattle.std.proofs.Math.Seq.{take-suc}
 use Rattle.std.proofs.lemmas.List.{map-append}
 use Rattle.std.proofs.lemmas.List.Sums.{sum-map, sum_by-append, sum_by-cons}
 use Rattle.lx_class.specs.Ranges.{HaveSamePoints, InRanges, IsCanonical, IsUnion}
 use Rattle.lx_class.specs.declared.ranges.Range.{Range}
-use Rattle.lx_regex.specs.Term.{Term, IsInRanges, class, repeat}
+use Rattle.lx_regex.specs.Term.{Term, IsInRanges, class, group, repeat}
 use Rattle.lx_regex.specs.Expr.{members_of, ranges_of, size_of, term_of}
 use Rattle.lx_regex.specs.declared.expr.Expr.{Expr}
-use Rattle.lx_regex.specs.declared.expr.Expr.TheVariants.{Cat, Alt, Rep}
-use Rattle.lx_regex.proofs.Trees.Folds.{term_of-cat, term_of-alt, term_of-rep}
+use Rattle.lx_regex.specs.declared.expr.Expr.TheVariants.{Cat, Alt, Rep, Group}
+use Rattle.lx_regex.proofs.Trees.Folds.{term_of-cat, term_of-alt, term_of-group, term_of-rep}
 use Rattle.lx_exprs.specs.declared.values.Content.{Content}
 use Rattle.lx_exprs.specs.declared.values.Content.TheVariants as content
 use Rattle.lx_exprs.proofs.Forms.ClassForms.{in_ranges_of}
 use Rattle.lx_exprs.proofs.Classes.ClassUnions.{classes_in-append, class_in-choice}
-use Rattle.lx_exprs.specs.Defined.{HasClass, IsTermKept, Meaning, Shape, one, row, choice, whole, both_classes, class_in, classes_in, meant_class, term_of_meaning}
-use Rattle.lx_exprs.specs.Meanings.{alternated, choice_size, in_choice, in_row}
+use Rattle.lx_exprs.specs.Defined.{HasClass, IsTermKept, Meaning, Shape, one, row, choice, whole, both_classes, class_in, classes_in, kept, meant_class, term_of_meaning}
+use Rattle.lx_exprs.specs.Meanings.{alternated, choice_size, grouped, in_choice, in_row}
 use Rattle.std.specs.Option.{option_map}
 use Rattle.lx_exprs.specs.Soundness.{FitsKept}
+use Rattle.lx_exprs.proofs.TagLists.TermTags.{HasTagsBelow-greater}
 use Rattle.lx_exprs.specs.Values.{AreTagsBelow, HasPoints, HasTagsBelow, HaveTagsBelow, IsContent, content_size, is_choice, is_choice_content, is_past}
 
 -- whether alternatives stand there can be seen
@@ -222,11 +223,33 @@ pub repeated_one : (meaning : Meaning) (body : Expr) (held : Box Expr Global) (l
 repeated_one meaning body held low high most same bound is =
     sym (ap one (term_of-rep 0 held low most ∙ ap₂ (λ e h. repeat e low h) (ap (term_of 0) same ∙ is) bound))
 
+-- a group
+pub grouped_one : (meaning : Meaning) (body : Expr) (held : Box Expr Global) (before : ℕ) → before < 128 → held.value ≡ body
+    → term_of 0 body ≡ term_of_meaning meaning
+    → (grouped (kept (suc before)) meaning).shape ≡ one (term_of 0 (Group (before + 1) held))
+grouped_one meaning body held before few same is =
+    let opening : 0 + 2 * (before + 1) ≡ 2 * kept (suc before) = omega (arith, few) in
+    let closing : 0 + 2 * (before + 1) + 1 ≡ 2 * kept (suc before) + 1 = omega (arith, few) in
+    sym (ap one
+    (term_of-group 0 (before + 1) held ∙ ap₂ (λ a b. group a b (term_of 0 held.value)) opening closing
+    ∙ ap (group (2 * kept (suc before)) (2 * kept (suc before) + 1)) (ap (term_of 0) same ∙ is)))
+
+pub grouped_below : (bound : ℕ) (body : Expr) (held : Box Expr Global) (before : ℕ) → held.value ≡ body → 2 * suc before ≤ bound
+    → HasTagsBelow bound (term_of 0 body) → HasTagsBelow bound (term_of 0 (Group (before + 1) held))
+grouped_below bound body held before same few below =
+    subst (HasTagsBelow bound) (sym (term_of-group 0 (before + 1) held))
+    (omega arith, omega (arith, few), subst (λ e. HasTagsBelow bound (term_of 0 e)) (sym same) below)
+
 -- what is kept of what is built, and past the limits
 pub kept_fits : (found : Option Expr) (held : Content) (size count : ℕ) → 1 ≤ size → content_size held ≤ size → AreTagsBelow count held
     → IfSome found (λ e. size_of e ≡ content_size held) → IfSome found (λ e. HasTagsBelow count (term_of 0 e)) → FitsKept found size count
 kept_fits None held size count some small below same tags = some
 kept_fits (Some expr) held size count some small below same tags = (some, omega (arith, same, small), tags)
+
+-- and so it is within a greater count
+pub fits_counted : (found : Option Expr) (size less more : ℕ) → less ≤ more → FitsKept found size less → FitsKept found size more
+fits_counted None size less more le fits = fits
+fits_counted (Some expr) size less more le fits = (fits.0, fits.1, HasTagsBelow-greater less more (term_of 0 expr) le fits.2)
 
 pub not_past : (held : Content) → ((set : Option (List Range)) (alternatives : Bool) → held ≡ content.Past set alternatives → ⊥) → is_past held ≡ false
 not_past (content.One expr) free = refl

@@ -6,7 +6,7 @@ use Rattle.lx_regex.specs.Expr.{times}
 use Rattle.lx_token.specs.declared.numbers.Repeat.{Repeat}
 use Rattle.lx_exprs.specs.declared.values.Room.{Room}
 use Rattle.lx_exprs.specs.Defined.{Meaning, fits, is_built, kept}
-use Rattle.lx_exprs.specs.Meanings.{alternated, choice_size, enclosed, followed, repeated_by}
+use Rattle.lx_exprs.specs.Meanings.{alternated, choice_size, enclosed, followed, grouped, repeated_by}
 use Rattle.lx_exprs.specs.Values.{IsCounted, IsRoom}
 
 -- below the end of what is kept a bound holds of what is kept where it holds of all
@@ -24,9 +24,9 @@ fits_kept room size nesting count is =
     (ap₂ (λ a b. a && b) (le_kept nesting 256 (omega arith)) (le_kept count room.tags most))
 
 -- so whether an expression is built is seen in what is kept of its numbers
-pub built_seen : (room : Room) (meaning : Meaning) (size nesting tags : ℕ) → IsRoom room → IsCounted meaning size nesting tags
+pub built_seen : (room : Room) (meaning : Meaning) (size nesting groups tags : ℕ) → IsRoom room → IsCounted meaning size nesting groups tags
     → fits room size nesting tags ≡ is_built room meaning
-built_seen room meaning size nesting tags is counted =
+built_seen room meaning size nesting groups tags is counted =
     rw counted.size_is (rw counted.nesting_is (rw counted.tags_is (fits_kept room meaning.size meaning.nesting meaning.count is)))
 
 pub both_of : (a b : Bool) → (a && b) ≡ true → (a ≡ true) × (b ≡ true)
@@ -53,28 +53,41 @@ grows room part around size nesting count off = at (is_built room around) refl
         absurd (let h : false ≡ true = sym off ∙ on in cc)
 
 -- the numbers of what stands around
-pub counted_enclosed : (meaning : Meaning) (size nesting tags : ℕ) → IsCounted meaning size nesting tags
-    → IsCounted (enclosed meaning) size (min (2 ^ 40) (nesting + 1)) tags
-counted_enclosed meaning size nesting tags counted = record {
+pub counted_enclosed : (meaning : Meaning) (size nesting groups tags : ℕ) → IsCounted meaning size nesting groups tags
+    → IsCounted (enclosed meaning) size (min (2 ^ 40) (nesting + 1)) groups tags
+counted_enclosed meaning size nesting groups tags counted = record {
   size_is = counted.size_is;
   nesting_is = rw counted.nesting_is (omega arith);
+  groups_is = counted.groups_is;
   tags_is = counted.tags_is;
 }
 
-pub counted_followed : (first second : Meaning) (s n t s' n' t' : ℕ) → IsCounted first s n t → IsCounted second s' n' t'
-    → IsCounted (followed first second) (min (2 ^ 40) (s + s')) (max n n') (max t t')
-counted_followed first second s n t s' n' t' a b = record {
+pub counted_grouped : (before : ℕ) (meaning : Meaning) (size nesting groups tags : ℕ) → IsCounted meaning size nesting groups tags
+    → IsCounted (grouped (kept (suc before)) meaning) (min (2 ^ 40) (size + 2)) (min (2 ^ 40) (nesting + 1)) (min (2 ^ 40) (groups + 1))
+    (max tags (min (2 ^ 40) (min (2 ^ 40) (before + 1) + min (2 ^ 40) (before + 1))))
+counted_grouped before meaning size nesting groups tags counted = record {
+  size_is = rw counted.size_is (omega arith);
+  nesting_is = rw counted.nesting_is (omega arith);
+  groups_is = rw counted.groups_is (omega arith);
+  tags_is = rw counted.tags_is (omega arith);
+}
+
+pub counted_followed : (first second : Meaning) (s n g t s' n' g' t' : ℕ) → IsCounted first s n g t → IsCounted second s' n' g' t'
+    → IsCounted (followed first second) (min (2 ^ 40) (s + s')) (max n n') (min (2 ^ 40) (g + g')) (max t t')
+counted_followed first second s n g t s' n' g' t' a b = record {
   size_is = rw (a.size_is, b.size_is) (omega arith);
   nesting_is = rw (a.nesting_is, b.nesting_is) (omega arith);
+  groups_is = rw (a.groups_is, b.groups_is) (omega arith);
   tags_is = rw (a.tags_is, b.tags_is) (omega arith);
 }
 
-pub counted_alternated : (first second : Meaning) (s n t s' n' t' more : ℕ) → IsCounted first s n t → IsCounted second s' n' t'
+pub counted_alternated : (first second : Meaning) (s n g t s' n' g' t' more : ℕ) → IsCounted first s n g t → IsCounted second s' n' g' t'
     → more ≡ choice_size first.shape
-    → IsCounted (alternated first second) (min (2 ^ 40) (min (2 ^ 40) (s + more) + s')) (max n n') (max t t')
-counted_alternated first second s n t s' n' t' more a b same = record {
+    → IsCounted (alternated first second) (min (2 ^ 40) (min (2 ^ 40) (s + more) + s')) (max n n') (min (2 ^ 40) (g + g')) (max t t')
+counted_alternated first second s n g t s' n' g' t' more a b same = record {
   size_is = rw (a.size_is, b.size_is, same) (omega arith);
   nesting_is = rw (a.nesting_is, b.nesting_is) (omega arith);
+  groups_is = rw (a.groups_is, b.groups_is) (omega arith);
   tags_is = rw (a.tags_is, b.tags_is) (omega arith);
 }
 
@@ -106,11 +119,12 @@ kept_product n k some = at (nat_le n (2 ^ 40)) refl
         let all : n ≤ n * k = at_least n k some in
         rw same (omega (arith, first, all, lt))
 
-pub counted_repeated : (bounds : Repeat) (meaning : Meaning) (size nesting tags : ℕ) → IsCounted meaning size nesting tags
+pub counted_repeated : (bounds : Repeat) (meaning : Meaning) (size nesting groups tags : ℕ) → IsCounted meaning size nesting groups tags
     → IsCounted (repeated_by bounds meaning)
-    (min (2 ^ 40) (min (2 ^ 40) (min (size * times bounds.min bounds.max) (2 ^ 64 - 1)) + 1)) (min (2 ^ 40) (nesting + 1)) tags
-counted_repeated bounds meaning size nesting tags counted = record {
+    (min (2 ^ 40) (min (2 ^ 40) (min (size * times bounds.min bounds.max) (2 ^ 64 - 1)) + 1)) (min (2 ^ 40) (nesting + 1)) groups tags
+counted_repeated bounds meaning size nesting groups tags counted = record {
   size_is = rw counted.size_is (kept_product meaning.size (times bounds.min bounds.max) (times-some bounds.min bounds.max));
   nesting_is = rw counted.nesting_is (omega arith);
+  groups_is = counted.groups_is;
   tags_is = counted.tags_is;
 }

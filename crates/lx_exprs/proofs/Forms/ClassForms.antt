@@ -1,6 +1,6 @@
 -- Forms that are classes: where one is an operand of a difference, its meaning is the class of its points.
 use Rattle.std.proofs.Common.{◌≡◌, ℕ, suc, ◌+◌, ◌-◌, ◌≤◌, ◌<◌, inl, inr, ⊎_elim, ◌⊎◌, ◌↔◌, Bool, true, false, List, [], ◌∷◌, ◌++◌, length, map, Option, None, Some, refl, sym, ap, ap₂, ◌∙◌, subst, arith}
-use Rattle.std.specs.Prelude.{◌==◌, ◌&&◌, is_some, nat_le, if◌then◌else◌}
+use Rattle.std.specs.Prelude.{◌==◌, ◌&&◌, not, is_some, nat_le, if◌then◌else◌}
 use Rattle.std.specs.Option.{option_and_then}
 use Rattle.lx_base.specs.Letters.{is_within}
 use Rattle.lx_base.specs.declared.faults.Fault.{Fault}
@@ -16,13 +16,13 @@ use Rattle.lx_class.specs.declared.ranges.Range.{Range}
 use Rattle.lx_encode.specs.Policy.{IsAfter, IsSurrogate}
 use Rattle.lx_token.specs.declared.kinds.TokenKind.{TokenKind}
 use Rattle.lx_token.specs.declared.kinds.TokenKind.TheVariants as kind
-use Rattle.lx_regex.specs.Term as term
-use Rattle.lx_regex.specs.Term.{Term, Terms, IsInRanges}
+use Rattle.lx_regex.specs.Term.{Term, IsInRanges}
 use Rattle.lx_regex.specs.Expr.{ranges_of}
 use Rattle.lx_forms.specs.Lexemes.{Lexeme, points_in}
 use Rattle.lx_exprs.specs.Points.{replaced, singles}
-use Rattle.lx_exprs.specs.Defined.{Definition, Meaning, Shape, one, both_classes, class_in, classes_in, definition_of, meant_class, whole}
-use Rattle.lx_exprs.specs.Meanings.{IsClassMeaning, IsLeafMeaning, IsMeaning, character_set, copied, shifted, string_term, term_or_empty}
+use Rattle.lx_regex.specs.declared.rules.Tag.{Tag}
+use Rattle.lx_exprs.specs.Defined.{Before, Definition, Meaning, Shape, count_of, one, both_classes, class_in, definition_of, meant_class, whole}
+use Rattle.lx_exprs.specs.Meanings.{IsClassMeaning, IsLeafMeaning, IsMeaning, character_set, copied, in_parentheses, parenthesized, past, shifted, string_term, term_or_empty}
 use Rattle.lx_exprs.specs.Checks.{Check, Checks, HasPoint, IsFilled, IsIn, LeafHas, Then, are_groups, both_cases, defined_points, group_fault, is_class, leaf_is_class, tags_of, unsupported}
 use Rattle.lx_forms.specs.Forms.{Form, leaf, group, repeated, sequence, difference, alternative}
 use Rattle.lx_exprs.proofs.Classes.ClassUnions.{class_in-choice}
@@ -192,56 +192,57 @@ module _ (options : Options) (definitions : List Definition) where
       let two : (suc (suc (length points)) == 1) ≡ false = search arith in
       agrees-none (suc (suc (length points)) == 1) Has (meant_class meaning) two (ap (λ (shape : Shape). class_in (whole shape)) is)
 
-  class-meaning-agrees : (nesting : ℕ) (tags : List (List ℕ)) (count : ℕ) (Has : ℕ → Type 0) (meaning : Meaning)
-      → IsClassMeaning options definitions true nesting tags count Has meaning → Agrees true Has (meant_class meaning)
-  class-meaning-agrees nesting tags count Has meaning is =
+  class-meaning-agrees : (nesting : ℕ) (tags : List Tag) (groups count : ℕ) (Has : ℕ → Type 0) (meaning : Meaning)
+      → IsClassMeaning options definitions true nesting tags groups count Has meaning → Agrees true Has (meant_class meaning)
+  class-meaning-agrees nesting tags groups count Has meaning is =
       agrees-set Has (meant_class meaning) is.0 (ap (λ (m : Meaning). meant_class m) is.2) is.1.points
 
-  copied-agrees : (by : ℕ) (definition : Definition) (found : Option Definition) (meaning : Meaning) → found ≡ Some definition
-      → meaning ≡ copied by definition
+  copied-agrees : (before : Before) (definition : Definition) (found : Option Definition) (meaning : Meaning) → found ≡ Some definition
+      → meaning ≡ copied before definition
       → Agrees (is_some (defined_points options definitions found)) (IsIn (defined_points options definitions found)) (meant_class meaning)
-  copied-agrees by definition found meaning is means = rw (is) (record {
+  copied-agrees before definition found meaning is means = rw (is) (record {
     class_is = ap is_some same_class;
     points = λ held point.
         subst (λ class. IsIn class point ↔ IsIn (defined_points options definitions (Some definition)) point) same_class (λ is. is, λ is. is);
   })
     where
-      same : (term : Option Term) → class_in (shifted by 0 (term_or_empty term)) ≡ option_and_then class_in term
+      same : (term : Option Term) → class_in (shifted (length before.tags) before.groups (term_or_empty term)) ≡ option_and_then class_in term
       same None = refl
-      same (Some term) = class_in-shifted by 0 term
+      same (Some term) = class_in-shifted (length before.tags) before.groups term
 
       same_class : defined_points options definitions (Some definition) ≡ meant_class meaning
       same_class = sym (same definition.term) ∙ ap (λ (m : Meaning). meant_class m) (sym means)
 
-  leaf-agrees : (sort : TokenKind) (seen : List (List ℕ)) (lexeme : Lexeme) (meaning : Meaning)
-      → IsLeafMeaning options definitions true sort seen lexeme meaning
+  leaf-agrees : (sort : TokenKind) (before : Before) (lexeme : Lexeme) (meaning : Meaning)
+      → IsLeafMeaning options definitions true sort before lexeme meaning
       → Agrees (leaf_is_class options definitions sort lexeme) (LeafHas options definitions sort lexeme) (meant_class meaning)
-  leaf-agrees kind.Str seen lexeme meaning is =
+  leaf-agrees kind.Str before lexeme meaning is =
       string-agrees false (points_in lexeme) (LeafHas options definitions kind.Str lexeme) meaning (ap (λ (m : Meaning). m.shape) is)
       (λ number same point.
       subst (λ points. IsAfter options.surrogates (singles (number ∷ [])) point ↔ IsAfter options.surrogates (singles points) point) (sym same)
       (λ is. is, λ is. is))
-  leaf-agrees kind.IStr seen lexeme meaning is =
+  leaf-agrees kind.IStr before lexeme meaning is =
       string-agrees true (points_in lexeme) (LeafHas options definitions kind.IStr lexeme) meaning (ap (λ (m : Meaning). m.shape) is)
       (λ number same point.
       subst (λ points. IsAfter options.surrogates (singles (both_cases (number ∷ []))) point ↔ IsAfter options.surrogates (singles (both_cases points)) point)
       (sym same) (λ is. is, λ is. is))
-  leaf-agrees kind.Class seen lexeme meaning is =
-      class-meaning-agrees 0 [] (length seen) (LeafHas options definitions kind.Class lexeme) meaning is
-  leaf-agrees kind.Signs seen lexeme meaning is =
-      class-meaning-agrees 0 [] (length seen) (LeafHas options definitions kind.Signs lexeme) meaning is
-  leaf-agrees kind.Name seen lexeme meaning is =
-      copied-agrees (length seen) is.0 (definition_of definitions lexeme.text) meaning is.1 is.2
-  leaf-agrees kind.STag seen lexeme meaning is =
+  leaf-agrees kind.Class before lexeme meaning is =
+      class-meaning-agrees 0 [] 0 (count_of before) (LeafHas options definitions kind.Class lexeme) meaning is
+  leaf-agrees kind.Signs before lexeme meaning is =
+      class-meaning-agrees 0 [] 0 (count_of before) (LeafHas options definitions kind.Signs lexeme) meaning is
+  leaf-agrees kind.Name before lexeme meaning is =
+      copied-agrees before is.0 (definition_of definitions lexeme.text) meaning is.1 is.2
+  leaf-agrees kind.STag before lexeme meaning is =
       agrees-none false (LeafHas options definitions kind.STag lexeme) (meant_class meaning) refl (ap (λ (m : Meaning). meant_class m) is)
-  leaf-agrees kind.Config seen lexeme meaning is = absurd is
-  leaf-agrees kind.Number seen lexeme meaning is = absurd is
-  leaf-agrees kind.MTag seen lexeme meaning is = absurd is
-  leaf-agrees kind.Bounds seen lexeme meaning is = absurd is
-  leaf-agrees kind.Code seen lexeme meaning is = absurd is
+  leaf-agrees kind.Config before lexeme meaning is = absurd is
+  leaf-agrees kind.Number before lexeme meaning is = absurd is
+  leaf-agrees kind.MTag before lexeme meaning is =
+      agrees-none false (LeafHas options definitions kind.MTag lexeme) (meant_class meaning) refl (ap (λ (m : Meaning). meant_class m) is)
+  leaf-agrees kind.Bounds before lexeme meaning is = absurd is
+  leaf-agrees kind.Code before lexeme meaning is = absurd is
 
   -- parentheses that are not refused are no group
-  no_groups : (opening : Lexeme) → None ≡ group_fault options definitions opening → are_groups options definitions ≡ false
+  pub no_groups : (opening : Lexeme) → None ≡ group_fault options definitions opening → are_groups options definitions ≡ false
   no_groups opening found = at (are_groups options definitions) found
     where
       at : (b : Bool) → None ≡ (if b then unsupported opening else None) → b ≡ false
@@ -249,26 +250,38 @@ module _ (options : Options) (definitions : List Definition) where
       at false found = refl
 
   -- an operand of a difference in which nothing is refused is a class where its meaning is one
-  pub form-agrees : (form : Form) (seen : List (List ℕ)) (meaning : Meaning) → Checks options definitions true seen form None
-      → IsMeaning options definitions true seen form meaning
+  pub form-agrees : (form : Form) (before : Before) (meaning : Meaning) → Checks options definitions true before.tags form None
+      → IsMeaning options definitions true before form meaning
       → Agrees (is_class options definitions form) (HasPoint options definitions form) (meant_class meaning)
-  form-agrees (leaf lexeme) seen meaning checked is = leaf-agrees lexeme.kind seen lexeme meaning is
-  form-agrees (group opening inner) seen meaning checked is =
-      let found = then-none (λ fault. fault ≡ group_fault options definitions opening) (Checks options definitions true seen inner) checked in
-      let agrees = form-agrees inner seen is.0 found.1 is.1 in
-      rw (no_groups opening found.0)
-      (subst (Agrees (is_class options definitions inner) (HasPoint options definitions inner)) (ap (λ (m : Meaning). meant_class m) (sym is.2)) agrees)
-  form-agrees (repeated inner sign) seen meaning checked is =
+  form-agrees (leaf lexeme) before meaning checked is = leaf-agrees lexeme.kind before lexeme meaning is
+  form-agrees (group opening inner) before meaning checked is =
+      by (are_groups options definitions) checked is (λ body found means. form-agrees inner before body found means)
+    where
+      by : (b : Bool)
+          → Then (λ fault. fault ≡ (if b then unsupported opening else None)) (Checks options definitions (true && not b) before.tags inner) None
+          → (body : Meaning) × IsMeaning options definitions (true && not b) (in_parentheses b before) inner body
+          × (meaning ≡ parenthesized b before body)
+          → ((body : Meaning) → Checks options definitions true before.tags inner None → IsMeaning options definitions true before inner body
+          → Agrees (is_class options definitions inner) (HasPoint options definitions inner) (meant_class body))
+          → Agrees (if b then false else is_class options definitions inner) (HasPoint options definitions inner) (meant_class meaning)
+      by true checked is agrees =
+          agrees-none false (HasPoint options definitions inner) (meant_class meaning) refl (ap (λ (m : Meaning). meant_class m) is.2)
+      by false checked is agrees =
+          let found = then-none (λ fault. fault ≡ None) (Checks options definitions true before.tags inner) checked in
+          subst (Agrees (is_class options definitions inner) (HasPoint options definitions inner)) (ap (λ (m : Meaning). meant_class m) (sym is.2))
+          (agrees is.0 found.1 is.1)
+  form-agrees (repeated inner sign) before meaning checked is =
       agrees-none false (HasPoint options definitions (repeated inner sign)) (meant_class meaning) refl (ap (λ (m : Meaning). meant_class m) is.2)
-  form-agrees (sequence front back) seen meaning checked is =
+  form-agrees (sequence front back) before meaning checked is =
       agrees-none false (HasPoint options definitions (sequence front back)) (meant_class meaning) refl (ap (λ (m : Meaning). meant_class m) is.4)
-  form-agrees (difference left sign right) seen meaning checked is =
-      class-meaning-agrees _ _ _ (HasPoint options definitions (difference left sign right)) meaning is.4
-  form-agrees (alternative left sign right) seen meaning checked is =
+  form-agrees (difference left sign right) before meaning checked is =
+      class-meaning-agrees _ _ _ _ (HasPoint options definitions (difference left sign right)) meaning is.4
+  form-agrees (alternative left sign right) before meaning checked is =
       let found =
-      then-none (Checks options definitions true seen left) (Checks options definitions true (seen ++ tags_of options definitions left) right) checked in
-      let here = form-agrees left seen is.0 found.0 is.2 in
-      let there = form-agrees right (seen ++ tags_of options definitions left) is.1 found.1 is.3 in
+      then-none (Checks options definitions true before.tags left)
+      (Checks options definitions true (before.tags ++ tags_of options definitions left) right) checked in
+      let here = form-agrees left before is.0 found.0 is.2 in
+      let there = form-agrees right (past options definitions before left) is.1 found.1 is.3 in
       let class : both_classes (meant_class is.0) (meant_class is.1) ≡ meant_class meaning =
       sym (class_in-choice is.0.shape (whole is.1.shape)) ∙ ap (λ (m : Meaning). meant_class m) (sym is.4) in
       subst (Agrees (is_class options definitions (alternative left sign right)) (HasPoint options definitions (alternative left sign right))) class

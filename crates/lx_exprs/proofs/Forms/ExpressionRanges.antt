@@ -1,5 +1,5 @@
 -- The expressions of a block, which stand in ranges of its tokens.
-use Rattle.std.proofs.Common.{◌≡◌, ℕ, ◌+◌, ◌⊎◌, arith, List, [], ◌∷◌, ◌++◌, drop, length, None, Some, false, Result, Ok, Err, sym, ap, ◌∙◌, subst, ⊎_elim, length-append}
+use Rattle.std.proofs.Common.{◌≡◌, Bool, ℕ, ◌+◌, ◌⊎◌, arith, List, [], ◌∷◌, ◌++◌, drop, length, Some, false, Result, Ok, Err, sym, ap, ◌∙◌, subst, ⊎_elim, length-append}
 use Rattle.std.proofs.Math.Seq.{drop-append_seam}
 use Rattle.std.proofs.lemmas.List.{drop-drop, drop-map, length-drop, length-map}
 use Rattle.lx_base.specs.declared.faults.Fault.{Fault}
@@ -12,18 +12,20 @@ use Rattle.lx_exprs.specs.declared.expressions.Operands.{Operands as Held}
 use Rattle.lx_exprs.specs.declared.expressions.Reading.{Reading}
 use Rattle.lx_exprs.specs.declared.values.Room.{Room}
 use Rattle.lx_exprs.specs.declared.values.Value.{Value}
-use Rattle.lx_exprs.specs.Checks.{Checks, StopsAt}
-use Rattle.lx_exprs.specs.Defined.{Definition, Meaning}
+use Rattle.std.specs.List.{AllByRecursion}
+use Rattle.lx_regex.specs.declared.rules.Tag.{Tag}
+use Rattle.lx_exprs.specs.Checks.{Checks, StopsAt, are_groups}
+use Rattle.lx_exprs.specs.Defined.{Definition, Meaning, nothing}
 use Rattle.lx_forms.specs.Forms.{Form, IsForm}
 use Rattle.lx_exprs.specs.Expressions.{ExpressionChecks, IsExpression}
 use Rattle.lx_exprs.specs.Expressions.{IsRead}
 use Rattle.lx_forms.specs.Lexemes.{Lexeme, sort_at, sorts_at}
-use Rattle.lx_exprs.specs.Meanings.{IsMeaning}
 use Rattle.lx_exprs.specs.Reading.{AreInOrder, AreOperands, AreTaken, AreValues, Goes, Operands, StopsReading, no_operands, with_more}
 use Rattle.lx_forms.specs.Steps.{Step, steps_of}
 use Rattle.lx_exprs.proofs.Forms.ExpressionSteps.{reversed}
 use Rattle.lx_forms.proofs.FormReading.{HasForm, reads_form}
-use Rattle.lx_exprs.proofs.Forms.FormRuns.{form_goes}
+use Rattle.lx_exprs.proofs.Forms.FormRuns.{IsFormRead, form_goes}
+use Rattle.lx_exprs.proofs.Forms.NoGroups.{IsUngrouped, groups_of-none}
 use Rattle.lx_forms.proofs.OneForm.{form_front}
 use Rattle.lx_exprs.proofs.Forms.StepOrder.{steps_in_order}
 
@@ -46,18 +48,26 @@ part_form options lexemes from until part =
         ∙ ap (λ n. drop n lexemes) place in
         (read.1, subst (λ r. IsForm alt (drop from lexemes) r read.1) rest read.3)
 
+-- the steps as they are found are those under the options
+pub steps_are : {lexemes rest : List Lexeme} {steps : List Step} (options : Options) (definitions : List Definition) (found : Bool)
+    → found ≡ are_groups options definitions
+    → ((form : Form) → IsForm alt lexemes rest form → steps ≡ steps_of found false form)
+    → (form : Form) → IsForm alt lexemes rest form → steps ≡ steps_of (are_groups options definitions) false form
+steps_are {lexemes} {rest} {steps} options definitions found same are =
+    subst (λ b. (form : Form) → IsForm alt lexemes rest form → steps ≡ steps_of b false form) same are
+
 -- the steps of the expression that stands from one place up to another
 module _ (options : Options) (definitions : List Definition) (lexemes : List Lexeme) (from until : ℕ) (part : IsPart (sorts_at lexemes) alt from until)
-    (steps : List Step) (are : (form : Form) → IsForm alt (drop from lexemes) (drop until lexemes) form → steps ≡ steps_of false form) where
+    (steps : List Step)
+    (are : (form : Form) → IsForm alt (drop from lexemes) (drop until lexemes) form → steps ≡ steps_of (are_groups options definitions) false form) where
   pub part_in_order : AreInOrder 0 steps
   part_in_order =
       let stands = part_form options lexemes from until part in
-      subst (AreInOrder 0) (sym (are stands.0 stands.1)) (steps_in_order false stands.0)
+      subst (AreInOrder 0) (sym (are stands.0 stands.1)) (steps_in_order (are_groups options definitions) false stands.0)
 
   goes_so : (form : Form) → IsExpression options lexemes from until form → (result : Result Operands Fault) → Goes options definitions no_operands steps result
       → ((fault : Fault) × (result ≡ Err fault) × Checks options definitions false [] form (Some fault))
-      ⊎ ((meaning : Meaning) × (result ≡ Ok (with_more no_operands meaning)) × Checks options definitions false [] form None
-      × IsMeaning options definitions false [] form meaning × (meaning.count ≡ length meaning.tags))
+      ⊎ ((meaning : Meaning) × (result ≡ Ok (with_more no_operands meaning)) × IsFormRead options definitions false nothing form meaning)
   goes_so form stands result goes =
       form_goes options definitions form result (subst (λ l. Goes options definitions no_operands l result) (are form stands) goes)
 
@@ -73,10 +83,11 @@ module _ (options : Options) (definitions : List Definition) (lexemes : List Lex
       (goes_so stands.0 stands.1 (Err fault) goes)
 
   -- and where they are taken, the expression is read
-  pub part_read : (room : Room) (held : Held) (front : List Value) (reading : Reading) → AreTaken options definitions room no_operands steps held
+  pub part_read : (room : Room) (held : Held) (front : List Value) (reading : Reading) → AllByRecursion IsUngrouped definitions
+      → AreTaken options definitions room no_operands steps held
       → held.values.items ≡ front ++ reading.value ∷ [] → reading.tags ≡ held.seen
       → IsRead options lexemes definitions room from until reading
-  part_read room held front reading taken values tags =
+  part_read room held front reading ungrouped taken values tags =
       let stands = part_form options lexemes from until part in
       ⊎_elim
       (λ found. absurd (let h : Ok taken.after ≡ Err found.0 = found.1 in cc))
@@ -84,12 +95,17 @@ module _ (options : Options) (definitions : List Definition) (lexemes : List Lex
       let after : taken.after ≡ with_more no_operands read.0 = cc in
       let operands = subst (λ (o : Operands). AreOperands room o held) after taken.stands in
       let is = subst (AreValues room (read.0 ∷ [])) (reversed front held.values.items reading.value values) operands.values in
+      let none : read.0.groups ≡ 0 =
+      read.2.groups ∙ groups_of-none options definitions ungrouped false [] stands.0 read.2.checked in
+      let all = ap (λ (l : List Tag). length l) read.2.tags in
+      let formed = groups_of-none options definitions ungrouped false [] stands.0 read.2.checked in
+      let count : read.0.count ≡ length read.0.tags = let is_so = read.2.count in omega (arith, is_so, all, formed) in
       record {
         form = stands.0;
         stands_there = stands.1;
-        checked = read.2;
+        checked = read.2.checked;
         meaning = read.0;
-        means = read.3;
-        stands = record { value = is.0; tags = tags ∙ operands.seen; count = read.4 };
+        means = read.2.means;
+        stands = record { value = is.0; tags = tags ∙ operands.tags; groups = none; count = count };
       })
       (goes_so stands.0 stands.1 (Ok taken.after) taken.goes)

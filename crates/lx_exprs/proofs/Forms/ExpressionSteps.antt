@@ -1,5 +1,5 @@
 -- The steps of an expression, one behind another.
-use Rattle.std.proofs.Common.{◌≡◌, ℕ, zero, suc, ◌<◌, ◌↔◌, arith, inl, max, Bool, List, [], ◌∷◌, ◌++◌, map, reverse, length, take, drop, get_or, Option, None, Some, Result, Ok, Err, MatchResult, refl, sym, ap, ◌∙◌, subst}
+use Rattle.std.proofs.Common.{◌≡◌, ℕ, zero, suc, ◌+◌, ◌<◌, ◌↔◌, arith, inl, max, Bool, List, [], ◌∷◌, ◌++◌, map, reverse, length, take, drop, get_or, Option, None, Some, Result, Ok, Err, MatchResult, refl, sym, ap, ap₂, ◌∙◌, subst, Vec, Global}
 use Rattle.std.specs.Prelude.{◌&&◌, is_some, if◌then◌else◌}
 use Rattle.std.proofs.lemmas.List.{reverse-append}
 use Rattle.std.proofs.lemmas.Result.{MatchResult-weaker}
@@ -16,7 +16,8 @@ use Rattle.lx_exprs.specs.declared.expressions.Operands.{Operands as Held}
 use Rattle.lx_exprs.specs.declared.values.Room.{Room}
 use Rattle.lx_exprs.specs.declared.values.Value.{Value}
 use Rattle.lx_exprs.specs.Checks.{IsFilled, IsIn, StopsAt}
-use Rattle.lx_exprs.specs.Defined.{Definition, HasClass, Meaning, meant_class}
+use Rattle.lx_exprs.specs.Defined.{Before, Definition, HasClass, Meaning, kept, meant_class}
+use Rattle.lx_regex.specs.declared.rules.Tag.{Tag}
 use Rattle.lx_forms.specs.Lexemes.{Lexeme}
 use Rattle.lx_exprs.specs.Meanings.{class_meaning}
 use Rattle.lx_exprs.specs.Reading.{AreOperands, AreValues, DifferenceChecks, DifferenceHas, Goes, ends, refused, next, IsDifference, IsLeafRead, IsStepTaken, IsStepped, Operands, StepChecks, StopsReading, SubtractChecks, Subtracts, in_place, with_more}
@@ -58,19 +59,26 @@ module _ (options : Options) (definitions : List Definition) where
   -- a leaf is read
   pub leaf_taken : (room : Room) (operands : Operands) (old new : Held) (is_operand : Bool) (lexeme : Lexeme) (value : Value)
       → AreOperands room operands old → new.values.items ≡ old.values.items ++ value ∷ []
-      → IsLeafRead options definitions room is_operand old.seen lexeme new.seen value
+      → new.groups ≡ kept (old.groups + value.groups) → new.open_groups ≡ old.open_groups
+      → IsLeafRead options definitions room is_operand (record { tags = old.seen; groups = old.groups }) lexeme new.seen value
       → IsStepTaken options definitions room operands (reads is_operand lexeme) new
-  leaf_taken room operands old new is_operand lexeme value are values read =
-      let here = subst (λ before. IsLeafRead options definitions room is_operand before lexeme new.seen value) are.seen read in
+  leaf_taken room operands old new is_operand lexeme value are values groups around read =
+      let same : before old.seen old.groups ≡ operands.seen = ap₂ before are.tags are.groups in
+      let here = subst (λ before. IsLeafRead options definitions room is_operand before lexeme new.seen value) same read in
       record {
         checked = here.checked;
         after = with_more operands here.meaning;
         stepped = (here.meaning, here.means, refl);
         stands = record {
           values = values_more room operands.meanings here.meaning old.values.items new.values.items value values here.stands are.values;
-          seen = here.seen;
+          tags = here.seen;
+          groups = groups ∙ ap₂ (λ a b. kept (a + b)) are.groups here.stands.counted.groups_is;
+          open_groups = ap (λ (l : Vec ℕ Global). reverse l.items) around ∙ are.open_groups;
         };
       }
+    where
+      before : List Tag → ℕ → Before
+      before tags groups = record { tags = tags; groups = groups }
 
   -- the points of a difference
   different : (first second : Option (List (ℕ × ℕ))) (whole holes set : List Range) → HasClass (Some whole) first → HasClass (Some holes) second
@@ -108,7 +116,7 @@ module _ (options : Options) (definitions : List Definition) where
     pub difference_read : (result : Result Value Stop)
         → MatchResult result
         (λ value. IsFilled options definitions options.empty operand sign.at (InRanges set) None
-        × IsValue room (class_meaning operand options.empty (max first.nesting second.nesting) (first.tags ++ second.tags) (max first.count second.count) set) value)
+        × IsValue room (class_meaning operand options.empty (max first.nesting second.nesting) (first.tags ++ second.tags) (kept (first.groups + second.groups)) (max first.count second.count) set) value)
         (StopsAt (IsFilled options definitions options.empty operand sign.at (InRanges set)))
         → MatchResult result
         (λ value. DifferenceChecks options definitions operand first second sign None
@@ -119,7 +127,7 @@ module _ (options : Options) (definitions : List Definition) where
         (λ value read. (
           checks_so None read.0,
           (
-            class_meaning operand options.empty (max first.nesting second.nesting) (first.tags ++ second.tags) (max first.count second.count) set,
+            class_meaning operand options.empty (max first.nesting second.nesting) (first.tags ++ second.tags) (kept (first.groups + second.groups)) (max first.count second.count) set,
             (set, record { canonical = canonical; points = different (meant_class first) (meant_class second) whole holes set has more without }, refl),
             read.1,
           ),
@@ -129,11 +137,11 @@ module _ (options : Options) (definitions : List Definition) where
   -- a difference is put in the place of its sides
   pub subtract_taken : (room : Room) (operands : Operands) (old new : Held) (operand : Bool) (sign : Lexeme) (front : List Value) (left right value : Value)
       → AreOperands room operands old → (two : HasTwo room operands.meanings front left right) → new.values.items ≡ front ++ value ∷ []
-      → new.seen ≡ old.seen
+      → new.seen ≡ old.seen → new.groups ≡ old.groups → new.open_groups ≡ old.open_groups
       → DifferenceChecks options definitions operand two.first two.second sign None
       × ((meaning : Meaning) × IsDifference options definitions operand two.first two.second meaning × IsValue room meaning value)
       → IsStepTaken options definitions room operands (subtracts operand sign) new
-  subtract_taken room operands old new operand sign front left right value are two values seen read = record {
+  subtract_taken room operands old new operand sign front left right value are two values seen groups around read = record {
     checked = subst (λ l. SubtractChecks options definitions operand l sign None) (sym two.are) read.0;
     after = in_place operands (read.1.0 ∷ two.others);
     stepped = (
@@ -143,7 +151,9 @@ module _ (options : Options) (definitions : List Definition) where
     );
     stands = record {
       values = values_more room two.others read.1.0 front new.values.items value values read.1.2 two.others_are;
-      seen = seen ∙ are.seen;
+      tags = seen ∙ are.tags;
+      groups = groups ∙ are.groups;
+      open_groups = ap (λ (l : Vec ℕ Global). reverse l.items) around ∙ are.open_groups;
     };
   }
 

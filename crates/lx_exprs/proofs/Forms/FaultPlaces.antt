@@ -14,7 +14,8 @@ use Rattle.lx_base.specs.declared.settings.SurPolicy.{SurPolicy}
 use Rattle.lx_base.specs.declared.settings.SurPolicy.TheVariants.{Ignore, Substitute, Fail}
 use Rattle.lx_class.specs.declared.ranges.Range.{Range}
 use Rattle.lx_parse.specs.Expressions.{Part}
-use Rattle.lx_exprs.specs.Checks.{Check, Then, Finds, unsupported, Checks, LeafChecks, IsFilled, PointsAre, AreClasses, HasPoint, LeafHas, are_groups, bounds_fault, bounds_of, class_ranges, group_fault, is_class, is_wrong, name_fault, repeated_tag, tag_fault, tag_name, tags_of, is_among}
+use Rattle.lx_exprs.specs.Checks.{Check, Then, Finds, unsupported, Checks, LeafChecks, IsFilled, PointsAre, AreClasses, HasPoint, LeafHas, are_groups, bounds_fault, bounds_of, class_ranges, group_fault, inner_operand, is_class, is_wrong, name_fault, repeated_tag, tag_fault, tag_of, tags_of, is_tag_among}
+use Rattle.lx_regex.specs.declared.rules.Tag.{Tag}
 use Rattle.lx_exprs.specs.Defined.{Definition, definition_of}
 use Rattle.lx_forms.specs.Forms.{Form, leaf, group, repeated, sequence, difference, alternative, IsForm, is_leaf, is_group, is_bare, is_repeated, is_first_post, is_sequence, is_first_cat, is_difference, is_first_diff, is_alternative}
 use Rattle.lx_forms.specs.Lexemes.{Lexeme, StandInFile, nth_lexeme, points_in}
@@ -120,9 +121,9 @@ module _ (file : ℕ) where
       (option_map-file (least_from (suc (greatest_point enc)) ranges) (λ point. CodePoint at point) (λ point. is))
       (surrogate-file policy at ranges is)
 
-  repeated_tag-file : (at : Pos) (tags seen : List (List ℕ)) → at.file ≡ file → IsFoundIn (repeated_tag at tags seen)
+  repeated_tag-file : (at : Pos) (tags seen : List Tag) → at.file ≡ file → IsFoundIn (repeated_tag at tags seen)
   repeated_tag-file at [] seen is = tt
-  repeated_tag-file at (tag ∷ tags) seen is = if-file (is_among tag seen) (Some (DuplicateTag at tag)) (repeated_tag at tags seen) is (repeated_tag-file at tags seen is)
+  repeated_tag-file at (tag ∷ tags) seen is = if-file (is_tag_among tag.name seen) (Some (DuplicateTag at tag.name)) (repeated_tag at tags seen) is (repeated_tag-file at tags seen is)
 
   bounds-file : (lexeme : Lexeme) → lexeme.at.file ≡ file → IsFoundIn (bounds_fault lexeme)
   bounds-file lexeme is =
@@ -141,15 +142,15 @@ module _ (file : ℕ) where
         by fault (inl found) = let none = found.1 in absurd cc
         by fault (inr found) = file-found _ is fault found.1
 
-    name-file : (definition : Option Definition) (lexeme : Lexeme) (seen : List (List ℕ)) → lexeme.at.file ≡ file
+    name-file : (definition : Option Definition) (lexeme : Lexeme) (seen : List Tag) → lexeme.at.file ≡ file
         → IsFoundIn (name_fault options definitions definition lexeme seen)
     name-file None lexeme seen is = is
     name-file (Some definition) lexeme seen is = repeated_tag-file lexeme.at definition.tags seen is
 
-    tag-file : (lexeme : Lexeme) (seen : List (List ℕ)) → lexeme.at.file ≡ file → IsFoundIn (tag_fault options definitions lexeme seen)
-    tag-file lexeme seen is =
-        if-file options.tags (repeated_tag lexeme.at (tag_name lexeme ∷ []) seen) (Some (TagsOff lexeme.at))
-        (repeated_tag-file lexeme.at (tag_name lexeme ∷ []) seen is) is
+    tag-file : (many : Bool) (lexeme : Lexeme) (seen : List Tag) → lexeme.at.file ≡ file → IsFoundIn (tag_fault options definitions many lexeme seen)
+    tag-file many lexeme seen is =
+        if-file options.tags (repeated_tag lexeme.at (tag_of many lexeme ∷ []) seen) (Some (TagsOff lexeme.at))
+        (repeated_tag-file lexeme.at (tag_of many lexeme ∷ []) seen is) is
 
     pub unsupported-file : (lexeme : Lexeme) → lexeme.at.file ≡ file → FindsIn (Finds (unsupported lexeme))
     unsupported-file lexeme is = FindsIn-Finds (unsupported lexeme) is
@@ -161,17 +162,17 @@ module _ (file : ℕ) where
     pub then_unsupported : (Second : Check) (lexeme : Lexeme) → lexeme.at.file ≡ file → FindsIn Second → FindsIn (Then (Finds (unsupported lexeme)) Second)
     then_unsupported Second lexeme is second = FindsIn-Then (Finds (unsupported lexeme)) Second (unsupported-file lexeme is) second
 
-    leaf-file : (sort : TokenKind) (is_operand : Bool) (seen : List (List ℕ)) (lexeme : Lexeme) → lexeme.at.file ≡ file
+    leaf-file : (sort : TokenKind) (is_operand : Bool) (seen : List Tag) (lexeme : Lexeme) → lexeme.at.file ≡ file
         → FindsIn (LeafChecks options definitions sort is_operand seen lexeme)
     leaf-file kind.Str is_operand seen lexeme is = PointsAre-file lexeme (singles (points_in lexeme)) is
     leaf-file kind.Name is_operand seen lexeme is =
         FindsIn-Finds (name_fault options definitions (definition_of definitions lexeme.text) lexeme seen)
         (name-file (definition_of definitions lexeme.text) lexeme seen is)
     leaf-file kind.STag is_operand seen lexeme is =
-        FindsIn-Finds (tag_fault options definitions lexeme seen) (tag-file lexeme seen is)
+        FindsIn-Finds (tag_fault options definitions false lexeme seen) (tag-file false lexeme seen is)
     leaf-file kind.MTag is_operand seen lexeme is =
-        then_unsupported (Finds (tag_fault options definitions lexeme seen)) lexeme is
-        (FindsIn-Finds (tag_fault options definitions lexeme seen) (tag-file lexeme seen is))
+        then_unsupported (Finds (tag_fault options definitions true lexeme seen)) lexeme is
+        (FindsIn-Finds (tag_fault options definitions true lexeme seen) (tag-file true lexeme seen is))
     leaf-file kind.IStr is_operand seen lexeme is = PointsAre-file lexeme (singles (points_in lexeme)) is
     leaf-file kind.Class is_operand seen lexeme is =
         let Filled = IsFilled options definitions options.empty is_operand lexeme.at (LeafHas options definitions kind.Class lexeme) in
@@ -190,13 +191,13 @@ module _ (file : ℕ) where
         FindsIn-Finds (if◌then◌else◌ {A = Option Fault} both None (Some (NotClass sign.at))) (if-file both None (Some (NotClass sign.at)) tt is)
 
     -- the checks of an expression whose tokens are of the file
-    pub Checks-file : (is_operand : Bool) (seen : List (List ℕ)) (form : Form) → IsFormIn form
+    pub Checks-file : (is_operand : Bool) (seen : List Tag) (form : Form) → IsFormIn form
         → FindsIn (Checks options definitions is_operand seen form)
     Checks-file is_operand seen (leaf lexeme) is = leaf-file lexeme.kind is_operand seen lexeme is
     Checks-file is_operand seen (group opening inner) is =
-        FindsIn-Then (Finds (group_fault options definitions opening)) (Checks options definitions is_operand seen inner)
+        FindsIn-Then (Finds (group_fault options definitions opening)) (Checks options definitions (inner_operand options definitions is_operand) seen inner)
         (FindsIn-Finds (group_fault options definitions opening) (if-file (are_groups options definitions) (unsupported opening) None is.0 tt))
-        (Checks-file is_operand seen inner is.1)
+        (Checks-file (inner_operand options definitions is_operand) seen inner is.1)
     Checks-file is_operand seen (repeated inner sign) is =
         FindsIn-Then (Checks options definitions false seen inner) (Finds (bounds_fault sign)) (Checks-file false seen inner is.0)
         (FindsIn-Finds (bounds_fault sign) (bounds-file sign is.1))

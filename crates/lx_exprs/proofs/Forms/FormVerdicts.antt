@@ -1,5 +1,5 @@
 -- The checks of an expression surely find a fault, or nothing; and then it means something.
-use Rattle.std.proofs.Common.{◌≡◌, ℕ, ◌≤◌, ◌⊎◌, inl, inr, max, Bool, true, false, List, [], ◌++◌, length, Option, None, Some, refl, sym}
+use Rattle.std.proofs.Common.{◌≡◌, ℕ, ◌+◌, ◌≤◌, ◌⊎◌, inl, inr, max, Bool, true, false, List, [], ◌++◌, Option, None, Some, refl, sym, subst}
 use Rattle.lx_base.specs.Spelling.{greatest_point}
 use Rattle.lx_base.specs.declared.faults.Fault.{Fault}
 use Rattle.lx_base.specs.declared.faults.Fault.TheVariants.{EmptyClass, NotClass, Unsupported, UnknownName}
@@ -10,18 +10,19 @@ use Rattle.lx_base.specs.declared.settings.Options.{Options}
 use Rattle.lx_token.specs.Classes.{class_of}
 use Rattle.lx_token.specs.declared.kinds.TokenKind.{TokenKind}
 use Rattle.lx_token.specs.declared.kinds.TokenKind.TheVariants as kind
-use Rattle.lx_exprs.specs.Checks.{AreClasses, Check, Checks, Finds, HasPoint, IsFilled, LeafChecks, LeafHas, PointsAre, Then, bounds_fault, bounds_of, class_ranges, group_fault, is_class, name_fault, tag_fault, tag_name, tags_of, unsupported}
-use Rattle.lx_exprs.specs.Defined.{Definition, Meaning, definition_of, whole}
+use Rattle.lx_exprs.specs.Checks.{AreClasses, Check, Checks, Finds, HasPoint, IsFilled, LeafChecks, LeafHas, PointsAre, Then, are_groups, bounds_fault, bounds_of, class_ranges, group_fault, inner_operand, is_class, name_fault, tag_fault, tag_of, tags_of, unsupported}
+use Rattle.lx_exprs.specs.Defined.{Before, Definition, Meaning, count_of, definition_of, kept, whole}
+use Rattle.lx_regex.specs.declared.rules.Tag.{Tag}
 use Rattle.lx_forms.specs.Forms.{Form, leaf, group, repeated, sequence, difference, alternative}
 use Rattle.lx_forms.specs.Lexemes.{Lexeme}
-use Rattle.lx_exprs.specs.Meanings.{IsClassMeaning, IsLeafMeaning, IsMeaning, alternated, class_meaning, copied, enclosed, followed, meaning_of_string, repeated_by, tag_meaning}
+use Rattle.lx_exprs.specs.Meanings.{IsClassMeaning, IsLeafMeaning, IsMeaning, alternated, class_meaning, copied, followed, in_parentheses, meaning_of_string, parenthesized, past, repeated_by, tag_meaning}
 use Rattle.lx_exprs.specs.Within.{AreDefinedWithin}
 use Rattle.lx_exprs.proofs.Classes.BoundedSets.{set_exists}
 use Rattle.lx_exprs.proofs.Classical.{Surely, surely, and_then, excluded_middle}
 use Rattle.lx_exprs.proofs.Classes.ClassFits.{plain_class, point_fits}
 use Rattle.lx_exprs.proofs.Forms.ClassForms.{form-agrees, then-none}
 use Rattle.lx_exprs.proofs.Forms.FormFits.{class_has_fits, form_ready}
-use Rattle.lx_exprs.proofs.Forms.FormRuns.{both_true}
+use Rattle.lx_exprs.proofs.Forms.FormRuns.{both_true, tags-in_parentheses}
 use Rattle.lx_exprs.proofs.Classes.PointSets.{le_greatest, points_taken}
 
 -- a check surely finds a fault, or nothing
@@ -51,21 +52,21 @@ module _ (options : Options) (definitions : List Definition) where
       of (inl some) = (None, inl (some, refl))
       of (inr none) = (Some (EmptyClass at), inr (λ point has. none (point, has), refl))
 
-  leaf_decides : (sort : TokenKind) (operand : Bool) (seen : List (List ℕ)) (lexeme : Lexeme)
+  leaf_decides : (sort : TokenKind) (operand : Bool) (seen : List Tag) (lexeme : Lexeme)
       → Decides (LeafChecks options definitions sort operand seen lexeme)
   leaf_decides kind.Class operand seen lexeme =
       then_decides (PointsAre options definitions lexeme (class_ranges lexeme))
       (IsFilled options definitions options.empty operand lexeme.at (LeafHas options definitions kind.Class lexeme))
       (surely (_, refl)) (filled_decides options.empty operand lexeme.at (LeafHas options definitions kind.Class lexeme))
   leaf_decides kind.MTag operand seen lexeme =
-      then_decides (Finds (unsupported lexeme)) (Finds (tag_fault options definitions lexeme seen)) (surely (_, refl)) (surely (_, refl))
+      then_decides (Finds (unsupported lexeme)) (Finds (tag_fault options definitions true lexeme seen)) (surely (_, refl)) (surely (_, refl))
   leaf_decides sort operand seen lexeme = surely (_, refl)
 
-  pub form_decides : (operand : Bool) (seen : List (List ℕ)) (form : Form) → Decides (Checks options definitions operand seen form)
+  pub form_decides : (operand : Bool) (seen : List Tag) (form : Form) → Decides (Checks options definitions operand seen form)
   form_decides operand seen (leaf lexeme) = leaf_decides lexeme.kind operand seen lexeme
   form_decides operand seen (group opening inner) =
-      then_decides (Finds (group_fault options definitions opening)) (Checks options definitions operand seen inner)
-      (finds_decides (group_fault options definitions opening)) (form_decides operand seen inner)
+      then_decides (Finds (group_fault options definitions opening)) (Checks options definitions (inner_operand options definitions operand) seen inner)
+      (finds_decides (group_fault options definitions opening)) (form_decides (inner_operand options definitions operand) seen inner)
   form_decides operand seen (repeated inner sign) =
       then_decides (Checks options definitions false seen inner) (Finds (bounds_fault sign)) (form_decides false seen inner)
       (finds_decides (bounds_fault sign))
@@ -86,76 +87,83 @@ module _ (options : Options) (definitions : List Definition) where
       (form_decides operand seen left) (form_decides operand (seen ++ tags_of options definitions left) right)
 
 module _ (options : Options) (definitions : List Definition) (ready : AreDefinedWithin options.enc definitions) where
-  class_means : (operand : Bool) (nesting : ℕ) (tags : List (List ℕ)) (count : ℕ) (Has : ℕ → Type 0)
+  class_means : (operand : Bool) (nesting : ℕ) (tags : List Tag) (groups count : ℕ) (Has : ℕ → Type 0)
       → ((point : ℕ) → Has point → point ≤ greatest_point options.enc)
-      → Surely ((meaning : Meaning) × IsClassMeaning options definitions operand nesting tags count Has meaning)
-  class_means operand nesting tags count Has fit =
+      → Surely ((meaning : Meaning) × IsClassMeaning options definitions operand nesting tags groups count Has meaning)
+  class_means operand nesting tags groups count Has fit =
       and_then (set_exists Has (λ point has. le_greatest options.enc point (fit point has)))
-      (λ found. surely (class_meaning operand options.empty nesting tags count found.0, (found.0, found.1, refl)))
+      (λ found. surely (class_meaning operand options.empty nesting tags groups count found.0, (found.0, found.1, refl)))
 
-  leaf_means : (operand : Bool) (sort : TokenKind) (seen : List (List ℕ)) (lexeme : Lexeme)
-      → LeafChecks options definitions sort operand seen lexeme None
-      → Surely ((meaning : Meaning) × IsLeafMeaning options definitions operand sort seen lexeme meaning)
-  leaf_means operand kind.Str seen lexeme checked = surely (meaning_of_string options definitions false (length seen) lexeme, refl)
-  leaf_means operand kind.IStr seen lexeme checked = surely (meaning_of_string options definitions true (length seen) lexeme, refl)
-  leaf_means operand kind.Class seen lexeme checked =
+  leaf_means : (operand : Bool) (sort : TokenKind) (before : Before) (lexeme : Lexeme)
+      → LeafChecks options definitions sort operand before.tags lexeme None
+      → Surely ((meaning : Meaning) × IsLeafMeaning options definitions operand sort before lexeme meaning)
+  leaf_means operand kind.Str before lexeme checked = surely (meaning_of_string options definitions false (count_of before) lexeme, refl)
+  leaf_means operand kind.IStr before lexeme checked = surely (meaning_of_string options definitions true (count_of before) lexeme, refl)
+  leaf_means operand kind.Class before lexeme checked =
       let found =
       then-none (PointsAre options definitions lexeme (class_ranges lexeme))
       (IsFilled options definitions options.empty operand lexeme.at (LeafHas options definitions kind.Class lexeme)) checked in
       let fit = (points_taken options.enc options.surrogates lexeme.at (class_ranges lexeme) (sym found.0)).0 in
-      class_means operand 0 [] (length seen) (LeafHas options definitions kind.Class lexeme)
+      class_means operand 0 [] 0 (count_of before) (LeafHas options definitions kind.Class lexeme)
       (class_has_fits options definitions ready (class_of lexeme.text).is_negated (class_ranges lexeme) fit)
-  leaf_means operand kind.Signs seen lexeme checked =
-      class_means operand 0 [] (length seen) (LeafHas options definitions kind.Signs lexeme)
+  leaf_means operand kind.Signs before lexeme checked =
+      class_means operand 0 [] 0 (count_of before) (LeafHas options definitions kind.Signs lexeme)
       (λ point has. point_fits options.enc options.surrogates point has.0)
-  leaf_means operand kind.Name seen lexeme checked = of (definition_of definitions lexeme.text) refl checked
+  leaf_means operand kind.Name before lexeme checked = of (definition_of definitions lexeme.text) refl checked
     where
-      of : (found : Option Definition) → definition_of definitions lexeme.text ≡ found → None ≡ name_fault options definitions found lexeme seen
-          → Surely ((meaning : Meaning) × IsLeafMeaning options definitions operand kind.Name seen lexeme meaning)
+      of : (found : Option Definition) → definition_of definitions lexeme.text ≡ found
+          → None ≡ name_fault options definitions found lexeme before.tags
+          → Surely ((meaning : Meaning) × IsLeafMeaning options definitions operand kind.Name before lexeme meaning)
       of None e none = absurd (let h : None ≡ Some (UnknownName lexeme.at lexeme.text) = none in cc)
-      of (Some definition) e none = surely (copied (length seen) definition, (definition, e, refl))
-  leaf_means operand kind.STag seen lexeme checked = surely (tag_meaning (length seen) (tag_name lexeme), refl)
-  leaf_means operand kind.MTag seen lexeme checked =
-      let found = then-none (Finds (unsupported lexeme)) (Finds (tag_fault options definitions lexeme seen)) checked in
-      absurd (let h : None ≡ Some (Unsupported (Some lexeme.at)) = found.0 in cc)
-  leaf_means operand sort seen lexeme checked = absurd (let h : None ≡ Some (Unsupported (Some lexeme.at)) = checked in cc)
+      of (Some definition) e none = surely (copied before definition, (definition, e, refl))
+  leaf_means operand kind.STag before lexeme checked = surely (tag_meaning before (tag_of false lexeme), refl)
+  leaf_means operand kind.MTag before lexeme checked = surely (tag_meaning before (tag_of true lexeme), refl)
+  leaf_means operand sort before lexeme checked = absurd (let h : None ≡ Some (Unsupported (Some lexeme.at)) = checked in cc)
 
-  pub form_means : (operand : Bool) (seen : List (List ℕ)) (form : Form) → Checks options definitions operand seen form None
-      → Surely ((meaning : Meaning) × IsMeaning options definitions operand seen form meaning)
-  form_means operand seen (leaf lexeme) checked = leaf_means operand lexeme.kind seen lexeme checked
-  form_means operand seen (group opening inner) checked =
+  pub form_means : (operand : Bool) (before : Before) (form : Form) → Checks options definitions operand before.tags form None
+      → Surely ((meaning : Meaning) × IsMeaning options definitions operand before form meaning)
+  form_means operand before (leaf lexeme) checked = leaf_means operand lexeme.kind before lexeme checked
+  form_means operand before (group opening inner) checked =
+      let is_group = are_groups options definitions in
+      let within = inner_operand options definitions operand in
       let found =
-      then-none (λ fault. fault ≡ group_fault options definitions opening) (Checks options definitions operand seen inner) checked in
-      and_then (form_means operand seen inner found.1) (λ body. surely (enclosed body.0, (body.0, body.1, refl)))
-  form_means operand seen (repeated inner sign) checked =
-      let found = then-none (Checks options definitions false seen inner) (λ fault. fault ≡ bounds_fault sign) checked in
-      and_then (form_means false seen inner found.0) (λ body. surely (repeated_by (bounds_of sign) body.0, (body.0, body.1, refl)))
-  form_means operand seen (sequence front back) checked =
+      then-none (λ fault. fault ≡ group_fault options definitions opening) (Checks options definitions within before.tags inner) checked in
+      let inside =
+      subst (λ tags. Checks options definitions within tags inner None) (sym (tags-in_parentheses is_group before)) found.1 in
+      and_then (form_means within (in_parentheses is_group before) inner inside)
+      (λ body. surely (parenthesized is_group before body.0, (body.0, body.1, refl)))
+  form_means operand before (repeated inner sign) checked =
+      let found = then-none (Checks options definitions false before.tags inner) (λ fault. fault ≡ bounds_fault sign) checked in
+      and_then (form_means false before inner found.0) (λ body. surely (repeated_by (bounds_of sign) body.0, (body.0, body.1, refl)))
+  form_means operand before (sequence front back) checked =
+      let behind = past options definitions before front in
       let found =
-      then-none (Checks options definitions false seen front) (Checks options definitions false (seen ++ tags_of options definitions front) back) checked in
-      and_then (form_means false seen front found.0)
-      (λ one. and_then (form_means false (seen ++ tags_of options definitions front) back found.1)
+      then-none (Checks options definitions false before.tags front) (Checks options definitions false behind.tags back) checked in
+      and_then (form_means false before front found.0)
+      (λ one. and_then (form_means false behind back found.1)
       (λ two. surely (followed one.0 two.0, (one.0, two.0, one.1, two.1, refl))))
-  form_means operand seen (difference left sign right) checked =
-      let Second : Check = Checks options definitions true (seen ++ tags_of options definitions left) right in
+  form_means operand before (difference left sign right) checked =
+      let behind = past options definitions before left in
+      let Second : Check = Checks options definitions true behind.tags right in
       let Filled : Check = IsFilled options definitions options.empty operand sign.at (HasPoint options definitions (difference left sign right)) in
-      let found = then-none (Checks options definitions true seen left) (Then Second (Then (AreClasses options definitions left right sign) Filled)) checked in
+      let found = then-none (Checks options definitions true before.tags left) (Then Second (Then (AreClasses options definitions left right sign) Filled)) checked in
       let later = then-none Second (Then (AreClasses options definitions left right sign) Filled) found.1 in
       let last = then-none (AreClasses options definitions left right sign) Filled later.1 in
       let classes = both_true (is_class options definitions left) (is_class options definitions right) (NotClass sign.at) last.0 in
-      and_then (form_means true seen left found.0)
-      (λ one. and_then (form_means true (seen ++ tags_of options definitions left) right later.0)
+      and_then (form_means true before left found.0)
+      (λ one. and_then (form_means true behind right later.0)
       (λ two.
-      let plain = (form_ready options definitions ready true seen left one.0 found.0 one.1).0.plain in
-      let agrees = form-agrees options definitions left seen one.0 found.0 one.1 in
+      let plain = (form_ready options definitions ready true before left one.0 found.0 one.1).within.plain in
+      let agrees = form-agrees options definitions left before one.0 found.0 one.1 in
       and_then
-      (class_means operand (max one.0.nesting two.0.nesting) (one.0.tags ++ two.0.tags) (max one.0.count two.0.count)
-      (HasPoint options definitions (difference left sign right))
+      (class_means operand (max one.0.nesting two.0.nesting) (one.0.tags ++ two.0.tags) (kept (one.0.groups + two.0.groups))
+      (max one.0.count two.0.count) (HasPoint options definitions (difference left sign right))
       (λ point has. plain_class options.enc (whole one.0.shape) plain point ((agrees.points classes.0 point).1 has.0)))
       (λ class. surely (class.0, (one.0, two.0, one.1, two.1, class.1)))))
-  form_means operand seen (alternative left sign right) checked =
+  form_means operand before (alternative left sign right) checked =
+      let behind = past options definitions before left in
       let found =
-      then-none (Checks options definitions operand seen left) (Checks options definitions operand (seen ++ tags_of options definitions left) right) checked in
-      and_then (form_means operand seen left found.0)
-      (λ one. and_then (form_means operand (seen ++ tags_of options definitions left) right found.1)
+      then-none (Checks options definitions operand before.tags left) (Checks options definitions operand behind.tags right) checked in
+      and_then (form_means operand before left found.0)
+      (λ one. and_then (form_means operand behind right found.1)
       (λ two. surely (alternated one.0 two.0, (one.0, two.0, one.1, two.1, refl))))

@@ -1,5 +1,5 @@
 -- The checks of an expression find one fault, or none; and it has one meaning.
-use Rattle.std.proofs.Common.{◌≡◌, ℕ, suc, max, ◌⊎◌, Bool, true, false, List, [], ◌++◌, drop, length, Option, Some, None, refl, sym, ap, ap₂, subst, inl, inr, ◌∙◌}
+use Rattle.std.proofs.Common.{◌≡◌, ℕ, suc, ◌+◌, max, ◌⊎◌, Bool, true, false, List, [], ◌++◌, drop, Option, Some, None, refl, sym, ap, ap₂, subst, inl, inr, ◌∙◌}
 use Rattle.std.specs.Prelude.{◌&&◌, if◌then◌else◌}
 use Rattle.lx_base.specs.declared.faults.Fault.{Fault}
 use Rattle.lx_base.specs.declared.faults.Fault.TheVariants.{NotClass}
@@ -9,14 +9,15 @@ use Rattle.lx_base.specs.declared.settings.EmptyPolicy.TheVariants.{MatchEmpty, 
 use Rattle.lx_base.specs.declared.settings.Options.{Options}
 use Rattle.lx_class.proofs.Law.{same_ranges}
 use Rattle.lx_class.specs.declared.ranges.Range.{Range}
-use Rattle.lx_exprs.specs.Checks.{Check, Then, Finds, unsupported, Checks, LeafChecks, IsFilled, PointsAre, AreClasses, HasPoint, LeafHas, bounds_fault, bounds_of, class_ranges, group_fault, is_class, name_fault, tag_fault, tags_of}
+use Rattle.lx_exprs.specs.Checks.{Check, Then, Finds, unsupported, Checks, LeafChecks, IsFilled, PointsAre, AreClasses, HasPoint, LeafHas, bounds_fault, are_groups, bounds_of, class_ranges, group_fault, inner_operand, is_class, name_fault, tag_fault, tags_of}
 use Rattle.lx_regex.specs.Expr.{ranges_of}
 use Rattle.lx_regex.specs.Term.{Term, class}
-use Rattle.lx_exprs.specs.Defined.{Definition, HasClass, IsClassKept, IsDefined, IsTermKept, Meaning, definition_of, is_built, meant_class, whole_room}
+use Rattle.lx_exprs.specs.Defined.{Before, Definition, HasClass, IsClassKept, IsDefined, IsTermKept, Meaning, count_of, definition_of, kept, nothing, is_built, meant_class, whole_room}
 use Rattle.lx_forms.specs.Forms.{Form, leaf, group, repeated, sequence, difference, alternative}
 use Rattle.lx_exprs.specs.Expressions.{ContextChecks, ExpressionChecks, IsExpression}
 use Rattle.lx_forms.specs.Lexemes.{Lexeme, nth_lexeme, points_in}
-use Rattle.lx_exprs.specs.Meanings.{IsClassMeaning, IsLeafMeaning, IsMeaning, IsSetOf, alternated, class_meaning, copied, enclosed, followed, repeated_by}
+use Rattle.lx_exprs.specs.Meanings.{IsClassMeaning, IsLeafMeaning, IsMeaning, IsSetOf, alternated, class_meaning, copied, followed, in_parentheses, parenthesized, past, repeated_by}
+use Rattle.lx_regex.specs.declared.rules.Tag.{Tag}
 use Rattle.lx_exprs.specs.Points.{points_fault, singles}
 use Rattle.lx_forms.proofs.OneForm.{one_form}
 use Rattle.lx_token.specs.declared.kinds.TokenKind.{TokenKind}
@@ -44,12 +45,13 @@ definition-one name at meaning one two is is_other =
     ap₂ (λ f x. f x)
     (ap₂ (λ f x. f x)
     (ap₂ (λ f x. f x)
-    (ap₂ (λ f x. f x) (ap₂ (λ f x. f x) (ap make (is.name_is ∙ sym is_other.name_is)) (is.at_is ∙ sym is_other.at_is)) (is.size ∙ sym is_other.size))
-    (is.nesting ∙ sym is_other.nesting)) (is.tags ∙ sym is_other.tags))
+    (ap₂ (λ f x. f x) (ap₂ (λ f x. f x) (ap₂ (λ f x. f x) (ap make (is.name_is ∙ sym is_other.name_is)) (is.at_is ∙ sym is_other.at_is)) (is.size ∙ sym is_other.size))
+    (is.nesting ∙ sym is_other.nesting)) (is.tags ∙ sym is_other.tags)) (is.groups ∙ sym is_other.groups))
     (kept-one (is_built whole_room meaning) meaning one.term two.term is.term is_other.term)
   where
-    make : List ℕ → Pos → ℕ → ℕ → List (List ℕ) → Option Term → Definition
-    make name at size nesting tags term = record { name = name; at = at; size = size; nesting = nesting; tags = tags; term = term }
+    make : List ℕ → Pos → ℕ → ℕ → List Tag → ℕ → Option Term → Definition
+    make name at size nesting tags groups term =
+        record { name = name; at = at; size = size; nesting = nesting; tags = tags; groups = groups; term = term }
 
 -- a check finds one fault, or none
 pub record FindsOne (Faults : Check) : Type 0 where
@@ -93,13 +95,14 @@ module _ (options : Options) (definitions : List Definition) where
   points-one : (lexeme : Lexeme) (ranges : List Range) → FindsOne (PointsAre options definitions lexeme ranges)
   points-one lexeme ranges = FindsOne-Finds (points_fault options.enc options.surrogates lexeme.at ranges)
 
-  leaf-one : (sort : TokenKind) (is_operand : Bool) (seen : List (List ℕ)) (lexeme : Lexeme)
+  leaf-one : (sort : TokenKind) (is_operand : Bool) (seen : List Tag) (lexeme : Lexeme)
       → FindsOne (LeafChecks options definitions sort is_operand seen lexeme)
   leaf-one kind.Str is_operand seen lexeme = points-one lexeme (singles (points_in lexeme))
   leaf-one kind.Name is_operand seen lexeme = FindsOne-Finds (name_fault options definitions (definition_of definitions lexeme.text) lexeme seen)
-  leaf-one kind.STag is_operand seen lexeme = FindsOne-Finds (tag_fault options definitions lexeme seen)
+  leaf-one kind.STag is_operand seen lexeme = FindsOne-Finds (tag_fault options definitions false lexeme seen)
   leaf-one kind.MTag is_operand seen lexeme =
-      then_unsupported-one (Finds (tag_fault options definitions lexeme seen)) lexeme (FindsOne-Finds (tag_fault options definitions lexeme seen))
+      then_unsupported-one (Finds (tag_fault options definitions true lexeme seen)) lexeme
+      (FindsOne-Finds (tag_fault options definitions true lexeme seen))
   leaf-one kind.IStr is_operand seen lexeme = points-one lexeme (singles (points_in lexeme))
   leaf-one kind.Class is_operand seen lexeme =
       let Filled = IsFilled options definitions options.empty is_operand lexeme.at (LeafHas options definitions kind.Class lexeme) in
@@ -117,11 +120,11 @@ module _ (options : Options) (definitions : List Definition) where
       FindsOne-Finds (if◌then◌else◌ {A = Option Fault} (is_class options definitions left && is_class options definitions right) None (Some (NotClass sign.at)))
 
   -- the checks of a form find one fault, or none
-  pub Checks-one : (is_operand : Bool) (seen : List (List ℕ)) (form : Form) → FindsOne (Checks options definitions is_operand seen form)
+  pub Checks-one : (is_operand : Bool) (seen : List Tag) (form : Form) → FindsOne (Checks options definitions is_operand seen form)
   Checks-one is_operand seen (leaf lexeme) = leaf-one lexeme.kind is_operand seen lexeme
   Checks-one is_operand seen (group opening inner) =
-      FindsOne-Then (Finds (group_fault options definitions opening)) (Checks options definitions is_operand seen inner)
-      (FindsOne-Finds (group_fault options definitions opening)) (Checks-one is_operand seen inner)
+      FindsOne-Then (Finds (group_fault options definitions opening)) (Checks options definitions (inner_operand options definitions is_operand) seen inner)
+      (FindsOne-Finds (group_fault options definitions opening)) (Checks-one (inner_operand options definitions is_operand) seen inner)
   Checks-one is_operand seen (repeated inner sign) =
       FindsOne-Then (Checks options definitions false seen inner) (Finds (bounds_fault sign)) (Checks-one false seen inner)
       (FindsOne-Finds (bounds_fault sign))
@@ -150,53 +153,57 @@ module _ (options : Options) (definitions : List Definition) where
       same_ranges 0 0 set other is.canonical is_other.canonical
       (λ point inside. (is_other.points point).1 ((is.points point).0 inside)) (λ point inside. (is.points point).1 ((is_other.points point).0 inside))
 
-  class_meaning-one : (operand : Bool) (nesting : ℕ) (tags : List (List ℕ)) (count : ℕ) (Has : ℕ → Type 0) (meaning other : Meaning)
-      → IsClassMeaning options definitions operand nesting tags count Has meaning → IsClassMeaning options definitions operand nesting tags count Has other
+  class_meaning-one : (operand : Bool) (nesting : ℕ) (tags : List Tag) (groups count : ℕ) (Has : ℕ → Type 0) (meaning other : Meaning)
+      → IsClassMeaning options definitions operand nesting tags groups count Has meaning → IsClassMeaning options definitions operand nesting tags groups count Has other
       → meaning ≡ other
-  class_meaning-one operand nesting tags count Has meaning other is is_other =
-      is.2 ∙ ap (class_meaning operand options.empty nesting tags count) (set-one Has is.0 is_other.0 is.1 is_other.1) ∙ sym is_other.2
+  class_meaning-one operand nesting tags groups count Has meaning other is is_other =
+      is.2 ∙ ap (class_meaning operand options.empty nesting tags groups count) (set-one Has is.0 is_other.0 is.1 is_other.1) ∙ sym is_other.2
 
-  leaf_meaning-one : (operand : Bool) (sort : TokenKind) (seen : List (List ℕ)) (lexeme : Lexeme) (meaning other : Meaning)
-      → IsLeafMeaning options definitions operand sort seen lexeme meaning → IsLeafMeaning options definitions operand sort seen lexeme other
+  leaf_meaning-one : (operand : Bool) (sort : TokenKind) (before : Before) (lexeme : Lexeme) (meaning other : Meaning)
+      → IsLeafMeaning options definitions operand sort before lexeme meaning → IsLeafMeaning options definitions operand sort before lexeme other
       → meaning ≡ other
-  leaf_meaning-one operand kind.Str seen lexeme meaning other is is_other = is ∙ sym is_other
-  leaf_meaning-one operand kind.IStr seen lexeme meaning other is is_other = is ∙ sym is_other
-  leaf_meaning-one operand kind.Class seen lexeme meaning other is is_other =
-      class_meaning-one operand 0 [] (length seen) (LeafHas options definitions kind.Class lexeme) meaning other is is_other
-  leaf_meaning-one operand kind.Signs seen lexeme meaning other is is_other =
-      class_meaning-one operand 0 [] (length seen) (LeafHas options definitions kind.Signs lexeme) meaning other is is_other
-  leaf_meaning-one operand kind.Name seen lexeme meaning other is is_other =
+  leaf_meaning-one operand kind.Str before lexeme meaning other is is_other = is ∙ sym is_other
+  leaf_meaning-one operand kind.IStr before lexeme meaning other is is_other = is ∙ sym is_other
+  leaf_meaning-one operand kind.Class before lexeme meaning other is is_other =
+      class_meaning-one operand 0 [] 0 (count_of before) (LeafHas options definitions kind.Class lexeme) meaning other is is_other
+  leaf_meaning-one operand kind.Signs before lexeme meaning other is is_other =
+      class_meaning-one operand 0 [] 0 (count_of before) (LeafHas options definitions kind.Signs lexeme) meaning other is is_other
+  leaf_meaning-one operand kind.Name before lexeme meaning other is is_other =
       let same : is.0 ≡ is_other.0 = let found = sym is.1 ∙ is_other.1 in cc in
-      is.2 ∙ ap (copied (length seen)) same ∙ sym is_other.2
-  leaf_meaning-one operand kind.STag seen lexeme meaning other is is_other = is ∙ sym is_other
-  leaf_meaning-one operand kind.MTag seen lexeme meaning other is is_other = absurd is
-  leaf_meaning-one operand kind.Config seen lexeme meaning other is is_other = absurd is
-  leaf_meaning-one operand kind.Number seen lexeme meaning other is is_other = absurd is
-  leaf_meaning-one operand kind.Bounds seen lexeme meaning other is is_other = absurd is
-  leaf_meaning-one operand kind.Code seen lexeme meaning other is is_other = absurd is
+      is.2 ∙ ap (copied before) same ∙ sym is_other.2
+  leaf_meaning-one operand kind.STag before lexeme meaning other is is_other = is ∙ sym is_other
+  leaf_meaning-one operand kind.MTag before lexeme meaning other is is_other = is ∙ sym is_other
+  leaf_meaning-one operand kind.Config before lexeme meaning other is is_other = absurd is
+  leaf_meaning-one operand kind.Number before lexeme meaning other is is_other = absurd is
+  leaf_meaning-one operand kind.Bounds before lexeme meaning other is is_other = absurd is
+  leaf_meaning-one operand kind.Code before lexeme meaning other is is_other = absurd is
 
-  meaning-one : (operand : Bool) (seen : List (List ℕ)) (form : Form) (meaning other : Meaning) → IsMeaning options definitions operand seen form meaning
-      → IsMeaning options definitions operand seen form other → meaning ≡ other
-  meaning-one operand seen (leaf lexeme) meaning other is is_other = leaf_meaning-one operand lexeme.kind seen lexeme meaning other is is_other
-  meaning-one operand seen (group opening inner) meaning other is is_other =
-      is.2 ∙ ap enclosed (meaning-one operand seen inner is.0 is_other.0 is.1 is_other.1) ∙ sym is_other.2
-  meaning-one operand seen (repeated inner sign) meaning other is is_other =
-      is.2 ∙ ap (repeated_by (bounds_of sign)) (meaning-one false seen inner is.0 is_other.0 is.1 is_other.1) ∙ sym is_other.2
-  meaning-one operand seen (sequence front back) meaning other is is_other =
-      let one = meaning-one false seen front is.0 is_other.0 is.2 is_other.2 in
-      let two = meaning-one false (seen ++ tags_of options definitions front) back is.1 is_other.1 is.3 is_other.3 in
+  meaning-one : (operand : Bool) (before : Before) (form : Form) (meaning other : Meaning) → IsMeaning options definitions operand before form meaning
+      → IsMeaning options definitions operand before form other → meaning ≡ other
+  meaning-one operand before (leaf lexeme) meaning other is is_other = leaf_meaning-one operand lexeme.kind before lexeme meaning other is is_other
+  meaning-one operand before (group opening inner) meaning other is is_other =
+      let is_group = are_groups options definitions in
+      is.2
+      ∙ ap (parenthesized is_group before)
+      (meaning-one (inner_operand options definitions operand) (in_parentheses is_group before) inner is.0 is_other.0 is.1 is_other.1)
+      ∙ sym is_other.2
+  meaning-one operand before (repeated inner sign) meaning other is is_other =
+      is.2 ∙ ap (repeated_by (bounds_of sign)) (meaning-one false before inner is.0 is_other.0 is.1 is_other.1) ∙ sym is_other.2
+  meaning-one operand before (sequence front back) meaning other is is_other =
+      let one = meaning-one false before front is.0 is_other.0 is.2 is_other.2 in
+      let two = meaning-one false (past options definitions before front) back is.1 is_other.1 is.3 is_other.3 in
       is.4 ∙ ap₂ followed one two ∙ sym is_other.4
-  meaning-one operand seen (difference left sign right) meaning other is is_other =
-      let one = meaning-one true seen left is.0 is_other.0 is.2 is_other.2 in
-      let two = meaning-one true (seen ++ tags_of options definitions left) right is.1 is_other.1 is.3 is_other.3 in
+  meaning-one operand before (difference left sign right) meaning other is is_other =
+      let one = meaning-one true before left is.0 is_other.0 is.2 is_other.2 in
+      let two = meaning-one true (past options definitions before left) right is.1 is_other.1 is.3 is_other.3 in
       let Has = HasPoint options definitions (difference left sign right) in
-      class_meaning-one operand (max is.0.nesting is.1.nesting) (is.0.tags ++ is.1.tags) (max is.0.count is.1.count) Has meaning other is.4
-      (subst (λ (first : Meaning). IsClassMeaning options definitions operand (max first.nesting is.1.nesting) (first.tags ++ is.1.tags) (max first.count is.1.count) Has other) (sym one)
-      (subst (λ (second : Meaning). IsClassMeaning options definitions operand (max is_other.0.nesting second.nesting) (is_other.0.tags ++ second.tags) (max is_other.0.count second.count) Has other) (sym two)
+      class_meaning-one operand (max is.0.nesting is.1.nesting) (is.0.tags ++ is.1.tags) (kept (is.0.groups + is.1.groups)) (max is.0.count is.1.count) Has meaning other is.4
+      (subst (λ (first : Meaning). IsClassMeaning options definitions operand (max first.nesting is.1.nesting) (first.tags ++ is.1.tags) (kept (first.groups + is.1.groups)) (max first.count is.1.count) Has other) (sym one)
+      (subst (λ (second : Meaning). IsClassMeaning options definitions operand (max is_other.0.nesting second.nesting) (is_other.0.tags ++ second.tags) (kept (is_other.0.groups + second.groups)) (max is_other.0.count second.count) Has other) (sym two)
       is_other.4))
-  meaning-one operand seen (alternative left sign right) meaning other is is_other =
-      let one = meaning-one operand seen left is.0 is_other.0 is.2 is_other.2 in
-      let two = meaning-one operand (seen ++ tags_of options definitions left) right is.1 is_other.1 is.3 is_other.3 in
+  meaning-one operand before (alternative left sign right) meaning other is is_other =
+      let one = meaning-one operand before left is.0 is_other.0 is.2 is_other.2 in
+      let two = meaning-one operand (past options definitions before left) right is.1 is_other.1 is.3 is_other.3 in
       is.4 ∙ ap₂ alternated one two ∙ sym is_other.4
 
   module _ (lexemes : List Lexeme) where
@@ -237,7 +244,7 @@ module _ (options : Options) (definitions : List Definition) where
     -- an expression has one meaning, if it has one
     pub expression_meaning-one : (from until : ℕ) (form other : Form) (meaning meant : Meaning)
         → IsExpression options lexemes from until form → IsExpression options lexemes from until other
-        → IsMeaning options definitions false [] form meaning → IsMeaning options definitions false [] other meant → meaning ≡ meant
+        → IsMeaning options definitions false nothing form meaning → IsMeaning options definitions false nothing other meant → meaning ≡ meant
     expression_meaning-one from until form other meaning meant is is_other means means_other =
         let same = one_form (drop from lexemes) (drop until lexemes) form other is is_other in
-        meaning-one false [] other meaning meant (subst (λ (form : Form). IsMeaning options definitions false [] form meaning) same means) means_other
+        meaning-one false nothing other meaning meant (subst (λ (form : Form). IsMeaning options definitions false nothing form meaning) same means) means_other

@@ -1,14 +1,18 @@
 -- Definitions as entries of a map.
-use Rattle.std.proofs.Common.{◌≡◌, ℕ, Bool, true, false, List, [], ◌∷◌, map, Option, None, Some, IfSome, All, refl, arith, ap, ◌∙◌}
+use Rattle.std.proofs.Common.{◌≡◌, ℕ, Bool, true, false, List, [], ◌∷◌, map, Option, None, Some, IfSome, All, refl, arith, ap, ◌∙◌, Vec, Global}
 use Rattle.std.specs.Borrow.{Bor}
 use Rattle.std.specs.Option.{option_map, option_copied}
 use Rattle.std.specs.Str.{bytes_eq}
 use Rattle.std.specs.Map.{lookup}
-use Rattle.std.proofs.lemmas.List.Elements.{All-cons}
+use Rattle.std.proofs.lemmas.List.Elements.{All-cons, recursion_from_All}
+use Rattle.std.specs.List.{AllByRecursion}
 use Rattle.std.proofs.lemmas.Slice.Eq.{bytes_eq-Decides}
+use Rattle.lx_exprs.specs.declared.definitions.Definitions.{Definitions}
 use Rattle.lx_exprs.specs.declared.definitions.Kept.{Kept}
 use Rattle.lx_exprs.specs.Defined.{Definition, definition_of}
-use Rattle.lx_exprs.specs.Seen.{definition_view}
+use Rattle.lx_exprs.specs.Seen.{definition_view, definitions_view}
+use Rattle.lx_exprs.specs.Soundness.{DefinitionsFit, IsSound}
+use Rattle.lx_exprs.proofs.Forms.NoGroups.{IsUngrouped}
 
 module _ {K : Type 0} (items : K → List ℕ) where
   -- the entries as definitions
@@ -48,3 +52,12 @@ IfSome-copied P (Some x) holds = holds
 
 pub All-one : {T : Type 0} (P : T → Type 0) (item : T) → P item → All P (item ∷ [])
 All-one P item holds = All-cons P item [] holds (λ k d lt. absurd (omega (arith, lt)))
+
+-- definitions that are sound have no groups
+pub ungrouped_view : (definitions : Definitions) → DefinitionsFit definitions → AllByRecursion IsUngrouped (definitions_view definitions)
+ungrouped_view definitions sound = of definitions.by_name.entries (recursion_from_All (λ entry. IsSound entry.1) definitions.by_name.entries sound)
+  where
+    of : (entries : List (Vec ℕ Global × Kept)) → AllByRecursion (λ entry. IsSound entry.1) entries
+        → AllByRecursion IsUngrouped (map (λ entry. definition_view entry.0.items entry.1) entries)
+    of [] are = tt
+    of (entry ∷ entries) are = (are.0.1, of entries are.1)

@@ -7,7 +7,8 @@ use Rattle.std.specs.Option.{option_copied}
 use Rattle.std.specs.Str.{bytes_eq}
 use Rattle.std.proofs.lemmas.Slice.Eq.{bytes_eq-Decides}
 use Rattle.indexmap.specs.IndexMap.{insert_entry}
-use Rattle.lx_exprs.specs.Checks.{is_among}
+use Rattle.lx_exprs.specs.Checks.{is_tag_among}
+use Rattle.lx_regex.specs.declared.rules.Tag.{Tag}
 
 pub is_some-copied : {T : Type 0} (found : Option (Bor T)) → is_some found ≡ is_some (option_copied found)
 is_some-copied None = refl
@@ -22,13 +23,14 @@ either-none : (test : Bool) → test ≡ (test || false)
 either-none true = refl
 either-none false = refl
 
--- one name more
-pub is_among-more : (name text : List ℕ) (names : List (List ℕ)) → is_among name (names ++ text ∷ []) ≡ (is_among name names || bytes_eq name text)
-is_among-more name text [] = sym (either-none (bytes_eq name text))
-is_among-more name text (other ∷ names) = at (bytes_eq name other) (is_among-more name text names)
+-- one tag more
+pub is_tag_among-more : (name : List ℕ) (tag : Tag) (tags : List Tag)
+    → is_tag_among name (tags ++ tag ∷ []) ≡ (is_tag_among name tags || bytes_eq name tag.name)
+is_tag_among-more name tag [] = sym (either-none (bytes_eq name tag.name))
+is_tag_among-more name tag (other ∷ tags) = at (bytes_eq name other.name) (is_tag_among-more name tag tags)
   where
-    at : (test : Bool) → is_among name (names ++ text ∷ []) ≡ (is_among name names || bytes_eq name text)
-        → (test || is_among name (names ++ text ∷ [])) ≡ ((test || is_among name names) || bytes_eq name text)
+    at : (test : Bool) → is_tag_among name (tags ++ tag ∷ []) ≡ (is_tag_among name tags || bytes_eq name tag.name)
+        → (test || is_tag_among name (tags ++ tag ∷ [])) ≡ ((test || is_tag_among name tags) || bytes_eq name tag.name)
     at true later = refl
     at false later = later
 
@@ -68,22 +70,23 @@ module _ {K V : Type 0} (items : K → List ℕ) where
           ∙ ap (λ text. has name (entry ∷ entries) || bytes_eq name text) (sym ((bytes_eq-Decides (items key) (items entry.0)).0 is))
       by false is later = there (bytes_eq name (items entry.0)) later
 
--- a name among names in two parts
-pub is_among-append : (name : List ℕ) (front back : List (List ℕ)) → is_among name (front ++ back) ≡ (is_among name front || is_among name back)
-is_among-append name [] back = refl
-is_among-append name (other ∷ front) back = at (bytes_eq name other) (is_among-append name front back)
+-- a name among those of tags in two parts
+pub is_tag_among-append : (name : List ℕ) (front back : List Tag)
+    → is_tag_among name (front ++ back) ≡ (is_tag_among name front || is_tag_among name back)
+is_tag_among-append name [] back = refl
+is_tag_among-append name (other ∷ front) back = at (bytes_eq name other.name) (is_tag_among-append name front back)
   where
-    at : (test : Bool) → is_among name (front ++ back) ≡ (is_among name front || is_among name back)
-        → (test || is_among name (front ++ back)) ≡ ((test || is_among name front) || is_among name back)
+    at : (test : Bool) → is_tag_among name (front ++ back) ≡ (is_tag_among name front || is_tag_among name back)
+        → (test || is_tag_among name (front ++ back)) ≡ ((test || is_tag_among name front) || is_tag_among name back)
     at true later = refl
     at false later = later
 
-module _ (name : List ℕ) (front back all : List (List ℕ)) (parts : front ++ back ≡ all) (first : Bool) (first_is : first ≡ is_among name front) where
-  whole-is : is_among name all ≡ (first || is_among name back)
-  whole-is = ap (is_among name) (sym parts) ∙ is_among-append name front back ∙ ap (λ test. test || is_among name back) (sym first_is)
+module _ (name : List ℕ) (front back all : List Tag) (parts : front ++ back ≡ all) (first : Bool) (first_is : first ≡ is_tag_among name front) where
+  whole-is : is_tag_among name all ≡ (first || is_tag_among name back)
+  whole-is = ap (is_tag_among name) (sym parts) ∙ is_tag_among-append name front back ∙ ap (λ test. test || is_tag_among name back) (sym first_is)
 
-  pub among-front : first ≡ true → first ≡ is_among name all
-  among-front found = found ∙ sym (whole-is ∙ ap (λ test. test || is_among name back) found)
+  pub among-front : first ≡ true → first ≡ is_tag_among name all
+  among-front found = found ∙ sym (whole-is ∙ ap (λ test. test || is_tag_among name back) found)
 
-  pub among-back : first ≡ false → (second : Bool) → second ≡ is_among name back → second ≡ is_among name all
-  among-back none second second_is = second_is ∙ sym (whole-is ∙ ap (λ test. test || is_among name back) none)
+  pub among-back : first ≡ false → (second : Bool) → second ≡ is_tag_among name back → second ≡ is_tag_among name all
+  among-back none second second_is = second_is ∙ sym (whole-is ∙ ap (λ test. test || is_tag_among name back) none)

@@ -85,7 +85,7 @@ ends_among-append (term ∷ front) back =
     ∙ sym (merge_tags-assoc (ends_in term) (ends_among (members_of front)) (ends_among (members_of back)))
 
 -- numbers in order, and those behind them
-put_tag-before : (number count : ℕ) → put_tag number (numbers_from (suc number) count) ≡ number ∷ numbers_from (suc number) count
+pub put_tag-before : (number count : ℕ) → put_tag number (numbers_from (suc number) count) ≡ number ∷ numbers_from (suc number) count
 put_tag-before number zero = refl
 put_tag-before number (suc count) = let le : nat_le number (suc number) ≡ true = search arith in rw (le) refl
 

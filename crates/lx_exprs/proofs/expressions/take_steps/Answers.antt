@@ -14,7 +14,7 @@ loop-step-init c =
     let none = ap length c.new-operands.ensures.none in record {
       taken = record { after = no_operands; goes = ends; stands = c.new-operands.ensures.stands c.args.reader.room };
       order = subst (λ n. AreInOrder n (map (step_view (lexemes_view c.args.lexemes)) c.args.steps.now)) (sym none) c.requires.order;
-      bounded = c.new-operands.ensures.bounded (length c.new-operands.result.seen);
+      bounded = c.new-operands.ensures.bounded;
     }
 
 pub take-requires-clause-needs : goal.take-requires-clause-needs

@@ -10,5 +10,5 @@ invariant-loop-step l = record {
   taken : AreTaken l.reader.options.now (definitions_view l.reader.definitions.now) l.reader.room no_operands
       (take l.step-index (map (step_view (lexemes_view l.lexemes)) l.steps)) l.operands;
   order : AreInOrder (length l.operands.values.items) (drop l.step-index (map (step_view (lexemes_view l.lexemes)) l.steps));
-  bounded : AreBounded (length l.operands.seen) l.operands.values.items;
+  bounded : AreBounded l.operands.values.items;
 }

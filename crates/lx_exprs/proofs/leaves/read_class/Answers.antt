@@ -1,8 +1,9 @@
-use Rattle.std.proofs.Common.{◌≡◌, ◌∙◌, All, None, Some, [], ap, inr, length, map, refl, subst, sym}
+use Rattle.std.proofs.Common.{◌≡◌, ◌∙◌, All, None, Some, [], ap, inr, map, refl, subst, sym}
 use Rattle.std.proofs.lemmas.Result.{MatchResult-weaker}
 use Rattle.lx_token.specs.declared.classes.Class.{Class}
 use Rattle.lx_token.specs.declared.kinds.TokenKind.TheVariants as kind
 use Rattle.lx_exprs.specs.Checks.{ClassHas, LeafHas, PointsAre, class_ranges, range_of}
+use Rattle.lx_exprs.specs.Defined.{count_of}
 use Rattle.lx_exprs.specs.Meanings.{IsSetOf}
 use Rattle.lx_exprs.specs.Points.{points_fault}
 use Rattle.lx_exprs.specs.Seen.{IsOrdered, definitions_view}
@@ -55,6 +56,6 @@ returns-clause-read c before count =
     subst (λ (class : Class). IsSetOf (λ point. ClassHas options definitions class.is_negated (map range_of class.ranges) point) c.in_ok-set.set) c.in_ok-class.ensures
     (subst (λ l. IsSetOf (ClassHas options definitions c.in_ok-class.class.is_negated l) c.in_ok-set.set)
     (c.deref-2.ensures.value ∙ c.in_ok-ranges.ensures ∙ ap (map range_of) c.as_slice.ensures) (c.in_ok-set.ensures definitions)) in
-    MatchResult-weaker c.read_set.result (c.read_set.ensures.read definitions 0 (length before) [] refl count)
+    MatchResult-weaker c.read_set.result (c.read_set.ensures.read definitions 0 (count_of before) [] refl count)
     (λ value is. class-read options definitions reader.room c.args.is_operand before lexeme c.requires.sort c.in_ok-set.set none has value is)
     (λ stopped is. class-stops options definitions reader.room c.args.is_operand before lexeme c.requires.sort c.in_ok-set.set none has stopped is)

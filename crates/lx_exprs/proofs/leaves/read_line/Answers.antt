@@ -1,7 +1,7 @@
-use Rattle.std.proofs.Common.{[], arith, length, refl, sym}
+use Rattle.std.proofs.Common.{[], arith, refl, sym}
 use Rattle.std.proofs.lemmas.List.{append-nil}
 use Rattle.lx_token.specs.declared.kinds.TokenKind.TheVariants as kind
-use Rattle.lx_exprs.specs.Defined.{is_built}
+use Rattle.lx_exprs.specs.Defined.{count_of, is_built}
 use Rattle.lx_exprs.specs.Meanings.{class_meaning}
 use Rattle.lx_exprs.specs.Seen.{definitions_view}
 use Rattle.lx_exprs.specs.Values.{IsValue}
@@ -13,17 +13,17 @@ pub returns-clause-read : goal.returns-clause-read
 returns-clause-read c before lexeme count sort =
     let reader = c.args.reader in
     let options = reader.options.now in
-    let meaning = class_meaning c.args.is_operand options.empty 0 [] (length before) c.in_ok-set.set in
+    let meaning = class_meaning c.args.is_operand options.empty 0 [] 0 (count_of before) c.in_ok-set.set in
     let stands =
-    c.limited.ensures.stands meaning (record { size_is = refl; nesting_is = refl; tags_is = count })
-    (c.class_content-content.ensures.stands (is_built reader.room meaning) 0 (length before) []) in
+    c.limited.ensures.stands meaning (record { size_is = refl; nesting_is = refl; groups_is = refl; tags_is = count })
+    (c.class_content-content.ensures.stands (is_built reader.room meaning) 0 0 (count_of before) []) in
     if_ok_both (IsValue reader.room meaning) (IsValue reader.room meaning) _ c.limited.result
     (λ value one two.
     kind-read options (definitions_view reader.definitions.now) reader.room c.args.is_operand before lexeme kind.Signs sort refl meaning
-    (c.in_ok-set.set, c.in_ok-set.ensures, refl) before (sym (append-nil before)) value one)
+    (c.in_ok-set.set, c.in_ok-set.ensures, refl) before.tags (sym (append-nil before.tags)) value one)
     stands stands
 
 pub returns-clause-bounded : goal.returns-clause-bounded
-returns-clause-bounded c all =
+returns-clause-bounded c =
     let size = c.class_content-content.ensures.size in
-    c.limited.ensures.bounded all (omega arith) (λ small. omega (arith, size)) (c.class_content-content.ensures.tags all)
+    c.limited.ensures.bounded (omega arith) (λ small. omega (arith, size)) (c.class_content-content.ensures.tags c.args.count)

@@ -10,13 +10,13 @@ returns-then-is_refused-clause-read c definitions depth all tags nesting count =
 pub returns-clause-read : goal.returns-clause-read
 returns-clause-read c definitions depth all tags nesting count =
     let options = c.args.reader.options.now in
-    let meaning = class_meaning c.args.is_operand options.empty depth tags all c.args.set in (
+    let meaning = class_meaning c.args.is_operand options.empty depth tags c.args.groups all c.args.set in (
       c.is_refused.ensures.taken options definitions c.args.at c.if-is_refused.false,
-      c.in_ok-limited.ensures.stands meaning (record { size_is = refl; nesting_is = nesting; tags_is = count })
-          (c.class_content-content.ensures.stands (is_built c.args.reader.room meaning) depth all tags),
+      c.in_ok-limited.ensures.stands meaning (record { size_is = refl; nesting_is = nesting; groups_is = refl; tags_is = count })
+          (c.class_content-content.ensures.stands (is_built c.args.reader.room meaning) depth c.args.groups all tags),
     )
 
 pub returns-clause-bounded : goal.returns-clause-bounded
-returns-clause-bounded c all =
+returns-clause-bounded c =
     let size = c.class_content-content.ensures.size in
-    c.in_ok-limited.ensures.bounded all (omega arith) (λ small. omega (arith, size)) (c.class_content-content.ensures.tags all)
+    c.in_ok-limited.ensures.bounded (omega arith) (λ small. omega (arith, size)) (c.class_content-content.ensures.tags c.args.count)

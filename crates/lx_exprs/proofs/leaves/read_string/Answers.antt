@@ -42,11 +42,11 @@ returns-clause-read c definitions before count =
     (λ past. fits-great reader.room c.requires (max 1 (length (sets (points_of characters)))) 0 before (omega (arith, past, many))) in (
       sym (ap (λ points. points_fault options.enc options.surrogates at (singles points)) (sym points) ∙ none),
       subst (λ points. IsValue reader.room (meaning points) c.in_ok-limited.field-0) points
-          (c.in_ok-limited.ensures.stands (meaning (points_of characters)) (record { size_is = size; nesting_is = refl; tags_is = count }) content),
+          (c.in_ok-limited.ensures.stands (meaning (points_of characters)) (record { size_is = size; nesting_is = refl; groups_is = refl; tags_is = count }) content),
     )
 
 pub returns-clause-bounded : goal.returns-clause-bounded
-returns-clause-bounded c all =
+returns-clause-bounded c =
     let size = c.in_ok-content.ensures.size in
-    c.in_ok-limited.ensures.bounded all (omega (arith, c.sum-size.ensures, c.max.ensures))
-    (λ small. omega (arith, size, small, c.sum-size.ensures, c.max.ensures)) (c.in_ok-content.ensures.tags all)
+    c.in_ok-limited.ensures.bounded (omega (arith, c.sum-size.ensures, c.max.ensures))
+    (λ small. omega (arith, size, small, c.sum-size.ensures, c.max.ensures)) (c.in_ok-content.ensures.tags c.args.count)

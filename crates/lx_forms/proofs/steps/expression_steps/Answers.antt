@@ -16,7 +16,7 @@ returns c form is =
     let count : length steps ≡ c.in_ok-steps.steps.len = omega (arith, c.mark_operands.auto.steps, c.deref_mut.ensures.len) in
     ap (λ n. map (step_view texts) (take n (steps ++ unread))) (sym count) ∙ ap (map (step_view texts)) (take-append_seam steps unread)
     ∙ c.in_ok-mark_operands.ensures texts
-    ∙ ap (λ l. marked_steps l (false ∷ []))
+    ∙ ap (λ l. marked_steps c.args.are_groups l (false ∷ []))
     (ap (map (step_view texts)) c.deref_mut.ensures.value ∙ c.in_ok-steps.ensures
     ∙ unmarked_steps-form (nth_lexeme texts 0) texts c.args.from c.args.until form c.requires.part.in_order is)
-    ∙ marked_steps-form form
+    ∙ marked_steps-form c.args.are_groups form

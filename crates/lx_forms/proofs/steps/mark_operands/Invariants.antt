@@ -8,5 +8,5 @@ use Rattle.lx_forms.proofs.steps.mark_operands.Given as goal
 abbrev pub invariant-loop-index : goal.invariant-loop-index
 invariant-loop-index l =
     (lexemes : List Lexeme)
-    → marked_steps (map (step_view lexemes) (take l.index l.steps)) (reverse l.marks.items) ++ map (step_view lexemes) (drop l.index l.steps)
-    ≡ marked_steps (map (step_view lexemes) l.initial.steps) (false ∷ [])
+    → marked_steps l.are_groups (map (step_view lexemes) (take l.index l.steps)) (reverse l.marks.items) ++ map (step_view lexemes) (drop l.index l.steps)
+    ≡ marked_steps l.are_groups (map (step_view lexemes) l.initial.steps) (false ∷ [])

@@ -7,14 +7,15 @@ use Rattle.lx_rules.specs.Blocks.{ScannerChecks, SpellingsDiffer}
 use Rattle.lx_rules.specs.Environments.{config_of}
 use Rattle.lx_rules.specs.Seen.{settings_view}
 use Rattle.lx_exprs.specs.Defined.{kept}
-use Rattle.lx_rules.proofs.FinishingSteps.{clashing, free_names, too_large, finished, empty_length, filled_length}
+use Rattle.lx_regex.specs.declared.rules.Tag.{Tag}
+use Rattle.lx_rules.proofs.FinishingSteps.{HasTagName, clashing, free_names, too_large, finished, empty_length, filled_length}
 use Rattle.lx_rules.proofs.finishing.finish.Goals.{then-not-spellings_differ-via-then-not-spellings_differ, then-not-spellings_differ-via-else-not-spellings_differ+then-not-are_all_tag_names}
 use Rattle.lx_rules.proofs.finishing.finish.Goals as goal
 
 pub returns-then-not-spellings_differ : goal.returns-then-not-spellings_differ
 returns-then-not-spellings_differ c = λ conds state holds.
     let named = c.in_ok-names.ensures in
-    let clash : SpellingsDiffer c.args.custom usual_names → AllByRecursion (IsTagName usual_names) c.args.known.tags → ⊥ =
+    let clash : SpellingsDiffer c.args.custom usual_names → AllByRecursion HasTagName c.args.known.tags → ⊥ =
     elim c.then-not-spellings_differ.branch [
       | then-not-spellings_differ-via-then-not-spellings_differ w ↦ λ differ tags.
           false≢true (sym w.if-not-spellings_differ.true ∙ c.spellings_differ.ensures.1 (subst (SpellingsDiffer c.args.custom) (sym named) differ))
@@ -22,7 +23,7 @@ returns-then-not-spellings_differ c = λ conds state holds.
           false≢true
           (sym w.if-not-are_all_tag_names.true
           ∙ w.are_all_tag_names.ensures.1
-          (subst (λ names. AllByRecursion (IsTagName names) c.args.known.tags) (sym named) tags))
+          (subst (λ names. AllByRecursion (λ (tag : Tag). IsTagName names tag.name) c.args.known.tags) (sym named) tags))
     ] in
     clashing conds c.args.custom c.args.known state holds c.args.at clash
 
@@ -31,8 +32,8 @@ returns-then-is_too_large c = λ conds state holds.
     let known = c.args.known in
     let named = c.in_ok-names.ensures in
     let differ : SpellingsDiffer c.args.custom usual_names = subst (SpellingsDiffer c.args.custom) named (c.spellings_differ.ensures.0 c.if-not-spellings_differ.false) in
-    let tags : AllByRecursion (IsTagName usual_names) known.tags =
-    subst (λ names. AllByRecursion (IsTagName names) known.tags) named (c.are_all_tag_names.ensures.0 c.if-not-are_all_tag_names.false) in
+    let tags : AllByRecursion HasTagName known.tags =
+    subst (λ names. AllByRecursion (λ (tag : Tag). IsTagName names tag.name) known.tags) named (c.are_all_tag_names.ensures.0 c.if-not-are_all_tag_names.false) in
     let counted : kept (length known.tags) ≡ c.len.result = sym c.len.ensures in
     subst (λ count. ScannerChecks c.args.custom c.args.at state (Some (TooManyParts c.args.at known.size known.nesting count))) counted
     (too_large conds c.args.custom known state holds c.args.at (free_names conds c.args.custom known state holds c.args.at differ tags) (sym c.is_too_large.ensures ∙ c.if-is_too_large.true))
@@ -42,8 +43,8 @@ returns c = λ conds state holds.
     let known = c.args.known in
     let named = c.in_ok-names.ensures in
     let differ : SpellingsDiffer c.args.custom usual_names = subst (SpellingsDiffer c.args.custom) named (c.spellings_differ.ensures.0 c.if-not-spellings_differ.false) in
-    let tags : AllByRecursion (IsTagName usual_names) known.tags =
-    subst (λ names. AllByRecursion (IsTagName names) known.tags) named (c.are_all_tag_names.ensures.0 c.if-not-are_all_tag_names.false) in
+    let tags : AllByRecursion HasTagName known.tags =
+    subst (λ names. AllByRecursion (λ (tag : Tag). IsTagName names tag.name) known.tags) named (c.are_all_tag_names.ensures.0 c.if-not-are_all_tag_names.false) in
     let config : record { names = c.in_ok-names.names; eof = None; fill = c.unwrap_or-fill.result } ≡ config_of (settings_view known.env.settings) =
     ap₂ (λ (names : Spellings) (fill : Bool). record { names = names; eof = None; fill = fill }) named c.unwrap_or-fill.ensures in
     let tested = c.is_empty.ensures ∙ ap (λ l. length l == 0) c.as_slice.ensures.value in

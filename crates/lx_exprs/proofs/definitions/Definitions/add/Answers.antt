@@ -1,11 +1,11 @@
-use Rattle.std.proofs.Common.{◌≡◌, ◌∙◌, ap, sym, subst, ◌++◌, map, length, [], ◌∷◌, None, All}
+use Rattle.std.proofs.Common.{◌≡◌, ◌∙◌, ap, sym, subst, ◌++◌, map, [], ◌∷◌, None, All}
 use Rattle.std.specs.Str.{bytes_eq}
 use Rattle.std.specs.Map.{lookup}
 use Rattle.std.proofs.lemmas.List.{map-append}
 use Rattle.std.proofs.lemmas.List.Elements.{All-append}
 use Rattle.indexmap.proofs.CallerLemmas.{insert_entry-new}
 use Rattle.lx_exprs.specs.Seen.{definition_view}
-use Rattle.lx_exprs.specs.Soundness.{FitsKept}
+use Rattle.lx_exprs.specs.Soundness.{IsSound}
 use Rattle.lx_exprs.proofs.TagLists.DefinitionLists.{lookup-None, All-one}
 use Rattle.lx_exprs.proofs.definitions.Definitions.add.Goals as goal
 
@@ -26,5 +26,5 @@ returns-clause-sound c = λ sound fits.
     let named = c.in_ok-name.ensures.items in
     let absent' = subst (λ text. lookup (λ key. bytes_eq text key.items) entries ≡ None) (sym named) absent in
     let added = c.in_ok-insert.ensures.entries ∙ insert_entry-new (λ key other. bytes_eq key.items other.items) c.args.self.now.by_name c.in_ok-name.name c.args.kept absent' in
-    subst (All (λ entry. FitsKept entry.1.expr entry.1.size (length entry.1.tags))) (sym added)
-    (All-append (λ entry. FitsKept entry.1.expr entry.1.size (length entry.1.tags)) entries ((c.in_ok-name.name, c.args.kept) ∷ []) sound (All-one (λ entry. FitsKept entry.1.expr entry.1.size (length entry.1.tags)) (c.in_ok-name.name, c.args.kept) fits))
+    subst (All (λ entry. IsSound entry.1)) (sym added)
+    (All-append (λ entry. IsSound entry.1) entries ((c.in_ok-name.name, c.args.kept) ∷ []) sound (All-one (λ entry. IsSound entry.1) (c.in_ok-name.name, c.args.kept) fits))

@@ -1,8 +1,8 @@
-use Rattle.std.proofs.Common.{◌∙◌, ap, sym, subst, length, IfSome}
+use Rattle.std.proofs.Common.{◌∙◌, ap, sym, subst, IfSome}
 use Rattle.std.specs.Str.{bytes_eq}
 use Rattle.std.proofs.lemmas.Map.Entries.{All-lookup}
 use Rattle.lx_exprs.specs.declared.definitions.Kept.{Kept}
-use Rattle.lx_exprs.specs.Soundness.{FitsKept}
+use Rattle.lx_exprs.specs.Soundness.{IsSound}
 use Rattle.std.specs.Option.{option_map}
 use Rattle.lx_exprs.specs.Seen.{definition_view}
 use Rattle.lx_exprs.proofs.TagLists.DefinitionLists.{lookup-definition_of, option_map-copied, IfSome-copied}
@@ -15,6 +15,6 @@ returns-clause-found c =
 
 pub returns-clause-sound : goal.returns-clause-sound
 returns-clause-sound c = λ sound.
-    let Fits = λ (kept : Kept). FitsKept kept.expr kept.size (length kept.tags) in
+    let Fits = λ (kept : Kept). IsSound kept in
     IfSome-copied Fits c.get.result
     (subst (λ found. IfSome found Fits) (sym c.get.ensures.value) (All-lookup Fits (λ key. bytes_eq c.args.name.now key.items) c.args.self.now.by_name.entries sound))

@@ -1,21 +1,16 @@
-use Rattle.std.proofs.Common.{length, arith, ap, ◌∙◌}
-use Rattle.std.proofs.lemmas.List.{length-append}
 use Rattle.lx_exprs.specs.Seen.{definitions_view}
 use Rattle.lx_forms.specs.Seen.{lexeme_view}
 use Rattle.lx_exprs.proofs.Forms.ExpressionSteps.{leaf_taken}
-use Rattle.lx_exprs.proofs.Contents.OperandValues.{bounded_all, bounded_more}
+use Rattle.lx_exprs.proofs.Contents.OperandValues.{bounded_all}
 use Rattle.lx_exprs.proofs.expressions.Operands.read.Goals as goal
 
 pub returns-clause-stands : goal.returns-clause-stands
 returns-clause-stands c operands are =
     leaf_taken c.args.reader.options.now (definitions_view c.args.reader.definitions.now) c.args.reader.room operands c.args.self.now c.push.new.self
-    c.args.is_operand (lexeme_view c.args.lexeme.now) c.in_ok-value.value are c.in_ok-push.ensures.values (rw c.in_ok-push.ensures.seen c.in_ok-value.ensures.read)
+    c.args.is_operand (lexeme_view c.args.lexeme.now) c.in_ok-value.value are c.in_ok-push.ensures.values
+    (rw c.in_ok-push.ensures.groups c.sum-self.ensures) c.in_ok-push.ensures.open_groups (rw c.in_ok-push.ensures.seen c.in_ok-value.ensures.read)
 
 pub returns-clause-bounded : goal.returns-clause-bounded
 returns-clause-bounded c bounded =
-    let read = c.in_ok-value.ensures.read in
-    let all = ap length read.seen ∙ length-append c.args.self.now.seen read.meaning.tags in
-    rw c.in_ok-push.ensures.seen
-    (bounded_all (length c.read_leaf.new.seen) c.args.self.now.values.items c.push.new.self.values.items c.in_ok-value.value c.in_ok-push.ensures.values
-    (bounded_more (length c.args.self.now.seen) (length c.read_leaf.new.seen) (omega (arith, all)) c.args.self.now.values.items bounded)
-    c.in_ok-value.ensures.bounded)
+    bounded_all c.args.self.now.values.items c.push.new.self.values.items c.in_ok-value.value c.in_ok-push.ensures.values bounded
+    c.in_ok-value.ensures.bounded

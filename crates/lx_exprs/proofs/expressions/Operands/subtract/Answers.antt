@@ -1,4 +1,4 @@
-use Rattle.std.proofs.Common.{length, refl}
+use Rattle.std.proofs.Common.{◌∙◌, refl}
 use Rattle.std.proofs.lemmas.Result.{err_from_is_err_and}
 use Rattle.lx_exprs.specs.Seen.{definitions_view}
 use Rattle.lx_forms.specs.Seen.{lexeme_view}
@@ -23,14 +23,14 @@ returns-clause-stands c operands are =
     subtract_taken c.args.reader.options.now (definitions_view c.args.reader.definitions.now) c.args.reader.room operands c.args.self.now c.push.new.self
     c.args.is_operand (lexeme_view c.args.sign.now) c.pop-left.new.self.values.items c.pop-left.result c.pop-right.result c.in_ok-value.value are two
     c.in_ok-push.ensures.values (rw c.in_ok-push.ensures.seen (rw c.pop-left.ensures.seen (rw c.pop-right.ensures.seen refl)))
+    (rw c.in_ok-push.ensures.groups (rw c.pop-left.ensures.groups (rw c.pop-right.ensures.groups refl)))
+    (c.in_ok-push.ensures.open_groups ∙ c.pop-left.ensures.open_groups ∙ c.pop-right.ensures.open_groups)
     (c.in_ok-value.ensures.read two.first two.second (lexeme_view c.args.sign.now) refl two.left_is two.right_is)
 
 pub returns-clause-bounded : goal.returns-clause-bounded
 returns-clause-bounded c bounded =
-    let count = length c.args.self.now.seen in
     let middle = c.pop-right.new.self.values.items in
     let front = c.pop-left.new.self.values.items in
-    let rest = bounded_front count middle c.args.self.now.values.items c.pop-right.result c.pop-right.ensures.values bounded in
-    rw c.in_ok-push.ensures.seen (rw c.pop-left.ensures.seen (rw c.pop-right.ensures.seen
-    (bounded_all count front c.push.new.self.values.items c.in_ok-value.value c.in_ok-push.ensures.values
-    (bounded_front count front middle c.pop-left.result c.pop-left.ensures.values rest) (c.in_ok-value.ensures.bounded count))))
+    let rest = bounded_front middle c.args.self.now.values.items c.pop-right.result c.pop-right.ensures.values bounded in
+    bounded_all front c.push.new.self.values.items c.in_ok-value.value c.in_ok-push.ensures.values
+    (bounded_front front middle c.pop-left.result c.pop-left.ensures.values rest) c.in_ok-value.ensures.bounded

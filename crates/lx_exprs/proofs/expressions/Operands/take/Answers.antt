@@ -1,14 +1,25 @@
-use Rattle.std.proofs.Common.{refl, sym}
-use Rattle.std.proofs.lemmas.Result.{MatchResult-weaker}
+use Rattle.std.proofs.Common.{refl, subst, sym}
+use Rattle.lx_exprs.specs.Checks.{are_groups}
+use Rattle.lx_exprs.specs.Reading.{AreOperands, closed}
 use Rattle.lx_exprs.specs.Seen.{definitions_view}
 use Rattle.lx_exprs.proofs.expressions.Operands.take.Goals as goal
 
 pub returns-in-Open-clause-stands : goal.returns-in-Open-clause-stands
 returns-in-Open-clause-stands c operands are =
     rw c.in-Open.is (rw (sym c.at-lexeme.ensures)
-    (MatchResult-weaker c.open.result (c.open.ensures (definitions_view c.args.reader.definitions.now))
-    (λ done none. record { checked = sym none; after = operands; stepped = refl; stands = are })
-    (λ stopped is. is)))
+    (c.read_open.ensures.stands (definitions_view c.args.reader.definitions.now) c.args.reader.room operands are))
+
+pub returns-in_ok-close-in-Close-clause-stands : goal.returns-in_ok-close-in-Close-clause-stands
+returns-in_ok-close-in-Close-clause-stands c operands are =
+    let definitions = definitions_view c.args.reader.definitions.now in
+    rw c.in-Close.is (record {
+      checked = refl;
+      after = closed (are_groups c.args.reader.options.now definitions) operands;
+      stepped = refl;
+      stands =
+          subst (λ is_group. AreOperands c.args.reader.room (closed is_group operands) c.close.new.self) (c.are_groups.ensures definitions)
+          (c.in_ok-close-in-Close.ensures.stands operands are);
+    })
 
 pub returns-in-Repeat-clause-stands : goal.returns-in-Repeat-clause-stands
 returns-in-Repeat-clause-stands c operands are =

@@ -3,4 +3,4 @@ use Rattle.std.specs.List.{flat_map}
 use Rattle.lx_exprs.proofs.tags.SharedTags.copy_to.Given as goal
 
 abbrev pub invariant-loop-segment : goal.invariant-loop-segment
-invariant-loop-segment l = l.names ≡ l.initial.names ++ flat_map (λ names. names.value) (take l.segment-index l.segments)
+invariant-loop-segment l = l.tags ≡ l.initial.tags ++ flat_map (λ tags. tags.value) (take l.segment-index l.segments)

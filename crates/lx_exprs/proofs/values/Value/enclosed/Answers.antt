@@ -8,13 +8,13 @@ use Rattle.lx_exprs.proofs.values.Value.enclosed.Goals as goal
 pub returns-clause-stands : goal.returns-clause-stands
 returns-clause-stands c meaning is =
     c.limited.ensures.stands (enclosed meaning)
-    (subst (λ n. IsCounted (enclosed meaning) c.args.self.size n c.args.self.tags) (sym c.sum-nesting.ensures)
-    (counted_enclosed meaning c.args.self.size c.args.self.nesting c.args.self.tags is.counted))
+    (subst (λ n. IsCounted (enclosed meaning) c.args.self.size n c.args.self.groups c.args.self.tags) (sym c.sum-nesting.ensures)
+    (counted_enclosed meaning c.args.self.size c.args.self.nesting c.args.self.groups c.args.self.tags is.counted))
     (c.enclosed-content.ensures.stands (is_built c.args.room meaning) (is_built c.args.room (enclosed meaning)) meaning is.content
     (grows c.args.room meaning (enclosed meaning) (omega arith) (omega arith) (omega arith)))
 
 pub returns-clause-bounded : goal.returns-clause-bounded
-returns-clause-bounded c count is =
+returns-clause-bounded c is =
     let less = c.enclosed-content.ensures.size in
     let size = is.size in
-    c.limited.ensures.bounded count is.some (λ small. omega (arith, less, size)) (c.enclosed-content.ensures.tags count is.tags)
+    c.limited.ensures.bounded is.some (λ small. omega (arith, less, size)) (c.enclosed-content.ensures.tags c.args.self.tags is.tags)

@@ -6,5 +6,5 @@ pub returns-clause-built : goal.returns-clause-built
 returns-clause-built c room meaning is = c.into_expr.ensures.built (is_built room meaning) meaning is.content
 
 pub returns-clause-kept : goal.returns-clause-kept
-returns-clause-kept c count is =
-    kept_fits c.into_expr.result c.args.self.content c.args.self.size count is.some is.size is.tags c.into_expr.ensures.size (c.into_expr.ensures.tags count is.tags)
+returns-clause-kept c is =
+    kept_fits c.into_expr.result c.args.self.content c.args.self.size c.args.self.tags is.some is.size is.tags c.into_expr.ensures.size (c.into_expr.ensures.tags c.args.self.tags is.tags)

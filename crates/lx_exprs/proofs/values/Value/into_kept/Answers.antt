@@ -8,6 +8,6 @@ returns-in_default c = record {
       term_kept (is_built whole_room meaning) meaning c.args.self.content c.into_expr.result is.past
       (not_past c.args.self.content (λ set alternatives same. c.in_default.not-Past set alternatives same)) c.into_expr.ensures.past
       (c.into_expr.ensures.built (is_built whole_room meaning) meaning is.content);
-  kept = λ count is.
-      kept_fits c.into_expr.result c.args.self.content c.args.self.size count is.some is.size is.tags c.into_expr.ensures.size (c.into_expr.ensures.tags count is.tags);
+  kept = λ is.
+      kept_fits c.into_expr.result c.args.self.content c.args.self.size c.args.self.tags is.some is.size is.tags c.into_expr.ensures.size (c.into_expr.ensures.tags c.args.self.tags is.tags);
 }

@@ -8,7 +8,7 @@ use Rattle.lx_exprs.proofs.values.Value.limited.Goals as goal
 pub returns-clause-stands : goal.returns-clause-stands
 returns-clause-stands c meaning counted is =
     let off : is_built c.args.room meaning ≡ false =
-    sym (built_seen c.args.room meaning c.args.size c.args.nesting c.args.tags c.requires counted) ∙ sym c.fits.ensures ∙ c.if-fits.false in
+    sym (built_seen c.args.room meaning c.args.size c.args.nesting c.args.groups c.args.tags c.requires counted) ∙ sym c.fits.ensures ∙ c.if-fits.false in
     record {
       counted = counted;
       content = (

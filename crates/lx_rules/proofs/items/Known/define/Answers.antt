@@ -1,7 +1,9 @@
-use Rattle.std.proofs.Common.{◌≡◌, ◌∙◌, ◌++◌, ◌∷◌, [], ap, length, sym, subst, refl, None}
+use Rattle.std.proofs.Common.{◌≡◌, ◌∙◌, ◌+◌, ◌*◌, ◌++◌, List, arith, ◌∷◌, [], ap, length, sym, subst, refl, None}
 use Rattle.std.proofs.lemmas.Result.{err_from_is_err_and}
 use Rattle.std.specs.Option.{option_map}
 use Rattle.lx_exprs.specs.declared.definitions.Kept.{Kept}
+use Rattle.lx_regex.specs.declared.rules.Tag.{Tag}
+use Rattle.lx_exprs.proofs.Contents.ValueContents.{fits_counted}
 use Rattle.lx_forms.specs.Lexemes.{Lexeme, nth_lexeme}
 use Rattle.lx_exprs.specs.Defined.{IsDefined, definition_of, whole_room}
 use Rattle.lx_exprs.specs.Seen.{definition_view, definitions_view}
@@ -31,7 +33,7 @@ returns-clause-taken c = λ state holds.
     let reading = c.in_ok-reading.reading in
     let read = read_known c.args.block.options.now lexemes c.args.self.now state holds whole_room c.args.from c.args.until reading c.in_ok-reading.ensures.read in
     let counted = read.stands.value.counted in
-    let given : Kept = record { at = c.at-name.result.at; size = reading.value.size; nesting = reading.value.nesting; tags = reading.tags; expr = c.in_ok-into_kept.field-0 } in
+    let given : Kept = record { at = c.at-name.result.at; size = reading.value.size; nesting = reading.value.nesting; tags = reading.tags; groups = reading.value.groups; expr = c.in_ok-into_kept.field-0 } in
     let defined : IsDefined (nth_lexeme lexemes c.args.name).text (nth_lexeme lexemes c.args.name).at read.meaning (definition_view (nth_lexeme lexemes c.args.name).text given) =
     record {
       name_is = refl;
@@ -39,10 +41,16 @@ returns-clause-taken c = λ state holds.
       size = counted.size_is;
       nesting = counted.nesting_is;
       tags = read.stands.tags;
+      groups = counted.groups_is;
       term = c.in_ok-into_kept.ensures.term read.meaning read.stands.value;
     } in
     define_taken c.args.block.options.now lexemes c.args.self.now state holds c.args.name c.args.from c.args.until _ given reading none read defined
     (subst (λ (l : Lexeme). definitions_view c.add.new.self ≡ definitions_view c.args.self.now.env.definitions ++ definition_view l.text given ∷ []) c.at-name.ensures c.in_ok-add.ensures.added)
-    (c.in_ok-add.ensures.sound holds.sound
-    (c.in_ok-into_kept.ensures.kept (length reading.tags) c.in_ok-reading.ensures.bounded))
+    (c.in_ok-add.ensures.sound holds.sound (
+      fits_counted c.in_ok-into_kept.field-0 reading.value.size reading.value.tags (length reading.tags + 2 * reading.value.groups)
+          (let tags = read.stands.tags in let all = ap (λ (l : List Tag). length l) tags in let groups = counted.groups_is in
+          let none = read.stands.groups in let count = read.stands.count in let counts = counted.tags_is in omega (arith, all, groups, none, count, counts))
+          (c.in_ok-into_kept.ensures.kept c.in_ok-reading.ensures.bounded),
+      counted.groups_is ∙ read.stands.groups,
+    ))
     refl refl refl refl refl refl refl

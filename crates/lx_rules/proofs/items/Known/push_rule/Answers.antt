@@ -1,7 +1,9 @@
-use Rattle.std.proofs.Common.{◌≡◌, ◌≤◌, ◌∙◌, ◌++◌, false, length, map, None, inl, refl, subst, sym, ap, ap₂}
+use Rattle.std.proofs.Common.{◌≡◌, ◌≤◌, ◌∙◌, ◌++◌, List, length, map, None, inl, refl, subst, sym, ap, ap₂}
 use Rattle.lx_regex.specs.Expr.{size_of}
 use Rattle.lx_regex.specs.Pattern.{Pattern}
 use Rattle.lx_regex.specs.declared.rules.Kind.TheVariants as kind
+use Rattle.lx_regex.specs.declared.rules.Tag.{Tag}
+use Rattle.lx_exprs.specs.Checks.{tag_names}
 use Rattle.lx_exprs.specs.Meanings.{behind}
 use Rattle.lx_exprs.proofs.Contents.TermsBehind.{term_of-behind}
 use Rattle.lx_rules.specs.Keeping.{room_behind}
@@ -19,16 +21,17 @@ returns-clause-rules c =
     let reading = c.args.reading in
     let room = room_behind known.size known.nesting (length known.tags) in
     let tags = c.in_ok-tags-in-Some in
-    let kept = c.in-Some.ensures.kept (length reading.tags) c.requires in
-    let named : c.names-in-Some.result.now ≡ reading.tags =
-    c.names-in-Some.ensures ∙ c.in_ok-copy_to-in-Some.ensures ∙ ap (λ names. names ++ reading.tags) c.new-names.ensures in
+    let kept = c.in-Some.ensures.kept c.requires in
+    let given : tags.tags ≡ reading.tags =
+    tags.ensures ∙ c.tags-in-Some.ensures ∙ c.in_ok-copy_to-in-Some.ensures ∙ ap (λ held. held ++ reading.tags) c.new-held.ensures in
     let size : size_of c.simple_rule.result.expr ≤ reading.value.size =
     subst (λ e. size_of e ≤ reading.value.size) (sym c.simple_rule.ensures.expr) kept.1 in
-    let count : length tags.tags ≡ length reading.tags = tags.ensures.count ∙ ap length named in
     adds_built room c.args.number reading known.rules.items c.push.new.self.items c.simple_rule.result c.in_ok-push-in-Some.ensures.items
     (ap (λ (p : Pattern). p.number) c.simple_rule.ensures.pattern) size
-    (c.simple_rule.ensures.names ∙ tags.ensures.names ∙ named)
+    (c.simple_rule.ensures.names ∙ ap (λ (l : List Tag). tag_names l) given)
     (λ meaning is.
     c.simple_rule.ensures.pattern
     ∙ ap₂ (λ term many. record { number = c.args.number; kind = kind.Plain; term = term; many = many; slash = None; groups = 0 })
-    (term_of-behind c.in-Some.expr (length tags.tags) ∙ ap₂ behind count (c.in-Some.ensures.built room meaning is.value)) (tags.ensures.many ∙ ap (map (λ name. false)) named))
+    (term_of-behind c.in-Some.expr (length tags.tags)
+    ∙ ap₂ behind (ap (λ (l : List Tag). length l) given) (c.in-Some.ensures.built room meaning is.value))
+    (ap (map (λ (tag : Tag). tag.many)) given))
