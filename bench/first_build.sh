@@ -1,23 +1,16 @@
 #!/bin/sh
-# Measures the first build of the program: clones the last commit, sets aside what the kit kept on this machine, runs bin/build, and
-# prints how long it took. A quiet machine is wanted.
+# Measures the first build of the program: clones the last commit, runs bin/build there in a mount namespace of its own, in which the
+# kit has kept nothing, and prints how long it took. A quiet machine is wanted, since what else runs on it lengthens the build.
 #
-# Usage: bench/first_build.sh, from anywhere.
+# Usage: bench/first_build.sh, from anywhere, as root.
 set -eu
 root=$(cd "$(dirname "$0")/.." && pwd)
 kept=/opt/rattle-kept
 work=$(mktemp -d)
-back() {
-	if [ -e "$kept.aside" ]; then
-		rm -rf "$kept"
-		mv "$kept.aside" "$kept"
-	fi
-	rm -rf "$work"
-}
-trap back EXIT
+trap 'rm -rf "$work"' EXIT
 git clone -q "$root" "$work/clone"
-if [ -e "$kept" ]; then mv "$kept" "$kept.aside"; fi
+mkdir -p "$kept" "$work/kept"
 begin=$(date +%s)
-"$work/clone/bin/build"
+unshare -m sh -c 'mount --bind "$1/kept" "$2" && exec "$1/clone/bin/build"' sh "$work" "$kept"
 end=$(date +%s)
 echo "first build: $(((end - begin) / 60)) min $(((end - begin) % 60)) s on $(nproc) processors"

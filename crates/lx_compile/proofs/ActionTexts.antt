@@ -4,7 +4,7 @@ use Rattle.std.specs.Prelude.{unwrap_or}
 use Rattle.std.specs.List.{AllByRecursion}
 use Rattle.std.proofs.lemmas.List.Elements.{recursion_from_All}
 use Rattle.lx_gen.specs.Scanner.{AreShort}
-use Rattle.lx_rules.specs.Soundness.{FitsLimits, IsShort}
+use Rattle.lx_rules.specs.FitScanners.{FitsLimits, IsShort}
 use Rattle.lx_rules.specs.declared.resolved.Act.{Act}
 use Rattle.lx_rules.specs.declared.resolved.Resolved.{Resolved}
 use Rattle.lx_compile.specs.Output.{actions_of}

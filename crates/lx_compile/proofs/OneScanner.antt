@@ -10,8 +10,7 @@ use Rattle.lx_rules.specs.Rules.{RuleOf}
 use Rattle.lx_forms.specs.Lexemes.{Lexeme}
 use Rattle.lx_rules.specs.declared.resolved.Resolved.{Resolved}
 use Rattle.lx_rules.specs.declared.resolved.Scanner.{Scanner}
-use Rattle.lx_rules.proofs.BlockSteps.{AreUsual, conditions_of-usual}
-use Rattle.lx_compile.proofs.ScannerRules.{AreUsual-goes}
+use Rattle.lx_compile.proofs.ScannerRules.{AreUsual, AreUsual-goes, conditions_of-usual}
 
 -- there is one condition, or none
 length-conditions_of : (rules : List RuleOf) → AreUsual rules → length (conditions_of rules) ≤ 1

@@ -22,27 +22,42 @@ use Rattle.lx_regex.specs.declared.rules.Kind.{Kind}
 use Rattle.lx_regex.specs.declared.rules.Kind.TheVariants as kind
 use Rattle.lx_regex.specs.declared.rules.Rule.{Rule}
 use Rattle.lx_regex.specs.declared.rules.Tag.{Tag}
-use Rattle.lx_rules.specs.Blocks.{AreScanners, ClashCheck, IsScanner, NoClash, Resolves, ScannerChecks, conditions_of, given_names, lonely_fault, names_of, pattern_of, scanners_fault, targets_fault}
+use Rattle.lx_rules.specs.Blocks.{AreScanners, ClashCheck, IsScanner, NoClash, Resolves, ScannerChecks, conditions_behind, conditions_of, given_names, lonely_fault, names_of, pattern_of, rules_of, scanners_fault, targets_fault}
 use Rattle.lx_exprs.specs.Checks.{Check, Finds, Then, tag_names}
 use Rattle.lx_exprs.specs.Defined.{Definition, Meaning}
 use Rattle.lx_rules.specs.Environments.{Environment, config_of}
 use Rattle.lx_rules.specs.Items.{Goes, HeadChecks, HeadSort, IsAfter, IsHead, ItemChecks, ListChecks, State, TargetChecks, act_of, any, conds_of, end, ends, expression, head_sort, next, refused}
 use Rattle.lx_rules.specs.Rules.{RuleOf}
-use Rattle.lx_rules.specs.Keeping.{IsUsual}
 use Rattle.lx_forms.specs.Lexemes.{Lexeme, nth_lexeme, sort_at}
-use Rattle.lx_rules.specs.Soundness.{FitsLimits, IsFit}
+use Rattle.lx_rules.specs.FitScanners.{FitsLimits, IsFit}
 use Rattle.lx_rules.specs.Within.{IsScannerWithin}
 use Rattle.lx_rules.specs.declared.resolved.Act.{Act}
 use Rattle.lx_rules.specs.declared.resolved.Config.{Config}
 use Rattle.lx_rules.specs.declared.resolved.Resolved.{Resolved}
 use Rattle.lx_rules.specs.declared.resolved.Scanner.{Scanner}
-use Rattle.lx_rules.proofs.BlockSteps.{AreUsual, conditions_of-usual, in_order, rules_of-usual}
+use Rattle.lx_rules.proofs.BuiltScanners.{all_of_scanner}
 use Rattle.lx_exprs.proofs.Forms.ClassForms.{then-none}
-use Rattle.lx_rules.proofs.RuleNumbers.{all_in_order}
 use Rattle.lx_compile.specs.Output.{actions_of}
 use Rattle.lx_compile.specs.Emittable.{CanBeEmitted}
 
 -- ---- the rules of a block
+
+-- a rule of the kinds that are supported: it has the one condition without a name and no target, and is not `$`
+pub record IsUsual (rule : RuleOf) : Type 0 where
+  pub conds : rule.conds ≡ [] ∷ []
+  pub no_end : rule.kind ≡ kind.Eof → ⊥
+  pub no_target : rule.act.goes ≡ None
+
+abbrev pub AreUsual : List RuleOf → Type 0
+AreUsual rules = AllByRecursion IsUsual rules
+
+conditions_behind-usual : (rules : List RuleOf) → AreUsual rules → conditions_behind ([] ∷ []) rules ≡ [] ∷ []
+conditions_behind-usual [] usual = refl
+conditions_behind-usual (rule ∷ rules) usual = let conds = usual.0.conds in rw (conds) (conditions_behind-usual rules usual.1)
+
+-- they have one condition
+pub conditions_of-usual : (rule : RuleOf) (rules : List RuleOf) → AreUsual (rule ∷ rules) → conditions_of (rule ∷ rules) ≡ [] ∷ []
+conditions_of-usual rule rules usual = let conds = usual.0.conds in rw (conds) (conditions_behind-usual rules usual.1)
 
 AreUsual-append : (rules : List RuleOf) (rule : RuleOf) → AreUsual rules → IsUsual rule → AreUsual (rules ++ rule ∷ [])
 AreUsual-append [] rule usual is = (is, tt)
@@ -155,41 +170,28 @@ no_clash custom at state checked =
 
 module _ (enc : Enc) (custom : Bool) (at : Pos) (state : State) (usual : AreUsual state.rules) (checked : ScannerChecks custom at state None)
     (usually : (config_of state.settings).names ≡ usual_names) (named : Bool) (acts : List Act) where
-  emitted : (scanner : Scanner) → IsScanner named state.rules [] scanner → IsFit (length acts) scanner → IsScannerWithin enc scanner
+  emitted : (cond : List ℕ) (scanner : Scanner) → IsScanner named state.rules cond scanner → IsFit (length acts) scanner → IsScannerWithin enc scanner
       → CanBeEmitted enc acts scanner
-  emitted scanner is fit within =
+  emitted cond scanner is fit within =
+      let rules = rules_of cond state.rules in
       let tags = (subst (λ (words : Spellings). NoClash custom words state.rules) usually (no_clash custom at state checked)).1 in
-      let same = is.patterns ∙ ap (map pattern_of) (rules_of-usual state.rules usual) in
-      let names = is.names ∙ ap (map names_of) (rules_of-usual state.rules usual) in
       let numbers = recursion_from_All (λ (rule : Rule). (0 < rule.number) × (rule.number ≤ length acts)) scanner.set.rules fit.numbers in record {
         within = within;
-        simple = AreSimple-of scanner.set.rules (in_order state.rules) same (all_in_order IsUsual state.rules usual);
+        simple = AreSimple-of scanner.set.rules rules is.patterns (all_of_scanner IsUsual cond state.rules usual);
         named =
-            AreNamed-of usual_names (actions_of acts) scanner.set.rules (in_order state.rules) names
-            (all_in_order (λ (rule : RuleOf). AllByRecursion (λ (tag : Tag). IsTagName usual_names tag.name) rule.meaning.tags) state.rules tags)
+            AreNamed-of usual_names (actions_of acts) scanner.set.rules rules is.names
+            (all_of_scanner (λ (rule : RuleOf). AllByRecursion (λ (tag : Tag). IsTagName usual_names tag.name) rule.meaning.tags) cond state.rules tags)
             (subst (λ n. AllByRecursion (λ (rule : Rule). (0 < rule.number) × (rule.number ≤ n)) scanner.set.rules)
             (sym (length-actions_of acts)) numbers);
       }
 
-  all_emitted : (scanners : List Scanner) → AreScanners named state.rules (conditions_of state.rules) scanners
+  all_emitted : (conds : List (List ℕ)) (scanners : List Scanner) → AreScanners named state.rules conds scanners
       → AllByRecursion (IsFit (length acts)) scanners → AllByRecursion (IsScannerWithin enc) scanners → AllByRecursion (CanBeEmitted enc acts) scanners
-  all_emitted scanners are fit within = of state.rules refl
-    where
-      none : (found : List Scanner) → AreScanners named state.rules [] found → AllByRecursion (CanBeEmitted enc acts) found
-      none [] is = tt
-      none (scanner ∷ found) is = absurd is
-
-      one : (found : List Scanner) → AreScanners named state.rules ([] ∷ []) found → AllByRecursion (IsFit (length acts)) found
-          → AllByRecursion (IsScannerWithin enc) found → AllByRecursion (CanBeEmitted enc acts) found
-      one [] is each each_within = absurd is
-      one (scanner ∷ found) is each each_within = (emitted scanner is.0 each.0 each_within.0, none found is.1)
-
-      of : (rules : List RuleOf) → state.rules ≡ rules → AllByRecursion (CanBeEmitted enc acts) scanners
-      of [] same = none scanners (subst (λ conds. AreScanners named state.rules conds scanners) (ap conditions_of same) are)
-      of (rule ∷ rules) same =
-          one scanners
-          (subst (λ conds. AreScanners named state.rules conds scanners)
-          (ap conditions_of same ∙ conditions_of-usual rule rules (subst AreUsual same usual)) are) fit within
+  all_emitted [] [] are fit within = tt
+  all_emitted [] (scanner ∷ scanners) are fit within = absurd are
+  all_emitted (cond ∷ conds) [] are fit within = absurd are
+  all_emitted (cond ∷ conds) (scanner ∷ scanners) are fit within =
+      (emitted cond scanner are.0 fit.0 within.0, all_emitted conds scanners are.1 fit.1 within.1)
 
 -- each scanner of a block can be emitted
 pub can_be_emitted : (options : Options) (at : Pos) (environment : Environment) (lexemes : List Lexeme) (items : List Item) (after : Environment)
@@ -199,5 +201,5 @@ can_be_emitted options at environment lexemes items after resolved is fine withi
     let state = is.state in
     let usual = AreUsual-goes options lexemes is.goes state refl tt in
     all_emitted options.enc options.custom at state usual is.checked (ap (λ (config : Config). config.names) (sym is.ends.config) ∙ fine.names) options.conds resolved.acts
-    resolved.scanners is.ends.scanners
+    (conditions_of state.rules) resolved.scanners is.ends.scanners
     (recursion_from_All (IsFit (length resolved.acts)) resolved.scanners fine.scanners) within

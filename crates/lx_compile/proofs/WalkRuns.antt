@@ -11,7 +11,7 @@ use Rattle.lx_base.specs.declared.faults.Stop.TheVariants as stop
 use Rattle.lx_base.specs.declared.places.Pos.{Pos}
 use Rattle.lx_base.specs.declared.settings.Options.{Options}
 use Rattle.lx_rules.specs.Environments.{Environment, first_environment}
-use Rattle.lx_rules.specs.Soundness.{FitsLimits}
+use Rattle.lx_rules.specs.FitScanners.{FitsLimits}
 use Rattle.lx_rules.specs.Within.{IsScannerWithin}
 use Rattle.lx_rules.specs.declared.resolved.Resolved.{Resolved}
 use Rattle.lx_split.specs.declared.pieces.SourcePiece.{SourcePiece}
@@ -26,7 +26,7 @@ use Rattle.lx_compile.proofs.ScannerRules.{can_be_emitted}
 
 -- what holds behind some parts, where this environment holds and these pieces are left
 pub record IsWalked (options : Options) (pieces rest : List SourcePiece) (environment : Environment) (parts : List Part) : Type 0 where
-  pub ready : All (IsEmittablePart options.enc) parts
+  pub emittable : All (IsEmittablePart options.enc) parts
   pub few : length parts + length rest ≤ length pieces
   pub near : All IsNearPiece rest
   pub continues : (more : List Part) → AreParts options environment rest more → AreParts options first_environment pieces (parts ++ more)
@@ -34,7 +34,7 @@ pub record IsWalked (options : Options) (pieces rest : List SourcePiece) (enviro
 
 pub IsWalked-start : (options : Options) (pieces : List SourcePiece) → All IsNearPiece pieces → IsWalked options pieces pieces first_environment []
 IsWalked-start options pieces near = record {
-  ready = All-nil (IsEmittablePart options.enc);
+  emittable = All-nil (IsEmittablePart options.enc);
   few = omega arith;
   near = near;
   continues = λ more are. are;
@@ -44,7 +44,7 @@ IsWalked-start options pieces near = record {
 pub IsWalked-outside : (options : Options) (pieces rest : List SourcePiece) (environment : Environment) (parts : List Part) (text : List ℕ)
     → IsWalked options pieces (piece.Outside text ∷ rest) environment parts → IsWalked options pieces rest environment (parts ++ Outside text ∷ [])
 IsWalked-outside options pieces rest environment parts text walked = record {
-  ready = All-push (IsEmittablePart options.enc) parts (Outside text) walked.ready tt;
+  emittable = All-push (IsEmittablePart options.enc) parts (Outside text) walked.emittable tt;
   few = omega (arith, walked.few, length_push parts (Outside text));
   near = All-tail IsNearPiece (piece.Outside text) rest walked.near;
   continues = λ more are. rw append_assoc (walked.continues (Outside text ∷ more) (refl, are));
@@ -57,7 +57,7 @@ pub IsEmittable-block : (options : Options) (environment : Environment) (kind : 
     → AllByRecursion (IsScannerWithin options.enc) resolved.scanners → IsEmittable options.enc resolved
 IsEmittable-block options environment kind body at start after resolved block fine within =
     let resolves = block.resolves.resolves in record {
-      fine = fine;
+      fits = fine;
       supported = block.supported;
       names = fine.names;
       one = one_scanner options at environment _ block.resolves.items after resolved resolves;
@@ -70,7 +70,7 @@ pub IsWalked-block : (options : Options) (pieces rest : List SourcePiece) (envir
     → IsBlock options environment kind body at start after resolved → FitsLimits resolved → AllByRecursion (IsScannerWithin options.enc) resolved.scanners
     → IsWalked options pieces rest after (parts ++ Block at resolved ∷ [])
 IsWalked-block options pieces rest environment parts kind body at start end_line after resolved walked block fine within = record {
-  ready = All-push (IsEmittablePart options.enc) parts (Block at resolved) walked.ready (IsEmittable-block options environment kind body at start after resolved block fine within);
+  emittable = All-push (IsEmittablePart options.enc) parts (Block at resolved) walked.emittable (IsEmittable-block options environment kind body at start after resolved block fine within);
   few = omega (arith, walked.few, length_push parts (Block at resolved));
   near = All-tail IsNearPiece (piece.Block kind body at start end_line) rest walked.near;
   continues = λ more are. rw append_assoc (walked.continues (Block at resolved ∷ more) (refl, (after, block, are)));

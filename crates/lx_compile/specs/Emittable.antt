@@ -7,7 +7,7 @@ use Rattle.lx_base.specs.declared.places.Pos.{Pos}
 use Rattle.lx_base.specs.declared.settings.Enc.{Enc}
 use Rattle.lx_gen.specs.Rules.{AreSimple}
 use Rattle.lx_gen.specs.Scanner.{AreNamed}
-use Rattle.lx_rules.specs.Soundness.{FitsLimits}
+use Rattle.lx_rules.specs.FitScanners.{FitsLimits}
 use Rattle.lx_rules.specs.Within.{IsScannerWithin}
 use Rattle.lx_rules.specs.declared.resolved.Act.{Act}
 use Rattle.lx_rules.specs.declared.resolved.Resolved.{Resolved}
@@ -38,7 +38,7 @@ pub record CanBeEmitted (enc : Enc) (acts : List Act) (scanner : Scanner) : Type
 
 -- what a block resolves to can be emitted: it is within the limits of scanners, and has at most one scanner
 pub record IsEmittable (enc : Enc) (resolved : Resolved) : Type 0 where
-  pub fine : FitsLimits resolved
+  pub fits : FitsLimits resolved
   pub supported : AreSupported resolved
   pub names : resolved.config.names ≡ usual_names
   pub one : length resolved.scanners ≤ 1

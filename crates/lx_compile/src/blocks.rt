@@ -2,7 +2,7 @@
 ghost use Rattle.std.specs.Prelude.{◌↔◌, IfOk, IsTrue, MatchResult};
 ghost use Rattle.std.specs.List.{AllByRecursion};
 ghost use Rattle.lx_rules.specs.Seen.{environment_view};
-ghost use Rattle.lx_rules.specs.Soundness.{FitsLimits, HasFitDefinitions};
+ghost use Rattle.lx_rules.specs.FitScanners.{FitsLimits, HasFitDefinitions};
 ghost use Rattle.lx_exprs.specs.Within.{AreDefinedWithin};
 ghost use Rattle.lx_rules.specs.Within.{IsScannerWithin};
 ghost use Rattle.lx_compile.specs.Blocks.{AreSupported, IsBlock, StopsAt};
@@ -35,9 +35,9 @@ pub(crate) fn resolve_block(
     options: &Options,
 ) -> Result<(Env, Resolved), Stop>
     requires near { IsNear body.now start }
-    requires sound { HasFitDefinitions env }
+    requires fit { HasFitDefinitions env }
     requires defined { AreDefinedWithin options.now.enc (environment_view env).definitions }
-    ensures sound { IfOk result (λ answer. HasFitDefinitions answer.0 × FitsLimits answer.1) }
+    ensures fit { IfOk result (λ answer. HasFitDefinitions answer.0 × FitsLimits answer.1) }
     ensures within { IfOk result (λ answer. AreDefinedWithin options.now.enc (environment_view answer.0).definitions
         × AllByRecursion (IsScannerWithin options.now.enc) answer.1.scanners) }
     ensures block { MatchResult result

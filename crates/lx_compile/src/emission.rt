@@ -62,7 +62,7 @@ fn scanner_text(
     scanner: &Scanner,
     resolved: &Resolved,
 ) -> Result<ByteText, Stop>
-    requires ready { IsEmittable options.now.enc resolved.now }
+    requires emittable { IsEmittable options.now.enc resolved.now }
     requires scanner { CanBeEmitted options.now.enc resolved.now.acts scanner.now }
     ensures { MatchResult result
         (λ text. IsScannerText options.now.enc options.now.custom number scanner.now.set.rules (actions_of resolved.now.acts) text × ¬ IsTooLarge options.now.enc scanner.now)
@@ -123,7 +123,7 @@ fn append_block(
 /// It refuses the first block with a scanner that has too many kernels, with `TooManyStates` at its opener; `Memory` may be
 /// answered, also for a piece that would have more than 2^62 statements; no clause ties it to a cause.
 pub(crate) fn emit(alloc: Global, options: &Options, parts: &[Part]) -> Result<Vec<u8>, Stop>
-    requires ready { All (IsEmittablePart options.now.enc) parts.now }
+    requires emittable { All (IsEmittablePart options.now.enc) parts.now }
     requires few { length parts.now ≤ SOURCE_LIMIT }
     ensures { MatchResult result
         (λ output. AreTexts options.now.enc options.now.custom 1 parts.now output.items × IsKernelFault options.now.enc parts.now None)

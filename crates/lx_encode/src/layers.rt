@@ -134,11 +134,11 @@ pub struct Folding {
 impl Folding {
     /// Closes the block, unless it is the one to go on with.
     fn advance(&mut self, alloc: Global, table: &mut Table, block: u32) -> Result<(), Memory>
-        requires ready { IsWithinTable self.old table.old }
+        requires in_table { IsWithinTable self.old table.old }
         requires room { length table.old < 2 ^ 31 }
         requires later { self.old.block ≤ block }
         requires bounded { block ≤ MAX_POINT }
-        ensures ready { OnOk result (IsWithinTable self.new table.new) }
+        ensures in_table { OnOk result (IsWithinTable self.new table.new) }
         ensures grows { OnOk result (GrowsBy table.old table.new 1) }
         ensures block { OnOk result (self.new.block ≡ block) }
         ensures behind { OnOk result ((unit target : ℕ) → LeadsTo self.new.row.items unit target →
@@ -175,7 +175,7 @@ impl Folding {
     ) -> Result<(), Memory>
         requires radix { 2 ≤ layer.radix }
         requires offset { layer.offset + layer.radix ≤ MAX_POINT }
-        requires ready { IsWithinTable self.old table.old }
+        requires in_table { IsWithinTable self.old table.old }
         requires room { length table.old < 2 ^ 31 }
         requires ordered { part.lo ≤ part.hi }
         requires bounded { part.hi ≤ MAX_POINT }
@@ -183,7 +183,7 @@ impl Folding {
         requires here { self.old.block ≡ part.lo / layer.radix }
         requires first { part.lo % layer.radix ≡ 0 }
         requires last { part.hi % layer.radix + 1 ≡ layer.radix }
-        ensures ready { OnOk result (IsWithinTable self.new table.new) }
+        ensures in_table { OnOk result (IsWithinTable self.new table.new) }
         ensures grows { OnOk result (GrowsBy table.old table.new 1) }
         ensures block { OnOk result (self.new.block ≡ part.hi / layer.radix + 1) }
         ensures folded { OnOk result ((runs : List Run) →
@@ -245,7 +245,7 @@ impl Folding {
     ) -> Result<(), Memory>
         requires radix { 2 ≤ layer.radix }
         requires offset { layer.offset + layer.radix ≤ MAX_POINT }
-        requires ready { IsWithinTable self.old table.old }
+        requires in_table { IsWithinTable self.old table.old }
         requires room { length table.old < 2 ^ 30 }
         requires ordered { part.lo ≤ part.hi }
         requires bounded { part.hi ≤ MAX_POINT }
@@ -254,7 +254,7 @@ impl Folding {
         requires later { self.old.block ≤ part.lo / layer.radix }
         requires behind { (unit target : ℕ) → LeadsTo self.old.row.items unit target →
             self.old.block ≡ part.lo / layer.radix → unit < layer.offset + part.lo % layer.radix }
-        ensures ready { OnOk result (IsWithinTable self.new table.new) }
+        ensures in_table { OnOk result (IsWithinTable self.new table.new) }
         ensures grows { OnOk result (GrowsBy table.old table.new 2) }
         ensures later { OnOk result ((number : ℕ) → part.hi < number → self.new.block ≤ number / layer.radix) }
         ensures folded { OnOk result ((runs : List Run) →

@@ -6,6 +6,6 @@ pub mod Meanings
 pub mod Points
 pub mod Reading
 pub mod Seen
-pub mod Soundness
+pub mod FitDefinitions
 pub mod Values
 pub mod Within

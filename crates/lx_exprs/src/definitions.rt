@@ -2,8 +2,8 @@
 ghost use Rattle.std.specs.Prelude.{◌≡◌, [], ◌∷◌, ◌++◌, None, Some, IfSome, OnOk};
 ghost use Rattle.std.specs.Option.{option_map};
 ghost use Rattle.lx_exprs.specs.Defined.{definition_of};
-ghost use Rattle.lx_exprs.specs.Seen.{definition_view, definitions_view};
-ghost use Rattle.lx_exprs.specs.Soundness.{DefinitionsFit, IsSound};
+ghost use Rattle.lx_exprs.specs.Seen.{definition_view, definitions_view, scope_view, seen_in};
+ghost use Rattle.lx_exprs.specs.FitDefinitions.{AreFit, DefinitionsFit, IsFitDefinition, ScopeFits};
 
 use crate::tags::SharedTags;
 use indexmap::IndexMap;
@@ -47,7 +47,7 @@ impl Definitions {
     /// The definition of a name.
     pub fn get(&self, name: &[u8]) -> Option<&Kept>
         ensures found { option_map (λ kept. definition_view name.now kept.now) result ≡ definition_of (definitions_view self.now) name.now }
-        ensures sound { DefinitionsFit self.now → IfSome result (λ kept. IsSound kept.now) }
+        ensures fit { DefinitionsFit self.now → IfSome result (λ kept. IsFitDefinition kept.now) }
     {
         self.by_name.get(name)
     }
@@ -56,10 +56,46 @@ impl Definitions {
     pub fn add(&mut self, alloc: Global, name: &[u8], kept: Kept) -> Result<(), Memory>
         requires { definition_of (definitions_view self.old) name.now ≡ None }
         ensures added { OnOk result (definitions_view self.new ≡ definitions_view self.old ++ definition_view name.now kept ∷ []) }
-        ensures sound { DefinitionsFit self.old → IsSound kept → OnOk result (DefinitionsFit self.new) }
+        ensures fit { DefinitionsFit self.old → IsFitDefinition kept → OnOk result (DefinitionsFit self.new) }
     {
         let name = Vec::from_slice(alloc, name)?;
         self.by_name.insert(name, kept)?;
         Ok(())
+    }
+}
+
+/// The definitions that a block sees: those of the rules block that it uses, which stand in place of others with their names,
+/// those of the blocks before it, and its own. Contracts see them as one list, by `scope_view`.
+#[derive(Clone, Copy)]
+pub struct Scope<'d> {
+    pub kept: Option<&'d Definitions>,
+    pub outer: Option<&'d Definitions>,
+    pub own: &'d Definitions,
+}
+
+/// The definition of a name among definitions, if there are any.
+fn found_in<'d>(definitions: Option<&'d Definitions>, name: &[u8]) -> Option<&'d Kept>
+    ensures found { option_map (λ kept. definition_view name.now kept.now) result ≡ definition_of (seen_in definitions.entry) name.now }
+    ensures fit { AreFit definitions.entry → IfSome result (λ kept. IsFitDefinition kept.now) }
+{
+    match definitions {
+        Some(definitions) => definitions.get(name),
+        None => None,
+    }
+}
+
+impl<'d> Scope<'d> {
+    /// The definition of a name.
+    pub fn get(&self, name: &[u8]) -> Option<&'d Kept>
+        ensures found { option_map (λ kept. definition_view name.now kept.now) result ≡ definition_of (scope_view self.now) name.now }
+        ensures fit { ScopeFits self.now → IfSome result (λ kept. IsFitDefinition kept.now) }
+    {
+        match found_in(self.kept, name) {
+            Some(kept) => Some(kept),
+            None => match found_in(self.outer, name) {
+                Some(kept) => Some(kept),
+                None => self.own.get(name),
+            },
+        }
     }
 }

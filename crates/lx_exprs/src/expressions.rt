@@ -11,9 +11,9 @@ ghost use Rattle.lx_exprs.specs.Expressions.{IsRead};
 ghost use Rattle.lx_forms.specs.Lexemes as lexical;
 ghost use Rattle.lx_forms.specs.Lexemes.{sort_at, sorts_at};
 ghost use Rattle.lx_exprs.specs.Reading.{AreBounded, AreInOrder, AreTaken, DifferenceChecks, IsDifference, StopsReading, no_operands, paired};
-ghost use Rattle.lx_exprs.specs.Seen.{definitions_view};
+ghost use Rattle.lx_exprs.specs.Seen.{scope_view};
 ghost use Rattle.lx_forms.specs.Seen.{lexeme_view, lexemes_view};
-ghost use Rattle.lx_exprs.specs.Soundness.{DefinitionsFit};
+ghost use Rattle.lx_exprs.specs.FitDefinitions.{ScopeFits};
 ghost use Rattle.lx_forms.specs.StepViews.{step_view};
 ghost use Rattle.lx_exprs.specs.Values.{IsBounded, IsRoom, IsValue};
 
@@ -109,14 +109,14 @@ fn are_groups(options: &Options) -> bool
 /// The difference of two values, whose sign stands at a place.
 fn difference(
     alloc: Global,
-    reader: Reader<'_>,
+    reader: Reader<'_, '_>,
     left: Value,
     right: Value,
     is_operand: bool,
     at: Pos,
 ) -> Result<Value, Stop>
     requires { IsRoom reader.room }
-    ensures read { let definitions = definitions_view reader.entry.definitions.now in
+    ensures read { let definitions = scope_view reader.entry.scope in
         (first second : Meaning) (sign : lexical.Lexeme) → sign.at ≡ at → IsValue reader.entry.room first left → IsValue reader.entry.room second right
         → MatchResult result
         (λ value. DifferenceChecks reader.entry.options.now definitions is_operand first second sign None
@@ -163,9 +163,9 @@ impl Operands {
     ghost use Rattle.lx_exprs.specs.Defined.{Definition};
     ghost use Rattle.lx_exprs.specs.Reading as reading;
     ghost use Rattle.lx_exprs.specs.Reading.{AreBounded, AreOperands, IsStepTaken, Needs, StepChecks, closed, depth_behind, in_place, no_operands, opened, paired, with_both};
-    ghost use Rattle.lx_exprs.specs.Seen.{definitions_view};
+    ghost use Rattle.lx_exprs.specs.Seen.{scope_view};
     ghost use Rattle.lx_forms.specs.Seen.{lexeme_view, lexemes_view};
-    ghost use Rattle.lx_exprs.specs.Soundness.{DefinitionsFit};
+    ghost use Rattle.lx_exprs.specs.FitDefinitions.{ScopeFits};
     ghost use Rattle.lx_forms.specs.StepViews.{step_view};
     ghost use Rattle.lx_forms.specs.Steps.{opens, reads, repeats, subtracts};
     ghost use Rattle.lx_exprs.specs.Values.{IsRoom};
@@ -214,13 +214,13 @@ impl Operands {
     fn read(
         &mut self,
         alloc: Global,
-        reader: Reader<'_>,
+        reader: Reader<'_, '_>,
         lexeme: &Lexeme<'_>,
         is_operand: bool,
     ) -> Result<(), Stop>
         requires room { IsRoom reader.room }
-        requires sound { DefinitionsFit reader.definitions.now }
-        ensures stands { let definitions = definitions_view reader.entry.definitions.now in
+        requires fit { ScopeFits reader.scope }
+        ensures stands { let definitions = scope_view reader.entry.scope in
             (operands : reading.Operands) → AreOperands reader.entry.room operands self.old → MatchResult result
             (λ _. IsStepTaken reader.entry.options.now definitions reader.entry.room operands (reads is_operand (lexeme_view lexeme.now)) self.new)
             (StopsAt (StepChecks reader.entry.options.now definitions operands (reads is_operand (lexeme_view lexeme.now)))) }
@@ -351,13 +351,13 @@ impl Operands {
     fn subtract(
         &mut self,
         alloc: Global,
-        reader: Reader<'_>,
+        reader: Reader<'_, '_>,
         sign: &Lexeme<'_>,
         is_operand: bool,
     ) -> Result<(), Stop>
         requires room { IsRoom reader.room }
         requires depth { 2 ≤ length self.old.values.items }
-        ensures stands { let definitions = definitions_view reader.entry.definitions.now in
+        ensures stands { let definitions = scope_view reader.entry.scope in
             (operands : reading.Operands) → AreOperands reader.entry.room operands self.old → MatchResult result
             (λ _. IsStepTaken reader.entry.options.now definitions reader.entry.room operands (subtracts is_operand (lexeme_view sign.now)) self.new)
             (StopsAt (StepChecks reader.entry.options.now definitions operands (subtracts is_operand (lexeme_view sign.now)))) }
@@ -375,14 +375,14 @@ impl Operands {
     fn take(
         &mut self,
         alloc: Global,
-        reader: Reader<'_>,
+        reader: Reader<'_, '_>,
         lexemes: Lexemes<'_>,
         step: Step,
     ) -> Result<(), Stop>
         requires room { IsRoom reader.room }
-        requires sound { DefinitionsFit reader.definitions.now }
+        requires fit { ScopeFits reader.scope }
         requires needs { Needs (step_view (lexemes_view lexemes) step) (length self.old.values.items) }
-        ensures stands { let definitions = definitions_view reader.entry.definitions.now in
+        ensures stands { let definitions = scope_view reader.entry.scope in
             (operands : reading.Operands) → AreOperands reader.entry.room operands self.old → MatchResult result
             (λ _. IsStepTaken reader.entry.options.now definitions reader.entry.room operands (step_view (lexemes_view lexemes.entry) step) self.new)
             (StopsAt (StepChecks reader.entry.options.now definitions operands (step_view (lexemes_view lexemes.entry) step))) }
@@ -405,14 +405,14 @@ impl Operands {
 /// Takes steps in their order.
 fn take_steps(
     alloc: Global,
-    reader: Reader<'_>,
+    reader: Reader<'_, '_>,
     lexemes: Lexemes<'_>,
     steps: &[Step],
 ) -> Result<Operands, Stop>
     requires room { IsRoom reader.room }
-    requires sound { DefinitionsFit reader.definitions.now }
+    requires fit { ScopeFits reader.scope }
     requires order { AreInOrder 0 (map (step_view (lexemes_view lexemes)) steps.now) }
-    ensures taken { let definitions = definitions_view reader.entry.definitions.now in
+    ensures taken { let definitions = scope_view reader.entry.scope in
         MatchResult result
         (AreTaken reader.entry.options.now definitions reader.entry.room no_operands (map (step_view (lexemes_view lexemes.entry)) steps.now))
         (StopsReading reader.entry.options.now definitions no_operands (map (step_view (lexemes_view lexemes.entry)) steps.now)) }
@@ -429,17 +429,17 @@ fn take_steps(
 /// Reads the expression that stands from one token up to another. It is built only where it is within the room.
 pub fn read_expression(
     alloc: Global,
-    reader: Reader<'_>,
+    reader: Reader<'_, '_>,
     lexemes: Lexemes<'_>,
     from: usize,
     until: usize,
 ) -> Result<Reading, Stop>
     requires room { IsRoom reader.room }
-    requires sound { DefinitionsFit reader.definitions.now }
+    requires fit { ScopeFits reader.scope }
     requires part { IsPart (sorts_at (lexemes_view lexemes)) alt from until }
     requires few { until < 2 ^ 32 }
     ensures bounded { IfOk result (λ reading. IsBounded reading.value) }
-    ensures read { let definitions = definitions_view reader.entry.definitions.now in
+    ensures read { let definitions = scope_view reader.entry.scope in
         MatchResult result (IsRead reader.entry.options.now (lexemes_view lexemes.entry) definitions reader.entry.room from until)
         (StopsAt (ExpressionChecks reader.entry.options.now (lexemes_view lexemes.entry) definitions from until)) }
 {

@@ -16,14 +16,14 @@ ghost use Rattle.lx_forms.specs.Lexemes.{points_in};
 ghost use Rattle.lx_exprs.specs.Meanings.{IsSetOf, character_set, class_meaning, copied, meaning_of_string, set_term, string_meaning, tag_meaning};
 ghost use Rattle.lx_exprs.specs.Points.{singles};
 ghost use Rattle.lx_exprs.specs.Reading.{IsLeafRead, IsLeafResult};
-ghost use Rattle.lx_exprs.specs.Seen.{AreCodePoints, IsStop, definition_view, definitions_view, points_of};
+ghost use Rattle.lx_exprs.specs.Seen.{AreCodePoints, IsStop, definition_view, scope_view, points_of};
 ghost use Rattle.lx_forms.specs.Seen.{lexeme_view};
-ghost use Rattle.lx_exprs.specs.Soundness.{DefinitionsFit, IsSound};
+ghost use Rattle.lx_exprs.specs.FitDefinitions.{ScopeFits, IsFitDefinition};
 ghost use Rattle.lx_exprs.specs.Values.{AreTagsBelow, IsContent, IsBounded, IsRoom, IsValue, content_size, is_past};
 ghost use Rattle.lx_token.specs.declared.kinds.TokenKind.TheVariants as kind;
 
 use crate::copies::copy;
-use crate::definitions::{Definitions, Kept};
+use crate::definitions::{Kept, Scope};
 use crate::points::points_fault;
 use crate::sets::{character_set, class_set, line_set, ranges_of, single_ranges};
 use crate::tags::{SeenTags, repeated_tag, tag_name};
@@ -38,9 +38,9 @@ use std::alloc::Global;
 
 /// What does not change while an expression is read.
 #[derive(Clone, Copy)]
-pub struct Reader<'r> {
+pub struct Reader<'r, 'd> {
     pub options: &'r Options,
-    pub definitions: &'r Definitions,
+    pub scope: Scope<'d>,
     /// What the expression may have; a greater one is read to its end and not built.
     pub room: Room,
 }
@@ -120,7 +120,7 @@ fn count_of(tags: u64, groups: u64) -> u64
 /// A copy of the expression of a definition, behind so many tags and groups. A definition without one is past a limit, and so is
 /// each expression that names it: what stands for it here is dropped when the value is limited.
 fn kept_content(alloc: Global, definition: &Kept, by: u64, groups: u64) -> Result<Content, Memory>
-    requires { IsSound definition.now }
+    requires { IsFitDefinition definition.now }
     ensures stands { (is_built : Bool) (before : Before) → by ≡ kept (length before.tags) → groups ≡ before.groups
         → (128 + 1 ≤ count_of (and_more before definition.now.tags definition.now.groups) → is_built ≡ false)
         → IfOk result (IsContent is_built (copied before (definition_view [] definition.now))) }
@@ -155,7 +155,7 @@ fn unknown(alloc: Global, lexeme: &Lexeme<'_>) -> Stop
 /// Reads a string behind so many tags.
 fn read_string(
     alloc: Global,
-    reader: Reader<'_>,
+    reader: Reader<'_, '_>,
     count: u64,
     lexeme: &Lexeme<'_>,
     is_caseless: bool,
@@ -192,7 +192,7 @@ fn is_refused(policy: EmptyPolicy, is_operand: bool, set: &ClassSet) -> bool
 /// A class of this nesting, with so many groups and at this place, behind so many tags. One that has no point may be refused.
 pub fn read_set(
     alloc: Global,
-    reader: Reader<'_>,
+    reader: Reader<'_, '_>,
     count: u64,
     set: ClassSet,
     is_operand: bool,
@@ -218,7 +218,7 @@ pub fn read_set(
 /// Reads a class behind so many tags.
 fn read_class(
     alloc: Global,
-    reader: Reader<'_>,
+    reader: Reader<'_, '_>,
     count: u64,
     lexeme: &Lexeme<'_>,
     is_operand: bool,
@@ -226,7 +226,7 @@ fn read_class(
     requires room { IsRoom reader.room }
     requires sort { (lexeme_view lexeme.now).kind ≡ kind.Class }
     ensures read { (before : Before) → count ≡ kept (count_of before)
-        → IsLeafResult reader.entry.options.now (definitions_view reader.entry.definitions.now) reader.entry.room is_operand before (lexeme_view lexeme.now) before.tags result }
+        → IsLeafResult reader.entry.options.now (scope_view reader.entry.scope) reader.entry.room is_operand before (lexeme_view lexeme.now) before.tags result }
     ensures bounded { IfOk result IsBounded }
 {
     let options = reader.options;
@@ -242,12 +242,12 @@ fn read_class(
 /// Reads `.`, which is all code points but the line feed, behind so many tags.
 fn read_line(
     alloc: Global,
-    reader: Reader<'_>,
+    reader: Reader<'_, '_>,
     count: u64,
     is_operand: bool,
 ) -> Result<Value, Memory>
     requires { IsRoom reader.room }
-    ensures read { let definitions = definitions_view reader.entry.definitions.now in
+    ensures read { let definitions = scope_view reader.entry.scope in
         (before : Before) (lexeme : lexical.Lexeme) → count ≡ kept (count_of before) → lexeme.kind ≡ kind.Signs
         → IfOk result (IsLeafRead reader.entry.options.now definitions reader.entry.room is_operand before lexeme before.tags) }
     ensures bounded { IfOk result IsBounded }
@@ -260,19 +260,19 @@ fn read_line(
 /// Reads a name behind so many groups: a copy of what is kept of its definition, whose tags come behind those that were seen before.
 fn read_name(
     alloc: Global,
-    reader: Reader<'_>,
+    reader: Reader<'_, '_>,
     seen: &mut SeenTags,
     groups: u64,
     lexeme: &Lexeme<'_>,
 ) -> Result<Value, Stop>
     requires sort { (lexeme_view lexeme.now).kind ≡ kind.Name }
     requires room { IsRoom reader.room }
-    requires sound { DefinitionsFit reader.definitions.now }
+    requires fit { ScopeFits reader.scope }
     ensures read { (is_operand : Bool)
-        → IsLeafResult reader.entry.options.now (definitions_view reader.entry.definitions.now) reader.entry.room is_operand (record { tags = seen.old; groups = groups }) (lexeme_view lexeme.now) seen.new result }
+        → IsLeafResult reader.entry.options.now (scope_view reader.entry.scope) reader.entry.room is_operand (record { tags = seen.old; groups = groups }) (lexeme_view lexeme.now) seen.new result }
     ensures bounded { IfOk result IsBounded }
 {
-    let Some(kept) = reader.definitions.get(lexeme.text) else {
+    let Some(kept) = reader.scope.get(lexeme.text) else {
         return Err(unknown(alloc, lexeme));
     };
     if let Some(fault) = repeated_tag(alloc, lexeme.at, &kept.tags, seen)? {
@@ -315,7 +315,7 @@ fn tag_content(number: u64, many: bool) -> Content
 /// Reads a tag behind so many groups.
 fn read_tag(
     alloc: Global,
-    reader: Reader<'_>,
+    reader: Reader<'_, '_>,
     seen: &mut SeenTags,
     groups: u64,
     lexeme: &Lexeme<'_>,
@@ -323,7 +323,7 @@ fn read_tag(
     requires sort { (lexeme_view lexeme.now).kind ≡ kind.STag }
     requires room { IsRoom reader.room }
     ensures read { (is_operand : Bool)
-        → IsLeafResult reader.entry.options.now (definitions_view reader.entry.definitions.now) reader.entry.room is_operand (record { tags = seen.old; groups = groups }) (lexeme_view lexeme.now) seen.new result }
+        → IsLeafResult reader.entry.options.now (scope_view reader.entry.scope) reader.entry.room is_operand (record { tags = seen.old; groups = groups }) (lexeme_view lexeme.now) seen.new result }
     ensures bounded { IfOk result IsBounded }
 {
     if !reader.options.tags {
@@ -348,15 +348,15 @@ fn read_tag(
 /// supported yet.
 pub fn read_leaf(
     alloc: Global,
-    reader: Reader<'_>,
+    reader: Reader<'_, '_>,
     seen: &mut SeenTags,
     groups: u64,
     lexeme: &Lexeme<'_>,
     is_operand: bool,
 ) -> Result<Value, Stop>
     requires room { IsRoom reader.room }
-    requires sound { DefinitionsFit reader.definitions.now }
-    ensures read { IsLeafResult reader.entry.options.now (definitions_view reader.entry.definitions.now) reader.entry.room is_operand (record { tags = seen.old; groups = groups }) (lexeme_view lexeme.now) seen.new result }
+    requires fit { ScopeFits reader.scope }
+    ensures read { IsLeafResult reader.entry.options.now (scope_view reader.entry.scope) reader.entry.room is_operand (record { tags = seen.old; groups = groups }) (lexeme_view lexeme.now) seen.new result }
     ensures bounded { IfOk result IsBounded }
 {
     let count = count_of(seen.len(), groups);

@@ -336,7 +336,7 @@ impl Value {
     ghost use Rattle.lx_exprs.specs.Defined.{HasClass, IsTermKept, Meaning, is_built, kept, meant_class, term_of_meaning, whole_room};
     ghost use Rattle.lx_exprs.specs.Meanings.{alternated, enclosed, followed, grouped, repeated_by};
     ghost use Rattle.lx_exprs.specs.Values.{AreTagsBelow, IsContent, IsCounted, IsBounded, IsRoom, IsValue, content_size};
-    ghost use Rattle.lx_exprs.specs.Soundness.{FitsKept};
+    ghost use Rattle.lx_exprs.specs.FitDefinitions.{FitsKept};
 
     /// What is read, where these are its numbers: past a limit only its class is kept.
     pub fn limited(

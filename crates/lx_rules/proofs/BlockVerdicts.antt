@@ -49,7 +49,7 @@ scanners_decide custom at state =
 module _ (options : Options) (at : Pos) (environment : Environment) (lexemes : List Lexeme) (items : List Item) (ready : HasBuildableDefinitions options.enc environment) where
   state_within : (state : State) → Goes options lexemes (first_state Code environment) items (Ok state) → IsStateWithin options.enc state
   state_within state goes =
-      goes_within options lexemes (first_state Code environment) state items (record { definitions = ready.within; rules = tt; numbers = tt; differ = tt }) goes
+      goes_within options lexemes (first_state Code environment) state items (record { definitions = ready.within; rules = tt; numbers = tt; differ = tt; conds = tt }) goes
 
   state_buildable : (state : State) → Goes options lexemes (first_state Code environment) items (Ok state) → IsStateBuildable state
   state_buildable state goes =
@@ -93,7 +93,7 @@ module _ (options : Options) (at : Pos) (environment : Environment) (lexemes : L
   scanners_verdict has =
       and_then
       (goes_decides options lexemes items (first_state Code environment) has
-      (record { definitions = ready.within; rules = tt; numbers = tt; differ = tt }) (record { definitions = ready.buildable; rules = tt }))
+      (record { definitions = ready.within; rules = tt; numbers = tt; differ = tt; conds = tt }) (record { definitions = ready.buildable; rules = tt }))
       (λ found. items_verdict found.0 found.1)
 
   pub block_verdict : (kind : BlockKind) → (kind ≡ Code → EachHasExpressions (sorts_at lexemes) items) → Surely (IsVerdict kind)

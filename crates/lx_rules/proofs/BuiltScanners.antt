@@ -1,17 +1,14 @@
 -- A block whose checks find nothing resolves: each of its scanners can be built.
-use Rattle.std.proofs.Common.{◌≡◌, ℕ, ◌≤◌, Bool, true, false, not, List, [], ◌∷◌, ◌++◌, map, length, Option, None, Some, refl, sym, ap, ap₂, ◌∙◌, arith}
-use Rattle.std.specs.List.{AllByRecursion, list_any, filter}
-use Rattle.std.specs.Option.{option_or}
-use Rattle.std.specs.Prelude.{◌||◌, if◌then◌else◌}
-use Rattle.lx_base.specs.declared.faults.Fault.{Fault}
-use Rattle.lx_base.specs.declared.faults.Fault.TheVariants.{EofPair, NoRules}
+use Rattle.std.proofs.Common.{◌≡◌, ℕ, ◌≤◌, Bool, true, false, not, List, [], ◌∷◌, ◌++◌, map, length, None, refl, sym, ap, ap₂, ◌∙◌, arith}
+use Rattle.std.specs.List.{AllByRecursion, list_any}
+use Rattle.std.specs.Prelude.{if◌then◌else◌}
 use Rattle.lx_base.specs.declared.places.Pos.{Pos}
 use Rattle.lx_regex.specs.Pattern as regex
 use Rattle.lx_regex.specs.Pattern.{Pattern, patterns_of}
 use Rattle.lx_regex.specs.Term.{Term}
 use Rattle.lx_regex.specs.declared.rules.Rule.{Rule}
 use Rattle.lx_regex.specs.declared.rules.Tag.{Tag}
-use Rattle.lx_rules.specs.Blocks.{AreScanners, ClashCheck, ScannerChecks, IsResolved, IsScanner, cond_name, conditions_of, every, given_names, is_bare, limits_fault, lonely_fault, names_of, nesting_of, not_of_kind, of_kind, own_or, pattern_of, rules_of, rules_under, scanner_fault, scanner_rules, scanners_fault, shared_beside, size_of, tags_of, targets_fault}
+use Rattle.lx_rules.specs.Blocks.{AreScanners, ClashCheck, ScannerChecks, IsResolved, IsScanner, cond_name, conditions_of, every, given_names, lonely_fault, names_of, not_of_kind, of_kind, own_or, pattern_of, rules_of, rules_under, scanner_fault, scanner_rules, scanners_fault, shared_beside, size_of, targets_fault}
 use Rattle.lx_exprs.specs.Checks.{Check, Finds, Then, is_among}
 use Rattle.lx_exprs.specs.Defined.{term_of_meaning}
 use Rattle.lx_rules.specs.Environments.{config_of}
@@ -24,19 +21,11 @@ use Rattle.lx_exprs.specs.Meanings.{behind}
 use Rattle.lx_exprs.proofs.Contents.TermsBehind.{term_of-behind}
 use Rattle.lx_rules.proofs.BuiltTerms.{Expressed, expressed}
 use Rattle.lx_exprs.proofs.Forms.ClassForms.{then-none}
-use Rattle.lx_rules.proofs.RuleNumbers.{all_both}
-use Rattle.lx_rules.proofs.ScannerFits.{limits_say}
+use Rattle.lx_rules.proofs.RuleNumbers.{all_both, all_filtered}
+use Rattle.lx_rules.proofs.ScannerLimits.{or_none, scanner_limited}
 
 -- what holds of all rules holds of those of a scanner
 module _ (P : RuleOf → Type 0) where
-  all_filtered : (test : RuleOf → Bool) (rules : List RuleOf) → AllByRecursion P rules → AllByRecursion P (filter test rules)
-  all_filtered test [] all = tt
-  all_filtered test (rule ∷ rules) all = at (test rule) (all_filtered test rules all.1)
-    where
-      at : (b : Bool) → AllByRecursion P (filter test rules) → AllByRecursion P (if b then rule ∷ filter test rules else filter test rules)
-      at true later = (all.0, later)
-      at false later = later
-
   all_own : (own shared : List RuleOf) → AllByRecursion P own → AllByRecursion P shared → AllByRecursion P (own_or own shared)
   all_own [] shared here there = there
   all_own (rule ∷ own) shared here there = here
@@ -45,57 +34,32 @@ module _ (P : RuleOf → Type 0) where
   all_shared own shared all = at (list_any (λ (rule : RuleOf). is_end rule.kind) own)
     where
       at : (b : Bool) → AllByRecursion P (if b then not_of_kind is_end shared else shared)
-      at true = all_filtered (λ (rule : RuleOf). not (is_end rule.kind)) shared all
+      at true = all_filtered P (λ (rule : RuleOf). not (is_end rule.kind)) shared all
       at false = all
 
   all_in_scanner : (own shared : List RuleOf) → AllByRecursion P own → AllByRecursion P shared → AllByRecursion P (scanner_rules own shared)
   all_in_scanner own shared here there =
-      let plain = λ (rules : List RuleOf) (all : AllByRecursion P rules). all_filtered (λ (rule : RuleOf). not (is_default rule.kind)) rules all in
-      let default = λ (rules : List RuleOf) (all : AllByRecursion P rules). all_filtered (λ (rule : RuleOf). is_default rule.kind) rules all in
+      let plain = λ (rules : List RuleOf) (all : AllByRecursion P rules). all_filtered P (λ (rule : RuleOf). not (is_default rule.kind)) rules all in
+      let default = λ (rules : List RuleOf) (all : AllByRecursion P rules). all_filtered P (λ (rule : RuleOf). is_default rule.kind) rules all in
       all_both P (not_of_kind is_default own ++ not_of_kind is_default (shared_beside own shared))
       (own_or (of_kind is_default own) (of_kind is_default shared))
       (all_both P (not_of_kind is_default own) (not_of_kind is_default (shared_beside own shared)) (plain own here)
       (plain (shared_beside own shared) (all_shared own shared there)))
       (all_own (of_kind is_default own) (of_kind is_default shared) (default own here) (default shared there))
 
-  all_of_scanner : (cond : List ℕ) (rules : List RuleOf) → AllByRecursion P rules → AllByRecursion P (rules_of cond rules)
+  pub all_of_scanner : (cond : List ℕ) (rules : List RuleOf) → AllByRecursion P rules → AllByRecursion P (rules_of cond rules)
   all_of_scanner cond rules all =
       all_in_scanner (rules_under cond rules) (rules_under every rules)
-      (all_filtered (λ (rule : RuleOf). is_among cond rule.conds) rules all) (all_filtered (λ (rule : RuleOf). is_among every rule.conds) rules all)
+      (all_filtered P (λ (rule : RuleOf). is_among cond rule.conds) rules all) (all_filtered P (λ (rule : RuleOf). is_among every rule.conds) rules all)
 
--- each rule counts for no more than all of them, where none is `$`
-each_small : (rules : List RuleOf) → list_any (λ (rule : RuleOf). is_end rule.kind) rules ≡ false → size_of (not_of_kind is_end rules) ≤ 4096
-    → AllByRecursion (λ (rule : RuleOf). rule.meaning.size ≤ 4096) rules
-each_small [] none most = tt
-each_small (rule ∷ rules) none most = at (is_end rule.kind) refl none most (each_small rules)
-  where
-    at : (b : Bool) → is_end rule.kind ≡ b → (b || list_any (λ (rule : RuleOf). is_end rule.kind) rules) ≡ false
-        → size_of (if not b then rule ∷ not_of_kind is_end rules else not_of_kind is_end rules) ≤ 4096
-        → (list_any (λ (rule : RuleOf). is_end rule.kind) rules ≡ false → size_of (not_of_kind is_end rules) ≤ 4096
-        → AllByRecursion (λ (rule : RuleOf). rule.meaning.size ≤ 4096) rules)
-        → AllByRecursion (λ (rule : RuleOf). rule.meaning.size ≤ 4096) (rule ∷ rules)
-    at true e none most later = absurd (let h : true ≡ false = none in cc)
-    at false e none most later = (omega (arith, most), later none (omega (arith, most)))
-
--- two faults, neither of which there is
-or_none : (one two : Option Fault) → option_or one two ≡ None → (one ≡ None) × (two ≡ None)
-or_none None two is = (refl, is)
-or_none (Some fault) two is = absurd (let h : Some fault ≡ None = is in cc)
-
-no_fault : (b : Bool) (fault : Fault) → (if b then Some fault else None) ≡ None → b ≡ false
-no_fault true fault is = absurd (let h : Some fault ≡ None = is in cc)
-no_fault false fault is = refl
+-- each rule counts for no more than all of them
+each_small : (rules : List RuleOf) → size_of rules ≤ 4096 → AllByRecursion (λ (rule : RuleOf). rule.meaning.size ≤ 4096) rules
+each_small [] most = tt
+each_small (rule ∷ rules) most = (omega (arith, most), each_small rules (omega (arith, most)))
 
 -- the rules of a scanner whose checks find nothing are small
 scanner_small : (at : Pos) (rules : List RuleOf) → scanner_fault at rules ≡ None → AllByRecursion (λ (rule : RuleOf). rule.meaning.size ≤ 4096) rules
-scanner_small at rules none =
-    let has_end : Bool = list_any (λ (rule : RuleOf). is_end rule.kind) rules in
-    let limits : Option Fault =
-    limits_fault at (size_of (not_of_kind is_end rules)) (nesting_of (not_of_kind is_end rules)) (tags_of (not_of_kind is_end rules)) in
-    let one = or_none (if is_bare rules then Some (NoRules at) else None) (option_or (if has_end then Some (EofPair at) else None) limits) none in
-    let two = or_none (if has_end then Some (EofPair at) else None) limits one.1 in
-    each_small rules (no_fault has_end (EofPair at) two.0)
-    (limits_say at (size_of (not_of_kind is_end rules)) (nesting_of (not_of_kind is_end rules)) (tags_of (not_of_kind is_end rules)) (sym two.1)).0
+scanner_small at rules none = each_small rules (scanner_limited at rules none).size
 
 -- the rule of an expression that stands for its meaning
 abbrev built_rule : (rule : RuleOf) → Expressed (term_of_meaning rule.meaning) → Rule

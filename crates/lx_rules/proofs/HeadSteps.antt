@@ -1,7 +1,9 @@
 -- The heads of rules.
-use Rattle.std.proofs.Common.{◌≡◌, ℕ, zero, suc, inl, inr, ⊎_elim, Bool, true, false, List, [], ◌∷◌, drop, Option, None, Some, refl, sym, ap, ◌∙◌, subst}
+use Rattle.std.proofs.Common.{◌≡◌, ℕ, zero, suc, ◌+◌, ◌<◌, inl, inr, ⊎_elim, Bool, List, [], ◌∷◌, drop, get_or, length, Option, None, Some, refl, sym, ap, ap₂, ◌∙◌, subst}
 use Rattle.std.specs.Option.{unwrap_or}
-use Rattle.std.specs.List.{AllByRecursion}
+use Rattle.std.specs.List.{AllZip, list_any}
+use Rattle.std.specs.Prelude.{◌&&◌, if◌then◌else◌}
+use Rattle.std.proofs.lemmas.List.{at_drop_more}
 use Rattle.lx_base.specs.declared.faults.Fault.TheVariants.{Unsupported, Redefined}
 use Rattle.lx_base.specs.declared.faults.Stop.{Stop}
 use Rattle.lx_base.specs.declared.faults.Stop.TheVariants as stop
@@ -12,40 +14,47 @@ use Rattle.lx_parse.specs.declared.sorts.Sort.{Sort}
 use Rattle.lx_parse.specs.declared.sorts.Sort.TheVariants as sort
 use Rattle.lx_parse.specs.Expressions.{alt}
 use Rattle.lx_parse.specs.Ranges.{HasExpressions, IsPart}
-use Rattle.lx_regex.specs.declared.rules.Kind.{Kind}
 use Rattle.lx_regex.specs.declared.rules.Kind.TheVariants as kind
 use Rattle.lx_exprs.specs.declared.expressions.Reading.{Reading}
 use Rattle.lx_rules.specs.declared.heads.Head.TheVariants as head
 use Rattle.lx_rules.specs.declared.items.Known.{Known}
-use Rattle.lx_rules.specs.declared.items.DefaultRule.{DefaultRule}
+use Rattle.lx_rules.specs.declared.kept.KeptRule.{KeptRule}
 use Rattle.lx_exprs.specs.declared.values.Room.{Room}
 use Rattle.lx_forms.specs.Lexemes.{Lexeme, nth_lexeme, sort_at, sorts_at}
-use Rattle.lx_exprs.specs.Checks.{Check, StopsAt}
+use Rattle.lx_exprs.specs.Checks.{Check, StopsAt, is_among}
 use Rattle.lx_exprs.specs.Expressions.{ExpressionChecks}
 use Rattle.lx_rules.specs.Items.{State, HeadChecks, IsHead, any_meaning, expression, head_sort, first_of, is_default, twice}
 use Rattle.lx_rules.specs.Rules.{RuleOf}
-use Rattle.lx_rules.specs.Blocks.{of_kind}
 use Rattle.lx_exprs.specs.Expressions.{IsRead}
-use Rattle.lx_rules.specs.Keeping.{Holds, HoldsDefault, IsUsual, IsHeadRead, StopsHead}
+use Rattle.lx_rules.specs.Keeping.{Holds, IsHeadRead, StopsHead}
+use Rattle.lx_rules.specs.Conditions.{cond_names, conds_seen}
+use Rattle.lx_rules.specs.Kept.{IsKeptRule, first_kept}
 use Rattle.lx_exprs.specs.Seen.{definitions_view}
 use Rattle.lx_exprs.proofs.Forms.ExpressionRanges.{part_form}
 use Rattle.lx_rules.proofs.ItemSteps.{read_checked, read_known}
 
--- the place of the first of some rules
-abbrev pub first_at : List RuleOf → Option Pos
-first_at [] = None
-first_at (rule ∷ rules) = Some rule.at
+-- the first rule `*` of the rest
+pub first_kept-next :
+    (names conds : List (List ℕ)) (held : List KeptRule) (place : ℕ) (one : KeptRule) → place < length held → one ≡ get_or held place one → (test : Bool)
+    → (is_default one.kind && list_any (λ cond. is_among cond conds) (conds_seen names one.conds)) ≡ test
+    → first_kept names conds (drop place held) ≡ (if test then Some one.at else first_kept names conds (drop (place + 1) held))
+first_kept-next names conds held place one lt is test e =
+    at_drop_more (first_kept names conds) held place one lt ∙ ap (λ (o : KeptRule). first_kept names conds (o ∷ drop (place + 1) held)) (sym is)
+    ∙ ap (λ (b : Bool). if b then Some one.at else first_kept names conds (drop (place + 1) held)) e
 
--- of usual rules the first one of a kind is the first one of all of that kind
-pub first_of-usual : (test : Kind → Bool) (rules : List RuleOf) → AllByRecursion IsUsual rules
-    → first_of test ([] ∷ []) rules ≡ first_at (of_kind test rules)
-first_of-usual test [] usual = refl
-first_of-usual test (rule ∷ rules) usual = at (test rule.kind) refl (first_of-usual test rules usual.1)
-  where
-    at : (is : Bool) → test rule.kind ≡ is → first_of test ([] ∷ []) rules ≡ first_at (of_kind test rules)
-        → first_of test ([] ∷ []) (rule ∷ rules) ≡ first_at (of_kind test (rule ∷ rules))
-    at true e later = let conds = usual.0.conds in rw (e, conds) refl
-    at false e later = rw (e) later
+-- the first rule `*` that is kept is the first one of all
+first_of-kept : (names conds : List (List ℕ)) (all : List RuleOf) (held : List KeptRule) (rules : List RuleOf) → AllZip (IsKeptRule names all) held rules
+    → first_kept names conds held ≡ first_of is_default conds rules
+first_of-kept names conds all [] [] are = refl
+first_of-kept names conds all [] (rule ∷ rules) are = absurd are
+first_of-kept names conds all (one ∷ held) [] are = absurd are
+first_of-kept names conds all (one ∷ held) (rule ∷ rules) are =
+    let is = are.0 in
+    let tests : (is_default one.kind && list_any (λ cond. is_among cond conds) (conds_seen names one.conds))
+    ≡ (is_default rule.kind && list_any (λ cond. is_among cond conds) rule.conds) =
+    ap₂ (λ k l. is_default k && list_any (λ cond. is_among cond conds) l) is.kind is.conds in
+    ap₂ (λ (b : Bool) (found : Option Pos). if b then Some one.at else found) tests (first_of-kept names conds all held rules are.1)
+    ∙ ap (λ place. if is_default rule.kind && list_any (λ cond. is_among cond conds) rule.conds then Some place else first_of is_default conds rules) is.at
 
 -- the sort of the first lexeme from a place on
 sort_from : (all : List Lexeme) (from : ℕ) (sort : Sort) (rest : List Sort) → drop from (sorts_at all) ≡ sort ∷ rest
@@ -98,40 +107,30 @@ other_head sort.Comma no_star no_dollar = refl
 other_head sort.Arrow no_star no_dollar = refl
 other_head sort.Jump no_star no_dollar = refl
 
-module _ (options : Options) (lexemes : List Lexeme) (known : Known) (state : State) (holds : Holds options.conds known state) where
-  -- the place of the rule `*` that is known is the first one of all
-  default_first : (default : DefaultRule) → known.default ≡ Some default → first_of is_default ([] ∷ []) state.rules ≡ Some default.at
-  default_first default is =
-      let one = subst (λ d. HoldsDefault d (of_kind is_default state.rules)) is holds.default in
-      first_of-usual is_default state.rules holds.usual ∙ ap first_at one.1 ∙ ap Some one.2
-
-  pub default_none : known.default ≡ None → first_of is_default ([] ∷ []) state.rules ≡ None
-  default_none is =
-      let none = subst (λ d. HoldsDefault d (of_kind is_default state.rules)) is holds.default in
-      first_of-usual is_default state.rules holds.usual ∙ ap first_at none
+module _ (options : Options) (lexemes : List Lexeme) (known : Known) (state : State) (holds : Holds known state) (conds : List (List ℕ)) where
+  -- the place of the first rule `*` that is known is that of the first one of all
+  default_first : (found : Option Pos) → found ≡ first_kept (cond_names known.conds) conds known.rules.items → first_of is_default conds state.rules ≡ found
+  default_first found is = sym (is ∙ first_of-kept (cond_names known.conds) conds state.rules known.rules.items state.rules holds.rules.each)
 
   module _ (from : ℕ) (slash : Option ℕ) (until : ℕ) where
     abbrev start : Lexeme
     start = nth_lexeme lexemes from
 
     abbrev Heads : Sort → Check
-    Heads s = HeadChecks options lexemes state (head_sort s) ([] ∷ []) from slash until
+    Heads s = HeadChecks options lexemes state (head_sort s) conds from slash until
 
     -- a second `*` is refused
-    pub star_twice : (default : DefaultRule) → sort_at start ≡ sort.Star → known.default ≡ Some default → Heads (sort_at start) (Some (Redefined start.at default.at))
-    star_twice default star is =
-        subst (λ s. Heads s (Some (Redefined start.at default.at))) (sym star) (ap (twice start.at) (sym (default_first default is)))
+    pub star_twice : (first : Pos) → sort_at start ≡ sort.Star → Some first ≡ first_kept (cond_names known.conds) conds known.rules.items
+        → Heads (sort_at start) (Some (Redefined start.at first))
+    star_twice first star is = subst (λ s. Heads s (Some (Redefined start.at first))) (sym star) (ap (twice start.at) (sym (default_first (Some first) is)))
 
     -- the first one is read
-    pub star_read : (room : Room) → sort_at start ≡ sort.Star → known.default ≡ None → IsHeadRead options lexemes state from slash until room head.Default
+    pub star_read : (room : Room) → sort_at start ≡ sort.Star → None ≡ first_kept (cond_names known.conds) conds known.rules.items
+        → IsHeadRead options lexemes state conds from slash until room head.Default
     star_read room star is = (
-      subst (λ s. Heads s None) (sym star) (ap (twice start.at) (sym (default_none is))),
+      subst (λ s. Heads s None) (sym star) (ap (twice start.at) (sym (default_first None is))),
       (kind.Default, any_meaning, subst (λ s. IsHead options lexemes state.definitions (head_sort s) from slash until kind.Default any_meaning) (sym star) (refl, refl), (refl, refl)),
     )
-
-    -- `$` is not supported
-    pub dollar_unsupported : sort_at start ≡ sort.Dollar → Heads (sort_at start) (Some (Unsupported (Some start.at)))
-    dollar_unsupported dollar = subst (λ s. Heads s (Some (Unsupported (Some start.at)))) (sym dollar) (inr (Unsupported (Some start.at), refl, refl))
 
     module _ (no_star : sort_at start ≡ sort.Star → ⊥) (no_dollar : sort_at start ≡ sort.Dollar → ⊥) where
       is_other : head_sort (sort_at start) ≡ expression
@@ -141,11 +140,11 @@ module _ (options : Options) (lexemes : List Lexeme) (known : Known) (state : St
   pub plain_read :
       (from until : ℕ) (room : Room) (reading : Reading) (no_star : sort_at (nth_lexeme lexemes from) ≡ sort.Star → ⊥) (no_dollar : sort_at (nth_lexeme lexemes from) ≡ sort.Dollar → ⊥)
       → IsRead options lexemes (definitions_view known.env.definitions) room from until reading
-      → IsHeadRead options lexemes state from None until room (head.Plain reading)
+      → IsHeadRead options lexemes state conds from None until room (head.Plain reading)
   plain_read from until room reading no_star no_dollar given =
       let read = read_known options lexemes known state holds room from until reading given in
       let other = sym (is_other from None until no_star no_dollar) in (
-        subst (λ s. HeadChecks options lexemes state s ([] ∷ []) from None until None) other
+        subst (λ s. HeadChecks options lexemes state s conds from None until None) other
             (read_checked options lexemes state.definitions room from until reading read),
         (
           kind.Plain,
@@ -163,22 +162,22 @@ module _ (options : Options) (lexemes : List Lexeme) (known : Known) (state : St
   -- or it is refused
   pub plain_refused :
       (from until : ℕ) (stopped : Stop) (no_star : sort_at (nth_lexeme lexemes from) ≡ sort.Star → ⊥) (no_dollar : sort_at (nth_lexeme lexemes from) ≡ sort.Dollar → ⊥)
-      → StopsIn from until stopped → StopsHead options lexemes state from None until stopped
+      → StopsIn from until stopped → StopsHead options lexemes state conds from None until stopped
   plain_refused from until stop.Memory no_star no_dollar stops = tt
   plain_refused from until (stop.Fault fault) no_star no_dollar stops =
-      subst (λ s. HeadChecks options lexemes state s ([] ∷ []) from None until (Some fault)) (sym (is_other from None until no_star no_dollar))
+      subst (λ s. HeadChecks options lexemes state s conds from None until (Some fault)) (sym (is_other from None until no_star no_dollar))
       (subst (λ definitions. ExpressionChecks options lexemes definitions from until (Some fault)) holds.definitions stops)
 
   -- the checks of an expression before a trailing context
   pub context_refused :
       (from slash until : ℕ) (stopped : Stop) (no_star : sort_at (nth_lexeme lexemes from) ≡ sort.Star → ⊥) (no_dollar : sort_at (nth_lexeme lexemes from) ≡ sort.Dollar → ⊥)
       → HasExpressions (sorts_at lexemes) (item.Rule from from (Some slash) until None None) → StopsIn from slash stopped
-      → StopsHead options lexemes state from (Some slash) until stopped
+      → StopsHead options lexemes state conds from (Some slash) until stopped
   context_refused from slash until stop.Memory no_star no_dollar has stops = tt
   context_refused from slash until (stop.Fault fault) no_star no_dollar has stops =
       let front = subst (λ definitions. ExpressionChecks options lexemes definitions from slash (Some fault)) holds.definitions stops in
       let back = part_form options lexemes (suc slash) until has.1 in
-      subst (λ s. HeadChecks options lexemes state s ([] ∷ []) from (Some slash) until (Some fault)) (sym (is_other from (Some slash) until no_star no_dollar))
+      subst (λ s. HeadChecks options lexemes state s conds from (Some slash) until (Some fault)) (sym (is_other from (Some slash) until no_star no_dollar))
       (front.0, back.0, front.1, back.1, inr (fault, front.2, refl))
 
   -- a trailing context is not supported
@@ -186,18 +185,18 @@ module _ (options : Options) (lexemes : List Lexeme) (known : Known) (state : St
       (from slash until : ℕ) (no_star : sort_at (nth_lexeme lexemes from) ≡ sort.Star → ⊥) (no_dollar : sort_at (nth_lexeme lexemes from) ≡ sort.Dollar → ⊥)
       → HasExpressions (sorts_at lexemes) (item.Rule from from (Some slash) until None None) → (room : Room) (reading : Reading)
       → IsRead options lexemes (definitions_view known.env.definitions) room from slash reading
-      → StopsHead options lexemes state from (Some slash) until (stop.Fault (Unsupported (Some (nth_lexeme lexemes slash).at)))
+      → StopsHead options lexemes state conds from (Some slash) until (stop.Fault (Unsupported (Some (nth_lexeme lexemes slash).at)))
   context_unsupported from slash until no_star no_dollar has room reading given =
       let read = read_known options lexemes known state holds room from slash reading given in
       let back = part_form options lexemes (suc slash) until has.1 in
       let fault = Unsupported (Some (nth_lexeme lexemes slash).at) in
-      subst (λ s. HeadChecks options lexemes state s ([] ∷ []) from (Some slash) until (Some fault)) (sym (is_other from (Some slash) until no_star no_dollar))
+      subst (λ s. HeadChecks options lexemes state s conds from (Some slash) until (Some fault)) (sym (is_other from (Some slash) until no_star no_dollar))
       (read.form, back.0, read.stands_there, back.1, inl (read.checked, inr (fault, refl, refl)))
 
   -- whether a trailing context stands there or not
   pub head_refused :
       (from : ℕ) (slash : Option ℕ) (until : ℕ) (stopped : Stop) (no_star : sort_at (nth_lexeme lexemes from) ≡ sort.Star → ⊥) (no_dollar : sort_at (nth_lexeme lexemes from) ≡ sort.Dollar → ⊥)
       → HasExpressions (sorts_at lexemes) (item.Rule from from slash until None None) → StopsIn from (unwrap_or slash until) stopped
-      → StopsHead options lexemes state from slash until stopped
+      → StopsHead options lexemes state conds from slash until stopped
   head_refused from None until stopped no_star no_dollar has stops = plain_refused from until stopped no_star no_dollar stops
   head_refused from (Some slash) until stopped no_star no_dollar has stops = context_refused from slash until stopped no_star no_dollar has stops

@@ -1,5 +1,5 @@
 -- What is asked of definitions and rules holds behind each item.
-use Rattle.std.proofs.Common.{◌≡◌, ℕ, suc, ◌+◌, ◌*◌, ◌≤◌, Bool, true, false, List, [], ◌∷◌, ◌++◌, length, Option, None, Some, Ok, refl, sym, ap, ap₂, ◌∙◌, subst, arith, length-append}
+use Rattle.std.proofs.Common.{◌≡◌, ℕ, suc, ◌+◌, ◌*◌, ◌≤◌, inr, Bool, true, false, List, [], ◌∷◌, ◌++◌, length, Option, None, Some, Ok, refl, sym, ap, ap₂, ◌∙◌, subst, arith, length-append}
 use Rattle.std.specs.List.{AllByRecursion}
 use Rattle.std.specs.Option.{option_and_then, option_map}
 use Rattle.std.specs.Prelude.{◌==◌, ◌&&◌, drop, is_some, nat_le}
@@ -17,6 +17,7 @@ use Rattle.lx_exprs.specs.Defined.{Definition, IsClassKept, IsDefined, IsTermKep
 use Rattle.lx_forms.specs.Forms.{Form}
 use Rattle.lx_exprs.specs.Expressions.{ExpressionChecks, IsExpression}
 use Rattle.lx_rules.specs.Items.{Goes, HeadChecks, HeadSort, IsAfter, IsHead, ItemChecks, ListChecks, State, TargetChecks, act_of, any, any_meaning, conds_of, ends, end, expression, head_sort, next, twice, rule_of, with_rule}
+use Rattle.lx_rules.specs.Conditions.{AreConds}
 use Rattle.lx_rules.specs.Rules.{RuleOf}
 use Rattle.lx_forms.specs.Lexemes.{Lexeme, nth_lexeme, sort_at}
 use Rattle.lx_exprs.specs.Meanings.{IsMeaning, term_or_empty}
@@ -102,12 +103,13 @@ module _ (enc : Enc) where
     ungrouped = refl;
   }
 
--- what is asked of what is known behind items; the rules have numbers in order
+-- what is asked of what is known behind items; the rules have numbers in order, and either that of `<*>` or other conditions
 pub record IsStateWithin (enc : Enc) (state : State) : Type 0 where
   pub definitions : AreDefinedWithin enc state.definitions
   pub rules : AllByRecursion (λ (rule : RuleOf). IsItemWithin enc rule.meaning) state.rules
   pub numbers : AllByRecursion (λ (rule : RuleOf). rule.act.number ≤ length state.rules) state.rules
   pub differ : Differ state.rules
+  pub conds : AllByRecursion (λ (rule : RuleOf). AreConds rule.conds) state.rules
 
 numbers_more : (rules : List RuleOf) (less more : ℕ) → less ≤ more → AllByRecursion (λ (rule : RuleOf). rule.act.number ≤ less) rules
     → AllByRecursion (λ (rule : RuleOf). rule.act.number ≤ more) rules
@@ -144,9 +146,8 @@ module _ (options : Options) (lexemes : List Lexeme) where
   head_within state ready expression conds head (Some slash) until kind meaning checked is = absurd is
 
   rule_within : (state after : State) (rule : RuleOf) → IsStateWithin options.enc state → IsItemWithin options.enc rule.meaning
-      → rule.act.number ≡ suc (length state.rules)
-      → after ≡ with_rule state rule → IsStateWithin options.enc after
-  rule_within state after rule within meant number is =
+      → rule.act.number ≡ suc (length state.rules) → AreConds rule.conds → after ≡ with_rule state rule → IsStateWithin options.enc after
+  rule_within state after rule within meant number conds is =
       let longer : length (state.rules ++ rule ∷ []) ≡ suc (length state.rules) = let l = length-append state.rules (rule ∷ []) in omega (arith, l) in
       let more : length state.rules ≤ length (state.rules ++ rule ∷ []) = omega (arith, longer) in
       subst (IsStateWithin options.enc) (sym is) (record {
@@ -157,6 +158,7 @@ module _ (options : Options) (lexemes : List Lexeme) where
             (numbers_more state.rules (length state.rules) (length (state.rules ++ rule ∷ [])) more within.numbers)
             (omega (arith, number, longer), tt);
         differ = differ_snoc state.rules rule (length state.rules) within.numbers within.differ number;
+        conds = all_both (λ (r : RuleOf). AreConds r.conds) state.rules (rule ∷ []) within.conds (conds, tt);
       })
 
   item_within : (state after : State) (item : Item) → IsStateWithin options.enc state → ItemChecks options lexemes state item None
@@ -174,10 +176,11 @@ module _ (options : Options) (lexemes : List Lexeme) where
         rules = within.rules;
         numbers = within.numbers;
         differ = within.differ;
+        conds = within.conds;
       })
   item_within state after (Configure name value) within checked is =
       subst (IsStateWithin options.enc) (sym is.2)
-      (record { definitions = within.definitions; rules = within.rules; numbers = within.numbers; differ = within.differ })
+      (record { definitions = within.definitions; rules = within.rules; numbers = within.numbers; differ = within.differ; conds = within.conds })
   item_within state after (Rule first head slash until goes code) within checked is =
       let sort = head_sort (sort_at (nth_lexeme lexemes head)) in
       let Head : Check = HeadChecks options lexemes state sort (conds_of options lexemes first head) head slash until in
@@ -186,7 +189,7 @@ module _ (options : Options) (lexemes : List Lexeme) where
       (λ fault. Then Head (TargetChecks options lexemes goes) fault) checked in
       let later = then-none Head (TargetChecks options lexemes goes) found.1 in
       let meant = head_within state within.definitions sort (conds_of options lexemes first head) head slash until is.0 is.1 later.0 is.2 in
-      rule_within state after (rule_of options lexemes (suc (length state.rules)) first head goes code is.0 is.1) within meant (act_number (suc (length state.rules)) goes code) is.3
+      rule_within state after (rule_of options lexemes (suc (length state.rules)) first head goes code is.0 is.1) within meant (act_number (suc (length state.rules)) goes code) (inr refl) is.3
   item_within state after (Text value) within checked is = subst (IsStateWithin options.enc) (sym is) within
 
   -- and behind all items

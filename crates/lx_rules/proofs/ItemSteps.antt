@@ -1,13 +1,11 @@
 -- What is known behind an item.
-use Rattle.std.proofs.Common.{◌≡◌, ℕ, inl, inr, Bool, List, [], ◌∷◌, ◌++◌, map, None, Some, Vec, Global, refl, sym, ap, ◌∙◌, subst}
+use Rattle.std.proofs.Common.{◌≡◌, ℕ, inl, inr, Bool, List, [], ◌∷◌, ◌++◌, None, Some, Vec, Global, refl, sym, ap, ◌∙◌, subst}
 use Rattle.std.specs.Option.{option_map}
 use Rattle.lx_base.specs.declared.faults.Fault.TheVariants.{Redefined}
 use Rattle.lx_base.specs.declared.faults.Stop.{Stop}
 use Rattle.lx_base.specs.declared.faults.Stop.TheVariants as stop
 use Rattle.lx_base.specs.declared.settings.Options.{Options}
 use Rattle.lx_parse.specs.declared.items.Item.TheVariants.{Define, Configure}
-use Rattle.lx_regex.specs.Pattern as regex
-use Rattle.lx_regex.specs.declared.rules.Rule as regex_rules
 use Rattle.lx_exprs.specs.declared.definitions.Kept.{Kept}
 use Rattle.lx_exprs.specs.declared.expressions.Reading.{Reading}
 use Rattle.lx_rules.specs.declared.items.Known.{Known}
@@ -19,12 +17,11 @@ use Rattle.lx_exprs.specs.Checks.{Finds, StopsAt}
 use Rattle.lx_rules.specs.Configurations.{config_fault, switch_of}
 use Rattle.lx_exprs.specs.Expressions.{ExpressionChecks}
 use Rattle.lx_rules.specs.Environments.{Settings, with_fill}
-use Rattle.lx_rules.specs.Items.{State, ItemChecks, is_default, twice, with_definition, with_settings}
+use Rattle.lx_rules.specs.Items.{State, ItemChecks, twice, with_definition, with_settings}
 use Rattle.lx_rules.specs.Seen.{settings_view}
 use Rattle.lx_exprs.specs.Expressions.{IsRead}
-use Rattle.lx_rules.specs.Keeping.{Holds, HoldsDefault, IsTaken}
-use Rattle.lx_rules.specs.Blocks.{given_names, of_kind}
-use Rattle.lx_rules.specs.Soundness.{HasFitDefinitions}
+use Rattle.lx_rules.specs.Keeping.{Holds, IsTaken}
+use Rattle.lx_rules.specs.FitScanners.{HasFitDefinitions}
 use Rattle.lx_exprs.specs.Seen.{definition_view, definitions_view}
 
 -- the checks of an expression that is read find nothing
@@ -32,7 +29,7 @@ pub read_checked : (options : Options) (lexemes : List Lexeme) (definitions : Li
     → IsRead options lexemes definitions room from until reading → ExpressionChecks options lexemes definitions from until None
 read_checked options lexemes definitions room from until reading read = (read.form, read.stands_there, read.checked)
 
-module _ (options : Options) (lexemes : List Lexeme) (known : Known) (state : State) (holds : Holds options.conds known state) where
+module _ (options : Options) (lexemes : List Lexeme) (known : Known) (state : State) (holds : Holds known state) where
   -- what is read with the definitions that are known
   pub read_known : (room : Room) (from until : ℕ) (reading : Reading)
       → IsRead options lexemes (definitions_view known.env.definitions) room from until reading
@@ -46,48 +43,28 @@ module _ (options : Options) (lexemes : List Lexeme) (known : Known) (state : St
       → IsTaken options lexemes state (Configure name value) (record {
         env = record { definitions = known.env.definitions; settings = record { fill = Some fill } };
         rules = known.rules;
-        default = known.default;
         acts = known.acts;
-        size = known.size;
-        nesting = known.nesting;
-        tags = known.tags;
+        conds = known.conds;
       })
   configured name value fill none is = record {
     checked = sym none;
     next = with_settings state (with_fill state.settings fill);
     is_after = (fill, is, refl);
     holds = record {
-      without_conds = holds.without_conds;
       definitions = holds.definitions;
       settings = ap (λ (settings : Settings). with_fill settings fill) holds.settings;
       acts = holds.acts;
-      size = holds.size;
-      nesting = holds.nesting;
-      usual = holds.usual;
-      default = holds.default;
-      tags = holds.tags;
       rules = holds.rules;
-      names = holds.names;
-      sound = holds.sound;
-      within = holds.within;
-      few = holds.few;
-      numbers = holds.numbers;
-      default_number = holds.default_number;
+      fit = holds.fit;
       short = holds.short;
     };
   }
-
-  -- a name that is defined is refused
-  pub define_twice : (name from until : ℕ) (definition : Definition) → definition_of state.definitions (nth_lexeme lexemes name).text ≡ Some definition
-      → ItemChecks options lexemes state (Define name from until) (Some (Redefined (nth_lexeme lexemes name).at definition.at))
-  define_twice name from until definition is =
-      inr (Redefined (nth_lexeme lexemes name).at definition.at, ap (λ found. twice (nth_lexeme lexemes name).at (option_map (λ (d : Definition). d.at) found)) (sym is), refl)
 
   once : (name : ℕ) → definition_of state.definitions (nth_lexeme lexemes name).text ≡ None
       → Finds (twice (nth_lexeme lexemes name).at (option_map (λ (d : Definition). d.at) (definition_of state.definitions (nth_lexeme lexemes name).text))) None
   once name is = ap (λ found. twice (nth_lexeme lexemes name).at (option_map (λ (d : Definition). d.at) found)) (sym is)
 
-  -- so is one whose expression is refused
+  -- a definition whose expression is refused is refused
   pub define_refused : (name from until : ℕ) (stopped : Stop) → definition_of state.definitions (nth_lexeme lexemes name).text ≡ None
       → StopsAt (ExpressionChecks options lexemes (definitions_view known.env.definitions) from until) stopped
       → StopsAt (ItemChecks options lexemes state (Define name from until)) stopped
@@ -101,30 +78,18 @@ module _ (options : Options) (lexemes : List Lexeme) (known : Known) (state : St
       → (read : IsRead options lexemes state.definitions whole_room from until reading)
       → IsDefined (nth_lexeme lexemes name).text (nth_lexeme lexemes name).at read.meaning (definition_view (nth_lexeme lexemes name).text given)
       → definitions_view after.env.definitions ≡ definitions_view known.env.definitions ++ definition_view (nth_lexeme lexemes name).text given ∷ []
-      → HasFitDefinitions after.env → after.env.settings ≡ known.env.settings → after.rules ≡ known.rules → after.default ≡ known.default → after.acts ≡ known.acts
-      → after.size ≡ known.size → after.nesting ≡ known.nesting → after.tags ≡ known.tags
+      → HasFitDefinitions after.env → after.env.settings ≡ known.env.settings → after.rules ≡ known.rules → after.acts ≡ known.acts → after.conds ≡ known.conds
       → IsTaken options lexemes state (Define name from until) after
-  define_taken name from until after given reading none read defined added sound settings rules default acts size nesting tags = record {
+  define_taken name from until after given reading none read defined added fit settings rules acts conds = record {
     checked = inl (once name none, read_checked options lexemes state.definitions whole_room from until reading read);
     next = with_definition state new;
     is_after = (read.form, read.meaning, new, read.stands_there, read.means, defined, refl);
     holds = record {
-      without_conds = holds.without_conds;
       definitions = added ∙ ap (λ definitions. definitions ++ new ∷ []) holds.definitions;
       settings = ap settings_view settings ∙ holds.settings;
       acts = ap (λ (l : Vec Act Global). l.items) acts ∙ holds.acts;
-      size = size ∙ holds.size;
-      nesting = nesting ∙ holds.nesting;
-      usual = holds.usual;
-      default = subst (λ d. HoldsDefault d (of_kind is_default state.rules)) (sym default) holds.default;
-      tags = tags ∙ holds.tags;
-      rules = λ fit. ap (λ (l : Vec regex_rules.Rule Global). map regex.pattern_of l.items) rules ∙ holds.rules fit;
-      names = λ fit. ap (λ (l : Vec regex_rules.Rule Global). map given_names l.items) rules ∙ holds.names fit;
-      sound = sound;
-      within = rw (rules, default, size) holds.within;
-      few = rw (rules, default, size) holds.few;
-      numbers = rw (rules, acts) holds.numbers;
-      default_number = rw (default, acts) holds.default_number;
+      rules = rw (rules, conds) holds.rules;
+      fit = fit;
       short = rw (acts) holds.short;
     };
   }

@@ -1,13 +1,12 @@
 -- The scanners that a block resolves to are within the limits, and their classes fit the encoding.
-use Rattle.std.proofs.Common.{◌≡◌, ◌≢◌, ℕ, ◌+◌, ◌*◌, ◌≤◌, Bool, true, false, List, [], ◌∷◌, length, map, None, Some, Ok, refl, sym, ap, ap₂, ◌∙◌, subst, arith}
-use Rattle.std.specs.List.{AllByRecursion}
-use Rattle.std.specs.Prelude.{◌||◌, nat_le, nat_lt, if◌then◌else◌}
+use Rattle.std.proofs.Common.{◌≡◌, ◌≢◌, ℕ, ◌+◌, ◌*◌, ◌≤◌, Bool, true, false, List, [], ◌∷◌, length, map, None, Ok, refl, sym, ap, ap₂, ◌∙◌, subst, arith}
+use Rattle.std.specs.List.{AllByRecursion, list_any}
+use Rattle.std.specs.Prelude.{◌||◌, nat_le}
 use Rattle.std.proofs.lemmas.Bool.{OnFalse_from}
 use Rattle.std.proofs.lemmas.List.{length-append, length-map}
 use Rattle.std.proofs.lemmas.List.Elements.{recursion_from_All}
 use Rattle.lx_regex.specs.ClassLimits.{AllClassesFit}
 use Rattle.lx_base.specs.declared.blocks.BlockKind.TheVariants.{Code}
-use Rattle.lx_base.specs.declared.faults.Fault.TheVariants.{TooManyParts}
 use Rattle.lx_base.specs.declared.places.Pos.{Pos}
 use Rattle.lx_base.specs.declared.settings.Enc.{Enc}
 use Rattle.lx_base.specs.declared.settings.Options.{Options}
@@ -23,25 +22,26 @@ use Rattle.lx_regex.specs.declared.rules.Tag.{Tag}
 use Rattle.lx_rules.specs.declared.resolved.Resolved.{Resolved}
 use Rattle.lx_rules.specs.declared.resolved.Scanner.{Scanner}
 use Rattle.lx_rules.specs.Blocks as blocks
-use Rattle.lx_rules.specs.Blocks.{AreScanners, ClashCheck, IsResolved, IsScanner, conditions_of, limits_fault, lonely_fault, nesting_of, scanners_fault, targets_fault, ScannerChecks}
+use Rattle.lx_rules.specs.Blocks.{AreScanners, ClashCheck, IsResolved, IsScanner, conditions_of, every, lonely_fault, nesting_of, rules_of, scanner_fault, scanners_fault, targets_fault, ScannerChecks}
 use Rattle.lx_exprs.specs.Checks.{Check, Finds, Then}
-use Rattle.lx_exprs.specs.Defined.{Meaning, is_built, kept, whole, whole_room}
+use Rattle.lx_exprs.specs.Defined.{Meaning, is_built, whole, whole_room}
 use Rattle.lx_rules.specs.Environments.{Environment, config_of}
-use Rattle.lx_rules.specs.Items.{Goes, State, first_state}
+use Rattle.lx_rules.specs.Items.{Goes, State, first_state, is_end}
 use Rattle.lx_rules.specs.Rules.{RuleOf}
-use Rattle.lx_rules.specs.Keeping.{tags_in}
 use Rattle.lx_forms.specs.Lexemes.{Lexeme}
-use Rattle.lx_rules.specs.Soundness.{FitsLimits, IsFit, rules_size}
+use Rattle.lx_rules.specs.FitScanners.{FitsLimits, IsFit, rules_size}
 use Rattle.lx_exprs.specs.Within.{AreDefinedWithin, IsPlain}
 use Rattle.lx_rules.specs.Within.{IsScannerWithin}
-use Rattle.lx_rules.proofs.BlockSteps.{AreUsual, conditions_of-usual, in_order, rules_of-usual, scanners_usual, tags_of-in_order}
+use Rattle.lx_rules.proofs.BuiltScanners.{all_of_scanner}
+use Rattle.lx_rules.proofs.CondNames.{AreOthers, conditions_of-others}
+use Rattle.lx_rules.proofs.ScannerLimits.{or_none, scanner_limited}
 use Rattle.lx_exprs.specs.Meanings.{behind}
 use Rattle.lx_regex.specs.Script.{merge_tags}
 use Rattle.lx_exprs.proofs.Classes.ClassFits.{classes_fit, plain-behind}
 use Rattle.lx_exprs.proofs.TagLists.TagNumbers.{long-behind, merge_tags-numbers, tags_in-behind}
 use Rattle.lx_exprs.proofs.Forms.ClassForms.{then-none}
 use Rattle.lx_rules.proofs.ItemFits.{IsItemWithin, IsStateWithin, goes_within}
-use Rattle.lx_rules.proofs.RuleNumbers.{Differ, all_in_order, differ_in_order}
+use Rattle.lx_rules.proofs.RuleNumbers.{Differ, differ_of_scanner}
 
 -- what is asked of one rule, which is not `$`
 record IsRuleWithin (enc : Enc) (rule : RuleOf) : Type 0 where
@@ -81,6 +81,11 @@ built_within meaning size nesting count =
     let s : nat_le meaning.size 4096 ≡ true = search (arith, size) in
     let n : nat_le meaning.nesting 256 ≡ true = search (arith, nesting) in
     let c : nat_le meaning.count 128 ≡ true = search (arith, count) in rw (s, n, c) refl
+
+-- neither of two tests holds
+neither : (one two : Bool) → (one || two) ≡ false → (one ≡ false) × (two ≡ false)
+neither true two none = absurd (let h : true ≡ false = none in cc)
+neither false two none = (refl, none)
 
 -- a rule without groups has as many sorts as tags
 sorts_many : (rule : RuleOf) → length rule.meaning.tags ≡ length (regex.sorts_of (blocks.pattern_of rule))
@@ -163,105 +168,84 @@ module _ (enc : Enc) where
   alone count = omega arith
 
   -- each rule is built where all of them are within the limits
-  rules_within : (rules : List RuleOf) → AreUsual rules → AllByRecursion (λ (rule : RuleOf). IsItemWithin enc rule.meaning) rules
-      → blocks.size_of rules ≤ 4096 → nesting_of rules ≤ 256 → length (tags_in rules) ≤ 128 → AreWithin enc rules
-  rules_within [] usual meant size nesting tags = tt
-  rules_within (rule ∷ rules) usual meant size nesting tags =
-      let names = length-append rule.meaning.tags (tags_in rules) in
+  rules_within : (rules : List RuleOf) → list_any (λ (rule : RuleOf). is_end rule.kind) rules ≡ false
+      → AllByRecursion (λ (rule : RuleOf). IsItemWithin enc rule.meaning) rules
+      → blocks.size_of rules ≤ 4096 → nesting_of rules ≤ 256 → blocks.tags_of rules ≤ 128 → AreWithin enc rules
+  rules_within [] ends meant size nesting tags = tt
+  rules_within (rule ∷ rules) ends meant size nesting tags =
       let all = meant.0.within.count in
       let none = meant.0.ungrouped in
-      let numbered = meant.0.within.numbered (built_within rule.meaning (omega (arith, size)) (omega (arith, nesting)) (omega (arith, names, tags, all, none))) in
-      let ends = numbered.ends ∙ ap (λ n. limits.numbers_from 2 (2 * n)) none in (
+      let numbered = meant.0.within.numbered (built_within rule.meaning (omega (arith, size)) (omega (arith, nesting)) (omega (arith, tags, all, none))) in
+      let places = numbered.ends ∙ ap (λ n. limits.numbers_from 2 (2 * n)) none in
+      let no_ends = neither (is_end rule.kind) (list_any (λ (rule : RuleOf). is_end rule.kind) rules) ends in (
         record {
-          no_end = λ same. usual.0.no_end same;
+          no_end = λ same. let h : true ≡ false = ap is_end (sym same) ∙ no_ends.0 in cc;
           plain = meant.0.within.plain;
           regular = record {
             sequences = long-behind (length rule.meaning.tags) (whole rule.meaning.shape) numbered.sequences;
             tags =
-                tags_in-behind (length rule.meaning.tags) (whole rule.meaning.shape) ∙ ap₂ merge_tags numbered.tags (ap (map (λ n. n + length rule.meaning.tags)) ends)
+                tags_in-behind (length rule.meaning.tags) (whole rule.meaning.shape) ∙ ap₂ merge_tags numbered.tags (ap (map (λ n. n + length rule.meaning.tags)) places)
                 ∙ merge_tags-numbers 0 (length rule.meaning.tags) 0 ∙ ap (limits.numbers_from 0) (alone (length rule.meaning.tags) ∙ sorts_many rule);
             slash = tt;
           };
         },
-        rules_within rules usual.1 meant.1 (omega (arith, size)) (omega (arith, nesting)) (omega (arith, names, tags)),
+        rules_within rules no_ends.1 meant.1 (omega (arith, size)) (omega (arith, nesting)) (omega (arith, tags)),
       )
 
--- what the limits say where they find no fault
-pub limits_say : (at : Pos) (size nesting tags : ℕ) → None ≡ limits_fault at size nesting tags → (size ≤ 4096) × (nesting ≤ 256) × (tags ≤ 128)
-limits_say place size nesting tags none = at (nat_lt 4096 size || nat_lt 256 nesting || nat_lt 128 tags) refl none
-  where
-    at : (b : Bool) → (nat_lt 4096 size || nat_lt 256 nesting || nat_lt 128 tags) ≡ b
-        → None ≡ (if b then Some (TooManyParts place (kept size) (kept nesting) (kept tags)) else None)
-        → (size ≤ 4096) × (nesting ≤ 256) × (tags ≤ 128)
-    at true e held = absurd (let h : None ≡ Some (TooManyParts place (kept size) (kept nesting) (kept tags)) = held in cc)
-    at false e held = (search (arith, e), search (arith, e), search (arith, e))
-
-module _ (options : Options) (place : Pos) (state : State) (usual : AreUsual state.rules) (checked : ScannerChecks options.custom place state None)
-    (within : IsStateWithin options.enc state) where
-  -- the limits on the rules
-  limited : (blocks.size_of state.rules ≤ 4096) × (nesting_of state.rules ≤ 256) × (length (tags_in state.rules) ≤ 128)
-  limited =
-      let Scanners : Check = Finds (scanners_fault place state.rules (conditions_of state.rules)) in
-      let Targets : Check = Finds (targets_fault state.rules (conditions_of state.rules)) in
-      let Lonely : Check = Finds (lonely_fault place state.rules (conditions_of state.rules)) in
-      let one = then-none (ClashCheck options.custom place (config_of state.settings).names state.rules) (Then Lonely (Then Targets Scanners)) checked in
-      let two = then-none Lonely (Then Targets Scanners) one.1 in
-      let three = then-none Targets Scanners two.1 in
-      limits_say place (blocks.size_of state.rules) (nesting_of state.rules) (length (tags_in state.rules))
-      (three.1 ∙ scanners_usual place state usual state.rules usual)
-
-  -- the one scanner of the rules
-  scanner_within : (named : Bool) (acts : ℕ) (scanner : Scanner) → IsScanner named state.rules [] scanner → IsFit acts scanner
-      → IsScannerWithin options.enc scanner
-  scanner_within named acts scanner is fit =
-      let most = limited in
-      let all = all_in_order (IsRuleWithin options.enc) state.rules (rules_within options.enc state.rules usual within.rules most.0 most.1 most.2) in
-      let same : HaveRules scanner.set.rules (in_order state.rules) = is.patterns ∙ ap (map blocks.pattern_of) (rules_of-usual state.rules usual) in
-      let tags = tags_same options.enc scanner.set.rules (in_order state.rules) same ∙ tags_of-in_order state.rules in
-      let ends = ends_none options.enc scanner.set.rules (in_order state.rules) same all in
+module _ (options : Options) (place : Pos) (state : State) (within : IsStateWithin options.enc state) (named : Bool) (acts : ℕ) where
+  -- the scanner of a condition whose checks find nothing
+  scanner_within : (cond : List ℕ) (scanner : Scanner) → cond ≢ every → scanner_fault place (rules_of cond state.rules) ≡ None
+      → IsScanner named state.rules cond scanner → IsFit acts scanner → IsScannerWithin options.enc scanner
+  scanner_within cond scanner other none is fit =
+      let rules = rules_of cond state.rules in
+      let most = scanner_limited place rules none in
+      let all = rules_within options.enc rules most.ends (all_of_scanner (λ (rule : RuleOf). IsItemWithin options.enc rule.meaning) cond state.rules within.rules)
+      most.size most.nesting most.tags in
+      let same : HaveRules scanner.set.rules rules = is.patterns in
+      let tags = tags_same options.enc scanner.set.rules rules same in
+      let ends = ends_none options.enc scanner.set.rules rules same all in
       let sizes = sizes_le options.enc scanner.set.rules in record {
         limits = record {
           size = let le = fit.size in omega (arith, sizes, le);
-          tags = let le = most.2 in omega (arith, tags, le);
+          tags = let le = most.tags in omega (arith, tags, le);
           ends = omega (arith, ends);
-          numbers = different options.enc scanner.set.rules (in_order state.rules) same (differ_in_order state.rules within.differ);
-          regular = regular_all options.enc scanner.set.rules (in_order state.rules) same all;
+          numbers = different options.enc scanner.set.rules rules same (differ_of_scanner cond state.rules other within.conds within.differ);
+          regular = regular_all options.enc scanner.set.rules rules same all;
         };
-        classes =
-            subst (λ patterns. AllClassesFit options.enc (terms_of patterns)) (sym same) (fit_all options.enc (in_order state.rules) all);
+        classes = subst (λ patterns. AllClassesFit options.enc (terms_of patterns)) (sym same) (fit_all options.enc rules all);
       }
 
-  scanners_within : (named : Bool) (acts : ℕ) (scanners : List Scanner) → AreScanners named state.rules (conditions_of state.rules) scanners
-      → AllByRecursion (IsFit acts) scanners → AllByRecursion (IsScannerWithin options.enc) scanners
-  scanners_within named acts scanners are fit = of state.rules refl
-    where
-      none : (found : List Scanner) → AreScanners named state.rules [] found → AllByRecursion (IsScannerWithin options.enc) found
-      none [] is = tt
-      none (scanner ∷ found) is = absurd is
+  scanners_within : (conds : List (List ℕ)) (scanners : List Scanner) → AreOthers conds → scanners_fault place state.rules conds ≡ None
+      → AreScanners named state.rules conds scanners → AllByRecursion (IsFit acts) scanners → AllByRecursion (IsScannerWithin options.enc) scanners
+  scanners_within [] [] others none are fit = tt
+  scanners_within [] (scanner ∷ scanners) others none are fit = absurd are
+  scanners_within (cond ∷ conds) [] others none are fit = absurd are
+  scanners_within (cond ∷ conds) (scanner ∷ scanners) others none are fit =
+      let found = or_none (scanner_fault place (rules_of cond state.rules)) (scanners_fault place state.rules conds) none in
+      (scanner_within cond scanner others.0 found.0 are.0 fit.0, scanners_within conds scanners others.1 found.1 are.1 fit.1)
 
-      one : (found : List Scanner) → AreScanners named state.rules ([] ∷ []) found → AllByRecursion (IsFit acts) found
-          → AllByRecursion (IsScannerWithin options.enc) found
-      one [] is each = absurd is
-      one (scanner ∷ found) is each = (scanner_within named acts scanner is.0 each.0, none found is.1)
-
-      of : (rules : List RuleOf) → state.rules ≡ rules → AllByRecursion (IsScannerWithin options.enc) scanners
-      of [] same =
-          none scanners (subst (λ conds. AreScanners named state.rules conds scanners) (ap conditions_of same) are)
-      of (rule ∷ rules) same =
-          one scanners
-          (subst (λ conds. AreScanners named state.rules conds scanners)
-          (ap conditions_of same ∙ conditions_of-usual rule rules (subst AreUsual same usual)) are) fit
+-- the checks of the scanners of a block find nothing where all checks do
+scanners_checked : (custom : Bool) (place : Pos) (state : State) → ScannerChecks custom place state None
+    → scanners_fault place state.rules (conditions_of state.rules) ≡ None
+scanners_checked custom place state checked =
+    let Scanners : Check = Finds (scanners_fault place state.rules (conditions_of state.rules)) in
+    let Targets : Check = Finds (targets_fault state.rules (conditions_of state.rules)) in
+    let Lonely : Check = Finds (lonely_fault place state.rules (conditions_of state.rules)) in
+    let one = then-none (ClashCheck custom place (config_of state.settings).names state.rules) (Then Lonely (Then Targets Scanners)) checked in
+    let two = then-none Lonely (Then Targets Scanners) one.1 in
+    sym (then-none Targets Scanners two.1).1
 
 -- behind a block the definitions are as is asked, and its scanners are
 pub resolved_within :
     (options : Options) (place : Pos) (environment after : Environment) (lexemes : List Lexeme) (items : List Item) (state : State) (resolved : Resolved)
-    → Goes options lexemes (first_state Code environment) items (Ok state) → AreUsual state.rules → ScannerChecks options.custom place state None
+    → Goes options lexemes (first_state Code environment) items (Ok state) → ScannerChecks options.custom place state None
     → after.definitions ≡ state.definitions → IsResolved options.conds state resolved → FitsLimits resolved → AreDefinedWithin options.enc environment.definitions
     → AreDefinedWithin options.enc after.definitions × AllByRecursion (IsScannerWithin options.enc) resolved.scanners
-resolved_within options place environment after lexemes items state resolved goes usual checked leaves is fine ready =
+resolved_within options place environment after lexemes items state resolved goes checked leaves is fine ready =
     let within =
-    goes_within options lexemes (first_state Code environment) state items (record { definitions = ready; rules = tt; numbers = tt; differ = tt }) goes in (
+    goes_within options lexemes (first_state Code environment) state items (record { definitions = ready; rules = tt; numbers = tt; differ = tt; conds = tt }) goes in (
       subst (AreDefinedWithin options.enc) (sym leaves) within.definitions,
-      scanners_within options place state usual checked within options.conds (length resolved.acts) resolved.scanners is.scanners
+      scanners_within options place state within options.conds (length resolved.acts) (conditions_of state.rules) resolved.scanners (conditions_of-others state.rules)
+          (scanners_checked options.custom place state checked) is.scanners
           (recursion_from_All (IsFit (length resolved.acts)) resolved.scanners fine.scanners),
     )

@@ -1,35 +1,107 @@
 -- What a block resolves to, by what is known behind its items.
-use Rattle.std.specs.Prelude.{◌≡◌, Bool, true, false, List, [], ◌∷◌, ◌++◌, Option, Some, None}
+use Rattle.std.specs.Prelude.{◌≡◌, ℕ, ◌&&◌, ◌||◌, nat_lt, not, Bool, true, List, [], ◌∷◌, ◌++◌, length, Option, Some, None, if◌then◌else◌}
+use Rattle.std.specs.List.{filter, list_any}
+use Rattle.std.specs.Option.{option_or}
+use Rattle.lx_base.specs.declared.faults.Fault.{Fault}
+use Rattle.lx_base.specs.declared.faults.Fault.TheVariants.{EofPair, NoRules, TooManyParts}
+use Rattle.lx_base.specs.declared.limits.TheConstants.{NESTING_LIMIT, SIZE_LIMIT, TAG_LIMIT}
 use Rattle.lx_base.specs.declared.places.Pos.{Pos}
-use Rattle.lx_regex.specs.Expr.{size_of}
-use Rattle.lx_regex.specs.Pattern as regex
+use Rattle.lx_regex.specs.Expr.{size_of, term_of}
+use Rattle.lx_regex.specs.declared.expr.Expr.{Expr}
 use Rattle.lx_regex.specs.declared.rules.Rule.{Rule}
+use Rattle.lx_exprs.specs.Checks.{Check, Finds, Then, is_among}
+use Rattle.lx_exprs.specs.Defined.{kept}
+use Rattle.lx_exprs.specs.Values.{HasTagsBelow}
+use Rattle.lx_rules.specs.declared.conditions.Running.{Running}
 use Rattle.lx_rules.specs.declared.environment.Env.{Env}
-use Rattle.lx_rules.specs.declared.items.DefaultRule.{DefaultRule}
-use Rattle.lx_rules.specs.declared.resolved.Scanner.{Scanner}
+use Rattle.lx_rules.specs.declared.kept.KeptRule.{KeptRule}
+use Rattle.lx_rules.specs.declared.resolved.Act.{Act}
 use Rattle.lx_rules.specs.declared.resolved.Resolved.{Resolved}
-use Rattle.lx_rules.specs.Items.{State}
-use Rattle.lx_rules.specs.Blocks.{IsResolved, ScannerChecks, environment_with, given_names}
-use Rattle.lx_rules.specs.Keeping.{default_pattern}
+use Rattle.lx_rules.specs.declared.resolved.Scanner.{Scanner}
+use Rattle.lx_rules.specs.Blocks.{ClashCheck, IsResolved, IsScanner, ScannerChecks, conditions_of, environment_with, every, lonely_fault, rules_of, scanner_fault, target_fault, targets_fault}
+use Rattle.lx_rules.specs.Conditions.{conds_seen, nothing_runs, running_with}
+use Rattle.lx_rules.specs.Environments.{config_of}
+use Rattle.lx_rules.specs.Items.{State, is_default, is_end}
+use Rattle.lx_rules.specs.Rules.{RuleOf}
 use Rattle.lx_rules.specs.Seen.{environment_view}
-use Rattle.lx_rules.specs.Soundness.{FitsLimits, HasFitDefinitions}
+use Rattle.lx_rules.specs.FitScanners.{FitsLimits, HasFitDefinitions, IsFit}
 
--- the rule `*` stands behind the others, if there is one
-abbrev pub AddsDefault : Option DefaultRule → (rules all : List Rule) → Type 0
-AddsDefault None rules all = all ≡ rules
-AddsDefault (Some default) rules all =
-    (rule : Rule) × (all ≡ rules ++ rule ∷ []) × (rule.number ≡ default.number) × (size_of rule.expr ≡ 1)
-    × (given_names rule ≡ []) × (regex.pattern_of rule ≡ default_pattern default.number)
+-- the rules that have a condition
+abbrev pub kept_under : (names : List (List ℕ)) → (cond : List ℕ) → List KeptRule → List KeptRule
+kept_under names cond held = filter (λ (one : KeptRule). is_among cond (conds_seen names one.conds)) held
 
--- the one scanner of rules
-abbrev pub IsOneScanner : Option DefaultRule → (rules : List Rule) → List Scanner → Type 0
-IsOneScanner default rules scanners =
-    (scanner : Scanner) × (scanners ≡ scanner ∷ []) × (scanner.cond ≡ None) × AddsDefault default rules scanner.set.rules
+-- the rules but for `*`, with `$` or without
+abbrev pub kept_others : (with_end : Bool) → List KeptRule → List KeptRule
+kept_others with_end held = filter (λ (one : KeptRule). not (is_default one.kind) && (with_end || not (is_end one.kind))) held
 
--- the scanners of a block: none where it has no rule, and else one
-abbrev pub AreScannersOf : (is_empty : Bool) → Option DefaultRule → (rules : List Rule) → List Scanner → Type 0
-AreScannersOf true default rules scanners = scanners ≡ []
-AreScannersOf false default rules scanners = IsOneScanner default rules scanners
+-- the rules `*`
+abbrev pub kept_defaults : List KeptRule → List KeptRule
+kept_defaults held = filter (λ (one : KeptRule). is_default one.kind) held
+
+-- the rules of a scanner in their order, of its own and those of `<*>`
+abbrev pub kept_in_order : (own shared : List KeptRule) → List KeptRule
+kept_in_order own shared =
+    kept_others true own ++ kept_others (not (list_any (λ (one : KeptRule). is_end one.kind) own)) shared
+    ++ kept_defaults (if list_any (λ (one : KeptRule). is_default one.kind) own then own else shared)
+
+abbrev pub kept_rules_of : (names : List (List ℕ)) → (cond : List ℕ) → List KeptRule → List KeptRule
+kept_rules_of names cond held = kept_in_order (kept_under names cond held) (kept_under names every held)
+
+-- so far a rule goes
+abbrev pub weight_of : KeptRule → Running
+weight_of held = record { size = held.size; nesting = held.nesting; tags = kept (length held.tags) }
+
+-- so far rules go with those of a scanner, but for `$`
+abbrev pub running_over : Running → List KeptRule → Running
+running_over running [] = running
+running_over running (one ∷ held) =
+    if is_end one.kind then running_over running held else running_over (running_with running (weight_of one)) held
+
+-- rules that go so far are within the limits
+abbrev pub running_fault : Pos → Running → Option Fault
+running_fault at running =
+    if nat_lt SIZE_LIMIT running.size || nat_lt NESTING_LIMIT running.nesting || nat_lt TAG_LIMIT running.tags
+    then Some (TooManyParts at running.size running.nesting running.tags) else None
+
+-- the checks of the rules of a scanner
+abbrev pub kept_fault : Pos → List KeptRule → Option Fault
+kept_fault at held =
+    option_or (if not (list_any (λ (one : KeptRule). not (is_end one.kind)) held) then Some (NoRules at) else None)
+    (option_or (if list_any (λ (one : KeptRule). is_end one.kind) held then Some (EofPair at) else None) (running_fault at (running_over nothing_runs held)))
+
+-- the first target that has no rules of its own, among the conditions of these names
+abbrev pub kept_targets_fault : (names : List (List ℕ)) → List KeptRule → List Act → Option Fault
+kept_targets_fault names [] acts = None
+kept_targets_fault names (one ∷ held) [] = None
+kept_targets_fault names (one ∷ held) (act ∷ acts) =
+    option_or (target_fault act.goes one.target names) (kept_targets_fault names held acts)
+
+-- a rule can be copied: its expression is kept, and has few tags
+abbrev pub IsBuilt : KeptRule → Type 0
+IsBuilt held = (expr : Expr) × (held.expr ≡ Some expr) × HasTagsBelow TAG_LIMIT (term_of 0 expr)
+
+-- the rule of a scanner is a copy of one that is kept
+pub record IsCopyOf (held : KeptRule) (rule : Rule) : Type 0 where
+  pub number : rule.number ≡ held.number
+  pub kind : rule.kind ≡ held.kind
+  pub tags : rule.tags ≡ held.tags
+  pub slash : rule.slash ≡ None
+  pub groups : rule.groups ≡ 0
+  pub expr : Expr
+  pub kept : held.expr ≡ Some expr
+  pub term : term_of 0 rule.expr ≡ term_of 0 expr
+  pub size : size_of rule.expr ≡ size_of expr
+
+-- the checks of a block as a whole, before those of its scanners
+abbrev pub WholeChecks : (custom : Bool) → Pos → State → Check
+WholeChecks custom at state =
+    Then (ClashCheck custom at (config_of state.settings).names state.rules)
+    (Then (Finds (lonely_fault at state.rules (conditions_of state.rules))) (Finds (targets_fault state.rules (conditions_of state.rules))))
+
+-- the scanner of a condition is as its checks want it, and within the limits
+abbrev pub IsBuiltScanner : (named : Bool) → Pos → List RuleOf → (cond : List ℕ) → Scanner → Type 0
+IsBuiltScanner named at rules cond scanner =
+    (scanner_fault at (rules_of cond rules) ≡ None) × IsScanner named rules cond scanner × IsFit (length rules) scanner
 
 -- the scanners of a block resolve so, and all is within the limits
 abbrev pub IsFinished : (conds custom : Bool) → Pos → State → Env × Resolved → Type 0

@@ -1,12 +1,14 @@
 pub mod Blocks
 pub mod Buildable
+pub mod Conditions
 pub mod Configurations
 pub mod Environments
 pub mod Finishing
 pub mod Items
 pub mod Keeping
+pub mod Kept
 pub mod Rules
 pub mod Seen
-pub mod Soundness
+pub mod FitScanners
 pub mod Within
 pub mod Likeness

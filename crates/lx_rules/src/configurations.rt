@@ -1,27 +1,16 @@
 //! Configurations.
-ghost use Rattle.std.specs.Prelude.{◌≡◌, MatchResult, Some, None, map};
+ghost use Rattle.std.specs.Prelude.{◌≡◌, MatchResult, Some, None};
 ghost use Rattle.lx_base.specs.declared.faults.Fault.TheVariants.{UnknownConfig};
 ghost use Rattle.lx_exprs.specs.Checks.{is_among};
 ghost use Rattle.lx_rules.specs.Configurations.{config_fault, define_words, number_switch, other_words, switch_of};
 ghost use Rattle.lx_exprs.specs.Seen.{IsStop};
 ghost use Rattle.lx_forms.specs.Seen.{lexeme_view};
 
+use crate::words::is_among;
 use lx_base::{ByteText, Fault, Stop};
 use lx_forms::lexemes::Lexeme;
 use lx_token::{Number, TokenKind, number_of};
 use std::alloc::Global;
-
-/// Whether a text is one of the words.
-fn is_among(text: &[u8], words: &[&[u8]]) -> bool
-    ensures { result ≡ is_among text.now (map (λ word. word.now) words.now) }
-{
-    for word in words {
-        if text == *word {
-            return true;
-        }
-    }
-    false
-}
 
 /// Whether a configuration is one that spells a name of the scanner.
 fn is_define(text: &[u8]) -> bool

@@ -1,24 +1,29 @@
 //! What a block resolves to, by what is known behind its items.
-ghost use Rattle.std.specs.Prelude.{◌≡◌, ◌↔◌, ◌≤◌, ◌||◌, Bool, IfOk, IsTrue, MatchResult, length, nat_lt};
-ghost use Rattle.std.specs.List.{AllByRecursion};
-ghost use Rattle.lx_base.specs.declared.limits.TheConstants.{NESTING_LIMIT, SIZE_LIMIT, SOURCE_LIMIT, TAG_LIMIT};
+ghost use Rattle.std.specs.Prelude.{◌≡◌, ◌↔◌, ◌≤◌, IsTrue, List, MatchResult, None, length};
+ghost use Rattle.std.specs.List.{AllByRecursion, AllZip};
+ghost use Rattle.lx_base.specs.declared.limits.TheConstants.{SOURCE_LIMIT};
 ghost use Rattle.lx_base.specs.Names.{IsTagName};
-ghost use Rattle.lx_rules.specs.Blocks.{ScannerChecks, SpellingsDiffer};
-ghost use Rattle.lx_rules.specs.Finishing.{AddsDefault, AreScannersOf, IsFinished, IsOneScanner};
+ghost use Rattle.lx_rules.specs.Blocks.{ScannerChecks, SpellingsDiffer, conditions_of, lonely_fault, target_fault};
+ghost use Rattle.lx_rules.specs.Conditions.{cond_names};
+ghost use Rattle.lx_rules.specs.Environments.{config_of};
+ghost use Rattle.lx_rules.specs.Finishing.{IsFinished, IsBuiltScanner, WholeChecks, kept_targets_fault};
 ghost use Rattle.lx_rules.specs.Items.{State};
 ghost use Rattle.lx_rules.specs.Keeping.{Holds};
+ghost use Rattle.lx_rules.specs.Rules.{RuleOf};
+ghost use Rattle.lx_rules.specs.declared.kept.KeptRule.{KeptRule as kept_rule};
 ghost use Rattle.lx_exprs.specs.Checks.{StopsAt};
 ghost use Rattle.lx_regex.specs.declared.rules.Tag.{Tag as tag_type};
 
+use crate::conditions::Conditions;
 use crate::environment::Env;
-use crate::items::{DefaultRule, Known};
-use crate::resolved::{Config, Resolved, Scanner};
-use crate::rules::simple_rule;
-use lx_base::limits::{NESTING_LIMIT, SIZE_LIMIT, TAG_LIMIT};
+use crate::items::Known;
+use crate::kept::KeptRule;
+use crate::resolved::{Act, Config, Resolved, Scanner};
+use crate::scanners::scanners;
 use lx_base::names::{do_not_clash, is_tag_name, name_primitives};
-use lx_base::{Fault, Memory, Names, Pos, Sequence, Stop, usual_names};
+use lx_base::{Fault, Names, Options, Pos, Sequence, Stop, usual_names};
 use lx_exprs::tags::SharedTags;
-use lx_regex::{Expr, Kind, Rule, RuleSet, Tag};
+use lx_regex::Tag;
 use std::alloc::Global;
 
 /// Whether no two spellings clash, and none is the name of an input primitive where the input is custom.
@@ -40,7 +45,7 @@ fn are_tag_names(names: &Names, tags: &[Tag]) -> bool
     true
 }
 
-/// Whether each of all tags has a name that it may have beside the spellings.
+/// Whether each of all tags of a rule has a name that it may have beside the spellings.
 fn are_all_tag_names(names: &Names, tags: &SharedTags) -> bool
     ensures { IsTrue result ↔ AllByRecursion (λ (tag : tag_type). IsTagName names.now tag.name) tags.now }
 {
@@ -53,98 +58,120 @@ fn are_all_tag_names(names: &Names, tags: &SharedTags) -> bool
     true
 }
 
-/// The rules, with `*` behind them.
-fn with_default(
-    alloc: Global,
-    rules: Vec<Rule>,
-    default: Option<DefaultRule>,
-) -> Result<Vec<Rule>, Memory>
-    ensures { IfOk result (λ all. AddsDefault default rules.items all.items) }
+/// Whether each tag of each rule has a name that it may have beside the spellings.
+fn have_tag_names(names: &Names, rules: &[KeptRule]) -> bool
+    ensures { IsTrue result ↔ AllByRecursion (λ (one : kept_rule). AllByRecursion (λ (tag : tag_type). IsTagName names.now tag.name) one.tags) rules.now }
 {
-    match default {
-        None => Ok(rules),
-        Some(default) => {
-            let mut rules = rules;
-            let rule = simple_rule(
-                default.number,
-                Kind::Default,
-                Expr::AnyUnit,
-                Sequence::new(alloc),
-            );
-            rules.push(rule)?;
-            Ok(rules)
+    for rule in rules {
+        if !are_all_tag_names(names, &rule.tags) {
+            return false;
         }
     }
+    true
 }
 
-/// The scanner of all rules.
-fn one_scanner(
-    alloc: Global,
-    rules: Vec<Rule>,
-    default: Option<DefaultRule>,
-) -> Result<Sequence<Scanner>, Memory>
-    ensures { IfOk result (IsOneScanner default rules.items) }
+/// The fault of the target of a rule, if it has no rules of its own.
+fn target_fault(conds: &Conditions, rule: &KeptRule, act: &Act) -> Option<Fault>
+    ensures { result ≡ target_fault act.now.goes rule.now.target (cond_names conds.now) }
 {
-    let rules = with_default(alloc, rules, default)?;
-    let scanner = Scanner {
-        cond: None,
-        set: RuleSet {
-            rules: Sequence::from_vec(rules),
-        },
+    let Some(goes) = &act.goes else {
+        return None;
     };
-    Ok(Sequence::from_vec(vec![in alloc; scanner]?))
-}
-
-/// The scanners of a block that may have no rules.
-fn scanners(
-    alloc: Global,
-    is_empty: bool,
-    rules: Vec<Rule>,
-    default: Option<DefaultRule>,
-) -> Result<Sequence<Scanner>, Memory>
-    ensures { IfOk result (AreScannersOf is_empty default rules.items) }
-{
-    if is_empty {
-        return Ok(Sequence::new(alloc));
+    let Some(place) = rule.target else {
+        return None;
+    };
+    if conds.contains(goes.as_slice()) {
+        return None;
     }
-    one_scanner(alloc, rules, default)
+    Some(Fault::Condition { at: place })
 }
 
-/// Whether the scanner is past a limit.
-fn is_too_large(known: &Known) -> bool
-    ensures { result ≡ (nat_lt SIZE_LIMIT known.now.size || nat_lt NESTING_LIMIT known.now.nesting || nat_lt TAG_LIMIT (length known.now.tags)) }
+/// The fault of the first target that has no rules of its own.
+fn targets_fault(known: &Known) -> Option<Fault>
+    ensures { result ≡ kept_targets_fault (cond_names known.now.conds) known.now.rules.items known.now.acts.items }
 {
-    known.size > SIZE_LIMIT || known.nesting > NESTING_LIMIT || known.tags.len() > TAG_LIMIT
+    let rules = known.rules.as_slice();
+    let acts = known.acts.as_slice();
+    for place in 0..rules.len() {
+        let Some(act) = acts.get(place) else {
+            return None;
+        };
+        let fault = target_fault(&known.conds, &rules[place], act);
+        if fault.is_some() {
+            return fault;
+        }
+    }
+    None
+}
+
+/// Whether the spellings differ, and each tag has a name that it may have beside them.
+fn names_differ(known: &Known, names: &Names, custom: bool) -> bool
+    ensures { IsTrue result ↔ (SpellingsDiffer custom names.now
+        × AllByRecursion (λ (one : kept_rule). AllByRecursion (λ (tag : tag_type). IsTagName names.now tag.name) one.tags) known.now.rules.items) }
+{
+    spellings_differ(names, custom) && have_tag_names(names, known.rules.as_slice())
+}
+
+/// The fault of rules that are all of `<*>`; at the opener of the block.
+fn lonely_fault(known: &Known, at: Pos) -> Option<Fault>
+    ensures { (rules : List RuleOf) → length rules ≡ length known.now.rules.items → result ≡ lonely_fault at rules (cond_names known.now.conds) }
+{
+    if known.rules.len() > 0 && known.conds.len() == 0 {
+        return Some(Fault::Condition { at });
+    }
+    None
+}
+
+/// The fault of a block as a whole, before those of its scanners, if there is one; its opener stands at this place.
+fn whole_fault(known: &Known, names: &Names, custom: bool, at: Pos) -> Option<Fault>
+    ensures { (state : State) → Holds known.now state → names.now ≡ (config_of state.settings).names → WholeChecks custom at state result }
+{
+    if !names_differ(known, names, custom) {
+        return Some(Fault::BadValue { at });
+    }
+    if let Some(fault) = lonely_fault(known, at) {
+        return Some(fault);
+    }
+    targets_fault(known)
+}
+
+/// The scanners of a block whose opener stands at this place, where its checks find nothing.
+fn checked_scanners(
+    alloc: Global,
+    known: &Known,
+    names: &Names,
+    options: &Options,
+    at: Pos,
+) -> Result<Sequence<Scanner>, Stop>
+    requires { (state : State) × Holds known.now state }
+    ensures { (state : State) → Holds known.now state → names.now ≡ (config_of state.settings).names → MatchResult result
+        (λ scanners. WholeChecks options.now.custom at state None
+        × AllZip (IsBuiltScanner options.now.conds at state.rules) (conditions_of state.rules) scanners)
+        (StopsAt (ScannerChecks options.now.custom at state)) }
+{
+    if let Some(fault) = whole_fault(known, names, options.custom, at) {
+        return Err(Stop::Fault(fault));
+    }
+    scanners(alloc, known, options.conds, at)
 }
 
 /// What the block resolves to whose opener stands at this place, and what holds behind it.
 pub(crate) fn finish(
     alloc: Global,
     known: Known,
-    custom: bool,
+    options: &Options,
     at: Pos,
 ) -> Result<(Env, Resolved), Stop>
-    requires { length known.acts.items ≤ SOURCE_LIMIT }
-    ensures { (conds : Bool) (state : State) → Holds conds known state → MatchResult result (IsFinished conds custom at state) (StopsAt (ScannerChecks custom at state)) }
+    requires few { length known.acts.items ≤ SOURCE_LIMIT }
+    requires holds { (state : State) × Holds known state }
+    ensures { (state : State) → Holds known state → MatchResult result
+        (IsFinished options.now.conds options.now.custom at state)
+        (StopsAt (ScannerChecks options.now.custom at state)) }
 {
     let names = usual_names(alloc)?;
-    if !spellings_differ(&names, custom) || !are_all_tag_names(&names, &known.tags) {
-        return Err(Stop::Fault(Fault::BadValue { at }));
-    }
-    if is_too_large(&known) {
-        return Err(Stop::Fault(Fault::TooManyParts {
-            at,
-            size: known.size,
-            nesting: known.nesting,
-            tags: known.tags.len(),
-        }));
-    }
-    let env = known.env;
+    let scanners = checked_scanners(alloc, &known, &names, options, at)?;
+    let Known { env, acts, .. } = known;
     let fill = env.settings.fill.unwrap_or(true);
-    let acts = known.acts;
-    let rules = known.rules;
-    let default = known.default;
-    let scanners = scanners(alloc, acts.as_slice().is_empty(), rules, default)?;
     let resolved = Resolved {
         scanners,
         acts: Sequence::from_vec(acts),

@@ -2,21 +2,21 @@
 ghost use Rattle.std.specs.Prelude.{◌≡◌, IfOk, Some};
 ghost use Rattle.lx_base.specs.declared.limits.TheConstants.{SOURCE_LIMIT};
 
+use crate::acts::act;
+use crate::conditions::Conditions;
 use crate::configurations::read_config;
 use crate::environment::Env;
 use crate::heads::{Head, read_head};
+use crate::kept::{KeptRule, is_default};
 use crate::resolved::Act;
-use crate::rules::{act, copies_of, simple_rule};
-use lx_base::limits::{NESTING_LIMIT, SIZE_LIMIT, TAG_LIMIT};
+use lx_base::limits::{SIZE_LIMIT, TAG_LIMIT};
 use lx_base::{Fault, Memory, Options, Pos, Stop};
 use lx_exprs::definitions::Kept;
 use lx_exprs::expressions::{Reading, read_expression};
 use lx_exprs::leaves::{Reader, unsupported};
-use lx_exprs::tags::{SharedTags, TagNames};
-use lx_exprs::values::{Room, sum};
+use lx_exprs::values::Room;
 use lx_forms::lexemes::Lexemes;
 use lx_parse::Item;
-use lx_regex::{Kind, Rule};
 use std::alloc::Global;
 
 /// What does not change while the items of a block are taken.
@@ -26,78 +26,67 @@ pub(crate) struct Block<'b> {
     pub lexemes: Lexemes<'b>,
 }
 
-/// The rule `*` of a block.
-#[derive(Clone, Copy)]
-pub(crate) struct DefaultRule {
-    pub number: u32,
-    /// Where its `*` stands.
-    pub at: Pos,
-}
-
 /// What is known behind some items of a block.
 #[derive(Drop)]
 pub(crate) struct Known {
     pub env: Env,
-    /// The rules but for `*`, as far as the scanner is within the limits.
-    pub rules: Vec<Rule>,
-    pub default: Option<DefaultRule>,
+    /// The rules, in order.
+    pub rules: Vec<KeptRule>,
+    /// What they do, in the same order.
     pub acts: Vec<Act>,
-    /// The size of all rules; 2^40 stands for itself and for more.
-    pub size: u64,
-    /// The greatest nesting; 2^40 stands for itself and for more.
-    pub nesting: u64,
-    /// All tags, rule by rule.
-    pub tags: SharedTags,
+    /// Their conditions.
+    pub conds: Conditions,
 }
 
 impl Known {
-    ghost use Rattle.std.specs.Prelude.{length, ◌≡◌, MatchResult, OnOk, Bool, ◌+◌, ◌++◌, ◌<◌, ◌≤◌, ◌^◌, max, min, suc};
+    ghost use Rattle.std.specs.Prelude.{length, ◌≡◌, ◌&&◌, MatchResult, OnOk, ◌<◌, ◌≤◌, map, suc};
+    ghost use Rattle.std.specs.List.{list_any};
     ghost use Rattle.lx_parse.specs.Expressions.{alt};
     ghost use Rattle.lx_parse.specs.Ranges.{IsPart, HasExpressions};
     ghost use Rattle.lx_parse.specs.declared.items.Item.TheVariants as item;
-    ghost use Rattle.lx_rules.specs.Items.{State, ItemChecks, first_state, with_rule};
+    ghost use Rattle.lx_rules.specs.Conditions.{AreConds, cond_names, conds_seen};
+    ghost use Rattle.lx_rules.specs.Items.{State, ItemChecks, first_state, is_default, with_rule};
     ghost use Rattle.lx_rules.specs.Rules.{RuleOf};
-    ghost use Rattle.lx_rules.specs.Keeping.{Holds, IsTaken, room_behind, AddsPlain, IsNew, IsBoundedHead};
-    ghost use Rattle.lx_exprs.specs.Checks.{StopsAt};
+    ghost use Rattle.lx_rules.specs.Keeping.{Holds, IsTaken, IsNew};
+    ghost use Rattle.lx_rules.specs.Kept.{first_kept};
+    ghost use Rattle.lx_exprs.specs.Checks.{StopsAt, is_among};
     ghost use Rattle.lx_forms.specs.Lexemes.{sorts_at};
     ghost use Rattle.lx_forms.specs.Seen.{lexemes_view};
     ghost use Rattle.lx_rules.specs.Seen.{environment_view};
-    ghost use Rattle.lx_rules.specs.Soundness.{HasFitDefinitions};
+    ghost use Rattle.lx_rules.specs.FitScanners.{HasFitDefinitions};
     ghost use Rattle.lx_base.specs.declared.blocks.BlockKind.TheVariants.{Code};
-    ghost use Rattle.lx_base.specs.declared.places.Pos.{Pos};
-    ghost use Rattle.lx_rules.specs.declared.heads.Head.TheVariants as head;
-    ghost use Rattle.lx_exprs.specs.Values.{IsBounded};
 
     /// What is known before the items.
     pub fn new(alloc: Global, env: Env) -> Known
         requires { HasFitDefinitions env }
-        ensures { (conds : Bool) → Holds conds result (first_state Code (environment_view env)) }
+        ensures { Holds result (first_state Code (environment_view env)) }
     {
         Known {
             env,
             rules: Vec::new(alloc),
-            default: None,
             acts: Vec::new(alloc),
-            size: 0,
-            nesting: 0,
-            tags: SharedTags::new(alloc),
+            conds: Conditions::new(alloc),
         }
     }
 
-    /// What the next rule may have. It may have nothing behind a nesting or a number of tags that is past the limit.
-    pub fn room(&self) -> Room
-        ensures { result ≡ room_behind self.now.size self.now.nesting (length self.now.tags) }
+    /// Whether a rule is `*` and has one of some conditions.
+    fn is_default_of(&self, rule: &KeptRule, conds: &[&[u8]]) -> bool
+        ensures { result ≡ (is_default rule.now.kind && list_any (λ cond. is_among cond (map (λ one. one.now) conds.now)) (conds_seen (cond_names self.now.conds) rule.now.conds)) }
     {
-        let tags = self.tags.len();
-        let is_past = self.nesting > NESTING_LIMIT || tags > TAG_LIMIT;
-        Room {
-            size: if is_past {
-                0
-            } else {
-                SIZE_LIMIT.saturating_sub(self.size)
-            },
-            tags: TAG_LIMIT.saturating_sub(tags),
+        is_default(rule.kind) && self.conds.share(&rule.conds, conds)
+    }
+
+    /// The place of the first rule `*` that has one of some conditions.
+    pub fn first_default(&self, conds: &[&[u8]]) -> Option<Pos>
+        ensures { result ≡ first_kept (cond_names self.now.conds) (map (λ cond. cond.now) conds.now) self.now.rules.items }
+    {
+        let rules = self.rules.as_slice();
+        for rule in rules {
+            if self.is_default_of(rule, conds) {
+                return Some(rule.at);
+            }
         }
+        None
     }
 
     /// Takes a definition.
@@ -110,14 +99,15 @@ impl Known {
         until: u32,
     ) -> Result<(), Stop>
         requires part { IsPart (sorts_at (lexemes_view block.lexemes)) alt from until }
-        requires sound { HasFitDefinitions self.old.env }
+        requires fit { HasFitDefinitions self.old.env }
         ensures acts { OnOk result (self.new.acts ≡ self.old.acts) }
-        ensures taken { (state : State) → Holds block.entry.options.now.conds self.old state → MatchResult result
+        ensures taken { (state : State) → Holds self.old state → MatchResult result
             (λ _. IsTaken block.entry.options.now (lexemes_view block.entry.lexemes) state (item.Define name from until) self.new)
             (StopsAt (ItemChecks block.entry.options.now (lexemes_view block.entry.lexemes) state (item.Define name from until))) }
     {
         let name = block.lexemes.at(name as usize);
-        if let Some(kept) = self.env.definitions.get(name.text) {
+        let scope = self.env.scope();
+        if let Some(kept) = scope.get(name.text) {
             return Err(Stop::Fault(Fault::Redefined {
                 at: name.at,
                 first: kept.at,
@@ -125,7 +115,7 @@ impl Known {
         }
         let reader = Reader {
             options: block.options,
-            definitions: &self.env.definitions,
+            scope,
             room: Room {
                 size: SIZE_LIMIT,
                 tags: TAG_LIMIT,
@@ -154,7 +144,7 @@ impl Known {
         value: u32,
     ) -> Result<(), Stop>
         ensures acts { OnOk result (self.new.acts ≡ self.old.acts) }
-        ensures taken { (state : State) → Holds block.entry.options.now.conds self.old state → MatchResult result
+        ensures taken { (state : State) → Holds self.old state → MatchResult result
             (λ _. IsTaken block.entry.options.now (lexemes_view block.entry.lexemes) state (item.Configure name value) self.new)
             (StopsAt (ItemChecks block.entry.options.now (lexemes_view block.entry.lexemes) state (item.Configure name value))) }
     {
@@ -164,72 +154,25 @@ impl Known {
         Ok(())
     }
 
-    /// Adds the rule of an expression, where it is built.
-    fn push_rule(&mut self, alloc: Global, number: u32, reading: Reading) -> Result<(), Memory>
-        requires { IsBounded reading.value }
-        ensures size { OnOk result (self.new.size ≡ min (2 ^ 40) (self.old.size + reading.value.size)) }
-        ensures nesting { OnOk result (self.new.nesting ≡ max self.old.nesting reading.value.nesting) }
-        ensures tags { OnOk result (self.new.tags ≡ self.old.tags ++ reading.tags) }
-        ensures env { self.new.env ≡ self.old.env }
-        ensures default { self.new.default ≡ self.old.default }
-        ensures acts { self.new.acts ≡ self.old.acts }
-        ensures rules { OnOk result (AddsPlain (room_behind self.old.size self.old.nesting (length self.old.tags)) number reading self.old.rules.items self.new.rules.items) }
-    {
-        let Reading { value, tags } = reading;
-        self.size = sum(self.size, value.size);
-        self.nesting = self.nesting.max(value.nesting);
-        self.tags.append(&tags)?;
-        match value.into_expr() {
-            None => Ok(()),
-            Some(expr) => {
-                let mut held = TagNames::new(alloc);
-                tags.copy_to(alloc, &mut held)?;
-                let tags = copies_of(alloc, held.tags())?;
-                self.rules
-                    .push(simple_rule(number, Kind::Plain, expr, tags))?;
-                Ok(())
-            }
-        }
-    }
-
-    /// Adds the rule `*`, which stands at this place.
-    fn add_default(&mut self, at: Pos, act: Act) -> Result<(), Memory>
+    /// Adds a rule of some conditions with its action, at whose head stands this place.
+    fn add_rule(
+        &mut self,
+        alloc: Global,
+        conds: &[&[u8]],
+        head: Head,
+        at: Pos,
+        act: Act,
+    ) -> Result<(), Memory>
+        requires { AreConds (map (λ cond. cond.now) conds.now) }
         ensures few { OnOk result (length self.new.acts.items ≤ suc (length self.old.acts.items)) }
-        ensures added { (conds : Bool) (state : State) (rule : RuleOf) → Holds conds self.old state → IsNew conds self.old head.Default at act rule
-            → OnOk result (Holds conds self.new (with_rule state rule)) }
+        ensures added { (state : State) (rule : RuleOf) → Holds self.old state → IsNew self.old (map (λ cond. cond.now) conds.now) head at act rule
+            → OnOk result (Holds self.new (with_rule state rule)) }
     {
-        self.default = Some(DefaultRule {
-            number: act.number,
-            at,
-        });
-        self.size = sum(self.size, 1);
+        let listed = self.conds.enter(alloc, conds, head.counted())?;
+        let rule = head.into_rule(alloc, act.number, listed, at);
+        self.rules.push(rule)?;
         self.acts.push(act)?;
         Ok(())
-    }
-
-    /// Adds the rule of an expression.
-    fn add_plain(&mut self, alloc: Global, reading: Reading, act: Act) -> Result<(), Memory>
-        requires { IsBounded reading.value }
-        ensures few { OnOk result (length self.new.acts.items ≤ suc (length self.old.acts.items)) }
-        ensures added { (conds : Bool) (state : State) (at : Pos) (rule : RuleOf) → Holds conds self.old state → IsNew conds self.old (head.Plain reading) at act rule
-            → OnOk result (Holds conds self.new (with_rule state rule)) }
-    {
-        self.push_rule(alloc, act.number, reading)?;
-        self.acts.push(act)?;
-        Ok(())
-    }
-
-    /// Adds a rule with its action, at whose head stands this place.
-    fn add_rule(&mut self, alloc: Global, head: Head, at: Pos, act: Act) -> Result<(), Memory>
-        requires { IsBoundedHead head }
-        ensures few { OnOk result (length self.new.acts.items ≤ suc (length self.old.acts.items)) }
-        ensures added { (conds : Bool) (state : State) (rule : RuleOf) → Holds conds self.old state → IsNew conds self.old head at act rule
-            → OnOk result (Holds conds self.new (with_rule state rule)) }
-    {
-        match head {
-            Head::Default => self.add_default(at, act),
-            Head::Plain(reading) => self.add_plain(alloc, reading, act),
-        }
     }
 
     /// Takes a rule.
@@ -247,9 +190,9 @@ impl Known {
         requires few { length self.old.acts.items < SOURCE_LIMIT }
         requires short { length block.lexemes.body.now ≤ SOURCE_LIMIT }
         requires expressions { HasExpressions (sorts_at (lexemes_view block.lexemes)) (item.Rule first head slash until goes code) }
-        requires sound { HasFitDefinitions self.old.env }
+        requires fit { HasFitDefinitions self.old.env }
         ensures few { OnOk result (length self.new.acts.items ≤ suc (length self.old.acts.items)) }
-        ensures taken { (state : State) → Holds block.entry.options.now.conds self.old state → MatchResult result
+        ensures taken { (state : State) → Holds self.old state → MatchResult result
             (λ _. IsTaken block.entry.options.now (lexemes_view block.entry.lexemes) state (item.Rule first head slash until goes code) self.new)
             (StopsAt (ItemChecks block.entry.options.now (lexemes_view block.entry.lexemes) state (item.Rule first head slash until goes code))) }
     {
@@ -260,14 +203,15 @@ impl Known {
         if block.options.conds {
             return Err(Stop::Fault(Fault::Condition { at: opener.at }));
         }
-        let read = read_head(alloc, self, block, head, slash, until)?;
+        let conds: [&[u8]; 1] = [b""];
+        let read = read_head(alloc, self, block, &conds, head, slash, until)?;
         if let Some(goes) = goes {
             let sign = block.lexemes.at((goes as usize).saturating_sub(1));
             return Err(unsupported(sign.at));
         }
         let number = self.acts.len() as u32 + 1;
         let act = act(alloc, block, number, code)?;
-        self.add_rule(alloc, read, opener.at, act)?;
+        self.add_rule(alloc, &conds, read, opener.at, act)?;
         Ok(())
     }
 
@@ -276,9 +220,9 @@ impl Known {
         requires few { length self.old.acts.items < SOURCE_LIMIT }
         requires short { length block.lexemes.body.now ≤ SOURCE_LIMIT }
         requires expressions { HasExpressions (sorts_at (lexemes_view block.lexemes)) item }
-        requires sound { HasFitDefinitions self.old.env }
+        requires fit { HasFitDefinitions self.old.env }
         ensures few { OnOk result (length self.new.acts.items ≤ suc (length self.old.acts.items)) }
-        ensures taken { (state : State) → Holds block.entry.options.now.conds self.old state → MatchResult result
+        ensures taken { (state : State) → Holds self.old state → MatchResult result
             (λ _. IsTaken block.entry.options.now (lexemes_view block.entry.lexemes) state item self.new)
             (StopsAt (ItemChecks block.entry.options.now (lexemes_view block.entry.lexemes) state item)) }
     {

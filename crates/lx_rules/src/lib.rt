@@ -1,15 +1,20 @@
 //! What a block of definitions and rules resolves to: the rule lists of its scanners, and the actions.
 #![tactic(auto)]
 
+mod acts;
+mod conditions;
 mod configurations;
+mod copies;
 pub mod environment;
 mod finishing;
 mod heads;
 mod items;
+mod kept;
 mod laws;
 pub mod resolved;
 pub mod resolving;
-mod rules;
+mod scanners;
+mod words;
 
 pub use environment::Env;
 pub use laws::{

@@ -14,7 +14,7 @@ ghost use Rattle.lx_rules.specs.Keeping.{Holds, StopsGoing};
 ghost use Rattle.lx_forms.specs.Lexemes.{lexemes_of, sorts_at};
 ghost use Rattle.lx_forms.specs.Seen.{lexemes_view};
 ghost use Rattle.lx_rules.specs.Seen.{environment_view};
-ghost use Rattle.lx_rules.specs.Soundness.{FitsLimits, HasFitDefinitions};
+ghost use Rattle.lx_rules.specs.FitScanners.{FitsLimits, HasFitDefinitions};
 ghost use Rattle.lx_exprs.specs.Within.{AreDefinedWithin};
 ghost use Rattle.lx_rules.specs.Within.{IsScannerWithin};
 
@@ -49,8 +49,8 @@ pub fn resolve(
     requires size { length body.now ≤ SOURCE_LIMIT }
     requires tokens { (start : Pos) × (tokens_of body.now start ≡ Ok tokens.now) }
     requires tree { IsBody (form_of kind) (sorts_of kind body.now tokens.now) tree.now.items }
-    requires sound { HasFitDefinitions env }
-    ensures sound { IfOk result (λ answer. HasFitDefinitions answer.0 × FitsLimits answer.1) }
+    requires fit { HasFitDefinitions env }
+    ensures fit { IfOk result (λ answer. HasFitDefinitions answer.0 × FitsLimits answer.1) }
     ensures within { AreDefinedWithin options.now.enc (environment_view env).definitions
         → IfOk result (λ answer. AreDefinedWithin options.now.enc (environment_view answer.0).definitions
         × AllByRecursion (IsScannerWithin options.now.enc) answer.1.scanners) }
@@ -72,7 +72,7 @@ pub fn resolve(
         },
     };
     let known = take_items(alloc, block, env, tree.items.as_slice())?;
-    finish(alloc, known, options.custom, at)
+    finish(alloc, known, options, at)
 }
 
 /// Takes the items of a block.
@@ -80,11 +80,11 @@ fn take_items(alloc: Global, block: Block<'_>, env: Env, items: &[Item]) -> Resu
     requires few { length items.now ≤ SOURCE_LIMIT }
     requires short { length block.lexemes.body.now ≤ SOURCE_LIMIT }
     requires expressions { EachHasExpressions (sorts_at (lexemes_view block.lexemes)) items.now }
-    requires sound { HasFitDefinitions env }
+    requires fit { HasFitDefinitions env }
     ensures few { IfOk result (λ known. length known.acts.items ≤ SOURCE_LIMIT) }
     ensures goes { MatchResult result
         (λ known. (state : State) × Goes block.entry.options.now (lexemes_view block.entry.lexemes) (first_state Code (environment_view env)) items.now (Ok state)
-        × Holds block.entry.options.now.conds known state)
+        × Holds known state)
         (StopsGoing block.entry.options.now (lexemes_view block.entry.lexemes) (first_state Code (environment_view env)) items.now) }
 {
     let mut known = Known::new(alloc, env);

@@ -44,12 +44,12 @@ AreBuildable enc members = EndsFitAmong members × ClassesFitAmong enc members
 pub record HasRoom (building : Building) (part count : ℕ) : Type 0 where
   pub parts : part + count < 2 ^ 31
   pub classes : length building.classes.list.items ≤ part
-  pub sound : AreClasses building.classes.enc building.classes.list.items
+  pub are_classes : AreClasses building.classes.enc building.classes.list.items
 
 -- these states came to those that were there
 pub record Builds (old new : Building) (rows : List spec.State) : Type 0 where
   pub enc : new.classes.enc ≡ old.classes.enc
-  pub sound : AreClasses new.classes.enc new.classes.list.items
+  pub are_classes : AreClasses new.classes.enc new.classes.list.items
   pub later : List ClassGraph
   pub classes : new.classes.list.items ≡ old.classes.list.items ++ later
   pub few : 2 * length later ≤ length rows

@@ -42,11 +42,11 @@ fn beginning(
 ) -> Result<State, Memory>
     requires parts { site.part + parts (term_of site.tags expr.now) < 2 ^ 31 }
     requires room { length classes.old.list.items < 2 ^ 32 }
-    requires sound { AreClasses classes.old.enc classes.old.list.items }
+    requires are_classes { AreClasses classes.old.enc classes.old.list.items }
     requires term { IsBuildable classes.old.enc (term_of site.tags expr.now) }
     requires shape { HasShape (term_of site.tags expr.now) shape.now }
     ensures adds { OnOk result (Adds classes.old classes.new 1) }
-    ensures sound { OnOk result (AreClasses classes.new.enc classes.new.list.items) }
+    ensures are_classes { OnOk result (AreClasses classes.new.enc classes.new.list.items) }
     ensures held { IfOk result (Represents classes.new.list.items (first_state (term_of site.tags expr.now) site.part)) }
 {
     let end = 2 * site.part + 1;

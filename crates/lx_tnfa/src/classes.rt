@@ -51,10 +51,10 @@ impl Classes {
     /// The number of a class, whose graph is made where it was not met before.
     pub fn number_of(&mut self, alloc: Global, set: &ClassSet) -> Result<u32, Memory>
         requires fits { FitsEncoding self.old.enc set.now }
-        requires sound { AreClasses self.old.enc self.old.list.items }
+        requires are_classes { AreClasses self.old.enc self.old.list.items }
         requires room { length self.old.list.items < 2 ^ 32 }
         ensures adds { OnOk result (Adds self.old self.new 1) }
-        ensures sound { OnOk result (AreClasses self.new.enc self.new.list.items) }
+        ensures are_classes { OnOk result (AreClasses self.new.enc self.new.list.items) }
         ensures number { IfOk result (λ number. HasClass self.new.list.items number set.now) }
     {
         let digest = digest(set.ranges());

@@ -95,7 +95,7 @@ impl Making {
 
     /// Appends a rule; the rule `$` has no states.
     pub fn add_rule(&mut self, alloc: Global, rule: &Rule) -> Result<(), Memory>
-        requires sound { AreClasses self.old.building.classes.enc self.old.building.classes.list.items }
+        requires are_classes { AreClasses self.old.building.classes.enc self.old.building.classes.list.items }
         requires can { OnFalse (is_end rule.now.kind) (CanAdd self.old rule.now) }
         ensures { OnOk result (AddsRule self.old self.new rule.now) }
     {

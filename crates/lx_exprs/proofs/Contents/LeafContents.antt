@@ -10,7 +10,7 @@ use Rattle.lx_regex.specs.declared.expr.Expr.{Expr}
 use Rattle.lx_exprs.specs.declared.values.Room.{Room}
 use Rattle.lx_exprs.specs.Defined.{fits}
 use Rattle.lx_exprs.specs.Meanings.{set_term, string_term}
-use Rattle.lx_exprs.specs.Soundness.{FitsKept}
+use Rattle.lx_exprs.specs.FitDefinitions.{FitsKept}
 use Rattle.lx_exprs.specs.Values.{HaveTagsBelow, IsRoom}
 
 -- one thing more for the next of some items

@@ -18,7 +18,7 @@ use Rattle.lx_exprs.proofs.Classes.ClassUnions.{classes_in-append, class_in-choi
 use Rattle.lx_exprs.specs.Defined.{HasClass, IsTermKept, Meaning, Shape, one, row, choice, whole, both_classes, class_in, classes_in, kept, meant_class, term_of_meaning}
 use Rattle.lx_exprs.specs.Meanings.{alternated, choice_size, grouped, in_choice, in_row}
 use Rattle.std.specs.Option.{option_map}
-use Rattle.lx_exprs.specs.Soundness.{FitsKept}
+use Rattle.lx_exprs.specs.FitDefinitions.{FitsKept}
 use Rattle.lx_exprs.proofs.TagLists.TermTags.{HasTagsBelow-greater}
 use Rattle.lx_exprs.specs.Values.{AreTagsBelow, HasPoints, HasTagsBelow, HaveTagsBelow, IsContent, content_size, is_choice, is_choice_content, is_past}
 

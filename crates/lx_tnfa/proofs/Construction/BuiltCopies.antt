@@ -30,7 +30,7 @@ pub copies_begin : (start : Building) (r : Repeat) (body : Term) → HasRoom sta
     → CopiesBuilt start start r body 0 (copies r.low r.high)
 copies_begin start r body room = record {
   done = [];
-  builds = builds_none start room.sound;
+  builds = builds_none start room.are_classes;
   left = refl;
   room = let e : r.part + 1 ≡ r.part + 1 + 0 * r.size = omega arith in subst (λ n. HasRoom start n (copies r.low r.high * r.size)) e room;
 }

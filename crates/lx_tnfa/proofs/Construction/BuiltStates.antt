@@ -52,9 +52,9 @@ held_append classes (row ∷ rows) others [] more h k = absurd h
 held_append classes (row ∷ rows) others (state ∷ states) more h k = (h.0, held_append classes rows others states more h.1 k)
 
 pub builds_none : (now : Building) → AreClasses now.classes.enc now.classes.list.items → Builds now now []
-builds_none now sound = record {
+builds_none now are_classes = record {
   enc = refl;
-  sound = sound;
+  are_classes = are_classes;
   later = [];
   classes = sym (append-nil now.classes.list.items);
   few = omega arith;
@@ -66,7 +66,7 @@ builds_none now sound = record {
 pub builds_then : (a b c : Building) (rows others : List spec.State) → Builds a b rows → Builds b c others → Builds a c (rows ++ others)
 builds_then a b c rows others first then = record {
   enc = then.enc ∙ first.enc;
-  sound = then.sound;
+  are_classes = then.are_classes;
   later = first.later ++ then.later;
   classes = then.classes ∙ ap (λ l. l ++ then.later) first.classes ∙ append_assoc a.classes.list.items first.later then.later;
   few = omega (arith, first.few, then.few, length-append first.later then.later, length-append rows others);
@@ -82,11 +82,11 @@ pub room_then : (a b : Building) (part front back : ℕ) (rows : List spec.State
 room_then a b part front back rows room builds count = record {
   parts = omega (arith, room.parts);
   classes = omega (arith, room.classes, ap length builds.classes, length-append a.classes.list.items builds.later, builds.few, count);
-  sound = builds.sound;
+  are_classes = builds.are_classes;
 }
 
 pub room_front : (a : Building) (part front back : ℕ) → HasRoom a part (front + back) → HasRoom a part front
-room_front a part front back room = record { parts = omega (arith, room.parts); classes = room.classes; sound = room.sound }
+room_front a part front back room = record { parts = omega (arith, room.parts); classes = room.classes; are_classes = room.are_classes }
 
 -- the state at the beginning of a part and the one at its end
 pub builds_ends :
@@ -94,9 +94,9 @@ pub builds_ends :
     → AreClasses new.classes.enc new.classes.list.items → Represents new.classes.list.items row state
     → exits ≡ map shown_move ways → new.states.items ≡ old.states.items ++ state ∷ held.Moves exits ∷ []
     → Builds old new (row ∷ moves ways ∷ [])
-builds_ends old new row ways state exits adds sound is out pushed = record {
+builds_ends old new row ways state exits adds are_classes is out pushed = record {
   enc = adds.enc;
-  sound = sound;
+  are_classes = are_classes;
   later = adds.later;
   classes = adds.list;
   few = omega (arith, adds.few);
@@ -139,7 +139,7 @@ module _ (rows : Terms → ℕ → List spec.State) (own : Term → Terms → �
     (size : (e : Term) (others : Terms) (part : ℕ) → length (own e others part) ≡ 2 * parts e) where
   pub members_begin : (start : Building) (tags first : ℕ) (members : List Expr) → HasRoom start first (parts_of_all (terms_in tags members))
       → MembersBuilt rows start start tags first members first 0
-  members_begin start tags first members room = record { done = []; builds = builds_none start room.sound; left = refl; room = room }
+  members_begin start tags first members room = record { done = []; builds = builds_none start room.are_classes; left = refl; room = room }
 
   pub member_room : (start now : Building) (tags first : ℕ) (members : List Expr) (part i : ℕ) (member : Expr) → i < length members
       → member ≡ get_or members i member → MembersBuilt rows start now tags first members part i
@@ -192,13 +192,13 @@ pub built : (old mid new : Building) (tags part : ℕ) (e form : Expr) (term : T
     → Represents mid.classes.list.items (first_state (term_of tags e) part) state
     → mid.states.items ≡ old.states.items ++ state ∷ held.Moves exits ∷ []
     → Builds mid new (inner_states term part) → exits ≡ map shown_move ways → Builds old new (table (term_of tags e) part ways)
-built old mid new tags part e form term state exits ways is folds adds sound first pushed inner out =
+built old mid new tags part e form term state exits ways is folds adds are_classes first pushed inner out =
     let t = term_of tags e in
     let same : t ≡ term = ap (term_of tags) is ∙ folds in
     subst
     (Builds old new) (sym (table-ends t part ways))
     (builds_then old mid new (first_state t part ∷ moves ways ∷ []) (inner_states t part)
-    (builds_ends old mid (first_state t part) ways state exits adds sound first out pushed)
+    (builds_ends old mid (first_state t part) ways state exits adds are_classes first out pushed)
     (subst (λ y. Builds mid new (inner_states y part)) (sym same) inner))
 
 pub built_leaf : (old mid : Building) (tags part : ℕ) (e : Expr) (state : State) (exits : List Move) (ways : List spec.Move) → IsLeafForm e
@@ -206,7 +206,7 @@ pub built_leaf : (old mid : Building) (tags part : ℕ) (e : Expr) (state : Stat
     → Represents mid.classes.list.items (first_state (term_of tags e) part) state
     → mid.states.items ≡ old.states.items ++ state ∷ held.Moves exits ∷ []
     → exits ≡ map shown_move ways → Builds old mid (table (term_of tags e) part ways)
-built_leaf old mid tags part e state exits ways alone adds sound first pushed out =
+built_leaf old mid tags part e state exits ways alone adds are_classes first pushed out =
     ⊎_elim (λ h. form Empty _ h (term_of-empty tags) refl)
     (λ h. ⊎_elim (λ h. form (Class h.0) _ h.1 (term_of-class tags h.0) refl)
     (λ h. ⊎_elim (λ h. form AnyUnit _ h (term_of-any_unit tags) refl)
@@ -216,8 +216,8 @@ built_leaf old mid tags part e state exits ways alone adds sound first pushed ou
     form : (f : Expr) (term : Term) → e ≡ f → term_of tags f ≡ term → inner_states term part ≡ []
         → Builds old mid (table (term_of tags e) part ways)
     form f term is folds none =
-        built old mid mid tags part e f term state exits ways is folds adds sound first pushed
-        (subst (Builds mid mid) (sym none) (builds_none mid sound)) out
+        built old mid mid tags part e f term state exits ways is folds adds are_classes first pushed
+        (subst (Builds mid mid) (sym none) (builds_none mid are_classes)) out
 
 -- two states more
 pub both_pushed : (old mid new : List State) (state exits : State) → mid ≡ old ++ state ∷ [] → new ≡ mid ++ exits ∷ []
@@ -227,8 +227,8 @@ both_pushed old mid new state exits first then = then ∙ ap (λ l. l ++ exits �
 -- there is room for what stands in a part
 pub room_inside : (old mid : Building) (part count : ℕ) → HasRoom old part (1 + count) → Adds old.classes mid.classes 1
     → AreClasses mid.classes.enc mid.classes.list.items → HasRoom mid (part + 1) count
-room_inside old mid part count room adds sound = record {
+room_inside old mid part count room adds are_classes = record {
   parts = omega (arith, room.parts);
   classes = omega (arith, room.classes, ap length adds.list, length-append old.classes.list.items adds.later, adds.few);
-  sound = sound;
+  are_classes = are_classes;
 }

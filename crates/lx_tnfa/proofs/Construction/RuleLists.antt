@@ -52,7 +52,7 @@ is_rule kind is = ⊎_elim (λ h. ap is_end h) (λ h. ap is_end h) is
 pub adds_end : (old new : Making) (rule : Rule) → is_end rule.kind ≡ true → AreClasses old.building.classes.enc old.building.classes.list.items
     → seen_tags new.rules.items ≡ seen_tags old.rules.items ++ (rule.number, sorts_of (pattern_of rule)) ∷ [] → new.owners.items ≡ old.owners.items
     → new.begins.items ≡ old.begins.items → new.building ≡ old.building → AddsRule old new rule
-adds_end old new rule ends sound rules owners begins same = record {
+adds_end old new rule ends are_classes rules owners begins same = record {
   rules = rules;
   owners =
       owners ∙ sym (append-nil old.owners.items)
@@ -62,7 +62,7 @@ adds_end old new rule ends sound rules owners begins same = record {
       ∙ ap (λ b. old.begins.items ++ (if b then [] else 2 * length old.owners.items ∷ [])) (sym ends);
   states =
       subst (λ b. Builds old.building new.building (if b then [] else table (pattern_of rule).term (length old.owners.items) final)) (sym ends)
-      (subst (λ b. Builds old.building b []) (sym same) (builds_none old.building sound));
+      (subst (λ b. Builds old.building b []) (sym same) (builds_none old.building are_classes));
 }
 
 -- another rule adds its states, and its number for each of its parts

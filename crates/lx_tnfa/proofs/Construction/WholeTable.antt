@@ -215,7 +215,7 @@ made_can enc rules start now place rule lt is limits fit encoding made = at (is_
           room = record {
             parts = omega (arith, fits, count, sizes_next rules place rule lt is, made.room);
             classes = made.classes;
-            sound = made.builds.sound;
+            are_classes = made.builds.are_classes;
           };
           term = (
             ends_fit pattern.term (length (sorts_of pattern)) regular.tags (omega (arith, all, ends)),
@@ -265,7 +265,7 @@ made_end enc rules start now place live le states encoding made marks marked =
       states =
           subst (RepresentEach now.building.classes.list.items (automaton (terms_of (patterns_of rules)))) (sym all)
           (refl, (refl, subst (λ l. RepresentEach now.building.classes.list.items l made.builds.more) whole made.builds.held));
-      classes = subst (λ n. AreClasses n now.building.classes.list.items) (made.builds.enc ∙ encoding) made.builds.sound;
+      classes = subst (λ n. AreClasses n now.building.classes.list.items) (made.builds.enc ∙ encoding) made.builds.are_classes;
       owners =
           sym (append-nil (seen_owners (seen_tags now.rules.items) now.owners.items))
           ∙ ap (λ l. seen_owners (seen_tags now.rules.items) now.owners.items ++ map owner (parts_of_rules place (length now.owners.items) l)) (sym none) ∙ made.owners;

@@ -8,7 +8,7 @@ generate-requires-clause-no_end c = no_end-simple c.as_slice-2.result.now (rw c.
 
 pub generate-requires-clause-short : goal.generate-requires-clause-short
 generate-requires-clause-short c =
-    rw (c.deref.ensures.value, c.in_ok-actions.ensures, c.as_slice.ensures) (AreShort-of c.args.resolved.now c.requires.ready.fine)
+    rw (c.deref.ensures.value, c.in_ok-actions.ensures, c.as_slice.ensures) (AreShort-of c.args.resolved.now c.requires.emittable.fits)
 
 pub generate-requires-clause-free : goal.generate-requires-clause-free
-generate-requires-clause-free c = λ yes. rw c.requires.ready.names refl
+generate-requires-clause-free c = λ yes. rw c.requires.emittable.names refl

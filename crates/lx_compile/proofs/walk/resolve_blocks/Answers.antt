@@ -15,7 +15,7 @@ loop-piece-preserved-in-Continue-1 c =
       walked =
           rw c.in_ok-push-in-Outside.ensures.pushed
           (IsWalked-outside c.args.options.now c.args.pieces rest (environment_view at.env) at.parts c.in-Outside.text walked);
-      sound = at.invariant.sound;
+      fit = at.invariant.fit;
       defined = at.invariant.defined;
       count = let was = at.invariant.count in let gone = c.in-Some.ensures.steps.1 in let short = ap length steps in omega arith;
     }
@@ -42,8 +42,8 @@ loop-piece-preserved c =
           rw c.in_ok-push-in-Block.ensures.pushed
           (IsWalked-block c.args.options.now c.args.pieces rest (environment_view at.env) at.parts c.in-Block.kind c.in-Block.body c.in-Block.at
           c.in-Block.body_at c.in-Block.end_line (environment_view answer.after) answer.resolved walked
-          (rw c.as_slice.ensures at answer.ensures.block) answer.ensures.sound.1 answer.ensures.within.1);
-      sound = answer.ensures.sound.0;
+          (rw c.as_slice.ensures at answer.ensures.block) answer.ensures.fit.1 answer.ensures.within.1);
+      fit = answer.ensures.fit.0;
       defined = answer.ensures.within.0;
       count = let was = at.invariant.count in let gone = c.in-Some.ensures.steps.1 in let short = ap length steps in omega arith;
     }

@@ -56,7 +56,7 @@ loop-part-preserved c =
     let sorted = subst (λ l. AreSorted l) (sym c.deref-part-items.ensures.value) c.in_ok-parts.ensures.sorted in
     let filled : (run_at parts i).lo ≤ (run_at parts i).hi = (sorted_at parts i c.loop-part-test.true sorted).1 in
     record {
-      ready = now.ready;
+      in_table = now.in_table;
       grows = GrowsBy-trans c.args.table.now c.loop-part.table c.put.new.table (2 * i) 2 (2 * (i + 1)) (omega arith) known.grows now.grows;
       folded = subst (λ l. IsFolding c.args.layer l c.put.new.self c.put.new.table) (sym (taken_at parts i c.loop-part-test.true))
           (now.folded (take i parts) (λ n t at. before_at parts i c.loop-part-test.true n t sorted at) known.folded);

@@ -6,7 +6,7 @@ use Rattle.lx_encode.proofs.layers.blocks_of.Given as goal
 
 abbrev pub invariant-loop-part : goal.invariant-loop-part
 invariant-loop-part l = record {
-  ready : IsWithinTable l.folding l.table;
+  in_table : IsWithinTable l.folding l.table;
   grows : GrowsBy l.initial.table l.table (2 * l.part-index);
   folded : IsFolding l.layer (take l.part-index l.part-items) l.folding l.table;
   later : (number : ℕ) → ((old target : ℕ) → LeadsTo (take l.part-index l.part-items) old target → old < number) →

@@ -1,6 +1,6 @@
 use Rattle.std.proofs.Common.{◌≡◌, ◌+◌, ◌++◌, arith, max, refl, subst, sym}
 use Rattle.lx_exprs.specs.Defined.{HasClass, kept, meant_class}
-use Rattle.lx_exprs.specs.Seen.{definitions_view}
+use Rattle.lx_exprs.specs.Seen.{scope_view}
 use Rattle.lx_exprs.proofs.Forms.ExpressionSteps.{difference_read}
 use Rattle.lx_exprs.proofs.expressions.difference.Goals as goal
 
@@ -14,8 +14,8 @@ returns-clause-read c first second sign place is is' =
     rw c.max-tags.ensures (rw is.counted.tags_is (rw is'.counted.tags_is (omega arith))) in
     let groups : c.sum-groups.result ≡ kept (first.groups + second.groups) =
     rw c.sum-groups.ensures (rw is.counted.groups_is (rw is'.counted.groups_is refl)) in
-    difference_read c.args.reader.options.now (definitions_view c.args.reader.definitions.now) c.args.reader.room c.args.is_operand first second sign
+    difference_read c.args.reader.options.now (scope_view c.args.reader.scope) c.args.reader.room c.args.is_operand first second sign
     c.in-Some.whole c.in-Some-2.holes c.in_ok-set.set has more c.in_ok-set.ensures.canonical c.in_ok-set.ensures.points c.read_set.result
     (rw place (rw (sym groups)
-    (c.read_set.ensures.read (definitions_view c.args.reader.definitions.now) (max first.nesting second.nesting) (max first.count second.count)
+    (c.read_set.ensures.read (scope_view c.args.reader.scope) (max first.nesting second.nesting) (max first.count second.count)
     (first.tags ++ second.tags) nesting tags)))

@@ -2,7 +2,7 @@ use Rattle.std.proofs.Common.{◌≡◌, ◌∙◌, ◌+◌, ◌++◌, ◌∷◌
 use Rattle.std.proofs.lemmas.Result.{err_from_is_err_and}
 use Rattle.std.proofs.lemmas.List.{take-append-drop}
 use Rattle.lx_exprs.specs.Reading.{AreInOrder, Goes, StopsReading, ends, no_operands}
-use Rattle.lx_exprs.specs.Seen.{definitions_view}
+use Rattle.lx_exprs.specs.Seen.{scope_view}
 use Rattle.lx_forms.specs.Seen.{lexemes_view}
 use Rattle.lx_forms.specs.StepViews.{step_view}
 use Rattle.lx_forms.specs.declared.steps.StepSort.TheVariants.{Read}
@@ -27,7 +27,7 @@ take-requires-clause-needs c =
 pub returns-in_err-take-clause-taken : goal.returns-in_err-take-clause-taken
 returns-in_err-take-clause-taken c =
     let options = c.args.reader.options.now in
-    let definitions = definitions_view c.args.reader.definitions.now in
+    let definitions = scope_view c.args.reader.scope in
     let place = c.loop-step.step-index in
     let steps = c.args.steps.now in
     let view = step_view (lexemes_view c.args.lexemes) in
@@ -46,7 +46,7 @@ returns-in_err-take-clause-taken c =
 pub loop-step-preserved : goal.loop-step-preserved
 loop-step-preserved c =
     let options = c.args.reader.options.now in
-    let definitions = definitions_view c.args.reader.definitions.now in
+    let definitions = scope_view c.args.reader.scope in
     let place = c.loop-step.step-index in
     let steps = c.args.steps.now in
     let view = step_view (lexemes_view c.args.lexemes) in

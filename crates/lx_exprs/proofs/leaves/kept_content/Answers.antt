@@ -4,7 +4,7 @@ use Rattle.std.specs.Option.{option_map}
 use Rattle.lx_regex.specs.Expr.{term_of}
 use Rattle.lx_exprs.specs.Defined.{and_more, class_in, count_of, kept, one}
 use Rattle.lx_exprs.specs.Meanings.{shifted, term_or_empty}
-use Rattle.lx_exprs.specs.Soundness.{FitsKept}
+use Rattle.lx_exprs.specs.FitDefinitions.{FitsKept}
 use Rattle.lx_exprs.specs.Values.{HasPoints, HasTagsBelow}
 use Rattle.lx_exprs.proofs.TagLists.TermTags.{HasTagsBelow-greater, HasTagsBelow-shifted, class_in-shifted}
 use Rattle.lx_exprs.proofs.leaves.kept_content.Goals as goal

@@ -6,7 +6,7 @@ use Rattle.lx_exprs.specs.Checks.{ClassHas, LeafHas, PointsAre, class_ranges, ra
 use Rattle.lx_exprs.specs.Defined.{count_of}
 use Rattle.lx_exprs.specs.Meanings.{IsSetOf}
 use Rattle.lx_exprs.specs.Points.{points_fault}
-use Rattle.lx_exprs.specs.Seen.{IsOrdered, definitions_view}
+use Rattle.lx_exprs.specs.Seen.{IsOrdered, scope_view}
 use Rattle.lx_forms.specs.Seen.{lexeme_view}
 use Rattle.lx_exprs.proofs.Contents.LeafSteps.{class-read, class-stops, kind-stops}
 use Rattle.lx_exprs.proofs.Classes.PointSets.{class_ordered, points_taken}
@@ -19,7 +19,7 @@ returns-in-Some-clause-read c before count =
     let ranges = c.in_ok-ranges.ensures ∙ ap (map range_of) (c.as_slice.ensures ∙ ap (λ (class : Class). class.ranges) c.in_ok-class.ensures) in
     let found : Some c.in-Some.fault ≡ points_fault options.enc options.surrogates lexeme.at (class_ranges lexeme) =
     sym c.in-Some.is ∙ c.points_fault.ensures ∙ ap (points_fault options.enc options.surrogates lexeme.at) (c.deref.ensures.value ∙ ranges) in
-    kind-stops options (definitions_view c.args.reader.definitions.now) c.args.reader.room c.args.is_operand before lexeme kind.Class c.requires.sort c.in-Some.fault
+    kind-stops options (scope_view c.args.reader.scope) c.args.reader.room c.args.is_operand before lexeme kind.Class c.requires.sort c.in-Some.fault
     (inr (c.in-Some.fault, found, refl))
 
 pub class_set-requires-clause-ordered : goal.class_set-requires-clause-ordered
@@ -47,7 +47,7 @@ pub returns-clause-read : goal.returns-clause-read
 returns-clause-read c before count =
     let reader = c.args.reader in
     let options = reader.options.now in
-    let definitions = definitions_view reader.definitions.now in
+    let definitions = scope_view reader.scope in
     let lexeme = lexeme_view c.args.lexeme.now in
     let ranges = c.in_ok-ranges.ensures ∙ ap (map range_of) (c.as_slice.ensures ∙ ap (λ (class : Class). class.ranges) c.in_ok-class.ensures) in
     let none : PointsAre options definitions lexeme (class_ranges lexeme) None =

@@ -1,6 +1,6 @@
 use Rattle.std.proofs.Common.{◌≡◌, arith}
 use Rattle.lx_exprs.specs.Defined.{Before, count_of, kept}
-use Rattle.lx_exprs.specs.Seen.{definitions_view}
+use Rattle.lx_exprs.specs.Seen.{scope_view}
 use Rattle.lx_forms.specs.Seen.{lexeme_view}
 use Rattle.lx_exprs.proofs.Contents.LeafSteps.{caseless-reads, string-reads}
 use Rattle.lx_exprs.proofs.leaves.read_leaf.Goals as goal
@@ -8,7 +8,7 @@ use Rattle.lx_exprs.proofs.leaves.read_leaf.Goals as goal
 pub returns-in-Str-clause-read : goal.returns-in-Str-clause-read
 returns-in-Str-clause-read c =
     let reader = c.args.reader in
-    let definitions = definitions_view reader.definitions.now in
+    let definitions = scope_view reader.scope in
     let before : Before = record { tags = c.args.seen.now; groups = c.args.groups } in
     let count : c.count_of-count.result ≡ kept (count_of before) = omega (arith, c.len.ensures, c.count_of-count.ensures) in
     string-reads reader.options.now definitions reader.room c.args.is_operand before (lexeme_view c.args.lexeme.now) c.read_string.result c.in-Str.is
@@ -17,7 +17,7 @@ returns-in-Str-clause-read c =
 pub returns-in-IStr-clause-read : goal.returns-in-IStr-clause-read
 returns-in-IStr-clause-read c =
     let reader = c.args.reader in
-    let definitions = definitions_view reader.definitions.now in
+    let definitions = scope_view reader.scope in
     let before : Before = record { tags = c.args.seen.now; groups = c.args.groups } in
     let count : c.count_of-count.result ≡ kept (count_of before) = omega (arith, c.len.ensures, c.count_of-count.ensures) in
     caseless-reads reader.options.now definitions reader.room c.args.is_operand before (lexeme_view c.args.lexeme.now) c.read_string-in-IStr.result

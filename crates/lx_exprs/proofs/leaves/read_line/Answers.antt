@@ -3,7 +3,7 @@ use Rattle.std.proofs.lemmas.List.{append-nil}
 use Rattle.lx_token.specs.declared.kinds.TokenKind.TheVariants as kind
 use Rattle.lx_exprs.specs.Defined.{count_of, is_built}
 use Rattle.lx_exprs.specs.Meanings.{class_meaning}
-use Rattle.lx_exprs.specs.Seen.{definitions_view}
+use Rattle.lx_exprs.specs.Seen.{scope_view}
 use Rattle.lx_exprs.specs.Values.{IsValue}
 use Rattle.lx_exprs.proofs.Contents.LeafSteps.{kind-read}
 use Rattle.lx_exprs.proofs.Classes.PointSets.{if_ok_both}
@@ -19,7 +19,7 @@ returns-clause-read c before lexeme count sort =
     (c.class_content-content.ensures.stands (is_built reader.room meaning) 0 0 (count_of before) []) in
     if_ok_both (IsValue reader.room meaning) (IsValue reader.room meaning) _ c.limited.result
     (λ value one two.
-    kind-read options (definitions_view reader.definitions.now) reader.room c.args.is_operand before lexeme kind.Signs sort refl meaning
+    kind-read options (scope_view reader.scope) reader.room c.args.is_operand before lexeme kind.Signs sort refl meaning
     (c.in_ok-set.set, c.in_ok-set.ensures, refl) before.tags (sym (append-nil before.tags)) value one)
     stands stands
 

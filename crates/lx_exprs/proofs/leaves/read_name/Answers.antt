@@ -5,7 +5,7 @@ use Rattle.lx_token.specs.declared.kinds.TokenKind.TheVariants as kind
 use Rattle.lx_exprs.specs.Checks.{name_fault, repeated_tag}
 use Rattle.lx_exprs.specs.Defined.{Before, and_more, count_of, definition_of, is_built, kept}
 use Rattle.lx_exprs.specs.Meanings.{copied}
-use Rattle.lx_exprs.specs.Seen.{definition_view, definitions_view}
+use Rattle.lx_exprs.specs.Seen.{definition_view, scope_view}
 use Rattle.lx_forms.specs.Seen.{lexeme_view}
 use Rattle.lx_exprs.specs.Values.{AreTagsBelow, IsCounted}
 use Rattle.lx_exprs.proofs.Contents.LeafContents.{fits-tagged, size-some}
@@ -15,7 +15,7 @@ use Rattle.lx_exprs.proofs.leaves.read_name.Goals as goal
 pub returns-clause-read : goal.returns-clause-read
 returns-clause-read c is_operand =
     let reader = c.args.reader in
-    let definitions = definitions_view reader.definitions.now in
+    let definitions = scope_view reader.scope in
     let before : Before = record { tags = c.args.seen.now; groups = c.args.groups } in
     let lexeme = lexeme_view c.args.lexeme.now in
     let held = c.in-Some.kept.now in
@@ -43,8 +43,8 @@ pub returns-clause-bounded : goal.returns-clause-bounded
 returns-clause-bounded c =
     let before : Before = record { tags = c.args.seen.now; groups = c.args.groups } in
     let held = c.in-Some.kept.now in
-    let sound = c.in-Some.ensures.sound c.requires.sound in
-    let some = size-some held.expr held.size (length held.tags + 2 * held.groups) sound.0 in
+    let fit = c.in-Some.ensures.fit c.requires.fit in
+    let some = size-some held.expr held.size (length held.tags + 2 * held.groups) fit.0 in
     let size = c.in_ok-content.ensures.size in
     let added : c.add.new.self ≡ before.tags ++ held.tags = c.in_ok-add.ensures in
     let many = ap (λ (l : List Tag). length l) added in

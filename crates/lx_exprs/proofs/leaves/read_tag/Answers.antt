@@ -3,7 +3,7 @@ use Rattle.lx_token.specs.declared.kinds.TokenKind.TheVariants as kind
 use Rattle.lx_exprs.specs.Checks.{is_tag_among, tag_of}
 use Rattle.lx_exprs.specs.Defined.{Before, count_of, is_built, kept}
 use Rattle.lx_exprs.specs.Meanings.{tag_meaning}
-use Rattle.lx_exprs.specs.Seen.{definitions_view}
+use Rattle.lx_exprs.specs.Seen.{scope_view}
 use Rattle.lx_forms.specs.Seen.{lexeme_view}
 use Rattle.lx_exprs.specs.Values.{AreTagsBelow}
 use Rattle.lx_exprs.proofs.Contents.LeafContents.{fits-tagged}
@@ -22,8 +22,8 @@ returns-clause-read c is_operand =
     c.tag_content-content.ensures.stands (is_built reader.room meaning) before named c.len-number.ensures
     (fits-tagged reader.room c.requires.room 1 0 (suc (count_of before))) in
     let among = ap (λ name. is_tag_among name before.tags) (sym c.tag_name-name.ensures) ∙ sym c.if-contains.ensures in
-    kind-read reader.options.now (definitions_view reader.definitions.now) reader.room is_operand before lexeme kind.STag c.requires.sort
-    (tag_fault-none reader.options.now (definitions_view reader.definitions.now) reader.room is_operand before lexeme false c.if-not-reader.false among) meaning refl c.push.new.self
+    kind-read reader.options.now (scope_view reader.scope) reader.room is_operand before lexeme kind.STag c.requires.sort
+    (tag_fault-none reader.options.now (scope_view reader.scope) reader.room is_operand before lexeme false c.if-not-reader.false among) meaning refl c.push.new.self
     (c.in_ok-push.ensures ∙ ap (λ name. before.tags ++ record { name = name; many = false } ∷ []) c.tag_name-name.ensures) c.in_ok-limited.field-0
     (c.in_ok-limited.ensures.stands meaning (record { size_is = refl; nesting_is = refl; groups_is = refl; tags_is = tags }) content)
 

@@ -1,4 +1,5 @@
-use Rattle.std.proofs.Common.{◌∙◌, length, ap, sym, subst, Some, None}
+use Rattle.std.proofs.Common.{◌∙◌, ℕ, List, map, ap, sym, subst, Some, None}
+use Rattle.std.specs.Borrow.{Bor}
 use Rattle.std.proofs.lemmas.Result.{err_from_is_err_and}
 use Rattle.std.specs.Option.{unwrap_or}
 use Rattle.lx_base.specs.declared.faults.Fault.TheVariants.{Unsupported}
@@ -7,13 +8,18 @@ use Rattle.lx_parse.specs.Expressions.{alt}
 use Rattle.lx_parse.specs.Ranges.{HasExpressions, IsPart}
 use Rattle.lx_parse.specs.declared.items.Item.TheVariants as item
 use Rattle.lx_forms.specs.Lexemes.{Lexeme, sorts_at}
-use Rattle.lx_exprs.specs.Expressions.{IsRead}
-use Rattle.lx_rules.specs.Keeping.{IsHeadRead, StopsHead, room_behind}
+use Rattle.lx_exprs.specs.Checks.{StopsAt}
+use Rattle.lx_exprs.specs.Expressions.{ExpressionChecks, IsRead}
+use Rattle.lx_rules.specs.Conditions.{room_under}
+use Rattle.lx_rules.specs.Keeping.{IsHeadRead, StopsHead}
 use Rattle.lx_exprs.specs.Seen.{definitions_view}
 use Rattle.lx_forms.specs.Seen.{lexemes_view}
 use Rattle.lx_rules.specs.declared.heads.Head.TheVariants as head
 use Rattle.lx_rules.proofs.HeadSteps.{StopsIn, context_unsupported, head_part, head_refused, plain_read}
 use Rattle.lx_rules.proofs.heads.read_plain.Goals as goal
+
+abbrev names_in : List (Bor (List ℕ)) → List (List ℕ)
+names_in conds = map (λ cond. cond.now) conds
 
 pub read_expression-requires-clause-part : goal.read_expression-requires-clause-part
 read_expression-requires-clause-part c =
@@ -27,9 +33,10 @@ returns-in_err-reading-clause-read c = λ state holds.
     let options = c.args.block.options.now in
     let lexemes = lexemes_view c.args.block.lexemes in
     let stopped = c.in_err-reading.field-0.0 in
-    let stops = subst (λ last. StopsIn options lexemes c.args.known.now state holds c.args.head last stopped) c.unwrap_or.ensures c.in_err-reading.ensures.read in
+    let stops = subst (λ last. StopsIn options lexemes c.args.known.now state holds (names_in c.args.conds.now) c.args.head last stopped) c.unwrap_or.ensures
+    (subst (λ definitions. StopsAt (ExpressionChecks options lexemes definitions c.args.head c.unwrap_or.result) stopped) c.scope-scope.ensures.seen c.in_err-reading.ensures.read) in
     rw (p.1, p.2)
-    (head_refused options lexemes c.args.known.now state holds c.args.head c.args.slash c.args.until stopped c.requires.star c.requires.dollar c.requires.expressions stops)
+    (head_refused options lexemes c.args.known.now state holds (names_in c.args.conds.now) c.args.head c.args.slash c.args.until stopped c.requires.star c.requires.dollar c.requires.expressions stops)
 
 pub returns-in-Some-clause-read : goal.returns-in-Some-clause-read
 returns-in-Some-clause-read c = λ state holds.
@@ -37,11 +44,12 @@ returns-in-Some-clause-read c = λ state holds.
     let lexemes = lexemes_view c.args.block.lexemes in
     let definitions = definitions_view c.args.known.now.env.definitions in
     let last = c.unwrap_or.ensures ∙ ap (λ slash. unwrap_or slash c.args.until) c.in-Some.is in
-    let read = subst (λ l. IsRead options lexemes definitions c.room.result c.args.head l c.in_ok-reading.reading) last c.in_ok-reading.ensures.read in
+    let read = subst (λ l. IsRead options lexemes definitions c.room.result c.args.head l c.in_ok-reading.reading) last
+    (subst (λ definitions. IsRead options lexemes definitions c.room.result c.args.head c.unwrap_or.result c.in_ok-reading.reading) c.scope-scope.ensures.seen c.in_ok-reading.ensures.read) in
     let has = subst (λ slash. HasExpressions (sorts_at lexemes) (item.Rule c.args.head c.args.head slash c.args.until None None)) c.in-Some.is c.requires.expressions in
-    let waiting = context_unsupported options lexemes c.args.known.now state holds c.args.head c.in-Some.slash c.args.until c.requires.star c.requires.dollar has c.room.result c.in_ok-reading.reading read in
-    subst (λ slash. StopsHead options lexemes state c.args.head slash c.args.until c.unsupported.result) (sym c.in-Some.is)
-    (subst (λ stopped. StopsHead options lexemes state c.args.head (Some c.in-Some.slash) c.args.until stopped)
+    let waiting = context_unsupported options lexemes c.args.known.now state holds (names_in c.args.conds.now) c.args.head c.in-Some.slash c.args.until c.requires.star c.requires.dollar has c.room.result c.in_ok-reading.reading read in
+    subst (λ slash. StopsHead options lexemes state (names_in c.args.conds.now) c.args.head slash c.args.until c.unsupported.result) (sym c.in-Some.is)
+    (subst (λ stopped. StopsHead options lexemes state (names_in c.args.conds.now) c.args.head (Some c.in-Some.slash) c.args.until stopped)
     (ap (λ (l : Lexeme). stop.Fault (Unsupported (Some l.at))) (sym c.at.ensures) ∙ sym c.unsupported.ensures) waiting)
 
 pub returns-in-None-clause-read : goal.returns-in-None-clause-read
@@ -50,9 +58,10 @@ returns-in-None-clause-read c = λ state holds.
     let lexemes = lexemes_view c.args.block.lexemes in
     let known = c.args.known.now in
     let definitions = definitions_view known.env.definitions in
-    let room = room_behind known.size known.nesting (length known.tags) in
+    let room = room_under known.conds (names_in c.args.conds.now) in
     let last = c.unwrap_or.ensures ∙ ap (λ slash. unwrap_or slash c.args.until) c.in-None.is in
-    let read = subst (λ l. IsRead options lexemes definitions c.room.result c.args.head l c.in_ok-reading.reading) last c.in_ok-reading.ensures.read in
-    subst (λ slash. IsHeadRead options lexemes state c.args.head slash c.args.until room (head.Plain c.in_ok-reading.reading)) (sym c.in-None.is)
-    (plain_read options lexemes known state holds c.args.head c.args.until room c.in_ok-reading.reading c.requires.star c.requires.dollar
-    (subst (λ room. IsRead options lexemes definitions room c.args.head c.args.until c.in_ok-reading.reading) c.room.ensures read))
+    let read = subst (λ l. IsRead options lexemes definitions c.room.result c.args.head l c.in_ok-reading.reading) last
+    (subst (λ definitions. IsRead options lexemes definitions c.room.result c.args.head c.unwrap_or.result c.in_ok-reading.reading) c.scope-scope.ensures.seen c.in_ok-reading.ensures.read) in
+    subst (λ slash. IsHeadRead options lexemes state (names_in c.args.conds.now) c.args.head slash c.args.until room (head.Plain c.in_ok-reading.reading)) (sym c.in-None.is)
+    (plain_read options lexemes known state holds (names_in c.args.conds.now) c.args.head c.args.until room c.in_ok-reading.reading c.requires.star c.requires.dollar
+    (subst (λ room. IsRead options lexemes definitions room c.args.head c.args.until c.in_ok-reading.reading) c.room.ensures.room read))

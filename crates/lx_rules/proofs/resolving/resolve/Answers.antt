@@ -13,7 +13,7 @@ use Rattle.lx_exprs.specs.Checks.{StopsAt}
 use Rattle.lx_forms.specs.Lexemes.{lexemes_of, sorts_at}
 use Rattle.lx_rules.specs.Items.{Goes, first_state}
 use Rattle.lx_rules.specs.Seen.{environment_view}
-use Rattle.lx_rules.specs.Soundness.{FitsLimits, HasFitDefinitions}
+use Rattle.lx_rules.specs.FitScanners.{FitsLimits, HasFitDefinitions}
 use Rattle.lx_exprs.specs.Within.{AreDefinedWithin}
 use Rattle.lx_rules.specs.Within.{IsScannerWithin}
 use Rattle.lx_rules.proofs.ScannerFits.{resolved_within}
@@ -39,11 +39,14 @@ take_items-requires-clause-expressions c =
     subst (λ items. EachHasExpressions (sorts_at (lexemes_of c.args.body.now c.as_slice.result.now)) items) (sym c.as_slice-2.ensures)
     (subst (λ s. EachHasExpressions s c.args.tree.now.items) sorts each)
 
-pub returns-clause-sound : goal.returns-clause-sound
-returns-clause-sound c =
+pub finish-requires-clause-holds : goal.finish-requires-clause-holds
+finish-requires-clause-holds c = let goes = c.in_ok-known.ensures.goes in (goes.0, goes.2)
+
+pub returns-clause-fit : goal.returns-clause-fit
+returns-clause-fit c =
     let goes = c.in_ok-known.ensures.goes in
     if_ok_so (IsFinished c.args.options.now.conds c.args.options.now.custom c.args.at goes.0) (λ answer. HasFitDefinitions answer.0 × FitsLimits answer.1) (StopsAt (ScannerChecks c.args.options.now.custom c.args.at goes.0)) c.finish.result
-    (c.finish.ensures c.args.options.now.conds goes.0 goes.2) (λ answer is. (is.3, is.4))
+    (c.finish.ensures goes.0 goes.2) (λ answer is. (is.3, is.4))
 
 pub returns-clause-within : goal.returns-clause-within
 returns-clause-within c = λ ready.
@@ -57,9 +60,9 @@ returns-clause-within c = λ ready.
     (subst (λ l. Goes options (lexemes_of c.args.body.now c.as_slice.result.now) (first_state Code environment) l (Ok goes.0)) c.as_slice-2.ensures goes.1) in
     if_ok_so (IsFinished options.conds options.custom c.args.at goes.0)
     (λ answer. AreDefinedWithin options.enc (environment_view answer.0).definitions × AllByRecursion (IsScannerWithin options.enc) answer.1.scanners)
-    (StopsAt (ScannerChecks c.args.options.now.custom c.args.at goes.0)) c.finish.result (c.finish.ensures options.conds goes.0 goes.2)
+    (StopsAt (ScannerChecks c.args.options.now.custom c.args.at goes.0)) c.finish.result (c.finish.ensures goes.0 goes.2)
     (λ answer is.
-    resolved_within options c.args.at environment (environment_view answer.0) lexemes items goes.0 answer.1 gone goes.2.usual is.0
+    resolved_within options c.args.at environment (environment_view answer.0) lexemes items goes.0 answer.1 gone is.0
     (ap (λ (e : Environment). e.definitions) is.1) is.2 is.4 ready)
 
 pub returns-clause-resolves : goal.returns-clause-resolves
@@ -75,6 +78,6 @@ returns-clause-resolves c =
     let code : c.args.kind ≡ Code = search rules in
     rw (code)
     (match_so (IsFinished options.conds options.custom c.args.at goes.0) (λ answer. Resolves options Code c.args.at environment lexemes items (environment_view answer.0) answer.1)
-    (StopsAt (ScannerChecks c.args.options.now.custom c.args.at goes.0)) (StopsWith options Code c.args.at environment lexemes items) c.finish.result (c.finish.ensures options.conds goes.0 goes.2)
+    (StopsAt (ScannerChecks c.args.options.now.custom c.args.at goes.0)) (StopsWith options Code c.args.at environment lexemes items) c.finish.result (c.finish.ensures goes.0 goes.2)
     (λ answer is. record { opening = refl; state = goes.0; goes = gone; checked = is.0; after_is = is.1; ends = is.2 })
     (λ stopped stops. stops_behind options c.args.at environment lexemes items goes.0 stopped gone stops))

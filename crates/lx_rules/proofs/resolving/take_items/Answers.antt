@@ -14,7 +14,7 @@ use Rattle.lx_rules.proofs.resolving.take_items.Goals as goal
 
 pub loop-item-init : goal.loop-item-init
 loop-item-init c =
-    let holds = c.new-known.ensures c.args.block.options.now.conds in
+    let holds = c.new-known.ensures in
     let none = ap length holds.acts in record {
       few = omega (arith, none);
       goes = (first_state Code (environment_view c.args.env), ends, holds);

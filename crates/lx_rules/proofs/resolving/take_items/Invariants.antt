@@ -11,5 +11,5 @@ invariant-loop-item l = record {
   few : length l.known.acts.items ≤ l.item-index;
   goes : (state : State)
       × Goes l.block.options.now (lexemes_view l.block.lexemes) (first_state Code (environment_view l.fn.env)) (take l.item-index l.items) (Ok state)
-      × Holds l.block.options.now.conds l.known state;
+      × Holds l.known state;
 }

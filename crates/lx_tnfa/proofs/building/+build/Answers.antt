@@ -281,7 +281,7 @@ build-build_copies-requires t c =
     e ∙ ap (λ n. 1 + n) (sym (counted_times (copies low high) (parts body))) in
     let room =
     room_inside c.args.building.now mid c.args.site.part (copies low high * counted_size low high body)
-    (subst (HasRoom c.args.building.now c.args.site.part) counts c.requires.room) c.in_ok-state.ensures.adds c.in_ok-state.ensures.sound in
+    (subst (HasRoom c.args.building.now c.args.site.part) counts c.requires.room) c.in_ok-state.ensures.adds c.in_ok-state.ensures.are_classes in
     let term =
     from_form (IsBuildable c.args.building.now.classes.enc) tags c.args.expr.now _ _ c.in-Rep.is (term_of-rep tags c.in-Rep.body low high) c.requires.term in (
       search (rules, the_lemmas),
@@ -297,7 +297,7 @@ build-returns-in-Cat t c =
     on_ok_weaker c.build_members.result
     (λ inner ways out.
     built c.args.building.now mid c.build_members.new.building c.args.site.tags c.args.site.part c.args.expr.now _ _ c.in_ok-state.state c.args.exits ways
-    c.in-Cat.is (term_of-cat c.args.site.tags c.in-Cat.members) first.adds first.sound first.held pushed (rw c.deref.ensures.value at inner) out)
+    c.in-Cat.is (term_of-cat c.args.site.tags c.in-Cat.members) first.adds first.are_classes first.held pushed (rw c.deref.ensures.value at inner) out)
     c.build_members.ensures
 
 pub build-returns-in-Alt : goal.build-returns-in-Alt
@@ -308,7 +308,7 @@ build-returns-in-Alt t c =
     on_ok_weaker c.build_alternatives.result
     (λ inner ways out.
     built c.args.building.now mid c.build_alternatives.new.building c.args.site.tags c.args.site.part c.args.expr.now _ _ c.in_ok-state.state c.args.exits ways
-    c.in-Alt.is (term_of-alt c.args.site.tags c.in-Alt.members) first.adds first.sound first.held pushed (rw c.deref-in-Alt.ensures.value at inner) out)
+    c.in-Alt.is (term_of-alt c.args.site.tags c.in-Alt.members) first.adds first.are_classes first.held pushed (rw c.deref-in-Alt.ensures.value at inner) out)
     c.build_alternatives.ensures
 
 pub build-returns-in-Rep : goal.build-returns-in-Rep
@@ -327,7 +327,7 @@ build-returns-in-Rep t c =
     on_ok_weaker c.build_copies.result
     (λ inner ways out.
     built c.args.building.now mid c.build_copies.new.building tags c.args.site.part c.args.expr.now _ _ c.in_ok-state.state c.args.exits ways
-    c.in-Rep.is (term_of-rep tags c.in-Rep.body c.in-Rep.low c.in-Rep.high) first.adds first.sound first.held pushed
+    c.in-Rep.is (term_of-rep tags c.in-Rep.body c.in-Rep.low c.in-Rep.high) first.adds first.are_classes first.held pushed
     (rw (so, c.deref-in-Rep.ensures) at inner) out)
     c.build_copies.ensures
 
@@ -342,7 +342,7 @@ build-returns-in_ok-ways-in-Group t c =
     on_ok_weaker c.build.result
     (λ inner ways out.
     built c.args.building.now mid c.build.new.building tags c.args.site.part c.args.expr.now _ _ c.in_ok-state.state c.args.exits ways
-    c.in-Group.is (term_of-group tags c.in-Group.number c.in-Group.body) first.adds first.sound first.held pushed
+    c.in-Group.is (term_of-group tags c.in-Group.number c.in-Group.body) first.adds first.are_classes first.held pushed
     (rw c.deref-in-Group.ensures at (inner exits c.in_ok-ways-in-Group.ensures)) out)
     c.build.ensures
 
@@ -352,7 +352,7 @@ build-returns-in-Empty t c ways out =
     let pushed = both_pushed c.args.building.now.states.items c.push.new.self.items c.push-2.new.self.items _ _ c.in_ok-push.ensures.items c.in_ok-push-2.ensures.items in
     let first = c.in_ok-state.ensures in
     built_leaf c.args.building.now mid c.args.site.tags c.args.site.part c.args.expr.now c.in_ok-state.state c.args.exits ways c.in-Empty.is
-    first.adds first.sound first.held pushed out
+    first.adds first.are_classes first.held pushed out
 
 pub build-returns-in-Empty-2 : goal.build-returns-in-Empty-2
 build-returns-in-Empty-2 t c ways out =
@@ -360,7 +360,7 @@ build-returns-in-Empty-2 t c ways out =
     let pushed = both_pushed c.args.building.now.states.items c.push.new.self.items c.push-2.new.self.items _ _ c.in_ok-push.ensures.items c.in_ok-push-2.ensures.items in
     let first = c.in_ok-state.ensures in
     built_leaf c.args.building.now mid c.args.site.tags c.args.site.part c.args.expr.now c.in_ok-state.state c.args.exits ways c.in-Empty.is
-    first.adds first.sound first.held pushed out
+    first.adds first.are_classes first.held pushed out
 
 pub build-returns-in-Empty-3 : goal.build-returns-in-Empty-3
 build-returns-in-Empty-3 t c ways out =
@@ -368,7 +368,7 @@ build-returns-in-Empty-3 t c ways out =
     let pushed = both_pushed c.args.building.now.states.items c.push.new.self.items c.push-2.new.self.items _ _ c.in_ok-push.ensures.items c.in_ok-push-2.ensures.items in
     let first = c.in_ok-state.ensures in
     built_leaf c.args.building.now mid c.args.site.tags c.args.site.part c.args.expr.now c.in_ok-state.state c.args.exits ways c.in-Empty.is
-    first.adds first.sound first.held pushed out
+    first.adds first.are_classes first.held pushed out
 
 pub build-returns-in-Empty-4 : goal.build-returns-in-Empty-4
 build-returns-in-Empty-4 t c ways out =
@@ -376,7 +376,7 @@ build-returns-in-Empty-4 t c ways out =
     let pushed = both_pushed c.args.building.now.states.items c.push.new.self.items c.push-2.new.self.items _ _ c.in_ok-push.ensures.items c.in_ok-push-2.ensures.items in
     let first = c.in_ok-state.ensures in
     built_leaf c.args.building.now mid c.args.site.tags c.args.site.part c.args.expr.now c.in_ok-state.state c.args.exits ways c.in-Empty.is
-    first.adds first.sound first.held pushed out
+    first.adds first.are_classes first.held pushed out
 
 pub build-returns-in-Empty-5 : goal.build-returns-in-Empty-5
 build-returns-in-Empty-5 t c ways out =
@@ -384,7 +384,7 @@ build-returns-in-Empty-5 t c ways out =
     let pushed = both_pushed c.args.building.now.states.items c.push.new.self.items c.push-2.new.self.items _ _ c.in_ok-push.ensures.items c.in_ok-push-2.ensures.items in
     let first = c.in_ok-state.ensures in
     built_leaf c.args.building.now mid c.args.site.tags c.args.site.part c.args.expr.now c.in_ok-state.state c.args.exits ways c.in-Empty.is
-    first.adds first.sound first.held pushed out
+    first.adds first.are_classes first.held pushed out
 
 pub build_alternatives-bounds-shapes-i : goal.build_alternatives-bounds-shapes-i
 build_alternatives-bounds-shapes-i t c =

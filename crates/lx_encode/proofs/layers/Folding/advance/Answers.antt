@@ -16,4 +16,4 @@ returns-clause-folded c = λ layer runs folding.
     c.args.table.now c.residual_of.new.self folding c.in_ok-to.to c.in_ok-append_run.ensures.leads c.in_ok-to.ensures.grows
     (c.in_ok-to.ensures.row ∙ ap (λ v. v.items) c.replace-row.ensures.value)
     (is_empty-false old.row.items old.row.len old.row.ok.0 c.if-is_empty.ensures)
-    (ap (λ v. v.items) c.replace-row.ensures.after ∙ c.new.ensures.items) (omega arith) c.requires.ready.within
+    (ap (λ v. v.items) c.replace-row.ensures.after ∙ c.new.ensures.items) (omega arith) c.requires.in_table.within

@@ -2,9 +2,9 @@ use Rattle.std.proofs.Common.{◌<◌, ◌≤◌, length, sym, subst, arith}
 use Rattle.lx_encode.specs.Runs.{IsRow, LeadsTo}
 use Rattle.lx_encode.proofs.layers.Folding.put.Goals as goal
 
-pub returns-in_ok-put_within-clause-ready : goal.returns-in_ok-put_within-clause-ready
-returns-in_ok-put_within-clause-ready c =
-    let known = c.in_ok-advance.ensures.ready in
+pub returns-in_ok-put_within-clause-in_table : goal.returns-in_ok-put_within-clause-in_table
+returns-in_ok-put_within-clause-in_table c =
+    let known = c.in_ok-advance.ensures.in_table in
     let now = c.in_ok-put_within.ensures in
     let longer : length c.args.table.now ≤ length c.advance.new.table = c.in_ok-advance.ensures.grows.longer in
     record {

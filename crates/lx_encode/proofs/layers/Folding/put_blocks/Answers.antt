@@ -10,5 +10,5 @@ returns-clause-folded c = λ runs behind folding.
     put_blocks_folding c.args.layer c.requires.radix c.args.part c.requires.ordered runs old
     (record { closed = c.append_run.new.row; block = c.args.part.hi / c.args.layer.radix + 1; row = old.row })
     c.args.table.now c.residual_of.new.self folding c.in_ok-to.to c.requires.here c.requires.first c.requires.last refl refl behind
-    c.requires.ready.passed c.requires.ready.within c.in_ok-append_run.ensures.leads c.in_ok-to.ensures.grows
+    c.requires.in_table.passed c.requires.in_table.within c.in_ok-append_run.ensures.leads c.in_ok-to.ensures.grows
     (c.in_ok-to.ensures.row ∙ c.in_ok-push.ensures.items ∙ ap (λ l. l ++ whole ∷ []) c.new-row.ensures.items)

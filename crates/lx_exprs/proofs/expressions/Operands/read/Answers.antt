@@ -1,4 +1,4 @@
-use Rattle.lx_exprs.specs.Seen.{definitions_view}
+use Rattle.lx_exprs.specs.Seen.{scope_view}
 use Rattle.lx_forms.specs.Seen.{lexeme_view}
 use Rattle.lx_exprs.proofs.Forms.ExpressionSteps.{leaf_taken}
 use Rattle.lx_exprs.proofs.Contents.OperandValues.{bounded_all}
@@ -6,7 +6,7 @@ use Rattle.lx_exprs.proofs.expressions.Operands.read.Goals as goal
 
 pub returns-clause-stands : goal.returns-clause-stands
 returns-clause-stands c operands are =
-    leaf_taken c.args.reader.options.now (definitions_view c.args.reader.definitions.now) c.args.reader.room operands c.args.self.now c.push.new.self
+    leaf_taken c.args.reader.options.now (scope_view c.args.reader.scope) c.args.reader.room operands c.args.self.now c.push.new.self
     c.args.is_operand (lexeme_view c.args.lexeme.now) c.in_ok-value.value are c.in_ok-push.ensures.values
     (rw c.in_ok-push.ensures.groups c.sum-self.ensures) c.in_ok-push.ensures.open_groups (rw c.in_ok-push.ensures.seen c.in_ok-value.ensures.read)
 

@@ -1,6 +1,6 @@
 use Rattle.std.proofs.Common.{◌∙◌, refl}
 use Rattle.std.proofs.lemmas.Result.{err_from_is_err_and}
-use Rattle.lx_exprs.specs.Seen.{definitions_view}
+use Rattle.lx_exprs.specs.Seen.{scope_view}
 use Rattle.lx_forms.specs.Seen.{lexeme_view}
 use Rattle.lx_exprs.proofs.Forms.ExpressionSteps.{last_two, subtract_stops, subtract_taken}
 use Rattle.lx_exprs.proofs.Contents.OperandValues.{bounded_all, bounded_front}
@@ -12,7 +12,7 @@ returns-in_err-value-clause-stands c operands are =
     c.pop-left.result c.pop-right.result c.pop-right.ensures.values c.pop-left.ensures.values are.values in
     let p = err_from_is_err_and c.from_residual.result c.from_residual.ensures.1 in
     rw (p.1, p.2)
-    (subtract_stops c.args.reader.options.now (definitions_view c.args.reader.definitions.now) c.args.reader.room operands.meanings c.args.is_operand
+    (subtract_stops c.args.reader.options.now (scope_view c.args.reader.scope) c.args.reader.room operands.meanings c.args.is_operand
     (lexeme_view c.args.sign.now) c.pop-left.new.self.values.items c.pop-left.result c.pop-right.result c.in_err-value.field-0.0 two
     (c.in_err-value.ensures.read two.first two.second (lexeme_view c.args.sign.now) refl two.left_is two.right_is))
 
@@ -20,7 +20,7 @@ pub returns-clause-stands : goal.returns-clause-stands
 returns-clause-stands c operands are =
     let two = last_two c.args.reader.room operands.meanings c.args.self.now.values.items c.pop-right.new.self.values.items c.pop-left.new.self.values.items
     c.pop-left.result c.pop-right.result c.pop-right.ensures.values c.pop-left.ensures.values are.values in
-    subtract_taken c.args.reader.options.now (definitions_view c.args.reader.definitions.now) c.args.reader.room operands c.args.self.now c.push.new.self
+    subtract_taken c.args.reader.options.now (scope_view c.args.reader.scope) c.args.reader.room operands c.args.self.now c.push.new.self
     c.args.is_operand (lexeme_view c.args.sign.now) c.pop-left.new.self.values.items c.pop-left.result c.pop-right.result c.in_ok-value.value are two
     c.in_ok-push.ensures.values (rw c.in_ok-push.ensures.seen (rw c.pop-left.ensures.seen (rw c.pop-right.ensures.seen refl)))
     (rw c.in_ok-push.ensures.groups (rw c.pop-left.ensures.groups (rw c.pop-right.ensures.groups refl)))

@@ -1,17 +1,17 @@
 use Rattle.std.proofs.Common.{refl, subst, sym}
 use Rattle.lx_exprs.specs.Checks.{are_groups}
 use Rattle.lx_exprs.specs.Reading.{AreOperands, closed}
-use Rattle.lx_exprs.specs.Seen.{definitions_view}
+use Rattle.lx_exprs.specs.Seen.{scope_view}
 use Rattle.lx_exprs.proofs.expressions.Operands.take.Goals as goal
 
 pub returns-in-Open-clause-stands : goal.returns-in-Open-clause-stands
 returns-in-Open-clause-stands c operands are =
     rw c.in-Open.is (rw (sym c.at-lexeme.ensures)
-    (c.read_open.ensures.stands (definitions_view c.args.reader.definitions.now) c.args.reader.room operands are))
+    (c.read_open.ensures.stands (scope_view c.args.reader.scope) c.args.reader.room operands are))
 
 pub returns-in_ok-close-in-Close-clause-stands : goal.returns-in_ok-close-in-Close-clause-stands
 returns-in_ok-close-in-Close-clause-stands c operands are =
-    let definitions = definitions_view c.args.reader.definitions.now in
+    let definitions = scope_view c.args.reader.scope in
     rw c.in-Close.is (record {
       checked = refl;
       after = closed (are_groups c.args.reader.options.now definitions) operands;
@@ -24,4 +24,4 @@ returns-in_ok-close-in-Close-clause-stands c operands are =
 pub returns-in-Repeat-clause-stands : goal.returns-in-Repeat-clause-stands
 returns-in-Repeat-clause-stands c operands are =
     rw c.in-Repeat.is (rw (sym c.at-lexeme.ensures)
-    (c.repeat.ensures.stands c.args.reader.options.now (definitions_view c.args.reader.definitions.now) operands are))
+    (c.repeat.ensures.stands c.args.reader.options.now (scope_view c.args.reader.scope) operands are))

@@ -5,6 +5,8 @@ use Rattle.lx_exprs.specs.declared.definitions.Kept.{Kept}
 use Rattle.lx_regex.specs.declared.rules.Tag.{Tag}
 use Rattle.lx_exprs.proofs.Contents.ValueContents.{fits_counted}
 use Rattle.lx_forms.specs.Lexemes.{Lexeme, nth_lexeme}
+use Rattle.lx_exprs.specs.Checks.{StopsAt}
+use Rattle.lx_exprs.specs.Expressions.{ExpressionChecks, IsRead}
 use Rattle.lx_exprs.specs.Defined.{IsDefined, definition_of, whole_room}
 use Rattle.lx_exprs.specs.Seen.{definition_view, definitions_view}
 use Rattle.lx_forms.specs.Seen.{lexemes_view}
@@ -17,11 +19,13 @@ returns-in_err-reading-clause-taken c = λ state holds.
     let none : definition_of state.definitions (nth_lexeme lexemes c.args.name).text ≡ None =
     ap (λ (l : Lexeme). definition_of state.definitions l.text) (sym c.at-name.ensures)
     ∙ ap (λ definitions. definition_of definitions c.at-name.result.text.now) (sym holds.definitions)
+    ∙ ap (λ definitions. definition_of definitions c.at-name.result.text.now) (sym c.scope-scope.ensures.seen)
     ∙ sym c.get.ensures.found ∙ ap (option_map (λ kept. definition_view c.at-name.result.text.now kept.now)) c.in_default.is in
     let p = err_from_is_err_and c.from_residual.result c.from_residual.ensures.1 in
     rw (p.1, p.2)
     (define_refused c.args.block.options.now lexemes c.args.self.now state holds c.args.name c.args.from c.args.until c.in_err-reading.field-0.0 none
-    c.in_err-reading.ensures.read)
+    (subst (λ definitions. StopsAt (ExpressionChecks c.args.block.options.now lexemes definitions c.args.from c.args.until) c.in_err-reading.field-0.0)
+    c.scope-scope.ensures.seen c.in_err-reading.ensures.read))
 
 pub returns-clause-taken : goal.returns-clause-taken
 returns-clause-taken c = λ state holds.
@@ -29,9 +33,11 @@ returns-clause-taken c = λ state holds.
     let none : definition_of state.definitions (nth_lexeme lexemes c.args.name).text ≡ None =
     ap (λ (l : Lexeme). definition_of state.definitions l.text) (sym c.at-name.ensures)
     ∙ ap (λ definitions. definition_of definitions c.at-name.result.text.now) (sym holds.definitions)
+    ∙ ap (λ definitions. definition_of definitions c.at-name.result.text.now) (sym c.scope-scope.ensures.seen)
     ∙ sym c.get.ensures.found ∙ ap (option_map (λ kept. definition_view c.at-name.result.text.now kept.now)) c.in_default.is in
     let reading = c.in_ok-reading.reading in
-    let read = read_known c.args.block.options.now lexemes c.args.self.now state holds whole_room c.args.from c.args.until reading c.in_ok-reading.ensures.read in
+    let read = read_known c.args.block.options.now lexemes c.args.self.now state holds whole_room c.args.from c.args.until reading
+    (subst (λ definitions. IsRead c.args.block.options.now lexemes definitions whole_room c.args.from c.args.until reading) c.scope-scope.ensures.seen c.in_ok-reading.ensures.read) in
     let counted = read.stands.value.counted in
     let given : Kept = record { at = c.at-name.result.at; size = reading.value.size; nesting = reading.value.nesting; tags = reading.tags; groups = reading.value.groups; expr = c.in_ok-into_kept.field-0 } in
     let defined : IsDefined (nth_lexeme lexemes c.args.name).text (nth_lexeme lexemes c.args.name).at read.meaning (definition_view (nth_lexeme lexemes c.args.name).text given) =
@@ -46,11 +52,11 @@ returns-clause-taken c = λ state holds.
     } in
     define_taken c.args.block.options.now lexemes c.args.self.now state holds c.args.name c.args.from c.args.until _ given reading none read defined
     (subst (λ (l : Lexeme). definitions_view c.add.new.self ≡ definitions_view c.args.self.now.env.definitions ++ definition_view l.text given ∷ []) c.at-name.ensures c.in_ok-add.ensures.added)
-    (c.in_ok-add.ensures.sound holds.sound (
+    (c.in_ok-add.ensures.fit holds.fit (
       fits_counted c.in_ok-into_kept.field-0 reading.value.size reading.value.tags (length reading.tags + 2 * reading.value.groups)
           (let tags = read.stands.tags in let all = ap (λ (l : List Tag). length l) tags in let groups = counted.groups_is in
           let none = read.stands.groups in let count = read.stands.count in let counts = counted.tags_is in omega (arith, all, groups, none, count, counts))
           (c.in_ok-into_kept.ensures.kept c.in_ok-reading.ensures.bounded),
       counted.groups_is ∙ read.stands.groups,
     ))
-    refl refl refl refl refl refl refl
+    refl refl refl refl

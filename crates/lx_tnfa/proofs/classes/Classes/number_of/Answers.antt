@@ -3,9 +3,9 @@ use Rattle.lx_encode.specs.Graph.{IsGraphOf}
 use Rattle.lx_tnfa.proofs.Leaves.ClassLists.{classes_push, class_last}
 use Rattle.lx_tnfa.proofs.classes.Classes.number_of.Goals as goal
 
-pub returns-clause-sound : goal.returns-clause-sound
-returns-clause-sound c =
-    classes_push c.args.self.now.enc c.args.self.now.list.items c.push.new.self.items _ c.in_ok-push.ensures.items c.requires.sound
+pub returns-clause-are_classes : goal.returns-clause-are_classes
+returns-clause-are_classes c =
+    classes_push c.args.self.now.enc c.args.self.now.list.items c.push.new.self.items _ c.in_ok-push.ensures.items c.requires.are_classes
     (subst (λ s. IsGraphOf c.args.self.now.enc s c.in_ok-graph.graph) (sym c.in_ok-set.ensures.ranges) c.in_ok-graph.ensures.graph)
 
 pub returns-clause-number : goal.returns-clause-number

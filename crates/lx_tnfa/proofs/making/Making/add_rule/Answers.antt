@@ -16,7 +16,7 @@ pub returns-in-Eof : goal.returns-in-Eof
 returns-in-Eof c =
     let tags = c.in_ok-rule_tags.ensures in
     adds_end c.args.self.now (record { building = c.args.self.now.building; owners = c.args.self.now.owners; rules = c.push.new.self; begins = c.args.self.now.begins }) c.args.rule.now
-    (ap is_end c.in-Eof.is) c.requires.sound
+    (ap is_end c.in-Eof.is) c.requires.are_classes
     (seen_push c.args.self.now.rules.items c.push.new.self.items _ c.args.rule.now.number (sorts_of (pattern_of c.args.rule.now)) c.in_ok-push.ensures.items tags.number tags.many)
     refl refl refl
 

@@ -1,0 +1,19 @@
+use Rattle.std.proofs.Common.{◌∙◌, sym}
+use Rattle.std.proofs.lemmas.Bool.{false≢true}
+use Rattle.lx_rules.proofs.FinishingSteps.{whole_clash, whole_lonely, whole_targets}
+use Rattle.lx_rules.proofs.finishing.whole_fault.Goals as goal
+
+pub returns-then-not-names_differ : goal.returns-then-not-names_differ
+returns-then-not-names_differ c = λ state holds usually.
+    whole_clash c.args.known.now state holds c.args.custom c.args.at c.args.names.now usually
+    (λ have. false≢true (sym c.if-not-names_differ.true ∙ c.names_differ.ensures.1 have))
+
+pub returns-in-Some : goal.returns-in-Some
+returns-in-Some c = λ state holds usually.
+    whole_lonely c.args.known.now state holds c.args.custom c.args.at c.args.names.now usually (c.names_differ.ensures.0 c.if-not-names_differ.false) c.in-Some.fault
+    c.in-Some.ensures
+
+pub returns : goal.returns
+returns c = λ state holds usually.
+    whole_targets c.args.known.now state holds c.args.custom c.args.at c.args.names.now usually (c.names_differ.ensures.0 c.if-not-names_differ.false) c.targets_fault.result
+    c.in_default.ensures c.targets_fault.ensures

@@ -1,0 +1,10 @@
+use Rattle.std.proofs.Common.{◌≡◌, drop, map}
+use Rattle.std.specs.List.{list_any}
+use Rattle.lx_rules.specs.Items.{is_end}
+use Rattle.lx_rules.specs.declared.kept.KeptRule.{KeptRule}
+use Rattle.lx_rules.proofs.scanners.any_end.Given as goal
+
+abbrev pub invariant-loop-rule : goal.invariant-loop-rule
+invariant-loop-rule l =
+    list_any (λ (one : KeptRule). is_end one.kind) (map (λ one. one.now) (drop l.rule-index l.rules))
+    ≡ list_any (λ (one : KeptRule). is_end one.kind) (map (λ one. one.now) l.rules)

@@ -1,0 +1,63 @@
+-- The conditions of a block as the code keeps them, and how far the rules of each go.
+use Rattle.std.specs.Prelude.{◌≡◌, ℕ, ◌+◌, ◌-◌, ◌<◌, ◌⊎◌, false, List, [], ◌∷◌, map, max, nat_lt, ◌||◌, slice_index_or, unwrap_or, if◌then◌else◌}
+use Rattle.std.specs.List.{AllByRecursion}
+use Rattle.std.specs.Map.{lookup}
+use Rattle.std.specs.Str.{bytes_eq}
+use Rattle.lx_base.specs.declared.limits.TheConstants.{NESTING_LIMIT, SIZE_LIMIT, TAG_LIMIT}
+use Rattle.lx_exprs.specs.declared.values.Room.{Room}
+use Rattle.lx_exprs.specs.Checks.{is_among}
+use Rattle.lx_exprs.specs.Defined.{kept}
+use Rattle.lx_rules.specs.Blocks.{every}
+use Rattle.lx_rules.specs.declared.conditions.Conditions.{Conditions}
+use Rattle.lx_rules.specs.declared.conditions.Conds.{Conds}
+use Rattle.lx_rules.specs.declared.conditions.Conds.TheVariants.{Every, Listed}
+use Rattle.lx_rules.specs.declared.conditions.Running.{Running}
+
+-- so far no rules go
+abbrev pub nothing_runs : Running
+nothing_runs = record { size = 0; nesting = 0; tags = 0 }
+
+-- so far some rules go with others
+abbrev pub running_with : (running more : Running) → Running
+running_with running more =
+    record { size = kept (running.size + more.size); nesting = max running.nesting more.nesting; tags = kept (running.tags + more.tags) }
+
+-- what a rule may have behind others: nothing behind a nesting or a number of tags that is past the limit
+abbrev pub room_behind : Running → Room
+room_behind running = record {
+  size = if nat_lt NESTING_LIMIT running.nesting || nat_lt TAG_LIMIT running.tags then 0 else SIZE_LIMIT - running.size;
+  tags = TAG_LIMIT - running.tags;
+}
+
+-- the greater room
+abbrev pub wider : (room other : Room) → Room
+wider room other = record { size = max room.size other.size; tags = max room.tags other.tags }
+
+-- the names of the conditions, in the order in which they first appear
+abbrev pub cond_names : Conditions → List (List ℕ)
+cond_names conditions = map (λ entry. entry.0.items) conditions.named.entries
+
+-- so far the rules of a condition go
+abbrev pub running_of : Conditions → (cond : List ℕ) → Running
+running_of conditions cond =
+    if bytes_eq cond every then conditions.shared
+    else unwrap_or (lookup (λ key. bytes_eq cond key.items) conditions.named.entries) nothing_runs
+
+-- the greatest room that conditions have for a rule
+abbrev pub room_under : Conditions → (conds : List (List ℕ)) → Room
+room_under conditions [] = record { size = 0; tags = 0 }
+room_under conditions (cond ∷ conds) = wider (room_behind (running_of conditions cond)) (room_under conditions conds)
+
+-- the conditions of a rule, of which these are the names
+abbrev pub conds_seen : (names : List (List ℕ)) → Conds → List (List ℕ)
+conds_seen names Every = every ∷ []
+conds_seen names (Listed numbers) = map (λ number. slice_index_or names number []) numbers.items
+
+-- each number is one of so many names
+abbrev pub AreNumbers : (count : ℕ) → Conds → Type 0
+AreNumbers count Every = Unit {0}
+AreNumbers count (Listed numbers) = AllByRecursion (λ number. number < count) numbers.items
+
+-- the conditions of a rule: that of `<*>` alone, or others
+abbrev pub AreConds : List (List ℕ) → Type 0
+AreConds conds = (conds ≡ every ∷ []) ⊎ (is_among every conds ≡ false)

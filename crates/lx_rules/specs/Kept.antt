@@ -1,0 +1,72 @@
+-- Rules as the code keeps them.
+use Rattle.std.specs.Prelude.{◌≡◌, ℕ, ◌<◌, ◌≤◌, ◌&&◌, Bool, false, List, [], ◌∷◌, length, Option, Some, None, if◌then◌else◌}
+use Rattle.std.specs.List.{AllZip, list_any}
+use Rattle.lx_base.specs.declared.places.Pos.{Pos}
+use Rattle.lx_regex.specs.Expr.{term_of}
+use Rattle.lx_regex.specs.declared.expr.Expr.{Expr}
+use Rattle.lx_exprs.specs.Checks.{is_among}
+use Rattle.lx_exprs.specs.Defined.{Meaning, fits, kept, term_of_meaning, whole_room}
+use Rattle.lx_exprs.specs.FitDefinitions.{FitsKept}
+use Rattle.lx_rules.specs.declared.conditions.Conditions.{Conditions}
+use Rattle.lx_rules.specs.declared.conditions.Running.{Running}
+use Rattle.lx_rules.specs.declared.kept.KeptRule.{KeptRule}
+use Rattle.lx_rules.specs.Blocks.{conditions_of, nesting_of, not_of_kind, rules_under, size_of, tags_of}
+use Rattle.lx_rules.specs.Conditions.{AreNumbers, cond_names, conds_seen, running_of}
+use Rattle.lx_rules.specs.Items.{is_default, is_end}
+use Rattle.lx_rules.specs.Rules.{RuleOf}
+
+-- the rules but for `*`, which costs next to nothing, and `$`, which costs nothing
+abbrev pub plain_of : List RuleOf → List RuleOf
+plain_of rules = not_of_kind is_end (not_of_kind is_default rules)
+
+-- of these the rules of a condition
+abbrev pub plain_under : (cond : List ℕ) → List RuleOf → List RuleOf
+plain_under cond rules = plain_of (rules_under cond rules)
+
+-- so far rules go, as far as that is kept
+pub record IsRunning (rules : List RuleOf) (running : Running) : Type 0 where
+  pub size : running.size ≡ kept (size_of rules)
+  pub nesting : running.nesting ≡ kept (nesting_of rules)
+  pub tags : running.tags ≡ kept (tags_of rules)
+
+-- the rules of a condition are within the limits by themselves
+abbrev pub is_within : List RuleOf → (cond : List ℕ) → Bool
+is_within rules cond =
+    fits whole_room (size_of (plain_under cond rules)) (nesting_of (plain_under cond rules)) (tags_of (plain_under cond rules))
+
+-- a rule may stand in a scanner: the rules of one of its conditions are within the limits
+abbrev pub may_stand : List RuleOf → RuleOf → Bool
+may_stand rules rule = list_any (is_within rules) rule.conds
+
+-- an expression is kept that means this, and none only of a rule that may stand in no scanner
+abbrev pub IsExprKept : (stands : Bool) → Meaning → Option Expr → Type 0
+IsExprKept stands meaning None = stands ≡ false
+IsExprKept stands meaning (Some expr) = term_of 0 expr ≡ term_of_meaning meaning
+
+-- one of these rules is kept so, where conditions have these names
+pub record IsKeptRule (names : List (List ℕ)) (rules : List RuleOf) (held : KeptRule) (rule : RuleOf) : Type 0 where
+  pub number : held.number ≡ rule.act.number
+  pub placed : (0 < held.number) × (held.number ≤ length rules)
+  pub conds : conds_seen names held.conds ≡ rule.conds
+  pub listed : AreNumbers (length names) held.conds
+  pub kind : held.kind ≡ rule.kind
+  pub at : held.at ≡ rule.at
+  pub target : held.target ≡ rule.target
+  pub size : held.size ≡ kept rule.meaning.size
+  pub nesting : held.nesting ≡ kept rule.meaning.nesting
+  pub tags : held.tags ≡ rule.meaning.tags
+  pub expr : IsExprKept (may_stand rules rule) rule.meaning held.expr
+  pub fits : FitsKept held.expr held.size (length held.tags)
+
+-- the rules are kept one by one, and so are their conditions
+pub record AreKept (rules : List RuleOf) (held : List KeptRule) (conditions : Conditions) : Type 0 where
+  pub names : cond_names conditions ≡ conditions_of rules
+  pub each : AllZip (IsKeptRule (cond_names conditions) rules) held rules
+  pub running : (cond : List ℕ) → IsRunning (plain_under cond rules) (running_of conditions cond)
+
+-- the place of the first rule `*` that has one of these conditions
+abbrev pub first_kept : (names conds : List (List ℕ)) → List KeptRule → Option Pos
+first_kept names conds [] = None
+first_kept names conds (held ∷ others) =
+    if is_default held.kind && list_any (λ cond. is_among cond conds) (conds_seen names held.conds) then Some held.at
+    else first_kept names conds others
