@@ -1,3 +1,4 @@
+pub mod Allowed
 pub mod Letters
 pub mod Message
 pub mod Names

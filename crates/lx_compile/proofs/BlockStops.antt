@@ -1,7 +1,6 @@
 -- The faults of one block.
-use Rattle.std.proofs.Common.{◌≡◌, ℕ, true, false, List, [], ◌∷◌, length, Ok, sym, ◌∙◌, rules}
-use Rattle.std.specs.Prelude.{◌↔◌, ◌==◌, IsTrue}
-use Rattle.std.specs.List.{AllByRecursion}
+use Rattle.std.proofs.Common.{◌≡◌, ℕ, Bool, true, false, List, Option, None, Some, Ok, refl}
+use Rattle.std.specs.Prelude.{◌↔◌, ◌&&◌, IsTrue, is_none, not}
 use Rattle.lx_base.specs.declared.blocks.BlockKind.{BlockKind}
 use Rattle.lx_base.specs.declared.blocks.BlockKind.TheVariants.{Code}
 use Rattle.lx_base.specs.declared.faults.Stop.{Stop}
@@ -15,9 +14,7 @@ use Rattle.lx_rules.specs.Environments.{Environment}
 use Rattle.lx_forms.specs.Lexemes.{lexemes_of}
 use Rattle.lx_token.specs.Tokens.{tokens_of, StopsWith as StopsTokens}
 use Rattle.lx_token.specs.declared.list.Token.{Token}
-use Rattle.lx_rules.specs.declared.resolved.Resolved.{Resolved}
-use Rattle.lx_rules.specs.declared.resolved.Scanner.{Scanner}
-use Rattle.lx_compile.specs.Blocks.{AreSupported, no_token, no_items, refused, IsRead, StopsAt}
+use Rattle.lx_compile.specs.Blocks.{no_token, no_items, refused, IsRead, StopsAt}
 
 module _ (options : Options) (environment : Environment) (kind : BlockKind) (body : List ℕ) (at start : Pos) (code : kind ≡ Code) where
   pub StopsAt-tokens : (stopped : Stop) → StopsTokens (tokens_of body start) stopped → StopsAt options environment kind body at start stopped
@@ -34,12 +31,11 @@ module _ (options : Options) (environment : Environment) (kind : BlockKind) (bod
   StopsAt-rules tokens items stop.Memory read stops = stops
   StopsAt-rules tokens items (stop.Fault fault) read stops = refused tokens items code read stops
 
--- where refills are asked for, a block without scanners alone is supported
-pub AreSupported-where : (resolved : Resolved) → resolved.config.fill ≡ true
-    → IsTrue (length resolved.scanners == 0) ↔ AreSupported resolved
-AreSupported-where resolved fills = of resolved.scanners
-  where
-    of : (scanners : List Scanner)
-        → IsTrue (length scanners == 0) ↔ AllByRecursion (λ (scanner : Scanner). resolved.config.fill ≡ false) scanners
-    of [] = (λ _. tt, λ _. search rules)
-    of (scanner ∷ scanners) = (λ is. absurd (let h = is in search rules), λ all. absurd (let h : true ≡ false = sym fills ∙ all.0 in cc))
+-- a scanner is supported where three tests find nothing
+pub supported-tests : (fill : Bool) (eof : Option ℕ) (beyond : Bool)
+    → IsTrue (not fill && (is_none eof && not beyond)) ↔ ((fill ≡ false) × (eof ≡ None) × (beyond ≡ false))
+supported-tests false None false = (λ _. (refl, refl, refl), λ _. refl)
+supported-tests false None true = (λ is. absurd (let h : false ≡ true = is in cc), λ all. absurd (let h : true ≡ false = all.2 in cc))
+supported-tests false (Some unit) beyond =
+    (λ is. absurd (let h : false ≡ true = is in cc), λ all. absurd (let h : Some unit ≡ None = all.1 in cc))
+supported-tests true eof beyond = (λ is. absurd (let h : false ≡ true = is in cc), λ all. absurd (let h : true ≡ false = all.0 in cc))

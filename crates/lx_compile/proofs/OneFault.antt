@@ -1,7 +1,7 @@
 -- A source has one first fault, or none.
 use Rattle.std.proofs.Common.{◌≡◌, ℕ, zero, suc, ◌<◌, ◌≤◌, ◌⊎◌, Bool, true, false, List, [], ◌∷◌, ◌++◌, length, take, drop, Option, Some, None, Ok, Err, refl, sym, ap, subst, inl, inr, ◌∙◌, arith, append_assoc, append-nil}
 use Rattle.std.specs.Prelude.{nat_lt}
-use Rattle.std.specs.List.{AllByRecursion}
+use Rattle.std.specs.List.{AllByRecursion, list_any}
 use Rattle.std.proofs.lemmas.Bool.{cases_lt}
 use Rattle.std.proofs.lemmas.List.{drop_all, take_all}
 use Rattle.std.proofs.Math.Nat.{le_antisymm}
@@ -30,7 +30,7 @@ use Rattle.lx_split.specs.declared.pieces.SourcePiece.{SourcePiece}
 use Rattle.lx_split.specs.declared.pieces.SourcePiece.TheVariants as piece
 use Rattle.lx_token.specs.Tokens.{tokens_of}
 use Rattle.lx_token.specs.declared.list.Token.{Token}
-use Rattle.lx_compile.specs.Blocks.{AreSupported, IsBlock, IsFaultOf, IsRead, IsResolvedBody, no_items, no_token, other_kind, refused, unsupported}
+use Rattle.lx_compile.specs.Blocks.{AreSupported, IsSupported, is_beyond, IsBlock, IsFaultOf, IsRead, IsResolvedBody, no_items, no_token, other_kind, refused, unsupported}
 use Rattle.lx_compile.specs.FirstFault.{IsFaultBehind, IsFaultOfBlocks, IsFaultOfPieces, IsFaultOfSource, IsFirstFault}
 use Rattle.lx_compile.specs.Parts.{AreParts, HasTooLarge, IsFaultAmong, IsKernelFault}
 use Rattle.lx_compile.specs.declared.parts.Part.{Part}
@@ -118,17 +118,23 @@ module _ (body : List ℕ) (start : Pos) (tokens : List Token) where
 -- ---- what blocks resolve to
 
 -- what is alike is supported, or is not
-supported-alike : (config other_config : Config) (scanners others : List Scanner) → config.fill ≡ other_config.fill → HaveSameRules scanners others
-    → AllByRecursion (λ (scanner : Scanner). config.fill ≡ false) scanners → AllByRecursion (λ (scanner : Scanner). other_config.fill ≡ false) others
-supported-alike config other_config [] [] fill same are = tt
-supported-alike config other_config [] (other ∷ others) fill same are = absurd same
-supported-alike config other_config (scanner ∷ scanners) [] fill same are = absurd same
-supported-alike config other_config (scanner ∷ scanners) (other ∷ others) fill same are =
-    (sym fill ∙ are.0, supported-alike config other_config scanners others fill same.1 are.1)
+supported-alike : (config other_config : Config) (scanners others : List Scanner) → config ≡ other_config → HaveSameRules scanners others
+    → AllByRecursion (IsSupported config) scanners → AllByRecursion (IsSupported other_config) others
+supported-alike config other_config [] [] is same are = tt
+supported-alike config other_config [] (other ∷ others) is same are = absurd same
+supported-alike config other_config (scanner ∷ scanners) [] is same are = absurd same
+supported-alike config other_config (scanner ∷ scanners) (other ∷ others) is same are = (
+  (
+    ap (λ (c : Config). c.fill) (sym is) ∙ are.0.0,
+    ap (λ (c : Config). c.eof) (sym is) ∙ are.0.1,
+    ap (list_any is_beyond) (sym same.0) ∙ are.0.2,
+  ),
+  supported-alike config other_config scanners others is same.1 are.1,
+)
 
 AreSupported-alike : (resolved other : Resolved) → AreAlike resolved other → AreSupported resolved → AreSupported other
 AreSupported-alike resolved other alike are =
-    supported-alike resolved.config other.config resolved.scanners other.scanners (ap (λ (config : Config). config.fill) alike.config) alike.scanners are
+    supported-alike resolved.config other.config resolved.scanners other.scanners alike.config alike.scanners are
 
 -- what is alike has too many kernels, or has not
 too_large-alike : (enc : Enc) (scanners others : List Scanner) → HaveSameRules scanners others → HasTooLarge enc scanners → HasTooLarge enc others

@@ -3,7 +3,7 @@ use Rattle.std.proofs.Common.{◌≡◌, ℕ, zero, suc, ◌+◌, ◌-◌, ◌<�
 use Rattle.std.specs.Prelude.{slice_get, unwrap_or}
 use Rattle.std.specs.List.{AllByRecursion}
 use Rattle.std.proofs.lemmas.Bool.{false≢true}
-use Rattle.lx_base.specs.Names.{usual_names}
+use Rattle.lx_base.specs.Names.{Spellings, usual_names}
 use Rattle.lx_base.specs.declared.blocks.BlockKind.{BlockKind}
 use Rattle.lx_base.specs.declared.settings.Enc.{Enc}
 use Rattle.lx_base.specs.declared.settings.Options.{Options}
@@ -114,29 +114,29 @@ module _ (body before after : List ℕ) (none : HasNoMark (before ++ (body ++ af
 -- ---- a block
 
 -- the piece in the place of a block
-piece_of_block : (enc : Enc) (custom : Bool) (number : ℕ) (acts : List Act) (scanners : List Scanner) (text : List ℕ) → IsTextOf enc custom number acts scanners text
-    → (part : OutputPart) × (text ≡ part_text part) × IsPieceOf enc custom number acts scanners part
-piece_of_block enc custom number acts [] text is = (empty number, is, refl)
-piece_of_block enc custom number acts (one ∷ []) text is = (scanner is.piece, is.text_is, is.scanner)
-piece_of_block enc custom number acts (one ∷ next ∷ scanners) text is = absurd is
+piece_of_block : (enc : Enc) (custom : Bool) (number : ℕ) (spellings : Spellings) (acts : List Act) (scanners : List Scanner) (text : List ℕ) → IsTextOf enc custom number spellings acts scanners text
+    → (part : OutputPart) × (text ≡ part_text part) × IsPieceOf enc custom number spellings acts scanners part
+piece_of_block enc custom number spellings acts [] text is = (empty number, is, refl)
+piece_of_block enc custom number spellings acts (one ∷ []) text is = (scanner is.piece, is.text_is, is.scanner)
+piece_of_block enc custom number spellings acts (one ∷ next ∷ scanners) text is = absurd is
 
 -- it is cut, before parts that complete no mark
-cut_block : (enc : Enc) (custom : Bool) (number : ℕ) (acts : List Act) (scanners : List Scanner) (body before after : List ℕ) (part : OutputPart) (cut : List OutputPart)
+cut_block : (enc : Enc) (custom : Bool) (number : ℕ) (spellings : Spellings) (acts : List Act) (scanners : List Scanner) (body before after : List ℕ) (part : OutputPart) (cut : List OutputPart)
     → HasNoMark (before ++ (body ++ after)) → AllByRecursion (λ (act : Act). (text : List ℕ) × (act.code ≡ Some text) × IsAction body text) acts
-    → IsPieceOf enc custom number acts scanners part → number < 2 ^ 32 → begins_piece (47 ∷ parts_text cut) ≡ false → AreCut cut → AreCut (part ∷ cut)
-cut_block enc custom number acts [] body before after (empty other) cut none have is short slash rest =
+    → IsPieceOf enc custom number spellings acts scanners part → number < 2 ^ 32 → begins_piece (47 ∷ parts_text cut) ≡ false → AreCut cut → AreCut (part ∷ cut)
+cut_block enc custom number spellings acts [] body before after (empty other) cut none have is short slash rest =
     let within : other < 2 ^ 32 = omega (arith, is, short) in (within, HasNoBegin-body other usual_names None (parts_text cut) within tt tt slash, rest)
-cut_block enc custom number acts [] body before after (outside text) cut none have is short slash rest = absurd is
-cut_block enc custom number acts [] body before after (scanner piece) cut none have is short slash rest = absurd is
-cut_block enc custom number acts (one ∷ []) body before after (scanner piece) cut none have is short slash rest = (
+cut_block enc custom number spellings acts [] body before after (outside text) cut none have is short slash rest = absurd is
+cut_block enc custom number spellings acts [] body before after (scanner piece) cut none have is short slash rest = absurd is
+cut_block enc custom number spellings acts (one ∷ []) body before after (scanner piece) cut none have is short slash rest = (
   is.valid,
   HasNoBegin-piece piece (parts_text cut) is.valid (all_unmarked body before after none acts have (all_statements piece.blocks) is.actions)
       (subst IsUnmarkedLine (sym is.fields.line) tt) slash,
   rest,
 )
-cut_block enc custom number acts (one ∷ []) body before after (outside text) cut none have is short slash rest = absurd is
-cut_block enc custom number acts (one ∷ []) body before after (empty other) cut none have is short slash rest = absurd is
-cut_block enc custom number acts (one ∷ next ∷ scanners) body before after part cut none have is short slash rest = absurd is
+cut_block enc custom number spellings acts (one ∷ []) body before after (outside text) cut none have is short slash rest = absurd is
+cut_block enc custom number spellings acts (one ∷ []) body before after (empty other) cut none have is short slash rest = absurd is
+cut_block enc custom number spellings acts (one ∷ next ∷ scanners) body before after part cut none have is short slash rest = absurd is
 
 -- ---- the parts
 
@@ -179,13 +179,13 @@ slash_apart [] none = refl
 slash_apart (piece.Outside text ∷ pieces) none = absurd (false≢true (sym none))
 slash_apart (piece.Block kind body at start end_line ∷ pieces) none = refl
 
-piece_not_outside : (enc : Enc) (custom : Bool) (number : ℕ) (acts : List Act) (scanners : List Scanner) (part : OutputPart) (cut : List OutputPart) → IsPieceOf enc custom number acts scanners part
+piece_not_outside : (enc : Enc) (custom : Bool) (number : ℕ) (spellings : Spellings) (acts : List Act) (scanners : List Scanner) (part : OutputPart) (cut : List OutputPart) → IsPieceOf enc custom number spellings acts scanners part
     → begins_outside (part ∷ cut) ≡ false
-piece_not_outside enc custom number acts [] (outside text) cut is = absurd is
-piece_not_outside enc custom number acts (one ∷ []) (outside text) cut is = absurd is
-piece_not_outside enc custom number acts (one ∷ next ∷ scanners) (outside text) cut is = absurd is
-piece_not_outside enc custom number acts scanners (scanner piece) cut is = refl
-piece_not_outside enc custom number acts scanners (empty other) cut is = refl
+piece_not_outside enc custom number spellings acts [] (outside text) cut is = absurd is
+piece_not_outside enc custom number spellings acts (one ∷ []) (outside text) cut is = absurd is
+piece_not_outside enc custom number spellings acts (one ∷ next ∷ scanners) (outside text) cut is = absurd is
+piece_not_outside enc custom number spellings acts scanners (scanner piece) cut is = refl
+piece_not_outside enc custom number spellings acts scanners (empty other) cut is = refl
 
 cut_from : (options : Options) (environment : Environment) (number : ℕ) (pieces : List SourcePiece) (parts : List Part) (output : List ℕ)
     → AreParts options environment pieces parts → AreTexts options.enc options.custom number parts output → AreApart pieces → HasNoMark (source_text pieces)
@@ -220,12 +220,12 @@ cut_from options environment number (piece.Block kind body at start end_line ∷
     let behind : HasNoMark source = HasNoMark-behind (opener ++ body ++ codes "*/") source none in
     let last : begins_mark (47 ∷ source) ≡ false = none (opener ++ body ++ codes "*") (47 ∷ source) (block_end kind body source) in
     let rest = cut_from options are.1.0 (suc number) pieces parts texts.1 are.1.2 texts.4 apart behind last (omega (arith, few)) in
-    let made = piece_of_block options.enc options.custom number resolved.acts resolved.scanners texts.0 texts.3 in
+    let made = piece_of_block options.enc options.custom number resolved.config.names resolved.acts resolved.scanners texts.0 texts.3 in
     let acts = acts_of_body options environment body at start are.1.0 resolved are.1.1.resolves in
-    let first = piece_not_outside options.enc options.custom number resolved.acts resolved.scanners made.0 rest.cut made.2 in
+    let first = piece_not_outside options.enc options.custom number resolved.config.names resolved.acts resolved.scanners made.0 rest.cut made.2 in
     record {
       cut = made.0 ∷ rest.cut;
-      is_cut = cut_block options.enc options.custom number resolved.acts resolved.scanners body opener (codes "*/" ++ source) made.0 rest.cut within acts made.2 (omega (arith, few)) rest.slash rest.is_cut;
+      is_cut = cut_block options.enc options.custom number resolved.config.names resolved.acts resolved.scanners body opener (codes "*/" ++ source) made.0 rest.cut within acts made.2 (omega (arith, few)) rest.slash rest.is_cut;
       text = texts.2 ∙ ap (λ (l : List ℕ). l ++ texts.1) made.1 ∙ ap (λ (l : List ℕ). part_text made.0 ++ l) rest.text;
       are = (made.2, rest.are);
       slash = slash_ends (parts_text (made.0 ∷ rest.cut)) (made.0 ∷ rest.cut) refl first;

@@ -41,7 +41,7 @@ kernel_fault enc (Block at resolved ∷ parts) none = kernel_fault enc parts (λ
 module _ (options : Options) where
   -- ---- blocks
 
-  module _ (environment : Environment) (kind : BlockKind) (body : List ℕ) (at start : Pos) (ready : HasBuildableDefinitions options.enc environment)
+  module _ (environment : Environment) (kind : BlockKind) (body : List ℕ) (at start : Pos) (ready : HasBuildableDefinitions options environment)
       (no_block : (after : Environment) (resolved : Resolved) → IsBlock options environment kind body at start after resolved → ⊥)
       (no_fault : (fault : Fault) → IsFaultOf options environment kind body at start fault → ⊥) where
     -- what a body resolves to is supported, or that it is not is its fault
@@ -74,7 +74,7 @@ module _ (options : Options) where
   -- ---- sources
 
   -- the pieces of a source all resolve, or one has a fault
-  parts_or_fault : (environment : Environment) (pieces : List SourcePiece) → HasBuildableDefinitions options.enc environment
+  parts_or_fault : (environment : Environment) (pieces : List SourcePiece) → HasBuildableDefinitions options environment
       → ((parts : List Part) → AreParts options environment pieces parts → ⊥)
       → ((fault : Fault) → IsFaultAmong options environment pieces fault → ⊥) → ⊥
   parts_or_fault environment [] ready no_parts no_fault = no_parts [] tt
@@ -91,7 +91,7 @@ module _ (options : Options) where
 
   -- the blocks of a source have a fault, or none
   blocks_fault : (pieces : List SourcePiece) → ((fault : Option Fault) → IsFaultOfBlocks options pieces fault → ⊥) → ⊥
-  blocks_fault pieces none = parts_or_fault first_environment pieces (first_ready options.enc)
+  blocks_fault pieces none = parts_or_fault first_environment pieces (first_ready options)
       (λ parts are. kernel_fault options.enc parts (λ fault is. behind parts are fault is))
       (λ fault among. none (Some fault) (inl among))
     where

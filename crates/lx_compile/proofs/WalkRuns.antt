@@ -2,9 +2,10 @@
 use Rattle.std.proofs.Common.{ℕ, ◌+◌, ◌≤◌, arith, List, [], ◌∷◌, ◌++◌, length, refl, subst, inl, inr, append_assoc, append-nil}
 use Rattle.std.specs.Prelude.{All}
 use Rattle.std.specs.List.{AllByRecursion}
-use Rattle.std.proofs.lemmas.List.Elements.{All-nil, All-push, All-tail}
+use Rattle.std.proofs.lemmas.List.Elements.{All-head, All-nil, All-push, All-tail}
 use Rattle.std.proofs.lemmas.List.{length_push}
 use Rattle.lx_base.specs.declared.blocks.BlockKind.{BlockKind}
+use Rattle.lx_base.specs.declared.blocks.BlockKind.TheVariants.{Code}
 use Rattle.lx_base.specs.declared.faults.Fault.{Fault}
 use Rattle.lx_base.specs.declared.faults.Stop.{Stop}
 use Rattle.lx_base.specs.declared.faults.Stop.TheVariants as stop
@@ -12,6 +13,7 @@ use Rattle.lx_base.specs.declared.places.Pos.{Pos}
 use Rattle.lx_base.specs.declared.settings.Options.{Options}
 use Rattle.lx_rules.specs.Environments.{Environment, first_environment}
 use Rattle.lx_rules.specs.FitScanners.{FitsLimits}
+use Rattle.lx_rules.specs.Spelled.{HasAllowedSpellings}
 use Rattle.lx_rules.specs.Within.{IsScannerWithin}
 use Rattle.lx_rules.specs.declared.resolved.Resolved.{Resolved}
 use Rattle.lx_split.specs.declared.pieces.SourcePiece.{SourcePiece}
@@ -21,12 +23,14 @@ use Rattle.lx_compile.specs.Parts.{AreParts, IsFaultAmong, StopsAmong}
 use Rattle.lx_compile.specs.Emittable.{IsNearPiece, IsEmittable, IsEmittablePart}
 use Rattle.lx_compile.specs.declared.parts.Part.{Part}
 use Rattle.lx_compile.specs.declared.parts.Part.TheVariants.{Outside, Block}
+use Rattle.lx_rules.proofs.AllowedNames.{after-spelled, first-spelled, resolved-differ, resolved-spelled}
 use Rattle.lx_compile.proofs.OneScanner.{one_scanner}
 use Rattle.lx_compile.proofs.ScannerRules.{can_be_emitted}
 
 -- what holds behind some parts, where this environment holds and these pieces are left
 pub record IsWalked (options : Options) (pieces rest : List SourcePiece) (environment : Environment) (parts : List Part) : Type 0 where
-  pub emittable : All (IsEmittablePart options.enc) parts
+  pub emittable : All (IsEmittablePart options.enc options.custom) parts
+  pub spelled : HasAllowedSpellings environment
   pub few : length parts + length rest ≤ length pieces
   pub near : All IsNearPiece rest
   pub continues : (more : List Part) → AreParts options environment rest more → AreParts options first_environment pieces (parts ++ more)
@@ -34,7 +38,8 @@ pub record IsWalked (options : Options) (pieces rest : List SourcePiece) (enviro
 
 pub IsWalked-start : (options : Options) (pieces : List SourcePiece) → All IsNearPiece pieces → IsWalked options pieces pieces first_environment []
 IsWalked-start options pieces near = record {
-  emittable = All-nil (IsEmittablePart options.enc);
+  emittable = All-nil (IsEmittablePart options.enc options.custom);
+  spelled = first-spelled;
   few = omega arith;
   near = near;
   continues = λ more are. are;
@@ -44,7 +49,8 @@ IsWalked-start options pieces near = record {
 pub IsWalked-outside : (options : Options) (pieces rest : List SourcePiece) (environment : Environment) (parts : List Part) (text : List ℕ)
     → IsWalked options pieces (piece.Outside text ∷ rest) environment parts → IsWalked options pieces rest environment (parts ++ Outside text ∷ [])
 IsWalked-outside options pieces rest environment parts text walked = record {
-  emittable = All-push (IsEmittablePart options.enc) parts (Outside text) walked.emittable tt;
+  emittable = All-push (IsEmittablePart options.enc options.custom) parts (Outside text) walked.emittable tt;
+  spelled = walked.spelled;
   few = omega (arith, walked.few, length_push parts (Outside text));
   near = All-tail IsNearPiece (piece.Outside text) rest walked.near;
   continues = λ more are. rw append_assoc (walked.continues (Outside text ∷ more) (refl, are));
@@ -53,15 +59,16 @@ IsWalked-outside options pieces rest environment parts text walked = record {
 
 -- what a block of a source resolves to can be emitted
 pub IsEmittable-block : (options : Options) (environment : Environment) (kind : BlockKind) (body : List ℕ) (at start : Pos) (after : Environment) (resolved : Resolved)
-    → IsBlock options environment kind body at start after resolved → FitsLimits resolved
-    → AllByRecursion (IsScannerWithin options.enc) resolved.scanners → IsEmittable options.enc resolved
-IsEmittable-block options environment kind body at start after resolved block fine within =
+    → length body ≤ 16777216 → HasAllowedSpellings environment → IsBlock options environment kind body at start after resolved → FitsLimits resolved
+    → AllByRecursion (IsScannerWithin options.enc) resolved.scanners → IsEmittable options.enc options.custom resolved
+IsEmittable-block options environment kind body at start after resolved short spelled block fine within =
     let resolves = block.resolves.resolves in record {
       fits = fine;
       supported = block.supported;
-      names = fine.names;
+      allowed = resolved-spelled options Code at environment after body block.resolves.tokens block.resolves.items resolved short spelled resolves;
+      differ = resolved-differ options Code at environment after _ block.resolves.items resolved (λ same. cc) resolves;
       one = one_scanner options at environment _ block.resolves.items after resolved resolves;
-      scanners = can_be_emitted options at environment _ block.resolves.items after resolved resolves fine within;
+      scanners = can_be_emitted options at environment _ block.resolves.items after resolved resolves block.supported fine within;
     }
 
 pub IsWalked-block : (options : Options) (pieces rest : List SourcePiece) (environment : Environment) (parts : List Part)
@@ -70,12 +77,18 @@ pub IsWalked-block : (options : Options) (pieces rest : List SourcePiece) (envir
     → IsBlock options environment kind body at start after resolved → FitsLimits resolved → AllByRecursion (IsScannerWithin options.enc) resolved.scanners
     → IsWalked options pieces rest after (parts ++ Block at resolved ∷ [])
 IsWalked-block options pieces rest environment parts kind body at start end_line after resolved walked block fine within = record {
-  emittable = All-push (IsEmittablePart options.enc) parts (Block at resolved) walked.emittable (IsEmittable-block options environment kind body at start after resolved block fine within);
+  emittable =
+      All-push (IsEmittablePart options.enc options.custom) parts (Block at resolved) walked.emittable
+      (IsEmittable-block options environment kind body at start after resolved short walked.spelled block fine within);
+  spelled = after-spelled options Code at environment after body block.resolves.tokens block.resolves.items resolved short walked.spelled block.resolves.resolves;
   few = omega (arith, walked.few, length_push parts (Block at resolved));
   near = All-tail IsNearPiece (piece.Block kind body at start end_line) rest walked.near;
   continues = λ more are. rw append_assoc (walked.continues (Block at resolved ∷ more) (refl, (after, block, are)));
   refuses = λ fault is. walked.refuses fault (inr (after, resolved, block, is));
 }
+  where
+    short : length body ≤ 16777216
+    short = (All-head IsNearPiece (piece.Block kind body at start end_line) rest walked.near).size
 
 -- the parts behind the last piece
 pub IsWalked-end : (options : Options) (pieces : List SourcePiece) (environment : Environment) (parts : List Part)

@@ -1,6 +1,6 @@
 -- One block of a source: what it resolves to, or its fault.
-use Rattle.std.specs.Prelude.{◌≡◌, ◌≢◌, ℕ, false, List, Some, Ok, Err}
-use Rattle.std.specs.List.{AllByRecursion}
+use Rattle.std.specs.Prelude.{◌≡◌, ◌≢◌, ◌==◌, ◌||◌, ℕ, Bool, false, not, List, is_some, Some, None, Ok, Err}
+use Rattle.std.specs.List.{AllByRecursion, list_any}
 use Rattle.lx_base.specs.declared.blocks.BlockKind.{BlockKind}
 use Rattle.lx_base.specs.declared.blocks.BlockKind.TheVariants.{Code}
 use Rattle.lx_base.specs.declared.faults.Fault.{Fault}
@@ -12,17 +12,28 @@ use Rattle.lx_base.specs.declared.settings.Options.{Options}
 use Rattle.lx_parse.specs.Blocks.{IsBody, IsSyntaxFault, form_of}
 use Rattle.lx_parse.specs.Sorts.{sorts_of}
 use Rattle.lx_parse.specs.declared.items.Item.{Item}
+use Rattle.lx_regex.specs.Pattern.{Pattern, patterns_of}
 use Rattle.lx_rules.specs.Blocks.{IsBlockFault, Resolves}
 use Rattle.lx_rules.specs.Environments.{Environment}
 use Rattle.lx_forms.specs.Lexemes.{lexemes_of}
+use Rattle.lx_rules.specs.declared.resolved.Config.{Config}
 use Rattle.lx_rules.specs.declared.resolved.Resolved.{Resolved}
 use Rattle.lx_rules.specs.declared.resolved.Scanner.{Scanner}
 use Rattle.lx_token.specs.Tokens.{tokens_of}
 use Rattle.lx_token.specs.declared.list.Token.{Token}
 
--- scanners are emitted so far if they ask for no refill
+-- a rule has what is not emitted so far: a history tag, groups, or a trailing context
+abbrev pub is_beyond : Pattern → Bool
+is_beyond pattern = list_any (λ is_many. is_many) pattern.many || (not (pattern.groups == 0) || is_some pattern.slash)
+
+-- A scanner is emitted so far if it asks for no refill, no code unit stands at the end, so that it has no `$`, and no rule of it has
+-- a history tag, groups or a trailing context.
+abbrev pub IsSupported : Config → Scanner → Type 0
+IsSupported config scanner =
+    (config.fill ≡ false) × (config.eof ≡ None) × (list_any is_beyond (patterns_of scanner.set.rules) ≡ false)
+
 abbrev pub AreSupported : Resolved → Type 0
-AreSupported resolved = AllByRecursion (λ (scanner : Scanner). resolved.config.fill ≡ false) resolved.scanners
+AreSupported resolved = AllByRecursion (IsSupported resolved.config) resolved.scanners
 
 -- the body of a block of rules that begins at a place has these tokens and items
 pub record IsRead (body : List ℕ) (start : Pos) (tokens : List Token) (items : List Item) : Type 0 where

@@ -1,6 +1,6 @@
 -- How the output of a source is cut: a text for each text outside of blocks, and a piece for each block.
 use Rattle.std.specs.Prelude.{◌≡◌, ◌≢◌, ℕ, suc, Bool, List, [], ◌∷◌, ◌++◌, drop, Some, None}
-use Rattle.lx_base.specs.Names.{usual_names}
+use Rattle.lx_base.specs.Names.{Spellings}
 use Rattle.lx_base.specs.declared.settings.Enc.{Enc}
 use Rattle.lx_creader.specs.Cut.{OutputPart, outside, scanner, empty}
 use Rattle.lx_creader.specs.Marks.{IsFirstBegin}
@@ -12,18 +12,18 @@ use Rattle.lx_compile.specs.Output.{IsTextOf, actions_of}
 use Rattle.lx_compile.specs.declared.parts.Part.{Part}
 use Rattle.lx_compile.specs.declared.parts.Part.TheVariants.{Outside, Block}
 
--- the part of an output in the place of a block: the piece of its scanner, or of none
-abbrev pub IsPieceOf : Enc → (custom : Bool) → (number : ℕ) → List Act → List Scanner → OutputPart → Type 0
-IsPieceOf enc custom number acts [] (empty other) = other ≡ number
-IsPieceOf enc custom number acts (one ∷ []) (scanner piece) = IsScannerOf enc custom number usual_names one.set.rules (actions_of acts) piece
-IsPieceOf enc custom number acts scanners part = ⊥
+-- the part of an output in the place of a block with these spellings: the piece of its scanner, or of none
+abbrev pub IsPieceOf : Enc → (custom : Bool) → (number : ℕ) → Spellings → List Act → List Scanner → OutputPart → Type 0
+IsPieceOf enc custom number spellings acts [] (empty other) = other ≡ number
+IsPieceOf enc custom number spellings acts (one ∷ []) (scanner piece) = IsScannerOf enc custom number spellings one.set.rules (actions_of acts) piece
+IsPieceOf enc custom number spellings acts scanners part = ⊥
 
 -- the parts of an output are those of a source, where the pieces in the places of the blocks are numbered from here on
 abbrev pub AreOutputParts : Enc → (custom : Bool) → (number : ℕ) → List Part → List OutputPart → Type 0
 AreOutputParts enc custom number [] [] = Unit {0}
 AreOutputParts enc custom number (Outside text ∷ parts) (outside other ∷ cut) = (other ≡ text) × AreOutputParts enc custom number parts cut
 AreOutputParts enc custom number (Block at resolved ∷ parts) (part ∷ cut) =
-    IsPieceOf enc custom number resolved.acts resolved.scanners part × AreOutputParts enc custom (suc number) parts cut
+    IsPieceOf enc custom number resolved.config.names resolved.acts resolved.scanners part × AreOutputParts enc custom (suc number) parts cut
 AreOutputParts enc custom number parts cut = ⊥
 
 -- how many blocks there are among the parts
@@ -45,6 +45,6 @@ pub record IsFound (enc : Enc) (custom : Bool) (earlier : List Part) (resolved :
   pub text : List ℕ
   pub rest : List ℕ
   pub stands : drop offset output ≡ text ++ rest
-  pub is : IsTextOf enc custom (suc (block_count earlier)) resolved.acts resolved.scanners text
+  pub is : IsTextOf enc custom (suc (block_count earlier)) resolved.config.names resolved.acts resolved.scanners text
   pub first : IsFirstBegin (Some (suc (block_count earlier))) output offset
   pub first_scanner : HaveNoScanner earlier → resolved.scanners ≢ [] → IsFirstBegin None output offset

@@ -1,12 +1,13 @@
 -- What the steps of a compilation know of the parts of a source.
-use Rattle.std.specs.Prelude.{◌≡◌, ℕ, ◌≤◌, List, length}
+use Rattle.std.specs.Prelude.{ℕ, ◌≤◌, Bool, List, length}
 use Rattle.std.specs.List.{AllByRecursion}
 use Rattle.lx_base.specs.declared.limits.TheConstants.{SOURCE_LIMIT}
-use Rattle.lx_base.specs.Names.{usual_names}
+use Rattle.lx_base.specs.Names.{AreAllowed, Spellings}
 use Rattle.lx_base.specs.declared.places.Pos.{Pos}
 use Rattle.lx_base.specs.declared.settings.Enc.{Enc}
 use Rattle.lx_gen.specs.Rules.{AreSimple}
 use Rattle.lx_gen.specs.Scanner.{AreNamed}
+use Rattle.lx_rules.specs.Blocks.{SpellingsDiffer}
 use Rattle.lx_rules.specs.FitScanners.{FitsLimits}
 use Rattle.lx_rules.specs.Within.{IsScannerWithin}
 use Rattle.lx_rules.specs.declared.resolved.Act.{Act}
@@ -29,21 +30,23 @@ abbrev pub IsNearPiece : SourcePiece → Type 0
 IsNearPiece (piece.Outside text) = Unit {0}
 IsNearPiece (piece.Block kind body at start end_line) = IsNear body start
 
--- what a scanner has so that it can be emitted beside these actions: it is within the limits, and its classes fit the encoding; no
+-- what a scanner has so that it can be emitted with these spellings and beside these actions: it is within the limits, and its classes fit the encoding; no
 -- rule of it is `$` or has a trailing context; and each rule has an action, and tags with names that may stand
-pub record CanBeEmitted (enc : Enc) (acts : List Act) (scanner : Scanner) : Type 0 where
+pub record CanBeEmitted (enc : Enc) (spellings : Spellings) (acts : List Act) (scanner : Scanner) : Type 0 where
   pub within : IsScannerWithin enc scanner
   pub simple : AreSimple scanner.set.rules
-  pub named : AreNamed usual_names (actions_of acts) scanner.set.rules
+  pub named : AreNamed spellings (actions_of acts) scanner.set.rules
 
--- what a block resolves to can be emitted: it is within the limits of scanners, and has at most one scanner
-pub record IsEmittable (enc : Enc) (resolved : Resolved) : Type 0 where
+-- what a block resolves to can be emitted, custom or not: it is within the limits of scanners, has spellings that a scanner may have
+-- and that differ, and has at most one scanner
+pub record IsEmittable (enc : Enc) (custom : Bool) (resolved : Resolved) : Type 0 where
   pub fits : FitsLimits resolved
   pub supported : AreSupported resolved
-  pub names : resolved.config.names ≡ usual_names
+  pub allowed : AreAllowed resolved.config.names
+  pub differ : SpellingsDiffer custom resolved.config.names
   pub one : length resolved.scanners ≤ 1
-  pub scanners : AllByRecursion (CanBeEmitted enc resolved.acts) resolved.scanners
+  pub scanners : AllByRecursion (CanBeEmitted enc resolved.config.names resolved.acts) resolved.scanners
 
-abbrev pub IsEmittablePart : Enc → Part → Type 0
-IsEmittablePart enc (Outside text) = Unit {0}
-IsEmittablePart enc (Block at resolved) = IsEmittable enc resolved
+abbrev pub IsEmittablePart : Enc → (custom : Bool) → Part → Type 0
+IsEmittablePart enc custom (Outside text) = Unit {0}
+IsEmittablePart enc custom (Block at resolved) = IsEmittable enc custom resolved

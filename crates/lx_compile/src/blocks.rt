@@ -1,24 +1,65 @@
 //! One block of a source.
-ghost use Rattle.std.specs.Prelude.{◌↔◌, IfOk, IsTrue, MatchResult};
-ghost use Rattle.std.specs.List.{AllByRecursion};
+ghost use Rattle.std.specs.Prelude.{◌≡◌, ◌↔◌, IfOk, IsTrue, MatchResult, map};
+ghost use Rattle.std.specs.List.{AllByRecursion, list_any};
 ghost use Rattle.lx_rules.specs.Seen.{environment_view};
 ghost use Rattle.lx_rules.specs.FitScanners.{FitsLimits, HasFitDefinitions};
 ghost use Rattle.lx_exprs.specs.Within.{AreDefinedWithin};
 ghost use Rattle.lx_rules.specs.Within.{IsScannerWithin};
-ghost use Rattle.lx_compile.specs.Blocks.{AreSupported, IsBlock, StopsAt};
+ghost use Rattle.lx_regex.specs.Pattern.{patterns_of};
+ghost use Rattle.lx_regex.specs.declared.rules.Tag.{Tag as tag_type};
+ghost use Rattle.lx_compile.specs.Blocks.{AreSupported, IsBlock, IsSupported, StopsAt, is_beyond};
 ghost use Rattle.lx_compile.specs.Emittable.{IsNear};
 
 use lx_base::{BlockKind, Fault, Options, Pos, Stop};
 use lx_parse::parse;
-use lx_rules::{Env, Resolved, resolve};
+use lx_regex::{Rule, Tag};
+use lx_rules::{Config, Env, Resolved, Scanner, resolve};
 use lx_token::tokens;
 use std::alloc::Global;
+
+/// Whether one of the tags is a history tag.
+fn any_history(tags: &[Tag]) -> bool
+    ensures { result ≡ list_any (λ is_many. is_many) (map (λ (tag : tag_type). tag.many) tags.now) }
+{
+    for tag in tags {
+        if tag.many {
+            return true;
+        }
+    }
+    false
+}
+
+/// Whether one of the rules has what is not emitted so far: a history tag, groups, or a trailing context.
+fn any_beyond(rules: &[Rule]) -> bool
+    ensures { result ≡ list_any is_beyond (patterns_of rules.now) }
+{
+    for rule in rules {
+        if any_history(rule.tags.as_slice()) || rule.groups != 0 || rule.slash.is_some() {
+            return true;
+        }
+    }
+    false
+}
+
+/// Whether a scanner with this configuration is emitted so far: it asks for no refill, no code unit stands at the end, and no rule of
+/// it has a history tag, groups or a trailing context.
+fn is_supported(config: &Config, scanner: &Scanner) -> bool
+    ensures { IsTrue result ↔ IsSupported config.now scanner.now }
+{
+    !config.fill && config.eof.is_none() && !any_beyond(scanner.set.rules.as_slice())
+}
 
 /// Whether all scanners of a block are of a kind that is emitted so far.
 fn are_supported(resolved: &Resolved) -> bool
     ensures { IsTrue result ↔ AreSupported resolved.now }
 {
-    !resolved.config.fill || resolved.scanners.as_slice().is_empty()
+    let scanners = resolved.scanners.as_slice();
+    for scanner in scanners {
+        if !is_supported(&resolved.config, scanner) {
+            return false;
+        }
+    }
+    true
 }
 
 /// What a block resolves to, and what holds behind it.
@@ -36,9 +77,9 @@ pub(crate) fn resolve_block(
 ) -> Result<(Env, Resolved), Stop>
     requires near { IsNear body.now start }
     requires fit { HasFitDefinitions env }
-    requires defined { AreDefinedWithin options.now.enc (environment_view env).definitions }
+    requires defined { AreDefinedWithin options.now (environment_view env).definitions }
     ensures fit { IfOk result (λ answer. HasFitDefinitions answer.0 × FitsLimits answer.1) }
-    ensures within { IfOk result (λ answer. AreDefinedWithin options.now.enc (environment_view answer.0).definitions
+    ensures within { IfOk result (λ answer. AreDefinedWithin options.now (environment_view answer.0).definitions
         × AllByRecursion (IsScannerWithin options.now.enc) answer.1.scanners) }
     ensures block { MatchResult result
         (λ answer. IsBlock options.now (environment_view env) kind body.now at start (environment_view answer.0) answer.1)

@@ -62,10 +62,10 @@ fn scanner_text(
     scanner: &Scanner,
     resolved: &Resolved,
 ) -> Result<ByteText, Stop>
-    requires emittable { IsEmittable options.now.enc resolved.now }
-    requires scanner { CanBeEmitted options.now.enc resolved.now.acts scanner.now }
+    requires emittable { IsEmittable options.now.enc options.now.custom resolved.now }
+    requires scanner { CanBeEmitted options.now.enc resolved.now.config.names resolved.now.acts scanner.now }
     ensures { MatchResult result
-        (λ text. IsScannerText options.now.enc options.now.custom number scanner.now.set.rules (actions_of resolved.now.acts) text × ¬ IsTooLarge options.now.enc scanner.now)
+        (λ text. IsScannerText options.now.enc options.now.custom number resolved.now.config.names scanner.now.set.rules (actions_of resolved.now.acts) text × ¬ IsTooLarge options.now.enc scanner.now)
         (StopsBy at (IsTooLarge options.now.enc scanner.now)) }
 {
     let auto = automaton_of(alloc, options.enc, at, scanner)?;
@@ -102,9 +102,9 @@ fn append_block(
     at: Pos,
     resolved: &Resolved,
 ) -> Result<(), Stop>
-    requires { IsEmittable options.now.enc resolved.now }
+    requires { IsEmittable options.now.enc options.now.custom resolved.now }
     ensures { MatchResult result
-        (λ _. (text : List ℕ) × IsTextOf options.now.enc options.now.custom number resolved.now.acts resolved.now.scanners text
+        (λ _. (text : List ℕ) × IsTextOf options.now.enc options.now.custom number resolved.now.config.names resolved.now.acts resolved.now.scanners text
         × (output.new.items ≡ output.old.items ++ text) × ¬ HasTooLarge options.now.enc resolved.now.scanners)
         (StopsBy at (HasTooLarge options.now.enc resolved.now.scanners)) }
 {
@@ -123,7 +123,7 @@ fn append_block(
 /// It refuses the first block with a scanner that has too many kernels, with `TooManyStates` at its opener; `Memory` may be
 /// answered, also for a piece that would have more than 2^62 statements; no clause ties it to a cause.
 pub(crate) fn emit(alloc: Global, options: &Options, parts: &[Part]) -> Result<Vec<u8>, Stop>
-    requires emittable { All (IsEmittablePart options.now.enc) parts.now }
+    requires emittable { All (IsEmittablePart options.now.enc options.now.custom) parts.now }
     requires few { length parts.now ≤ SOURCE_LIMIT }
     ensures { MatchResult result
         (λ output. AreTexts options.now.enc options.now.custom 1 parts.now output.items × IsKernelFault options.now.enc parts.now None)

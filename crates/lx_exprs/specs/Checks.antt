@@ -169,10 +169,6 @@ module _ (options : Options) (definitions : List Definition) where
   abbrev pub are_groups : Bool
   are_groups = options.captures || options.posix
 
-  -- groups of captures are not supported yet
-  abbrev pub group_fault : Lexeme → Option Fault
-  group_fault opening = if are_groups then unsupported opening else None
-
   -- a form that is a class; parentheses that are a group of captures are none
   abbrev pub is_class : Form → Bool
   is_class (leaf lexeme) = leaf_is_class lexeme.kind lexeme
@@ -237,7 +233,7 @@ module _ (options : Options) (definitions : List Definition) where
   LeafChecks kind.Str is_operand seen lexeme = PointsAre lexeme (singles (points_in lexeme))
   LeafChecks kind.Name is_operand seen lexeme = Finds (name_fault (definition_of definitions lexeme.text) lexeme seen)
   LeafChecks kind.STag is_operand seen lexeme = Finds (tag_fault false lexeme seen)
-  LeafChecks kind.MTag is_operand seen lexeme = Then (Finds (unsupported lexeme)) (Finds (tag_fault true lexeme seen))
+  LeafChecks kind.MTag is_operand seen lexeme = Finds (tag_fault true lexeme seen)
   LeafChecks kind.IStr is_operand seen lexeme = PointsAre lexeme (singles (points_in lexeme))
   LeafChecks kind.Class is_operand seen lexeme =
       Then (PointsAre lexeme (class_ranges lexeme)) (IsFilled options.empty is_operand lexeme.at (LeafHas kind.Class lexeme))
@@ -251,7 +247,7 @@ module _ (options : Options) (definitions : List Definition) where
   -- the checks of an expression, behind tags that were seen before
   abbrev pub Checks : (is_operand : Bool) → (seen : List Tag) → Form → Check
   Checks is_operand seen (leaf lexeme) = LeafChecks lexeme.kind is_operand seen lexeme
-  Checks is_operand seen (group opening inner) = Then (Finds (group_fault opening)) (Checks (inner_operand is_operand) seen inner)
+  Checks is_operand seen (group opening inner) = Checks (inner_operand is_operand) seen inner
   Checks is_operand seen (repeated inner sign) = Then (Checks false seen inner) (Finds (bounds_fault sign))
   Checks is_operand seen (sequence front back) = Then (Checks false seen front) (Checks false (seen ++ tags_of front) back)
   Checks is_operand seen (difference left sign right) =

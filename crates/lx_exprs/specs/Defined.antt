@@ -45,6 +45,10 @@ pub record Before : Type 0 where
   pub tags : List Tag
   pub groups : ℕ
 
+-- the slash of a trailing context is a tag without a name
+abbrev pub slash_tag : Tag
+slash_tag = record { name = []; many = false }
+
 -- nothing stands before it
 abbrev pub nothing : Before
 nothing = record { tags = []; groups = 0 }

@@ -1,5 +1,5 @@
 -- What holds of definitions that are kept, whatever they say.
-use Rattle.std.specs.Prelude.{◌≡◌, ℕ, ◌+◌, ◌*◌, ◌≤◌, length, All, Option, Some, None}
+use Rattle.std.specs.Prelude.{ℕ, ◌+◌, ◌*◌, ◌≤◌, length, All, Option, Some, None}
 use Rattle.lx_regex.specs.Expr.{size_of, term_of}
 use Rattle.lx_regex.specs.declared.expr.Expr.{Expr}
 use Rattle.std.specs.Borrow.{Bor}
@@ -8,14 +8,15 @@ use Rattle.lx_exprs.specs.declared.definitions.Scope.{Scope}
 use Rattle.lx_exprs.specs.declared.definitions.Kept.{Kept}
 use Rattle.lx_exprs.specs.Values.{HasTagsBelow}
 
--- an expression that is kept has at most the size that is kept of it, which is at least 1, and so many tags, two for each group
-abbrev pub FitsKept : Option Expr → (size count : ℕ) → Type 0
-FitsKept None size count = 1 ≤ size
-FitsKept (Some expr) size count = (1 ≤ size) × (size_of expr ≤ size) × HasTagsBelow count (term_of 0 expr)
+-- an expression that is kept has at most the size that is kept of it, which is at least 1, and so many tags, two for each group;
+-- its groups are numbered from the first one on
+abbrev pub FitsKept : (first : ℕ) → Option Expr → (size count : ℕ) → Type 0
+FitsKept first None size count = 1 ≤ size
+FitsKept first (Some expr) size count = (1 ≤ size) × (size_of expr ≤ size) × HasTagsBelow first count (term_of 0 expr)
 
--- a definition has the size and the tags of its expression, and no groups, which are not supported yet
+-- a definition has the size, the tags and the groups of its expression
 abbrev pub IsFitDefinition : Kept → Type 0
-IsFitDefinition kept = FitsKept kept.expr kept.size (length kept.tags + 2 * kept.groups) × (kept.groups ≡ 0)
+IsFitDefinition kept = FitsKept 1 kept.expr kept.size (length kept.tags + 2 * kept.groups)
 
 abbrev pub DefinitionsFit : Definitions → Type 0
 DefinitionsFit definitions = All (λ entry. IsFitDefinition entry.1) definitions.by_name.entries

@@ -12,9 +12,9 @@ use Rattle.lx_exprs.specs.declared.values.Room.{Room}
 use Rattle.lx_exprs.specs.declared.values.Value.{Value}
 use Rattle.lx_forms.specs.Lexemes.{Lexeme}
 use Rattle.lx_regex.specs.declared.rules.Tag.{Tag}
-use Rattle.lx_exprs.specs.Defined.{Before, Definition, Meaning, and_more, kept, meant_class, nothing}
+use Rattle.lx_exprs.specs.Defined.{Before, Definition, Meaning, and_more, kept, meant_class}
 use Rattle.lx_exprs.specs.Meanings.{IsClassMeaning, IsLeafMeaning, alternated, enclosed, followed, grouped, in_group, repeated_by}
-use Rattle.lx_exprs.specs.Checks.{Check, Then, Finds, IsFilled, IsIn, LeafChecks, StopsAt, are_groups, bounds_fault, bounds_of, group_fault}
+use Rattle.lx_exprs.specs.Checks.{Check, Then, Finds, IsFilled, IsIn, LeafChecks, StopsAt, are_groups, bounds_fault, bounds_of}
 use Rattle.lx_forms.specs.Steps.{Step, reads, opens, closes, repeats, joins, subtracts, chooses}
 use Rattle.lx_exprs.specs.Values.{IsBounded, IsValue}
 
@@ -25,9 +25,9 @@ pub record Operands : Type 0 where
   pub seen : Before
   pub open_groups : List ℕ
 
--- nothing is read
-abbrev pub no_operands : Operands
-no_operands = record { meanings = []; seen = nothing; open_groups = [] }
+-- nothing is read behind others
+abbrev pub operands_behind : Before → Operands
+operands_behind before = record { meanings = []; seen = before; open_groups = [] }
 
 -- one meaning more
 abbrev pub with_more : Operands → Meaning → Operands
@@ -109,7 +109,7 @@ module _ (options : Options) (definitions : List Definition) where
   -- the checks of a step
   abbrev pub StepChecks : Operands → Step → Check
   StepChecks operands (reads is_operand lexeme) = LeafChecks options definitions lexeme.kind is_operand operands.seen.tags lexeme
-  StepChecks operands (opens opening) = Finds (group_fault options definitions opening)
+  StepChecks operands (opens opening) = Finds None
   StepChecks operands (closes opening) = Finds None
   StepChecks operands (repeats sign) = Finds (bounds_fault sign)
   StepChecks operands joins = Finds None

@@ -1,5 +1,5 @@
 -- What is kept of what is read of an expression.
-use Rattle.std.specs.Prelude.{◌≡◌, ℕ, ◌+◌, ◌≤◌, ◌<◌, ◌↔◌, Bool, true, false, List, Option, Some, None, map, sum, not}
+use Rattle.std.specs.Prelude.{◌≡◌, ℕ, ◌+◌, ◌*◌, ◌≤◌, ◌<◌, ◌↔◌, Bool, true, false, List, Option, Some, None, map, sum, not}
 use Rattle.lx_base.specs.declared.limits.TheConstants.{SIZE_LIMIT, TAG_LIMIT}
 use Rattle.lx_class.specs.Ranges.{InRanges}
 use Rattle.lx_class.specs.declared.ranges.Range.{Range}
@@ -63,21 +63,22 @@ pub record IsValue (room : Room) (meaning : Meaning) (value : Value) : Type 0 wh
 abbrev pub IsRoom : Room → Type 0
 IsRoom room = (room.size ≤ SIZE_LIMIT) × (room.tags ≤ TAG_LIMIT)
 
--- the tags of a term have lesser numbers than this; its groups are numbered from 1 up to half of it, since each counts for two
+-- the tags of a term have lesser numbers than the bound; its groups are numbered from the first one up to half of it, since each
+-- counts for two
 abbrev mutual
-  pub HasTagsBelow : (bound : ℕ) → Term → Type 0
-  HasTagsBelow bound empty = Unit {0}
-  HasTagsBelow bound (class ranges) = Unit {0}
-  HasTagsBelow bound any_unit = Unit {0}
-  HasTagsBelow bound (cat members) = HaveTagsBelow bound members
-  HasTagsBelow bound (alt members) = HaveTagsBelow bound members
-  HasTagsBelow bound (repeat body low high) = HasTagsBelow bound body
-  HasTagsBelow bound (tag number) = number < bound
-  HasTagsBelow bound (group opening closing body) = (2 ≤ opening) × (opening ≤ bound) × HasTagsBelow bound body
+  pub HasTagsBelow : (first bound : ℕ) → Term → Type 0
+  HasTagsBelow first bound empty = Unit {0}
+  HasTagsBelow first bound (class ranges) = Unit {0}
+  HasTagsBelow first bound any_unit = Unit {0}
+  HasTagsBelow first bound (cat members) = HaveTagsBelow first bound members
+  HasTagsBelow first bound (alt members) = HaveTagsBelow first bound members
+  HasTagsBelow first bound (repeat body low high) = HasTagsBelow first bound body
+  HasTagsBelow first bound (tag number) = number < bound
+  HasTagsBelow first bound (group opening closing body) = (2 * first ≤ opening) × (opening ≤ bound) × HasTagsBelow first bound body
 
-  pub HaveTagsBelow : (bound : ℕ) → Terms → Type 0
-  HaveTagsBelow bound nil = Unit {0}
-  HaveTagsBelow bound (cons member members) = HasTagsBelow bound member × HaveTagsBelow bound members
+  pub HaveTagsBelow : (first bound : ℕ) → Terms → Type 0
+  HaveTagsBelow first bound nil = Unit {0}
+  HaveTagsBelow first bound (cons member members) = HasTagsBelow first bound member × HaveTagsBelow first bound members
 
 -- the size of what is kept
 abbrev pub content_size : Content → ℕ
@@ -88,9 +89,9 @@ content_size (content.Past set alternatives) = 0
 
 -- the tags of what is kept have lesser numbers
 abbrev pub AreTagsBelow : (bound : ℕ) → Content → Type 0
-AreTagsBelow bound (content.One expr) = HasTagsBelow bound (term_of 0 expr)
-AreTagsBelow bound (content.Row members) = HaveTagsBelow bound (members_of (map (term_of 0) members.items))
-AreTagsBelow bound (content.Choice members) = HaveTagsBelow bound (members_of (map (term_of 0) members.items))
+AreTagsBelow bound (content.One expr) = HasTagsBelow 1 bound (term_of 0 expr)
+AreTagsBelow bound (content.Row members) = HaveTagsBelow 1 bound (members_of (map (term_of 0) members.items))
+AreTagsBelow bound (content.Choice members) = HaveTagsBelow 1 bound (members_of (map (term_of 0) members.items))
 AreTagsBelow bound (content.Past set alternatives) = Unit {0}
 
 -- what is read has at least the size of what is kept, and 1 at least, and the tags of what is kept have lesser numbers than those

@@ -1,11 +1,13 @@
 -- What definitions have so that scanners can be built from them.
-use Rattle.std.specs.Prelude.{◌≡◌, ℕ, ◌+◌, ◌*◌, ◌≤◌, true, List, [], ◌∷◌, length, is_some}
+use Rattle.std.specs.Prelude.{◌≡◌, ℕ, ◌+◌, ◌*◌, ◌≤◌, true, false, List, [], ◌∷◌, length, is_some}
 use Rattle.std.specs.Option.{option_and_then}
 use Rattle.lx_base.specs.Spelling.{greatest_point}
 use Rattle.lx_base.specs.declared.settings.Enc.{Enc}
+use Rattle.lx_base.specs.declared.settings.Options.{Options}
 use Rattle.lx_regex.specs.Limits.{HasLongSequences, numbers_from}
 use Rattle.lx_regex.specs.Script.{merge_tags, put_tag}
 use Rattle.lx_regex.specs.Term.{Term, Terms, IsInRanges, empty, class, any_unit, cat, alt, repeat, tag, group, nil, cons}
+use Rattle.lx_exprs.specs.Checks.{are_groups}
 use Rattle.lx_exprs.specs.Defined.{Definition, class_in, fits, whole_room}
 use Rattle.lx_exprs.specs.Meanings.{term_or_empty}
 
@@ -64,14 +66,19 @@ pub record IsNumbered (from count first groups : ℕ) (term : Term) : Type 0 whe
   pub ends : ends_in term ≡ numbers_from (2 * first) (2 * groups)
 
 -- A definition is ready for copies: its classes fit the encoding, a class has no tags and no groups, and within the limits of a
--- scanner its tags and groups are numbered in order. Groups are not supported yet.
+-- scanner its tags and groups are numbered in order.
 pub record IsDefinedWithin (enc : Enc) (definition : Definition) : Type 0 where
   pub plain : IsPlain enc (term_or_empty definition.term)
   pub untagged : is_some (option_and_then class_in definition.term) ≡ true → (definition.tags ≡ []) × (definition.groups ≡ 0)
-  pub ungrouped : definition.groups ≡ 0
   pub numbered : fits whole_room definition.size definition.nesting (length definition.tags + 2 * definition.groups) ≡ true
       → IsNumbered 0 (length definition.tags) 1 definition.groups (term_or_empty definition.term)
 
-abbrev pub AreDefinedWithin : Enc → List Definition → Type 0
-AreDefinedWithin enc [] = Unit {0}
-AreDefinedWithin enc (definition ∷ definitions) = IsDefinedWithin enc definition × AreDefinedWithin enc definitions
+-- a definition has groups only where parentheses are groups
+abbrev pub IsGrouped : Options → Definition → Type 0
+IsGrouped options definition = are_groups options [] ≡ false → definition.groups ≡ 0
+
+-- definitions stand under these options: each is ready for copies, and has groups only where there are any
+abbrev pub AreDefinedWithin : Options → List Definition → Type 0
+AreDefinedWithin options [] = Unit {0}
+AreDefinedWithin options (definition ∷ definitions) =
+    (IsDefinedWithin options.enc definition × IsGrouped options definition) × AreDefinedWithin options definitions

@@ -1,5 +1,5 @@
 //! Copies of expressions.
-ghost use Rattle.std.specs.Prelude.{◌≡◌, ◌≤◌, IfOk, map};
+ghost use Rattle.std.specs.Prelude.{◌≡◌, ◌≤◌, ◌⊎◌, IfOk, map};
 ghost use Rattle.lx_regex.specs.Expr.{members_of, size_of, term_of};
 ghost use Rattle.lx_exprs.specs.Meanings.{shifted};
 ghost use Rattle.lx_exprs.specs.Values.{HasTagsBelow, HaveTagsBelow};
@@ -14,9 +14,9 @@ use std::alloc::Global;
 fn copy_members(alloc: Global, members: &[Expr], by: u32, groups: u32) -> Result<Vec<Expr>, Memory>
     requires by { by ≤ 128 }
     requires groups { groups ≤ 128 }
-    requires tags { HaveTagsBelow 128 (members_of (map (term_of 0) members.now)) }
+    requires tags { HaveTagsBelow 0 128 (members_of (map (term_of 0) members.now)) }
     ensures terms { IfOk result (λ copies. map (term_of 0) copies.items ≡ map (λ member. shifted by groups (term_of 0 member)) members.now) }
-    ensures sizes { IfOk result (λ copies. map size_of copies.items ≡ map size_of members.now) }
+    ensures sizes { (groups ≡ 0) ⊎ HaveTagsBelow 1 128 (members_of (map (term_of 0) members.now)) → IfOk result (λ copies. map size_of copies.items ≡ map size_of members.now) }
 {
     let mut copies = Vec::new(alloc);
     for member in members {
@@ -31,9 +31,9 @@ fn copy_members(alloc: Global, members: &[Expr], by: u32, groups: u32) -> Result
 pub fn copy(alloc: Global, expr: &Expr, by: u32, groups: u32) -> Result<Expr, Memory>
     requires by { by ≤ 128 }
     requires groups { groups ≤ 128 }
-    requires tags { HasTagsBelow 128 (term_of 0 expr.now) }
+    requires tags { HasTagsBelow 0 128 (term_of 0 expr.now) }
     ensures term { IfOk result (λ copy. term_of 0 copy ≡ shifted by groups (term_of 0 expr.now)) }
-    ensures size { IfOk result (λ copy. size_of copy ≡ size_of expr.now) }
+    ensures size { (groups ≡ 0) ⊎ HasTagsBelow 1 128 (term_of 0 expr.now) → IfOk result (λ copy. size_of copy ≡ size_of expr.now) }
 {
     match expr {
         Expr::Empty => Ok(Expr::Empty),

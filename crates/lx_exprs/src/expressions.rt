@@ -7,17 +7,17 @@ ghost use Rattle.lx_parse.specs.Ranges.{IsPart};
 ghost use Rattle.lx_exprs.specs.Checks.{Finds, StopsAt, are_groups, bounds_at, bounds_fault, bounds_of, is_wrong};
 ghost use Rattle.lx_exprs.specs.Defined.{Definition, Meaning};
 ghost use Rattle.lx_exprs.specs.Expressions.{ExpressionChecks};
-ghost use Rattle.lx_exprs.specs.Expressions.{IsRead};
+ghost use Rattle.lx_exprs.specs.Expressions.{ChecksBehind, IsRead, IsReadBehind};
 ghost use Rattle.lx_forms.specs.Lexemes as lexical;
 ghost use Rattle.lx_forms.specs.Lexemes.{sort_at, sorts_at};
-ghost use Rattle.lx_exprs.specs.Reading.{AreBounded, AreInOrder, AreTaken, DifferenceChecks, IsDifference, StopsReading, no_operands, paired};
+ghost use Rattle.lx_exprs.specs.Reading.{AreBounded, AreInOrder, AreTaken, DifferenceChecks, IsDifference, StopsReading, operands_behind, paired};
 ghost use Rattle.lx_exprs.specs.Seen.{scope_view};
 ghost use Rattle.lx_forms.specs.Seen.{lexeme_view, lexemes_view};
 ghost use Rattle.lx_exprs.specs.FitDefinitions.{ScopeFits};
 ghost use Rattle.lx_forms.specs.StepViews.{step_view};
 ghost use Rattle.lx_exprs.specs.Values.{IsBounded, IsRoom, IsValue};
 
-use crate::leaves::{Reader, read_leaf, read_set, unsupported};
+use crate::leaves::{Reader, read_leaf, read_set};
 use crate::tags::{SeenTags, SharedTags};
 use crate::values::{Room, Value, sum};
 use lx_base::limits::BOUND_LIMIT;
@@ -100,7 +100,7 @@ fn checked_bounds(sign: &Lexeme<'_>) -> Result<Repeat, Fault>
 }
 
 /// Whether parentheses are groups of captures.
-fn are_groups(options: &Options) -> bool
+pub fn are_groups(options: &Options) -> bool
     ensures { (definitions : List Definition) → result ≡ are_groups options.now definitions }
 {
     options.captures || options.posix
@@ -162,25 +162,25 @@ impl Operands {
     ghost use Rattle.lx_exprs.specs.Checks.{StopsAt};
     ghost use Rattle.lx_exprs.specs.Defined.{Definition};
     ghost use Rattle.lx_exprs.specs.Reading as reading;
-    ghost use Rattle.lx_exprs.specs.Reading.{AreBounded, AreOperands, IsStepTaken, Needs, StepChecks, closed, depth_behind, in_place, no_operands, opened, paired, with_both};
+    ghost use Rattle.lx_exprs.specs.Reading.{AreBounded, AreOperands, IsStepTaken, Needs, StepChecks, closed, depth_behind, in_place, opened, operands_behind, paired, with_both};
     ghost use Rattle.lx_exprs.specs.Seen.{scope_view};
     ghost use Rattle.lx_forms.specs.Seen.{lexeme_view, lexemes_view};
     ghost use Rattle.lx_exprs.specs.FitDefinitions.{ScopeFits};
     ghost use Rattle.lx_forms.specs.StepViews.{step_view};
-    ghost use Rattle.lx_forms.specs.Steps.{opens, reads, repeats, subtracts};
+    ghost use Rattle.lx_forms.specs.Steps.{reads, repeats, subtracts};
     ghost use Rattle.lx_exprs.specs.Values.{IsRoom};
     ghost use Rattle.lx_exprs.specs.declared.values.Room.{Room};
 
-    /// Nothing is read.
-    fn new(alloc: Global) -> Operands
-        ensures stands { (room : Room) → AreOperands room no_operands result }
+    /// Nothing is read behind some tags and so many groups.
+    fn behind(alloc: Global, seen: SeenTags, groups: u64) -> Operands
+        ensures stands { (room : Room) → AreOperands room (operands_behind (record { tags = seen; groups = groups })) result }
         ensures bounded { AreBounded result.values.items }
         ensures none { result.values.items ≡ [] }
     {
         Operands {
             values: Vec::new(alloc),
-            seen: SeenTags::new(alloc),
-            groups: 0,
+            seen,
+            groups,
             open_groups: Vec::new(alloc),
         }
     }
@@ -249,21 +249,6 @@ impl Operands {
             self.open_groups.push(self.groups)?;
             self.groups = sum(self.groups, 1);
         }
-        Ok(())
-    }
-
-    /// Reads an opening parenthesis. Groups are not supported yet.
-    fn read_open(&mut self, options: &Options, opening: &Lexeme<'_>) -> Result<(), Stop>
-        ensures stands { (definitions : List Definition) (room : Room) (operands : reading.Operands) → AreOperands room operands self.old → MatchResult result
-            (λ _. IsStepTaken options.now definitions room operands (opens (lexeme_view opening.now)) self.new)
-            (StopsAt (StepChecks options.now definitions operands (opens (lexeme_view opening.now)))) }
-        ensures values { self.new.values ≡ self.old.values }
-    {
-        let is_group = are_groups(options);
-        if is_group {
-            return Err(unsupported(opening.at));
-        }
-        self.open(is_group)?;
         Ok(())
     }
 
@@ -392,7 +377,7 @@ impl Operands {
         let lexeme = lexemes.at(step.place as usize);
         match step.sort {
             StepSort::Read => self.read(alloc, reader, &lexeme, step.is_operand),
-            StepSort::Open => self.read_open(reader.options, &lexeme),
+            StepSort::Open => Ok(self.open(are_groups(reader.options))?),
             StepSort::Close => Ok(self.close(alloc, reader.room, are_groups(reader.options))?),
             StepSort::Repeat => self.repeat(alloc, reader.room, &lexeme),
             StepSort::Join => Ok(self.combine(alloc, reader.room, Pairing::Sequence)?),
@@ -402,11 +387,13 @@ impl Operands {
     }
 }
 
-/// Takes steps in their order.
+/// Takes steps in their order, behind some tags and so many groups.
 fn take_steps(
     alloc: Global,
     reader: Reader<'_, '_>,
     lexemes: Lexemes<'_>,
+    seen: SeenTags,
+    groups: u64,
     steps: &[Step],
 ) -> Result<Operands, Stop>
     requires room { IsRoom reader.room }
@@ -414,16 +401,43 @@ fn take_steps(
     requires order { AreInOrder 0 (map (step_view (lexemes_view lexemes)) steps.now) }
     ensures taken { let definitions = scope_view reader.entry.scope in
         MatchResult result
-        (AreTaken reader.entry.options.now definitions reader.entry.room no_operands (map (step_view (lexemes_view lexemes.entry)) steps.now))
-        (StopsReading reader.entry.options.now definitions no_operands (map (step_view (lexemes_view lexemes.entry)) steps.now)) }
+        (AreTaken reader.entry.options.now definitions reader.entry.room (operands_behind (record { tags = seen; groups = groups })) (map (step_view (lexemes_view lexemes.entry)) steps.now))
+        (StopsReading reader.entry.options.now definitions (operands_behind (record { tags = seen; groups = groups })) (map (step_view (lexemes_view lexemes.entry)) steps.now)) }
     ensures bounded { IfOk result (λ operands. AreBounded operands.values.items) }
     ensures one { IfOk result (λ operands. length operands.values.items ≡ 1) }
 {
-    let mut operands = Operands::new(alloc);
+    let mut operands = Operands::behind(alloc, seen, groups);
     for step in steps {
         operands.take(alloc, reader, lexemes, *step)?;
     }
     Ok(operands)
+}
+
+/// Reads the expression that stands from one token up to another, behind some tags and so many groups. It is built only where it
+/// is within the room.
+pub fn read_behind(
+    alloc: Global,
+    reader: Reader<'_, '_>,
+    lexemes: Lexemes<'_>,
+    seen: SeenTags,
+    groups: u64,
+    from: usize,
+    until: usize,
+) -> Result<Reading, Stop>
+    requires room { IsRoom reader.room }
+    requires fit { ScopeFits reader.scope }
+    requires part { IsPart (sorts_at (lexemes_view lexemes)) alt from until }
+    requires few { until < 2 ^ 32 }
+    ensures bounded { IfOk result (λ reading. IsBounded reading.value) }
+    ensures read { let definitions = scope_view reader.entry.scope in
+        MatchResult result (IsReadBehind reader.entry.options.now (lexemes_view lexemes.entry) definitions reader.entry.room (record { tags = seen; groups = groups }) from until)
+        (StopsAt (ChecksBehind reader.entry.options.now (lexemes_view lexemes.entry) definitions seen from until)) }
+{
+    let steps = expression_steps(alloc, lexemes, from, until, are_groups(reader.options))?;
+    let mut operands = take_steps(alloc, reader, lexemes, seen, groups, &steps)?;
+    let value = operands.pop();
+    let tags = operands.seen.into_shared(alloc)?;
+    Ok(Reading { value, tags })
 }
 
 /// Reads the expression that stands from one token up to another. It is built only where it is within the room.
@@ -443,9 +457,5 @@ pub fn read_expression(
         MatchResult result (IsRead reader.entry.options.now (lexemes_view lexemes.entry) definitions reader.entry.room from until)
         (StopsAt (ExpressionChecks reader.entry.options.now (lexemes_view lexemes.entry) definitions from until)) }
 {
-    let steps = expression_steps(alloc, lexemes, from, until, are_groups(reader.options))?;
-    let mut operands = take_steps(alloc, reader, lexemes, &steps)?;
-    let value = operands.pop();
-    let tags = operands.seen.into_shared(alloc)?;
-    Ok(Reading { value, tags })
+    read_behind(alloc, reader, lexemes, SeenTags::new(alloc), 0, from, until)
 }

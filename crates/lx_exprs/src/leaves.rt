@@ -1,5 +1,5 @@
 //! Reads the tokens of an expression that are no signs between others.
-ghost use Rattle.std.specs.Prelude.{◌≡◌, ◌≤◌, ◌∷◌, ◌++◌, ◌^◌, ◌+◌, ℕ, Bool, true, false, List, Some, None, [], IfOk, MatchResult, length, map, max, min, suc};
+ghost use Rattle.std.specs.Prelude.{◌≡◌, ◌≤◌, ◌∷◌, ◌++◌, ◌^◌, ◌+◌, ℕ, Bool, true, false, List, Some, None, [], IfOk, MatchResult, length, map, max, min, suc, if◌then◌else◌};
 ghost use Rattle.lx_base.specs.declared.limits.TheConstants.{SIZE_LIMIT};
 ghost use Rattle.lx_base.specs.declared.faults.Fault.TheVariants.{EmptyClass, UnknownName, Unsupported};
 ghost use Rattle.lx_base.specs.declared.faults.Stop.TheVariants as stop;
@@ -312,15 +312,16 @@ fn tag_content(number: u64, many: bool) -> Content
     })
 }
 
-/// Reads a tag behind so many groups.
+/// Reads a tag behind so many groups; `many` says whether it has all its values.
 fn read_tag(
     alloc: Global,
     reader: Reader<'_, '_>,
     seen: &mut SeenTags,
     groups: u64,
     lexeme: &Lexeme<'_>,
+    many: bool,
 ) -> Result<Value, Stop>
-    requires sort { (lexeme_view lexeme.now).kind ≡ kind.STag }
+    requires sort { (lexeme_view lexeme.now).kind ≡ (if many then kind.MTag else kind.STag) }
     requires room { IsRoom reader.room }
     ensures read { (is_operand : Bool)
         → IsLeafResult reader.entry.options.now (scope_view reader.entry.scope) reader.entry.room is_operand (record { tags = seen.old; groups = groups }) (lexeme_view lexeme.now) seen.new result }
@@ -338,14 +339,13 @@ fn read_tag(
         }));
     }
     let number = seen.len();
-    seen.push(alloc, name, false)?;
+    seen.push(alloc, name, many)?;
     let tags = sum(count_of(number, groups), 1);
-    let content = tag_content(number, false);
+    let content = tag_content(number, many);
     Ok(Value::limited(alloc, reader.room, content, 1, 0, 0, tags)?)
 }
 
-/// Reads a token that is no sign between others, behind the tags that were seen before and so many groups. M-tags are not
-/// supported yet.
+/// Reads a token that is no sign between others, behind the tags that were seen before and so many groups.
 pub fn read_leaf(
     alloc: Global,
     reader: Reader<'_, '_>,
@@ -366,7 +366,8 @@ pub fn read_leaf(
         TokenKind::Class => read_class(alloc, reader, count, lexeme, is_operand),
         TokenKind::Signs => Ok(read_line(alloc, reader, count, is_operand)?),
         TokenKind::Name => read_name(alloc, reader, seen, groups, lexeme),
-        TokenKind::STag => read_tag(alloc, reader, seen, groups, lexeme),
+        TokenKind::STag => read_tag(alloc, reader, seen, groups, lexeme, false),
+        TokenKind::MTag => read_tag(alloc, reader, seen, groups, lexeme, true),
         _ => Err(Stop::Fault(Fault::Unsupported {
             at: Some(lexeme.at),
         })),

@@ -279,6 +279,16 @@ impl SeenTags {
         }
     }
 
+    /// These tags, with no others behind them so far. It takes no memory.
+    pub fn behind(alloc: Global, shared: SharedTags) -> SeenTags
+        ensures { result ≡ shared }
+    {
+        SeenTags {
+            shared,
+            own: TagNames::new(alloc),
+        }
+    }
+
     /// How many tags there are; 2^40 stands for itself and for more.
     pub fn len(&self) -> u64
         ensures { result ≡ kept (length self.now) }

@@ -29,7 +29,7 @@ impl Room {
     ghost use Rattle.lx_exprs.specs.Defined.{fits};
 
     /// Whether an expression of this size and nesting, with so many tags up to its end, two for each group, is built.
-    fn fits(self, size: u64, nesting: u64, tags: u64) -> bool
+    pub fn fits(self, size: u64, nesting: u64, tags: u64) -> bool
         ensures { result ≡ fits self size nesting tags }
     {
         size <= self.size && nesting <= NESTING_LIMIT && tags <= self.tags
@@ -183,7 +183,7 @@ impl Content {
         ensures past { IfNone result (is_past self ≡ true) }
         ensures kept { IfSome result (λ expr. is_past self ≡ false) }
         ensures size { IfSome result (λ expr. size_of expr ≡ content_size self) }
-        ensures tags { (bound : ℕ) → AreTagsBelow bound self → IfSome result (λ expr. HasTagsBelow bound (term_of 0 expr)) }
+        ensures tags { (bound : ℕ) → AreTagsBelow bound self → IfSome result (λ expr. HasTagsBelow 1 bound (term_of 0 expr)) }
     {
         match self {
             Content::One(expr) => Some(expr),
@@ -200,7 +200,7 @@ impl Content {
         ensures past { IfOk result (λ row. IfNone row (is_past self ≡ true)) }
         ensures size { IfOk result (λ row. IfSome row (λ members. sum (map size_of members.items) ≤ content_size self)) }
         ensures tags { (bound : ℕ) → AreTagsBelow bound self
-            → IfOk result (λ row. IfSome row (λ members. HaveTagsBelow bound (members_of (map (term_of 0) members.items)))) }
+            → IfOk result (λ row. IfSome row (λ members. HaveTagsBelow 1 bound (members_of (map (term_of 0) members.items)))) }
     {
         match self {
             Content::Row(members) => Ok(Some(members)),
@@ -219,7 +219,7 @@ impl Content {
         ensures size { IfOk result (λ choice. IfSome choice (λ members. sum (map size_of members.items) ≤ content_size self)) }
         ensures choice { is_choice_content self ≡ true → IfOk result (λ choice. IfSome choice (λ members. sum (map size_of members.items) + 1 ≤ content_size self)) }
         ensures tags { (bound : ℕ) → AreTagsBelow bound self
-            → IfOk result (λ choice. IfSome choice (λ members. HaveTagsBelow bound (members_of (map (term_of 0) members.items)))) }
+            → IfOk result (λ choice. IfSome choice (λ members. HaveTagsBelow 1 bound (members_of (map (term_of 0) members.items)))) }
     {
         match self {
             Content::Choice(members) => Ok(Some(members)),
@@ -458,7 +458,7 @@ impl Value {
     pub fn into_kept(self, alloc: Global) -> Result<Option<Expr>, Memory>
         ensures term { (meaning : Meaning) → IsValue whole_room meaning self
             → IfOk result (λ found. IsTermKept (is_built whole_room meaning) meaning (option_map (term_of 0) found)) }
-        ensures kept { IsBounded self → IfOk result (λ found. FitsKept found self.size self.tags) }
+        ensures kept { IsBounded self → IfOk result (λ found. FitsKept 1 found self.size self.tags) }
     {
         match self.content {
             Content::Past(class, _) => match class {
@@ -474,7 +474,7 @@ impl Value {
         ensures built { (room : Room) (meaning : Meaning) → IsValue room meaning self
             → IfSome result (λ expr. term_of 0 expr ≡ term_of_meaning meaning) }
         ensures past { (room : Room) (meaning : Meaning) → IsValue room meaning self → IfNone result (is_built room meaning ≡ false) }
-        ensures kept { IsBounded self → FitsKept result self.size self.tags }
+        ensures kept { IsBounded self → FitsKept 1 result self.size self.tags }
     {
         self.content.into_expr()
     }

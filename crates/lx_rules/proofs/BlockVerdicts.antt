@@ -5,7 +5,6 @@ use Rattle.lx_base.specs.declared.blocks.BlockKind.TheVariants.{Code}
 use Rattle.lx_base.specs.declared.faults.Fault.{Fault}
 use Rattle.lx_base.specs.declared.faults.Fault.TheVariants.{BadValue, Unsupported}
 use Rattle.lx_base.specs.declared.places.Pos.{Pos}
-use Rattle.lx_base.specs.declared.settings.Enc.{Enc}
 use Rattle.lx_base.specs.declared.settings.Options.{Options}
 use Rattle.lx_parse.specs.Blocks.{IsBody, form_of}
 use Rattle.lx_parse.specs.Ranges.{EachHasExpressions}
@@ -24,7 +23,7 @@ use Rattle.lx_rules.proofs.BuiltScanners.{block_built}
 use Rattle.lx_exprs.proofs.Classical.{Surely, surely, and_then, excluded_middle}
 use Rattle.lx_exprs.proofs.Forms.FormVerdicts.{Decides, finds_decides, then_decides}
 use Rattle.lx_rules.proofs.Openings.{opened, opening_is}
-use Rattle.lx_rules.proofs.ItemFits.{IsStateWithin, goes_within}
+use Rattle.lx_rules.proofs.ItemFits.{IsStateWithin, goes_within, no_rules_within}
 use Rattle.lx_rules.proofs.ItemRuns.{sorts_of-lexemes}
 use Rattle.lx_rules.proofs.ItemVerdicts.{IsStateBuildable, goes_buildable, goes_decides}
 
@@ -32,24 +31,24 @@ use Rattle.lx_rules.proofs.ItemVerdicts.{IsStateBuildable, goes_buildable, goes_
 scanners_decide : (custom : Bool) (at : Pos) (state : State) → Decides (ScannerChecks custom at state)
 scanners_decide custom at state =
     let names = (config_of state.settings).names in
-    let Scanners : Check = Finds (scanners_fault at state.rules (conditions_of state.rules)) in
+    let Scanners : Check = Finds (scanners_fault at (config_of state.settings).eof state.rules (conditions_of state.rules)) in
     let Targets : Check = Finds (targets_fault state.rules (conditions_of state.rules)) in
     let Lonely : Check = Finds (lonely_fault at state.rules (conditions_of state.rules)) in
     then_decides (ClashCheck custom at names state.rules) (Then Lonely (Then Targets Scanners))
     (and_then (excluded_middle (NoClash custom names state.rules)) (λ found. surely (clash found)))
     (then_decides Lonely (Then Targets Scanners) (finds_decides (lonely_fault at state.rules (conditions_of state.rules)))
     (then_decides Targets Scanners (finds_decides (targets_fault state.rules (conditions_of state.rules)))
-    (finds_decides (scanners_fault at state.rules (conditions_of state.rules)))))
+    (finds_decides (scanners_fault at (config_of state.settings).eof state.rules (conditions_of state.rules)))))
   where
     clash : NoClash custom (config_of state.settings).names state.rules ⊎ (NoClash custom (config_of state.settings).names state.rules → ⊥)
         → (fault : Option Fault) × ClashCheck custom at (config_of state.settings).names state.rules fault
     clash (inl free) = (None, inl (free, refl))
     clash (inr clashes) = (Some (BadValue at), inr (clashes, refl))
 
-module _ (options : Options) (at : Pos) (environment : Environment) (lexemes : List Lexeme) (items : List Item) (ready : HasBuildableDefinitions options.enc environment) where
-  state_within : (state : State) → Goes options lexemes (first_state Code environment) items (Ok state) → IsStateWithin options.enc state
+module _ (options : Options) (at : Pos) (environment : Environment) (lexemes : List Lexeme) (items : List Item) (ready : HasBuildableDefinitions options environment) where
+  state_within : (state : State) → Goes options lexemes (first_state Code environment) items (Ok state) → IsStateWithin options state
   state_within state goes =
-      goes_within options lexemes (first_state Code environment) state items (record { definitions = ready.within; rules = tt; numbers = tt; differ = tt; conds = tt }) goes
+      goes_within options lexemes (first_state Code environment) state items (no_rules_within options (first_state Code environment) ready.within refl) goes
 
   state_buildable : (state : State) → Goes options lexemes (first_state Code environment) items (Ok state) → IsStateBuildable state
   state_buildable state goes =
@@ -57,13 +56,13 @@ module _ (options : Options) (at : Pos) (environment : Environment) (lexemes : L
 
   -- a block leaves what is ready
   pub ready_after : (kind : BlockKind) (after : Environment) (resolved : Resolved) → Resolves options kind at environment lexemes items after resolved
-      → HasBuildableDefinitions options.enc after
+      → HasBuildableDefinitions options after
   ready_after kind after resolved resolves =
       of (subst (λ (k : BlockKind). Resolves options k at environment lexemes items after resolved) (opened kind at resolves.opening) resolves)
     where
-      of : Resolves options Code at environment lexemes items after resolved → HasBuildableDefinitions options.enc after
+      of : Resolves options Code at environment lexemes items after resolved → HasBuildableDefinitions options after
       of is =
-          subst (HasBuildableDefinitions options.enc) (sym is.after_is) (record {
+          subst (HasBuildableDefinitions options) (sym is.after_is) (record {
             within = (state_within is.state is.goes).definitions;
             buildable = (state_buildable is.state is.goes).definitions;
           })
@@ -93,7 +92,7 @@ module _ (options : Options) (at : Pos) (environment : Environment) (lexemes : L
   scanners_verdict has =
       and_then
       (goes_decides options lexemes items (first_state Code environment) has
-      (record { definitions = ready.within; rules = tt; numbers = tt; differ = tt; conds = tt }) (record { definitions = ready.buildable; rules = tt }))
+      (no_rules_within options (first_state Code environment) ready.within refl) (record { definitions = ready.buildable; rules = tt }))
       (λ found. items_verdict found.0 found.1)
 
   pub block_verdict : (kind : BlockKind) → (kind ≡ Code → EachHasExpressions (sorts_at lexemes) items) → Surely (IsVerdict kind)
@@ -117,5 +116,5 @@ pub body_expressions : (body : List ℕ) (tokens : List Token) (items : List Ite
 body_expressions body tokens items read =
     subst (λ sorts. EachHasExpressions sorts items) (sorts_of-lexemes body tokens) (body_has (form_of Code) (sorts_of Code body tokens) items read)
 
-pub first_ready : (enc : Enc) → HasBuildableDefinitions enc first_environment
-first_ready enc = record { within = tt; buildable = tt }
+pub first_ready : (options : Options) → HasBuildableDefinitions options first_environment
+first_ready options = record { within = tt; buildable = tt }

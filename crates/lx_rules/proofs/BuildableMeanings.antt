@@ -20,7 +20,8 @@ use Rattle.lx_rules.specs.Buildable.{IsExpressible, AreExpressible, IsBuildable}
 use Rattle.lx_exprs.specs.Checks.{are_groups, bounds_of, inner_operand, tag_of}
 use Rattle.lx_exprs.specs.Defined.{Before, Definition, IsClassKept, IsDefined, IsTermKept, Meaning, Shape, one, row, choice, count_of, definition_of, is_built, kept, meant_class, whole, whole_room}
 use Rattle.lx_forms.specs.Forms.{Form, leaf, group, repeated, sequence, difference, alternative}
-use Rattle.lx_rules.specs.Items.{any_meaning}
+use Rattle.lx_rules.specs.Items.{any_meaning, as_rule, end_meaning, in_whole, is_end, trailing}
+use Rattle.lx_rules.specs.Rules.{RuleOf}
 use Rattle.lx_forms.specs.Lexemes.{Lexeme, points_in}
 use Rattle.lx_exprs.specs.Meanings.{IsLeafMeaning, IsMeaning, alternated, character_set, class_meaning, class_term, copied, enclosed, followed, grouped, in_choice, in_group, in_parentheses, in_row, parenthesized, past, repeated_by, set_term, shifted, shifted_all, string_meaning, string_term, tag_meaning, term_or_empty}
 use Rattle.lx_exprs.proofs.Contents.ValueLimits.{at_least, both_of, times-some}
@@ -37,6 +38,11 @@ pub record IsMeantBuildable (meaning : Meaning) : Type 0 where
   pub some : 1 ≤ meaning.size
   pub few : term_count meaning.shape ≤ meaning.size
   pub expressible : meaning.size ≤ 4096 → IsExpressible (whole meaning.shape)
+
+-- a rule can be built, and `$` is small
+pub record IsRuleBuildable (rule : RuleOf) : Type 0 where
+  pub meaning : IsMeantBuildable rule.meaning
+  pub small : is_end rule.kind ≡ true → rule.meaning.size ≤ 4096
 
 member_count-members : (terms : List Term) → member_count (members_of terms) ≡ length terms
 member_count-members [] = refl
@@ -103,6 +109,30 @@ string_buildable count sets =
 
 pub any_buildable : IsMeantBuildable any_meaning
 any_buildable = record { some = omega arith; few = omega arith; expressible = λ within. tt }
+
+pub end_buildable : IsMeantBuildable end_meaning
+end_buildable = record { some = omega arith; few = omega arith; expressible = λ within. tt }
+
+-- the expression of a rule
+pub as_rule_buildable : (is_group : Bool) (inner : Meaning) → IsMeantBuildable inner → IsMeantBuildable (as_rule is_group inner)
+as_rule_buildable true inner is = record { some = is.some; few = is.some; expressible = λ within. (0, refl, refl, is.expressible within) }
+as_rule_buildable false inner is = record { some = is.some; few = is.some; expressible = is.expressible }
+
+-- and with a trailing context
+pub trailing_buildable : (is_group : Bool) (first second : Meaning) → IsMeantBuildable first → IsMeantBuildable second
+    → IsMeantBuildable (trailing is_group first second).means
+trailing_buildable is_group first second is is_too = record {
+  some = omega arith;
+  few = let here = is.some in let there = is_too.some in omega (arith, here, there);
+  expressible = λ within. (
+    omega arith,
+    (whole_expressible is_group (whole first.shape) (is.expressible (omega (arith, within))), (tt, (is_too.expressible (omega (arith, within)), tt))),
+  );
+}
+  where
+    whole_expressible : (is_group : Bool) (term : Term) → IsExpressible term → IsExpressible (in_whole is_group term)
+    whole_expressible true term is = (0, refl, refl, is)
+    whole_expressible false term is = is
 
 tag_buildable : (before : Before) (named : Tag) → IsMeantBuildable (tag_meaning before named)
 tag_buildable before named = record { some = omega arith; few = omega arith; expressible = λ within. tt }

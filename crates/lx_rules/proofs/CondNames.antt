@@ -65,6 +65,19 @@ list_any-one name (other ∷ names) = at (bytes_eq other name) (bytes_eq name ot
     at true false e later = absurd (let h : true ≡ false = e in cc)
     at false true e later = absurd (let h : false ≡ true = e in cc)
 
+-- what holds of a name among others holds of one of them
+pub list_any-among : (test : List ℕ → Bool) (name : List ℕ) (names : List (List ℕ)) → is_among name names ≡ true → test name ≡ true → list_any test names ≡ true
+list_any-among test name [] among is = absurd (let h : false ≡ true = among in cc)
+list_any-among test name (other ∷ names) among is =
+    at (bytes_eq name other) refl (test other) refl among (λ later. list_any-among test name names later is)
+  where
+    at : (b : Bool) → bytes_eq name other ≡ b → (t : Bool) → test other ≡ t → (b || is_among name names) ≡ true
+        → (is_among name names ≡ true → list_any test names ≡ true) → (t || list_any test names) ≡ true
+    at b e true f found later = refl
+    at true e false f found later =
+        let h : false ≡ true = sym f ∙ ap test (sym ((bytes_eq-Decides name other).0 e)) ∙ is in absurd (cc)
+    at false e false f found later = later found
+
 -- names are appended to those that are there
 pub add_conds-front : (conds seen : List (List ℕ)) → (more : List (List ℕ)) × (add_conds conds seen ≡ seen ++ more)
 add_conds-front [] seen = ([], sym (append-nil seen))

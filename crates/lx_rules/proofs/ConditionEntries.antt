@@ -8,9 +8,9 @@ use Rattle.std.proofs.lemmas.Slice.Eq.{bytes_eq-Decides}
 use Rattle.indexmap.specs.IndexMap.{insert_entry}
 use Rattle.lx_exprs.specs.Checks.{is_among}
 use Rattle.lx_rules.specs.declared.conditions.Conditions.{Conditions}
-use Rattle.lx_rules.specs.declared.conditions.Running.{Running}
+use Rattle.lx_rules.specs.declared.conditions.Standing.{Standing}
 use Rattle.lx_rules.specs.Blocks.{add_conds, every}
-use Rattle.lx_rules.specs.Conditions.{nothing_runs, running_of, running_with}
+use Rattle.lx_rules.specs.Conditions.{nothing_stands, standing_of, standing_with}
 
 -- equality of keys is that of their names
 abbrev pub same_key : {K : Type 0} → (K → List ℕ) → K → K → Bool
@@ -101,29 +101,29 @@ pub add_conds-one : (cond : List ℕ) (seen : List (List ℕ)) → bytes_eq cond
     → add_conds (cond ∷ []) seen ≡ (if is_among cond seen then seen else seen ++ cond ∷ [])
 add_conds-one cond seen other = ap (λ (test : Bool). if test || is_among cond seen then seen else seen ++ cond ∷ []) other
 
-module _ (before after : Conditions) (cond : List ℕ) (rule : Running) (other_name : bytes_eq cond every ≡ false) (shared : after.shared ≡ before.shared) where
+module _ (before after : Conditions) (cond : List ℕ) (rule : Standing) (other_name : bytes_eq cond every ≡ false) (shared : after.shared ≡ before.shared) where
   -- a rule is counted for a condition alone
   pub counted-one : (name : List ℕ) → found_in (λ (key : Vec ℕ Global). key.items) name after.named.entries
-      ≡ (if bytes_eq name cond then Some (running_with (running_of before cond) rule) else found_in (λ (key : Vec ℕ Global). key.items) name before.named.entries)
-      → running_of after name ≡ (if bytes_eq name cond then running_with (running_of before name) rule else running_of before name)
+      ≡ (if bytes_eq name cond then Some (standing_with (standing_of before cond) rule) else found_in (λ (key : Vec ℕ Global). key.items) name before.named.entries)
+      → standing_of after name ≡ (if bytes_eq name cond then standing_with (standing_of before name) rule else standing_of before name)
   counted-one name found = by (bytes_eq name every) (bytes_eq name cond) refl refl found
     where
       by : (all here : Bool) → bytes_eq name every ≡ all → bytes_eq name cond ≡ here → found_in (λ (key : Vec ℕ Global). key.items) name after.named.entries
-          ≡ (if here then Some (running_with (running_of before cond) rule) else found_in (λ (key : Vec ℕ Global). key.items) name before.named.entries)
-          → running_of after name ≡ (if here then running_with (running_of before name) rule else running_of before name)
+          ≡ (if here then Some (standing_with (standing_of before cond) rule) else found_in (λ (key : Vec ℕ Global). key.items) name before.named.entries)
+          → standing_of after name ≡ (if here then standing_with (standing_of before name) rule else standing_of before name)
       by true true e f is =
           let same : name ≡ every = (bytes_eq-Decides name every).0 e in
           let here : name ≡ cond = (bytes_eq-Decides name cond).0 f in
           absurd (let h : true ≡ false = sym ((bytes_eq-Decides cond every).1 (sym here ∙ same)) ∙ other_name in cc)
       by true false e f is =
-          ap (λ (test : Bool). if test then after.shared else unwrap_or (found_in (λ (key : Vec ℕ Global). key.items) name after.named.entries) nothing_runs) e
+          ap (λ (test : Bool). if test then after.shared else unwrap_or (found_in (λ (key : Vec ℕ Global). key.items) name after.named.entries) nothing_stands) e
           ∙ shared
-          ∙ sym (ap (λ (test : Bool). if test then before.shared else unwrap_or (found_in (λ (key : Vec ℕ Global). key.items) name before.named.entries) nothing_runs) e)
+          ∙ sym (ap (λ (test : Bool). if test then before.shared else unwrap_or (found_in (λ (key : Vec ℕ Global). key.items) name before.named.entries) nothing_stands) e)
       by false true e f is =
-          ap (λ (test : Bool). if test then after.shared else unwrap_or (found_in (λ (key : Vec ℕ Global). key.items) name after.named.entries) nothing_runs) e
-          ∙ ap (λ found. unwrap_or found nothing_runs) is
-          ∙ ap (λ l. running_with (running_of before l) rule) (sym ((bytes_eq-Decides name cond).0 f))
+          ap (λ (test : Bool). if test then after.shared else unwrap_or (found_in (λ (key : Vec ℕ Global). key.items) name after.named.entries) nothing_stands) e
+          ∙ ap (λ found. unwrap_or found nothing_stands) is
+          ∙ ap (λ l. standing_with (standing_of before l) rule) (sym ((bytes_eq-Decides name cond).0 f))
       by false false e f is =
-          ap (λ (test : Bool). if test then after.shared else unwrap_or (found_in (λ (key : Vec ℕ Global). key.items) name after.named.entries) nothing_runs) e
-          ∙ ap (λ found. unwrap_or found nothing_runs) is
-          ∙ sym (ap (λ (test : Bool). if test then before.shared else unwrap_or (found_in (λ (key : Vec ℕ Global). key.items) name before.named.entries) nothing_runs) e)
+          ap (λ (test : Bool). if test then after.shared else unwrap_or (found_in (λ (key : Vec ℕ Global). key.items) name after.named.entries) nothing_stands) e
+          ∙ ap (λ found. unwrap_or found nothing_stands) is
+          ∙ sym (ap (λ (test : Bool). if test then before.shared else unwrap_or (found_in (λ (key : Vec ℕ Global). key.items) name before.named.entries) nothing_stands) e)

@@ -1,25 +1,24 @@
 -- Scanners whose rules are copies of those that are kept.
-use Rattle.std.proofs.Common.{◌≡◌, ℕ, zero, suc, ◌+◌, ◌<◌, ◌≤◌, ◌⊎◌, inl, inr, Bool, true, false, List, [], ◌∷◌, ◌++◌, map, length, take, get_or, Option, None, Some, refl, sym, ap, ap₂, ◌∙◌, subst, arith}
-use Rattle.std.specs.Prelude.{◌||◌}
-use Rattle.std.specs.List.{AllByRecursion, AllZip, list_any}
-use Rattle.std.specs.Option.{option_or}
-use Rattle.std.specs.Str.{bytes_eq}
+use Rattle.std.proofs.Common.{◌≡◌, ℕ, zero, suc, ◌+◌, ◌<◌, ◌≤◌, ◌⊎◌, inl, inr, Bool, true, false, List, [], ◌∷◌, ◌++◌, map, length, take, get_or, Option, None, Some, IfSome, refl, sym, ap, ap₂, ◌∙◌, subst, arith}
+use Rattle.std.specs.Prelude.{not, if◌then◌else◌}
+use Rattle.std.specs.List.{AllByRecursion, AllZip}
+use Rattle.std.specs.Option.{option_map, option_or}
 use Rattle.std.proofs.lemmas.List.{take_more}
 use Rattle.std.proofs.lemmas.List.Elements.{All-from_recursion}
-use Rattle.std.proofs.lemmas.Slice.Eq.{bytes_eq-Decides}
 use Rattle.std.proofs.lemmas.Slice.Zip.{all_zipped_more}
 use Rattle.lx_base.specs.declared.faults.Fault.{Fault}
 use Rattle.lx_base.specs.declared.faults.Stop.{Stop}
 use Rattle.lx_base.specs.declared.faults.Stop.TheVariants as stop
 use Rattle.lx_base.specs.declared.places.Pos.{Pos}
 use Rattle.lx_regex.specs.Expr.{size_of, term_of}
+use Rattle.lx_regex.specs.Limits.{end_count, sizes_of}
 use Rattle.lx_regex.specs.Pattern as regex
 use Rattle.lx_regex.specs.Pattern.{Pattern}
 use Rattle.lx_regex.specs.declared.expr.Expr.{Expr}
 use Rattle.lx_regex.specs.declared.rules.Rule.{Rule}
 use Rattle.lx_regex.specs.declared.rules.Tag.{Tag}
 use Rattle.lx_exprs.specs.Checks.{Finds, StopsAt, is_among, tag_names}
-use Rattle.lx_exprs.specs.Defined.{term_of_meaning}
+use Rattle.lx_exprs.specs.Defined.{Meaning, kept, term_of_meaning}
 use Rattle.lx_exprs.specs.Meanings.{behind}
 use Rattle.lx_exprs.specs.FitDefinitions.{FitsKept}
 use Rattle.lx_exprs.proofs.Contents.TermsBehind.{term_of-behind}
@@ -27,50 +26,55 @@ use Rattle.lx_exprs.proofs.TagLists.TermTags.{HasTagsBelow-greater}
 use Rattle.lx_rules.specs.declared.kept.KeptRule.{KeptRule}
 use Rattle.lx_rules.specs.declared.resolved.Scanner.{Scanner}
 use Rattle.lx_rules.specs.Blocks as blocks
-use Rattle.lx_rules.specs.Blocks.{AreScanners, cond_name, every, given_names, names_of, pattern_of, rules_of, scanner_fault, scanners_fault, tags_of}
+use Rattle.lx_rules.specs.Blocks.{AreScanners, cond_name, every, given_names, names_of, not_of_kind, pattern_of, rules_of, scanner_fault, scanners_fault, tags_of}
 use Rattle.lx_rules.specs.Finishing.{IsBuilt, IsCopyOf, IsBuiltScanner, kept_rules_of}
 use Rattle.lx_rules.specs.Kept.{IsExprKept, IsKeptRule, is_within, may_stand}
 use Rattle.lx_rules.specs.Rules.{RuleOf}
-use Rattle.lx_rules.specs.FitScanners.{IsFit, rules_size}
+use Rattle.lx_rules.specs.FitScanners.{IsFit}
+use Rattle.lx_rules.specs.Items.{is_end}
+use Rattle.lx_rules.proofs.CondNames.{list_any-among}
+use Rattle.lx_rules.proofs.EndRules.{same_end}
 use Rattle.lx_rules.proofs.KeptScanners.{StandsUnder, rules_of-zip}
 use Rattle.lx_rules.proofs.ScannerLimits.{AreLimited, own_within, scanner_limited, shared_within}
 use Rattle.lx_rules.proofs.ZippedLists.{zip-both, zip-so}
 
--- what holds of a name among others holds of one of them
-list_any-among : (test : List ℕ → Bool) (name : List ℕ) (names : List (List ℕ)) → is_among name names ≡ true → test name ≡ true → list_any test names ≡ true
-list_any-among test name [] among is = absurd (let h : false ≡ true = among in cc)
-list_any-among test name (other ∷ names) among is =
-    at (bytes_eq name other) refl (test other) refl among (λ later. list_any-among test name names later is)
-  where
-    at : (b : Bool) → bytes_eq name other ≡ b → (t : Bool) → test other ≡ t → (b || is_among name names) ≡ true
-        → (is_among name names ≡ true → list_any test names ≡ true) → (t || list_any test names) ≡ true
-    at b e true f found later = refl
-    at true e false f found later =
-        let h : false ≡ true = sym f ∙ ap test (sym ((bytes_eq-Decides name other).0 e)) ∙ is in absurd (cc)
-    at false e false f found later = later found
+slash_few : (slash : Option ℕ) (count : ℕ) → count ≤ 128 → IfSome slash (λ number. number ≤ count) → IfSome slash (λ number. number ≤ 128)
+slash_few None count few less = tt
+slash_few (Some number) count few less = omega (arith, few, less)
 
 -- a rule that may stand in a scanner has its expression
 built_one : (one : KeptRule) (rule : RuleOf) (stands : Bool) (expr : Option Expr) → one.expr ≡ expr → stands ≡ true → IsExprKept stands rule.meaning expr
-    → FitsKept expr one.size (length one.tags) → length one.tags ≤ 128 → IsBuilt one
-built_one one rule stands None is may past fits few = absurd (let h : false ≡ true = sym past ∙ may in cc)
-built_one one rule stands (Some expr) is may means fits few =
-    (expr, is, HasTagsBelow-greater (length one.tags) 128 (term_of 0 expr) few fits.2)
+    → FitsKept 0 expr one.size one.count → one.groups ≤ suc one.count → IfSome one.slash (λ number. number ≤ one.count)
+    → one.count ≤ 128 → IsBuilt one
+built_one one rule stands None is may past fits least counts few = absurd (let h : false ≡ true = sym past ∙ may in cc)
+built_one one rule stands (Some expr) is may means fits least counts few =
+    (expr, is, HasTagsBelow-greater 0 one.count 128 (term_of 0 expr) few fits.2, omega (arith, least, few), slash_few one.slash one.count few counts)
 
 module _ (names : List (List ℕ)) (all : List RuleOf) (cond : List ℕ) (own : is_within all cond ≡ true) (shared : is_within all every ≡ true) where
   stands : (rule : RuleOf) → (is_among cond rule.conds ≡ true) ⊎ (is_among every rule.conds ≡ true) → may_stand all rule ≡ true
   stands rule (inl here) = list_any-among (is_within all) cond rule.conds here own
   stands rule (inr there) = list_any-among (is_within all) every rule.conds there shared
 
-  all_built : (held : List KeptRule) (rules : List RuleOf) → AllZip (StandsUnder names all cond) held rules → tags_of rules ≤ 128 → AllByRecursion IsBuilt held
+  all_built : (held : List KeptRule) (rules : List RuleOf) → AllZip (StandsUnder names all cond) held rules → tags_of (not_of_kind is_end rules) ≤ 128
+      → AllByRecursion IsBuilt held
   all_built [] [] are few = tt
   all_built [] (rule ∷ rules) are few = absurd are
   all_built (one ∷ held) [] are few = absurd are
-  all_built (one ∷ held) (rule ∷ rules) are few =
-      let is = are.0.held in
-      let count = ap (λ (l : List Tag). length l) is.tags in (
-        built_one one rule (may_stand all rule) one.expr refl (stands rule are.0.under) is.expr is.fits (omega (arith, count, few)),
-        all_built held rules are.1 (omega (arith, few)),
-      )
+  all_built (one ∷ held) (rule ∷ rules) are few = at (is_end rule.kind) refl few (all_built held rules are.1)
+    where
+      is : IsKeptRule names all one rule
+      is = are.0.held
+
+      built : rule.meaning.count ≤ 128 → IsBuilt one
+      built most =
+          let count = is.count in
+          built_one one rule (may_stand all rule) one.expr refl (stands rule are.0.under) is.expr is.fits is.few is.counted (omega (arith, count, most))
+
+      at : (b : Bool) → is_end rule.kind ≡ b → tags_of (if not b then rule ∷ not_of_kind is_end rules else not_of_kind is_end rules) ≤ 128
+          → (tags_of (not_of_kind is_end rules) ≤ 128 → AllByRecursion IsBuilt held) → AllByRecursion IsBuilt (one ∷ held)
+      at true e most later =
+          let none = ap (λ (meaning : Meaning). meaning.count) (is.end e) in (built (omega (arith, none)), later most)
+      at false e most later = (built (omega (arith, most)), later (omega (arith, most)))
 
 -- the rule of a scanner is as it is wanted
 record IsCopied (most : ℕ) (built : Rule) (rule : RuleOf) : Type 0 where
@@ -88,8 +92,8 @@ copied names all one rule built is copy = record {
     kind = (copy.kind ∙ is.kind) j;
     term = term j;
     many = map (λ (tag : Tag). tag.many) (tags j);
-    slash = copy.slash j;
-    groups = copy.groups j;
+    slash = (copy.slash ∙ is.slash ∙ kept_same) j;
+    groups = (copy.groups ∙ is.groups) j;
   };
   names = ap (λ (l : List Tag). tag_names l) tags;
   some = let least = fits.0 in let size = is.size in omega (arith, least, size);
@@ -103,11 +107,18 @@ copied names all one rule built is copy = record {
     tags : built.tags ≡ rule.meaning.tags
     tags = copy.tags ∙ is.tags
 
+    kept_same : option_map kept rule.slash ≡ rule.slash
+    kept_same = of rule.slash (subst (λ slash. IfSome slash (λ number. number ≤ 128)) is.slash copy.slashed)
+      where
+        of : (slash : Option ℕ) → IfSome (option_map kept slash) (λ number. number ≤ 128) → option_map kept slash ≡ slash
+        of None few = refl
+        of (Some number) few = let same : kept number ≡ number = omega (arith, few) in ap Some same
+
     means : term_of 0 copy.expr ≡ term_of_meaning rule.meaning
     means = subst (IsExprKept (may_stand all rule) rule.meaning) copy.kept is.expr
 
-    fits : FitsKept (Some copy.expr) one.size (length one.tags)
-    fits = subst (λ expr. FitsKept expr one.size (length one.tags)) copy.kept is.fits
+    fits : FitsKept 0 (Some copy.expr) one.size one.count
+    fits = subst (λ expr. FitsKept 0 expr one.size one.count) copy.kept is.fits
 
     term : term_of (length built.tags) built.expr ≡ behind (length rule.meaning.tags) (term_of_meaning rule.meaning)
     term =
@@ -129,13 +140,23 @@ module _ (most : ℕ) where
       ap₂ (λ (n : List (List ℕ)) (l : List (List (List ℕ))). n ∷ l) are.0.names (names_are built rules are.1)
 
   sizes_small : (built : List Rule) (rules : List RuleOf) → AllZip (IsCopied most) built rules
-      → (rules_size built ≤ blocks.size_of rules) × (length built ≤ blocks.size_of rules)
+      → (sizes_of built ≤ blocks.size_of (not_of_kind is_end rules)) × (length built ≤ blocks.size_of (not_of_kind is_end rules) + end_count built)
   sizes_small [] [] are = (omega arith, omega arith)
   sizes_small [] (rule ∷ rules) are = absurd are
   sizes_small (one ∷ built) [] are = absurd are
-  sizes_small (one ∷ built) (rule ∷ rules) are =
-      let later = sizes_small built rules are.1 in
-      let a = later.0 in let b = later.1 in let size = are.0.size in let some = are.0.some in (omega (arith, a, size), omega (arith, b, some))
+  sizes_small (one ∷ built) (rule ∷ rules) are = at (is_end rule.kind) refl (sizes_small built rules are.1)
+    where
+      same : (b : Bool) → is_end rule.kind ≡ b → regex.is_end one.kind ≡ b
+      same b e = same_end one.kind ∙ ap (λ (p : Pattern). is_end p.kind) are.0.pattern ∙ e
+
+      at : (b : Bool) → is_end rule.kind ≡ b
+          → (sizes_of built ≤ blocks.size_of (not_of_kind is_end rules)) × (length built ≤ blocks.size_of (not_of_kind is_end rules) + end_count built)
+          → (sizes_of (one ∷ built) ≤ blocks.size_of (if not b then rule ∷ not_of_kind is_end rules else not_of_kind is_end rules))
+          × (length (one ∷ built) ≤ blocks.size_of (if not b then rule ∷ not_of_kind is_end rules else not_of_kind is_end rules) + end_count (one ∷ built))
+      at true e later = let a = later.0 in let b = later.1 in rw (same true e) (omega (arith, a), omega (arith, b))
+      at false e later =
+          let a = later.0 in let b = later.1 in let size = are.0.size in let some = are.0.some in
+          rw (same false e) (omega (arith, a, size), omega (arith, b, some))
 
   numbers_are : (built : List Rule) (rules : List RuleOf) → AllZip (IsCopied most) built rules
       → AllByRecursion (λ (rule : Rule). (0 < rule.number) × (rule.number ≤ most)) built
@@ -144,7 +165,7 @@ module _ (most : ℕ) where
   numbers_are (one ∷ built) [] are = absurd are
   numbers_are (one ∷ built) (rule ∷ rules) are = (are.0.number, numbers_are built rules are.1)
 
-module _ (named : Bool) (at : Pos) (names : List (List ℕ)) (held : List KeptRule) (rules : List RuleOf) (are : AllZip (IsKeptRule names rules) held rules)
+module _ (named : Bool) (at : Pos) (eof : Option ℕ) (names : List (List ℕ)) (held : List KeptRule) (rules : List RuleOf) (are : AllZip (IsKeptRule names rules) held rules)
     (cond : List ℕ) where
   -- the rules of the scanner are as its checks want them
   pub scanner_zip : AllZip (IsKeptRule names rules) (kept_rules_of names cond held) (rules_of cond rules)
@@ -152,9 +173,9 @@ module _ (named : Bool) (at : Pos) (names : List (List ℕ)) (held : List KeptRu
       zip-so (StandsUnder names rules cond) (IsKeptRule names rules) (λ one rule is. is.held) (kept_rules_of names cond held) (rules_of cond rules)
       (rules_of-zip names rules held rules are cond)
 
-  module _ (none : scanner_fault at (rules_of cond rules) ≡ None) where
+  module _ (none : scanner_fault at eof (rules_of cond rules) ≡ None) where
     most : AreLimited (rules_of cond rules)
-    most = scanner_limited at (rules_of cond rules) none
+    most = scanner_limited at eof (rules_of cond rules) none
 
     -- they can be copied
     pub scanner_built : AllByRecursion IsBuilt (kept_rules_of names cond held)
@@ -164,7 +185,7 @@ module _ (named : Bool) (at : Pos) (names : List (List ℕ)) (held : List KeptRu
 
     -- and with the copies it is as is wanted
     pub scanner_sound : (scanner : Scanner) → scanner.cond ≡ cond_name named cond → AllZip IsCopyOf (kept_rules_of names cond held) scanner.set.rules
-        → IsBuiltScanner named at rules cond scanner
+        → IsBuiltScanner named at eof rules cond scanner
     scanner_sound scanner name copies =
         let built = scanner.set.rules in
         let wanted = rules_of cond rules in
@@ -181,43 +202,43 @@ module _ (named : Bool) (at : Pos) (names : List (List ℕ)) (held : List KeptRu
           },
         )
 
-module _ (named : Bool) (at : Pos) (rules : List RuleOf) where
+module _ (named : Bool) (at : Pos) (eof : Option ℕ) (rules : List RuleOf) where
   abbrev AreSound : List (List ℕ) → List Scanner → Type 0
-  AreSound conds scanners = AllZip (IsBuiltScanner named at rules) conds scanners
+  AreSound conds scanners = AllZip (IsBuiltScanner named at eof rules) conds scanners
 
   -- one scanner more
   pub sound_more : (conds : List (List ℕ)) (place : ℕ) (cond : List ℕ) (scanners : List Scanner) (scanner : Scanner) → place < length conds
-      → get_or conds place [] ≡ cond → AreSound (take place conds) scanners → IsBuiltScanner named at rules cond scanner
+      → get_or conds place [] ≡ cond → AreSound (take place conds) scanners → IsBuiltScanner named at eof rules cond scanner
       → AreSound (take (place + 1) conds) (scanners ++ scanner ∷ [])
   sound_more conds place cond scanners scanner lt is are one =
       let next = take_more conds place [] lt ∙ ap (λ c. take place conds ++ c ∷ []) is in
       subst (λ l. AreSound l (scanners ++ scanner ∷ [])) (sym next)
-      (all_zipped_more (IsBuiltScanner named at rules) (take place conds) scanners cond scanner are one)
+      (all_zipped_more (IsBuiltScanner named at eof rules) (take place conds) scanners cond scanner are one)
 
   first_fault : (conds : List (List ℕ)) (place : ℕ) (scanners : List Scanner) (fault : Fault) → place < length conds → AreSound (take place conds) scanners
-      → Some fault ≡ scanner_fault at (rules_of (get_or conds place []) rules) → Some fault ≡ scanners_fault at rules conds
+      → Some fault ≡ scanner_fault at eof (rules_of (get_or conds place []) rules) → Some fault ≡ scanners_fault at eof rules conds
   first_fault [] place scanners fault lt are is = absurd (omega (arith, lt))
-  first_fault (cond ∷ conds) zero scanners fault lt are is = ap (λ found. option_or found (scanners_fault at rules conds)) is
+  first_fault (cond ∷ conds) zero scanners fault lt are is = ap (λ found. option_or found (scanners_fault at eof rules conds)) is
   first_fault (cond ∷ conds) (suc place) [] fault lt are is = absurd are
   first_fault (cond ∷ conds) (suc place) (scanner ∷ scanners) fault lt are is =
       first_fault conds place scanners fault (omega (arith, lt)) are.1 is
-      ∙ sym (ap (λ found. option_or found (scanners_fault at rules conds)) are.0.0)
+      ∙ sym (ap (λ found. option_or found (scanners_fault at eof rules conds)) are.0.0)
 
   -- the fault of the scanner behind others is the first one
   pub scanners_stop : (conds : List (List ℕ)) (place : ℕ) (cond : List ℕ) (scanners : List Scanner) (stopped : Stop) → place < length conds
-      → get_or conds place [] ≡ cond → AreSound (take place conds) scanners → StopsAt (Finds (scanner_fault at (rules_of cond rules))) stopped
-      → StopsAt (Finds (scanners_fault at rules conds)) stopped
+      → get_or conds place [] ≡ cond → AreSound (take place conds) scanners → StopsAt (Finds (scanner_fault at eof (rules_of cond rules))) stopped
+      → StopsAt (Finds (scanners_fault at eof rules conds)) stopped
   scanners_stop conds place cond scanners stop.Memory lt is are stops = tt
   scanners_stop conds place cond scanners (stop.Fault fault) lt is are stops =
-      first_fault conds place scanners fault lt are (stops ∙ ap (λ c. scanner_fault at (rules_of c rules)) (sym is))
+      first_fault conds place scanners fault lt are (stops ∙ ap (λ c. scanner_fault at eof (rules_of c rules)) (sym is))
 
   -- the checks of scanners that are built so find nothing
-  pub built_checked : (conds : List (List ℕ)) (scanners : List Scanner) → AreSound conds scanners → scanners_fault at rules conds ≡ None
+  pub built_checked : (conds : List (List ℕ)) (scanners : List Scanner) → AreSound conds scanners → scanners_fault at eof rules conds ≡ None
   built_checked [] [] are = refl
   built_checked [] (scanner ∷ scanners) are = absurd are
   built_checked (cond ∷ conds) [] are = absurd are
   built_checked (cond ∷ conds) (scanner ∷ scanners) are =
-      ap (λ found. option_or found (scanners_fault at rules conds)) are.0.0 ∙ built_checked conds scanners are.1
+      ap (λ found. option_or found (scanners_fault at eof rules conds)) are.0.0 ∙ built_checked conds scanners are.1
 
   -- and they are as is wanted, within the limits
   pub built_scanners : (conds : List (List ℕ)) (scanners : List Scanner) → AreSound conds scanners → AreScanners named rules conds scanners

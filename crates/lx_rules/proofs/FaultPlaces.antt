@@ -1,14 +1,13 @@
 -- The faults of the items of a block, and of the checks behind them, stand in its file.
 use Rattle.std.proofs.Common.{◌≡◌, ℕ, suc, ◌-◌, Bool, true, false, List, [], ◌∷◌, ◌++◌, ◌<◌, arith, length, Option, Some, None, Result, Ok, Err, refl, sym, ap, subst, inl, inr}
-use Rattle.std.specs.Prelude.{◌||◌, nat_lt, ◌==◌, if◌then◌else◌, is_some, not, IfSome}
+use Rattle.std.specs.Prelude.{◌||◌, nat_lt, ◌==◌, if◌then◌else◌, not, IfSome}
 use Rattle.std.specs.List.{AllByRecursion, list_any}
 use Rattle.std.specs.Option.{option_map, option_or}
-use Rattle.std.specs.Str.{bytes_eq}
 use Rattle.lx_base.specs.Names.{Spellings}
 use Rattle.lx_base.specs.declared.blocks.BlockKind.{BlockKind}
 use Rattle.lx_base.specs.declared.blocks.BlockKind.TheVariants.{Code}
 use Rattle.lx_base.specs.declared.faults.Fault.{Fault}
-use Rattle.lx_base.specs.declared.faults.Fault.TheVariants.{Unsupported, BadValue, Condition, EofPair, NoRules, Redefined, TooManyParts, UnknownConfig}
+use Rattle.lx_base.specs.declared.faults.Fault.TheVariants.{Unsupported, BadValue, Condition, NoRules, Redefined, TooManyParts}
 use Rattle.lx_base.specs.declared.places.Pos.{Pos}
 use Rattle.lx_base.specs.declared.settings.Options.{Options}
 use Rattle.lx_parse.specs.Blocks.{IsBody, form_of}
@@ -17,9 +16,12 @@ use Rattle.lx_parse.specs.Sorts.{sorts_of}
 use Rattle.lx_parse.proofs.ItemPlaces.{body_has_places}
 use Rattle.lx_parse.specs.declared.items.Item.{Item}
 use Rattle.lx_parse.specs.declared.items.Item.TheVariants.{Define, Configure, Rule, Text}
-use Rattle.lx_rules.specs.Blocks.{ClashCheck, IsBlockFault, IsFaultWithin, ScannerChecks, conditions_of, opening_fault, is_bare, limits_fault, lonely_fault, nesting_of, not_of_kind, rules_of, scanner_fault, scanners_fault, size_of, tags_of as tag_count, target_fault, targets_fault}
-use Rattle.lx_exprs.specs.Checks.{Then, Finds, unsupported, is_among}
-use Rattle.lx_rules.specs.Configurations.{config_fault, define_words, fill_word, other_words, switch_fault, switch_of}
+use Rattle.lx_rules.specs.Blocks.{ClashCheck, IsBlockFault, IsFaultWithin, ScannerChecks, conditions_of, opening_fault, pair_fault, is_bare, limits_fault, lonely_fault, nesting_of, not_of_kind, rules_of, scanner_fault, scanners_fault, size_of, tags_of as tag_count, target_fault, targets_fault}
+use Rattle.lx_exprs.specs.Checks.{Then, Finds, is_among}
+use Rattle.lx_rules.specs.Configurations.{config_fault, config_kind, kind_fault, set_by, value_fault}
+use Rattle.lx_rules.specs.declared.configurations.ConfigKind.{ConfigKind}
+use Rattle.lx_rules.specs.declared.environment.Setting.{Setting}
+use Rattle.lx_base.specs.declared.settings.Enc.{Enc}
 use Rattle.lx_exprs.specs.Defined.{Definition, definition_of, kept}
 use Rattle.lx_rules.specs.Environments.{Environment, config_of}
 use Rattle.lx_rules.proofs.Openings.{opened, opening_is}
@@ -50,15 +52,16 @@ module _ (file : ℕ) where
   unless-file true at is = tt
   unless-file false at is = is
 
-  switch-file : (value : Lexeme) → value.at.file ≡ file → IsFoundIn file (switch_fault value)
-  switch-file value is = if-file file (is_some (switch_of value.kind value.text)) None (Some (BadValue value.at)) tt is
+  value-file : (value : Lexeme) (found : Option Setting) → value.at.file ≡ file → IsFoundIn file (value_fault value found)
+  value-file value (Some setting) is = tt
+  value-file value None is = is
 
-  config-file : (name value : Lexeme) → name.at.file ≡ file → value.at.file ≡ file → IsFoundIn file (config_fault name value)
-  config-file name value name_is value_is =
-      let known = is_among name.text define_words || is_among name.text other_words in
-      let other = if◌then◌else◌ {A = Option Fault} known (unsupported name) (Some (UnknownConfig name.at name.text)) in
-      if-file file (bytes_eq name.text fill_word) (switch_fault value) other (switch-file value value_is)
-      (if-file file known (unsupported name) (Some (UnknownConfig name.at name.text)) name_is name_is)
+  config-file : (enc : Enc) (name value : Lexeme) → name.at.file ≡ file → value.at.file ≡ file → IsFoundIn file (config_fault enc name value)
+  config-file enc name value name_is value_is = of (config_kind name.text)
+    where
+      of : (found : Option ConfigKind) → IsFoundIn file (kind_fault enc name value found)
+      of None = name_is
+      of (Some kind) = value-file value (set_by enc kind value) value_is
 
   module _ (options : Options) (lexemes : List Lexeme) (are : StandInFile file lexemes) where
     at_in : (place : ℕ) → place < length lexemes → (nth_lexeme lexemes place).at.file ≡ file
@@ -85,8 +88,7 @@ module _ (file : ℕ) where
         FindsIn-Finds file found (twice-file (nth_lexeme lexemes head).at (first_of is_default conds state.rules) (at_in head lt))
     head-file state end conds head slash until lt =
         let found = twice (nth_lexeme lexemes head).at (first_of is_end conds state.rules) in
-        then_unsupported file options [] (Finds found) (nth_lexeme lexemes head) (at_in head lt)
-        (FindsIn-Finds file found (twice-file (nth_lexeme lexemes head).at (first_of is_end conds state.rules) (at_in head lt)))
+        FindsIn-Finds file found (twice-file (nth_lexeme lexemes head).at (first_of is_end conds state.rules) (at_in head lt))
     head-file state expression conds head None until lt = expression-file file options state.definitions lexemes are head until
     head-file state expression conds head (Some slash) until lt = context-file file options state.definitions lexemes are head slash until
 
@@ -98,8 +100,8 @@ module _ (file : ℕ) where
         (FindsIn-Finds file (twice lexeme.at first) (twice-file lexeme.at first (at_in name within.0)))
         (expression-file file options state.definitions lexemes are from until)
     item-file state (Configure name value) within =
-        let found = config_fault (nth_lexeme lexemes name) (nth_lexeme lexemes value) in
-        FindsIn-Finds file found (config-file (nth_lexeme lexemes name) (nth_lexeme lexemes value) (at_in name within.0) (at_in value within.1))
+        let found = config_fault options.enc (nth_lexeme lexemes name) (nth_lexeme lexemes value) in
+        FindsIn-Finds file found (config-file options.enc (nth_lexeme lexemes name) (nth_lexeme lexemes value) (at_in name within.0) (at_in value within.1))
     item-file state (Rule first head slash until goes code) within =
         let List' = ListChecks options lexemes (first == head) (nth_lexeme lexemes first).at in
         let Head = HeadChecks options lexemes state (head_sort (sort_at (nth_lexeme lexemes head))) (conds_of options lexemes first head) head slash until in
@@ -151,22 +153,29 @@ module _ (file : ℕ) where
       lonely-file (rule ∷ rules) [] = at_is
       lonely-file (rule ∷ rules) (cond ∷ conds) = tt
 
-      scanner-file : (rules : List RuleOf) → IsFoundIn file (scanner_fault at rules)
-      scanner-file rules =
+      pair-file : (eof : Option ℕ) (has_end : Bool) → IsFoundIn file (pair_fault at eof has_end)
+      pair-file None false = tt
+      pair-file None true = at_is
+      pair-file (Some unit) false = at_is
+      pair-file (Some unit) true = tt
+
+      scanner-file : (eof : Option ℕ) (rules : List RuleOf) → IsFoundIn file (scanner_fault at eof rules)
+      scanner-file eof rules =
           let own = not_of_kind is_end rules in
           let bare = if◌then◌else◌ {A = Option Fault} (is_bare rules) (Some (NoRules at)) None in
-          let ending = if◌then◌else◌ {A = Option Fault} (list_any (λ (rule : RuleOf). is_end rule.kind) rules) (Some (EofPair at)) None in
+          let has_end = list_any (λ (rule : RuleOf). is_end rule.kind) rules in
+          let ending = pair_fault at eof has_end in
           let limits = limits_fault at (size_of own) (nesting_of own) (tag_count own) in
           option_or-file file bare (option_or ending limits) (if-file file (is_bare rules) (Some (NoRules at)) None at_is tt)
-          (option_or-file file ending limits (if-file file (list_any (λ (rule : RuleOf). is_end rule.kind) rules) (Some (EofPair at)) None at_is tt)
+          (option_or-file file ending limits (pair-file eof has_end)
           (if-file file (nat_lt 4096 (size_of own) || nat_lt 256 (nesting_of own) || nat_lt 128 (tag_count own))
           (Some (TooManyParts at (kept (size_of own)) (kept (nesting_of own)) (kept (tag_count own)))) None at_is tt))
 
-      scanners-file : (rules : List RuleOf) (conds : List (List ℕ)) → IsFoundIn file (scanners_fault at rules conds)
-      scanners-file rules [] = tt
-      scanners-file rules (cond ∷ conds) =
-          option_or-file file (scanner_fault at (rules_of cond rules)) (scanners_fault at rules conds) (scanner-file (rules_of cond rules))
-          (scanners-file rules conds)
+      scanners-file : (eof : Option ℕ) (rules : List RuleOf) (conds : List (List ℕ)) → IsFoundIn file (scanners_fault at eof rules conds)
+      scanners-file eof rules [] = tt
+      scanners-file eof rules (cond ∷ conds) =
+          option_or-file file (scanner_fault at eof (rules_of cond rules)) (scanners_fault at eof rules conds) (scanner-file eof (rules_of cond rules))
+          (scanners-file eof rules conds)
 
       target_fault-file : (goes : Option (List ℕ)) (target : Option Pos) (conds : List (List ℕ))
           → IfSome target (λ (place : Pos). place.file ≡ file) → IsFoundIn file (target_fault goes target conds)
@@ -183,15 +192,16 @@ module _ (file : ℕ) where
       checks-file : (state : State) → AreTargetsIn state.rules → FindsIn file (ScannerChecks options.custom at state)
       checks-file state targets =
           let names = (config_of state.settings).names in
+          let eof = (config_of state.settings).eof in
           let conds = conditions_of state.rules in
           let Lonely = Finds (lonely_fault at state.rules conds) in
           let Targets = Finds (targets_fault state.rules conds) in
-          let Scanners = Finds (scanners_fault at state.rules conds) in
+          let Scanners = Finds (scanners_fault at eof state.rules conds) in
           FindsIn-Then file (ClashCheck options.custom at names state.rules) (Then Lonely (Then Targets Scanners)) (clash-file names state.rules)
           (FindsIn-Then file Lonely (Then Targets Scanners) (FindsIn-Finds file (lonely_fault at state.rules conds) (lonely-file state.rules conds))
           (FindsIn-Then file Targets Scanners
           (FindsIn-Finds file (targets_fault state.rules conds) (targets-file state.rules conds targets))
-          (FindsIn-Finds file (scanners_fault at state.rules conds) (scanners-file state.rules conds))))
+          (FindsIn-Finds file (scanners_fault at eof state.rules conds) (scanners-file eof state.rules conds))))
 
       -- the fault behind the opener of a block of scanners stands in the file
       within-file : (environment : Environment) (items : List Item) (fault : Fault) → EachHasPlaces (length lexemes) items

@@ -1,10 +1,7 @@
 -- The heads of rules.
-use Rattle.std.proofs.Common.{◌≡◌, ℕ, zero, suc, ◌+◌, ◌<◌, inl, inr, ⊎_elim, Bool, List, [], ◌∷◌, drop, get_or, length, Option, None, Some, refl, sym, ap, ap₂, ◌∙◌, subst}
+use Rattle.std.proofs.Common.{◌≡◌, ℕ, zero, suc, inl, inr, ⊎_elim, true, List, [], ◌∷◌, drop, Option, None, Some, Result, Ok, Err, refl, sym, ap, ◌∙◌, subst}
+use Rattle.std.specs.Prelude.{MatchResult}
 use Rattle.std.specs.Option.{unwrap_or}
-use Rattle.std.specs.List.{AllZip, list_any}
-use Rattle.std.specs.Prelude.{◌&&◌, if◌then◌else◌}
-use Rattle.std.proofs.lemmas.List.{at_drop_more}
-use Rattle.lx_base.specs.declared.faults.Fault.TheVariants.{Unsupported, Redefined}
 use Rattle.lx_base.specs.declared.faults.Stop.{Stop}
 use Rattle.lx_base.specs.declared.faults.Stop.TheVariants as stop
 use Rattle.lx_base.specs.declared.places.Pos.{Pos}
@@ -16,45 +13,25 @@ use Rattle.lx_parse.specs.Expressions.{alt}
 use Rattle.lx_parse.specs.Ranges.{HasExpressions, IsPart}
 use Rattle.lx_regex.specs.declared.rules.Kind.TheVariants as kind
 use Rattle.lx_exprs.specs.declared.expressions.Reading.{Reading}
+use Rattle.lx_rules.specs.declared.heads.Head.{Head}
 use Rattle.lx_rules.specs.declared.heads.Head.TheVariants as head
 use Rattle.lx_rules.specs.declared.items.Known.{Known}
-use Rattle.lx_rules.specs.declared.kept.KeptRule.{KeptRule}
+use Rattle.lx_rules.specs.declared.rule_exprs.RuleExpr.{RuleExpr}
 use Rattle.lx_exprs.specs.declared.values.Room.{Room}
 use Rattle.lx_forms.specs.Lexemes.{Lexeme, nth_lexeme, sort_at, sorts_at}
-use Rattle.lx_exprs.specs.Checks.{Check, StopsAt, is_among}
-use Rattle.lx_exprs.specs.Expressions.{ExpressionChecks}
-use Rattle.lx_rules.specs.Items.{State, HeadChecks, IsHead, any_meaning, expression, head_sort, first_of, is_default, twice}
-use Rattle.lx_rules.specs.Rules.{RuleOf}
-use Rattle.lx_exprs.specs.Expressions.{IsRead}
-use Rattle.lx_rules.specs.Keeping.{Holds, IsHeadRead, StopsHead}
-use Rattle.lx_rules.specs.Conditions.{cond_names, conds_seen}
-use Rattle.lx_rules.specs.Kept.{IsKeptRule, first_kept}
-use Rattle.lx_exprs.specs.Seen.{definitions_view}
+use Rattle.lx_exprs.specs.Checks.{Check, StopsAt, are_groups}
+use Rattle.lx_exprs.specs.Expressions.{ContextChecks, ExpressionChecks}
+use Rattle.lx_rules.specs.Items.{State, HeadChecks, IsHead, alone, any_meaning, as_rule, end_meaning, expression, head_sort, first_of, is_default, is_end, twice}
+use Rattle.lx_exprs.specs.Expressions.{IsRead, IsReadAs}
+use Rattle.lx_exprs.specs.Defined.{Meaning, is_built}
+use Rattle.lx_rules.specs.Keeping.{Holds, IsContextRead, IsHeadRead, IsRuleExpr, StopsHead}
+use Rattle.lx_exprs.specs.Seen.{IsStop, definitions_view}
 use Rattle.lx_exprs.proofs.Forms.ExpressionRanges.{part_form}
+use Rattle.lx_rules.specs.declared.conditions.FirstRule.{FirstRule}
+use Rattle.lx_rules.specs.Conditions.{earliest_default, earliest_end, standing_of}
+use Rattle.lx_rules.specs.Kept.{first_from}
+use Rattle.lx_rules.proofs.FirstRules.{earliest-same, first_of-earliest, place}
 use Rattle.lx_rules.proofs.ItemSteps.{read_checked, read_known}
-
--- the first rule `*` of the rest
-pub first_kept-next :
-    (names conds : List (List ℕ)) (held : List KeptRule) (place : ℕ) (one : KeptRule) → place < length held → one ≡ get_or held place one → (test : Bool)
-    → (is_default one.kind && list_any (λ cond. is_among cond conds) (conds_seen names one.conds)) ≡ test
-    → first_kept names conds (drop place held) ≡ (if test then Some one.at else first_kept names conds (drop (place + 1) held))
-first_kept-next names conds held place one lt is test e =
-    at_drop_more (first_kept names conds) held place one lt ∙ ap (λ (o : KeptRule). first_kept names conds (o ∷ drop (place + 1) held)) (sym is)
-    ∙ ap (λ (b : Bool). if b then Some one.at else first_kept names conds (drop (place + 1) held)) e
-
--- the first rule `*` that is kept is the first one of all
-first_of-kept : (names conds : List (List ℕ)) (all : List RuleOf) (held : List KeptRule) (rules : List RuleOf) → AllZip (IsKeptRule names all) held rules
-    → first_kept names conds held ≡ first_of is_default conds rules
-first_of-kept names conds all [] [] are = refl
-first_of-kept names conds all [] (rule ∷ rules) are = absurd are
-first_of-kept names conds all (one ∷ held) [] are = absurd are
-first_of-kept names conds all (one ∷ held) (rule ∷ rules) are =
-    let is = are.0 in
-    let tests : (is_default one.kind && list_any (λ cond. is_among cond conds) (conds_seen names one.conds))
-    ≡ (is_default rule.kind && list_any (λ cond. is_among cond conds) rule.conds) =
-    ap₂ (λ k l. is_default k && list_any (λ cond. is_among cond conds) l) is.kind is.conds in
-    ap₂ (λ (b : Bool) (found : Option Pos). if b then Some one.at else found) tests (first_of-kept names conds all held rules are.1)
-    ∙ ap (λ place. if is_default rule.kind && list_any (λ cond. is_among cond conds) rule.conds then Some place else first_of is_default conds rules) is.at
 
 -- the sort of the first lexeme from a place on
 sort_from : (all : List Lexeme) (from : ℕ) (sort : Sort) (rest : List Sort) → drop from (sorts_at all) ≡ sort ∷ rest
@@ -107,11 +84,19 @@ other_head sort.Comma no_star no_dollar = refl
 other_head sort.Arrow no_star no_dollar = refl
 other_head sort.Jump no_star no_dollar = refl
 
-module _ (options : Options) (lexemes : List Lexeme) (known : Known) (state : State) (holds : Holds known state) (conds : List (List ℕ)) where
-  -- the place of the first rule `*` that is known is that of the first one of all
-  default_first : (found : Option Pos) → found ≡ first_kept (cond_names known.conds) conds known.rules.items → first_of is_default conds state.rules ≡ found
-  default_first found is = sym (is ∙ first_of-kept (cond_names known.conds) conds state.rules known.rules.items state.rules holds.rules.each)
+-- the first rule `*` of conditions, and the first rule `$`
+module _ (known : Known) (state : State) (holds : Holds known state) (conds : List (List ℕ)) where
+  pub default_first : (found : Option FirstRule) → found ≡ earliest_default known.conds conds → place found ≡ first_of is_default conds state.rules
+  default_first found is =
+      ap place (is ∙ earliest-same (λ cond. (standing_of known.conds cond).first_default) (λ cond. first_from is_default 1 state.rules cond) holds.rules.defaults None conds)
+      ∙ first_of-earliest is_default 1 state.rules conds
 
+  pub end_first : (found : Option FirstRule) → found ≡ earliest_end known.conds conds → place found ≡ first_of is_end conds state.rules
+  end_first found is =
+      ap place (is ∙ earliest-same (λ cond. (standing_of known.conds cond).first_end) (λ cond. first_from is_end 1 state.rules cond) holds.rules.ends None conds)
+      ∙ first_of-earliest is_end 1 state.rules conds
+
+module _ (options : Options) (lexemes : List Lexeme) (known : Known) (state : State) (holds : Holds known state) (conds : List (List ℕ)) where
   module _ (from : ℕ) (slash : Option ℕ) (until : ℕ) where
     abbrev start : Lexeme
     start = nth_lexeme lexemes from
@@ -119,18 +104,38 @@ module _ (options : Options) (lexemes : List Lexeme) (known : Known) (state : St
     abbrev Heads : Sort → Check
     Heads s = HeadChecks options lexemes state (head_sort s) conds from slash until
 
-    -- a second `*` is refused
-    pub star_twice : (first : Pos) → sort_at start ≡ sort.Star → Some first ≡ first_kept (cond_names known.conds) conds known.rules.items
-        → Heads (sort_at start) (Some (Redefined start.at first))
-    star_twice first star is = subst (λ s. Heads s (Some (Redefined start.at first))) (sym star) (ap (twice start.at) (sym (default_first (Some first) is)))
+    -- a head that is read once: a first one at this place refuses it
+    abbrev pub IsOnce : (first : Option Pos) → Head → Result Head Stop → Type 0
+    IsOnce first read result = MatchResult result (λ given. (first ≡ None) × (given ≡ read)) (IsStop (twice start.at first))
 
-    -- the first one is read
-    pub star_read : (room : Room) → sort_at start ≡ sort.Star → None ≡ first_kept (cond_names known.conds) conds known.rules.items
-        → IsHeadRead options lexemes state conds from slash until room head.Default
-    star_read room star is = (
-      subst (λ s. Heads s None) (sym star) (ap (twice start.at) (sym (default_first None is))),
-      (kind.Default, any_meaning, subst (λ s. IsHead options lexemes state.definitions (head_sort s) from slash until kind.Default any_meaning) (sym star) (refl, refl), (refl, refl)),
-    )
+    abbrev pub IsReadAt : Room → Result Head Stop → Type 0
+    IsReadAt room result =
+        MatchResult result (IsHeadRead options lexemes state conds from slash until room) (StopsHead options lexemes state conds from slash until)
+
+    -- `*` is read, or refused as a second one
+    pub star_read : (room : Room) (any : RuleExpr) (result : Result Head Stop) → sort_at start ≡ sort.Star
+        → IsRuleExpr true (as_rule (are_groups options state.definitions) any_meaning) None any
+        → IsOnce (first_of is_default conds state.rules) (head.Default any) result → IsReadAt room result
+    star_read room any (Ok read) star given once =
+        let meaning = alone (as_rule (are_groups options state.definitions) any_meaning) in
+        subst (IsHeadRead options lexemes state conds from slash until room) (sym once.1) (
+          subst (λ s. Heads s None) (sym star) (ap (twice start.at) (sym once.0)),
+          (kind.Default, meaning, subst (λ s. IsHead options lexemes state.definitions (head_sort s) from slash until kind.Default meaning) (sym star) (refl, refl), (refl, given)),
+        )
+    star_read room any (Err stop.Memory) star given once = tt
+    star_read room any (Err (stop.Fault fault)) star given once = subst (λ s. Heads s (Some fault)) (sym star) (sym once)
+
+    -- and so is `$`
+    pub end_read : (room : Room) (result : Result Head Stop) → sort_at start ≡ sort.Dollar → IsOnce (first_of is_end conds state.rules) head.End result
+        → IsReadAt room result
+    end_read room (Ok read) dollar once =
+        let meaning = alone end_meaning in
+        subst (IsHeadRead options lexemes state conds from slash until room) (sym once.1) (
+          subst (λ s. Heads s None) (sym dollar) (ap (twice start.at) (sym once.0)),
+          (kind.Eof, meaning, subst (λ s. IsHead options lexemes state.definitions (head_sort s) from slash until kind.Eof meaning) (sym dollar) (refl, refl), (refl, refl, refl)),
+        )
+    end_read room (Err stop.Memory) dollar once = tt
+    end_read room (Err (stop.Fault fault)) dollar once = subst (λ s. Heads s (Some fault)) (sym dollar) (sym once)
 
     module _ (no_star : sort_at start ≡ sort.Star → ⊥) (no_dollar : sort_at start ≡ sort.Dollar → ⊥) where
       is_other : head_sort (sort_at start) ≡ expression
@@ -139,19 +144,21 @@ module _ (options : Options) (lexemes : List Lexeme) (known : Known) (state : St
   -- the expression of a rule is read
   pub plain_read :
       (from until : ℕ) (room : Room) (reading : Reading) (no_star : sort_at (nth_lexeme lexemes from) ≡ sort.Star → ⊥) (no_dollar : sort_at (nth_lexeme lexemes from) ≡ sort.Dollar → ⊥)
-      → IsRead options lexemes (definitions_view known.env.definitions) room from until reading
-      → IsHeadRead options lexemes state conds from None until room (head.Plain reading)
-  plain_read from until room reading no_star no_dollar given =
+      → IsRead options lexemes (definitions_view known.env.definitions) room from until reading → (expr : RuleExpr)
+      → ((meaning : Meaning) → IsReadAs room meaning reading → IsRuleExpr (is_built room meaning) (as_rule (are_groups options []) meaning) None expr)
+      → IsHeadRead options lexemes state conds from None until room (head.Plain expr)
+  plain_read from until room reading no_star no_dollar given expr stands =
       let read = read_known options lexemes known state holds room from until reading given in
+      let meaning = alone (as_rule (are_groups options state.definitions) read.meaning) in
       let other = sym (is_other from None until no_star no_dollar) in (
         subst (λ s. HeadChecks options lexemes state s conds from None until None) other
             (read_checked options lexemes state.definitions room from until reading read),
         (
           kind.Plain,
-          read.meaning,
-          subst (λ s. IsHead options lexemes state.definitions s from None until kind.Plain read.meaning) other
-              (refl, (read.form, read.stands_there, read.means)),
-          (refl, read.stands),
+          meaning,
+          subst (λ s. IsHead options lexemes state.definitions s from None until kind.Plain meaning) other
+              (refl, (read.form, read.meaning, read.stands_there, read.means, refl)),
+          (refl, stands read.meaning read.stands),
         ),
       )
 
@@ -180,18 +187,32 @@ module _ (options : Options) (lexemes : List Lexeme) (known : Known) (state : St
       subst (λ s. HeadChecks options lexemes state s conds from (Some slash) until (Some fault)) (sym (is_other from (Some slash) until no_star no_dollar))
       (front.0, back.0, front.1, back.1, inr (fault, front.2, refl))
 
-  -- a trailing context is not supported
-  pub context_unsupported :
-      (from slash until : ℕ) (no_star : sort_at (nth_lexeme lexemes from) ≡ sort.Star → ⊥) (no_dollar : sort_at (nth_lexeme lexemes from) ≡ sort.Dollar → ⊥)
-      → HasExpressions (sorts_at lexemes) (item.Rule from from (Some slash) until None None) → (room : Room) (reading : Reading)
-      → IsRead options lexemes (definitions_view known.env.definitions) room from slash reading
-      → StopsHead options lexemes state conds from (Some slash) until (stop.Fault (Unsupported (Some (nth_lexeme lexemes slash).at)))
-  context_unsupported from slash until no_star no_dollar has room reading given =
-      let read = read_known options lexemes known state holds room from slash reading given in
-      let back = part_form options lexemes (suc slash) until has.1 in
-      let fault = Unsupported (Some (nth_lexeme lexemes slash).at) in
+  -- the checks of what stands behind the slash
+  pub behind_refused :
+      (from slash until : ℕ) (stopped : Stop) (no_star : sort_at (nth_lexeme lexemes from) ≡ sort.Star → ⊥) (no_dollar : sort_at (nth_lexeme lexemes from) ≡ sort.Dollar → ⊥)
+      → StopsAt (ContextChecks options lexemes (definitions_view known.env.definitions) from slash until) stopped
+      → StopsHead options lexemes state conds from (Some slash) until stopped
+  behind_refused from slash until stop.Memory no_star no_dollar stops = tt
+  behind_refused from slash until (stop.Fault fault) no_star no_dollar stops =
       subst (λ s. HeadChecks options lexemes state s conds from (Some slash) until (Some fault)) (sym (is_other from (Some slash) until no_star no_dollar))
-      (read.form, back.0, read.stands_there, back.1, inl (read.checked, inr (fault, refl, refl)))
+      (subst (λ definitions. ContextChecks options lexemes definitions from slash until (Some fault)) holds.definitions stops)
+
+  -- both are read
+  pub context_read :
+      (from slash until : ℕ) (room : Room) (read : RuleExpr) (no_star : sort_at (nth_lexeme lexemes from) ≡ sort.Star → ⊥) (no_dollar : sort_at (nth_lexeme lexemes from) ≡ sort.Dollar → ⊥)
+      → IsContextRead options lexemes (definitions_view known.env.definitions) room from slash until read
+      → IsHeadRead options lexemes state conds from (Some slash) until room (head.Plain read)
+  context_read from slash until room read no_star no_dollar given =
+      let is = subst (λ definitions. IsContextRead options lexemes definitions room from slash until read) holds.definitions given in
+      let other = sym (is_other from (Some slash) until no_star no_dollar) in (
+        subst (λ s. HeadChecks options lexemes state s conds from (Some slash) until None) other is.checked,
+        (
+          kind.Plain,
+          is.meaning,
+          subst (λ s. IsHead options lexemes state.definitions s from (Some slash) until kind.Plain is.meaning) other is.is_head,
+          (refl, is.stands),
+        ),
+      )
 
   -- whether a trailing context stands there or not
   pub head_refused :

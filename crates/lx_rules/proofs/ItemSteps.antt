@@ -1,7 +1,6 @@
 -- What is known behind an item.
-use Rattle.std.proofs.Common.{◌≡◌, ℕ, inl, inr, Bool, List, [], ◌∷◌, ◌++◌, None, Some, Vec, Global, refl, sym, ap, ◌∙◌, subst}
+use Rattle.std.proofs.Common.{◌≡◌, ℕ, inl, List, [], ◌∷◌, ◌++◌, None, Some, Vec, Global, refl, sym, ap, ◌∙◌, subst}
 use Rattle.std.specs.Option.{option_map}
-use Rattle.lx_base.specs.declared.faults.Fault.TheVariants.{Redefined}
 use Rattle.lx_base.specs.declared.faults.Stop.{Stop}
 use Rattle.lx_base.specs.declared.faults.Stop.TheVariants as stop
 use Rattle.lx_base.specs.declared.settings.Options.{Options}
@@ -14,9 +13,11 @@ use Rattle.lx_exprs.specs.declared.values.Room.{Room}
 use Rattle.lx_forms.specs.Lexemes.{Lexeme, nth_lexeme}
 use Rattle.lx_exprs.specs.Defined.{Definition, IsDefined, definition_of, whole_room}
 use Rattle.lx_exprs.specs.Checks.{Finds, StopsAt}
-use Rattle.lx_rules.specs.Configurations.{config_fault, switch_of}
+use Rattle.lx_rules.specs.Configurations.{config_fault, setting_of}
 use Rattle.lx_exprs.specs.Expressions.{ExpressionChecks}
-use Rattle.lx_rules.specs.Environments.{Settings, with_fill}
+use Rattle.lx_rules.specs.Environments.{Settings, with_setting}
+use Rattle.lx_rules.specs.declared.environment.Setting.{Setting}
+use Rattle.lx_rules.specs.declared.environment.Settings as code
 use Rattle.lx_rules.specs.Items.{State, ItemChecks, twice, with_definition, with_settings}
 use Rattle.lx_rules.specs.Seen.{settings_view}
 use Rattle.lx_exprs.specs.Expressions.{IsRead}
@@ -38,21 +39,23 @@ module _ (options : Options) (lexemes : List Lexeme) (known : Known) (state : St
       subst (λ definitions. IsRead options lexemes definitions room from until reading) holds.definitions read
 
   -- a configuration is taken
-  pub configured : (name value : ℕ) (fill : Bool) → config_fault (nth_lexeme lexemes name) (nth_lexeme lexemes value) ≡ None
-      → switch_of (nth_lexeme lexemes value).kind (nth_lexeme lexemes value).text ≡ Some fill
+  pub configured : (name value : ℕ) (setting : Setting) (after : code.Settings)
+      → config_fault options.enc (nth_lexeme lexemes name) (nth_lexeme lexemes value) ≡ None
+      → setting_of options.enc (nth_lexeme lexemes name).text (nth_lexeme lexemes value) ≡ Some setting
+      → settings_view after ≡ with_setting (settings_view known.env.settings) setting
       → IsTaken options lexemes state (Configure name value) (record {
-        env = record { definitions = known.env.definitions; settings = record { fill = Some fill } };
+        env = record { definitions = known.env.definitions; settings = after };
         rules = known.rules;
         acts = known.acts;
         conds = known.conds;
       })
-  configured name value fill none is = record {
+  configured name value setting after none is is_set = record {
     checked = sym none;
-    next = with_settings state (with_fill state.settings fill);
-    is_after = (fill, is, refl);
+    next = with_settings state (with_setting state.settings setting);
+    is_after = (setting, is, refl);
     holds = record {
       definitions = holds.definitions;
-      settings = ap (λ (settings : Settings). with_fill settings fill) holds.settings;
+      settings = is_set ∙ ap (λ (settings : Settings). with_setting settings setting) holds.settings;
       acts = holds.acts;
       rules = holds.rules;
       fit = holds.fit;

@@ -1,9 +1,8 @@
 -- The items of a block are surely refused, or taken to their end.
-use Rattle.std.proofs.Common.{◌≡◌, ℕ, suc, ◌-◌, ◌≤◌, Bool, true, false, not, List, [], ◌∷◌, length, Option, None, Some, Result, Ok, Err, refl, sym, subst}
+use Rattle.std.proofs.Common.{◌≡◌, ℕ, suc, ◌-◌, ◌≤◌, Bool, true, false, not, List, [], ◌∷◌, ◌++◌, length, Option, None, Some, Result, Ok, Err, refl, sym, ap, subst, arith}
 use Rattle.std.specs.List.{AllByRecursion}
 use Rattle.std.specs.Option.{option_map}
-use Rattle.std.specs.Prelude.{◌==◌, ◌||◌, is_some, if◌then◌else◌}
-use Rattle.std.specs.Str.{bytes_eq}
+use Rattle.std.specs.Prelude.{◌==◌}
 use Rattle.lx_base.specs.declared.faults.Fault.{Fault}
 use Rattle.lx_base.specs.declared.faults.Fault.TheVariants.{BadValue, Unsupported, UnknownConfig}
 use Rattle.lx_base.specs.declared.places.Pos.{Pos}
@@ -16,17 +15,19 @@ use Rattle.lx_regex.specs.Term.{IsInRanges, Term}
 use Rattle.lx_regex.specs.declared.rules.Kind.{Kind}
 use Rattle.lx_regex.specs.declared.rules.Kind.TheVariants as kind
 use Rattle.lx_rules.specs.Buildable.{IsBuildable}
-use Rattle.lx_exprs.specs.Checks.{Check, Checks, Finds, IsIn, Then, is_among, tags_of, unsupported}
-use Rattle.lx_rules.specs.Configurations.{config_fault, define_words, fill_word, other_words, switch_fault, switch_of}
-use Rattle.lx_exprs.specs.Defined.{Definition, IsClassKept, IsDefined, IsTermKept, Meaning, definition_of, is_built, kept, nothing, meant_class, term_of_meaning, whole, whole_room}
+use Rattle.lx_exprs.specs.Checks.{Check, Checks, Finds, IsIn, Then, are_groups, tags_of, unsupported}
+use Rattle.lx_rules.specs.Configurations.{config_fault, config_kind, kind_fault, set_by, setting_in, setting_of, value_fault}
+use Rattle.lx_rules.specs.declared.configurations.ConfigKind.{ConfigKind}
+use Rattle.lx_rules.specs.declared.environment.Setting.{Setting}
+use Rattle.lx_base.specs.declared.settings.Enc.{Enc}
+use Rattle.lx_exprs.specs.Defined.{Definition, IsClassKept, IsDefined, IsTermKept, Meaning, definition_of, is_built, kept, nothing, slash_tag, meant_class, term_of_meaning, whole, whole_room}
 use Rattle.lx_exprs.specs.Expressions.{ContextChecks, ExpressionChecks}
-use Rattle.lx_rules.specs.Items.{Goes, HeadChecks, HeadSort, IsAfter, IsHead, ItemChecks, ListChecks, State, TargetChecks, any, any_meaning, conds_of, ends, end, expression, first_of, head_sort, is_default, is_end, next, refused, twice, unless, rule_of}
-use Rattle.lx_rules.specs.Rules.{RuleOf}
+use Rattle.lx_rules.specs.Items.{Goes, HeadChecks, HeadSort, IsAfter, IsHead, ItemChecks, ListChecks, State, TargetChecks, RuleMeaning, alone, any, any_meaning, as_rule, behind_slash, trailing, conds_of, ends, end, end_meaning, expression, first_of, head_sort, is_default, is_end, next, refused, twice, unless, rule_of}
 use Rattle.lx_forms.specs.Lexemes.{Lexeme, nth_lexeme, sort_at, sorts_at}
 use Rattle.lx_exprs.specs.Meanings.{set_term}
 use Rattle.lx_exprs.specs.Within.{AreDefinedWithin}
 use Rattle.lx_exprs.proofs.Classes.BoundedSets.{set_exists}
-use Rattle.lx_rules.proofs.BuildableMeanings.{IsMeantBuildable, any_buildable, defined_buildable, form_buildable}
+use Rattle.lx_rules.proofs.BuildableMeanings.{IsMeantBuildable, IsRuleBuildable, any_buildable, as_rule_buildable, defined_buildable, end_buildable, form_buildable, trailing_buildable}
 use Rattle.lx_exprs.proofs.Classes.ClassFits.{plain_class}
 use Rattle.lx_exprs.proofs.Forms.ClassForms.{then-none}
 use Rattle.lx_exprs.proofs.Classical.{Surely, surely, and_then}
@@ -34,7 +35,7 @@ use Rattle.lx_exprs.proofs.Forms.ExpressionRanges.{part_form}
 use Rattle.lx_exprs.proofs.Forms.FormFits.{form_ready}
 use Rattle.lx_exprs.proofs.Forms.FormVerdicts.{Decides, finds_decides, form_decides, form_means, then_decides}
 use Rattle.lx_rules.proofs.HeadSteps.{head_part}
-use Rattle.lx_rules.proofs.ItemFits.{IsStateWithin, goes_within}
+use Rattle.lx_rules.proofs.ItemFits.{IsStateWithin, goes_within, head_end}
 use Rattle.lx_exprs.proofs.Classes.PointSets.{le_greatest}
 use Rattle.lx_rules.proofs.RuleNumbers.{all_both}
 
@@ -60,20 +61,17 @@ defined name place meaning fit =
     at true = surely (Some (term_of_meaning meaning), refl)
     at false = class_kept (meant_class meaning) fit
 
--- a configuration whose checks find nothing is a switch
-switched : (name value : Lexeme) → None ≡ config_fault name value → (fill : Bool) × (switch_of value.kind value.text ≡ Some fill)
-switched name value none = by (bytes_eq name.text fill_word) (is_among name.text define_words || is_among name.text other_words) none
+-- a configuration whose checks find nothing sets something
+sets : (enc : Enc) (name value : Lexeme) → None ≡ config_fault enc name value → (setting : Setting) × (setting_of enc name.text value ≡ Some setting)
+sets enc name value none = by (config_kind name.text) none
   where
-    of : (found : Option Bool) → None ≡ (if is_some found then None else Some (BadValue value.at)) → (fill : Bool) × (found ≡ Some fill)
+    of : (found : Option Setting) → None ≡ value_fault value found → (setting : Setting) × (found ≡ Some setting)
     of None none = absurd (let h : None ≡ Some (BadValue value.at) = none in cc)
-    of (Some fill) none = (fill, refl)
+    of (Some setting) none = (setting, refl)
 
-    by : (is_fill is_known : Bool)
-        → None ≡ (if is_fill then switch_fault value else (if is_known then unsupported name else Some (UnknownConfig name.at name.text)))
-        → (fill : Bool) × (switch_of value.kind value.text ≡ Some fill)
-    by true is_known none = of (switch_of value.kind value.text) none
-    by false true none = absurd (let h : None ≡ Some (Unsupported (Some name.at)) = none in cc)
-    by false false none = absurd (let h : None ≡ Some (UnknownConfig name.at name.text) = none in cc)
+    by : (found : Option ConfigKind) → None ≡ kind_fault enc name value found → (setting : Setting) × (setting_in enc found value ≡ Some setting)
+    by None none = absurd (let h : None ≡ Some (UnknownConfig name.at name.text) = none in cc)
+    by (Some kind) none = of (set_by enc kind value) none
 
 module _ (options : Options) (lexemes : List Lexeme) where
   expression_decides : (definitions : List Definition) (from until : ℕ) → IsPart (sorts_at lexemes) alt from until
@@ -88,12 +86,10 @@ module _ (options : Options) (lexemes : List Lexeme) where
       let form = part_form options lexemes from slash part in
       let behind = part_form options lexemes (suc slash) until later in
       let First : Check = Checks options definitions false [] form.0 in
-      let Waits : Check = Finds (unsupported (nth_lexeme lexemes slash)) in
-      let Second : Check = Checks options definitions false (tags_of options definitions form.0) behind.0 in
+      let seen = tags_of options definitions form.0 ++ slash_tag ∷ [] in
       and_then
-      (then_decides First (Then Waits Second) (form_decides options definitions false [] form.0)
-      (then_decides Waits Second (finds_decides (unsupported (nth_lexeme lexemes slash)))
-      (form_decides options definitions false (tags_of options definitions form.0) behind.0)))
+      (then_decides First (Checks options definitions false seen behind.0) (form_decides options definitions false [] form.0)
+      (form_decides options definitions false seen behind.0))
       (λ found. surely (found.0, (form.0, behind.0, form.1, behind.1, found.1)))
 
   list_decides : (is_absent : Bool) (at : Pos) → Decides (ListChecks options lexemes is_absent at)
@@ -114,8 +110,7 @@ module _ (options : Options) (lexemes : List Lexeme) where
   head_decides state any conds head slash until is has =
       finds_decides (twice (nth_lexeme lexemes head).at (first_of is_default conds state.rules))
   head_decides state end conds head slash until is has =
-      then_decides (Finds (unsupported (nth_lexeme lexemes head))) (Finds (twice (nth_lexeme lexemes head).at (first_of is_end conds state.rules)))
-      (finds_decides (unsupported (nth_lexeme lexemes head))) (finds_decides (twice (nth_lexeme lexemes head).at (first_of is_end conds state.rules)))
+      finds_decides (twice (nth_lexeme lexemes head).at (first_of is_end conds state.rules))
   head_decides state expression conds head None until is has =
       expression_decides state.definitions head until
       (head_part lexemes head None until
@@ -136,7 +131,7 @@ module _ (options : Options) (lexemes : List Lexeme) where
       (option_map (λ (definition : Definition). definition.at) (definition_of state.definitions (nth_lexeme lexemes name).text)) in
       then_decides (Finds first) (ExpressionChecks options lexemes state.definitions from until) (finds_decides first)
       (expression_decides state.definitions from until part)
-  item_decides state (Configure name value) has = finds_decides (config_fault (nth_lexeme lexemes name) (nth_lexeme lexemes value))
+  item_decides state (Configure name value) has = finds_decides (config_fault options.enc (nth_lexeme lexemes name) (nth_lexeme lexemes value))
   item_decides state (Rule first head slash until goes code) has =
       let sort = head_sort (sort_at (nth_lexeme lexemes head)) in
       let Head : Check = HeadChecks options lexemes state sort (conds_of options lexemes first head) head slash until in
@@ -148,27 +143,40 @@ module _ (options : Options) (lexemes : List Lexeme) where
       (target_decides goes))
   item_decides state (Text value) has = finds_decides None
 
-  head_means : (state : State) → AreDefinedWithin options.enc state.definitions → (sort : HeadSort) (conds : List (List ℕ)) (head : ℕ)
+  head_means : (state : State) → AreDefinedWithin options state.definitions → (sort : HeadSort) (conds : List (List ℕ)) (head : ℕ)
       (slash : Option ℕ) (until : ℕ) → HeadChecks options lexemes state sort conds head slash until None
-      → Surely ((sort_is : Kind) × (meaning : Meaning) × IsHead options lexemes state.definitions sort head slash until sort_is meaning)
-  head_means state ready any conds head slash until checked = surely (kind.Default, any_meaning, (refl, refl))
-  head_means state ready end conds head slash until checked =
-      let found =
-      then-none (Finds (unsupported (nth_lexeme lexemes head))) (Finds (twice (nth_lexeme lexemes head).at (first_of is_end conds state.rules))) checked in
-      absurd (let h : None ≡ Some (Unsupported (Some (nth_lexeme lexemes head).at)) = found.0 in cc)
+      → Surely ((sort_is : Kind) × (meaning : RuleMeaning) × IsHead options lexemes state.definitions sort head slash until sort_is meaning)
+  head_means state ready any conds head slash until checked =
+      surely (kind.Default, alone (as_rule (are_groups options state.definitions) any_meaning), (refl, refl))
+  head_means state ready end conds head slash until checked = surely (kind.Eof, alone end_meaning, (refl, refl))
   head_means state ready expression conds head None until checked =
       and_then (form_means options state.definitions ready false nothing checked.0 checked.2)
-      (λ means. surely (kind.Plain, means.0, (refl, (checked.0, checked.1, means.1))))
+      (λ means.
+      surely (
+        kind.Plain,
+        alone (as_rule (are_groups options state.definitions) means.0),
+        (refl, (checked.0, means.0, checked.1, means.1, refl)),
+      ))
   head_means state ready expression conds head (Some slash) until checked =
-      let First : Check = Checks options state.definitions false [] checked.0 in
-      let Waits : Check = Finds (unsupported (nth_lexeme lexemes slash)) in
-      let Second : Check = Checks options state.definitions false (tags_of options state.definitions checked.0) checked.1 in
-      let found = then-none First (Then Waits Second) checked.4 in
-      let later = then-none Waits Second found.1 in
-      absurd (let h : None ≡ Some (Unsupported (Some (nth_lexeme lexemes slash).at)) = later.0 in cc)
+      let definitions = state.definitions in
+      let First : Check = Checks options definitions false [] checked.0 in
+      let seen = tags_of options definitions checked.0 ++ slash_tag ∷ [] in
+      let found = then-none First (Checks options definitions false seen checked.1) checked.4 in
+      and_then (form_means options definitions ready false nothing checked.0 found.0)
+      (λ one.
+      let tags = (form_ready options definitions ready false nothing checked.0 one.0 found.0 one.1).tags_are in
+      let back =
+      subst (λ tags. Checks options definitions false (tags ++ slash_tag ∷ []) checked.1 None) (sym tags) found.1 in
+      and_then (form_means options definitions ready false (behind_slash one.0) checked.1 back)
+      (λ two.
+      surely (
+        kind.Plain,
+        trailing (are_groups options definitions) one.0 two.0,
+        (refl, (checked.0, checked.1, one.0, two.0, checked.2, checked.3, one.1, two.1, refl)),
+      )))
 
   -- behind an item whose checks find nothing something is known
-  item_after : (state : State) → AreDefinedWithin options.enc state.definitions → (item : Item) → ItemChecks options lexemes state item None
+  item_after : (state : State) → AreDefinedWithin options state.definitions → (item : Item) → ItemChecks options lexemes state item None
       → Surely ((after : State) × IsAfter options lexemes state item after)
   item_after state ready (Define name from until) checked =
       let found =
@@ -183,7 +191,7 @@ module _ (options : Options) (lexemes : List Lexeme) where
       (λ point is. le_greatest options.enc point (plain_class options.enc (whole means.0.shape) plain point is)))
       (λ definition. surely (_, (found.1.0, means.0, definition.0, found.1.1, means.1, definition.1, refl))))
   item_after state ready (Configure name value) checked =
-      let fill = switched (nth_lexeme lexemes name) (nth_lexeme lexemes value) checked in surely (_, (fill.0, fill.1, refl))
+      let set = sets options.enc (nth_lexeme lexemes name) (nth_lexeme lexemes value) checked in surely (_, (set.0, set.1, refl))
   item_after state ready (Rule first head slash until goes code) checked =
       let sort = head_sort (sort_at (nth_lexeme lexemes head)) in
       let Head : Check = HeadChecks options lexemes state sort (conds_of options lexemes first head) head slash until in
@@ -198,16 +206,24 @@ module _ (options : Options) (lexemes : List Lexeme) where
 -- what is known behind items can be built
 pub record IsStateBuildable (state : State) : Type 0 where
   pub definitions : AllByRecursion IsBuildable state.definitions
-  pub rules : AllByRecursion (λ (rule : RuleOf). IsMeantBuildable rule.meaning) state.rules
+  pub rules : AllByRecursion IsRuleBuildable state.rules
 
 module _ (options : Options) (lexemes : List Lexeme) where
   head_buildable : (state : State) → AllByRecursion IsBuildable state.definitions → (sort : HeadSort) (head : ℕ) (slash : Option ℕ) (until : ℕ)
-      (sort_is : Kind) (meaning : Meaning) → IsHead options lexemes state.definitions sort head slash until sort_is meaning → IsMeantBuildable meaning
-  head_buildable state ready any head slash until sort_is meaning is = subst IsMeantBuildable (sym is.1) any_buildable
-  head_buildable state ready end head slash until sort_is meaning is = absurd is
+      (sort_is : Kind) (meaning : RuleMeaning) → IsHead options lexemes state.definitions sort head slash until sort_is meaning
+      → IsMeantBuildable meaning.means
+  head_buildable state ready any head slash until sort_is meaning is =
+      subst (λ (m : RuleMeaning). IsMeantBuildable m.means) (sym is.1) (as_rule_buildable (are_groups options state.definitions) any_meaning any_buildable)
+  head_buildable state ready end head slash until sort_is meaning is =
+      subst (λ (m : RuleMeaning). IsMeantBuildable m.means) (sym is.1) end_buildable
   head_buildable state ready expression head None until sort_is meaning is =
-      form_buildable options state.definitions ready false nothing is.1.0 meaning is.1.2
-  head_buildable state ready expression head (Some slash) until sort_is meaning is = absurd is
+      subst (λ (m : RuleMeaning). IsMeantBuildable m.means) (sym is.1.4)
+      (as_rule_buildable (are_groups options state.definitions) is.1.1 (form_buildable options state.definitions ready false nothing is.1.0 is.1.1 is.1.3))
+  head_buildable state ready expression head (Some slash) until sort_is meaning is =
+      subst (λ (m : RuleMeaning). IsMeantBuildable m.means) (sym is.1.8)
+      (trailing_buildable (are_groups options state.definitions) is.1.2 is.1.3
+      (form_buildable options state.definitions ready false nothing is.1.0 is.1.2 is.1.6)
+      (form_buildable options state.definitions ready false (behind_slash is.1.2) is.1.1 is.1.3 is.1.7))
 
   item_buildable : (state after : State) (item : Item) → IsStateBuildable state → IsAfter options lexemes state item after → IsStateBuildable after
   item_buildable state after (Define name from until) buildable is =
@@ -226,9 +242,15 @@ module _ (options : Options) (lexemes : List Lexeme) where
       subst IsStateBuildable (sym is.3) (record {
         definitions = buildable.definitions;
         rules =
-            all_both (λ (rule : RuleOf). IsMeantBuildable rule.meaning) state.rules
-            (rule_of options lexemes (suc (length state.rules)) first head goes code is.0 is.1 ∷ []) buildable.rules
-            (head_buildable state buildable.definitions (head_sort (sort_at (nth_lexeme lexemes head))) head slash until is.0 is.1 is.2, tt);
+            all_both IsRuleBuildable state.rules (rule_of options lexemes (suc (length state.rules)) first head goes code is.0 is.1 ∷ []) buildable.rules (
+              record {
+                meaning = head_buildable state buildable.definitions (head_sort (sort_at (nth_lexeme lexemes head))) head slash until is.0 is.1 is.2;
+                small = λ found.
+                    let means = head_end options lexemes state (head_sort (sort_at (nth_lexeme lexemes head))) head slash until is.0 is.1 is.2 found in
+                    let size = ap (λ (meaning : Meaning). meaning.size) means in omega (arith, size);
+              },
+              tt,
+            );
       })
   item_buildable state after (Text value) buildable is = subst IsStateBuildable (sym is) buildable
 
@@ -239,9 +261,9 @@ module _ (options : Options) (lexemes : List Lexeme) where
       goes_buildable middle after items (item_buildable state middle item buildable is) rest
 
   -- an item is refused, or those behind it are taken or refused
-  item_goes : (state : State) (item : Item) (items : List Item) (fault : Option Fault) → IsStateWithin options.enc state → IsStateBuildable state
+  item_goes : (state : State) (item : Item) (items : List Item) (fault : Option Fault) → IsStateWithin options state → IsStateBuildable state
       → ItemChecks options lexemes state item fault
-      → ((after : State) → IsStateWithin options.enc after → IsStateBuildable after
+      → ((after : State) → IsStateWithin options after → IsStateBuildable after
       → Surely ((result : Result State Fault) × Goes options lexemes after items result))
       → Surely ((result : Result State Fault) × Goes options lexemes state (item ∷ items) result)
   item_goes state item items (Some fault) within buildable checked later = surely (Err fault, refused fault checked)
@@ -254,7 +276,7 @@ module _ (options : Options) (lexemes : List Lexeme) where
       (λ rest. surely (rest.0, next after.0 checked after.1 rest.1)))
 
   -- the items are taken, or one is refused
-  pub goes_decides : (items : List Item) (state : State) → EachHasExpressions (sorts_at lexemes) items → IsStateWithin options.enc state
+  pub goes_decides : (items : List Item) (state : State) → EachHasExpressions (sorts_at lexemes) items → IsStateWithin options state
       → IsStateBuildable state → Surely ((result : Result State Fault) × Goes options lexemes state items result)
   goes_decides [] state has within buildable = surely (Ok state, ends)
   goes_decides (item ∷ items) state has within buildable =

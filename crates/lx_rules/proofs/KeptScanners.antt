@@ -1,16 +1,15 @@
 -- The rules of a scanner as they are kept, and their checks.
-use Rattle.std.proofs.Common.{◌≡◌, ℕ, ◌⊎◌, inl, inr, Bool, true, false, not, List, [], ◌∷◌, ◌++◌, length, None, Some, refl, sym, ap, ap₂, ◌∙◌, subst, arith, append-nil, append_assoc}
+use Rattle.std.proofs.Common.{◌≡◌, ℕ, ◌⊎◌, inl, inr, Bool, true, false, not, List, [], ◌∷◌, ◌++◌, Option, None, Some, refl, sym, ap, ap₂, ◌∙◌, subst, arith, append-nil, append_assoc}
 use Rattle.std.specs.Prelude.{◌||◌, ◌&&◌, nat_lt, if◌then◌else◌}
 use Rattle.std.specs.List.{AllZip, list_any}
 use Rattle.std.specs.Option.{option_or}
-use Rattle.lx_base.specs.declared.faults.Fault.TheVariants.{EofPair, NoRules, TooManyParts}
+use Rattle.lx_base.specs.declared.faults.Fault.TheVariants.{NoRules, TooManyParts}
 use Rattle.lx_base.specs.declared.places.Pos.{Pos}
-use Rattle.lx_regex.specs.declared.rules.Tag.{Tag}
 use Rattle.lx_exprs.specs.Checks.{is_among}
 use Rattle.lx_exprs.specs.Defined.{kept}
 use Rattle.lx_rules.specs.declared.conditions.Running.{Running}
 use Rattle.lx_rules.specs.declared.kept.KeptRule.{KeptRule}
-use Rattle.lx_rules.specs.Blocks.{every, limits_fault, nesting_of, not_of_kind, of_kind, own_or, rules_of, rules_under, scanner_fault, scanner_rules, shared_beside, size_of, tags_of}
+use Rattle.lx_rules.specs.Blocks.{every, limits_fault, nesting_of, not_of_kind, of_kind, own_or, pair_fault, rules_of, rules_under, scanner_fault, scanner_rules, shared_beside, size_of, tags_of}
 use Rattle.lx_rules.specs.Conditions.{conds_seen, nothing_runs, running_with}
 use Rattle.lx_rules.specs.Finishing.{kept_defaults, kept_fault, kept_in_order, kept_others, kept_rules_of, kept_under, running_fault, running_over, weight_of}
 use Rattle.lx_rules.specs.Items.{is_default, is_end}
@@ -119,7 +118,7 @@ module _ (names : List (List ℕ)) (all : List RuleOf) (held : List KeptRule) (r
 IsRunning-one : (names : List (List ℕ)) (all : List RuleOf) (one : KeptRule) (rule : RuleOf) → IsKeptRule names all one rule
     → IsRunning (rule ∷ []) (weight_of one)
 IsRunning-one names all one rule is =
-    let s = is.size in let n = is.nesting in let t = ap (λ (l : List Tag). length l) is.tags in
+    let s = is.size in let n = is.nesting in let t = is.count in
     record { size = omega (arith, s); nesting = omega (arith, n); tags = omega (arith, t) }
 
 module _ (names : List (List ℕ)) (all : List RuleOf) where
@@ -165,16 +164,16 @@ running_fault-is at rules running runs =
     (over_kept (size_of rules) (nesting_of rules) (tags_of rules))
 
 -- the checks of the rules that are kept are those of a scanner
-pub kept_fault-is : (names : List (List ℕ)) (all : List RuleOf) (at : Pos) (held : List KeptRule) (rules : List RuleOf) → AllZip (IsKeptRule names all) held rules
-    → kept_fault at held ≡ scanner_fault at rules
-kept_fault-is names all at held rules are =
+pub kept_fault-is : (names : List (List ℕ)) (all : List RuleOf) (at : Pos) (eof : Option ℕ) (held : List KeptRule) (rules : List RuleOf)
+    → AllZip (IsKeptRule names all) held rules → kept_fault at eof held ≡ scanner_fault at eof rules
+kept_fault-is names all at eof held rules are =
     let others = zip-any (IsKeptRule names all) (λ (one : KeptRule). not (is_end one.kind)) (λ (rule : RuleOf). not (is_end rule.kind))
     (λ one rule is. ap (λ k. not (is_end k)) is.kind) held rules are in
     let ends = zip-any (IsKeptRule names all) (λ (one : KeptRule). is_end one.kind) (λ (rule : RuleOf). is_end rule.kind) (λ one rule is. ap is_end is.kind) held
     rules are in
     let limits = running_fault-is at (not_of_kind is_end rules) (running_over nothing_runs held)
     (running-over names all held rules [] nothing_runs are IsRunning-nothing) in
-    ap₂ (λ a b. option_or (if not a then Some (NoRules at) else None) (option_or (if b then Some (EofPair at) else None) (running_fault at (running_over nothing_runs held))))
+    ap₂ (λ a b. option_or (if not a then Some (NoRules at) else None) (option_or (pair_fault at eof b) (running_fault at (running_over nothing_runs held))))
     others ends
     ∙ ap (λ fault. option_or (if not (list_any (λ (rule : RuleOf). not (is_end rule.kind)) rules) then Some (NoRules at) else None)
-    (option_or (if list_any (λ (rule : RuleOf). is_end rule.kind) rules then Some (EofPair at) else None) fault)) limits
+    (option_or (pair_fault at eof (list_any (λ (rule : RuleOf). is_end rule.kind) rules)) fault)) limits

@@ -13,19 +13,21 @@ use Rattle.lx_parse.specs.declared.items.Item.{Item}
 use Rattle.lx_parse.specs.declared.items.Item.TheVariants.{Define, Configure, Rule, Text}
 use Rattle.lx_regex.specs.declared.rules.Kind.{Kind}
 use Rattle.lx_rules.specs.Blocks.{AreScanners, ClashCheck, IsBlockFault, IsFaultWithin, IsResolved, NoClash, Resolves, ScannerChecks, conditions_of, environment_behind, lonely_fault, scanners_fault, targets_fault}
-use Rattle.lx_exprs.specs.Checks.{Then, Finds}
+use Rattle.lx_exprs.specs.Checks.{Then, Finds, are_groups}
 use Rattle.lx_rules.specs.Configurations.{config_fault}
 use Rattle.lx_exprs.specs.Defined.{Definition, Meaning, IsDefined, definition_of}
-use Rattle.lx_rules.specs.Environments.{Environment, config_of, with_fill}
+use Rattle.lx_exprs.specs.Meanings.{IsMeaning}
+use Rattle.lx_rules.specs.Environments.{Environment, config_of, with_setting}
+use Rattle.lx_rules.specs.declared.environment.Setting.{Setting}
 use Rattle.lx_exprs.specs.Expressions.{ExpressionChecks}
-use Rattle.lx_rules.specs.Items.{Goes, ends, refused, next, HeadChecks, HeadSort, any, end, expression, IsAfter, IsHead, ItemChecks, ListChecks, State, TargetChecks, conds_of, first_of, first_state, head_sort, is_default, is_end, twice, unless, rule_of, with_definition, with_rule, with_settings}
+use Rattle.lx_rules.specs.Items.{Goes, ends, refused, next, HeadChecks, HeadSort, any, end, expression, IsAfter, IsHead, ItemChecks, ListChecks, State, TargetChecks, conds_of, first_of, first_state, head_sort, is_default, is_end, twice, unless, rule_of, with_definition, with_rule, with_settings, RuleMeaning, alone, as_rule, behind_slash, trailing}
 use Rattle.lx_rules.specs.Rules.{RuleOf}
 use Rattle.lx_forms.specs.Lexemes.{Lexeme, nth_lexeme, sort_at}
 use Rattle.lx_rules.specs.declared.resolved.Resolved.{Resolved}
 use Rattle.lx_rules.specs.declared.resolved.Scanner.{Scanner}
 use Rattle.lx_rules.specs.Likeness.{AreAlike, HaveSameRules}
 use Rattle.lx_rules.proofs.Openings.{opened}
-use Rattle.lx_exprs.proofs.Forms.OneCheck.{FindsOne, FindsOne-Finds, FindsOne-Then, FindsOne-by, context-one, definition-one, expression-one, expression_meaning-one, then_unsupported-one}
+use Rattle.lx_exprs.proofs.Forms.OneCheck.{FindsOne, FindsOne-Finds, FindsOne-Then, FindsOne-by, behind_meaning-one, context-one, definition-one, expression-one, expression_meaning-one, then_unsupported-one}
 
 scanners-alike : (named : Bool) (rules : List RuleOf) (conds : List (List ℕ)) (scanners others : List Scanner) → AreScanners named rules conds scanners
     → AreScanners named rules conds others → HaveSameRules scanners others
@@ -55,8 +57,7 @@ module _ (options : Options) (lexemes : List Lexeme) where
   head-one state any conds head slash until =
       FindsOne-Finds (twice (nth_lexeme lexemes head).at (first_of is_default conds state.rules))
   head-one state end conds head slash until =
-      let found = twice (nth_lexeme lexemes head).at (first_of is_end conds state.rules) in
-      then_unsupported-one options [] (Finds found) (nth_lexeme lexemes head) (FindsOne-Finds found)
+      FindsOne-Finds (twice (nth_lexeme lexemes head).at (first_of is_end conds state.rules))
   head-one state expression conds head None until = expression-one options state.definitions lexemes head until
   head-one state expression conds head (Some slash) until = context-one options state.definitions lexemes head slash until
 
@@ -67,7 +68,7 @@ module _ (options : Options) (lexemes : List Lexeme) where
       let first = option_map (λ (definition : Definition). definition.at) (definition_of state.definitions lexeme.text) in
       FindsOne-Then (Finds (twice lexeme.at first)) (ExpressionChecks options lexemes state.definitions from until)
       (FindsOne-Finds (twice lexeme.at first)) (expression-one options state.definitions lexemes from until)
-  item-one state (Configure name value) = FindsOne-Finds (config_fault (nth_lexeme lexemes name) (nth_lexeme lexemes value))
+  item-one state (Configure name value) = FindsOne-Finds (config_fault options.enc (nth_lexeme lexemes name) (nth_lexeme lexemes value))
   item-one state (Rule first head slash until goes code) =
       let List' = ListChecks options lexemes (first == head) (nth_lexeme lexemes first).at in
       let Head = HeadChecks options lexemes state (head_sort (sort_at (nth_lexeme lexemes head))) (conds_of options lexemes first head) head slash until in
@@ -80,18 +81,30 @@ module _ (options : Options) (lexemes : List Lexeme) where
   -- a head has one kind and one meaning, if it has one
   abbrev Heads : State → HeadSort → (head : ℕ) → (slash : Option ℕ) → (until : ℕ) → Type 0
   Heads state given head slash until =
-      (kind other : Kind) (meaning meant : Meaning)
+      (kind other : Kind) (meaning meant : RuleMeaning)
       → IsHead options lexemes state.definitions given head slash until kind meaning
       → IsHead options lexemes state.definitions given head slash until other meant → (kind ≡ other) × (meaning ≡ meant)
 
   head_meaning-one : (state : State) (given : HeadSort) (head : ℕ) (slash : Option ℕ) (until : ℕ) → Heads state given head slash until
   head_meaning-one state any head slash until = λ kind other meaning meant is is_other. (is.0 ∙ sym is_other.0, is.1 ∙ sym is_other.1)
-  head_meaning-one state end head slash until = λ kind other meaning meant is is_other. absurd is
+  head_meaning-one state end head slash until = λ kind other meaning meant is is_other. (is.0 ∙ sym is_other.0, is.1 ∙ sym is_other.1)
   head_meaning-one state expression head None until = λ kind other meaning meant is is_other. (
     is.0 ∙ sym is_other.0,
-    expression_meaning-one options state.definitions lexemes head until is.1.0 is_other.1.0 meaning meant is.1.1 is_other.1.1 is.1.2 is_other.1.2,
+    is.1.4
+        ∙ ap (λ meaning. alone (as_rule (are_groups options state.definitions) meaning))
+        (expression_meaning-one options state.definitions lexemes head until is.1.0 is_other.1.0 is.1.1 is_other.1.1 is.1.2 is_other.1.2 is.1.3 is_other.1.3)
+        ∙ sym is_other.1.4,
   )
-  head_meaning-one state expression head (Some slash) until = λ kind other meaning meant is is_other. absurd is
+  head_meaning-one state expression head (Some slash) until = λ kind other meaning meant is is_other.
+      let definitions = state.definitions in
+      let first =
+      expression_meaning-one options definitions lexemes head slash is.1.0 is_other.1.0 is.1.2 is_other.1.2 is.1.4 is_other.1.4 is.1.6 is_other.1.6 in
+      let second =
+      behind_meaning-one options definitions lexemes (behind_slash is_other.1.2) (suc slash) until is.1.1 is_other.1.1 is.1.3 is_other.1.3 is.1.5 is_other.1.5
+      (subst (λ (m : Meaning). IsMeaning options definitions false (behind_slash m) is.1.1 is.1.3) first is.1.7) is_other.1.7 in (
+        is.0 ∙ sym is_other.0,
+        is.1.8 ∙ ap₂ (trailing (are_groups options definitions)) first second ∙ sym is_other.1.8,
+      )
 
   -- behind an item one thing is known
   after-one : (state : State) (item : Item) (after other : State) → IsAfter options lexemes state item after
@@ -106,11 +119,11 @@ module _ (options : Options) (lexemes : List Lexeme) where
       ∙ sym is_other.6
   after-one state (Configure name value) after other is is_other =
       let same : is.0 ≡ is_other.0 = let found = sym is.1 ∙ is_other.1 in cc in
-      is.2 ∙ ap (λ (fill : Bool). with_settings state (with_fill state.settings fill)) same ∙ sym is_other.2
+      is.2 ∙ ap (λ (setting : Setting). with_settings state (with_setting state.settings setting)) same ∙ sym is_other.2
   after-one state (Rule first head slash until goes code) after other is is_other =
       let same = head_meaning-one state (head_sort (sort_at (nth_lexeme lexemes head))) head slash until is.0 is_other.0 is.1 is_other.1 is.2 is_other.2 in
       is.3
-      ∙ ap₂ (λ (kind : Kind) (meaning : Meaning). with_rule state (rule_of options lexemes (suc (length state.rules)) first head goes code kind meaning)) same.0 same.1
+      ∙ ap₂ (λ (kind : Kind) (meaning : RuleMeaning). with_rule state (rule_of options lexemes (suc (length state.rules)) first head goes code kind meaning)) same.0 same.1
       ∙ sym is_other.3
   after-one state (Text value) after other is is_other = is ∙ sym is_other
 
@@ -146,10 +159,11 @@ module _ (options : Options) (lexemes : List Lexeme) where
         let conds = conditions_of state.rules in
         let Lonely = Finds (lonely_fault at state.rules conds) in
         let Targets = Finds (targets_fault state.rules conds) in
-        let Scanners = Finds (scanners_fault at state.rules conds) in
+        let eof = (config_of state.settings).eof in
+        let Scanners = Finds (scanners_fault at eof state.rules conds) in
         FindsOne-Then (ClashCheck options.custom at names state.rules) (Then Lonely (Then Targets Scanners)) (clash-one names state.rules)
         (FindsOne-Then Lonely (Then Targets Scanners) (FindsOne-Finds (lonely_fault at state.rules conds))
-        (FindsOne-Then Targets Scanners (FindsOne-Finds (targets_fault state.rules conds)) (FindsOne-Finds (scanners_fault at state.rules conds))))
+        (FindsOne-Then Targets Scanners (FindsOne-Finds (targets_fault state.rules conds)) (FindsOne-Finds (scanners_fault at eof state.rules conds))))
 
     module _ (environment : Environment) (items : List Item) where
       -- what is known behind all items of a block of scanners is one thing

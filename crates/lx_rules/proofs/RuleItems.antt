@@ -20,7 +20,7 @@ abbrev pub conds : List (List ℕ)
 conds = [] ∷ []
 
 -- the text of a token is no longer than the body
-text_short : (body : List ℕ) (tokens : List Token) (place : ℕ) → length (nth_lexeme (lexemes_of body tokens) place).text ≤ length body
+pub text_short : (body : List ℕ) (tokens : List Token) (place : ℕ) → length (nth_lexeme (lexemes_of body tokens) place).text ≤ length body
 text_short body [] place = omega arith
 text_short body (token ∷ tokens) zero = omega (arith, length-take (token.to - token.from) (drop token.from body), length-drop token.from body)
 text_short body (token ∷ tokens) (suc place) = text_short body tokens place
@@ -46,7 +46,8 @@ module _ (options : Options) (body : List ℕ) (tokens : List Token) (known : Kn
       conds = conds;
       kind = heads.1.0;
       at = (nth_lexeme lexemes from).at;
-      meaning = heads.1.1;
+      meaning = heads.1.1.means;
+      slash = heads.1.1.slash;
       target = None;
       act = act_of options lexemes (suc (length state.rules)) None code;
     }

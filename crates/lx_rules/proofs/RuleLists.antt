@@ -1,5 +1,5 @@
 -- The rules of conditions, and how far they go.
-use Rattle.std.proofs.Common.{◌≡◌, ℕ, ◌+◌, ◌-◌, ◌≤◌, Bool, true, false, List, [], ◌∷◌, ◌++◌, max, length, refl, sym, ap, ap₂, ◌∙◌, arith}
+use Rattle.std.proofs.Common.{◌≡◌, ℕ, ◌+◌, ◌-◌, ◌≤◌, Bool, true, false, List, [], ◌∷◌, ◌++◌, max, refl, sym, ap, ap₂, ◌∙◌, arith}
 use Rattle.std.specs.Prelude.{not, if◌then◌else◌}
 use Rattle.std.proofs.lemmas.List.Elements.{filter-append}
 use Rattle.lx_exprs.specs.Checks.{is_among}
@@ -43,6 +43,13 @@ module _ (cond : List ℕ) (rule : RuleOf) where
     where
       at : (test : Bool) → plain_of (if test then rule ∷ [] else []) ≡ []
       at true = rw (star) refl
+      at false = refl
+
+  pub plain_under-end : rule.kind ≡ kind.Eof → plain_under cond (rule ∷ []) ≡ []
+  plain_under-end end = at (is_among cond rule.conds)
+    where
+      at : (test : Bool) → plain_of (if test then rule ∷ [] else []) ≡ []
+      at true = rw (end) refl
       at false = refl
 
   pub plain_under-one : rule.kind ≡ kind.Plain → is_among cond rule.conds ≡ true → plain_under cond (rule ∷ []) ≡ rule ∷ []
@@ -99,7 +106,7 @@ is_within-front cond front back fit =
 pub is_within-room :
     (cond : List ℕ) (rules : List RuleOf) (rule : RuleOf) (running : Running) → rule.kind ≡ kind.Plain → is_among cond rule.conds ≡ true
     → IsRunning (plain_under cond rules) running → is_within (rules ++ rule ∷ []) cond ≡ true
-    → fits (room_behind running) rule.meaning.size rule.meaning.nesting (length rule.meaning.tags) ≡ true
+    → fits (room_behind running) rule.meaning.size rule.meaning.nesting rule.meaning.count ≡ true
 is_within-room cond rules rule running plain is runs fit =
     let one = plain_under cond rules in
     let all = plain_under-append cond rules (rule ∷ []) ∙ ap (λ l. one ++ l) (plain_under-one cond rule plain is) in
@@ -111,7 +118,7 @@ is_within-room cond rules rule running plain is runs fit =
     let a = most.0 in let b = most.1 in let c = most.2 in
     let s = runs.size in let n = runs.nesting in let t = runs.tags in
     let left = room_left running (omega (arith, b, depths, n)) (omega (arith, c, counts, t)) in
-    fits_so (room_behind running) rule.meaning.size rule.meaning.nesting (length rule.meaning.tags) (omega (arith, a, sizes, s, left)) (omega (arith, b, depths))
+    fits_so (room_behind running) rule.meaning.size rule.meaning.nesting rule.meaning.count (omega (arith, a, sizes, s, left)) (omega (arith, b, depths))
     (omega (arith, c, counts, t))
 
 -- what fits in a room fits in a greater one

@@ -128,7 +128,7 @@ module _ (cond : List ℕ) (other : cond ≢ every) where
   shared_once [] are = tt
   shared_once (rule ∷ rules) are = ((λ shared here. conds_apart rule.conds cond are.0 other here shared), shared_once rules are.1)
 
-own_or-either : (P : List RuleOf → Type 0) (own shared : List RuleOf) → P own → P shared → P (own_or own shared)
+pub own_or-either : (P : List RuleOf → Type 0) (own shared : List RuleOf) → P own → P shared → P (own_or own shared)
 own_or-either P [] shared here there = there
 own_or-either P (rule ∷ own) shared here there = here
 

@@ -1,14 +1,14 @@
 -- What the checks of a scanner say where they find nothing.
-use Rattle.std.proofs.Common.{◌≡◌, ℕ, ◌≤◌, Bool, true, false, not, List, [], ◌∷◌, ◌++◌, Option, None, Some, refl, sym, ap, ◌∙◌, subst, arith}
+use Rattle.std.proofs.Common.{◌≡◌, ℕ, ◌≤◌, Bool, true, false, not, List, ◌++◌, Option, None, Some, refl, sym, ap, ◌∙◌, subst, arith}
 use Rattle.std.specs.Prelude.{◌||◌, ◌&&◌, nat_lt, if◌then◌else◌}
-use Rattle.std.specs.List.{filter, list_any}
+use Rattle.std.specs.List.{list_any}
 use Rattle.std.specs.Option.{option_or}
-use Rattle.std.proofs.lemmas.List.Elements.{filter_agree}
+use Rattle.std.proofs.lemmas.List.Elements.{filter-append, filter_agree}
 use Rattle.lx_base.specs.declared.faults.Fault.{Fault}
 use Rattle.lx_base.specs.declared.faults.Fault.TheVariants.{EofPair, NoRules, TooManyParts}
 use Rattle.lx_base.specs.declared.places.Pos.{Pos}
 use Rattle.lx_exprs.specs.Defined.{kept, whole_room}
-use Rattle.lx_rules.specs.Blocks.{every, is_bare, limits_fault, nesting_of, not_of_kind, of_kind, own_or, rules_of, rules_under, scanner_fault, shared_beside, size_of, tags_of}
+use Rattle.lx_rules.specs.Blocks.{every, is_bare, limits_fault, nesting_of, not_of_kind, of_kind, own_or, pair_fault, rules_of, rules_under, scanner_fault, shared_beside, size_of, tags_of}
 use Rattle.lx_rules.specs.Items.{is_default, is_end}
 use Rattle.lx_rules.specs.Kept.{is_within, plain_of, plain_under}
 use Rattle.lx_rules.specs.Rules.{RuleOf}
@@ -20,10 +20,6 @@ pub or_none : (one two : Option Fault) → option_or one two ≡ None → (one �
 or_none None two is = (refl, is)
 or_none (Some fault) two is = absurd (let h : Some fault ≡ None = is in cc)
 
-no_fault : (b : Bool) (fault : Fault) → (if b then Some fault else None) ≡ None → b ≡ false
-no_fault true fault is = absurd (let h : Some fault ≡ None = is in cc)
-no_fault false fault is = refl
-
 -- what the limits say
 limits_say : (at : Pos) (size nesting tags : ℕ) → limits_fault at size nesting tags ≡ None → (size ≤ 4096) × (nesting ≤ 256) × (tags ≤ 128)
 limits_say place size nesting tags none = at (nat_lt 4096 size || nat_lt 256 nesting || nat_lt 128 tags) refl none
@@ -34,35 +30,37 @@ limits_say place size nesting tags none = at (nat_lt 4096 size || nat_lt 256 nes
     at true e held = absurd (let h : Some (TooManyParts place (kept size) (kept nesting) (kept tags)) ≡ None = held in cc)
     at false e held = (search (arith, e), search (arith, e), search (arith, e))
 
--- rules without `$`
-all_but_end : (rules : List RuleOf) → list_any (λ (rule : RuleOf). is_end rule.kind) rules ≡ false → not_of_kind is_end rules ≡ rules
-all_but_end [] none = refl
-all_but_end (rule ∷ rules) none = at (is_end rule.kind) refl none (all_but_end rules)
-  where
-    at : (b : Bool) → is_end rule.kind ≡ b → (b || list_any (λ (rule : RuleOf). is_end rule.kind) rules) ≡ false
-        → (list_any (λ (rule : RuleOf). is_end rule.kind) rules ≡ false → not_of_kind is_end rules ≡ rules)
-        → (if not b then rule ∷ not_of_kind is_end rules else not_of_kind is_end rules) ≡ rule ∷ rules
-    at true e found later = absurd (let h : true ≡ false = found in cc)
-    at false e found later = ap (λ l. rule ∷ l) (later found)
-
--- the rules of a scanner are within the limits, and none is `$`
+-- the rules of a scanner but for `$` are within the limits
 pub record AreLimited (rules : List RuleOf) : Type 0 where
-  pub ends : list_any (λ (rule : RuleOf). is_end rule.kind) rules ≡ false
-  pub size : size_of rules ≤ 4096
-  pub nesting : nesting_of rules ≤ 256
-  pub tags : tags_of rules ≤ 128
+  pub size : size_of (not_of_kind is_end rules) ≤ 4096
+  pub nesting : nesting_of (not_of_kind is_end rules) ≤ 256
+  pub tags : tags_of (not_of_kind is_end rules) ≤ 128
 
-pub scanner_limited : (at : Pos) (rules : List RuleOf) → scanner_fault at rules ≡ None → AreLimited rules
-scanner_limited at rules none =
-    let has_end : Bool = list_any (λ (rule : RuleOf). is_end rule.kind) rules in
-    let limits : Option Fault =
-    limits_fault at (size_of (not_of_kind is_end rules)) (nesting_of (not_of_kind is_end rules)) (tags_of (not_of_kind is_end rules)) in
-    let one = or_none (if is_bare rules then Some (NoRules at) else None) (option_or (if has_end then Some (EofPair at) else None) limits) none in
-    let two = or_none (if has_end then Some (EofPair at) else None) limits one.1 in
-    let free = no_fault has_end (EofPair at) two.0 in
-    let most = subst (λ l. (size_of l ≤ 4096) × (nesting_of l ≤ 256) × (tags_of l ≤ 128)) (all_but_end rules free)
-    (limits_say at (size_of (not_of_kind is_end rules)) (nesting_of (not_of_kind is_end rules)) (tags_of (not_of_kind is_end rules)) two.1) in
-    record { ends = free; size = most.0; nesting = most.1; tags = most.2 }
+module _ (at : Pos) (eof : Option ℕ) (rules : List RuleOf) (none : scanner_fault at eof rules ≡ None) where
+  abbrev pair : Option Fault
+  pair = pair_fault at eof (list_any (λ (rule : RuleOf). is_end rule.kind) rules)
+
+  abbrev limits : Option Fault
+  limits = limits_fault at (size_of (not_of_kind is_end rules)) (nesting_of (not_of_kind is_end rules)) (tags_of (not_of_kind is_end rules))
+
+  later : (pair ≡ None) × (limits ≡ None)
+  later = or_none pair limits (or_none (if is_bare rules then Some (NoRules at) else None) (option_or pair limits) none).1
+
+  pub scanner_limited : AreLimited rules
+  scanner_limited =
+      let most =
+      limits_say at (size_of (not_of_kind is_end rules)) (nesting_of (not_of_kind is_end rules)) (tags_of (not_of_kind is_end rules)) later.1 in
+      record { size = most.0; nesting = most.1; tags = most.2 }
+
+  -- where no code unit stands at the end, none is `$`
+  pub scanner_unended : eof ≡ None → list_any (λ (rule : RuleOf). is_end rule.kind) rules ≡ false
+  scanner_unended absent =
+      by (list_any (λ (rule : RuleOf). is_end rule.kind) rules)
+      (ap (λ (unit : Option ℕ). pair_fault at unit (list_any (λ (rule : RuleOf). is_end rule.kind) rules)) (sym absent) ∙ later.0)
+    where
+      by : (b : Bool) → pair_fault at None b ≡ None → b ≡ false
+      by true found = absurd (let h : Some (EofPair at) ≡ None = found in cc)
+      by false found = refl
 
 -- some rules go no further than others
 record GoNoFurther (rules others : List RuleOf) : Type 0 where
@@ -76,19 +74,6 @@ further-trans one two three first second = record {
   nesting = let a = first.nesting in let b = second.nesting in omega (arith, a, b);
   tags = let a = first.tags in let b = second.tags in omega (arith, a, b);
 }
-
--- those that pass a test
-further-filter : (test : RuleOf → Bool) (rules : List RuleOf) → GoNoFurther (filter test rules) rules
-further-filter test [] = record { size = omega arith; nesting = omega arith; tags = omega arith }
-further-filter test (rule ∷ rules) = at (test rule) (further-filter test rules)
-  where
-    at : (b : Bool) → GoNoFurther (filter test rules) rules → GoNoFurther (if b then rule ∷ filter test rules else filter test rules) (rule ∷ rules)
-    at true later =
-        let a = later.size in let b = later.nesting in let c = later.tags in
-        record { size = omega (arith, a); nesting = omega (arith, b); tags = omega (arith, c) }
-    at false later =
-        let a = later.size in let b = later.nesting in let c = later.tags in
-        record { size = omega (arith, a); nesting = omega (arith, b); tags = omega (arith, c) }
 
 -- those in front, and those behind
 further-front : (front back : List RuleOf) → GoNoFurther front (front ++ back)
@@ -119,15 +104,29 @@ plain-either_way rules =
     (λ rule. and-comm (not (is_end rule.kind)) (not (is_default rule.kind))) rules
     ∙ sym (filter-filter (λ (rule : RuleOf). not (is_default rule.kind)) (λ (rule : RuleOf). not (is_end rule.kind)) rules)
 
--- the shared rules but for `*` and `$` are in the scanner
-further-shared : (own shared : List RuleOf) → GoNoFurther (plain_of shared) (not_of_kind is_default (shared_beside own shared))
-further-shared own shared = at (list_any (λ (rule : RuleOf). is_end rule.kind) own)
-  where
-    at : (b : Bool) → GoNoFurther (plain_of shared) (not_of_kind is_default (if b then not_of_kind is_end shared else shared))
-    at true = subst (GoNoFurther (plain_of shared)) (plain-either_way shared) (record { size = omega arith; nesting = omega arith; tags = omega arith })
-    at false = further-filter (λ (rule : RuleOf). not (is_end rule.kind)) (not_of_kind is_default shared)
+and-same : (test : Bool) → (test && test) ≡ test
+and-same true = refl
+and-same false = refl
 
-within_so : (cond : List ℕ) (all rules : List RuleOf) → GoNoFurther (plain_under cond all) rules → AreLimited rules → is_within all cond ≡ true
+-- `$` is left out once
+others-twice : (rules : List RuleOf) → not_of_kind is_end (not_of_kind is_end rules) ≡ not_of_kind is_end rules
+others-twice rules =
+    filter-filter (λ (rule : RuleOf). not (is_end rule.kind)) (λ (rule : RuleOf). not (is_end rule.kind)) rules
+    ∙ filter_agree (λ (rule : RuleOf). not (is_end rule.kind) && not (is_end rule.kind)) (λ (rule : RuleOf). not (is_end rule.kind))
+    (λ rule. and-same (not (is_end rule.kind))) rules
+
+-- the shared rules but for `*` and `$` are in the scanner
+shared-plain : (own shared : List RuleOf) → not_of_kind is_end (not_of_kind is_default (shared_beside own shared)) ≡ plain_of shared
+shared-plain own shared = at (list_any (λ (rule : RuleOf). is_end rule.kind) own)
+  where
+    at : (b : Bool) → not_of_kind is_end (not_of_kind is_default (if b then not_of_kind is_end shared else shared)) ≡ plain_of shared
+    at true =
+        plain-either_way (not_of_kind is_end shared) ∙ ap (not_of_kind is_default) (others-twice shared)
+        ∙ sym (plain-either_way shared)
+    at false = refl
+
+within_so : (cond : List ℕ) (all rules : List RuleOf) → GoNoFurther (plain_under cond all) (not_of_kind is_end rules) → AreLimited rules
+    → is_within all cond ≡ true
 within_so cond all rules less most =
     let a = less.size in let b = less.nesting in let c = less.tags in
     let s = most.size in let n = most.nesting in let t = most.tags in
@@ -151,16 +150,23 @@ module _ (cond : List ℕ) (rules : List RuleOf) (most : AreLimited (rules_of co
   abbrev last_part : List RuleOf
   last_part = own_or (of_kind is_default own) (of_kind is_default shared)
 
+  -- the rules of the scanner but for `$`
+  others-are : not_of_kind is_end (rules_of cond rules) ≡ plain_of own ++ plain_of shared ++ not_of_kind is_end last_part
+  others-are =
+      filter-append (λ (rule : RuleOf). not (is_end rule.kind)) (own_part ++ shared_part) last_part
+      ∙ ap (λ l. l ++ not_of_kind is_end last_part)
+      (filter-append (λ (rule : RuleOf). not (is_end rule.kind)) own_part shared_part ∙ ap (λ l. plain_of own ++ l) (shared-plain own shared))
+
   pub own_within : is_within rules cond ≡ true
   own_within =
       within_so cond rules (rules_of cond rules)
-      (further-trans (plain_of own) own_part (rules_of cond rules) (further-filter (λ (rule : RuleOf). not (is_end rule.kind)) own_part)
-      (further-trans own_part (own_part ++ shared_part) (rules_of cond rules) (further-front own_part shared_part)
-      (further-front (own_part ++ shared_part) last_part))) most
+      (subst (GoNoFurther (plain_of own)) (sym others-are)
+      (further-trans (plain_of own) (plain_of own ++ plain_of shared) (plain_of own ++ plain_of shared ++ not_of_kind is_end last_part)
+      (further-front (plain_of own) (plain_of shared)) (further-front (plain_of own ++ plain_of shared) (not_of_kind is_end last_part)))) most
 
   pub shared_within : is_within rules every ≡ true
   shared_within =
       within_so every rules (rules_of cond rules)
-      (further-trans (plain_of shared) shared_part (rules_of cond rules) (further-shared own shared)
-      (further-trans shared_part (own_part ++ shared_part) (rules_of cond rules) (further-back own_part shared_part)
-      (further-front (own_part ++ shared_part) last_part))) most
+      (subst (GoNoFurther (plain_of shared)) (sym others-are)
+      (further-trans (plain_of shared) (plain_of own ++ plain_of shared) (plain_of own ++ plain_of shared ++ not_of_kind is_end last_part)
+      (further-back (plain_of own) (plain_of shared)) (further-front (plain_of own ++ plain_of shared) (not_of_kind is_end last_part)))) most

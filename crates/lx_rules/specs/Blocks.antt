@@ -1,5 +1,5 @@
 -- What a block resolves to, and the checks behind its items.
-use Rattle.std.specs.Prelude.{◌≡◌, ℕ, ◌+◌, ◌⊎◌, Bool, true, false, List, [], ◌∷◌, ◌++◌, map, max, length, drop, nat_lt, ◌||◌, Option, Some, None, Ok, Err, not, codes, if◌then◌else◌}
+use Rattle.std.specs.Prelude.{◌≡◌, ℕ, ◌+◌, ◌⊎◌, Bool, true, false, List, [], ◌∷◌, ◌++◌, map, max, length, drop, nat_lt, ◌||◌, Option, Some, None, is_some, Ok, Err, not, codes, if◌then◌else◌}
 use Rattle.std.specs.List.{AllByRecursion, list_any, filter}
 use Rattle.std.specs.Option.{option_or}
 use Rattle.lx_base.specs.declared.limits.TheConstants.{NESTING_LIMIT, SIZE_LIMIT, TAG_LIMIT}
@@ -81,8 +81,8 @@ pattern_of rule = record {
   kind = rule.kind;
   term = behind (length rule.meaning.tags) (term_of_meaning rule.meaning);
   many = map (λ (tag : Tag). tag.many) rule.meaning.tags;
-  slash = None;
-  groups = 0;
+  slash = rule.slash;
+  groups = rule.meaning.groups;
 }
 
 -- the names of the tags of a rule, and of one that is built
@@ -109,7 +109,7 @@ AreScanners named rules [] (scanner ∷ scanners) = ⊥
 AreScanners named rules (cond ∷ conds) [] = ⊥
 AreScanners named rules (cond ∷ conds) (scanner ∷ scanners) = IsScanner named rules cond scanner × AreScanners named rules conds scanners
 
--- the size of a scanner, its nesting and the number of its tags, `$` aside
+-- the size of a scanner, its nesting and the number of its tags, two for each group, `$` aside
 abbrev pub size_of : List RuleOf → ℕ
 size_of [] = 0
 size_of (rule ∷ rules) = rule.meaning.size + size_of rules
@@ -120,7 +120,7 @@ nesting_of (rule ∷ rules) = max rule.meaning.nesting (nesting_of rules)
 
 abbrev pub tags_of : List RuleOf → ℕ
 tags_of [] = 0
-tags_of (rule ∷ rules) = length rule.meaning.tags + tags_of rules
+tags_of (rule ∷ rules) = rule.meaning.count + tags_of rules
 
 -- a scanner is within the limits on these
 abbrev pub limits_fault : Pos → (size nesting tags : ℕ) → Option Fault
@@ -131,24 +131,37 @@ limits_fault at size nesting tags =
 abbrev pub is_bare : List RuleOf → Bool
 is_bare rules = not (list_any (λ (rule : RuleOf). not (is_end rule.kind)) rules)
 
--- the checks of one scanner; `re2c:eof` is not supported yet, so none may have `$`
-abbrev pub scanner_fault : Pos → List RuleOf → Option Fault
-scanner_fault at rules =
+-- a scanner has `$` exactly where a code unit stands at the end of the input
+abbrev pub pair_fault : Pos → (eof : Option ℕ) → (has_end : Bool) → Option Fault
+pair_fault at None false = None
+pair_fault at None true = Some (EofPair at)
+pair_fault at (Some unit) false = Some (EofPair at)
+pair_fault at (Some unit) true = None
+
+-- the checks of one scanner
+abbrev pub scanner_fault : Pos → (eof : Option ℕ) → List RuleOf → Option Fault
+scanner_fault at eof rules =
     option_or (if is_bare rules then Some (NoRules at) else None)
-    (option_or (if list_any (λ (rule : RuleOf). is_end rule.kind) rules then Some (EofPair at) else None)
+    (option_or (pair_fault at eof (list_any (λ (rule : RuleOf). is_end rule.kind) rules))
     (limits_fault at (size_of (not_of_kind is_end rules)) (nesting_of (not_of_kind is_end rules)) (tags_of (not_of_kind is_end rules))))
 
-abbrev pub scanners_fault : Pos → List RuleOf → (conds : List (List ℕ)) → Option Fault
-scanners_fault at rules [] = None
-scanners_fault at rules (cond ∷ conds) = option_or (scanner_fault at (rules_of cond rules)) (scanners_fault at rules conds)
+abbrev pub scanners_fault : Pos → (eof : Option ℕ) → List RuleOf → (conds : List (List ℕ)) → Option Fault
+scanners_fault at eof rules [] = None
+scanners_fault at eof rules (cond ∷ conds) = option_or (scanner_fault at eof (rules_of cond rules)) (scanners_fault at eof rules conds)
 
 -- no two spellings clash, and none is the name of an input primitive where the input is custom
 abbrev pub SpellingsDiffer : (custom : Bool) → Spellings → Type 0
 SpellingsDiffer custom names = DoNotClash names × (custom ≡ true → name_primitives names ≡ false)
 
+-- a tag has a name that it may have beside the spellings; that of a slash has none
+abbrev pub MayBeNamed : Spellings → (has_slash : Bool) → Tag → Type 0
+MayBeNamed names false tag = IsTagName names tag.name
+MayBeNamed names true tag = (tag.name ≡ []) ⊎ IsTagName names tag.name
+
 -- the spellings differ, and each tag has a name that it may have beside them
 abbrev pub NoClash : (custom : Bool) → Spellings → List RuleOf → Type 0
-NoClash custom names rules = SpellingsDiffer custom names × AllByRecursion (λ (rule : RuleOf). AllByRecursion (λ (tag : Tag). IsTagName names tag.name) rule.meaning.tags) rules
+NoClash custom names rules =
+    SpellingsDiffer custom names × AllByRecursion (λ (rule : RuleOf). AllByRecursion (MayBeNamed names (is_some rule.slash)) rule.meaning.tags) rules
 
 abbrev pub ClashCheck : (custom : Bool) → Pos → Spellings → List RuleOf → Check
 ClashCheck custom at names rules fault =
@@ -176,7 +189,7 @@ ScannerChecks custom at state =
     Then (ClashCheck custom at (config_of state.settings).names state.rules)
     (Then (Finds (lonely_fault at state.rules (conditions_of state.rules)))
     (Then (Finds (targets_fault state.rules (conditions_of state.rules)))
-    (Finds (scanners_fault at state.rules (conditions_of state.rules)))))
+    (Finds (scanners_fault at (config_of state.settings).eof state.rules (conditions_of state.rules)))))
 
 -- a rules block has a rule
 abbrev pub no_rules_fault : Pos → List RuleOf → Option Fault

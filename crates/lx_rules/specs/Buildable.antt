@@ -1,7 +1,7 @@
 -- Environments whose definitions can stand in the expressions of rules.
 use Rattle.std.specs.Prelude.{◌≡◌, ℕ, ◌+◌, ◌*◌, ◌<◌, ◌≤◌, ◌^◌}
 use Rattle.std.specs.List.{AllByRecursion}
-use Rattle.lx_base.specs.declared.settings.Enc.{Enc}
+use Rattle.lx_base.specs.declared.settings.Options.{Options}
 use Rattle.lx_regex.specs.Limits.{member_count}
 use Rattle.lx_regex.specs.Term.{Term, Terms, empty, class, any_unit, cat, alt, repeat, tag, group, nil, cons}
 use Rattle.lx_exprs.specs.Defined.{Definition}
@@ -32,6 +32,6 @@ abbrev pub IsBuildable : Definition → Type 0
 IsBuildable definition = (1 ≤ definition.size) × IsExpressible (term_or_empty definition.term)
 
 -- the definitions of an environment can be copied within the limits, and expressions can stand for them
-pub record HasBuildableDefinitions (enc : Enc) (environment : Environment) : Type 0 where
-  pub within : AreDefinedWithin enc environment.definitions
+pub record HasBuildableDefinitions (options : Options) (environment : Environment) : Type 0 where
+  pub within : AreDefinedWithin options environment.definitions
   pub buildable : AllByRecursion IsBuildable environment.definitions

@@ -1,5 +1,6 @@
 -- The conditions of a block as the code keeps them, and how far the rules of each go.
-use Rattle.std.specs.Prelude.{◌≡◌, ℕ, ◌+◌, ◌-◌, ◌<◌, ◌⊎◌, false, List, [], ◌∷◌, map, max, nat_lt, ◌||◌, slice_index_or, unwrap_or, if◌then◌else◌}
+use Rattle.std.specs.Prelude.{◌≡◌, ℕ, ◌+◌, ◌-◌, ◌<◌, ◌⊎◌, false, List, [], ◌∷◌, map, max, nat_lt, ◌||◌, slice_index_or, Option, Some, None, unwrap_or, if◌then◌else◌}
+use Rattle.std.specs.Option.{option_or}
 use Rattle.std.specs.List.{AllByRecursion}
 use Rattle.std.specs.Map.{lookup}
 use Rattle.std.specs.Str.{bytes_eq}
@@ -11,7 +12,9 @@ use Rattle.lx_rules.specs.Blocks.{every}
 use Rattle.lx_rules.specs.declared.conditions.Conditions.{Conditions}
 use Rattle.lx_rules.specs.declared.conditions.Conds.{Conds}
 use Rattle.lx_rules.specs.declared.conditions.Conds.TheVariants.{Every, Listed}
+use Rattle.lx_rules.specs.declared.conditions.FirstRule.{FirstRule}
 use Rattle.lx_rules.specs.declared.conditions.Running.{Running}
+use Rattle.lx_rules.specs.declared.conditions.Standing.{Standing}
 
 -- so far no rules go
 abbrev pub nothing_runs : Running
@@ -21,6 +24,24 @@ nothing_runs = record { size = 0; nesting = 0; tags = 0 }
 abbrev pub running_with : (running more : Running) → Running
 running_with running more =
     record { size = kept (running.size + more.size); nesting = max running.nesting more.nesting; tags = kept (running.tags + more.tags) }
+
+-- of two rules the one with the less number
+abbrev pub earlier : (one other : Option FirstRule) → Option FirstRule
+earlier None other = other
+earlier (Some one) None = Some one
+earlier (Some one) (Some other) = if nat_lt other.number one.number then Some other else Some one
+
+-- no rules stand under a condition
+abbrev pub nothing_stands : Standing
+nothing_stands = record { running = nothing_runs; first_default = None; first_end = None }
+
+-- rules stand under a condition with others behind them
+abbrev pub standing_with : (standing more : Standing) → Standing
+standing_with standing more = record {
+  running = running_with standing.running more.running;
+  first_default = option_or standing.first_default more.first_default;
+  first_end = option_or standing.first_end more.first_end;
+}
 
 -- what a rule may have behind others: nothing behind a nesting or a number of tags that is past the limit
 abbrev pub room_behind : Running → Room
@@ -37,11 +58,27 @@ wider room other = record { size = max room.size other.size; tags = max room.tag
 abbrev pub cond_names : Conditions → List (List ℕ)
 cond_names conditions = map (λ entry. entry.0.items) conditions.named.entries
 
--- so far the rules of a condition go
-abbrev pub running_of : Conditions → (cond : List ℕ) → Running
-running_of conditions cond =
+-- so the rules of a condition stand
+abbrev pub standing_of : Conditions → (cond : List ℕ) → Standing
+standing_of conditions cond =
     if bytes_eq cond every then conditions.shared
-    else unwrap_or (lookup (λ key. bytes_eq cond key.items) conditions.named.entries) nothing_runs
+    else unwrap_or (lookup (λ key. bytes_eq cond key.items) conditions.named.entries) nothing_stands
+
+-- so far they go
+abbrev pub running_of : Conditions → (cond : List ℕ) → Running
+running_of conditions cond = (standing_of conditions cond).running
+
+-- the earliest of a rule and those that conditions have
+abbrev pub earliest : (of_cond : List ℕ → Option FirstRule) → (rule : Option FirstRule) → (conds : List (List ℕ)) → Option FirstRule
+earliest of_cond rule [] = rule
+earliest of_cond rule (cond ∷ conds) = earliest of_cond (earlier rule (of_cond cond)) conds
+
+-- the first rules `*` and `$` of conditions
+abbrev pub earliest_default : Conditions → (conds : List (List ℕ)) → Option FirstRule
+earliest_default conditions conds = earliest (λ cond. (standing_of conditions cond).first_default) None conds
+
+abbrev pub earliest_end : Conditions → (conds : List (List ℕ)) → Option FirstRule
+earliest_end conditions conds = earliest (λ cond. (standing_of conditions cond).first_end) None conds
 
 -- the greatest room that conditions have for a rule
 abbrev pub room_under : Conditions → (conds : List (List ℕ)) → Room

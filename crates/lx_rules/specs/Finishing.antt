@@ -1,16 +1,15 @@
 -- What a block resolves to, by what is known behind its items.
-use Rattle.std.specs.Prelude.{◌≡◌, ℕ, ◌&&◌, ◌||◌, nat_lt, not, Bool, true, List, [], ◌∷◌, ◌++◌, length, Option, Some, None, if◌then◌else◌}
+use Rattle.std.specs.Prelude.{◌≡◌, ◌≤◌, ℕ, suc, ◌&&◌, ◌||◌, nat_lt, not, Bool, true, List, [], ◌∷◌, ◌++◌, length, Option, Some, None, IfSome, if◌then◌else◌}
 use Rattle.std.specs.List.{filter, list_any}
 use Rattle.std.specs.Option.{option_or}
 use Rattle.lx_base.specs.declared.faults.Fault.{Fault}
-use Rattle.lx_base.specs.declared.faults.Fault.TheVariants.{EofPair, NoRules, TooManyParts}
+use Rattle.lx_base.specs.declared.faults.Fault.TheVariants.{NoRules, TooManyParts}
 use Rattle.lx_base.specs.declared.limits.TheConstants.{NESTING_LIMIT, SIZE_LIMIT, TAG_LIMIT}
 use Rattle.lx_base.specs.declared.places.Pos.{Pos}
 use Rattle.lx_regex.specs.Expr.{size_of, term_of}
 use Rattle.lx_regex.specs.declared.expr.Expr.{Expr}
 use Rattle.lx_regex.specs.declared.rules.Rule.{Rule}
 use Rattle.lx_exprs.specs.Checks.{Check, Finds, Then, is_among}
-use Rattle.lx_exprs.specs.Defined.{kept}
 use Rattle.lx_exprs.specs.Values.{HasTagsBelow}
 use Rattle.lx_rules.specs.declared.conditions.Running.{Running}
 use Rattle.lx_rules.specs.declared.environment.Env.{Env}
@@ -18,7 +17,7 @@ use Rattle.lx_rules.specs.declared.kept.KeptRule.{KeptRule}
 use Rattle.lx_rules.specs.declared.resolved.Act.{Act}
 use Rattle.lx_rules.specs.declared.resolved.Resolved.{Resolved}
 use Rattle.lx_rules.specs.declared.resolved.Scanner.{Scanner}
-use Rattle.lx_rules.specs.Blocks.{ClashCheck, IsResolved, IsScanner, ScannerChecks, conditions_of, environment_with, every, lonely_fault, rules_of, scanner_fault, target_fault, targets_fault}
+use Rattle.lx_rules.specs.Blocks.{ClashCheck, IsResolved, IsScanner, ScannerChecks, conditions_of, environment_with, every, lonely_fault, pair_fault, rules_of, scanner_fault, target_fault, targets_fault}
 use Rattle.lx_rules.specs.Conditions.{conds_seen, nothing_runs, running_with}
 use Rattle.lx_rules.specs.Environments.{config_of}
 use Rattle.lx_rules.specs.Items.{State, is_default, is_end}
@@ -49,7 +48,7 @@ kept_rules_of names cond held = kept_in_order (kept_under names cond held) (kept
 
 -- so far a rule goes
 abbrev pub weight_of : KeptRule → Running
-weight_of held = record { size = held.size; nesting = held.nesting; tags = kept (length held.tags) }
+weight_of held = record { size = held.size; nesting = held.nesting; tags = held.count }
 
 -- so far rules go with those of a scanner, but for `$`
 abbrev pub running_over : Running → List KeptRule → Running
@@ -64,10 +63,10 @@ running_fault at running =
     then Some (TooManyParts at running.size running.nesting running.tags) else None
 
 -- the checks of the rules of a scanner
-abbrev pub kept_fault : Pos → List KeptRule → Option Fault
-kept_fault at held =
+abbrev pub kept_fault : Pos → (eof : Option ℕ) → List KeptRule → Option Fault
+kept_fault at eof held =
     option_or (if not (list_any (λ (one : KeptRule). not (is_end one.kind)) held) then Some (NoRules at) else None)
-    (option_or (if list_any (λ (one : KeptRule). is_end one.kind) held then Some (EofPair at) else None) (running_fault at (running_over nothing_runs held)))
+    (option_or (pair_fault at eof (list_any (λ (one : KeptRule). is_end one.kind) held)) (running_fault at (running_over nothing_runs held)))
 
 -- the first target that has no rules of its own, among the conditions of these names
 abbrev pub kept_targets_fault : (names : List (List ℕ)) → List KeptRule → List Act → Option Fault
@@ -76,17 +75,20 @@ kept_targets_fault names (one ∷ held) [] = None
 kept_targets_fault names (one ∷ held) (act ∷ acts) =
     option_or (target_fault act.goes one.target names) (kept_targets_fault names held acts)
 
--- a rule can be copied: its expression is kept, and has few tags
+-- a rule can be copied: its expression is kept, and has few tags and groups
 abbrev pub IsBuilt : KeptRule → Type 0
-IsBuilt held = (expr : Expr) × (held.expr ≡ Some expr) × HasTagsBelow TAG_LIMIT (term_of 0 expr)
+IsBuilt held =
+    (expr : Expr) × (held.expr ≡ Some expr) × HasTagsBelow 0 TAG_LIMIT (term_of 0 expr) × (held.groups ≤ suc TAG_LIMIT)
+    × IfSome held.slash (λ number. number ≤ TAG_LIMIT)
 
 -- the rule of a scanner is a copy of one that is kept
 pub record IsCopyOf (held : KeptRule) (rule : Rule) : Type 0 where
   pub number : rule.number ≡ held.number
   pub kind : rule.kind ≡ held.kind
   pub tags : rule.tags ≡ held.tags
-  pub slash : rule.slash ≡ None
-  pub groups : rule.groups ≡ 0
+  pub slash : rule.slash ≡ held.slash
+  pub slashed : IfSome held.slash (λ number. number ≤ TAG_LIMIT)
+  pub groups : rule.groups ≡ held.groups
   pub expr : Expr
   pub kept : held.expr ≡ Some expr
   pub term : term_of 0 rule.expr ≡ term_of 0 expr
@@ -99,9 +101,9 @@ WholeChecks custom at state =
     (Then (Finds (lonely_fault at state.rules (conditions_of state.rules))) (Finds (targets_fault state.rules (conditions_of state.rules))))
 
 -- the scanner of a condition is as its checks want it, and within the limits
-abbrev pub IsBuiltScanner : (named : Bool) → Pos → List RuleOf → (cond : List ℕ) → Scanner → Type 0
-IsBuiltScanner named at rules cond scanner =
-    (scanner_fault at (rules_of cond rules) ≡ None) × IsScanner named rules cond scanner × IsFit (length rules) scanner
+abbrev pub IsBuiltScanner : (named : Bool) → Pos → (eof : Option ℕ) → List RuleOf → (cond : List ℕ) → Scanner → Type 0
+IsBuiltScanner named at eof rules cond scanner =
+    (scanner_fault at eof (rules_of cond rules) ≡ None) × IsScanner named rules cond scanner × IsFit (length rules) scanner
 
 -- the scanners of a block resolve so, and all is within the limits
 abbrev pub IsFinished : (conds custom : Bool) → Pos → State → Env × Resolved → Type 0

@@ -1,9 +1,8 @@
 -- What holds of what blocks resolve to, whatever they say.
 use Rattle.lx_base.specs.declared.limits.TheConstants.{SIZE_LIMIT, SOURCE_LIMIT}
 use Rattle.lx_exprs.specs.FitDefinitions.{DefinitionsFit}
-use Rattle.lx_base.specs.Names.{usual_names}
-use Rattle.std.specs.Prelude.{◌≡◌, ℕ, ◌+◌, ◌<◌, ◌≤◌, List, [], ◌∷◌, length, All, Option, Some, None}
-use Rattle.lx_regex.specs.Expr.{size_of}
+use Rattle.std.specs.Prelude.{ℕ, ◌+◌, ◌<◌, ◌≤◌, List, length, All, Option, Some, None}
+use Rattle.lx_regex.specs.Limits.{end_count, sizes_of}
 use Rattle.lx_regex.specs.declared.rules.Rule.{Rule}
 use Rattle.lx_rules.specs.declared.environment.Env.{Env}
 use Rattle.lx_rules.specs.declared.resolved.Act.{Act}
@@ -13,16 +12,11 @@ use Rattle.lx_rules.specs.declared.resolved.Resolved.{Resolved}
 abbrev pub HasFitDefinitions : Env → Type 0
 HasFitDefinitions env = DefinitionsFit env.definitions
 
--- the size of rules
-abbrev pub rules_size : List Rule → ℕ
-rules_size [] = 0
-rules_size (rule ∷ rules) = size_of rule.expr + rules_size rules
-
--- a scanner is within the limit on its size, which each of its rules adds 1 to at least; and its rules have acts, which are
--- as many as this
+-- a scanner is within the limit on its size, which each of its rules but `$` adds 1 to at least; and its rules have acts, which
+-- are as many as this
 pub record IsFit (acts : ℕ) (scanner : Scanner) : Type 0 where
-  pub size : rules_size scanner.set.rules ≤ SIZE_LIMIT
-  pub few : length scanner.set.rules ≤ SIZE_LIMIT
+  pub size : sizes_of scanner.set.rules ≤ SIZE_LIMIT
+  pub few : length scanner.set.rules ≤ SIZE_LIMIT + end_count scanner.set.rules
   pub numbers : All (λ (rule : Rule). (0 < rule.number) × (rule.number ≤ acts)) scanner.set.rules
 
 -- an action is no longer than a source
@@ -30,10 +24,8 @@ abbrev pub IsShort : Option (List ℕ) → Type 0
 IsShort None = Unit {0}
 IsShort (Some code) = length code ≤ SOURCE_LIMIT
 
--- what a block resolves to is within the limits of a scanner, and the rule of number k has the k-th action; its spellings are
--- the usual ones
+-- what a block resolves to is within the limits of a scanner, and the rule of number k has the k-th action
 pub record FitsLimits (resolved : Resolved) : Type 0 where
-  pub names : resolved.config.names ≡ usual_names
   pub scanners : All (IsFit (length resolved.acts)) resolved.scanners
   pub acts : All (λ (act : Act). IsShort act.code) resolved.acts
   pub few : length resolved.acts ≤ SOURCE_LIMIT

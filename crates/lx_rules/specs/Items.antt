@@ -1,5 +1,5 @@
 -- The items of a block, in order, and their checks.
-use Rattle.std.specs.Prelude.{◌≡◌, ℕ, suc, ◌-◌, Bool, true, false, List, [], ◌∷◌, ◌++◌, length, ◌==◌, ◌&&◌, Option, Some, None, Result, Ok, Err, not, if◌then◌else◌}
+use Rattle.std.specs.Prelude.{◌≡◌, ℕ, suc, ◌+◌, ◌-◌, max, Bool, true, false, List, [], ◌∷◌, ◌++◌, length, ◌==◌, ◌&&◌, Option, Some, None, Result, Ok, Err, not, if◌then◌else◌}
 use Rattle.std.specs.List.{list_any}
 use Rattle.std.specs.Option.{option_map}
 use Rattle.lx_base.specs.declared.blocks.BlockKind.{BlockKind}
@@ -12,19 +12,20 @@ use Rattle.lx_parse.specs.declared.items.Item.{Item}
 use Rattle.lx_parse.specs.declared.items.Item.TheVariants.{Define, Configure, Rule, Text}
 use Rattle.lx_parse.specs.declared.sorts.Sort.{Sort}
 use Rattle.lx_parse.specs.declared.sorts.Sort.TheVariants.{Star, Dollar}
-use Rattle.lx_regex.specs.Term.{any_unit}
+use Rattle.lx_regex.specs.Term.{Term, any_unit, empty, group, tag}
 use Rattle.lx_regex.specs.declared.rules.Kind.{Kind}
 use Rattle.lx_regex.specs.declared.rules.Kind.TheVariants as kind
 use Rattle.lx_rules.specs.declared.resolved.Act.{Act}
 use Rattle.lx_forms.specs.Lexemes.{Lexeme, nth_lexeme, sort_at}
 use Rattle.lx_exprs.specs.Expressions.{ContextChecks, ExpressionChecks, IsExpression}
 use Rattle.lx_forms.specs.Forms.{Form}
-use Rattle.lx_exprs.specs.Defined.{Definition, Meaning, IsDefined, definition_of, nothing, one}
-use Rattle.lx_rules.specs.Environments.{Environment, KeptBlock, Settings, no_settings, settings_over, with_fill}
+use Rattle.lx_exprs.specs.Defined.{Before, Definition, Meaning, IsDefined, definition_of, kept, nothing, one, row, slash_tag, whole}
+use Rattle.lx_rules.specs.Environments.{Environment, KeptBlock, Settings, no_settings, settings_over, with_setting}
+use Rattle.lx_rules.specs.declared.environment.Setting.{Setting}
 use Rattle.lx_rules.specs.Rules.{RuleOf}
 use Rattle.lx_exprs.specs.Meanings.{IsMeaning}
-use Rattle.lx_rules.specs.Configurations.{config_fault, switch_of}
-use Rattle.lx_exprs.specs.Checks.{Check, Then, Finds, unsupported, is_among}
+use Rattle.lx_rules.specs.Configurations.{config_fault, setting_of}
+use Rattle.lx_exprs.specs.Checks.{Check, Then, Finds, are_groups, unsupported, is_among}
 
 -- what is known behind some items of a block
 pub record State : Type 0 where
@@ -58,9 +59,56 @@ first_state block.Rules environment = record { definitions = environment.definit
 first_state block.Use environment = state_behind environment.kept environment
 first_state kind environment = state_behind None environment
 
+-- a term that is group 0, where there are groups
+abbrev pub in_whole : (is_group : Bool) → Term → Term
+in_whole true term = group 0 1 term
+in_whole false term = term
+
+-- what a rule with this expression means: where there are groups, the expression is group 0, which counts for nothing
+abbrev pub as_rule : (is_group : Bool) → Meaning → Meaning
+as_rule is_group meaning = record {
+  shape = one (in_whole is_group (whole meaning.shape));
+  size = meaning.size;
+  nesting = meaning.nesting;
+  tags = meaning.tags;
+  groups = if is_group then kept (suc meaning.groups) else 0;
+  count = meaning.count;
+}
+
+-- what a rule means, and the number of the tag of its trailing context, if it has one
+pub record RuleMeaning : Type 0 where
+  pub means : Meaning
+  pub slash : Option ℕ
+
+-- a rule without a trailing context
+abbrev pub alone : Meaning → RuleMeaning
+alone meaning = record { means = meaning; slash = None }
+
+-- what stands in a rule before the expression behind the slash, which is a tag
+abbrev pub behind_slash : Meaning → Before
+behind_slash first = record { tags = first.tags ++ slash_tag ∷ []; groups = first.groups }
+
+-- a rule with a trailing context: its expression, which is group 0 where there are groups, the slash, and what stands behind it
+abbrev pub trailing : (is_group : Bool) → (first second : Meaning) → RuleMeaning
+trailing is_group first second = record {
+  means = record {
+    shape = row (in_whole is_group (whole first.shape) ∷ tag (length first.tags) ∷ whole second.shape ∷ []);
+    size = first.size + 1 + second.size;
+    nesting = max first.nesting second.nesting;
+    tags = (first.tags ++ slash_tag ∷ []) ++ second.tags;
+    groups = if is_group then kept (suc (first.groups + second.groups)) else 0;
+    count = second.count;
+  };
+  slash = Some (length first.tags);
+}
+
 -- what `*` means
 abbrev pub any_meaning : Meaning
 any_meaning = record { shape = one any_unit; size = 1; nesting = 0; tags = []; groups = 0; count = 0 }
+
+-- what stands in the place of an expression of `$`, which has none; no scanner counts it
+abbrev pub end_meaning : Meaning
+end_meaning = record { shape = one empty; size = 1; nesting = 0; tags = []; groups = 0; count = 0 }
 
 -- the heads of rules: `*`, `$`, or an expression
 pub data HeadSort : Type 0 where
@@ -116,8 +164,7 @@ module _ (options : Options) (lexemes : List Lexeme) where
   -- the checks of a head
   abbrev pub HeadChecks : State → HeadSort → (conds : List (List ℕ)) → (head : ℕ) → (slash : Option ℕ) → (until : ℕ) → Check
   HeadChecks state any conds head slash until = Finds (twice (lexeme_at head).at (first_of is_default conds state.rules))
-  HeadChecks state end conds head slash until =
-      Then (Finds (unsupported (lexeme_at head))) (Finds (twice (lexeme_at head).at (first_of is_end conds state.rules)))
+  HeadChecks state end conds head slash until = Finds (twice (lexeme_at head).at (first_of is_end conds state.rules))
   HeadChecks state expression conds head None until = ExpressionChecks options lexemes state.definitions head until
   HeadChecks state expression conds head (Some slash) until = ContextChecks options lexemes state.definitions head slash until
 
@@ -132,19 +179,27 @@ module _ (options : Options) (lexemes : List Lexeme) where
   ItemChecks state (Define name from until) =
       Then (Finds (twice (lexeme_at name).at (option_map (λ (definition : Definition). definition.at) (definition_of state.definitions (lexeme_at name).text))))
       (ExpressionChecks options lexemes state.definitions from until)
-  ItemChecks state (Configure name value) = Finds (config_fault (lexeme_at name) (lexeme_at value))
+  ItemChecks state (Configure name value) = Finds (config_fault options.enc (lexeme_at name) (lexeme_at value))
   ItemChecks state (Rule first head slash until goes code) =
       Then (ListChecks (first == head) (lexeme_at first).at)
       (Then (HeadChecks state (head_sort (sort_at (lexeme_at head))) (conds_of first head) head slash until) (TargetChecks goes))
   ItemChecks state (Text value) = Finds None
 
-  -- what the head of a rule means; `$` and trailing contexts are not supported yet
-  abbrev pub IsHead : List Definition → HeadSort → (head : ℕ) → (slash : Option ℕ) → (until : ℕ) → Kind → Meaning → Type 0
-  IsHead definitions any head slash until sort meaning = (sort ≡ kind.Default) × (meaning ≡ any_meaning)
-  IsHead definitions end head slash until sort meaning = ⊥
+  -- what the head of a rule means
+  abbrev pub IsHead : List Definition → HeadSort → (head : ℕ) → (slash : Option ℕ) → (until : ℕ) → Kind → RuleMeaning → Type 0
+  IsHead definitions any head slash until sort meaning =
+      (sort ≡ kind.Default) × (meaning ≡ alone (as_rule (are_groups options definitions) any_meaning))
+  IsHead definitions end head slash until sort meaning = (sort ≡ kind.Eof) × (meaning ≡ alone end_meaning)
   IsHead definitions expression head None until sort meaning =
-      (sort ≡ kind.Plain) × ((form : Form) × IsExpression options lexemes head until form × IsMeaning options definitions false nothing form meaning)
-  IsHead definitions expression head (Some slash) until sort meaning = ⊥
+      (sort ≡ kind.Plain)
+      × ((form : Form) × (inner : Meaning) × IsExpression options lexemes head until form × IsMeaning options definitions false nothing form inner
+      × (meaning ≡ alone (as_rule (are_groups options definitions) inner)))
+  IsHead definitions expression head (Some slash) until sort meaning =
+      (sort ≡ kind.Plain)
+      × ((form behind : Form) × (first second : Meaning) × IsExpression options lexemes head slash form
+      × IsExpression options lexemes (suc slash) until behind × IsMeaning options definitions false nothing form first
+      × IsMeaning options definitions false (behind_slash first) behind second
+      × (meaning ≡ trailing (are_groups options definitions) first second))
 
   -- the action of a rule with this number: its target, its text with the braces, and the place of that or of `:=>`
   abbrev pub act_of : (number : ℕ) → (goes code : Option ℕ) → Act
@@ -159,12 +214,13 @@ module _ (options : Options) (lexemes : List Lexeme) where
   act_of number None None = record { number = number; goes = None; code = None; at = (lexeme_at 0).at }
 
   -- the rule with this number, and with a head of this kind and meaning
-  abbrev pub rule_of : (number first head : ℕ) → (goes code : Option ℕ) → Kind → Meaning → RuleOf
+  abbrev pub rule_of : (number first head : ℕ) → (goes code : Option ℕ) → Kind → RuleMeaning → RuleOf
   rule_of number first head goes code sort meaning = record {
     conds = conds_of first head;
     kind = sort;
     at = (lexeme_at head).at;
-    meaning = meaning;
+    meaning = meaning.means;
+    slash = meaning.slash;
     target = option_map (λ place. (lexeme_at place).at) goes;
     act = act_of number goes code;
   }
@@ -177,10 +233,10 @@ module _ (options : Options) (lexemes : List Lexeme) where
       × IsDefined (lexeme_at name).text (lexeme_at name).at meaning definition
       × (after ≡ with_definition state definition)
   IsAfter state (Configure name value) after =
-      (fill : Bool) × (switch_of (lexeme_at value).kind (lexeme_at value).text ≡ Some fill)
-      × (after ≡ with_settings state (with_fill state.settings fill))
+      (setting : Setting) × (setting_of options.enc (lexeme_at name).text (lexeme_at value) ≡ Some setting)
+      × (after ≡ with_settings state (with_setting state.settings setting))
   IsAfter state (Rule first head slash until goes code) after =
-      (sort : Kind) × (meaning : Meaning)
+      (sort : Kind) × (meaning : RuleMeaning)
       × IsHead state.definitions (head_sort (sort_at (lexeme_at head))) head slash until sort meaning
       × (after ≡ with_rule state (rule_of (suc (length state.rules)) first head goes code sort meaning))
   IsAfter state (Text value) after = after ≡ state

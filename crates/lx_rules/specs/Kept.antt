@@ -1,18 +1,20 @@
 -- Rules as the code keeps them.
-use Rattle.std.specs.Prelude.{◌≡◌, ℕ, ◌<◌, ◌≤◌, ◌&&◌, Bool, false, List, [], ◌∷◌, length, Option, Some, None, if◌then◌else◌}
+use Rattle.std.specs.Prelude.{◌≡◌, ℕ, suc, ◌<◌, ◌≤◌, ◌&&◌, Bool, true, false, List, [], ◌∷◌, length, Option, Some, None, IfSome, if◌then◌else◌}
+use Rattle.std.specs.Option.{option_map}
 use Rattle.std.specs.List.{AllZip, list_any}
-use Rattle.lx_base.specs.declared.places.Pos.{Pos}
 use Rattle.lx_regex.specs.Expr.{term_of}
 use Rattle.lx_regex.specs.declared.expr.Expr.{Expr}
+use Rattle.lx_regex.specs.declared.rules.Kind.{Kind}
 use Rattle.lx_exprs.specs.Checks.{is_among}
 use Rattle.lx_exprs.specs.Defined.{Meaning, fits, kept, term_of_meaning, whole_room}
 use Rattle.lx_exprs.specs.FitDefinitions.{FitsKept}
 use Rattle.lx_rules.specs.declared.conditions.Conditions.{Conditions}
+use Rattle.lx_rules.specs.declared.conditions.FirstRule.{FirstRule}
 use Rattle.lx_rules.specs.declared.conditions.Running.{Running}
 use Rattle.lx_rules.specs.declared.kept.KeptRule.{KeptRule}
 use Rattle.lx_rules.specs.Blocks.{conditions_of, nesting_of, not_of_kind, rules_under, size_of, tags_of}
-use Rattle.lx_rules.specs.Conditions.{AreNumbers, cond_names, conds_seen, running_of}
-use Rattle.lx_rules.specs.Items.{is_default, is_end}
+use Rattle.lx_rules.specs.Conditions.{AreNumbers, cond_names, conds_seen, running_of, standing_of}
+use Rattle.lx_rules.specs.Items.{end_meaning, is_default, is_end}
 use Rattle.lx_rules.specs.Rules.{RuleOf}
 
 -- the rules but for `*`, which costs next to nothing, and `$`, which costs nothing
@@ -55,18 +57,25 @@ pub record IsKeptRule (names : List (List ℕ)) (rules : List RuleOf) (held : Ke
   pub size : held.size ≡ kept rule.meaning.size
   pub nesting : held.nesting ≡ kept rule.meaning.nesting
   pub tags : held.tags ≡ rule.meaning.tags
+  pub groups : held.groups ≡ rule.meaning.groups
+  pub count : held.count ≡ kept rule.meaning.count
+  pub few : held.groups ≤ suc held.count
+  pub slash : held.slash ≡ option_map kept rule.slash
+  pub counted : IfSome held.slash (λ number. number ≤ held.count)
+  pub end : is_end rule.kind ≡ true → rule.meaning ≡ end_meaning
   pub expr : IsExprKept (may_stand rules rule) rule.meaning held.expr
-  pub fits : FitsKept held.expr held.size (length held.tags)
+  pub fits : FitsKept 0 held.expr held.size held.count
+
+-- the first rule of a kind under a condition, where the rules are numbered from here on
+abbrev pub first_from : (Kind → Bool) → (number : ℕ) → List RuleOf → (cond : List ℕ) → Option FirstRule
+first_from test number [] cond = None
+first_from test number (rule ∷ rules) cond =
+    if test rule.kind && is_among cond rule.conds then Some (record { number = number; at = rule.at }) else first_from test (suc number) rules cond
 
 -- the rules are kept one by one, and so are their conditions
 pub record AreKept (rules : List RuleOf) (held : List KeptRule) (conditions : Conditions) : Type 0 where
   pub names : cond_names conditions ≡ conditions_of rules
   pub each : AllZip (IsKeptRule (cond_names conditions) rules) held rules
   pub running : (cond : List ℕ) → IsRunning (plain_under cond rules) (running_of conditions cond)
-
--- the place of the first rule `*` that has one of these conditions
-abbrev pub first_kept : (names conds : List (List ℕ)) → List KeptRule → Option Pos
-first_kept names conds [] = None
-first_kept names conds (held ∷ others) =
-    if is_default held.kind && list_any (λ cond. is_among cond conds) (conds_seen names held.conds) then Some held.at
-    else first_kept names conds others
+  pub defaults : (cond : List ℕ) → (standing_of conditions cond).first_default ≡ first_from is_default 1 rules cond
+  pub ends : (cond : List ℕ) → (standing_of conditions cond).first_end ≡ first_from is_end 1 rules cond

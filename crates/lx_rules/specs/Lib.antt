@@ -10,5 +10,6 @@ pub mod Kept
 pub mod Rules
 pub mod Seen
 pub mod FitScanners
+pub mod Spelled
 pub mod Within
 pub mod Likeness

@@ -1,12 +1,12 @@
 //! The conditions of a block, and how far the rules of each go.
 ghost use Rattle.std.specs.Prelude.{◌≡◌, map};
 ghost use Rattle.lx_exprs.specs.Values.{IsRoom};
-ghost use Rattle.lx_rules.specs.Conditions.{wider};
+ghost use Rattle.lx_rules.specs.Conditions.{earlier, wider};
 
 use crate::words::is_among;
 use indexmap::IndexMap;
-use lx_base::Memory;
 use lx_base::limits::{NESTING_LIMIT, SIZE_LIMIT, TAG_LIMIT};
+use lx_base::{Memory, Pos};
 use lx_exprs::values::{Room, sum};
 use std::alloc::Global;
 
@@ -76,6 +76,70 @@ fn wider(room: Room, other: Room) -> Room
     }
 }
 
+/// The first rule of a kind.
+#[derive(Clone, Copy)]
+pub(crate) struct FirstRule {
+    /// Its number, which is its place in the block, from 1.
+    pub number: u32,
+    /// Where its head stands.
+    pub at: Pos,
+}
+
+/// Of two rules the one with the less number.
+fn earlier(one: Option<FirstRule>, other: Option<FirstRule>) -> Option<FirstRule>
+    ensures { result ≡ earlier one other }
+{
+    let Some(first) = one else {
+        return other;
+    };
+    let Some(second) = other else {
+        return one;
+    };
+    if second.number < first.number {
+        other
+    } else {
+        one
+    }
+}
+
+/// How rules stand under a condition.
+#[derive(Clone, Copy)]
+pub(crate) struct Standing {
+    /// How far they go, but for `*` and `$`.
+    pub running: Running,
+    /// The first `*`.
+    pub first_default: Option<FirstRule>,
+    /// The first `$`.
+    pub first_end: Option<FirstRule>,
+}
+
+impl Standing {
+    ghost use Rattle.std.specs.Prelude.{◌≡◌};
+    ghost use Rattle.lx_rules.specs.Conditions.{nothing_stands, standing_with};
+
+    /// There are no rules.
+    pub fn none() -> Standing
+        ensures { result ≡ nothing_stands }
+    {
+        Standing {
+            running: Running::none(),
+            first_default: None,
+            first_end: None,
+        }
+    }
+
+    /// These rules, and others behind them.
+    pub fn with(self, more: Standing) -> Standing
+        ensures { result ≡ standing_with self more }
+    {
+        Standing {
+            running: self.running.with(more.running),
+            first_default: self.first_default.or(more.first_default),
+            first_end: self.first_end.or(more.first_end),
+        }
+    }
+}
+
 /// The conditions of a rule.
 #[derive(Drop)]
 pub(crate) enum Conds {
@@ -88,10 +152,10 @@ pub(crate) enum Conds {
 /// The conditions so far, each with a number: its place in the order in which they first appear, from 0. That of `<*>` has none.
 #[derive(Drop)]
 pub(crate) struct Conditions {
-    /// Their names, and how far the rules of each go, but for `*` and `$`.
-    named: IndexMap<Vec<u8>, Running>,
-    /// How far the rules of `<*>` go, but for `*` and `$`.
-    shared: Running,
+    /// Their names, and how the rules of each stand.
+    named: IndexMap<Vec<u8>, Standing>,
+    /// How the rules of `<*>` stand.
+    shared: Standing,
 }
 
 impl Conditions {
@@ -101,16 +165,16 @@ impl Conditions {
     ghost use Rattle.lx_exprs.specs.Checks.{is_among};
     ghost use Rattle.lx_exprs.specs.Values.{IsRoom};
     ghost use Rattle.lx_rules.specs.Blocks.{add_conds, every};
-    ghost use Rattle.lx_rules.specs.Conditions.{AreConds, AreNumbers, cond_names, conds_seen, nothing_runs, room_under, running_of, running_with};
+    ghost use Rattle.lx_rules.specs.Conditions.{AreConds, AreNumbers, cond_names, conds_seen, earliest_default, earliest_end, nothing_stands, room_under, standing_of, standing_with};
 
     /// No conditions. It takes no memory.
     pub fn new(alloc: Global) -> Conditions
         ensures names { cond_names result ≡ [] }
-        ensures running { (cond : List ℕ) → running_of result cond ≡ nothing_runs }
+        ensures standing { (cond : List ℕ) → standing_of result cond ≡ nothing_stands }
     {
         Conditions {
             named: IndexMap::new(alloc),
-            shared: Running::none(),
+            shared: Standing::none(),
         }
     }
 
@@ -138,17 +202,39 @@ impl Conditions {
         }
     }
 
-    /// How far the rules of a condition go.
-    fn running(&self, name: &[u8]) -> Running
-        ensures { result ≡ running_of self.now name.now }
+    /// How the rules of a condition stand.
+    fn standing(&self, name: &[u8]) -> Standing
+        ensures { result ≡ standing_of self.now name.now }
     {
         if name == b"*".as_slice() {
             return self.shared;
         }
         match self.named.get(name) {
-            Some(running) => *running,
-            None => Running::none(),
+            Some(standing) => *standing,
+            None => Standing::none(),
         }
+    }
+
+    /// The first rule `*` that has one of some conditions.
+    pub fn first_default(&self, conds: &[&[u8]]) -> Option<FirstRule>
+        ensures { result ≡ earliest_default self.now (map (λ cond. cond.now) conds.now) }
+    {
+        let mut first = None;
+        for cond in conds {
+            first = earlier(first, self.standing(cond).first_default);
+        }
+        first
+    }
+
+    /// The first rule `$` that has one of some conditions.
+    pub fn first_end(&self, conds: &[&[u8]]) -> Option<FirstRule>
+        ensures { result ≡ earliest_end self.now (map (λ cond. cond.now) conds.now) }
+    {
+        let mut first = None;
+        for cond in conds {
+            first = earlier(first, self.standing(cond).first_end);
+        }
+        first
     }
 
     /// The greatest room that one of some conditions has for a rule.
@@ -158,7 +244,7 @@ impl Conditions {
     {
         let mut room = Room { size: 0, tags: 0 };
         for cond in conds {
-            room = wider(room, self.running(cond).room());
+            room = wider(room, self.standing(cond).running.room());
         }
         room
     }
@@ -192,40 +278,40 @@ impl Conditions {
         self.share(rule, &[cond])
     }
 
-    /// Counts a rule that goes so far for a condition, which is appended where it is new. Gives the number of the condition.
-    fn count(&mut self, alloc: Global, cond: &[u8], rule: Running) -> Result<usize, Memory>
+    /// Counts a rule that stands so for a condition, which is appended where it is new. Gives the number of the condition.
+    fn count(&mut self, alloc: Global, cond: &[u8], rule: Standing) -> Result<usize, Memory>
         requires { bytes_eq cond.now every ≡ false }
         ensures names { OnOk result (cond_names self.new ≡ add_conds (cond.now ∷ []) (cond_names self.old)) }
         ensures number { IfOk result (λ number. slice_index_or (cond_names self.new) number [] ≡ cond.now) }
         ensures within { IfOk result (λ number. number < length (cond_names self.new)) }
-        ensures running { OnOk result ((other : List ℕ) → running_of self.new other
-            ≡ (if bytes_eq other cond.now then running_with (running_of self.old other) rule else running_of self.old other)) }
+        ensures standing { OnOk result ((other : List ℕ) → standing_of self.new other
+            ≡ (if bytes_eq other cond.now then standing_with (standing_of self.old other) rule else standing_of self.old other)) }
     {
-        let running = self.running(cond).with(rule);
+        let standing = self.standing(cond).with(rule);
         let name = Vec::from_slice(alloc, cond)?;
-        let (number, _) = self.named.insert_full(name, running)?;
+        let (number, _) = self.named.insert_full(name, standing)?;
         Ok(number)
     }
 
-    /// Counts a rule that goes so far for each of some conditions, and appends those that are new. Gives their numbers.
+    /// Counts a rule that stands so for each of some conditions, and appends those that are new. Gives their numbers.
     fn count_each(
         &mut self,
         alloc: Global,
         conds: &[&[u8]],
-        rule: Running,
+        rule: Standing,
     ) -> Result<Vec<usize>, Memory>
         requires { is_among every (map (λ cond. cond.now) conds.now) ≡ false }
         ensures names { OnOk result (cond_names self.new ≡ add_conds (map (λ cond. cond.now) conds.now) (cond_names self.old)) }
         ensures numbers { IfOk result (λ numbers. map (λ number. slice_index_or (cond_names self.new) number []) numbers.items ≡ map (λ cond. cond.now) conds.now) }
         ensures within { IfOk result (λ numbers. AllByRecursion (λ number. number < length (cond_names self.new)) numbers.items) }
-        ensures running { OnOk result ((cond : List ℕ) → running_of self.new cond
-            ≡ (if is_among cond (map (λ one. one.now) conds.now) then running_with (running_of self.old cond) rule else running_of self.old cond)) }
+        ensures standing { OnOk result ((cond : List ℕ) → standing_of self.new cond
+            ≡ (if is_among cond (map (λ one. one.now) conds.now) then standing_with (standing_of self.old cond) rule else standing_of self.old cond)) }
     {
         let mut numbers = Vec::new(alloc);
         for place in 0..conds.len() {
             let cond = conds[place];
             let more = if is_among(cond, &conds[..place]) {
-                Running::none()
+                Standing::none()
             } else {
                 rule
             };
@@ -234,14 +320,14 @@ impl Conditions {
         Ok(numbers)
     }
 
-    /// Takes up a rule of some conditions that goes so far: counts it for each, once, and appends those that are new.
-    pub fn enter(&mut self, alloc: Global, conds: &[&[u8]], rule: Running) -> Result<Conds, Memory>
+    /// Takes up a rule of some conditions that stands so: counts it for each, once, and appends those that are new.
+    pub fn enter(&mut self, alloc: Global, conds: &[&[u8]], rule: Standing) -> Result<Conds, Memory>
         requires { AreConds (map (λ cond. cond.now) conds.now) }
         ensures names { OnOk result (cond_names self.new ≡ add_conds (map (λ cond. cond.now) conds.now) (cond_names self.old)) }
         ensures conds { IfOk result (λ listed. conds_seen (cond_names self.new) listed ≡ map (λ cond. cond.now) conds.now) }
         ensures within { IfOk result (λ listed. AreNumbers (length (cond_names self.new)) listed) }
-        ensures running { OnOk result ((cond : List ℕ) → running_of self.new cond
-            ≡ (if is_among cond (map (λ one. one.now) conds.now) then running_with (running_of self.old cond) rule else running_of self.old cond)) }
+        ensures standing { OnOk result ((cond : List ℕ) → standing_of self.new cond
+            ≡ (if is_among cond (map (λ one. one.now) conds.now) then standing_with (standing_of self.old cond) rule else standing_of self.old cond)) }
     {
         if is_among(b"*", conds) {
             self.shared = self.shared.with(rule);

@@ -1,5 +1,6 @@
 //! The rules of a scanner, as copies of those that are kept.
-ghost use Rattle.std.specs.Prelude.{◌≡◌, IfOk, map};
+ghost use Rattle.std.specs.Prelude.{◌≡◌, ◌≤◌, IfOk, IfSome, map};
+ghost use Rattle.lx_base.specs.declared.limits.TheConstants.{TAG_LIMIT};
 ghost use Rattle.std.specs.List.{AllByRecursion, AllZip};
 ghost use Rattle.lx_rules.specs.Finishing.{IsBuilt, IsCopyOf};
 
@@ -33,7 +34,18 @@ fn tag_copies(alloc: Global, tags: &SharedTags) -> Result<Sequence<Tag>, Memory>
     copies_of(alloc, held.tags())
 }
 
-/// The rule of a scanner, without groups and trailing context.
+/// The number of the tag of a trailing context.
+fn number_of(slash: Option<u64>) -> Option<u32>
+    requires { IfSome slash (λ number. number ≤ TAG_LIMIT) }
+    ensures { result ≡ slash }
+{
+    match slash {
+        Some(number) => Some(number as u32),
+        None => None,
+    }
+}
+
+/// The rule of a scanner.
 fn rule_copy(alloc: Global, held: &KeptRule) -> Result<Rule, Memory>
     requires { IsBuilt held.now }
     ensures { IfOk result (IsCopyOf held.now) }
@@ -46,8 +58,8 @@ fn rule_copy(alloc: Global, held: &KeptRule) -> Result<Rule, Memory>
         kind: held.kind,
         expr: copy(alloc, expr, 0, 0)?,
         tags: tag_copies(alloc, &held.tags)?,
-        slash: None,
-        groups: 0,
+        slash: number_of(held.slash),
+        groups: held.groups as u32,
     })
 }
 

@@ -1,9 +1,8 @@
 //! What a block resolves to, by what is known behind its items.
-ghost use Rattle.std.specs.Prelude.{◌≡◌, ◌↔◌, ◌≤◌, IsTrue, List, MatchResult, None, length};
+ghost use Rattle.std.specs.Prelude.{◌≡◌, ◌↔◌, ◌≤◌, IsTrue, List, MatchResult, None, is_some, length};
 ghost use Rattle.std.specs.List.{AllByRecursion, AllZip};
 ghost use Rattle.lx_base.specs.declared.limits.TheConstants.{SOURCE_LIMIT};
-ghost use Rattle.lx_base.specs.Names.{IsTagName};
-ghost use Rattle.lx_rules.specs.Blocks.{ScannerChecks, SpellingsDiffer, conditions_of, lonely_fault, target_fault};
+ghost use Rattle.lx_rules.specs.Blocks.{MayBeNamed, ScannerChecks, SpellingsDiffer, conditions_of, lonely_fault, target_fault};
 ghost use Rattle.lx_rules.specs.Conditions.{cond_names};
 ghost use Rattle.lx_rules.specs.Environments.{config_of};
 ghost use Rattle.lx_rules.specs.Finishing.{IsFinished, IsBuiltScanner, WholeChecks, kept_targets_fault};
@@ -12,7 +11,6 @@ ghost use Rattle.lx_rules.specs.Keeping.{Holds};
 ghost use Rattle.lx_rules.specs.Rules.{RuleOf};
 ghost use Rattle.lx_rules.specs.declared.kept.KeptRule.{KeptRule as kept_rule};
 ghost use Rattle.lx_exprs.specs.Checks.{StopsAt};
-ghost use Rattle.lx_regex.specs.declared.rules.Tag.{Tag as tag_type};
 
 use crate::conditions::Conditions;
 use crate::environment::Env;
@@ -21,7 +19,7 @@ use crate::kept::KeptRule;
 use crate::resolved::{Act, Config, Resolved, Scanner};
 use crate::scanners::scanners;
 use lx_base::names::{do_not_clash, is_tag_name, name_primitives};
-use lx_base::{Fault, Names, Options, Pos, Sequence, Stop, usual_names};
+use lx_base::{Fault, Names, Options, Pos, Sequence, Stop};
 use lx_exprs::tags::SharedTags;
 use lx_regex::Tag;
 use std::alloc::Global;
@@ -33,12 +31,20 @@ fn spellings_differ(names: &Names, custom: bool) -> bool
     do_not_clash(names) && !(custom && name_primitives(names))
 }
 
+/// Whether a tag has a name that it may have beside the spellings; that of a slash has none.
+fn may_be_named(names: &Names, has_slash: bool, tag: &Tag) -> bool
+    ensures { IsTrue result ↔ MayBeNamed names.now has_slash tag.now }
+{
+    let name = tag.name.as_slice();
+    has_slash && name.is_empty() || is_tag_name(names, name)
+}
+
 /// Whether each of some tags has a name that it may have beside the spellings.
-fn are_tag_names(names: &Names, tags: &[Tag]) -> bool
-    ensures { IsTrue result ↔ AllByRecursion (λ (tag : tag_type). IsTagName names.now tag.name) tags.now }
+fn are_tag_names(names: &Names, has_slash: bool, tags: &[Tag]) -> bool
+    ensures { IsTrue result ↔ AllByRecursion (MayBeNamed names.now has_slash) tags.now }
 {
     for tag in tags {
-        if !is_tag_name(names, tag.name.as_slice()) {
+        if !may_be_named(names, has_slash, tag) {
             return false;
         }
     }
@@ -46,12 +52,12 @@ fn are_tag_names(names: &Names, tags: &[Tag]) -> bool
 }
 
 /// Whether each of all tags of a rule has a name that it may have beside the spellings.
-fn are_all_tag_names(names: &Names, tags: &SharedTags) -> bool
-    ensures { IsTrue result ↔ AllByRecursion (λ (tag : tag_type). IsTagName names.now tag.name) tags.now }
+fn are_all_tag_names(names: &Names, has_slash: bool, tags: &SharedTags) -> bool
+    ensures { IsTrue result ↔ AllByRecursion (MayBeNamed names.now has_slash) tags.now }
 {
     let segments = tags.segments();
     for segment in segments {
-        if !are_tag_names(names, segment.tags()) {
+        if !are_tag_names(names, has_slash, segment.tags()) {
             return false;
         }
     }
@@ -60,10 +66,10 @@ fn are_all_tag_names(names: &Names, tags: &SharedTags) -> bool
 
 /// Whether each tag of each rule has a name that it may have beside the spellings.
 fn have_tag_names(names: &Names, rules: &[KeptRule]) -> bool
-    ensures { IsTrue result ↔ AllByRecursion (λ (one : kept_rule). AllByRecursion (λ (tag : tag_type). IsTagName names.now tag.name) one.tags) rules.now }
+    ensures { IsTrue result ↔ AllByRecursion (λ (one : kept_rule). AllByRecursion (MayBeNamed names.now (is_some one.slash)) one.tags) rules.now }
 {
     for rule in rules {
-        if !are_all_tag_names(names, &rule.tags) {
+        if !are_all_tag_names(names, rule.slash.is_some(), &rule.tags) {
             return false;
         }
     }
@@ -107,7 +113,7 @@ fn targets_fault(known: &Known) -> Option<Fault>
 /// Whether the spellings differ, and each tag has a name that it may have beside them.
 fn names_differ(known: &Known, names: &Names, custom: bool) -> bool
     ensures { IsTrue result ↔ (SpellingsDiffer custom names.now
-        × AllByRecursion (λ (one : kept_rule). AllByRecursion (λ (tag : tag_type). IsTagName names.now tag.name) one.tags) known.now.rules.items) }
+        × AllByRecursion (λ (one : kept_rule). AllByRecursion (MayBeNamed names.now (is_some one.slash)) one.tags) known.now.rules.items) }
 {
     spellings_differ(names, custom) && have_tag_names(names, known.rules.as_slice())
 }
@@ -146,7 +152,7 @@ fn checked_scanners(
     requires { (state : State) × Holds known.now state }
     ensures { (state : State) → Holds known.now state → names.now ≡ (config_of state.settings).names → MatchResult result
         (λ scanners. WholeChecks options.now.custom at state None
-        × AllZip (IsBuiltScanner options.now.conds at state.rules) (conditions_of state.rules) scanners)
+        × AllZip (IsBuiltScanner options.now.conds at (config_of state.settings).eof state.rules) (conditions_of state.rules) scanners)
         (StopsAt (ScannerChecks options.now.custom at state)) }
 {
     if let Some(fault) = whole_fault(known, names, options.custom, at) {
@@ -168,18 +174,15 @@ pub(crate) fn finish(
         (IsFinished options.now.conds options.now.custom at state)
         (StopsAt (ScannerChecks options.now.custom at state)) }
 {
-    let names = usual_names(alloc)?;
+    let names = known.env.names(alloc)?;
     let scanners = checked_scanners(alloc, &known, &names, options, at)?;
+    let eof = known.eof();
     let Known { env, acts, .. } = known;
     let fill = env.settings.fill.unwrap_or(true);
     let resolved = Resolved {
         scanners,
         acts: Sequence::from_vec(acts),
-        config: Config {
-            names,
-            eof: None,
-            fill,
-        },
+        config: Config { names, eof, fill },
     };
     Ok((env, resolved))
 }

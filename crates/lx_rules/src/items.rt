@@ -7,7 +7,7 @@ use crate::conditions::Conditions;
 use crate::configurations::read_config;
 use crate::environment::Env;
 use crate::heads::{Head, read_head};
-use crate::kept::{KeptRule, is_default};
+use crate::kept::KeptRule;
 use crate::resolved::Act;
 use lx_base::limits::{SIZE_LIMIT, TAG_LIMIT};
 use lx_base::{Fault, Memory, Options, Pos, Stop};
@@ -39,20 +39,19 @@ pub(crate) struct Known {
 }
 
 impl Known {
-    ghost use Rattle.std.specs.Prelude.{length, ◌≡◌, ◌&&◌, MatchResult, OnOk, ◌<◌, ◌≤◌, map, suc};
-    ghost use Rattle.std.specs.List.{list_any};
+    ghost use Rattle.std.specs.Prelude.{length, ◌≡◌, MatchResult, OnOk, ◌<◌, ◌≤◌, map, suc};
     ghost use Rattle.lx_parse.specs.Expressions.{alt};
     ghost use Rattle.lx_parse.specs.Ranges.{IsPart, HasExpressions};
     ghost use Rattle.lx_parse.specs.declared.items.Item.TheVariants as item;
-    ghost use Rattle.lx_rules.specs.Conditions.{AreConds, cond_names, conds_seen};
-    ghost use Rattle.lx_rules.specs.Items.{State, ItemChecks, first_state, is_default, with_rule};
+    ghost use Rattle.lx_rules.specs.Conditions.{AreConds};
+    ghost use Rattle.lx_rules.specs.Items.{State, ItemChecks, first_of, first_state, is_default, is_end, with_rule};
     ghost use Rattle.lx_rules.specs.Rules.{RuleOf};
     ghost use Rattle.lx_rules.specs.Keeping.{Holds, IsTaken, IsNew};
-    ghost use Rattle.lx_rules.specs.Kept.{first_kept};
-    ghost use Rattle.lx_exprs.specs.Checks.{StopsAt, is_among};
+    ghost use Rattle.lx_exprs.specs.Checks.{StopsAt};
     ghost use Rattle.lx_forms.specs.Lexemes.{sorts_at};
     ghost use Rattle.lx_forms.specs.Seen.{lexemes_view};
-    ghost use Rattle.lx_rules.specs.Seen.{environment_view};
+    ghost use Rattle.lx_rules.specs.Environments.{config_of};
+    ghost use Rattle.lx_rules.specs.Seen.{environment_view, settings_view};
     ghost use Rattle.lx_rules.specs.FitScanners.{HasFitDefinitions};
     ghost use Rattle.lx_base.specs.declared.blocks.BlockKind.TheVariants.{Code};
 
@@ -69,24 +68,31 @@ impl Known {
         }
     }
 
-    /// Whether a rule is `*` and has one of some conditions.
-    fn is_default_of(&self, rule: &KeptRule, conds: &[&[u8]]) -> bool
-        ensures { result ≡ (is_default rule.now.kind && list_any (λ cond. is_among cond (map (λ one. one.now) conds.now)) (conds_seen (cond_names self.now.conds) rule.now.conds)) }
+    /// The code unit that stands at the end of the input, if there is one.
+    pub fn eof(&self) -> Option<u32>
+        ensures { result ≡ (config_of (settings_view self.now.env.settings)).eof }
     {
-        is_default(rule.kind) && self.conds.share(&rule.conds, conds)
+        self.env.settings.eof.unwrap_or(None)
     }
 
     /// The place of the first rule `*` that has one of some conditions.
     pub fn first_default(&self, conds: &[&[u8]]) -> Option<Pos>
-        ensures { result ≡ first_kept (cond_names self.now.conds) (map (λ cond. cond.now) conds.now) self.now.rules.items }
+        ensures { (state : State) → Holds self.now state → result ≡ first_of is_default (map (λ cond. cond.now) conds.now) state.rules }
     {
-        let rules = self.rules.as_slice();
-        for rule in rules {
-            if self.is_default_of(rule, conds) {
-                return Some(rule.at);
-            }
+        match self.conds.first_default(conds) {
+            Some(rule) => Some(rule.at),
+            None => None,
         }
-        None
+    }
+
+    /// The place of the first rule `$` that has one of some conditions.
+    pub fn first_end(&self, conds: &[&[u8]]) -> Option<Pos>
+        ensures { (state : State) → Holds self.now state → result ≡ first_of is_end (map (λ cond. cond.now) conds.now) state.rules }
+    {
+        match self.conds.first_end(conds) {
+            Some(rule) => Some(rule.at),
+            None => None,
+        }
     }
 
     /// Takes a definition.
@@ -150,7 +156,8 @@ impl Known {
     {
         let name = block.lexemes.at(name as usize);
         let value = block.lexemes.at(value as usize);
-        self.env.settings.fill = Some(read_config(alloc, &name, &value)?);
+        let setting = read_config(alloc, block.options.enc, &name, &value)?;
+        self.env.settings.set(setting)?;
         Ok(())
     }
 
@@ -168,7 +175,8 @@ impl Known {
         ensures added { (state : State) (rule : RuleOf) → Holds self.old state → IsNew self.old (map (λ cond. cond.now) conds.now) head at act rule
             → OnOk result (Holds self.new (with_rule state rule)) }
     {
-        let listed = self.conds.enter(alloc, conds, head.counted())?;
+        let standing = head.standing(act.number, at);
+        let listed = self.conds.enter(alloc, conds, standing)?;
         let rule = head.into_rule(alloc, act.number, listed, at);
         self.rules.push(rule)?;
         self.acts.push(act)?;

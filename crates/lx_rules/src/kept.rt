@@ -25,6 +25,12 @@ pub(crate) struct KeptRule {
     pub nesting: u64,
     /// Its tags, in order. They are shared with definitions that have these of it.
     pub tags: SharedTags,
+    /// How many groups it has, the whole match among them; 2^40 stands for itself and for more.
+    pub groups: u64,
+    /// How many tags it has, two for each group but the whole match; 2^40 stands for itself and for more.
+    pub count: u64,
+    /// The number of the tag of its trailing context, if it has one; 2^40 stands for itself and for more.
+    pub slash: Option<u64>,
     /// Its expression. There is none where the rules of each of its conditions are past a limit.
     pub expr: Option<Expr>,
 }
@@ -40,7 +46,7 @@ impl KeptRule {
         Running {
             size: self.size,
             nesting: self.nesting,
-            tags: self.tags.len(),
+            tags: self.count,
         }
     }
 }

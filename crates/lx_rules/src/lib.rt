@@ -13,12 +13,14 @@ mod kept;
 mod laws;
 pub mod resolved;
 pub mod resolving;
+mod rule_exprs;
 mod scanners;
 mod words;
 
 pub use environment::Env;
 pub use laws::{
-    blocks_resolve_in_one_way, blocks_resolve_or_have_a_fault, environments_stay_buildable,
+    blocks_have_spellings_of_scanners, blocks_resolve_in_one_way, blocks_resolve_or_have_a_fault,
+    environments_stay_buildable,
 };
 pub use resolved::{Act, Config, Resolved, Scanner};
 pub use resolving::resolve;

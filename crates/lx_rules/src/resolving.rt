@@ -51,8 +51,8 @@ pub fn resolve(
     requires tree { IsBody (form_of kind) (sorts_of kind body.now tokens.now) tree.now.items }
     requires fit { HasFitDefinitions env }
     ensures fit { IfOk result (λ answer. HasFitDefinitions answer.0 × FitsLimits answer.1) }
-    ensures within { AreDefinedWithin options.now.enc (environment_view env).definitions
-        → IfOk result (λ answer. AreDefinedWithin options.now.enc (environment_view answer.0).definitions
+    ensures within { AreDefinedWithin options.now (environment_view env).definitions
+        → IfOk result (λ answer. AreDefinedWithin options.now (environment_view answer.0).definitions
         × AllByRecursion (IsScannerWithin options.now.enc) answer.1.scanners) }
     ensures resolves { let lexemes = lexemes_of body.now tokens.now in
         MatchResult result

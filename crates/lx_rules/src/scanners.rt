@@ -2,9 +2,10 @@
 ghost use Rattle.std.specs.Prelude.{◌≡◌, ◌++◌, IfOk, MatchResult, length, map, not};
 ghost use Rattle.std.specs.List.{AllZip, list_any};
 ghost use Rattle.lx_exprs.specs.Checks.{Finds, StopsAt};
-ghost use Rattle.lx_rules.specs.Blocks.{cond_name, conditions_of, rules_of, scanner_fault, scanners_fault};
+ghost use Rattle.lx_rules.specs.Blocks.{cond_name, conditions_of, pair_fault, rules_of, scanner_fault, scanners_fault};
 ghost use Rattle.lx_rules.specs.Conditions.{cond_names, nothing_runs};
 ghost use Rattle.lx_rules.specs.Finishing.{IsBuiltScanner, kept_defaults, kept_fault, kept_in_order, kept_others, kept_rules_of, kept_under, running_fault, running_over};
+ghost use Rattle.lx_rules.specs.Environments.{config_of};
 ghost use Rattle.lx_rules.specs.Items.{State, is_default, is_end};
 ghost use Rattle.lx_rules.specs.Keeping.{Holds};
 ghost use Rattle.lx_rules.specs.declared.kept.KeptRule.{KeptRule as kept_rule};
@@ -162,15 +163,25 @@ fn running_fault(running: Running, at: Pos) -> Option<Fault>
     None
 }
 
+/// The fault of a scanner that has `$` without a code unit at the end, or the unit without `$`; at the opener of the block.
+fn pair_fault(eof: Option<u32>, has_end: bool, at: Pos) -> Option<Fault>
+    ensures { result ≡ pair_fault at eof has_end }
+{
+    if eof.is_some() != has_end {
+        return Some(Fault::EofPair { at });
+    }
+    None
+}
+
 /// The fault of a scanner with these rules, if there is one; at the opener of the block.
-fn scanner_fault(rules: &[&KeptRule], at: Pos) -> Option<Fault>
-    ensures { result ≡ kept_fault at (map (λ one. one.now) rules.now) }
+fn scanner_fault(rules: &[&KeptRule], eof: Option<u32>, at: Pos) -> Option<Fault>
+    ensures { result ≡ kept_fault at eof (map (λ one. one.now) rules.now) }
 {
     if !any_other(rules) {
         return Some(Fault::NoRules { at });
     }
-    if any_end(rules) {
-        return Some(Fault::EofPair { at });
+    if let Some(fault) = pair_fault(eof, any_end(rules), at) {
+        return Some(fault);
     }
     running_fault(running(rules), at)
 }
@@ -190,11 +201,11 @@ fn cond_name(alloc: Global, named: bool, cond: &[u8]) -> Result<Option<ByteText>
 fn scanner(alloc: Global, known: &Known, named: bool, cond: &[u8], at: Pos) -> Result<Scanner, Stop>
     requires { (state : State) × Holds known.now state }
     ensures { (state : State) → Holds known.now state → MatchResult result
-        (IsBuiltScanner named at state.rules cond.now)
-        (StopsAt (Finds (scanner_fault at (rules_of cond.now state.rules)))) }
+        (IsBuiltScanner named at (config_of state.settings).eof state.rules cond.now)
+        (StopsAt (Finds (scanner_fault at (config_of state.settings).eof (rules_of cond.now state.rules)))) }
 {
     let held = rules_of(alloc, known, cond)?;
-    if let Some(fault) = scanner_fault(&held, at) {
+    if let Some(fault) = scanner_fault(&held, known.eof(), at) {
         return Err(Stop::Fault(fault));
     }
     let rules = rule_copies(alloc, &held)?;
@@ -215,8 +226,8 @@ pub(crate) fn scanners(
 ) -> Result<Sequence<Scanner>, Stop>
     requires { (state : State) × Holds known.now state }
     ensures { (state : State) → Holds known.now state → MatchResult result
-        (AllZip (IsBuiltScanner named at state.rules) (conditions_of state.rules))
-        (StopsAt (Finds (scanners_fault at state.rules (conditions_of state.rules)))) }
+        (AllZip (IsBuiltScanner named at (config_of state.settings).eof state.rules) (conditions_of state.rules))
+        (StopsAt (Finds (scanners_fault at (config_of state.settings).eof state.rules (conditions_of state.rules)))) }
 {
     let mut scanners = Sequence::new(alloc);
     for number in 0..known.conds.len() {

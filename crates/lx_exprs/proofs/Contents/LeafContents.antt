@@ -28,14 +28,14 @@ string_term-many (set ∷ []) many = absurd (omega (arith, many))
 string_term-many (set ∷ next ∷ sets) many = refl
 
 -- which has no tags
-pub set_terms-below : (bound : ℕ) (sets : List (List Range)) → HaveTagsBelow bound (members_of (map set_term sets))
+pub set_terms-below : (bound : ℕ) (sets : List (List Range)) → HaveTagsBelow 1 bound (members_of (map set_term sets))
 set_terms-below bound [] = tt
 set_terms-below bound (set ∷ sets) = (tt, set_terms-below bound sets)
 
 -- what is kept of a definition counts
-pub size-some : (expr : Option Expr) (size count : ℕ) → FitsKept expr size count → 1 ≤ size
-size-some None size count fits = fits
-size-some (Some expr) size count fits = fits.0
+pub size-some : (first : ℕ) (expr : Option Expr) (size count : ℕ) → FitsKept first expr size count → 1 ≤ size
+size-some first None size count fits = fits
+size-some first (Some expr) size count fits = fits.0
 
 -- what is past the limits of a scanner fits into no room
 module _ (room : Room) (is_room : IsRoom room) (size nesting count : ℕ) where

@@ -1,5 +1,6 @@
 -- Tokens of each kind, as they are read behind the tags before them.
-use Rattle.std.proofs.Common.{◌≡◌, ℕ, Bool, true, false, List, [], ◌++◌, Option, None, Some, inl, Result, MatchResult, refl, subst, sym}
+use Rattle.std.proofs.Common.{◌≡◌, ℕ, Bool, true, false, List, [], ◌∷◌, ◌++◌, Option, None, Some, inl, Result, MatchResult, refl, subst, sym}
+use Rattle.std.specs.Prelude.{if◌then◌else◌}
 use Rattle.std.proofs.lemmas.List.{append-nil}
 use Rattle.std.proofs.lemmas.Result.{MatchResult-weaker}
 use Rattle.lx_base.specs.declared.faults.Fault.{Fault}
@@ -12,12 +13,12 @@ use Rattle.lx_token.specs.declared.kinds.TokenKind.{TokenKind}
 use Rattle.lx_token.specs.declared.kinds.TokenKind.TheVariants as kind
 use Rattle.lx_exprs.specs.declared.values.Room.{Room}
 use Rattle.lx_exprs.specs.declared.values.Value.{Value}
-use Rattle.lx_exprs.specs.Checks.{IsFilled, LeafChecks, LeafHas, PointsAre, StopsAt, class_ranges, is_tag_among, tag_fault, tag_name}
+use Rattle.lx_exprs.specs.Checks.{IsFilled, LeafChecks, LeafHas, PointsAre, StopsAt, class_ranges, is_tag_among, tag_fault, tag_name, tag_of}
 use Rattle.lx_exprs.specs.Defined.{Before, Definition, Meaning, count_of}
 use Rattle.lx_regex.specs.declared.rules.Tag.{Tag}
 use Rattle.lx_forms.specs.Lexemes.{Lexeme, points_in}
 use Rattle.lx_exprs.specs.Points.{singles}
-use Rattle.lx_exprs.specs.Meanings.{IsLeafMeaning, IsSetOf, class_meaning, meaning_of_string}
+use Rattle.lx_exprs.specs.Meanings.{IsLeafMeaning, IsSetOf, class_meaning, meaning_of_string, tag_meaning}
 use Rattle.lx_exprs.specs.Reading.{IsLeafRead}
 use Rattle.lx_exprs.specs.Values.{IsValue}
 use Rattle.lx_exprs.proofs.Forms.ClassForms.{filled-same}
@@ -103,3 +104,12 @@ module _ (options : Options) (definitions : List Definition) (room : Room) (oper
   pub tag_fault-none : (many : Bool) → options.tags ≡ true → is_tag_among (tag_name lexeme) before.tags ≡ false
       → None ≡ tag_fault options definitions many lexeme before.tags
   tag_fault-none many allowed new = rw (allowed, new) refl
+
+  -- the token of a tag is read
+  pub tag-read : (many : Bool) → lexeme.kind ≡ (if many then kind.MTag else kind.STag) → None ≡ tag_fault options definitions many lexeme before.tags
+      → (after : List Tag) → after ≡ before.tags ++ tag_of many lexeme ∷ [] → (value : Value)
+      → IsValue room (tag_meaning before (tag_of many lexeme)) value → IsLeafRead options definitions room operand before lexeme after value
+  tag-read true same checked after seen value stands =
+      kind-read kind.MTag same checked (tag_meaning before (tag_of true lexeme)) refl after seen value stands
+  tag-read false same checked after seen value stands =
+      kind-read kind.STag same checked (tag_meaning before (tag_of false lexeme)) refl after seen value stands

@@ -1,5 +1,5 @@
 -- Copies of expressions, form by form.
-use Rattle.std.proofs.Common.{◌≡◌, ℕ, zero, suc, ◌+◌, ◌*◌, ◌<◌, ◌≤◌, arith, Bool, false, List, [], ◌∷◌, ◌++◌, map, take, get_or, length, Vec, Box, Global, Option, refl, sym, ap, ap₂, ◌∙◌, subst}
+use Rattle.std.proofs.Common.{◌≡◌, ℕ, zero, suc, ◌+◌, ◌*◌, ◌<◌, ◌≤◌, ◌⊎◌, inl, inr, arith, Bool, false, List, [], ◌∷◌, ◌++◌, map, take, get_or, length, Vec, Box, Global, Option, refl, sym, ap, ap₂, ◌∙◌, subst}
 use Rattle.std.proofs.Math.Seq.{take-suc}
 use Rattle.std.proofs.lemmas.List.{map-append}
 use Rattle.std.specs.Prelude.{◌==◌, if◌then◌else◌}
@@ -29,11 +29,11 @@ shifted_all-members by groups [] = refl
 shifted_all-members by groups (member ∷ members) =
     ap (cons (shifted by groups (term_of 0 member))) (shifted_all-members by groups members)
 
-pub member_below : (bound i : ℕ) (members : List Expr) (item : Expr) → HaveTagsBelow bound (members_of (map (term_of 0) members)) → i < length members
-    → item ≡ get_or members i item → HasTagsBelow bound (term_of 0 item)
-member_below bound i [] item below lt is = absurd (omega (arith, lt))
-member_below bound zero (member ∷ members) item below lt is = subst (λ e. HasTagsBelow bound (term_of 0 e)) (sym is) below.0
-member_below bound (suc i) (member ∷ members) item below lt is = member_below bound i members item below.1 (omega (arith, lt)) is
+pub member_below : (first bound i : ℕ) (members : List Expr) (item : Expr) → HaveTagsBelow first bound (members_of (map (term_of 0) members)) → i < length members
+    → item ≡ get_or members i item → HasTagsBelow first bound (term_of 0 item)
+member_below first bound i [] item below lt is = absurd (omega (arith, lt))
+member_below first bound zero (one ∷ members) item below lt is = subst (λ e. HasTagsBelow first bound (term_of 0 e)) (sym is) below.0
+member_below first bound (suc i) (one ∷ members) item below lt is = member_below first bound i members item below.1 (omega (arith, lt)) is
 
 -- expressions that hold copies in the same way are copies
 module _ (by groups : ℕ) where
@@ -67,30 +67,61 @@ module _ (by groups : ℕ) where
       ∙ ap (shifted by groups) (sym (term_of-group 0 number body))
 
 -- what stands in an expression has lesser tags, too
-pub cat-below : (bound : ℕ) (members : Vec Expr Global) → HasTagsBelow bound (term_of 0 (Cat members))
-    → HaveTagsBelow bound (members_of (map (term_of 0) members.items))
-cat-below bound members below = subst (HasTagsBelow bound) (term_of-cat 0 members) below
+pub cat-below : (first bound : ℕ) (members : Vec Expr Global) → HasTagsBelow first bound (term_of 0 (Cat members))
+    → HaveTagsBelow first bound (members_of (map (term_of 0) members.items))
+cat-below first bound members below = subst (HasTagsBelow first bound) (term_of-cat 0 members) below
 
-pub alt-below : (bound : ℕ) (members : Vec Expr Global) → HasTagsBelow bound (term_of 0 (Alt members))
-    → HaveTagsBelow bound (members_of (map (term_of 0) members.items))
-alt-below bound members below = subst (HasTagsBelow bound) (term_of-alt 0 members) below
+pub alt-below : (first bound : ℕ) (members : Vec Expr Global) → HasTagsBelow first bound (term_of 0 (Alt members))
+    → HaveTagsBelow first bound (members_of (map (term_of 0) members.items))
+alt-below first bound members below = subst (HasTagsBelow first bound) (term_of-alt 0 members) below
 
-pub rep-below : (bound : ℕ) (body : Box Expr Global) (low : ℕ) (high : Option ℕ) → HasTagsBelow bound (term_of 0 (Rep body low high))
-    → HasTagsBelow bound (term_of 0 body.value)
-rep-below bound body low high below = subst (HasTagsBelow bound) (term_of-rep 0 body low high) below
+pub rep-below : (first bound : ℕ) (body : Box Expr Global) (low : ℕ) (high : Option ℕ) → HasTagsBelow first bound (term_of 0 (Rep body low high))
+    → HasTagsBelow first bound (term_of 0 body.value)
+rep-below first bound body low high below = subst (HasTagsBelow first bound) (term_of-rep 0 body low high) below
 
 -- and a group has its number
-pub group-below : (bound number : ℕ) (body : Box Expr Global) → HasTagsBelow bound (term_of 0 (Group number body))
-    → (1 ≤ number) × (2 * number ≤ bound) × HasTagsBelow bound (term_of 0 body.value)
-group-below bound number body below =
-    let is = subst (HasTagsBelow bound) (term_of-group 0 number body) below in
+pub group-below : (first bound number : ℕ) (body : Box Expr Global) → HasTagsBelow first bound (term_of 0 (Group number body))
+    → (first ≤ number) × (2 * number ≤ bound) × HasTagsBelow first bound (term_of 0 body.value)
+group-below first bound number body below =
+    let is = subst (HasTagsBelow first bound) (term_of-group 0 number body) below in
     (omega (arith, is.0), omega (arith, is.1), is.2)
 
--- a copy of a group that has a number has its size
-pub group-size : (groups number : ℕ) (copy body : Box Expr Global) → 1 ≤ number → size_of copy.value ≡ size_of body.value
+-- a copy of a group has its size, where it has its number, or another one than 0
+pub group-size : (groups number : ℕ) (copy body : Box Expr Global) → (groups ≡ 0) ⊎ (1 ≤ number) → size_of copy.value ≡ size_of body.value
     → size_of (Group (number + groups) copy) ≡ size_of (Group number body)
 group-size groups number copy body some same =
-    let other : (number + groups == 0) ≡ false = search (arith, some) in
-    let none : (number == 0) ≡ false = search (arith, some) in
-    size_of-group (number + groups) copy ∙ ap (λ (b : Bool). if b then size_of copy.value else size_of copy.value + 2) other
-    ∙ ap (λ n. n + 2) same ∙ sym (size_of-group number body ∙ ap (λ (b : Bool). if b then size_of body.value else size_of body.value + 2) none)
+    let tests : (number + groups == 0) ≡ (number == 0) = elim some [
+      | inl none ↦ let sum : number + groups ≡ number = omega (arith, none) in ap (λ n. n == 0) sum
+      | inr more ↦
+          let other : (number + groups == 0) ≡ false = search (arith, more) in let none : (number == 0) ≡ false = search (arith, more) in
+          other ∙ sym none
+    ] in
+    size_of-group (number + groups) copy ∙ ap₂ (λ (b : Bool) (n : ℕ). if b then n else n + 2) tests same ∙ sym (size_of-group number body)
+
+-- what stands in a copy may be a copy with its size
+module _ (groups : ℕ) where
+  pub cat-sized : (members : Vec Expr Global) → (groups ≡ 0) ⊎ HasTagsBelow 1 128 (term_of 0 (Cat members))
+      → (groups ≡ 0) ⊎ HaveTagsBelow 1 128 (members_of (map (term_of 0) members.items))
+  cat-sized members (inl none) = inl none
+  cat-sized members (inr below) = inr (cat-below 1 128 members below)
+
+  pub alt-sized : (members : Vec Expr Global) → (groups ≡ 0) ⊎ HasTagsBelow 1 128 (term_of 0 (Alt members))
+      → (groups ≡ 0) ⊎ HaveTagsBelow 1 128 (members_of (map (term_of 0) members.items))
+  alt-sized members (inl none) = inl none
+  alt-sized members (inr below) = inr (alt-below 1 128 members below)
+
+  pub rep-sized : (body : Box Expr Global) (low : ℕ) (high : Option ℕ) → (groups ≡ 0) ⊎ HasTagsBelow 1 128 (term_of 0 (Rep body low high))
+      → (groups ≡ 0) ⊎ HasTagsBelow 1 128 (term_of 0 body.value)
+  rep-sized body low high (inl none) = inl none
+  rep-sized body low high (inr below) = inr (rep-below 1 128 body low high below)
+
+  pub group-sized : (number : ℕ) (body : Box Expr Global) → (groups ≡ 0) ⊎ HasTagsBelow 1 128 (term_of 0 (Group number body))
+      → ((groups ≡ 0) ⊎ (1 ≤ number)) × ((groups ≡ 0) ⊎ HasTagsBelow 1 128 (term_of 0 body.value))
+  group-sized number body (inl none) = (inl none, inl none)
+  group-sized number body (inr below) =
+      let is = group-below 1 128 number body below in (inr is.0, inr is.2)
+
+  pub member-sized : (place : ℕ) (members : List Expr) (item : Expr) → (groups ≡ 0) ⊎ HaveTagsBelow 1 128 (members_of (map (term_of 0) members))
+      → place < length members → item ≡ get_or members place item → (groups ≡ 0) ⊎ HasTagsBelow 1 128 (term_of 0 item)
+  member-sized place members item (inl none) lt is = inl none
+  member-sized place members item (inr below) lt is = inr (member_below 1 128 place members item below lt is)

@@ -32,7 +32,7 @@ bounded_all front items value same before last = subst AreBounded (sym same) (go
 
 -- numbers below a bound are below a greater one
 pub below_greater : (less more : ℕ) → less ≤ more → (held : Content) → AreTagsBelow less held → AreTagsBelow more held
-below_greater less more le (content.One expr) below = HasTagsBelow-greater less more (term_of 0 expr) le below
-below_greater less more le (content.Row members) below = HaveTagsBelow-greater less more (members_of (map (term_of 0) members.items)) le below
-below_greater less more le (content.Choice members) below = HaveTagsBelow-greater less more (members_of (map (term_of 0) members.items)) le below
+below_greater less more le (content.One expr) below = HasTagsBelow-greater 1 less more (term_of 0 expr) le below
+below_greater less more le (content.Row members) below = HaveTagsBelow-greater 1 less more (members_of (map (term_of 0) members.items)) le below
+below_greater less more le (content.Choice members) below = HaveTagsBelow-greater 1 less more (members_of (map (term_of 0) members.items)) le below
 below_greater less more le (content.Past set alternatives) below = tt

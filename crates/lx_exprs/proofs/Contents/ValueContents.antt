@@ -194,11 +194,11 @@ sizes-more members all expr same =
     ap (λ l. sum (map size_of l)) same ∙ omega (arith, all_of, some_of, both, last)
 
 pub below-more : (bound : ℕ) (members all : List Expr) (expr : Expr) → all ≡ members ++ expr ∷ []
-    → HaveTagsBelow bound (members_of (map (term_of 0) members)) → HasTagsBelow bound (term_of 0 expr)
-    → HaveTagsBelow bound (members_of (map (term_of 0) all))
-below-more bound members all expr same left right = subst (λ l. HaveTagsBelow bound (members_of (map (term_of 0) l))) (sym same) (go members left)
+    → HaveTagsBelow 1 bound (members_of (map (term_of 0) members)) → HasTagsBelow 1 bound (term_of 0 expr)
+    → HaveTagsBelow 1 bound (members_of (map (term_of 0) all))
+below-more bound members all expr same left right = subst (λ l. HaveTagsBelow 1 bound (members_of (map (term_of 0) l))) (sym same) (go members left)
   where
-    go : (l : List Expr) → HaveTagsBelow bound (members_of (map (term_of 0) l)) → HaveTagsBelow bound (members_of (map (term_of 0) (l ++ expr ∷ [])))
+    go : (l : List Expr) → HaveTagsBelow 1 bound (members_of (map (term_of 0) l)) → HaveTagsBelow 1 bound (members_of (map (term_of 0) (l ++ expr ∷ [])))
     go [] is = (right, tt)
     go (first ∷ l) is = (is.0, go l is.1)
 
@@ -209,11 +209,11 @@ pub row_more : (first second : Meaning) (front back all : List Expr) → all ≡
 row_more first second front back all same left right =
     sym (ap row (ap (map (term_of 0)) same ∙ map-append (term_of 0) front back ∙ ap₂ (λ l r. l ++ r) left right))
 
-pub below-both : (bound : ℕ) (front back all : List Expr) → all ≡ front ++ back → HaveTagsBelow bound (members_of (map (term_of 0) front))
-    → HaveTagsBelow bound (members_of (map (term_of 0) back)) → HaveTagsBelow bound (members_of (map (term_of 0) all))
-below-both bound front back all same left right = subst (λ l. HaveTagsBelow bound (members_of (map (term_of 0) l))) (sym same) (go front left)
+pub below-both : (bound : ℕ) (front back all : List Expr) → all ≡ front ++ back → HaveTagsBelow 1 bound (members_of (map (term_of 0) front))
+    → HaveTagsBelow 1 bound (members_of (map (term_of 0) back)) → HaveTagsBelow 1 bound (members_of (map (term_of 0) all))
+below-both bound front back all same left right = subst (λ l. HaveTagsBelow 1 bound (members_of (map (term_of 0) l))) (sym same) (go front left)
   where
-    go : (l : List Expr) → HaveTagsBelow bound (members_of (map (term_of 0) l)) → HaveTagsBelow bound (members_of (map (term_of 0) (l ++ back)))
+    go : (l : List Expr) → HaveTagsBelow 1 bound (members_of (map (term_of 0) l)) → HaveTagsBelow 1 bound (members_of (map (term_of 0) (l ++ back)))
     go [] is = right
     go (first ∷ l) is = (is.0, go l is.1)
 
@@ -235,21 +235,21 @@ grouped_one meaning body held before few same is =
     ∙ ap (group (2 * kept (suc before)) (2 * kept (suc before) + 1)) (ap (term_of 0) same ∙ is)))
 
 pub grouped_below : (bound : ℕ) (body : Expr) (held : Box Expr Global) (before : ℕ) → held.value ≡ body → 2 * suc before ≤ bound
-    → HasTagsBelow bound (term_of 0 body) → HasTagsBelow bound (term_of 0 (Group (before + 1) held))
+    → HasTagsBelow 1 bound (term_of 0 body) → HasTagsBelow 1 bound (term_of 0 (Group (before + 1) held))
 grouped_below bound body held before same few below =
-    subst (HasTagsBelow bound) (sym (term_of-group 0 (before + 1) held))
-    (omega arith, omega (arith, few), subst (λ e. HasTagsBelow bound (term_of 0 e)) (sym same) below)
+    subst (HasTagsBelow 1 bound) (sym (term_of-group 0 (before + 1) held))
+    (omega arith, omega (arith, few), subst (λ e. HasTagsBelow 1 bound (term_of 0 e)) (sym same) below)
 
 -- what is kept of what is built, and past the limits
 pub kept_fits : (found : Option Expr) (held : Content) (size count : ℕ) → 1 ≤ size → content_size held ≤ size → AreTagsBelow count held
-    → IfSome found (λ e. size_of e ≡ content_size held) → IfSome found (λ e. HasTagsBelow count (term_of 0 e)) → FitsKept found size count
+    → IfSome found (λ e. size_of e ≡ content_size held) → IfSome found (λ e. HasTagsBelow 1 count (term_of 0 e)) → FitsKept 1 found size count
 kept_fits None held size count some small below same tags = some
 kept_fits (Some expr) held size count some small below same tags = (some, omega (arith, same, small), tags)
 
 -- and so it is within a greater count
-pub fits_counted : (found : Option Expr) (size less more : ℕ) → less ≤ more → FitsKept found size less → FitsKept found size more
-fits_counted None size less more le fits = fits
-fits_counted (Some expr) size less more le fits = (fits.0, fits.1, HasTagsBelow-greater less more (term_of 0 expr) le fits.2)
+pub fits_counted : (first : ℕ) (found : Option Expr) (size less more : ℕ) → less ≤ more → FitsKept first found size less → FitsKept first found size more
+fits_counted first None size less more le fits = fits
+fits_counted first (Some expr) size less more le fits = (fits.0, fits.1, HasTagsBelow-greater first less more (term_of 0 expr) le fits.2)
 
 pub not_past : (held : Content) → ((set : Option (List Range)) (alternatives : Bool) → held ≡ content.Past set alternatives → ⊥) → is_past held ≡ false
 not_past (content.One expr) free = refl

@@ -4,7 +4,6 @@ use Rattle.std.specs.Prelude.{◌==◌, ◌&&◌, not, is_some, nat_le, if◌the
 use Rattle.std.specs.Option.{option_and_then}
 use Rattle.lx_base.specs.Letters.{is_within}
 use Rattle.lx_base.specs.declared.faults.Fault.{Fault}
-use Rattle.lx_base.specs.declared.faults.Fault.TheVariants.{Unsupported}
 use Rattle.lx_base.specs.declared.places.Pos.{Pos}
 use Rattle.lx_base.specs.declared.settings.EmptyPolicy.{EmptyPolicy}
 use Rattle.lx_base.specs.declared.settings.EmptyPolicy.TheVariants.{MatchEmpty, MatchNone, Error}
@@ -23,7 +22,7 @@ use Rattle.lx_exprs.specs.Points.{replaced, singles}
 use Rattle.lx_regex.specs.declared.rules.Tag.{Tag}
 use Rattle.lx_exprs.specs.Defined.{Before, Definition, Meaning, Shape, count_of, one, both_classes, class_in, definition_of, meant_class, whole}
 use Rattle.lx_exprs.specs.Meanings.{IsClassMeaning, IsLeafMeaning, IsMeaning, character_set, copied, in_parentheses, parenthesized, past, shifted, string_term, term_or_empty}
-use Rattle.lx_exprs.specs.Checks.{Check, Checks, HasPoint, IsFilled, IsIn, LeafHas, Then, are_groups, both_cases, defined_points, group_fault, is_class, leaf_is_class, tags_of, unsupported}
+use Rattle.lx_exprs.specs.Checks.{Check, Checks, HasPoint, IsFilled, IsIn, LeafHas, Then, are_groups, both_cases, defined_points, is_class, leaf_is_class, tags_of}
 use Rattle.lx_forms.specs.Forms.{Form, leaf, group, repeated, sequence, difference, alternative}
 use Rattle.lx_exprs.proofs.Classes.ClassUnions.{class_in-choice}
 use Rattle.lx_exprs.proofs.TagLists.TermTags.{class_in-shifted}
@@ -241,14 +240,6 @@ module _ (options : Options) (definitions : List Definition) where
   leaf-agrees kind.Bounds before lexeme meaning is = absurd is
   leaf-agrees kind.Code before lexeme meaning is = absurd is
 
-  -- parentheses that are not refused are no group
-  pub no_groups : (opening : Lexeme) → None ≡ group_fault options definitions opening → are_groups options definitions ≡ false
-  no_groups opening found = at (are_groups options definitions) found
-    where
-      at : (b : Bool) → None ≡ (if b then unsupported opening else None) → b ≡ false
-      at true found = absurd (let h : None ≡ Some (Unsupported (Some opening.at)) = found in cc)
-      at false found = refl
-
   -- an operand of a difference in which nothing is refused is a class where its meaning is one
   pub form-agrees : (form : Form) (before : Before) (meaning : Meaning) → Checks options definitions true before.tags form None
       → IsMeaning options definitions true before form meaning
@@ -258,7 +249,7 @@ module _ (options : Options) (definitions : List Definition) where
       by (are_groups options definitions) checked is (λ body found means. form-agrees inner before body found means)
     where
       by : (b : Bool)
-          → Then (λ fault. fault ≡ (if b then unsupported opening else None)) (Checks options definitions (true && not b) before.tags inner) None
+          → Checks options definitions (true && not b) before.tags inner None
           → (body : Meaning) × IsMeaning options definitions (true && not b) (in_parentheses b before) inner body
           × (meaning ≡ parenthesized b before body)
           → ((body : Meaning) → Checks options definitions true before.tags inner None → IsMeaning options definitions true before inner body
@@ -267,9 +258,8 @@ module _ (options : Options) (definitions : List Definition) where
       by true checked is agrees =
           agrees-none false (HasPoint options definitions inner) (meant_class meaning) refl (ap (λ (m : Meaning). meant_class m) is.2)
       by false checked is agrees =
-          let found = then-none (λ fault. fault ≡ None) (Checks options definitions true before.tags inner) checked in
           subst (Agrees (is_class options definitions inner) (HasPoint options definitions inner)) (ap (λ (m : Meaning). meant_class m) (sym is.2))
-          (agrees is.0 found.1 is.1)
+          (agrees is.0 checked is.1)
   form-agrees (repeated inner sign) before meaning checked is =
       agrees-none false (HasPoint options definitions (repeated inner sign)) (meant_class meaning) refl (ap (λ (m : Meaning). meant_class m) is.2)
   form-agrees (sequence front back) before meaning checked is =

@@ -1,5 +1,5 @@
 -- The expressions of a block, which stand in ranges of its tokens.
-use Rattle.std.proofs.Common.{◌≡◌, Bool, ℕ, ◌+◌, ◌⊎◌, arith, List, [], ◌∷◌, ◌++◌, drop, length, Some, false, Result, Ok, Err, sym, ap, ◌∙◌, subst, ⊎_elim, length-append}
+use Rattle.std.proofs.Common.{◌≡◌, Bool, ℕ, ◌+◌, ◌⊎◌, arith, List, [], ◌∷◌, ◌++◌, drop, length, Some, false, Result, Ok, Err, sym, ap, ap₂, ◌∙◌, subst, ⊎_elim, length-append}
 use Rattle.std.proofs.Math.Seq.{drop-append_seam}
 use Rattle.std.proofs.lemmas.List.{drop-drop, drop-map, length-drop, length-map}
 use Rattle.lx_base.specs.declared.faults.Fault.{Fault}
@@ -12,20 +12,17 @@ use Rattle.lx_exprs.specs.declared.expressions.Operands.{Operands as Held}
 use Rattle.lx_exprs.specs.declared.expressions.Reading.{Reading}
 use Rattle.lx_exprs.specs.declared.values.Room.{Room}
 use Rattle.lx_exprs.specs.declared.values.Value.{Value}
-use Rattle.std.specs.List.{AllByRecursion}
-use Rattle.lx_regex.specs.declared.rules.Tag.{Tag}
 use Rattle.lx_exprs.specs.Checks.{Checks, StopsAt, are_groups}
-use Rattle.lx_exprs.specs.Defined.{Definition, Meaning, nothing}
+use Rattle.lx_exprs.specs.Defined.{Before, Definition, Meaning, and_more, count_of, nothing}
 use Rattle.lx_forms.specs.Forms.{Form, IsForm}
-use Rattle.lx_exprs.specs.Expressions.{ExpressionChecks, IsExpression}
-use Rattle.lx_exprs.specs.Expressions.{IsRead}
+use Rattle.lx_exprs.specs.Expressions.{ChecksBehind, IsExpression}
+use Rattle.lx_exprs.specs.Expressions.{IsRead, IsReadBehind}
 use Rattle.lx_forms.specs.Lexemes.{Lexeme, sort_at, sorts_at}
-use Rattle.lx_exprs.specs.Reading.{AreInOrder, AreOperands, AreTaken, AreValues, Goes, Operands, StopsReading, no_operands, with_more}
+use Rattle.lx_exprs.specs.Reading.{AreInOrder, AreOperands, AreTaken, AreValues, Goes, Operands, StopsReading, operands_behind, with_more}
 use Rattle.lx_forms.specs.Steps.{Step, steps_of}
 use Rattle.lx_exprs.proofs.Forms.ExpressionSteps.{reversed}
 use Rattle.lx_forms.proofs.FormReading.{HasForm, reads_form}
 use Rattle.lx_exprs.proofs.Forms.FormRuns.{IsFormRead, form_goes}
-use Rattle.lx_exprs.proofs.Forms.NoGroups.{IsUngrouped, groups_of-none}
 use Rattle.lx_forms.proofs.OneForm.{form_front}
 use Rattle.lx_exprs.proofs.Forms.StepOrder.{steps_in_order}
 
@@ -65,47 +62,59 @@ module _ (options : Options) (definitions : List Definition) (lexemes : List Lex
       let stands = part_form options lexemes from until part in
       subst (AreInOrder 0) (sym (are stands.0 stands.1)) (steps_in_order (are_groups options definitions) false stands.0)
 
-  goes_so : (form : Form) → IsExpression options lexemes from until form → (result : Result Operands Fault) → Goes options definitions no_operands steps result
-      → ((fault : Fault) × (result ≡ Err fault) × Checks options definitions false [] form (Some fault))
-      ⊎ ((meaning : Meaning) × (result ≡ Ok (with_more no_operands meaning)) × IsFormRead options definitions false nothing form meaning)
-  goes_so form stands result goes =
-      form_goes options definitions form result (subst (λ l. Goes options definitions no_operands l result) (are form stands) goes)
+  module _ (before : Before) where
+    goes_so : (form : Form) → IsExpression options lexemes from until form → (result : Result Operands Fault)
+        → Goes options definitions (operands_behind before) steps result
+        → ((fault : Fault) × (result ≡ Err fault) × Checks options definitions false before.tags form (Some fault))
+        ⊎ ((meaning : Meaning) × (result ≡ Ok (with_more (operands_behind before) meaning)) × IsFormRead options definitions false before form meaning)
+    goes_so form stands result goes =
+        form_goes options definitions before form result (subst (λ l. Goes options definitions (operands_behind before) l result) (are form stands) goes)
 
-  -- a fault of theirs is one of the expression
-  pub part_stops : (stopped : Stop) → StopsReading options definitions no_operands steps stopped
-      → StopsAt (ExpressionChecks options lexemes definitions from until) stopped
-  part_stops stop.Memory stops = tt
-  part_stops (stop.Fault fault) goes =
-      let stands = part_form options lexemes from until part in
-      ⊎_elim
-      (λ found. let same : fault ≡ found.0 = cc in (stands.0, stands.1, subst (λ f. Checks options definitions false [] stands.0 (Some f)) (sym same) found.2))
-      (λ read. absurd (let h : Err fault ≡ Ok (with_more no_operands read.0) = read.1 in cc))
-      (goes_so stands.0 stands.1 (Err fault) goes)
+    -- a fault of theirs is one of the expression
+    pub part_stops : (stopped : Stop) → StopsReading options definitions (operands_behind before) steps stopped
+        → StopsAt (ChecksBehind options lexemes definitions before.tags from until) stopped
+    part_stops stop.Memory stops = tt
+    part_stops (stop.Fault fault) goes =
+        let stands = part_form options lexemes from until part in
+        ⊎_elim
+        (λ found.
+        let same : fault ≡ found.0 = cc in
+        (stands.0, stands.1, subst (λ f. Checks options definitions false before.tags stands.0 (Some f)) (sym same) found.2))
+        (λ read. absurd (let h : Err fault ≡ Ok (with_more (operands_behind before) read.0) = read.1 in cc))
+        (goes_so stands.0 stands.1 (Err fault) goes)
 
-  -- and where they are taken, the expression is read
-  pub part_read : (room : Room) (held : Held) (front : List Value) (reading : Reading) → AllByRecursion IsUngrouped definitions
-      → AreTaken options definitions room no_operands steps held
-      → held.values.items ≡ front ++ reading.value ∷ [] → reading.tags ≡ held.seen
-      → IsRead options lexemes definitions room from until reading
-  part_read room held front reading ungrouped taken values tags =
-      let stands = part_form options lexemes from until part in
-      ⊎_elim
-      (λ found. absurd (let h : Ok taken.after ≡ Err found.0 = found.1 in cc))
-      (λ read.
-      let after : taken.after ≡ with_more no_operands read.0 = cc in
-      let operands = subst (λ (o : Operands). AreOperands room o held) after taken.stands in
-      let is = subst (AreValues room (read.0 ∷ [])) (reversed front held.values.items reading.value values) operands.values in
-      let none : read.0.groups ≡ 0 =
-      read.2.groups ∙ groups_of-none options definitions ungrouped false [] stands.0 read.2.checked in
-      let all = ap (λ (l : List Tag). length l) read.2.tags in
-      let formed = groups_of-none options definitions ungrouped false [] stands.0 read.2.checked in
-      let count : read.0.count ≡ length read.0.tags = let is_so = read.2.count in omega (arith, is_so, all, formed) in
-      record {
-        form = stands.0;
-        stands_there = stands.1;
-        checked = read.2.checked;
-        meaning = read.0;
-        means = read.2.means;
-        stands = record { value = is.0; tags = tags ∙ operands.tags; groups = none; count = count };
-      })
-      (goes_so stands.0 stands.1 (Ok taken.after) taken.goes)
+    -- and where they are taken, the expression is read
+    pub part_read : (room : Room) (held : Held) (front : List Value) (reading : Reading)
+        → AreTaken options definitions room (operands_behind before) steps held
+        → held.values.items ≡ front ++ reading.value ∷ [] → reading.tags ≡ held.seen
+        → IsReadBehind options lexemes definitions room before from until reading
+    part_read room held front reading taken values tags =
+        let stands = part_form options lexemes from until part in
+        ⊎_elim
+        (λ found. absurd (let h : Ok taken.after ≡ Err found.0 = found.1 in cc))
+        (λ read.
+        let after : taken.after ≡ with_more (operands_behind before) read.0 = cc in
+        let operands = subst (λ (o : Operands). AreOperands room o held) after taken.stands in
+        let is = subst (AreValues room (read.0 ∷ [])) (reversed front held.values.items reading.value values) operands.values in
+        let count = read.2.count ∙ ap₂ (λ tags groups. count_of (and_more before tags groups)) (sym read.2.tags) (sym read.2.groups) in
+        record {
+          form = stands.0;
+          stands_there = stands.1;
+          checked = read.2.checked;
+          meaning = read.0;
+          means = read.2.means;
+          stands = record { value = is.0; tags = tags ∙ operands.tags; count = count };
+        })
+        (goes_so stands.0 stands.1 (Ok taken.after) taken.goes)
+
+-- what is read behind nothing is read
+pub read_first : (options : Options) (lexemes : List Lexeme) (definitions : List Definition) (room : Room) (from until : ℕ) (reading : Reading)
+    → IsReadBehind options lexemes definitions room nothing from until reading → IsRead options lexemes definitions room from until reading
+read_first options lexemes definitions room from until reading read = record {
+  form = read.form;
+  stands_there = read.stands_there;
+  checked = read.checked;
+  meaning = read.meaning;
+  means = read.means;
+  stands = record { value = read.stands.value; tags = read.stands.tags; count = let count = read.stands.count in omega (arith, count) };
+}

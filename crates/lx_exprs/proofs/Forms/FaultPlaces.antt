@@ -1,5 +1,5 @@
 -- The faults that the checks of an expression find stand at its tokens, and so in their file.
-use Rattle.std.proofs.Common.{◌≡◌, ℕ, suc, ◌<◌, arith, Bool, true, false, List, [], ◌∷◌, ◌++◌, length, length-drop, Option, Some, None, subst, inl, inr}
+use Rattle.std.proofs.Common.{◌≡◌, ℕ, suc, ◌<◌, arith, Bool, true, false, List, [], ◌∷◌, ◌++◌, length, Option, Some, None, subst, inl, inr}
 use Rattle.std.specs.Prelude.{◌&&◌, if◌then◌else◌}
 use Rattle.std.specs.Option.{option_map, option_or}
 use Rattle.lx_base.specs.declared.faults.Fault.{Fault}
@@ -14,12 +14,12 @@ use Rattle.lx_base.specs.declared.settings.SurPolicy.{SurPolicy}
 use Rattle.lx_base.specs.declared.settings.SurPolicy.TheVariants.{Ignore, Substitute, Fail}
 use Rattle.lx_class.specs.declared.ranges.Range.{Range}
 use Rattle.lx_parse.specs.Expressions.{Part}
-use Rattle.lx_exprs.specs.Checks.{Check, Then, Finds, unsupported, Checks, LeafChecks, IsFilled, PointsAre, AreClasses, HasPoint, LeafHas, are_groups, bounds_fault, bounds_of, class_ranges, group_fault, inner_operand, is_class, is_wrong, name_fault, repeated_tag, tag_fault, tag_of, tags_of, is_tag_among}
+use Rattle.lx_exprs.specs.Checks.{Check, Then, Finds, unsupported, Checks, LeafChecks, IsFilled, PointsAre, AreClasses, HasPoint, LeafHas, bounds_fault, bounds_of, class_ranges, inner_operand, is_class, is_wrong, name_fault, repeated_tag, tag_fault, tag_of, tags_of, is_tag_among}
 use Rattle.lx_regex.specs.declared.rules.Tag.{Tag}
-use Rattle.lx_exprs.specs.Defined.{Definition, definition_of}
+use Rattle.lx_exprs.specs.Defined.{Definition, definition_of, slash_tag}
 use Rattle.lx_forms.specs.Forms.{Form, leaf, group, repeated, sequence, difference, alternative, IsForm, is_leaf, is_group, is_bare, is_repeated, is_first_post, is_sequence, is_first_cat, is_difference, is_first_diff, is_alternative}
-use Rattle.lx_forms.specs.Lexemes.{Lexeme, StandInFile, nth_lexeme, points_in}
-use Rattle.lx_forms.proofs.FilePlaces.{drop-file, nth_lexeme-file}
+use Rattle.lx_forms.specs.Lexemes.{Lexeme, StandInFile, points_in}
+use Rattle.lx_forms.proofs.FilePlaces.{drop-file}
 use Rattle.lx_exprs.specs.Expressions.{ContextChecks, ExpressionChecks}
 use Rattle.lx_exprs.specs.FaultPlaces.{StandsIn}
 use Rattle.lx_exprs.specs.Points.{least_from, points_fault, singles, surrogate_fault, up_to}
@@ -171,8 +171,7 @@ module _ (file : ℕ) where
     leaf-file kind.STag is_operand seen lexeme is =
         FindsIn-Finds (tag_fault options definitions false lexeme seen) (tag-file false lexeme seen is)
     leaf-file kind.MTag is_operand seen lexeme is =
-        then_unsupported (Finds (tag_fault options definitions true lexeme seen)) lexeme is
-        (FindsIn-Finds (tag_fault options definitions true lexeme seen) (tag-file true lexeme seen is))
+        FindsIn-Finds (tag_fault options definitions true lexeme seen) (tag-file true lexeme seen is)
     leaf-file kind.IStr is_operand seen lexeme is = PointsAre-file lexeme (singles (points_in lexeme)) is
     leaf-file kind.Class is_operand seen lexeme is =
         let Filled = IsFilled options definitions options.empty is_operand lexeme.at (LeafHas options definitions kind.Class lexeme) in
@@ -194,10 +193,7 @@ module _ (file : ℕ) where
     pub Checks-file : (is_operand : Bool) (seen : List Tag) (form : Form) → IsFormIn form
         → FindsIn (Checks options definitions is_operand seen form)
     Checks-file is_operand seen (leaf lexeme) is = leaf-file lexeme.kind is_operand seen lexeme is
-    Checks-file is_operand seen (group opening inner) is =
-        FindsIn-Then (Finds (group_fault options definitions opening)) (Checks options definitions (inner_operand options definitions is_operand) seen inner)
-        (FindsIn-Finds (group_fault options definitions opening) (if-file (are_groups options definitions) (unsupported opening) None is.0 tt))
-        (Checks-file (inner_operand options definitions is_operand) seen inner is.1)
+    Checks-file is_operand seen (group opening inner) is = Checks-file (inner_operand options definitions is_operand) seen inner is.1
     Checks-file is_operand seen (repeated inner sign) is =
         FindsIn-Then (Checks options definitions false seen inner) (Finds (bounds_fault sign)) (Checks-file false seen inner is.0)
         (FindsIn-Finds (bounds_fault sign) (bounds-file sign is.1))
@@ -240,12 +236,8 @@ module _ (file : ℕ) where
               let behind = found.1 in
               let inside = form-file found.2 (drop-file file lexemes from are) in
               let inside_behind = form-file found.3 (drop-file file lexemes (suc slash) are) in
-              let some = form_some found.3 in
-              let at_slash : slash < length lexemes = omega (arith, length-drop (suc slash) lexemes, some) in
-              let Behind = Checks options definitions false (tags_of options definitions form) behind in
-              let Slash = Then (Finds (unsupported (nth_lexeme lexemes slash))) Behind in
+              let seen = tags_of options definitions form ++ slash_tag ∷ [] in
               let both =
-              FindsIn-Then (Checks options definitions false [] form) Slash (Checks-file false [] form inside.0)
-              (then_unsupported Behind (nth_lexeme lexemes slash) (nth_lexeme-file file lexemes slash are at_slash)
-              (Checks-file false (tags_of options definitions form) behind inside_behind.0)) in
+              FindsIn-Then (Checks options definitions false [] form) (Checks options definitions false seen behind) (Checks-file false [] form inside.0)
+              (Checks-file false seen behind inside_behind.0) in
               both.finds fault found.4

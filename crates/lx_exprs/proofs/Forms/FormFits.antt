@@ -8,7 +8,7 @@ use Rattle.lx_encode.specs.Policy.{FitsEncoding}
 use Rattle.lx_token.specs.Classes.{class_of}
 use Rattle.lx_token.specs.declared.kinds.TokenKind.{TokenKind}
 use Rattle.lx_token.specs.declared.kinds.TokenKind.TheVariants as kind
-use Rattle.lx_exprs.specs.Checks.{AreClasses, Check, Checks, ClassHas, HasPoint, IsFilled, LeafChecks, LeafHas, PointsAre, Then, are_groups, bounds_fault, bounds_of, class_ranges, defined_groups, defined_tags, group_fault, groups_of, inner_operand, is_class, leaf_groups, leaf_tags, tag_of, tags_of}
+use Rattle.lx_exprs.specs.Checks.{AreClasses, Check, Checks, ClassHas, HasPoint, IsFilled, LeafChecks, LeafHas, PointsAre, Then, are_groups, bounds_fault, bounds_of, class_ranges, defined_groups, defined_tags, groups_of, inner_operand, is_class, leaf_groups, leaf_tags, tag_of, tags_of}
 use Rattle.lx_exprs.specs.Defined.{Before, Definition, Meaning, and_more, count_of, kept, whole}
 use Rattle.lx_regex.specs.declared.rules.Tag.{Tag}
 use Rattle.std.specs.Prelude.{if◌then◌else◌}
@@ -23,7 +23,7 @@ use Rattle.lx_exprs.proofs.Forms.FormRuns.{both_true, groups-parenthesized, tags
 use Rattle.lx_exprs.proofs.Forms.MeaningFits.{IsMeantWithin, alternated_within, class_within, copied_within, definition_within, followed_within, parenthesized_within, repeated_within, string_within, tag_within}
 use Rattle.lx_exprs.proofs.Classes.PointSets.{points_taken}
 
-module _ (options : Options) (definitions : List Definition) (ready : AreDefinedWithin options.enc definitions) where
+module _ (options : Options) (definitions : List Definition) (ready : AreDefinedWithin options definitions) where
   -- a meaning is as is asked, and has the tags and groups of its form
   pub record IsMeantWithTags (before : Before) (tags : List Tag) (groups : ℕ) (meaning : Meaning) : Type 0 where
     pub within : IsMeantWithin options.enc before meaning
@@ -79,7 +79,7 @@ module _ (options : Options) (definitions : List Definition) (ready : AreDefined
   leaf_ready operand kind.Name before lexeme meaning checked is =
       subst (λ found. IsMeantWithTags before (defined_tags options definitions found) (defined_groups options definitions found) meaning) (sym is.1)
       (subst (IsMeantWithTags before is.0.tags is.0.groups) (sym is.2) (record {
-        within = copied_within options.enc before is.0 (definition_within options.enc definitions lexeme.text is.0 ready is.1);
+        within = copied_within options.enc before is.0 (definition_within options definitions lexeme.text is.0 ready is.1);
         tags_are = refl;
         groups_are = refl;
       }))
@@ -106,11 +106,9 @@ module _ (options : Options) (definitions : List Definition) (ready : AreDefined
   form_ready operand before (group opening inner) meaning checked is =
       let is_group = are_groups options definitions in
       let within_operand = inner_operand options definitions operand in
-      let found =
-      then-none (λ fault. fault ≡ group_fault options definitions opening) (Checks options definitions within_operand before.tags inner) checked in
       let inside =
       form_ready within_operand (in_parentheses is_group before) inner is.0
-      (subst (λ tags. Checks options definitions within_operand tags inner None) (sym (tags-in_parentheses is_group before)) found.1) is.1 in
+      (subst (λ tags. Checks options definitions within_operand tags inner None) (sym (tags-in_parentheses is_group before)) checked) is.1 in
       subst (IsMeantWithTags before (tags_of options definitions inner) (groups_of options definitions (group opening inner))) (sym is.2) (record {
         within = parenthesized_within options.enc is_group before is.0 inside.within;
         tags_are = tags-parenthesized is_group before is.0 ∙ inside.tags_are;

@@ -9,12 +9,12 @@ use Rattle.lx_token.specs.declared.kinds.TokenKind.{TokenKind}
 use Rattle.lx_token.specs.declared.kinds.TokenKind.TheVariants as kind
 use Rattle.lx_forms.specs.Lexemes.{Lexeme}
 use Rattle.lx_regex.specs.declared.rules.Tag.{Tag}
-use Rattle.lx_exprs.specs.Defined.{Before, Definition, Meaning, and_more, count_of, kept, meant_class, nothing}
+use Rattle.lx_exprs.specs.Defined.{Before, Definition, Meaning, and_more, count_of, kept, meant_class}
 use Rattle.lx_exprs.specs.Meanings.{IsClassMeaning, IsLeafMeaning, IsMeaning, alternated, followed, grouped, in_group, in_parentheses, parenthesized, past, repeated_by}
-use Rattle.lx_exprs.specs.Checks.{AreClasses, Check, Checks, HasPoint, IsFilled, Then, are_groups, bounds_of, defined_groups, defined_tags, group_fault, groups_of, inner_operand, is_class, leaf_groups, leaf_tags, tag_of, tags_of}
+use Rattle.lx_exprs.specs.Checks.{AreClasses, Check, Checks, HasPoint, IsFilled, Then, are_groups, bounds_of, defined_groups, defined_tags, groups_of, inner_operand, is_class, leaf_groups, leaf_tags, tag_of, tags_of}
 use Rattle.lx_forms.specs.Forms.{Form, leaf, group, repeated, sequence, difference, alternative}
 use Rattle.lx_forms.specs.Steps.{Step, reads, opens, closes, repeats, joins, subtracts, chooses, steps_of}
-use Rattle.lx_exprs.specs.Reading.{DifferenceChecks, DifferenceHas, Goes, IsDifference, IsStepped, Operands, StepChecks, closed, ends, refused, next, in_place, no_operands, opened, with_more}
+use Rattle.lx_exprs.specs.Reading.{DifferenceChecks, DifferenceHas, Goes, IsDifference, IsStepped, Operands, StepChecks, closed, ends, refused, next, in_place, operands_behind, opened, with_more}
 use Rattle.lx_exprs.proofs.Forms.ClassForms.{Agrees, filled-same, form-agrees}
 use Rattle.lx_exprs.proofs.Forms.StepOrder.{steps_then, steps_then-nil}
 
@@ -162,10 +162,10 @@ module _ (options : Options) (definitions : List Definition) where
       subst (λ after. Goes options definitions after rest result) (taken.1 ∙ in_place-both operands first second (alternated first second) refl refl) taken.2
 
   -- a leaf
-  record HasLeafTags (sort : TokenKind) (before : Before) (lexeme : Lexeme) (meaning : Meaning) : Type 0 where
-    tags : meaning.tags ≡ leaf_tags options definitions sort lexeme
-    groups : meaning.groups ≡ leaf_groups options definitions sort lexeme
-    count : meaning.count ≡ count_of (and_more before (leaf_tags options definitions sort lexeme) (leaf_groups options definitions sort lexeme))
+  pub record HasLeafTags (sort : TokenKind) (before : Before) (lexeme : Lexeme) (meaning : Meaning) : Type 0 where
+    pub tags : meaning.tags ≡ leaf_tags options definitions sort lexeme
+    pub groups : meaning.groups ≡ leaf_groups options definitions sort lexeme
+    pub count : meaning.count ≡ count_of (and_more before (leaf_tags options definitions sort lexeme) (leaf_groups options definitions sort lexeme))
 
   no_more : (before : Before) → count_of before ≡ count_of (and_more before [] 0)
   no_more before = let all = length-append before.tags [] in omega (arith, all)
@@ -173,7 +173,7 @@ module _ (options : Options) (definitions : List Definition) where
   one_more : (before : Before) (tag : Tag) → suc (count_of before) ≡ count_of (and_more before (tag ∷ []) 0)
   one_more before tag = let all = length-append before.tags (tag ∷ []) in omega (arith, all)
 
-  leaf-tags : (operand : Bool) (sort : TokenKind) (before : Before) (lexeme : Lexeme) (meaning : Meaning)
+  pub leaf-tags : (operand : Bool) (sort : TokenKind) (before : Before) (lexeme : Lexeme) (meaning : Meaning)
       → IsLeafMeaning options definitions operand sort before lexeme meaning → HasLeafTags sort before lexeme meaning
   leaf-tags operand kind.Str before lexeme meaning is =
       record { tags = ap (λ (m : Meaning). m.tags) is; groups = ap (λ (m : Meaning). m.groups) is; count = ap (λ (m : Meaning). m.count) is ∙ no_more before }
@@ -219,15 +219,11 @@ module _ (options : Options) (definitions : List Definition) where
       (step_goes operands (reads operand lexeme) rest result goes)
 
   -- what is read in parentheses is read
-  inside : (operand : Bool) (opening : Lexeme) (inner : Form) (operands : Operands) (body : Meaning) → None ≡ group_fault options definitions opening
+  inside : (operand : Bool) (opening : Lexeme) (inner : Form) (operands : Operands) (body : Meaning)
       → IsFormRead (inner_operand options definitions operand) (opened is_group operands).seen inner body
       → IsFormRead operand operands.seen (group opening inner) (parenthesized is_group operands.seen body)
-  inside operand opening inner operands body none is = record {
-    checked =
-        inl (
-          none,
-          subst (λ tags. Checks options definitions (inner_operand options definitions operand) tags inner None) (tags-opened is_group operands) is.checked,
-        );
+  inside operand opening inner operands body is = record {
+    checked = subst (λ tags. Checks options definitions (inner_operand options definitions operand) tags inner None) (tags-opened is_group operands) is.checked;
     means = (
       body,
       subst (λ before. IsMeaning options definitions (inner_operand options definitions operand) before inner body) (seen-opened is_group operands) is.means,
@@ -248,28 +244,22 @@ module _ (options : Options) (definitions : List Definition) where
       → Reads operand (group opening inner)
   group_reads operand opening inner inner_reads operands rest result goes =
       let steps = steps_then is_group (inner_operand options definitions operand) inner (closes opening ∷ rest) in
-      ⊎_elim (λ found. inl (found.0, found.1, inr (found.0, found.2, refl)))
-      (λ taken.
+      let taken = free_goes operands (opens opening) steps result (λ fault found. found) goes in
       ⊎_elim
       (λ found.
       inl (
         found.0,
         found.1,
-        inl (
-          taken.1,
-          subst (λ tags. Checks options definitions (inner_operand options definitions operand) tags inner (Some found.0)) (tags-opened is_group operands)
-              found.2,
-        ),
+        subst (λ tags. Checks options definitions (inner_operand options definitions operand) tags inner (Some found.0)) (tags-opened is_group operands) found.2,
       ))
       (λ is.
       inr (
         parenthesized is_group operands.seen is.0,
-        inside operand opening inner operands is.0 taken.1 is.1,
+        inside operand opening inner operands is.0 is.1,
         closes_goes operands is.0 opening rest result is.2,
       ))
       (inner_reads (opened is_group operands) (closes opening ∷ rest) result
-      (subst (λ after. Goes options definitions after steps result) taken.2 taken.3)))
-      (step_goes operands (opens opening) steps result goes)
+      (subst (λ after. Goes options definitions after steps result) taken.1 taken.2))
 
   -- a repetition
   repeated_reads : (operand : Bool) (inner : Form) (sign : Lexeme) → Reads false inner → Reads operand (repeated inner sign)
@@ -483,11 +473,31 @@ module _ (options : Options) (definitions : List Definition) where
   form_reads operand (alternative left sign right) = alternative_reads operand left sign right (form_reads operand left) (form_reads operand right)
 
   -- a form that is read from its first step on
-  pub form_goes : (form : Form) (result : Result Operands Fault) → Goes options definitions no_operands (steps_of is_group false form) result
-      → ((fault : Fault) × (result ≡ Err fault) × Checks options definitions false [] form (Some fault))
-      ⊎ ((meaning : Meaning) × (result ≡ Ok (with_more no_operands meaning)) × IsFormRead false nothing form meaning)
-  form_goes form result goes =
+  pub form_goes : (before : Before) (form : Form) (result : Result Operands Fault)
+      → Goes options definitions (operands_behind before) (steps_of is_group false form) result
+      → ((fault : Fault) × (result ≡ Err fault) × Checks options definitions false before.tags form (Some fault))
+      ⊎ ((meaning : Meaning) × (result ≡ Ok (with_more (operands_behind before) meaning)) × IsFormRead false before form meaning)
+  form_goes before form result goes =
       ⊎_elim (λ found. inl found)
-      (λ is. inr (is.0, ends_with (with_more no_operands is.0) result is.2, is.1))
-      (form_reads false form no_operands [] result
-      (subst (λ steps. Goes options definitions no_operands steps result) (sym (steps_then-nil is_group false form)) goes))
+      (λ is. inr (is.0, ends_with (with_more (operands_behind before) is.0) result is.2, is.1))
+      (form_reads false form (operands_behind before) [] result
+      (subst (λ steps. Goes options definitions (operands_behind before) steps result) (sym (steps_then-nil is_group false form)) goes))
+
+  -- what an expression means has its tags
+  pub tags-meant : (operand : Bool) (before : Before) (form : Form) (meaning : Meaning) → IsMeaning options definitions operand before form meaning
+      → meaning.tags ≡ tags_of options definitions form
+  tags-meant operand before (leaf lexeme) meaning is = (leaf-tags operand lexeme.kind before lexeme meaning is).tags
+  tags-meant operand before (group opening inner) meaning is =
+      ap (λ (m : Meaning). m.tags) is.2 ∙ tags-parenthesized is_group before is.0
+      ∙ tags-meant (inner_operand options definitions operand) (in_parentheses is_group before) inner is.0 is.1
+  tags-meant operand before (repeated inner sign) meaning is =
+      ap (λ (m : Meaning). m.tags) is.2 ∙ tags-meant false before inner is.0 is.1
+  tags-meant operand before (sequence front back) meaning is =
+      ap (λ (m : Meaning). m.tags) is.4
+      ∙ ap₂ (λ (a b : List Tag). a ++ b) (tags-meant false before front is.0 is.2) (tags-meant false (past options definitions before front) back is.1 is.3)
+  tags-meant operand before (difference left sign right) meaning is =
+      ap (λ (m : Meaning). m.tags) is.4.2
+      ∙ ap₂ (λ (a b : List Tag). a ++ b) (tags-meant true before left is.0 is.2) (tags-meant true (past options definitions before left) right is.1 is.3)
+  tags-meant operand before (alternative left sign right) meaning is =
+      ap (λ (m : Meaning). m.tags) is.4
+      ∙ ap₂ (λ (a b : List Tag). a ++ b) (tags-meant operand before left is.0 is.2) (tags-meant operand (past options definitions before left) right is.1 is.3)

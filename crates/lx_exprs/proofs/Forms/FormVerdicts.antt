@@ -10,7 +10,7 @@ use Rattle.lx_base.specs.declared.settings.Options.{Options}
 use Rattle.lx_token.specs.Classes.{class_of}
 use Rattle.lx_token.specs.declared.kinds.TokenKind.{TokenKind}
 use Rattle.lx_token.specs.declared.kinds.TokenKind.TheVariants as kind
-use Rattle.lx_exprs.specs.Checks.{AreClasses, Check, Checks, Finds, HasPoint, IsFilled, LeafChecks, LeafHas, PointsAre, Then, are_groups, bounds_fault, bounds_of, class_ranges, group_fault, inner_operand, is_class, name_fault, tag_fault, tag_of, tags_of, unsupported}
+use Rattle.lx_exprs.specs.Checks.{AreClasses, Check, Checks, Finds, HasPoint, IsFilled, LeafChecks, LeafHas, PointsAre, Then, are_groups, bounds_fault, bounds_of, class_ranges, inner_operand, is_class, name_fault, tag_of, tags_of}
 use Rattle.lx_exprs.specs.Defined.{Before, Definition, Meaning, count_of, definition_of, kept, whole}
 use Rattle.lx_regex.specs.declared.rules.Tag.{Tag}
 use Rattle.lx_forms.specs.Forms.{Form, leaf, group, repeated, sequence, difference, alternative}
@@ -58,15 +58,11 @@ module _ (options : Options) (definitions : List Definition) where
       then_decides (PointsAre options definitions lexeme (class_ranges lexeme))
       (IsFilled options definitions options.empty operand lexeme.at (LeafHas options definitions kind.Class lexeme))
       (surely (_, refl)) (filled_decides options.empty operand lexeme.at (LeafHas options definitions kind.Class lexeme))
-  leaf_decides kind.MTag operand seen lexeme =
-      then_decides (Finds (unsupported lexeme)) (Finds (tag_fault options definitions true lexeme seen)) (surely (_, refl)) (surely (_, refl))
   leaf_decides sort operand seen lexeme = surely (_, refl)
 
   pub form_decides : (operand : Bool) (seen : List Tag) (form : Form) → Decides (Checks options definitions operand seen form)
   form_decides operand seen (leaf lexeme) = leaf_decides lexeme.kind operand seen lexeme
-  form_decides operand seen (group opening inner) =
-      then_decides (Finds (group_fault options definitions opening)) (Checks options definitions (inner_operand options definitions operand) seen inner)
-      (finds_decides (group_fault options definitions opening)) (form_decides (inner_operand options definitions operand) seen inner)
+  form_decides operand seen (group opening inner) = form_decides (inner_operand options definitions operand) seen inner
   form_decides operand seen (repeated inner sign) =
       then_decides (Checks options definitions false seen inner) (Finds (bounds_fault sign)) (form_decides false seen inner)
       (finds_decides (bounds_fault sign))
@@ -86,7 +82,7 @@ module _ (options : Options) (definitions : List Definition) where
       then_decides (Checks options definitions operand seen left) (Checks options definitions operand (seen ++ tags_of options definitions left) right)
       (form_decides operand seen left) (form_decides operand (seen ++ tags_of options definitions left) right)
 
-module _ (options : Options) (definitions : List Definition) (ready : AreDefinedWithin options.enc definitions) where
+module _ (options : Options) (definitions : List Definition) (ready : AreDefinedWithin options definitions) where
   class_means : (operand : Bool) (nesting : ℕ) (tags : List Tag) (groups count : ℕ) (Has : ℕ → Type 0)
       → ((point : ℕ) → Has point → point ≤ greatest_point options.enc)
       → Surely ((meaning : Meaning) × IsClassMeaning options definitions operand nesting tags groups count Has meaning)
@@ -126,10 +122,8 @@ module _ (options : Options) (definitions : List Definition) (ready : AreDefined
   form_means operand before (group opening inner) checked =
       let is_group = are_groups options definitions in
       let within = inner_operand options definitions operand in
-      let found =
-      then-none (λ fault. fault ≡ group_fault options definitions opening) (Checks options definitions within before.tags inner) checked in
       let inside =
-      subst (λ tags. Checks options definitions within tags inner None) (sym (tags-in_parentheses is_group before)) found.1 in
+      subst (λ tags. Checks options definitions within tags inner None) (sym (tags-in_parentheses is_group before)) checked in
       and_then (form_means within (in_parentheses is_group before) inner inside)
       (λ body. surely (parenthesized is_group before body.0, (body.0, body.1, refl)))
   form_means operand before (repeated inner sign) checked =

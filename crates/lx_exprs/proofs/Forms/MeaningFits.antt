@@ -6,6 +6,7 @@ use Rattle.std.specs.Str.{bytes_eq}
 use Rattle.lx_base.specs.declared.settings.EmptyPolicy.{EmptyPolicy}
 use Rattle.lx_base.specs.declared.settings.EmptyPolicy.TheVariants.{MatchEmpty, MatchNone, Error}
 use Rattle.lx_base.specs.declared.settings.Enc.{Enc}
+use Rattle.lx_base.specs.declared.settings.Options.{Options}
 use Rattle.lx_class.specs.declared.ranges.Range.{Range}
 use Rattle.lx_encode.specs.Policy.{FitsEncoding}
 use Rattle.lx_regex.specs.Expr.{members_of, times}
@@ -34,7 +35,7 @@ pub record IsMeantWithin (enc : Enc) (before : Before) (meaning : Meaning) : Typ
       → IsNumbered (length before.tags) (length meaning.tags) (suc before.groups) meaning.groups (whole meaning.shape)
 
 -- what stands in an expression that is built is built
-built_part : (part around : Meaning) → part.size ≤ around.size → part.nesting ≤ around.nesting → part.count ≤ around.count
+pub built_part : (part around : Meaning) → part.size ≤ around.size → part.nesting ≤ around.nesting → part.count ≤ around.count
     → is_built whole_room around ≡ true → is_built whole_room part ≡ true
 built_part part around size nesting count built = at (is_built whole_room part) refl
   where
@@ -43,7 +44,7 @@ built_part part around size nesting count built = at (is_built whole_room part) 
     at false e = absurd (let h : false ≡ true = sym (grows whole_room part around size nesting count e) ∙ built in cc)
 
 -- what is built is within the limit on tags
-counted_few : (meaning : Meaning) → is_built whole_room meaning ≡ true → meaning.count ≤ 128
+pub counted_few : (meaning : Meaning) → is_built whole_room meaning ≡ true → meaning.count ≤ 128
 counted_few meaning built =
     let more = (both_of (nat_le meaning.size 4096) (nat_le meaning.nesting 256 && nat_le meaning.count 128) built).1 in
     let last = (both_of (nat_le meaning.nesting 256) (nat_le meaning.count 128) more).1 in search (arith, last)
@@ -52,12 +53,12 @@ no_class : {A : Type 0} → false ≡ true → A
 no_class held = absurd (let h : false ≡ true = held in cc)
 
 -- terms whose tags and groups are numbered in order
-record AreNumbered (start count first groups : ℕ) (terms : List Term) : Type 0 where
-  sequences : HaveLongSequences (members_of terms)
-  tags : own_tags_among (members_of terms) ≡ numbers_from start count
-  ends : ends_among (members_of terms) ≡ numbers_from (2 * first) (2 * groups)
+pub record AreNumbered (start count first groups : ℕ) (terms : List Term) : Type 0 where
+  pub sequences : HaveLongSequences (members_of terms)
+  pub tags : own_tags_among (members_of terms) ≡ numbers_from start count
+  pub ends : ends_among (members_of terms) ≡ numbers_from (2 * first) (2 * groups)
 
-numbered-one : (start count first groups : ℕ) (term : Term) → IsNumbered start count first groups term
+pub numbered-one : (start count first groups : ℕ) (term : Term) → IsNumbered start count first groups term
     → AreNumbered start count first groups (term ∷ [])
 numbered-one start count first groups term is = record {
   sequences = (is.sequences, tt);
@@ -69,7 +70,7 @@ numbered-one start count first groups term is = record {
     alone number many =
         let all : many + 0 ≡ many = omega arith in merge_tags-numbers number many 0 ∙ ap (numbers_from number) all
 
-numbered-append : (start count more first groups others : ℕ) (front back : List Term) → AreNumbered start count first groups front
+pub numbered-append : (start count more first groups others : ℕ) (front back : List Term) → AreNumbered start count first groups front
     → AreNumbered (start + count) more (first + groups) others back → AreNumbered start (count + more) first (groups + others) (front ++ back)
 numbered-append start count more first groups others front back here there =
     let next : 2 * (first + groups) ≡ 2 * first + 2 * groups = omega arith in
@@ -115,6 +116,20 @@ in_row-some : (shape : Shape) → HasLongSequences (whole shape) → 1 ≤ membe
 in_row-some (one term) long = omega arith
 in_row-some (row terms) long = let two = long.0 in omega (arith, two)
 in_row-some (choice terms) long = omega arith
+
+-- a definition that is found among others is ready, too
+pub definition_within : (options : Options) (definitions : List Definition) (name : List ℕ) (definition : Definition) → AreDefinedWithin options definitions
+    → definition_of definitions name ≡ Some definition → IsDefinedWithin options.enc definition
+definition_within options [] name definition are found = absurd (let h : None ≡ Some definition = found in cc)
+definition_within options (first ∷ definitions) name definition are found =
+    at (bytes_eq name first.name) refl (λ behind. definition_within options definitions name definition are.1 behind)
+  where
+    at : (b : Bool) → bytes_eq name first.name ≡ b
+        → (definition_of definitions name ≡ Some definition → IsDefinedWithin options.enc definition) → IsDefinedWithin options.enc definition
+    at true e later =
+        let same : Some first ≡ Some definition = rw (e) at found in
+        let is : first ≡ definition = cc in subst (IsDefinedWithin options.enc) is are.0.0
+    at false e later = later (rw (e) at found)
 
 module _ (enc : Enc) where
   in_row-plain : (shape : Shape) → IsPlain enc (whole shape) → ArePlain enc (members_of (in_row shape))
@@ -210,19 +225,6 @@ module _ (enc : Enc) where
           let few : length definition.tags + 2 * definition.groups ≤ 128 = omega (arith, c, all) in
           let c' : nat_le (length definition.tags + 2 * definition.groups) 128 ≡ true = search (arith, few) in
           rw (s, n', c') refl
-
-  pub definition_within : (definitions : List Definition) (name : List ℕ) (definition : Definition) → AreDefinedWithin enc definitions
-      → definition_of definitions name ≡ Some definition → IsDefinedWithin enc definition
-  definition_within [] name definition are found = absurd (let h : None ≡ Some definition = found in cc)
-  definition_within (first ∷ definitions) name definition are found =
-      at (bytes_eq name first.name) refl (λ behind. definition_within definitions name definition are.1 behind)
-    where
-      at : (b : Bool) → bytes_eq name first.name ≡ b
-          → (definition_of definitions name ≡ Some definition → IsDefinedWithin enc definition) → IsDefinedWithin enc definition
-      at true e later =
-          let same : Some first ≡ Some definition = rw (e) at found in
-          let is : first ≡ definition = cc in subst (IsDefinedWithin enc) is are.0
-      at false e later = later (rw (e) at found)
 
   -- an expression in parentheses, or repeated
   enclosed_within : (before : Before) (inner : Meaning) → IsMeantWithin enc before inner → IsMeantWithin enc before (enclosed inner)

@@ -1,5 +1,5 @@
 -- The checks of an expression find one fault, or none; and it has one meaning.
-use Rattle.std.proofs.Common.{◌≡◌, ℕ, suc, ◌+◌, max, ◌⊎◌, Bool, true, false, List, [], ◌++◌, drop, Option, Some, None, refl, sym, ap, ap₂, subst, inl, inr, ◌∙◌}
+use Rattle.std.proofs.Common.{◌≡◌, ℕ, suc, ◌+◌, max, ◌⊎◌, Bool, true, false, List, [], ◌∷◌, ◌++◌, drop, Option, Some, None, refl, sym, ap, ap₂, subst, inl, inr, ◌∙◌}
 use Rattle.std.specs.Prelude.{◌&&◌, if◌then◌else◌}
 use Rattle.lx_base.specs.declared.faults.Fault.{Fault}
 use Rattle.lx_base.specs.declared.faults.Fault.TheVariants.{NotClass}
@@ -9,13 +9,13 @@ use Rattle.lx_base.specs.declared.settings.EmptyPolicy.TheVariants.{MatchEmpty, 
 use Rattle.lx_base.specs.declared.settings.Options.{Options}
 use Rattle.lx_class.proofs.Law.{same_ranges}
 use Rattle.lx_class.specs.declared.ranges.Range.{Range}
-use Rattle.lx_exprs.specs.Checks.{Check, Then, Finds, unsupported, Checks, LeafChecks, IsFilled, PointsAre, AreClasses, HasPoint, LeafHas, bounds_fault, are_groups, bounds_of, class_ranges, group_fault, inner_operand, is_class, name_fault, tag_fault, tags_of}
+use Rattle.lx_exprs.specs.Checks.{Check, Then, Finds, unsupported, Checks, LeafChecks, IsFilled, PointsAre, AreClasses, HasPoint, LeafHas, bounds_fault, are_groups, bounds_of, class_ranges, inner_operand, is_class, name_fault, tag_fault, tags_of}
 use Rattle.lx_regex.specs.Expr.{ranges_of}
 use Rattle.lx_regex.specs.Term.{Term, class}
-use Rattle.lx_exprs.specs.Defined.{Before, Definition, HasClass, IsClassKept, IsDefined, IsTermKept, Meaning, count_of, definition_of, kept, nothing, is_built, meant_class, whole_room}
+use Rattle.lx_exprs.specs.Defined.{Before, Definition, HasClass, IsClassKept, IsDefined, IsTermKept, Meaning, count_of, definition_of, kept, nothing, is_built, meant_class, slash_tag, whole_room}
 use Rattle.lx_forms.specs.Forms.{Form, leaf, group, repeated, sequence, difference, alternative}
 use Rattle.lx_exprs.specs.Expressions.{ContextChecks, ExpressionChecks, IsExpression}
-use Rattle.lx_forms.specs.Lexemes.{Lexeme, nth_lexeme, points_in}
+use Rattle.lx_forms.specs.Lexemes.{Lexeme, points_in}
 use Rattle.lx_exprs.specs.Meanings.{IsClassMeaning, IsLeafMeaning, IsMeaning, IsSetOf, alternated, class_meaning, copied, followed, in_parentheses, parenthesized, past, repeated_by}
 use Rattle.lx_regex.specs.declared.rules.Tag.{Tag}
 use Rattle.lx_exprs.specs.Points.{points_fault, singles}
@@ -100,9 +100,7 @@ module _ (options : Options) (definitions : List Definition) where
   leaf-one kind.Str is_operand seen lexeme = points-one lexeme (singles (points_in lexeme))
   leaf-one kind.Name is_operand seen lexeme = FindsOne-Finds (name_fault options definitions (definition_of definitions lexeme.text) lexeme seen)
   leaf-one kind.STag is_operand seen lexeme = FindsOne-Finds (tag_fault options definitions false lexeme seen)
-  leaf-one kind.MTag is_operand seen lexeme =
-      then_unsupported-one (Finds (tag_fault options definitions true lexeme seen)) lexeme
-      (FindsOne-Finds (tag_fault options definitions true lexeme seen))
+  leaf-one kind.MTag is_operand seen lexeme = FindsOne-Finds (tag_fault options definitions true lexeme seen)
   leaf-one kind.IStr is_operand seen lexeme = points-one lexeme (singles (points_in lexeme))
   leaf-one kind.Class is_operand seen lexeme =
       let Filled = IsFilled options definitions options.empty is_operand lexeme.at (LeafHas options definitions kind.Class lexeme) in
@@ -122,9 +120,7 @@ module _ (options : Options) (definitions : List Definition) where
   -- the checks of a form find one fault, or none
   pub Checks-one : (is_operand : Bool) (seen : List Tag) (form : Form) → FindsOne (Checks options definitions is_operand seen form)
   Checks-one is_operand seen (leaf lexeme) = leaf-one lexeme.kind is_operand seen lexeme
-  Checks-one is_operand seen (group opening inner) =
-      FindsOne-Then (Finds (group_fault options definitions opening)) (Checks options definitions (inner_operand options definitions is_operand) seen inner)
-      (FindsOne-Finds (group_fault options definitions opening)) (Checks-one (inner_operand options definitions is_operand) seen inner)
+  Checks-one is_operand seen (group opening inner) = Checks-one (inner_operand options definitions is_operand) seen inner
   Checks-one is_operand seen (repeated inner sign) =
       FindsOne-Then (Checks options definitions false seen inner) (Finds (bounds_fault sign)) (Checks-one false seen inner)
       (FindsOne-Finds (bounds_fault sign))
@@ -222,7 +218,7 @@ module _ (options : Options) (definitions : List Definition) where
     context-one from slash until = record { one = by }
       where
         Behind : (form behind : Form) → Check
-        Behind form behind = Then (Finds (unsupported (nth_lexeme lexemes slash))) (Checks options definitions false (tags_of options definitions form) behind)
+        Behind form behind = Checks options definitions false (tags_of options definitions form ++ slash_tag ∷ []) behind
 
         Both : (form behind : Form) → Check
         Both form behind = Then (Checks options definitions false [] form) (Behind form behind)
@@ -230,8 +226,7 @@ module _ (options : Options) (definitions : List Definition) where
         both-one : (form behind : Form) → FindsOne (Both form behind)
         both-one form behind =
             FindsOne-Then (Checks options definitions false [] form) (Behind form behind) (Checks-one false [] form)
-            (then_unsupported-one (Checks options definitions false (tags_of options definitions form) behind) (nth_lexeme lexemes slash)
-            (Checks-one false (tags_of options definitions form) behind))
+            (Checks-one false (tags_of options definitions form ++ slash_tag ∷ []) behind)
 
         by : (fault other : Option Fault) → ContextChecks options lexemes definitions from slash until fault
             → ContextChecks options lexemes definitions from slash until other → fault ≡ other
@@ -240,6 +235,14 @@ module _ (options : Options) (definitions : List Definition) where
             let same_behind = one_form (drop (suc slash) lexemes) (drop until lexemes) is.1 is_other.1 is.3 is_other.3 in
             (both-one is_other.0 is_other.1).one fault other
             (subst (λ (form : Form). Both form is_other.1 fault) same (subst (λ (behind : Form). Both is.0 behind fault) same_behind is.4)) is_other.4
+
+    -- an expression behind others has one meaning, if it has one
+    pub behind_meaning-one : (before : Before) (from until : ℕ) (form other : Form) (meaning meant : Meaning)
+        → IsExpression options lexemes from until form → IsExpression options lexemes from until other
+        → IsMeaning options definitions false before form meaning → IsMeaning options definitions false before other meant → meaning ≡ meant
+    behind_meaning-one before from until form other meaning meant is is_other means means_other =
+        let same = one_form (drop from lexemes) (drop until lexemes) form other is is_other in
+        meaning-one false before other meaning meant (subst (λ (form : Form). IsMeaning options definitions false before form meaning) same means) means_other
 
     -- an expression has one meaning, if it has one
     pub expression_meaning-one : (from until : ℕ) (form other : Form) (meaning meant : Meaning)

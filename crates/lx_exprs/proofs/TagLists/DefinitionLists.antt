@@ -1,20 +1,15 @@
 -- Definitions as entries of a map.
-use Rattle.std.proofs.Common.{◌≡◌, ℕ, Bool, true, false, List, [], ◌∷◌, ◌++◌, map, Option, None, Some, IfSome, All, refl, arith, ap, ◌∙◌, Vec, Global}
+use Rattle.std.proofs.Common.{◌≡◌, ℕ, Bool, true, false, List, [], ◌∷◌, ◌++◌, map, Option, None, Some, IfSome, All, refl, arith, ap, ◌∙◌}
 use Rattle.std.specs.Prelude.{if◌then◌else◌}
 use Rattle.std.specs.Borrow.{Bor}
 use Rattle.std.specs.Option.{option_map, option_copied}
 use Rattle.std.specs.Str.{bytes_eq}
 use Rattle.std.specs.Map.{lookup}
-use Rattle.std.proofs.lemmas.List.Elements.{All-cons, recursion_from_All}
-use Rattle.std.specs.List.{AllByRecursion}
+use Rattle.std.proofs.lemmas.List.Elements.{All-cons}
 use Rattle.std.proofs.lemmas.Slice.Eq.{bytes_eq-Decides}
-use Rattle.lx_exprs.specs.declared.definitions.Definitions.{Definitions}
 use Rattle.lx_exprs.specs.declared.definitions.Kept.{Kept}
 use Rattle.lx_exprs.specs.Defined.{Definition, definition_of}
-use Rattle.lx_exprs.specs.declared.definitions.Scope.{Scope}
-use Rattle.lx_exprs.specs.Seen.{definition_view, definitions_view, scope_view, seen_in}
-use Rattle.lx_exprs.specs.FitDefinitions.{AreFit, ScopeFits, DefinitionsFit, IsFitDefinition}
-use Rattle.lx_exprs.proofs.Forms.NoGroups.{IsUngrouped}
+use Rattle.lx_exprs.specs.Seen.{definition_view}
 
 module _ {K : Type 0} (items : K → List ℕ) where
   -- the entries as definitions
@@ -54,30 +49,6 @@ IfSome-copied P (Some x) holds = holds
 
 pub All-one : {T : Type 0} (P : T → Type 0) (item : T) → P item → All P (item ∷ [])
 All-one P item holds = All-cons P item [] holds (λ k d lt. absurd (omega (arith, lt)))
-
--- definitions that fit have no groups
-pub ungrouped_view : (definitions : Definitions) → DefinitionsFit definitions → AllByRecursion IsUngrouped (definitions_view definitions)
-ungrouped_view definitions fit = of definitions.by_name.entries (recursion_from_All (λ entry. IsFitDefinition entry.1) definitions.by_name.entries fit)
-  where
-    of : (entries : List (Vec ℕ Global × Kept)) → AllByRecursion (λ entry. IsFitDefinition entry.1) entries
-        → AllByRecursion IsUngrouped (map (λ entry. definition_view entry.0.items entry.1) entries)
-    of [] are = tt
-    of (entry ∷ entries) are = (are.0.1, of entries are.1)
-
--- and so has what a block sees
-ungrouped_append : (front back : List Definition) → AllByRecursion IsUngrouped front → AllByRecursion IsUngrouped back
-    → AllByRecursion IsUngrouped (front ++ back)
-ungrouped_append [] back are others = others
-ungrouped_append (first ∷ front) back are others = (are.0, ungrouped_append front back are.1 others)
-
-ungrouped_in : (definitions : Option (Bor Definitions)) → AreFit definitions → AllByRecursion IsUngrouped (seen_in definitions)
-ungrouped_in None fit = tt
-ungrouped_in (Some definitions) fit = ungrouped_view definitions.now fit
-
-pub ungrouped_scope : (scope : Scope) → ScopeFits scope → AllByRecursion IsUngrouped (scope_view scope)
-ungrouped_scope scope fit =
-    ungrouped_append (seen_in scope.kept) (seen_in scope.outer ++ definitions_view scope.own.now) (ungrouped_in scope.kept fit.0)
-    (ungrouped_append (seen_in scope.outer) (definitions_view scope.own.now) (ungrouped_in scope.outer fit.1) (ungrouped_view scope.own.now fit.2))
 
 -- what is defined in front is found there, and what is not, behind
 pub definition_of-front : (front back : List Definition) (name : List ℕ) (definition : Definition) → definition_of front name ≡ Some definition

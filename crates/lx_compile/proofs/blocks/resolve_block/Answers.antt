@@ -27,7 +27,7 @@ returns-in_err-after-clause-block c =
 pub returns-then-not-are_supported-clause-block : goal.returns-then-not-are_supported-clause-block
 returns-then-not-are_supported-clause-block c =
     let supported = c.are_supported.ensures in
-    let code : c.args.kind ≡ Code = search rules in
+    let code : c.args.kind ≡ Code = let is = c.if-ne.ensures in search rules in
     let read : IsRead c.args.body.now c.args.start c.in_ok-tokens.tokens c.in_ok-tree.tree.items =
     record { tokens_are = c.in_ok-tokens.ensures; items_are = c.in_ok-tree.ensures } in
     unsupported (environment_view c.in_ok-after.after) c.in_ok-after.resolved code

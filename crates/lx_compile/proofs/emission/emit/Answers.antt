@@ -1,6 +1,7 @@
 use Rattle.std.proofs.Common.{◌+◌, ◌≤◌, length, arith, drop}
 use Rattle.std.proofs.Math.ListN.{drop_of_length-le}
-use Rattle.lx_compile.proofs.KernelRuns.{HasNoneBefore-block, HasNoneBefore-outside, IsKernelFault-end}
+use Rattle.std.proofs.lemmas.Result.{err_from_is_err_and}
+use Rattle.lx_compile.proofs.KernelRuns.{HasNoneBefore-block, HasNoneBefore-outside, IsKernelFault-end, StopsByKernels-block}
 use Rattle.lx_compile.proofs.TextRuns.{HasTexts-block, HasTexts-end, HasTexts-outside, parts_from}
 use Rattle.lx_compile.proofs.emission.emit.Goals as goal
 use Rattle.lx_compile.proofs.emission.emit.Goals.{in-Outside+in_ok-extend_from_slice-in-Outside, in-Block+in_ok-append_block-in-Block}
@@ -43,3 +44,14 @@ returns c =
       HasTexts-end enc custom parts c.loop-part.number c.loop-part.output.items (rw (drop_of_length-le parts ended) at c.loop-part.invariant.texts),
       IsKernelFault-end enc parts (rw (drop_of_length-le parts ended) at c.loop-part.invariant.none),
     )
+
+pub returns-in_err-append_block-in-Block : goal.returns-in_err-append_block-in-Block
+returns-in_err-append_block-in-Block c =
+    let enc = c.args.options.now.enc in
+    let parts = c.args.parts.now in
+    let i = c.loop-part.part-index in
+    let p = err_from_is_err_and c.from_residual-in_err-append_block-in-Block.result c.from_residual-in_err-append_block-in-Block.ensures.1 in
+    let from = parts_from parts i c.part-item.result (omega arith) c.part-item.is in
+    let none = rw (from, c.in-Block.is) at c.loop-part.invariant.none in
+    rw (p.1, p.2)
+    (StopsByKernels-block enc parts (drop (i + 1) parts) c.in-Block.at c.in-Block.resolved c.in_err-append_block-in-Block.field-0.0 none c.in_err-append_block-in-Block.ensures)

@@ -1,4 +1,3 @@
-use Rattle.std.proofs.Common.{refl}
 use Rattle.lx_gen.proofs.Rules.RuleEndings.{no_end-simple}
 use Rattle.lx_compile.proofs.ActionTexts.{AreShort-of}
 use Rattle.lx_compile.proofs.emission.scanner_text.Goals as goal
@@ -11,4 +10,4 @@ generate-requires-clause-short c =
     rw (c.deref.ensures.value, c.in_ok-actions.ensures, c.as_slice.ensures) (AreShort-of c.args.resolved.now c.requires.emittable.fits)
 
 pub generate-requires-clause-free : goal.generate-requires-clause-free
-generate-requires-clause-free c = λ yes. rw c.requires.emittable.names refl
+generate-requires-clause-free c = c.requires.emittable.differ.1

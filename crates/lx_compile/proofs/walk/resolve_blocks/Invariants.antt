@@ -10,6 +10,6 @@ abbrev pub invariant-loop-piece : goal.invariant-loop-piece
 invariant-loop-piece l = record {
   walked : IsWalked l.options l.fn.pieces (into_iter_items l.piece-iterator) (environment_view l.env) l.parts;
   fit : HasFitDefinitions l.env;
-  defined : AreDefinedWithin l.options.enc (environment_view l.env).definitions;
+  defined : AreDefinedWithin l.options (environment_view l.env).definitions;
   count : into_iter_len l.piece-iterator ≡ length (into_iter_items l.piece-iterator);
 }

@@ -3,7 +3,7 @@ use Rattle.std.proofs.lemmas.List.{take_all}
 use Rattle.lx_regex.specs.Expr.{size_of, term_of}
 use Rattle.lx_regex.specs.declared.expr.Expr.{Expr, the_lemmas}
 use Rattle.lx_exprs.specs.Meanings.{shifted}
-use Rattle.lx_exprs.proofs.Contents.MemberCopies.{map-copies, member_below, cat-copies, alt-copies, rep-copies}
+use Rattle.lx_exprs.proofs.Contents.MemberCopies.{map-copies, member-sized, member_below, cat-copies, alt-copies, rep-copies}
 use Rattle.lx_exprs.proofs.copies.+copy.Goals as goal
 
 pub copy_members-loop-member-preserved : goal.copy_members-loop-member-preserved
@@ -17,10 +17,11 @@ copy_members-loop-member-preserved t c =
           rw next
           (map-copies (term_of 0) (λ (member : Expr). shifted c.args.by c.args.groups (term_of 0 member)) place members c.loop-member.copies.items c.push.new.self.items c.member-item.result copy c.loop-member-test.true
           c.member-item.is pushed c.in_ok-copy.ensures.term c.loop-member.invariant.terms);
-      sizes =
+      sizes = λ sized.
           rw next
           (map-copies size_of size_of place members c.loop-member.copies.items c.push.new.self.items c.member-item.result copy c.loop-member-test.true
-          c.member-item.is pushed c.in_ok-copy.ensures.size c.loop-member.invariant.sizes);
+          c.member-item.is pushed (c.in_ok-copy.ensures.size (member-sized c.args.groups place members c.member-item.result sized c.loop-member-test.true c.member-item.is))
+          (c.loop-member.invariant.sizes sized));
     }
 
 pub copy_members-returns-clause-terms : goal.copy_members-returns-clause-terms
@@ -54,5 +55,5 @@ copy-returns-in_ok-body-in-Rep-clause-term t c =
 
 pub copy_members-copy-requires : goal.copy_members-copy-requires
 copy_members-copy-requires t c =
-    let below = member_below 128 c.loop-member.member-index c.args.members.now c.member-item.result c.requires.tags c.loop-member-test.true c.member-item.is in
+    let below = member_below 0 128 c.loop-member.member-index c.args.members.now c.member-item.result c.requires.tags c.loop-member-test.true c.member-item.is in
     (search (rules, the_lemmas), (c.requires.by, (c.requires.groups, below)))

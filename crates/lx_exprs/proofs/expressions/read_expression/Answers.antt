@@ -1,40 +1,23 @@
-use Rattle.std.proofs.Common.{◌∙◌, map, subst}
-use Rattle.std.proofs.lemmas.Result.{err_from_is_err_and}
-use Rattle.lx_exprs.specs.Reading.{AreTaken, StopsReading, no_operands}
+use Rattle.std.proofs.Common.{List, subst}
+use Rattle.std.specs.Prelude.{MatchResult}
+use Rattle.std.proofs.lemmas.Result.{MatchResult-weaker}
+use Rattle.lx_regex.specs.declared.rules.Tag.{Tag}
+use Rattle.lx_exprs.specs.Checks.{StopsAt}
+use Rattle.lx_exprs.specs.Expressions.{ChecksBehind, IsReadBehind}
 use Rattle.lx_exprs.specs.Seen.{scope_view}
 use Rattle.lx_forms.specs.Seen.{lexemes_view}
-use Rattle.lx_forms.specs.StepViews.{step_view}
-use Rattle.lx_exprs.proofs.Forms.ExpressionRanges.{part_in_order, part_read, part_stops, steps_are}
-use Rattle.lx_exprs.proofs.TagLists.DefinitionLists.{ungrouped_scope}
+use Rattle.lx_exprs.proofs.Forms.ExpressionRanges.{read_first}
 use Rattle.lx_exprs.proofs.expressions.read_expression.Goals as goal
-
-pub take_steps-requires-clause-order : goal.take_steps-requires-clause-order
-take_steps-requires-clause-order c =
-    let options = c.args.reader.options.now in
-    let definitions = scope_view c.args.reader.scope in
-    rw c.deref.ensures.value
-    (part_in_order options definitions (lexemes_view c.args.lexemes) c.args.from c.args.until c.requires.part
-    (map (step_view (lexemes_view c.args.lexemes)) c.in_ok-steps.steps.items) (steps_are options definitions c.are_groups.result (c.are_groups.ensures definitions) c.in_ok-steps.ensures))
-
-pub returns-in_err-operands-clause-read : goal.returns-in_err-operands-clause-read
-returns-in_err-operands-clause-read c =
-    let options = c.args.reader.options.now in
-    let definitions = scope_view c.args.reader.scope in
-    let view = step_view (lexemes_view c.args.lexemes) in
-    let stopped = c.in_err-operands.field-0.0 in
-    let p = err_from_is_err_and c.from_residual-in_err-operands.result c.from_residual-in_err-operands.ensures.1 in
-    rw (p.1, p.2)
-    (part_stops options definitions (lexemes_view c.args.lexemes) c.args.from c.args.until c.requires.part
-    (map view c.in_ok-steps.steps.items) (steps_are options definitions c.are_groups.result (c.are_groups.ensures definitions) c.in_ok-steps.ensures) stopped
-    (subst (λ l. StopsReading options definitions no_operands (map view l) stopped) c.deref.ensures.value c.in_err-operands.ensures.taken))
 
 pub returns-clause-read : goal.returns-clause-read
 returns-clause-read c =
     let options = c.args.reader.options.now in
+    let lexemes = lexemes_view c.args.lexemes in
     let definitions = scope_view c.args.reader.scope in
-    let view = step_view (lexemes_view c.args.lexemes) in
-    part_read options definitions (lexemes_view c.args.lexemes) c.args.from c.args.until c.requires.part
-    (map view c.in_ok-steps.steps.items) (steps_are options definitions c.are_groups.result (c.are_groups.ensures definitions) c.in_ok-steps.ensures) c.args.reader.room c.in_ok-operands.operands c.pop-value.new.self.values.items
-    (record { value = c.pop-value.result; tags = c.in_ok-tags.tags }) (ungrouped_scope c.args.reader.scope c.requires.fit)
-    (subst (λ l. AreTaken options definitions c.args.reader.room no_operands (map view l) c.in_ok-operands.operands) c.deref.ensures.value c.in_ok-operands.ensures.taken)
-    c.pop-value.ensures.values (c.in_ok-tags.ensures ∙ c.pop-value.ensures.seen)
+    let room = c.args.reader.room in
+    let behind = subst
+    (λ (seen : List Tag). MatchResult c.read_behind.result (IsReadBehind options lexemes definitions room (record { tags = seen; groups = 0 }) c.args.from c.args.until)
+    (StopsAt (ChecksBehind options lexemes definitions seen c.args.from c.args.until)))
+    c.new.ensures c.read_behind.ensures.read in
+    MatchResult-weaker c.read_behind.result behind
+    (λ reading read. read_first options lexemes definitions room c.args.from c.args.until reading read) (λ stopped stops. stops)

@@ -1,7 +1,7 @@
 use Rattle.std.proofs.Common.{◌≡◌, ◌∙◌, ◌+◌, ◌++◌, ◌∷◌, Ok, false, suc, arith, ap, get_or, length, map, take, drop, subst, sym}
 use Rattle.std.proofs.lemmas.Result.{err_from_is_err_and}
 use Rattle.std.proofs.lemmas.List.{take-append-drop}
-use Rattle.lx_exprs.specs.Reading.{AreInOrder, Goes, StopsReading, ends, no_operands}
+use Rattle.lx_exprs.specs.Reading.{AreInOrder, Goes, StopsReading, ends, operands_behind}
 use Rattle.lx_exprs.specs.Seen.{scope_view}
 use Rattle.lx_forms.specs.Seen.{lexemes_view}
 use Rattle.lx_forms.specs.StepViews.{step_view}
@@ -11,10 +11,10 @@ use Rattle.lx_exprs.proofs.expressions.take_steps.Goals as goal
 
 pub loop-step-init : goal.loop-step-init
 loop-step-init c =
-    let none = ap length c.new-operands.ensures.none in record {
-      taken = record { after = no_operands; goes = ends; stands = c.new-operands.ensures.stands c.args.reader.room };
+    let none = ap length c.behind-operands.ensures.none in record {
+      taken = record { after = (operands_behind (record { tags = c.args.seen; groups = c.args.groups })); goes = ends; stands = c.behind-operands.ensures.stands c.args.reader.room };
       order = subst (λ n. AreInOrder n (map (step_view (lexemes_view c.args.lexemes)) c.args.steps.now)) (sym none) c.requires.order;
-      bounded = c.new-operands.ensures.bounded;
+      bounded = c.behind-operands.ensures.bounded;
     }
 
 pub take-requires-clause-needs : goal.take-requires-clause-needs
@@ -39,8 +39,8 @@ returns-in_err-take-clause-taken c =
     let stopped = c.in_err-take.field-0.0 in
     let p = err_from_is_err_and c.from_residual.result c.from_residual.ensures.1 in
     rw (p.1, p.2)
-    (subst (λ l. StopsReading options definitions no_operands l stopped) whole
-    (goes-stops options definitions no_operands taken.after (take place (map view steps)) (view step) (drop (suc place) (map view steps)) stopped
+    (subst (λ l. StopsReading options definitions (operands_behind (record { tags = c.args.seen; groups = c.args.groups })) l stopped) whole
+    (goes-stops options definitions (operands_behind (record { tags = c.args.seen; groups = c.args.groups })) taken.after (take place (map view steps)) (view step) (drop (suc place) (map view steps)) stopped
     taken.goes (c.in_err-take.ensures.stands taken.after taken.stands)))
 
 pub loop-step-preserved : goal.loop-step-preserved
@@ -60,9 +60,9 @@ loop-step-preserved c =
       taken = record {
         after = more.after;
         goes =
-            subst (λ l. Goes options definitions no_operands l (Ok more.after))
+            subst (λ l. Goes options definitions (operands_behind (record { tags = c.args.seen; groups = c.args.groups })) l (Ok more.after))
             (sym (take-next view place steps (record { sort = Read; place = 0; is_operand = false }) c.loop-step-test.true))
-            (goes-snoc options definitions no_operands taken.after more.after (take place (map view steps)) (view step) taken.goes more.checked more.stepped);
+            (goes-snoc options definitions (operands_behind (record { tags = c.args.seen; groups = c.args.groups })) taken.after more.after (take place (map view steps)) (view step) taken.goes more.checked more.stepped);
         stands = more.stands;
       };
       order = subst (λ n. AreInOrder n (drop (suc place) (map view steps))) (sym c.in_ok-take.ensures.depth) order.1;

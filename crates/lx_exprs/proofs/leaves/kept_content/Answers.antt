@@ -1,4 +1,4 @@
-use Rattle.std.proofs.Common.{◌≡◌, ◌∙◌, ◌+◌, ◌*◌, ◌≤◌, ap, ap₂, arith, length, refl, subst, sym}
+use Rattle.std.proofs.Common.{◌≡◌, ◌∙◌, ◌+◌, ◌*◌, ◌≤◌, ap, ap₂, arith, inr, length, refl, subst, sym}
 use Rattle.std.proofs.lemmas.List.{length-append}
 use Rattle.std.specs.Option.{option_map}
 use Rattle.lx_regex.specs.Expr.{term_of}
@@ -6,7 +6,7 @@ use Rattle.lx_exprs.specs.Defined.{and_more, class_in, count_of, kept, one}
 use Rattle.lx_exprs.specs.Meanings.{shifted, term_or_empty}
 use Rattle.lx_exprs.specs.FitDefinitions.{FitsKept}
 use Rattle.lx_exprs.specs.Values.{HasPoints, HasTagsBelow}
-use Rattle.lx_exprs.proofs.TagLists.TermTags.{HasTagsBelow-greater, HasTagsBelow-shifted, class_in-shifted}
+use Rattle.lx_exprs.proofs.TagLists.TermTags.{HasTagsBelow-greater, HasTagsBelow-shifted, HasTagsBelow-whole, class_in-shifted}
 use Rattle.lx_exprs.proofs.leaves.kept_content.Goals as goal
 
 pub returns-then-count_of-gt-TAG_LIMIT-clause-stands : goal.returns-then-count_of-gt-TAG_LIMIT-clause-stands
@@ -24,9 +24,10 @@ pub copy-requires-clause-tags : goal.copy-requires-clause-tags
 copy-requires-clause-tags c =
     let tags = c.args.definition.now.tags in
     let own = length tags + 2 * c.args.definition.now.groups in
-    let fits = subst (λ expr. FitsKept expr c.args.definition.now.size own) c.in-Some.is c.requires.0 in
-    HasTagsBelow-greater own 128 (term_of 0 c.in-Some.expr)
-    (omega (arith, c.len.ensures, c.sum-tags.ensures, c.sum.ensures, c.count_of.ensures, c.if-count_of-gt-TAG_LIMIT.false)) fits.2
+    let fits = subst (λ expr. FitsKept 1 expr c.args.definition.now.size own) c.in-Some.is c.requires in
+    HasTagsBelow-whole 128 (term_of 0 c.in-Some.expr)
+    (HasTagsBelow-greater 1 own 128 (term_of 0 c.in-Some.expr)
+    (omega (arith, c.len.ensures, c.sum-tags.ensures, c.sum.ensures, c.count_of.ensures, c.if-count_of-gt-TAG_LIMIT.false)) fits.2)
 
 pub returns-clause-stands : goal.returns-clause-stands
 returns-clause-stands c built before by groups past =
@@ -40,10 +41,18 @@ pub returns-clause-tags : goal.returns-clause-tags
 returns-clause-tags c before by groups =
     let tags = c.args.definition.now.tags in
     let own = length tags + 2 * c.args.definition.now.groups in
-    let fits = subst (λ expr. FitsKept expr c.args.definition.now.size own) c.in-Some.is c.requires.0 in
+    let fits = subst (λ expr. FitsKept 1 expr c.args.definition.now.size own) c.in-Some.is c.requires in
     let all = length-append before.tags tags in
     let less : c.args.by + 2 * c.args.groups + own ≤ kept (count_of (and_more before tags c.args.definition.now.groups)) =
     omega (arith, by, groups, all, c.len.ensures, c.sum-tags.ensures, c.sum.ensures, c.count_of.ensures, c.if-count_of-gt-TAG_LIMIT.false) in
-    subst (HasTagsBelow _) (sym c.in_ok-copy.ensures.term)
-    (HasTagsBelow-greater (c.args.by + 2 * c.args.groups + own) (kept (count_of (and_more before tags c.args.definition.now.groups))) (shifted c.args.by c.args.groups (term_of 0 c.in-Some.expr)) less
+    subst (HasTagsBelow 1 _) (sym c.in_ok-copy.ensures.term)
+    (HasTagsBelow-greater 1 (c.args.by + 2 * c.args.groups + own) (kept (count_of (and_more before tags c.args.definition.now.groups))) (shifted c.args.by c.args.groups (term_of 0 c.in-Some.expr)) less
     (HasTagsBelow-shifted c.args.by c.args.groups own (term_of 0 c.in-Some.expr) fits.2))
+
+pub returns-clause-size : goal.returns-clause-size
+returns-clause-size c =
+    let own = length c.args.definition.now.tags + 2 * c.args.definition.now.groups in
+    let fits = subst (λ expr. FitsKept 1 expr c.args.definition.now.size own) c.in-Some.is c.requires in
+    let small = HasTagsBelow-greater 1 own 128 (term_of 0 c.in-Some.expr)
+    (omega (arith, c.len.ensures, c.sum-tags.ensures, c.sum.ensures, c.count_of.ensures, c.if-count_of-gt-TAG_LIMIT.false)) fits.2 in
+    omega (arith, fits.1, c.in_ok-copy.ensures.size (inr small))

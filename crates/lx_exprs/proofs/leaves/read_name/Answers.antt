@@ -44,7 +44,7 @@ returns-clause-bounded c =
     let before : Before = record { tags = c.args.seen.now; groups = c.args.groups } in
     let held = c.in-Some.kept.now in
     let fit = c.in-Some.ensures.fit c.requires.fit in
-    let some = size-some held.expr held.size (length held.tags + 2 * held.groups) fit.0 in
+    let some = size-some 1 held.expr held.size (length held.tags + 2 * held.groups) fit in
     let size = c.in_ok-content.ensures.size in
     let added : c.add.new.self ≡ before.tags ++ held.tags = c.in_ok-add.ensures in
     let many = ap (λ (l : List Tag). length l) added in

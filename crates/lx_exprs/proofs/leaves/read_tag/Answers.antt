@@ -1,5 +1,4 @@
-use Rattle.std.proofs.Common.{◌≡◌, ◌∙◌, ◌∷◌, ◌++◌, [], false, suc, ap, arith, refl, subst, sym}
-use Rattle.lx_token.specs.declared.kinds.TokenKind.TheVariants as kind
+use Rattle.std.proofs.Common.{◌≡◌, ◌∙◌, ◌∷◌, ◌++◌, [], suc, ap, arith, refl, subst, sym}
 use Rattle.lx_exprs.specs.Checks.{is_tag_among, tag_of}
 use Rattle.lx_exprs.specs.Defined.{Before, count_of, is_built, kept}
 use Rattle.lx_exprs.specs.Meanings.{tag_meaning}
@@ -7,7 +6,7 @@ use Rattle.lx_exprs.specs.Seen.{scope_view}
 use Rattle.lx_forms.specs.Seen.{lexeme_view}
 use Rattle.lx_exprs.specs.Values.{AreTagsBelow}
 use Rattle.lx_exprs.proofs.Contents.LeafContents.{fits-tagged}
-use Rattle.lx_exprs.proofs.Contents.LeafSteps.{kind-read, tag_fault-none}
+use Rattle.lx_exprs.proofs.Contents.LeafSteps.{tag-read, tag_fault-none}
 use Rattle.lx_exprs.proofs.leaves.read_tag.Goals as goal
 
 pub returns-clause-read : goal.returns-clause-read
@@ -15,16 +14,17 @@ returns-clause-read c is_operand =
     let reader = c.args.reader in
     let before : Before = record { tags = c.args.seen.now; groups = c.args.groups } in
     let lexeme = lexeme_view c.args.lexeme.now in
-    let named = tag_of false lexeme in
+    let many = c.args.many in
+    let named = tag_of many lexeme in
     let meaning = tag_meaning before named in
     let tags : c.sum-tags.result ≡ kept (suc (count_of before)) = omega (arith, c.sum-tags.ensures, c.count_of.ensures, c.len-number.ensures) in
     let content =
     c.tag_content-content.ensures.stands (is_built reader.room meaning) before named c.len-number.ensures
     (fits-tagged reader.room c.requires.room 1 0 (suc (count_of before))) in
     let among = ap (λ name. is_tag_among name before.tags) (sym c.tag_name-name.ensures) ∙ sym c.if-contains.ensures in
-    kind-read reader.options.now (scope_view reader.scope) reader.room is_operand before lexeme kind.STag c.requires.sort
-    (tag_fault-none reader.options.now (scope_view reader.scope) reader.room is_operand before lexeme false c.if-not-reader.false among) meaning refl c.push.new.self
-    (c.in_ok-push.ensures ∙ ap (λ name. before.tags ++ record { name = name; many = false } ∷ []) c.tag_name-name.ensures) c.in_ok-limited.field-0
+    tag-read reader.options.now (scope_view reader.scope) reader.room is_operand before lexeme many c.requires.sort
+    (tag_fault-none reader.options.now (scope_view reader.scope) reader.room is_operand before lexeme many c.if-not-reader.false among) c.push.new.self
+    (c.in_ok-push.ensures ∙ ap (λ name. before.tags ++ record { name = name; many = many } ∷ []) c.tag_name-name.ensures) c.in_ok-limited.field-0
     (c.in_ok-limited.ensures.stands meaning (record { size_is = refl; nesting_is = refl; groups_is = refl; tags_is = tags }) content)
 
 pub returns-clause-bounded : goal.returns-clause-bounded

@@ -17,4 +17,4 @@ returns-in_ok-expr-in_default-clause-stands c built count past =
 pub returns-in_ok-expr-in_default-clause-tags : goal.returns-in_ok-expr-in_default-clause-tags
 returns-in_ok-expr-in_default-clause-tags c bound =
     let sets = map (character_set c.args.policy c.args.is_caseless) (points_of c.args.characters.now) in
-    subst (HasTagsBelow bound) (sym c.in_ok-expr-in_default.ensures.term) (set_terms-below bound sets)
+    subst (HasTagsBelow 1 bound) (sym c.in_ok-expr-in_default.ensures.term) (set_terms-below bound sets)

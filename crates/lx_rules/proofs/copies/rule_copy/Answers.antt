@@ -1,4 +1,4 @@
-use Rattle.std.proofs.Common.{◌∙◌, refl}
+use Rattle.std.proofs.Common.{◌∙◌, inl, refl}
 use Rattle.lx_regex.specs.Expr.{term_of}
 use Rattle.lx_rules.proofs.CopiedRules.{shifted-nothing}
 use Rattle.lx_rules.proofs.copies.rule_copy.Goals as goal
@@ -8,10 +8,11 @@ returns c = record {
   number = refl;
   kind = refl;
   tags = c.in_ok-tag_copies.ensures;
-  slash = refl;
+  slash = c.number_of.ensures;
+  slashed = c.requires.4;
   groups = refl;
   expr = c.in-Some.expr;
   kept = c.in-Some.is;
   term = c.in_ok-copy.ensures.term ∙ shifted-nothing (term_of 0 c.in-Some.expr);
-  size = c.in_ok-copy.ensures.size;
+  size = c.in_ok-copy.ensures.size (inl refl);
 }

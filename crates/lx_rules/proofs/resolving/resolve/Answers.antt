@@ -59,7 +59,7 @@ returns-clause-within c = λ ready.
     subst (λ tokens. Goes options (lexemes_of c.args.body.now tokens) (first_state Code environment) items (Ok goes.0)) c.as_slice.ensures
     (subst (λ l. Goes options (lexemes_of c.args.body.now c.as_slice.result.now) (first_state Code environment) l (Ok goes.0)) c.as_slice-2.ensures goes.1) in
     if_ok_so (IsFinished options.conds options.custom c.args.at goes.0)
-    (λ answer. AreDefinedWithin options.enc (environment_view answer.0).definitions × AllByRecursion (IsScannerWithin options.enc) answer.1.scanners)
+    (λ answer. AreDefinedWithin options (environment_view answer.0).definitions × AllByRecursion (IsScannerWithin options.enc) answer.1.scanners)
     (StopsAt (ScannerChecks c.args.options.now.custom c.args.at goes.0)) c.finish.result (c.finish.ensures goes.0 goes.2)
     (λ answer is.
     resolved_within options c.args.at environment (environment_view answer.0) lexemes items goes.0 answer.1 gone is.0

@@ -1,5 +1,4 @@
-use Rattle.std.proofs.Common.{◌≡◌, ◌++◌, ◌∙◌, None, Some, sym}
-use Rattle.lx_exprs.specs.Defined.{definition_of}
+use Rattle.std.proofs.Common.{◌++◌, ◌∙◌, sym}
 use Rattle.lx_exprs.specs.Seen.{definition_view, definitions_view, seen_in}
 use Rattle.lx_exprs.proofs.TagLists.DefinitionLists.{definition_of-back, definition_of-front}
 use Rattle.lx_exprs.proofs.definitions.Scope.get.Goals as goal

@@ -33,5 +33,5 @@ returns-clause-choice c choice =
 pub returns-clause-tags : goal.returns-clause-tags
 returns-clause-tags c bound left right =
     below-more bound c.in-Some.members.items c.push.new.self.items c.in-Some-into_expr.expr c.in_ok-push.ensures.items
-    (subst (λ o. IfSome o (λ members. HaveTagsBelow bound (members_of (map (term_of 0) members.items)))) c.in-Some.is (c.in_ok-members.ensures.tags bound left))
+    (subst (λ o. IfSome o (λ members. HaveTagsBelow 1 bound (members_of (map (term_of 0) members.items)))) c.in-Some.is (c.in_ok-members.ensures.tags bound left))
     (c.in-Some-into_expr.ensures.tags bound right)

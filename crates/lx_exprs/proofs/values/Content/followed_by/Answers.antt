@@ -14,5 +14,5 @@ returns-clause-stands c front back around first second is is' off off' =
 pub returns-clause-tags : goal.returns-clause-tags
 returns-clause-tags c bound left right =
     below-both bound c.in-Some.front.items c.in-Some-back.back.items c.in_ok-joined.field-0.items c.in_ok-joined.ensures
-    (subst (λ o. IfSome o (λ members. HaveTagsBelow bound (members_of (map (term_of 0) members.items)))) c.in-Some.is (c.in_ok-front.ensures.tags bound left))
-    (subst (λ o. IfSome o (λ members. HaveTagsBelow bound (members_of (map (term_of 0) members.items)))) c.in-Some-back.is (c.in_ok-back.ensures.tags bound right))
+    (subst (λ o. IfSome o (λ members. HaveTagsBelow 1 bound (members_of (map (term_of 0) members.items)))) c.in-Some.is (c.in_ok-front.ensures.tags bound left))
+    (subst (λ o. IfSome o (λ members. HaveTagsBelow 1 bound (members_of (map (term_of 0) members.items)))) c.in-Some-back.is (c.in_ok-back.ensures.tags bound right))

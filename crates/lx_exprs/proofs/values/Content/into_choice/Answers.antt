@@ -18,5 +18,5 @@ returns-in_ok-vec-in-Some c =
       past = tt;
       size = rw items (omega (arith, size));
       choice = λ choice. absurd (choice_other c.args.self c.in-Some.ensures.kept (λ members same. c.in_default.not-Choice members same) choice);
-      tags = λ bound below. subst (λ l. HaveTagsBelow bound (members_of (map (term_of 0) l))) (sym items) (c.in-Some.ensures.tags bound below, tt);
+      tags = λ bound below. subst (λ l. HaveTagsBelow 1 bound (members_of (map (term_of 0) l))) (sym items) (c.in-Some.ensures.tags bound below, tt);
     }

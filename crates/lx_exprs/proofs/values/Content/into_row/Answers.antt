@@ -17,5 +17,5 @@ returns-in_ok-vec-in-Some c =
           (c.in-Some.ensures.built built meaning is);
       past = tt;
       size = rw items (omega (arith, size));
-      tags = λ bound below. subst (λ l. HaveTagsBelow bound (members_of (map (term_of 0) l))) (sym items) (c.in-Some.ensures.tags bound below, tt);
+      tags = λ bound below. subst (λ l. HaveTagsBelow 1 bound (members_of (map (term_of 0) l))) (sym items) (c.in-Some.ensures.tags bound below, tt);
     }

@@ -7,7 +7,7 @@ use Rattle.std.proofs.Math.ListN.{get_or-map}
 use Rattle.std.proofs.lemmas.List.{length-map, take-map}
 use Rattle.lx_exprs.specs.Checks.{is_among}
 use Rattle.lx_rules.specs.Blocks.{every}
-use Rattle.lx_rules.specs.Conditions.{cond_names, nothing_runs, running_of, running_with}
+use Rattle.lx_rules.specs.Conditions.{cond_names, nothing_stands, standing_of, standing_with}
 use Rattle.lx_rules.proofs.CondNumbers.{counted-more, names_one, none_at, numbers_one, take_one, within_one}
 use Rattle.lx_rules.proofs.conditions.Conditions.count_each.Goals.{then-is_among, else-is_among}
 use Rattle.lx_rules.proofs.conditions.Conditions.count_each.Goals as goal
@@ -44,13 +44,13 @@ loop-place-preserved c =
     let kept = c.loop-place.invariant in
     let counts = c.in_ok-count.ensures in
     let among : c.is_among.result ≡ is_among name seen = c.is_among.ensures ∙ ap (is_among name) (sym (take-map (λ cond. cond.now) place conds)) in
-    let more : c.if-is_among.more ≡ (if is_among name seen then nothing_runs else c.args.rule) =
+    let more : c.if-is_among.more ≡ (if is_among name seen then nothing_stands else c.args.rule) =
     elim c.if-is_among.branch [
       | then-is_among w ↦
           w.more-is ∙ w.none-more.ensures
-          ∙ sym (ap (λ test. if test then nothing_runs else c.args.rule) (sym among ∙ w.if-is_among.true))
+          ∙ sym (ap (λ test. if test then nothing_stands else c.args.rule) (sym among ∙ w.if-is_among.true))
       | else-is_among w ↦
-          w.more-is ∙ sym (ap (λ test. if test then nothing_runs else c.args.rule) (sym among ∙ w.if-is_among.false))
+          w.more-is ∙ sym (ap (λ test. if test then nothing_stands else c.args.rule) (sym among ∙ w.if-is_among.false))
     ] in record {
       names = names_one (names_in conds) place name lt is (cond_names first) (cond_names last) (cond_names next) kept.names counts.names;
       numbers =
@@ -60,8 +60,8 @@ loop-place-preserved c =
       within =
           subst (AllByRecursion (λ number. number < length (cond_names next))) (sym c.in_ok-push.ensures.items)
           (within_one (cond_names last) (cond_names next) name c.loop-place.numbers.items c.in_ok-count.field-0 counts.names kept.within counts.within);
-      running = λ cond.
-          counted-more seen name c.args.rule c.if-is_among.more (running_of first) (running_of last) (running_of next) more kept.running counts.running cond
-          ∙ ap (λ l. if is_among cond l then running_with (running_of first cond) c.args.rule else running_of first cond)
+      standing = λ cond.
+          counted-more seen name c.args.rule c.if-is_among.more (standing_of first) (standing_of last) (standing_of next) more kept.standing counts.standing cond
+          ∙ ap (λ l. if is_among cond l then standing_with (standing_of first cond) c.args.rule else standing_of first cond)
           (sym (take_one (names_in conds) place name lt is));
     }
