@@ -1,6 +1,6 @@
 -- The text of an action stands in the body of its block, and begins with a brace.
-use Rattle.std.proofs.Common.{◌≡◌, ℕ, zero, suc, ◌<◌, ◌-◌, ◌∙◌, arith, inl, inr, Bool, true, false, List, [], ◌∷◌, ◌++◌, map, length, take, drop, codes, Option, Some, None, Result, Ok, refl, sym, ap, subst}
-use Rattle.std.specs.Prelude.{◌==◌, if◌then◌else◌, is_some}
+use Rattle.std.proofs.Common.{◌≡◌, ℕ, zero, suc, ◌<◌, ◌-◌, ◌∙◌, arith, Bool, true, false, List, [], ◌∷◌, ◌++◌, map, length, take, drop, codes, Option, Some, None, Result, Ok, refl, sym, ap, subst}
+use Rattle.std.specs.Prelude.{◌==◌, IfSome, if◌then◌else◌, is_some}
 use Rattle.std.specs.List.{AllByRecursion}
 use Rattle.std.proofs.lemmas.Bool.{eqb-true}
 use Rattle.std.proofs.lemmas.List.{take-append-drop}
@@ -16,14 +16,12 @@ use Rattle.lx_parse.specs.declared.items.Item.TheVariants.{Define, Configure, Ru
 use Rattle.lx_parse.specs.declared.sorts.Sort.{Sort}
 use Rattle.lx_parse.specs.declared.sorts.Sort.TheVariants.{Code}
 use Rattle.lx_parse.proofs.Behind.{IsBehind, here, behind_next, behind_trans, drop-place, head_behind, item_behind, list_behind}
-use Rattle.lx_exprs.specs.Checks.{Check, Then}
 use Rattle.lx_rules.specs.Environments.{Environment}
-use Rattle.lx_rules.specs.Items.{Goes, HeadChecks, IsAfter, ItemChecks, ListChecks, State, TargetChecks, act_of, conds_of, ends, head_sort, next, refused}
+use Rattle.lx_rules.specs.Items.{Goes, IsAfter, State, act_of, ends, next, refused}
 use Rattle.lx_rules.specs.Rules.{RuleOf}
 use Rattle.lx_forms.specs.Lexemes.{Lexeme, lexeme_of, lexemes_of, nth_lexeme, sort_at}
 use Rattle.lx_rules.specs.declared.resolved.Act.{Act}
 use Rattle.lx_rules.specs.declared.resolved.Resolved.{Resolved}
-use Rattle.lx_exprs.proofs.Forms.ClassForms.{then-none}
 use Rattle.lx_token.specs.Spans.{AreInOrder, EachStands, Stands}
 use Rattle.lx_token.specs.declared.kinds.TokenKind.{TokenKind}
 use Rattle.lx_token.specs.declared.kinds.TokenKind.TheVariants as kind
@@ -112,60 +110,47 @@ lexeme_at_place body start from size (token ∷ tokens) (suc place) rest order s
 -- ---- items
 
 module _ (options : Options) (body : List ℕ) (lexemes : List Lexeme) where
-  -- where an item is a rule, its action is one of the body, or it has a target
+  -- where an item is a rule with an action, that is one of the body
   abbrev ItemActs : Item → Type 0
-  ItemActs (Rule first head slash until goes (Some coded)) = IsAction body (nth_lexeme lexemes coded).text
-  ItemActs (Rule first head slash until goes None) = goes ≡ None → ⊥
+  ItemActs (Rule first head slash until goes coded) = IfSome coded (λ place. IsAction body (nth_lexeme lexemes place).text)
   ItemActs _ = Unit {0}
 
   abbrev EachActs : List Item → Type 0
   EachActs items = AllByRecursion ItemActs items
 
-  -- the act of a rule has such an action
+  -- the act of a rule has such an action, if it has one
   abbrev pub HasAct : Act → Type 0
-  HasAct act = (text : List ℕ) × (act.code ≡ Some text) × IsAction body text
+  HasAct act = IfSome act.code (IsAction body)
 
   -- so do those of all rules so far
   abbrev pub HaveActs : State → Type 0
   HaveActs state = AllByRecursion (λ (one : RuleOf). HasAct one.act) state.rules
 
-  no_target : (goes : Option ℕ) → TargetChecks options lexemes goes None → goes ≡ None
-  no_target None checks = refl
-  no_target (Some goes) checks =
-      absurd (elim checks [
-        | inl found ↦ let h = found.0 in cc
-        | inr found ↦ let h = found.2 in cc
-      ])
-
-  act_has : (number : ℕ) (first head until : ℕ) (slash goes coded : Option ℕ) → goes ≡ None → ItemActs (Rule first head slash until goes coded)
+  act_has : (number : ℕ) (goes coded : Option ℕ) → IfSome coded (λ place. IsAction body (nth_lexeme lexemes place).text)
       → HasAct (act_of options lexemes number goes coded)
-  act_has number first head until slash goes (Some coded) none acts = ((nth_lexeme lexemes coded).text, refl, acts)
-  act_has number first head until slash goes None none acts = absurd (acts none)
+  act_has number goes (Some coded) acts = acts
+  act_has number (Some goes) None acts = tt
+  act_has number None None acts = tt
 
   acts-append : (rules : List RuleOf) (one : RuleOf) → AllByRecursion (λ (rule : RuleOf). HasAct rule.act) rules → HasAct one.act
       → AllByRecursion (λ (rule : RuleOf). HasAct rule.act) (rules ++ one ∷ [])
   acts-append [] one have has = (has, tt)
   acts-append (first ∷ rules) one have has = (have.0, acts-append rules one have.1 has)
 
-  acts-after : (state : State) (item : Item) (after : State) → ItemChecks options lexemes state item None → IsAfter options lexemes state item after
-      → ItemActs item → HaveActs state → HaveActs after
-  acts-after state (Define name from until) after checks is acts have = subst HaveActs (sym is.6) have
-  acts-after state (Configure name value) after checks is acts have = subst HaveActs (sym is.2) have
-  acts-after state (Rule first head slash until goes coded) after checks is acts have =
-      let sort = head_sort (sort_at (nth_lexeme lexemes head)) in
-      let Heads : Check = HeadChecks options lexemes state sort (conds_of options lexemes first head) head slash until in
-      let Lists : Check = ListChecks options lexemes (first == head) (nth_lexeme lexemes first).at in
-      let checked = then-none Lists (Then Heads (TargetChecks options lexemes goes)) checks in
-      let last = then-none Heads (TargetChecks options lexemes goes) checked.1 in
-      subst HaveActs (sym is.3) (acts-append state.rules _ have (act_has (suc (length state.rules)) first head until slash goes coded (no_target goes last.1) acts))
-  acts-after state (Text value) after checks is acts have = subst HaveActs (sym is) have
+  acts-after : (state : State) (item : Item) (after : State) → IsAfter options lexemes state item after → ItemActs item → HaveActs state
+      → HaveActs after
+  acts-after state (Define name from until) after is acts have = subst HaveActs (sym is.6) have
+  acts-after state (Configure name value) after is acts have = subst HaveActs (sym is.2) have
+  acts-after state (Rule first head slash until goes coded) after is acts have =
+      subst HaveActs (sym is.3) (acts-append state.rules _ have (act_has (suc (length state.rules)) goes coded acts))
+  acts-after state (Text value) after is acts have = subst HaveActs (sym is) have
 
   acts-goes : {state : State} {items : List Item} {result : Result State Fault} → Goes options lexemes state items result
       → (last : State) → result ≡ Ok last → EachActs items → HaveActs state → HaveActs last
   acts-goes (ends {state = state}) last is acts have = let same : state ≡ last = cc in subst HaveActs same have
   acts-goes (refused fault checks) last is acts have = absurd cc
   acts-goes (next {state = state} {item = item} after checks becomes goes) last is acts have =
-      acts-goes goes last is acts.1 (acts-after state item after checks becomes acts.0 have)
+      acts-goes goes last is acts.1 (acts-after state item after becomes acts.0 have)
 
   acts-map : (rules : List RuleOf) → AllByRecursion (λ (rule : RuleOf). HasAct rule.act) rules → AllByRecursion HasAct (map (λ (rule : RuleOf). rule.act) rules)
   acts-map [] have = tt
@@ -188,7 +173,7 @@ module _ (options : Options) (body : List ℕ) (start : Pos) (tokens : List Toke
   action_acts first head until slash goes coded text rest behind (code _) = code_at rest behind
   action_acts first head until slash goes coded text rest behind (code_and_target _) =
       code_at rest (behind_next sorts (Code ∷ rest) _ (behind_next sorts (_ ∷ Code ∷ rest) _ behind))
-  action_acts first head until slash goes coded text rest behind (target _) = λ none. cc
+  action_acts first head until slash goes coded text rest behind (target _) = tt
 
   item_acts : (item : Item) (text rest : List Sort) → IsBehind sorts text → ReadsItem (length sorts) item text rest → Acts item
   item_acts item text rest behind (define inner _ read) = tt
@@ -202,10 +187,10 @@ module _ (options : Options) (body : List ℕ) (start : Pos) (tokens : List Toke
   items_act items text behind (next_item item others _ rest read more) =
       (item_acts item text rest behind read, items_act others rest (behind_trans sorts text rest behind (item_behind (length sorts) item text rest read)) more)
 
--- each act of a block has an action that stands in the block's body
+-- the action of each act of a block that has one stands in the block's body
 pub acts_of_body : (options : Options) (environment : Environment) (body : List ℕ) (at start : Pos) (after : Environment) (resolved : Resolved)
     → IsResolvedBody options environment body at start after resolved
-    → AllByRecursion (λ (act : Act). (text : List ℕ) × (act.code ≡ Some text) × IsAction body text) resolved.acts
+    → AllByRecursion (λ (act : Act). IfSome act.code (IsAction body)) resolved.acts
 acts_of_body options environment body at start after resolved is =
     let stand = tokens_stand body start is.tokens is.read.tokens_are in
     let lexemes : List Lexeme = lexemes_of body is.tokens in

@@ -11,6 +11,7 @@ use Rattle.lx_base.specs.declared.faults.Stop.TheVariants as stop
 use Rattle.lx_base.specs.declared.places.Pos.{Pos}
 use Rattle.lx_base.specs.declared.settings.Options.{Options}
 use Rattle.lx_parse.specs.Blocks.{place_of_next}
+use Rattle.lx_rules.specs.Blocks.{of_scanners}
 use Rattle.lx_rules.specs.Environments.{Environment, first_environment}
 use Rattle.lx_split.specs.Cuts.{IsFaultOf as IsFaultOfSource, completed, marked, faulty, IsOpenerFault, refused as opener_refused, unclosed, source_text}
 use Rattle.lx_split.specs.Pieces.{Split, pieces_of}
@@ -30,7 +31,7 @@ use Rattle.lx_exprs.specs.FaultPlaces.{StandsIn}
 use Rattle.lx_compile.specs.Places.{StandsInFirst, StopsInFirst}
 use Rattle.lx_compile.specs.declared.parts.Part.{Part}
 use Rattle.lx_compile.specs.declared.parts.Part.TheVariants.{Outside, Block}
-use Rattle.lx_rules.proofs.FaultPlaces.{block_fault-file}
+use Rattle.lx_rules.proofs.FaultPlaces.{block_fault-place}
 use Rattle.lx_forms.proofs.FilePlaces.{place_after-file}
 use Rattle.lx_compile.proofs.PiecePlaces.{IsInFile, IsPieceInFile, in_file-cut}
 
@@ -58,8 +59,10 @@ block-in_first options environment kind body at start fault (no_items tokens cod
     let stand = tokens_stand body start tokens are in
     in_first fault _ syntax.fault_is (next-in_first body start tokens syntax.count stand.each_stands places.start_in)
 block-in_first options environment kind body at start fault (refused tokens items code read found) places =
-    subst (λ file. StandsIn file fault) places.at_in
-    (block_fault-file options at start environment Code body tokens items fault (places.start_in ∙ sym places.at_in) read.tokens_are read.items_are found)
+    elim (block_fault-place options at start environment Code of_scanners body tokens items fault (places.start_in ∙ sym places.at_in) read.tokens_are read.items_are found) [
+      | inl stands ↦ subst (λ file. StandsIn file fault) places.at_in stands
+      | inr target ↦ absurd target
+    ]
 block-in_first options environment kind body at start fault (unsupported after resolved code resolves not_supported is) places =
     in_first fault _ is places.at_in
 

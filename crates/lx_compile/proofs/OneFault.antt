@@ -19,7 +19,7 @@ use Rattle.lx_parse.specs.declared.sorts.Sort.{Sort}
 use Rattle.lx_parse.proofs.Refusals.{one_tree}
 use Rattle.lx_regex.specs.Kernel.{HasTooManyKernels}
 use Rattle.lx_regex.specs.Pattern.{Pattern, terms_of}
-use Rattle.lx_rules.specs.Blocks.{IsBlockFault, Resolves}
+use Rattle.lx_rules.specs.Blocks.{IsBlockFault, Resolves, of_scanners}
 use Rattle.lx_rules.specs.Environments.{Environment, first_environment}
 use Rattle.lx_forms.specs.Lexemes.{lexemes_of}
 use Rattle.lx_rules.specs.declared.resolved.Config.{Config}
@@ -127,7 +127,8 @@ supported-alike config other_config (scanner ∷ scanners) (other ∷ others) is
   (
     ap (λ (c : Config). c.fill) (sym is) ∙ are.0.0,
     ap (λ (c : Config). c.eof) (sym is) ∙ are.0.1,
-    ap (list_any is_beyond) (sym same.0) ∙ are.0.2,
+    ap (list_any is_beyond) (sym same.0.1) ∙ are.0.2,
+    sym same.0.0 ∙ are.0.3,
   ),
   supported-alike config other_config scanners others is same.1 are.1,
 )
@@ -141,14 +142,14 @@ too_large-alike : (enc : Enc) (scanners others : List Scanner) → HaveSameRules
 too_large-alike enc [] others same large = absurd large
 too_large-alike enc (scanner ∷ scanners) [] same large = absurd same
 too_large-alike enc (scanner ∷ scanners) (other ∷ others) same (inl large) =
-    inl (subst (λ (patterns : List Pattern). HasTooManyKernels enc (terms_of patterns)) same.0 large)
+    inl (subst (λ (patterns : List Pattern). HasTooManyKernels enc (terms_of patterns)) same.0.1 large)
 too_large-alike enc (scanner ∷ scanners) (other ∷ others) same (inr large) = inr (too_large-alike enc scanners others same.1 large)
 
 same-turned : (scanners others : List Scanner) → HaveSameRules scanners others → HaveSameRules others scanners
 same-turned [] [] same = tt
 same-turned [] (other ∷ others) same = absurd same
 same-turned (scanner ∷ scanners) [] same = absurd same
-same-turned (scanner ∷ scanners) (other ∷ others) same = (sym same.0, same-turned scanners others same.1)
+same-turned (scanner ∷ scanners) (other ∷ others) same = ((sym same.0.0, sym same.0.1), same-turned scanners others same.1)
 
 -- ---- blocks
 
@@ -174,14 +175,14 @@ module _ (options : Options) where
     body-one : (after other : Environment) (resolved another : Resolved) → IsResolvedBody options environment body at start after resolved
         → IsResolvedBody options environment body at start other another → (after ≡ other) × AreAlike resolved another
     body-one after other resolved another is is_other =
-        Resolves-one options (lexemes_of body is.tokens) at environment is.items Code after other resolved another is.resolves
+        Resolves-one options (lexemes_of body is.tokens) at environment is.items Code of_scanners after other resolved another is.resolves
         (resolves-again is.read is_other.read (λ tokens items. Resolves options Code at environment (lexemes_of body tokens) items other another) is_other.resolves)
 
     body_or_not : (after : Environment) (resolved : Resolved) (tokens : List Token) (items : List Item) (fault : Fault)
         → IsResolvedBody options environment body at start after resolved → IsRead body start tokens items
         → IsBlockFault options Code at environment (lexemes_of body tokens) items fault → ⊥
     body_or_not after resolved tokens items fault is read found =
-        resolves_or_not options (lexemes_of body is.tokens) at environment is.items Code after resolved fault is.resolves
+        resolves_or_not options (lexemes_of body is.tokens) at environment is.items Code of_scanners after resolved fault is.resolves
         (resolves-again is.read read (λ tokens items. IsBlockFault options Code at environment (lexemes_of body tokens) items fault) found)
 
     -- a body that is read has tokens, and is well-formed
@@ -233,7 +234,7 @@ module _ (options : Options) where
     fault-one fault other (refused tokens items code read found) (no_items others code_other are syntax) =
         absurd (items_or_not tokens others items other read are syntax)
     fault-one fault other (refused tokens items code read found) (refused others another code_other read_other found_other) =
-        IsBlockFault-one options (lexemes_of body tokens) at environment items Code fault other found
+        IsBlockFault-one options (lexemes_of body tokens) at environment items Code of_scanners fault other found
         (resolves-again read read_other (λ tokens items. IsBlockFault options Code at environment (lexemes_of body tokens) items other) found_other)
     fault-one fault other (refused tokens items code read found) (unsupported after resolved code_other resolves not_supported is) =
         absurd (body_or_not after resolved tokens items fault resolves read found)

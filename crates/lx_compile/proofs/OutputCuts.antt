@@ -1,6 +1,6 @@
 -- The output of a source is cut at its marks into the texts and the pieces of the source.
 use Rattle.std.proofs.Common.{◌≡◌, ℕ, zero, suc, ◌+◌, ◌-◌, ◌<◌, ◌≤◌, ◌^◌, ◌∙◌, arith, false, List, [], ◌∷◌, ◌++◌, length, codes, Option, Some, None, refl, sym, ap, subst, append_assoc, Bool}
-use Rattle.std.specs.Prelude.{slice_get, unwrap_or}
+use Rattle.std.specs.Prelude.{IfSome, slice_get, unwrap_or}
 use Rattle.std.specs.List.{AllByRecursion}
 use Rattle.std.proofs.lemmas.Bool.{false≢true}
 use Rattle.lx_base.specs.Names.{Spellings, usual_names}
@@ -33,6 +33,7 @@ use Rattle.lx_compile.specs.Parts.{AreParts}
 use Rattle.lx_compile.specs.declared.parts.Part.{Part}
 use Rattle.lx_compile.specs.declared.parts.Part.TheVariants.{Outside, Block}
 use Rattle.lx_compile.proofs.ActionSlices.{IsAction, acts_of_body}
+use Rattle.lx_compile.proofs.OneScanner.{AreCoded, acts_coded}
 use Rattle.lx_compile.proofs.PiecePlaces.{length-cut}
 
 -- ---- texts without marks
@@ -110,6 +111,16 @@ module _ (body before after : List ℕ) (none : HasNoMark (before ++ (body ++ af
       → AllByRecursion IsUnmarked statements
   all_unmarked acts have [] is = tt
   all_unmarked acts have (statement ∷ statements) is = (unmarked acts have statement is.0, all_unmarked acts have statements is.1)
+
+-- acts that have actions have their texts
+acts_texts : (body : List ℕ) (acts : List Act) → AllByRecursion (λ (act : Act). IfSome act.code (IsAction body)) acts → AreCoded acts
+    → AllByRecursion (λ (act : Act). (text : List ℕ) × (act.code ≡ Some text) × IsAction body text) acts
+acts_texts body [] are coded = tt
+acts_texts body (act ∷ acts) are coded = (of act.code are.0 coded.0, acts_texts body acts are.1 coded.1)
+  where
+    of : (code : Option (List ℕ)) → IfSome code (IsAction body) → (code ≡ None → ⊥) → (text : List ℕ) × (code ≡ Some text) × IsAction body text
+    of None is some = absurd (some refl)
+    of (Some text) is some = (text, refl, is)
 
 -- ---- a block
 
@@ -221,7 +232,8 @@ cut_from options environment number (piece.Block kind body at start end_line ∷
     let last : begins_mark (47 ∷ source) ≡ false = none (opener ++ body ++ codes "*") (47 ∷ source) (block_end kind body source) in
     let rest = cut_from options are.1.0 (suc number) pieces parts texts.1 are.1.2 texts.4 apart behind last (omega (arith, few)) in
     let made = piece_of_block options.enc options.custom number resolved.config.names resolved.acts resolved.scanners texts.0 texts.3 in
-    let acts = acts_of_body options environment body at start are.1.0 resolved are.1.1.resolves in
+    let coded = acts_coded options environment body at start are.1.0 resolved are.1.1.resolves are.1.1.supported in
+    let acts = acts_texts body resolved.acts (acts_of_body options environment body at start are.1.0 resolved are.1.1.resolves) coded in
     let first = piece_not_outside options.enc options.custom number resolved.config.names resolved.acts resolved.scanners made.0 rest.cut made.2 in
     record {
       cut = made.0 ∷ rest.cut;

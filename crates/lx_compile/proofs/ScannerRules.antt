@@ -1,12 +1,11 @@
 -- What the scanners of a block have so that they can be emitted.
-use Rattle.std.proofs.Common.{◌≡◌, ℕ, suc, ◌<◌, ◌≤◌, inl, inr, arith, Bool, true, false, List, [], ◌∷◌, ◌++◌, map, length, Option, Some, None, Result, Ok, refl, sym, ap, ◌∙◌, subst}
+use Rattle.std.proofs.Common.{◌≡◌, ℕ, suc, ◌<◌, ◌≤◌, arith, Bool, true, false, List, [], ◌∷◌, map, length, Option, Some, None, refl, sym, ap, ◌∙◌, subst}
 use Rattle.std.specs.Prelude.{◌==◌, ◌||◌, not, is_some}
 use Rattle.std.specs.List.{AllByRecursion, list_any}
 use Rattle.std.proofs.lemmas.Bool.{OnFalse_from}
 use Rattle.std.proofs.lemmas.List.Elements.{recursion_from_All}
 use Rattle.lx_base.specs.Names.{Spellings, IsTagName}
 use Rattle.lx_base.specs.declared.blocks.BlockKind.TheVariants.{Code}
-use Rattle.lx_base.specs.declared.faults.Fault.{Fault}
 use Rattle.lx_base.specs.declared.places.Pos.{Pos}
 use Rattle.lx_base.specs.declared.settings.Enc.{Enc}
 use Rattle.lx_base.specs.declared.settings.Options.{Options}
@@ -15,88 +14,30 @@ use Rattle.lx_gen.specs.Rules.{AreSimple}
 use Rattle.lx_gen.specs.Scanner.{AreNamed}
 use Rattle.lx_gen.specs.Written.{MayStand}
 use Rattle.lx_parse.specs.declared.items.Item.{Item}
-use Rattle.lx_parse.specs.declared.items.Item.TheVariants.{Define, Configure, Rule as RuleItem, Text}
 use Rattle.lx_regex.specs.Pattern as regex
 use Rattle.lx_regex.specs.Pattern.{Pattern}
 use Rattle.lx_regex.specs.declared.rules.Rule.{Rule}
 use Rattle.lx_regex.specs.declared.rules.Tag.{Tag}
-use Rattle.lx_rules.specs.Blocks.{AreScanners, IsScanner, MayBeNamed, Resolves, ScannerChecks, conditions_behind, conditions_of, given_names, names_of, pattern_of, rules_of, scanner_fault, scanners_fault}
-use Rattle.lx_exprs.specs.Checks.{Check, Then, tag_names}
+use Rattle.lx_rules.specs.Blocks.{AreScanners, IsScanner, MayBeNamed, Resolves, ScannerChecks, conditions_of, given_names, names_of, pattern_of, rules_of, scanner_fault, scanners_fault}
+use Rattle.lx_exprs.specs.Checks.{tag_names}
 use Rattle.lx_rules.specs.Environments.{Environment, config_of}
-use Rattle.lx_rules.specs.Items.{Goes, HeadChecks, IsAfter, ItemChecks, ListChecks, State, TargetChecks, act_of, conds_of, ends, head_sort, is_end, next, refused}
+use Rattle.lx_rules.specs.Items.{State, is_end}
 use Rattle.lx_rules.specs.Rules.{RuleOf}
-use Rattle.lx_forms.specs.Lexemes.{Lexeme, nth_lexeme, sort_at}
+use Rattle.lx_forms.specs.Lexemes.{Lexeme}
 use Rattle.lx_rules.specs.FitScanners.{FitsLimits, IsFit}
 use Rattle.lx_rules.specs.Within.{IsScannerWithin}
 use Rattle.lx_rules.specs.declared.resolved.Act.{Act}
 use Rattle.lx_rules.specs.declared.resolved.Config.{Config}
 use Rattle.lx_rules.specs.declared.resolved.Resolved.{Resolved}
 use Rattle.lx_rules.specs.declared.resolved.Scanner.{Scanner}
-use Rattle.lx_rules.proofs.AllowedNames.{no_clash}
+use Rattle.lx_rules.proofs.AllowedSettings.{no_clash}
 use Rattle.lx_rules.proofs.BuiltScanners.{all_of_scanner}
 use Rattle.lx_rules.proofs.EndRules.{same_end}
 use Rattle.lx_rules.proofs.ScannerFits.{scanners_checked}
-use Rattle.lx_rules.proofs.ScannerLimits.{or_none, scanner_unended}
-use Rattle.lx_exprs.proofs.Forms.ClassForms.{then-none}
+use Rattle.lx_rules.proofs.ScannerLimits.{or_none, scanner_ended}
 use Rattle.lx_compile.specs.Blocks.{AreSupported, IsSupported, is_beyond}
 use Rattle.lx_compile.specs.Output.{actions_of}
 use Rattle.lx_compile.specs.Emittable.{CanBeEmitted}
-
--- ---- the rules of a block
-
--- a rule as they are supported: it has the one condition without a name, and no target
-pub record IsUsual (rule : RuleOf) : Type 0 where
-  pub conds : rule.conds ≡ [] ∷ []
-  pub no_target : rule.act.goes ≡ None
-
-abbrev pub AreUsual : List RuleOf → Type 0
-AreUsual rules = AllByRecursion IsUsual rules
-
-conditions_behind-usual : (rules : List RuleOf) → AreUsual rules → conditions_behind ([] ∷ []) rules ≡ [] ∷ []
-conditions_behind-usual [] usual = refl
-conditions_behind-usual (rule ∷ rules) usual = let conds = usual.0.conds in rw (conds) (conditions_behind-usual rules usual.1)
-
--- they have one condition
-pub conditions_of-usual : (rule : RuleOf) (rules : List RuleOf) → AreUsual (rule ∷ rules) → conditions_of (rule ∷ rules) ≡ [] ∷ []
-conditions_of-usual rule rules usual = let conds = usual.0.conds in rw (conds) (conditions_behind-usual rules usual.1)
-
-AreUsual-append : (rules : List RuleOf) (rule : RuleOf) → AreUsual rules → IsUsual rule → AreUsual (rules ++ rule ∷ [])
-AreUsual-append [] rule usual is = (is, tt)
-AreUsual-append (first ∷ rules) rule usual is = (usual.0, AreUsual-append rules rule usual.1 is)
-
-module _ (options : Options) (lexemes : List Lexeme) where
-  no_target : (number : ℕ) (goes code : Option ℕ) → TargetChecks options lexemes goes None → (act_of options lexemes number goes code).goes ≡ None
-  no_target number None None checks = refl
-  no_target number None (Some code) checks = refl
-  no_target number (Some goes) code checks =
-      absurd (elim checks [
-        | inl found ↦ let h = found.0 in cc
-        | inr found ↦ let h = found.2 in cc
-      ])
-
-  AreUsual-after : (state : State) (item : Item) (after : State) → ItemChecks options lexemes state item None → IsAfter options lexemes state item after
-      → AreUsual state.rules → AreUsual after.rules
-  AreUsual-after state (Define name from until) after checks is usual = subst (λ (s : State). AreUsual s.rules) (sym is.6) usual
-  AreUsual-after state (Configure name value) after checks is usual = subst (λ (s : State). AreUsual s.rules) (sym is.2) usual
-  AreUsual-after state (RuleItem first head slash until goes code) after checks is usual =
-      let sort = head_sort (sort_at (nth_lexeme lexemes head)) in
-      let Heads : Check = HeadChecks options lexemes state sort (conds_of options lexemes first head) head slash until in
-      let Lists : Check = ListChecks options lexemes (first == head) (nth_lexeme lexemes first).at in
-      let checked = then-none Lists (Then Heads (TargetChecks options lexemes goes)) checks in
-      let last = then-none Heads (TargetChecks options lexemes goes) checked.1 in
-      subst (λ (s : State). AreUsual s.rules) (sym is.3)
-      (AreUsual-append state.rules _ usual (record {
-        conds = refl;
-        no_target = no_target (suc (length state.rules)) goes code last.1;
-      }))
-  AreUsual-after state (Text value) after checks is usual = subst (λ (s : State). AreUsual s.rules) (sym is) usual
-
-  pub AreUsual-goes : {state : State} {items : List Item} {result : Result State Fault} → Goes options lexemes state items result
-      → (last : State) → result ≡ Ok last → AreUsual state.rules → AreUsual last.rules
-  AreUsual-goes (ends {state = state}) last is usual = let same : state ≡ last = cc in subst (λ (s : State). AreUsual s.rules) same usual
-  AreUsual-goes (refused fault checks) last is usual = absurd cc
-  AreUsual-goes (next {state = state} {item = item} after checks becomes goes) last is usual =
-      AreUsual-goes goes last is (AreUsual-after state item after checks becomes usual)
 
 -- ---- the rules of a scanner
 
@@ -185,7 +126,8 @@ module _ (enc : Enc) (custom : Bool) (at : Pos) (state : State) (checked : Scann
       let tags = (no_clash custom at state checked).1 in
       let numbers = recursion_from_All (λ (rule : Rule). (0 < rule.number) × (rule.number ≤ length acts)) scanner.set.rules fit.numbers in record {
         within = within;
-        simple = AreSimple-of scanner.set.rules rules is.patterns (scanner_unended at (config_of state.settings).eof rules none supported.1) supported.2;
+        simple = AreSimple-of scanner.set.rules rules is.patterns
+            (scanner_ended at (config_of state.settings).eof rules none ∙ ap (λ (unit : Option ℕ). is_some unit) supported.1) supported.2;
         named =
             AreNamed-of names (actions_of acts) scanner.set.rules rules is.names is.patterns supported.2
             (all_of_scanner (λ (rule : RuleOf). AllByRecursion (MayBeNamed names (is_some rule.slash)) rule.meaning.tags) cond state.rules tags)

@@ -13,7 +13,7 @@ use Rattle.lx_base.specs.declared.places.Pos.{Pos}
 use Rattle.lx_base.specs.declared.settings.Options.{Options}
 use Rattle.lx_rules.specs.Environments.{Environment, first_environment}
 use Rattle.lx_rules.specs.FitScanners.{FitsLimits}
-use Rattle.lx_rules.specs.Spelled.{HasAllowedSpellings}
+use Rattle.lx_rules.specs.Blocks.{StandsUnder, before_all, behind_block, of_scanners}
 use Rattle.lx_rules.specs.Within.{IsScannerWithin}
 use Rattle.lx_rules.specs.declared.resolved.Resolved.{Resolved}
 use Rattle.lx_split.specs.declared.pieces.SourcePiece.{SourcePiece}
@@ -23,14 +23,14 @@ use Rattle.lx_compile.specs.Parts.{AreParts, IsFaultAmong, StopsAmong}
 use Rattle.lx_compile.specs.Emittable.{IsNearPiece, IsEmittable, IsEmittablePart}
 use Rattle.lx_compile.specs.declared.parts.Part.{Part}
 use Rattle.lx_compile.specs.declared.parts.Part.TheVariants.{Outside, Block}
-use Rattle.lx_rules.proofs.AllowedNames.{after-spelled, first-spelled, resolved-differ, resolved-spelled}
+use Rattle.lx_rules.proofs.AllowedSettings.{resolved-differ, resolved-spelled, stands-settings}
 use Rattle.lx_compile.proofs.OneScanner.{one_scanner}
 use Rattle.lx_compile.proofs.ScannerRules.{can_be_emitted}
 
 -- what holds behind some parts, where this environment holds and these pieces are left
 pub record IsWalked (options : Options) (pieces rest : List SourcePiece) (environment : Environment) (parts : List Part) : Type 0 where
   pub emittable : All (IsEmittablePart options.enc options.custom) parts
-  pub spelled : HasAllowedSpellings environment
+  pub stands : StandsUnder options environment
   pub few : length parts + length rest ≤ length pieces
   pub near : All IsNearPiece rest
   pub continues : (more : List Part) → AreParts options environment rest more → AreParts options first_environment pieces (parts ++ more)
@@ -39,7 +39,7 @@ pub record IsWalked (options : Options) (pieces rest : List SourcePiece) (enviro
 pub IsWalked-start : (options : Options) (pieces : List SourcePiece) → All IsNearPiece pieces → IsWalked options pieces pieces first_environment []
 IsWalked-start options pieces near = record {
   emittable = All-nil (IsEmittablePart options.enc options.custom);
-  spelled = first-spelled;
+  stands = before_all;
   few = omega arith;
   near = near;
   continues = λ more are. are;
@@ -50,7 +50,7 @@ pub IsWalked-outside : (options : Options) (pieces rest : List SourcePiece) (env
     → IsWalked options pieces (piece.Outside text ∷ rest) environment parts → IsWalked options pieces rest environment (parts ++ Outside text ∷ [])
 IsWalked-outside options pieces rest environment parts text walked = record {
   emittable = All-push (IsEmittablePart options.enc options.custom) parts (Outside text) walked.emittable tt;
-  spelled = walked.spelled;
+  stands = walked.stands;
   few = omega (arith, walked.few, length_push parts (Outside text));
   near = All-tail IsNearPiece (piece.Outside text) rest walked.near;
   continues = λ more are. rw append_assoc (walked.continues (Outside text ∷ more) (refl, are));
@@ -59,15 +59,17 @@ IsWalked-outside options pieces rest environment parts text walked = record {
 
 -- what a block of a source resolves to can be emitted
 pub IsEmittable-block : (options : Options) (environment : Environment) (kind : BlockKind) (body : List ℕ) (at start : Pos) (after : Environment) (resolved : Resolved)
-    → length body ≤ 16777216 → HasAllowedSpellings environment → IsBlock options environment kind body at start after resolved → FitsLimits resolved
+    → length body ≤ 16777216 → StandsUnder options environment → IsBlock options environment kind body at start after resolved → FitsLimits resolved
     → AllByRecursion (IsScannerWithin options.enc) resolved.scanners → IsEmittable options.enc options.custom resolved
-IsEmittable-block options environment kind body at start after resolved short spelled block fine within =
+IsEmittable-block options environment kind body at start after resolved short stands block fine within =
     let resolves = block.resolves.resolves in record {
       fits = fine;
       supported = block.supported;
-      allowed = resolved-spelled options Code at environment after body block.resolves.tokens block.resolves.items resolved short spelled resolves;
-      differ = resolved-differ options Code at environment after _ block.resolves.items resolved (λ same. cc) resolves;
-      one = one_scanner options at environment _ block.resolves.items after resolved resolves;
+      allowed =
+          resolved-spelled options Code of_scanners at environment after body block.resolves.tokens block.resolves.items resolved short
+          (stands-settings options environment stands) resolves;
+      differ = resolved-differ options Code of_scanners at environment after _ block.resolves.items resolved (λ same. cc) resolves;
+      one = one_scanner options environment body at start after resolved block.resolves block.supported;
       scanners = can_be_emitted options at environment _ block.resolves.items after resolved resolves block.supported fine within;
     }
 
@@ -79,8 +81,10 @@ pub IsWalked-block : (options : Options) (pieces rest : List SourcePiece) (envir
 IsWalked-block options pieces rest environment parts kind body at start end_line after resolved walked block fine within = record {
   emittable =
       All-push (IsEmittablePart options.enc options.custom) parts (Block at resolved) walked.emittable
-      (IsEmittable-block options environment kind body at start after resolved short walked.spelled block fine within);
-  spelled = after-spelled options Code at environment after body block.resolves.tokens block.resolves.items resolved short walked.spelled block.resolves.resolves;
+      (IsEmittable-block options environment kind body at start after resolved short walked.stands block fine within);
+  stands =
+      let is = block.resolves in
+      behind_block walked.stands Code at start body is.tokens is.items after resolved of_scanners short is.read.tokens_are is.read.items_are is.resolves;
   few = omega (arith, walked.few, length_push parts (Block at resolved));
   near = All-tail IsNearPiece (piece.Block kind body at start end_line) rest walked.near;
   continues = λ more are. rw append_assoc (walked.continues (Block at resolved ∷ more) (refl, (after, block, are)));

@@ -26,11 +26,11 @@ use Rattle.lx_token.specs.declared.list.Token.{Token}
 abbrev pub is_beyond : Pattern → Bool
 is_beyond pattern = list_any (λ is_many. is_many) pattern.many || (not (pattern.groups == 0) || is_some pattern.slash)
 
--- A scanner is emitted so far if it asks for no refill, no code unit stands at the end, so that it has no `$`, and no rule of it has
--- a history tag, groups or a trailing context.
+-- A scanner is emitted so far if it asks for no refill, no code unit stands at the end, so that it has no `$`, no rule of it has a
+-- history tag, groups or a trailing context, and it has no condition.
 abbrev pub IsSupported : Config → Scanner → Type 0
 IsSupported config scanner =
-    (config.fill ≡ false) × (config.eof ≡ None) × (list_any is_beyond (patterns_of scanner.set.rules) ≡ false)
+    (config.fill ≡ false) × (config.eof ≡ None) × (list_any is_beyond (patterns_of scanner.set.rules) ≡ false) × (scanner.cond ≡ None)
 
 abbrev pub AreSupported : Resolved → Type 0
 AreSupported resolved = AllByRecursion (IsSupported resolved.config) resolved.scanners

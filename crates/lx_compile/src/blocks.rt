@@ -1,9 +1,11 @@
 //! One block of a source.
 ghost use Rattle.std.specs.Prelude.{◌≡◌, ◌↔◌, IfOk, IsTrue, MatchResult, map};
 ghost use Rattle.std.specs.List.{AllByRecursion, list_any};
-ghost use Rattle.lx_rules.specs.Seen.{environment_view};
-ghost use Rattle.lx_rules.specs.FitScanners.{FitsLimits, HasFitDefinitions};
-ghost use Rattle.lx_exprs.specs.Within.{AreDefinedWithin};
+ghost use Rattle.lx_base.specs.declared.blocks.BlockKind.TheVariants.{Code};
+ghost use Rattle.lx_rules.specs.Blocks.{StandsUnder};
+ghost use Rattle.lx_rules.specs.Environments.{Environment};
+ghost use Rattle.lx_rules.specs.FitScanners.{FitsLimits};
+ghost use Rattle.lx_rules.specs.Represents.{Represents};
 ghost use Rattle.lx_rules.specs.Within.{IsScannerWithin};
 ghost use Rattle.lx_regex.specs.Pattern.{patterns_of};
 ghost use Rattle.lx_regex.specs.declared.rules.Tag.{Tag as tag_type};
@@ -41,12 +43,15 @@ fn any_beyond(rules: &[Rule]) -> bool
     false
 }
 
-/// Whether a scanner with this configuration is emitted so far: it asks for no refill, no code unit stands at the end, and no rule of
-/// it has a history tag, groups or a trailing context.
+/// Whether a scanner with this configuration is emitted so far: it asks for no refill, no code unit stands at the end, no rule of it
+/// has a history tag, groups or a trailing context, and it has no condition.
 fn is_supported(config: &Config, scanner: &Scanner) -> bool
     ensures { IsTrue result ↔ IsSupported config.now scanner.now }
 {
-    !config.fill && config.eof.is_none() && !any_beyond(scanner.set.rules.as_slice())
+    !config.fill
+        && config.eof.is_none()
+        && !any_beyond(scanner.set.rules.as_slice())
+        && scanner.cond.is_none()
 }
 
 /// Whether all scanners of a block are of a kind that is emitted so far.
@@ -62,13 +67,9 @@ fn are_supported(resolved: &Resolved) -> bool
     true
 }
 
-/// What a block resolves to, and what holds behind it.
-///
-/// Its opener stands at `at`, and its body begins at `start`. It refuses with the first fault of the block; `Memory` may be
-/// answered, and no clause ties it to a cause.
-pub(crate) fn resolve_block(
+/// What a block of code resolves to, and what holds behind it.
+fn resolve_code(
     alloc: Global,
-    kind: BlockKind,
     body: &[u8],
     at: Pos,
     start: Pos,
@@ -76,18 +77,14 @@ pub(crate) fn resolve_block(
     options: &Options,
 ) -> Result<(Env, Resolved), Stop>
     requires near { IsNear body.now start }
-    requires fit { HasFitDefinitions env }
-    requires defined { AreDefinedWithin options.now (environment_view env).definitions }
-    ensures fit { IfOk result (λ answer. HasFitDefinitions answer.0 × FitsLimits answer.1) }
-    ensures within { IfOk result (λ answer. AreDefinedWithin options.now (environment_view answer.0).definitions
-        × AllByRecursion (IsScannerWithin options.now.enc) answer.1.scanners) }
-    ensures block { MatchResult result
-        (λ answer. IsBlock options.now (environment_view env) kind body.now at start (environment_view answer.0) answer.1)
-        (StopsAt options.now (environment_view env) kind body.now at start) }
+    requires env { (environment : Environment) × Represents env environment }
+    ensures fit { IfOk result (λ answer. FitsLimits answer.1) }
+    ensures within { (environment : Environment) → Represents env environment → StandsUnder options.now environment
+        → IfOk result (λ answer. AllByRecursion (IsScannerWithin options.now.enc) answer.1.scanners) }
+    ensures block { (environment : Environment) → Represents env environment → MatchResult result
+        (λ answer. (after : Environment) × Represents answer.0 after × IsBlock options.now environment Code body.now at start after answer.1)
+        (StopsAt options.now environment Code body.now at start) }
 {
-    if kind != BlockKind::Code {
-        return Err(Stop::Fault(Fault::Unsupported { at: Some(at) }));
-    }
     let tokens = tokens(alloc, body, start)?;
     let tree = parse(alloc, body, &tokens, BlockKind::Code, start)?;
     let (after, resolved) = resolve(
@@ -104,4 +101,32 @@ pub(crate) fn resolve_block(
         return Err(Stop::Fault(Fault::Unsupported { at: Some(at) }));
     }
     Ok((after, resolved))
+}
+
+/// What a block resolves to, and what holds behind it.
+///
+/// Its opener stands at `at`, and its body begins at `start`. It refuses with the first fault of the block; `Memory` may be
+/// answered, and no clause ties it to a cause.
+pub(crate) fn resolve_block(
+    alloc: Global,
+    kind: BlockKind,
+    body: &[u8],
+    at: Pos,
+    start: Pos,
+    env: Env,
+    options: &Options,
+) -> Result<(Env, Resolved), Stop>
+    requires near { IsNear body.now start }
+    requires env { (environment : Environment) × Represents env environment }
+    ensures fit { IfOk result (λ answer. FitsLimits answer.1) }
+    ensures within { (environment : Environment) → Represents env environment → StandsUnder options.now environment
+        → IfOk result (λ answer. AllByRecursion (IsScannerWithin options.now.enc) answer.1.scanners) }
+    ensures block { (environment : Environment) → Represents env environment → MatchResult result
+        (λ answer. (after : Environment) × Represents answer.0 after × IsBlock options.now environment kind body.now at start after answer.1)
+        (StopsAt options.now environment kind body.now at start) }
+{
+    if kind != BlockKind::Code {
+        return Err(Stop::Fault(Fault::Unsupported { at: Some(at) }));
+    }
+    resolve_code(alloc, body, at, start, env, options)
 }

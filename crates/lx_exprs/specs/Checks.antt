@@ -6,7 +6,7 @@ use Rattle.lx_base.specs.declared.limits.TheConstants.{BOUND_LIMIT}
 use Rattle.lx_base.specs.Letters.{is_within}
 use Rattle.lx_base.specs.declared.places.Pos.{Pos}
 use Rattle.lx_base.specs.declared.faults.Fault.{Fault}
-use Rattle.lx_base.specs.declared.faults.Fault.TheVariants.{Unsupported, UnknownName, NotClass, Bounds, EmptyClass, TagsOff, DuplicateTag}
+use Rattle.lx_base.specs.declared.faults.Fault.TheVariants.{Syntax, UnknownName, NotClass, Bounds, EmptyClass, TagsOff, DuplicateTag}
 use Rattle.lx_base.specs.declared.faults.Stop.{Stop}
 use Rattle.lx_base.specs.declared.faults.Stop.TheVariants as stop
 use Rattle.lx_base.specs.declared.settings.Options.{Options}
@@ -46,9 +46,9 @@ abbrev pub StopsAt : Check → Stop → Type 0
 StopsAt Found stop.Memory = Unit {0}
 StopsAt Found (stop.Fault fault) = Found (Some fault)
 
--- a form that is not supported yet is refused at its token, before the other checks there
-abbrev pub unsupported : Lexeme → Option Fault
-unsupported lexeme = Some (Unsupported (Some lexeme.at))
+-- a token that stands for nothing is refused
+abbrev pub misplaced : Lexeme → Option Fault
+misplaced lexeme = Some (Syntax lexeme.at)
 
 -- the class that a token is
 abbrev pub range_of : PointRange → Range
@@ -238,7 +238,7 @@ module _ (options : Options) (definitions : List Definition) where
   LeafChecks kind.Class is_operand seen lexeme =
       Then (PointsAre lexeme (class_ranges lexeme)) (IsFilled options.empty is_operand lexeme.at (LeafHas kind.Class lexeme))
   LeafChecks kind.Signs is_operand seen lexeme = Finds None
-  LeafChecks kind is_operand seen lexeme = Finds (unsupported lexeme)
+  LeafChecks kind is_operand seen lexeme = Finds (misplaced lexeme)
 
   -- parentheses around an operand of a difference are one, where they are no group
   abbrev pub inner_operand : (is_operand : Bool) → Bool

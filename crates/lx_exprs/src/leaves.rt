@@ -1,8 +1,7 @@
 //! Reads the tokens of an expression that are no signs between others.
 ghost use Rattle.std.specs.Prelude.{◌≡◌, ◌≤◌, ◌∷◌, ◌++◌, ◌^◌, ◌+◌, ℕ, Bool, true, false, List, Some, None, [], IfOk, MatchResult, length, map, max, min, suc, if◌then◌else◌};
 ghost use Rattle.lx_base.specs.declared.limits.TheConstants.{SIZE_LIMIT};
-ghost use Rattle.lx_base.specs.declared.faults.Fault.TheVariants.{EmptyClass, UnknownName, Unsupported};
-ghost use Rattle.lx_base.specs.declared.faults.Stop.TheVariants as stop;
+ghost use Rattle.lx_base.specs.declared.faults.Fault.TheVariants.{EmptyClass, UnknownName};
 ghost use Rattle.lx_base.specs.declared.places.Pos.{Pos};
 ghost use Rattle.lx_base.specs.declared.settings.Options.{Options};
 ghost use Rattle.lx_class.specs.Ranges.{InRanges, IsCanonical};
@@ -43,13 +42,6 @@ pub struct Reader<'r, 'd> {
     pub scope: Scope<'d>,
     /// What the expression may have; a greater one is read to its end and not built.
     pub room: Room,
-}
-
-/// A form that is not supported yet.
-pub fn unsupported(at: Pos) -> Stop
-    ensures { result ≡ stop.Fault (Unsupported (Some at)) }
-{
-    Stop::Fault(Fault::Unsupported { at: Some(at) })
 }
 
 /// The characters of a string, one behind another.
@@ -368,8 +360,6 @@ pub fn read_leaf(
         TokenKind::Name => read_name(alloc, reader, seen, groups, lexeme),
         TokenKind::STag => read_tag(alloc, reader, seen, groups, lexeme, false),
         TokenKind::MTag => read_tag(alloc, reader, seen, groups, lexeme, true),
-        _ => Err(Stop::Fault(Fault::Unsupported {
-            at: Some(lexeme.at),
-        })),
+        _ => Err(Stop::Fault(Fault::Syntax { at: lexeme.at })),
     }
 }

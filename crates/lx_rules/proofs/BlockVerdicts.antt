@@ -1,9 +1,10 @@
--- A block surely resolves or has a fault, and what it leaves is ready for the blocks behind it.
-use Rattle.std.proofs.Common.{Bool, ◌≡◌, ℕ, ◌⊎◌, inl, inr, List, Option, None, Some, Result, Ok, Err, refl, sym, subst}
+-- A block surely resolves or has a fault.
+use Rattle.std.proofs.Common.{Bool, ◌≡◌, ℕ, ◌⊎◌, inl, inr, List, [], Option, None, Some, Result, Ok, Err, refl, subst}
+use Rattle.std.specs.List.{AllByRecursion}
 use Rattle.lx_base.specs.declared.blocks.BlockKind.{BlockKind}
 use Rattle.lx_base.specs.declared.blocks.BlockKind.TheVariants.{Code}
 use Rattle.lx_base.specs.declared.faults.Fault.{Fault}
-use Rattle.lx_base.specs.declared.faults.Fault.TheVariants.{BadValue, Unsupported}
+use Rattle.lx_base.specs.declared.faults.Fault.TheVariants.{BadValue}
 use Rattle.lx_base.specs.declared.places.Pos.{Pos}
 use Rattle.lx_base.specs.declared.settings.Options.{Options}
 use Rattle.lx_parse.specs.Blocks.{IsBody, form_of}
@@ -12,19 +13,20 @@ use Rattle.lx_parse.specs.Sorts.{sorts_of}
 use Rattle.lx_parse.specs.declared.items.Item.{Item}
 use Rattle.lx_parse.proofs.Ranges.{body_has}
 use Rattle.lx_token.specs.declared.list.Token.{Token}
-use Rattle.lx_rules.specs.Blocks.{ClashCheck, IsBlockFault, NoClash, Resolves, ScannerChecks, conditions_of, environment_behind, lonely_fault, scanners_fault, targets_fault}
-use Rattle.lx_rules.specs.Buildable.{HasBuildableDefinitions}
+use Rattle.lx_rules.specs.Blocks.{BlockChecks, ClashCheck, HasRules, IsBlockFault, IsResolvedAs, NoClash, Resolves, ScannerChecks, conditions_of, environment_behind, lonely_fault, no_rules_fault, of_scanners, of_use, opening_fault, scanners_fault, targets_fault, to_keep}
 use Rattle.lx_exprs.specs.Checks.{Check, Finds, Then}
-use Rattle.lx_rules.specs.Environments.{Environment, config_of, first_environment}
+use Rattle.lx_rules.specs.Environments.{Environment, config_of}
 use Rattle.lx_rules.specs.Items.{Goes, State, first_state}
 use Rattle.lx_forms.specs.Lexemes.{Lexeme, lexemes_of, sorts_at}
 use Rattle.lx_rules.specs.declared.resolved.Resolved.{Resolved}
 use Rattle.lx_rules.proofs.BuiltScanners.{block_built}
 use Rattle.lx_exprs.proofs.Classical.{Surely, surely, and_then, excluded_middle}
 use Rattle.lx_exprs.proofs.Forms.FormVerdicts.{Decides, finds_decides, then_decides}
-use Rattle.lx_rules.proofs.Openings.{opened, opening_is}
-use Rattle.lx_rules.proofs.ItemFits.{IsStateWithin, goes_within, no_rules_within}
+use Rattle.lx_rules.proofs.Openings.{opening_is}
+use Rattle.lx_rules.proofs.ItemFits.{IsStateWithin}
 use Rattle.lx_rules.proofs.ItemRuns.{sorts_of-lexemes}
+use Rattle.lx_rules.proofs.BuildableMeanings.{IsRuleBuildable}
+use Rattle.lx_rules.proofs.Readiness.{IsReady, first_buildable, first_within}
 use Rattle.lx_rules.proofs.ItemVerdicts.{IsStateBuildable, goes_buildable, goes_decides}
 
 -- the checks behind the items find a fault, or nothing
@@ -45,68 +47,68 @@ scanners_decide custom at state =
     clash (inl free) = (None, inl (free, refl))
     clash (inr clashes) = (Some (BadValue at), inr (clashes, refl))
 
-module _ (options : Options) (at : Pos) (environment : Environment) (lexemes : List Lexeme) (items : List Item) (ready : HasBuildableDefinitions options environment) where
-  state_within : (state : State) → Goes options lexemes (first_state Code environment) items (Ok state) → IsStateWithin options state
-  state_within state goes =
-      goes_within options lexemes (first_state Code environment) state items (no_rules_within options (first_state Code environment) ready.within refl) goes
+-- and so do those of a block of any kind that has rules
+kind_decides : (custom : Bool) (kind : BlockKind) → HasRules kind → (at : Pos) (state : State) → Decides (BlockChecks custom kind at state)
+kind_decides custom kind of_scanners at state = scanners_decide custom at state
+kind_decides custom kind to_keep at state = finds_decides (no_rules_fault at state.rules)
+kind_decides custom kind of_use at state = scanners_decide custom at state
 
-  state_buildable : (state : State) → Goes options lexemes (first_state Code environment) items (Ok state) → IsStateBuildable state
-  state_buildable state goes =
-      goes_buildable options lexemes (first_state Code environment) state items (record { definitions = ready.buildable; rules = tt }) goes
+-- what a block resolves to whose checks find nothing
+kind_built : (options : Options) (kind : BlockKind) → HasRules kind → (at : Pos) (state : State) → BlockChecks options.custom kind at state None
+    → AllByRecursion IsRuleBuildable state.rules → (resolved : Resolved) × IsResolvedAs kind options.conds state resolved
+kind_built options kind of_scanners at state checked buildable = block_built options.conds options.custom at state checked buildable
+kind_built options kind of_use at state checked buildable = block_built options.conds options.custom at state checked buildable
+kind_built options kind to_keep at state checked buildable =
+    (record { scanners = []; acts = []; config = config_of state.settings }, (refl, refl, refl))
 
-  -- a block leaves what is ready
-  pub ready_after : (kind : BlockKind) (after : Environment) (resolved : Resolved) → Resolves options kind at environment lexemes items after resolved
-      → HasBuildableDefinitions options after
-  ready_after kind after resolved resolves =
-      of (subst (λ (k : BlockKind). Resolves options k at environment lexemes items after resolved) (opened kind at resolves.opening) resolves)
-    where
-      of : Resolves options Code at environment lexemes items after resolved → HasBuildableDefinitions options after
-      of is =
-          subst (HasBuildableDefinitions options) (sym is.after_is) (record {
-            within = (state_within is.state is.goes).definitions;
-            buildable = (state_buildable is.state is.goes).definitions;
-          })
+module _ (options : Options) (kind : BlockKind) (has : HasRules kind) (at : Pos) (environment : Environment) (lexemes : List Lexeme) (items : List Item)
+    (ready : IsReady options environment) where
+  abbrev before : State
+  before = first_state kind environment
+
+  first_is : IsStateWithin options before
+  first_is = first_within options environment ready kind has
+
+  first_built : IsStateBuildable before
+  first_built = first_buildable options environment ready kind has
 
   -- what a block resolves to, or its fault
-  abbrev pub IsVerdict : BlockKind → Type 0
-  IsVerdict kind =
+  abbrev pub IsVerdict : Type 0
+  IsVerdict =
       ((after : Environment) × (resolved : Resolved) × Resolves options kind at environment lexemes items after resolved)
       ⊎ ((fault : Fault) × IsBlockFault options kind at environment lexemes items fault)
 
-  state_verdict : (state : State) → Goes options lexemes (first_state Code environment) items (Ok state) → (fault : Option Fault) → ScannerChecks options.custom at state fault
-      → IsVerdict Code
-  state_verdict state goes None checked =
-      let built = block_built options.conds options.custom at state checked (state_buildable state goes).rules in
-      inl (
-        environment_behind Code environment state,
-        built.0,
-        record { opening = refl; state = state; goes = goes; checked = checked; after_is = refl; ends = built.1 },
-      )
-  state_verdict state goes (Some fault) checked = inr (fault, inr (refl, inr (state, goes, checked)))
+  module _ (opened : opening_fault kind at environment.kept ≡ None) where
+    state_verdict : (state : State) → Goes options lexemes before items (Ok state) → (fault : Option Fault) → BlockChecks options.custom kind at state fault → IsVerdict
+    state_verdict state goes None checked =
+        let built = kind_built options kind has at state checked (goes_buildable options lexemes before state items first_built goes).rules in
+        inl (
+          environment_behind kind environment state,
+          built.0,
+          record { opening = opened; state = state; goes = goes; checked = checked; after_is = refl; ends = built.1 },
+        )
+    state_verdict state goes (Some fault) checked = inr (fault, inr (opened, inr (state, goes, checked)))
 
-  items_verdict : (result : Result State Fault) → Goes options lexemes (first_state Code environment) items result → Surely (IsVerdict Code)
-  items_verdict (Err fault) goes = surely (inr (fault, inr (refl, inl goes)))
-  items_verdict (Ok state) goes = and_then (scanners_decide options.custom at state) (λ found. surely (state_verdict state goes found.0 found.1))
+    items_verdict : (result : Result State Fault) → Goes options lexemes before items result → Surely IsVerdict
+    items_verdict (Err fault) goes = surely (inr (fault, inr (opened, inl goes)))
+    items_verdict (Ok state) goes = and_then (kind_decides options.custom kind has at state) (λ found. surely (state_verdict state goes found.0 found.1))
 
-  scanners_verdict : EachHasExpressions (sorts_at lexemes) items → Surely (IsVerdict Code)
-  scanners_verdict has =
-      and_then
-      (goes_decides options lexemes items (first_state Code environment) has
-      (no_rules_within options (first_state Code environment) ready.within refl) (record { definitions = ready.buildable; rules = tt }))
-      (λ found. items_verdict found.0 found.1)
+    opened_verdict : EachHasExpressions (sorts_at lexemes) items → Surely IsVerdict
+    opened_verdict expressions =
+        and_then (goes_decides options lexemes items before expressions first_is first_built) (λ found. items_verdict found.0 found.1)
 
-  pub block_verdict : (kind : BlockKind) → (kind ≡ Code → EachHasExpressions (sorts_at lexemes) items) → Surely (IsVerdict kind)
-  block_verdict kind has = elim (opening_is kind at) [
-    | inl code ↦ subst (λ (k : BlockKind). Surely (IsVerdict k)) (sym code) (scanners_verdict (has code))
-    | inr waits ↦ surely (inr (Unsupported (Some at), inl waits))
+  pub block_verdict : EachHasExpressions (sorts_at lexemes) items → Surely IsVerdict
+  block_verdict expressions = elim (opening_is kind at environment.kept) [
+    | inl opened ↦ opened_verdict opened expressions
+    | inr waits ↦ surely (inr (waits.0, inl waits.1))
   ]
 
-  pub verdict_among : (kind : BlockKind) → (kind ≡ Code → EachHasExpressions (sorts_at lexemes) items)
+  pub verdict_among : EachHasExpressions (sorts_at lexemes) items
       → ((after : Environment) (resolved : Resolved) → Resolves options kind at environment lexemes items after resolved → ⊥)
       → ((fault : Fault) → IsBlockFault options kind at environment lexemes items fault → ⊥) → ⊥
-  verdict_among kind has unresolved free = block_verdict kind has (λ verdict. of verdict)
+  verdict_among expressions unresolved free = block_verdict expressions (λ verdict. of verdict)
     where
-      of : IsVerdict kind → ⊥
+      of : IsVerdict → ⊥
       of (inl found) = unresolved found.0 found.1 found.2
       of (inr found) = free found.0 found.1
 
@@ -115,6 +117,3 @@ pub body_expressions : (body : List ℕ) (tokens : List Token) (items : List Ite
     → EachHasExpressions (sorts_at (lexemes_of body tokens)) items
 body_expressions body tokens items read =
     subst (λ sorts. EachHasExpressions sorts items) (sorts_of-lexemes body tokens) (body_has (form_of Code) (sorts_of Code body tokens) items read)
-
-pub first_ready : (options : Options) → HasBuildableDefinitions options first_environment
-first_ready options = record { within = tt; buildable = tt }

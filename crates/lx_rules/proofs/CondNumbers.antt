@@ -1,21 +1,16 @@
--- The numbers of conditions, and rules that are counted for each.
-use Rattle.std.proofs.Common.{◌≡◌, ℕ, zero, suc, ◌+◌, ◌<◌, ◌≤◌, Bool, true, false, List, [], ◌∷◌, ◌++◌, map, length, get_or, take, max, Option, None, Some, refl, sym, ap, ap₂, ◌∙◌, arith, length-append}
-use Rattle.std.specs.Prelude.{◌||◌, if◌then◌else◌}
+-- The numbers of conditions.
+use Rattle.std.proofs.Common.{◌≡◌, ℕ, zero, suc, ◌+◌, ◌<◌, ◌≤◌, Bool, true, false, List, [], ◌∷◌, ◌++◌, map, length, get_or, take, Option, None, Some, refl, sym, ap, ap₂, ◌∙◌, arith, length-append}
+use Rattle.std.specs.Prelude.{◌||◌}
 use Rattle.std.specs.List.{AllByRecursion}
 use Rattle.std.specs.Option.{option_or}
 use Rattle.std.specs.Str.{bytes_eq}
 use Rattle.std.proofs.lemmas.List.{get_or_append_left, map-append, take_more}
-use Rattle.std.proofs.lemmas.Slice.Eq.{bytes_eq-Decides}
 use Rattle.lx_exprs.specs.Checks.{is_among}
-use Rattle.lx_exprs.specs.Defined.{kept}
 use Rattle.lx_rules.specs.declared.conditions.Conds.{Conds}
 use Rattle.lx_rules.specs.declared.conditions.Conds.TheVariants as conds
-use Rattle.lx_rules.specs.declared.conditions.FirstRule.{FirstRule}
-use Rattle.lx_rules.specs.declared.conditions.Running.{Running}
-use Rattle.lx_rules.specs.declared.conditions.Standing.{Standing}
 use Rattle.lx_rules.specs.Blocks.{add_conds}
-use Rattle.lx_rules.specs.Conditions.{AreNumbers, conds_seen, nothing_runs, nothing_stands, running_with, standing_with}
-use Rattle.lx_rules.proofs.CondNames.{add_conds-append, add_conds-front, bytes_eq-sym, is_among-append}
+use Rattle.lx_rules.specs.Conditions.{AreNumbers, conds_seen}
+use Rattle.lx_rules.proofs.CondNames.{add_conds-append, add_conds-front, bytes_eq-sym}
 
 -- names behind others change no name that is there
 seen_numbers : (names more : List (List ℕ)) (numbers : List ℕ) → AllByRecursion (λ number. number < length names) numbers
@@ -57,58 +52,9 @@ none_at name (other ∷ names) place default none lt =
     at false e found zero lt later = bytes_eq-sym other name ∙ e
     at false e found (suc place) lt later = later found place (omega (arith, lt))
 
--- a rule is counted once
-running_with-nothing : (running more : Running) → running_with (running_with running more) nothing_runs ≡ running_with running more
-running_with-nothing running more =
-    let size : kept (kept (running.size + more.size) + 0) ≡ kept (running.size + more.size) = omega arith in
-    let nesting : max (max running.nesting more.nesting) 0 ≡ max running.nesting more.nesting = omega arith in
-    let tags : kept (kept (running.tags + more.tags) + 0) ≡ kept (running.tags + more.tags) = omega arith in
-    ap₂ (λ s n. record { size = s; nesting = n; tags = kept (kept (running.tags + more.tags) + 0) }) size nesting
-    ∙ ap (λ t. record { size = kept (running.size + more.size); nesting = max running.nesting more.nesting; tags = t }) tags
-
 pub option_or-none : {A : Type 0} (one : Option A) → option_or one None ≡ one
 option_or-none None = refl
 option_or-none (Some item) = refl
-
-standing_with-nothing : (standing more : Standing) → standing_with (standing_with standing more) nothing_stands ≡ standing_with standing more
-standing_with-nothing standing more =
-    ap₂ (λ (running : Running) (first : Option FirstRule). record { running = running; first_default = first; first_end = option_or (option_or standing.first_end more.first_end) None })
-    (running_with-nothing standing.running more.running) (option_or-none (option_or standing.first_default more.first_default))
-    ∙ ap (λ (first : Option FirstRule). record {
-      running = running_with standing.running more.running;
-      first_default = option_or standing.first_default more.first_default;
-      first_end = first;
-    }) (option_or-none (option_or standing.first_end more.first_end))
-
-module _ (seen : List (List ℕ)) (name : List ℕ) (rule more : Standing) (first last next : List ℕ → Standing)
-    (more_is : more ≡ (if is_among name seen then nothing_stands else rule))
-    (last_is : (cond : List ℕ) → last cond ≡ (if is_among cond seen then standing_with (first cond) rule else first cond))
-    (next_is : (cond : List ℕ) → next cond ≡ (if bytes_eq cond name then standing_with (last cond) more else last cond)) where
-  -- a rule is counted for one condition more
-  pub counted-more : (cond : List ℕ) → next cond ≡ (if is_among cond (seen ++ name ∷ []) then standing_with (first cond) rule else first cond)
-  counted-more cond =
-      by (is_among cond seen) (bytes_eq cond name) refl refl
-      ∙ sym (ap (λ (test : Bool). if test then standing_with (first cond) rule else first cond) (is_among-append cond seen (name ∷ [])))
-    where
-      by : (among here : Bool) → is_among cond seen ≡ among → bytes_eq cond name ≡ here
-          → next cond ≡ (if among || (here || false) then standing_with (first cond) rule else first cond)
-      by true false e f =
-          next_is cond ∙ ap (λ (test : Bool). if test then standing_with (last cond) more else last cond) f ∙ last_is cond
-          ∙ ap (λ (test : Bool). if test then standing_with (first cond) rule else first cond) e
-      by false false e f =
-          next_is cond ∙ ap (λ (test : Bool). if test then standing_with (last cond) more else last cond) f ∙ last_is cond
-          ∙ ap (λ (test : Bool). if test then standing_with (first cond) rule else first cond) e
-      by true true e f =
-          let same : cond ≡ name = (bytes_eq-Decides cond name).0 f in
-          let none : more ≡ nothing_stands = more_is ∙ ap (λ (test : Bool). if test then nothing_stands else rule) (ap (λ c. is_among c seen) (sym same) ∙ e) in
-          next_is cond ∙ ap (λ (test : Bool). if test then standing_with (last cond) more else last cond) f
-          ∙ ap₂ standing_with (last_is cond ∙ ap (λ (test : Bool). if test then standing_with (first cond) rule else first cond) e) none
-          ∙ standing_with-nothing (first cond) rule
-      by false true e f =
-          let same : cond ≡ name = (bytes_eq-Decides cond name).0 f in
-          let new : more ≡ rule = more_is ∙ ap (λ (test : Bool). if test then nothing_stands else rule) (ap (λ c. is_among c seen) (sym same) ∙ e) in
-          next_is cond ∙ ap (λ (test : Bool). if test then standing_with (last cond) more else last cond) f
-          ∙ ap₂ standing_with (last_is cond ∙ ap (λ (test : Bool). if test then standing_with (first cond) rule else first cond) e) new
 
 module _ (names : List (List ℕ)) (place : ℕ) (name : List ℕ) (lt : place < length names) (name_is : get_or names place [] ≡ name) where
   -- the names up to one more

@@ -28,7 +28,7 @@ use Rattle.lx_rules.specs.declared.resolved.Scanner.{Scanner}
 use Rattle.lx_rules.specs.Blocks as blocks
 use Rattle.lx_rules.specs.Blocks.{AreScanners, cond_name, every, given_names, names_of, not_of_kind, pattern_of, rules_of, scanner_fault, scanners_fault, tags_of}
 use Rattle.lx_rules.specs.Finishing.{IsBuilt, IsCopyOf, IsBuiltScanner, kept_rules_of}
-use Rattle.lx_rules.specs.Kept.{IsExprKept, IsKeptRule, is_within, may_stand}
+use Rattle.lx_rules.specs.Kept.{IsExprKept, IsKeptRule, is_within, may_stand, places_from}
 use Rattle.lx_rules.specs.Rules.{RuleOf}
 use Rattle.lx_rules.specs.FitScanners.{IsFit}
 use Rattle.lx_rules.specs.Items.{is_end}
@@ -166,31 +166,31 @@ module _ (most : ℕ) where
   numbers_are (one ∷ built) (rule ∷ rules) are = (are.0.number, numbers_are built rules are.1)
 
 module _ (named : Bool) (at : Pos) (eof : Option ℕ) (names : List (List ℕ)) (held : List KeptRule) (rules : List RuleOf) (are : AllZip (IsKeptRule names rules) held rules)
-    (cond : List ℕ) where
+    (places : List ℕ → List ℕ) (placed : (cond : List ℕ) → places cond ≡ places_from 0 rules cond) (cond : List ℕ) where
   -- the rules of the scanner are as its checks want them
-  pub scanner_zip : AllZip (IsKeptRule names rules) (kept_rules_of names cond held) (rules_of cond rules)
+  pub scanner_zip : AllZip (IsKeptRule names rules) (kept_rules_of places cond held) (rules_of cond rules)
   scanner_zip =
-      zip-so (StandsUnder names rules cond) (IsKeptRule names rules) (λ one rule is. is.held) (kept_rules_of names cond held) (rules_of cond rules)
-      (rules_of-zip names rules held rules are cond)
+      zip-so (StandsUnder names rules cond) (IsKeptRule names rules) (λ one rule is. is.held) (kept_rules_of places cond held) (rules_of cond rules)
+      (rules_of-zip names rules held rules are places placed cond)
 
   module _ (none : scanner_fault at eof (rules_of cond rules) ≡ None) where
     most : AreLimited (rules_of cond rules)
     most = scanner_limited at eof (rules_of cond rules) none
 
     -- they can be copied
-    pub scanner_built : AllByRecursion IsBuilt (kept_rules_of names cond held)
+    pub scanner_built : AllByRecursion IsBuilt (kept_rules_of places cond held)
     scanner_built =
-        all_built names rules cond (own_within cond rules most) (shared_within cond rules most) (kept_rules_of names cond held) (rules_of cond rules)
-        (rules_of-zip names rules held rules are cond) most.tags
+        all_built names rules cond (own_within cond rules most) (shared_within cond rules most) (kept_rules_of places cond held) (rules_of cond rules)
+        (rules_of-zip names rules held rules are places placed cond) most.tags
 
     -- and with the copies it is as is wanted
-    pub scanner_sound : (scanner : Scanner) → scanner.cond ≡ cond_name named cond → AllZip IsCopyOf (kept_rules_of names cond held) scanner.set.rules
+    pub scanner_sound : (scanner : Scanner) → scanner.cond ≡ cond_name named cond → AllZip IsCopyOf (kept_rules_of places cond held) scanner.set.rules
         → IsBuiltScanner named at eof rules cond scanner
     scanner_sound scanner name copies =
         let built = scanner.set.rules in
         let wanted = rules_of cond rules in
         let all = zip-both (IsKeptRule names rules) IsCopyOf (IsCopied (length rules)) (λ one rule made is copy. copied names rules one rule made is copy)
-        (kept_rules_of names cond held) wanted built scanner_zip copies in
+        (kept_rules_of places cond held) wanted built scanner_zip copies in
         let small = sizes_small (length rules) built wanted all in
         let size = most.size in (
           none,

@@ -1,13 +1,12 @@
 -- The faults of the items of a block, and of the checks behind them, stand in its file.
-use Rattle.std.proofs.Common.{◌≡◌, ℕ, suc, ◌-◌, Bool, true, false, List, [], ◌∷◌, ◌++◌, ◌<◌, arith, length, Option, Some, None, Result, Ok, Err, refl, sym, ap, subst, inl, inr}
+use Rattle.std.proofs.Common.{◌≡◌, ◌⊎◌, ◌∙◌, append_assoc, append-nil, ℕ, suc, ◌-◌, Bool, true, false, List, [], ◌∷◌, ◌++◌, ◌<◌, arith, length, Option, Some, None, Result, Ok, Err, refl, sym, ap, subst, inl, inr}
 use Rattle.std.specs.Prelude.{◌||◌, nat_lt, ◌==◌, if◌then◌else◌, not, IfSome}
 use Rattle.std.specs.List.{AllByRecursion, list_any}
 use Rattle.std.specs.Option.{option_map, option_or}
 use Rattle.lx_base.specs.Names.{Spellings}
 use Rattle.lx_base.specs.declared.blocks.BlockKind.{BlockKind}
-use Rattle.lx_base.specs.declared.blocks.BlockKind.TheVariants.{Code}
 use Rattle.lx_base.specs.declared.faults.Fault.{Fault}
-use Rattle.lx_base.specs.declared.faults.Fault.TheVariants.{Unsupported, BadValue, Condition, NoRules, Redefined, TooManyParts}
+use Rattle.lx_base.specs.declared.faults.Fault.TheVariants.{BadValue, Condition, NoRules, Redefined, TooManyParts}
 use Rattle.lx_base.specs.declared.places.Pos.{Pos}
 use Rattle.lx_base.specs.declared.settings.Options.{Options}
 use Rattle.lx_parse.specs.Blocks.{IsBody, form_of}
@@ -16,24 +15,23 @@ use Rattle.lx_parse.specs.Sorts.{sorts_of}
 use Rattle.lx_parse.proofs.ItemPlaces.{body_has_places}
 use Rattle.lx_parse.specs.declared.items.Item.{Item}
 use Rattle.lx_parse.specs.declared.items.Item.TheVariants.{Define, Configure, Rule, Text}
-use Rattle.lx_rules.specs.Blocks.{ClashCheck, IsBlockFault, IsFaultWithin, ScannerChecks, conditions_of, opening_fault, pair_fault, is_bare, limits_fault, lonely_fault, nesting_of, not_of_kind, rules_of, scanner_fault, scanners_fault, size_of, tags_of as tag_count, target_fault, targets_fault}
+use Rattle.lx_rules.specs.Blocks.{BlockChecks, ClashCheck, HasRules, IsBlockFault, IsTargetFault, ScannerChecks, conditions_of, no_rules_fault, of_scanners, of_use, opening_fault, to_keep, pair_fault, is_bare, limits_fault, lonely_fault, nesting_of, not_of_kind, rules_of, scanner_fault, scanners_fault, size_of, tags_of as tag_count, target_fault, targets_fault}
 use Rattle.lx_exprs.specs.Checks.{Then, Finds, is_among}
 use Rattle.lx_rules.specs.Configurations.{config_fault, config_kind, kind_fault, set_by, value_fault}
 use Rattle.lx_rules.specs.declared.configurations.ConfigKind.{ConfigKind}
 use Rattle.lx_rules.specs.declared.environment.Setting.{Setting}
 use Rattle.lx_base.specs.declared.settings.Enc.{Enc}
 use Rattle.lx_exprs.specs.Defined.{Definition, definition_of, kept}
-use Rattle.lx_rules.specs.Environments.{Environment, config_of}
-use Rattle.lx_rules.proofs.Openings.{opened, opening_is}
+use Rattle.lx_rules.specs.Environments.{Environment, KeptBlock, config_of}
 use Rattle.lx_exprs.specs.Expressions.{ExpressionChecks}
 use Rattle.lx_exprs.specs.FaultPlaces.{StandsIn}
-use Rattle.lx_rules.specs.Items.{Goes, ends, refused, next, HeadChecks, HeadSort, any, end, expression, head_sort, IsAfter, ItemChecks, ListChecks, State, TargetChecks, conds_of, first_of, is_default, is_end, twice, unless}
+use Rattle.lx_rules.specs.Items.{Goes, ends, refused, next, HeadChecks, HeadSort, any, end, expression, head_sort, IsAfter, ItemChecks, ListChecks, State, TargetChecks, conds_of, first_of, first_state, is_default, is_end, twice, unless}
 use Rattle.lx_rules.specs.Rules.{RuleOf}
 use Rattle.lx_forms.specs.Lexemes.{Lexeme, StandInFile, lexemes_of, nth_lexeme, sort_at}
 use Rattle.lx_forms.proofs.FilePlaces.{nth_lexeme-file, tokens_of-file}
 use Rattle.lx_token.specs.Tokens.{tokens_of}
 use Rattle.lx_token.specs.declared.list.Token.{Token}
-use Rattle.lx_exprs.proofs.Forms.FaultPlaces.{FindsIn, FindsIn-Finds, FindsIn-Then, IsFoundIn, context-file, expression-file, file-found, if-file, option_map-file, option_or-file, then_unsupported}
+use Rattle.lx_exprs.proofs.Forms.FaultPlaces.{FindsIn, FindsIn-Finds, FindsIn-Then, IsFoundIn, context-file, expression-file, file-found, if-file, option_map-file, option_or-file}
 
 module _ (file : ℕ) where
   -- a target stands in the file, if there is one
@@ -44,6 +42,15 @@ module _ (file : ℕ) where
       → AreTargetsIn (rules ++ rule ∷ [])
   targets-append [] rule are is = (is, tt)
   targets-append (first ∷ rules) rule are is = (are.0, targets-append rules rule are.1 is)
+
+  -- behind the rules before the items stand some more, whose targets stand in the file
+  abbrev AreTargetsBehind : (front rules : List RuleOf) → Type 0
+  AreTargetsBehind front rules = (own : List RuleOf) × (rules ≡ front ++ own) × AreTargetsIn own
+
+  targets-more : (front rules : List RuleOf) (rule : RuleOf) → AreTargetsBehind front rules → IfSome rule.target (λ (at : Pos). at.file ≡ file)
+      → AreTargetsBehind front (rules ++ rule ∷ [])
+  targets-more front rules rule are is =
+      (are.0 ++ rule ∷ [], ap (λ l. l ++ rule ∷ []) are.1 ∙ append_assoc front are.0 (rule ∷ []), targets-append are.0 rule are.2 is)
 
   twice-file : (at : Pos) (first : Option Pos) → at.file ≡ file → IsFoundIn file (twice at first)
   twice-file at first is = option_map-file file first (λ place. Redefined at place) (λ place. is)
@@ -69,17 +76,14 @@ module _ (file : ℕ) where
 
     list-file : (is_absent : Bool) (at : Pos) → at.file ≡ file → FindsIn file (ListChecks options lexemes is_absent at)
     list-file true at is = FindsIn-Finds file (unless (not options.conds) at) (unless-file (not options.conds) at is)
-    list-file false at is =
-        FindsIn-Then file (Finds (Some (Unsupported (Some at)))) (Finds (unless options.conds at)) (FindsIn-Finds file (Some (Unsupported (Some at))) is)
-        (FindsIn-Finds file (unless options.conds at) (unless-file options.conds at is))
+    list-file false at is = FindsIn-Finds file (unless options.conds at) (unless-file options.conds at is)
 
     target-file : (goes : Option ℕ) → IfSome goes (λ place. (0 < place) × (place < length lexemes)) → FindsIn file (TargetChecks options lexemes goes)
     target-file None within = FindsIn-Finds file None tt
     target-file (Some goes) within =
         let lexeme = nth_lexeme lexemes (goes - 1) in
         let lt : goes - 1 < length lexemes = omega (arith, within.0, within.1) in
-        then_unsupported file options [] (Finds (unless options.conds lexeme.at)) lexeme (at_in (goes - 1) lt)
-        (FindsIn-Finds file (unless options.conds lexeme.at) (unless-file options.conds lexeme.at (at_in (goes - 1) lt)))
+        FindsIn-Finds file (unless options.conds lexeme.at) (unless-file options.conds lexeme.at (at_in (goes - 1) lt))
 
     head-file : (state : State) (head_is : HeadSort) (conds : List (List ℕ)) (head : ℕ) (slash : Option ℕ) (until : ℕ)
         → head < length lexemes → FindsIn file (HeadChecks options lexemes state head_is conds head slash until)
@@ -112,33 +116,35 @@ module _ (file : ℕ) where
         (target-file goes within.4))
     item-file state (Text value) within = FindsIn-Finds file None tt
 
-    targets_after : (state : State) (item : Item) (after : State) → HasPlaces (length lexemes) item → IsAfter options lexemes state item after → AreTargetsIn state.rules
-        → AreTargetsIn after.rules
-    targets_after state (Define name from until) after within is targets = subst (λ (s : State). AreTargetsIn s.rules) (sym is.6) targets
-    targets_after state (Configure name value) after within is targets = subst (λ (s : State). AreTargetsIn s.rules) (sym is.2) targets
-    targets_after state (Rule first head slash until goes code) after within is targets =
-        subst (λ (s : State). AreTargetsIn s.rules) (sym is.3) (targets-append state.rules _ targets (of_goes goes within.4))
-      where
-        of_goes : (place : Option ℕ) → IfSome place (λ at. (0 < at) × (at < length lexemes)) → IfSome (option_map (λ (target : ℕ). (nth_lexeme lexemes target).at) place) (λ (at : Pos). at.file ≡ file)
-        of_goes None known = tt
-        of_goes (Some target) known = at_in target known.1
-    targets_after state (Text value) after within is targets = subst (λ (s : State). AreTargetsIn s.rules) (sym is) targets
+    module _ (front : List RuleOf) where
+      targets_after : (state : State) (item : Item) (after : State) → HasPlaces (length lexemes) item → IsAfter options lexemes state item after
+          → AreTargetsBehind front state.rules → AreTargetsBehind front after.rules
+      targets_after state (Define name from until) after within is targets = subst (λ (s : State). AreTargetsBehind front s.rules) (sym is.6) targets
+      targets_after state (Configure name value) after within is targets = subst (λ (s : State). AreTargetsBehind front s.rules) (sym is.2) targets
+      targets_after state (Rule first head slash until goes code) after within is targets =
+          subst (λ (s : State). AreTargetsBehind front s.rules) (sym is.3) (targets-more front state.rules _ targets (of_goes goes within.4))
+        where
+          of_goes : (place : Option ℕ) → IfSome place (λ at. (0 < at) × (at < length lexemes)) → IfSome (option_map (λ (target : ℕ). (nth_lexeme lexemes target).at) place) (λ (at : Pos). at.file ≡ file)
+          of_goes None known = tt
+          of_goes (Some target) known = at_in target known.1
+      targets_after state (Text value) after within is targets = subst (λ (s : State). AreTargetsBehind front s.rules) (sym is) targets
 
-    -- the fault of items stands in the file, and so do the targets behind them
+      -- the targets behind items stand in the file
+      targets_behind : {state : State} {items : List Item} {result : Result State Fault} → Goes options lexemes state items result
+          → EachHasPlaces (length lexemes) items → (last : State) → result ≡ Ok last → AreTargetsBehind front state.rules → AreTargetsBehind front last.rules
+      targets_behind (ends {state = state}) within last is targets =
+          let same : state ≡ last = cc in subst (λ (s : State). AreTargetsBehind front s.rules) same targets
+      targets_behind (refused found checks) within last is targets = absurd cc
+      targets_behind (next {state = state} {item = item} after checks becomes goes) within last is targets =
+          targets_behind goes within.1 last is (targets_after state item after within.0 becomes targets)
+
+    -- the fault of items stands in the file
     items-file : {state : State} {items : List Item} {result : Result State Fault} → Goes options lexemes state items result
         → EachHasPlaces (length lexemes) items → (fault : Fault) → result ≡ Err fault → StandsIn file fault
     items-file ends within fault is = absurd cc
     items-file (refused {state = state} {item = item} found checks) within fault is =
         let same : found ≡ fault = cc in subst (StandsIn file) same ((item-file state item within.0).finds found checks)
     items-file (next after checks becomes goes) within fault is = items-file goes within.1 fault is
-
-    targets_behind : {state : State} {items : List Item} {result : Result State Fault} → Goes options lexemes state items result
-        → EachHasPlaces (length lexemes) items → (last : State) → result ≡ Ok last → AreTargetsIn state.rules → AreTargetsIn last.rules
-    targets_behind (ends {state = state}) within last is targets =
-        let same : state ≡ last = cc in subst (λ (s : State). AreTargetsIn s.rules) same targets
-    targets_behind (refused found checks) within last is targets = absurd cc
-    targets_behind (next {state = state} {item = item} after checks becomes goes) within last is targets =
-        targets_behind goes within.1 last is (targets_after state item after within.0 becomes targets)
 
     module _ (at : Pos) (at_is : at.file ≡ file) where
       clash-file : (names : Spellings) (rules : List RuleOf) → FindsIn file (ClashCheck options.custom at names rules)
@@ -189,53 +195,86 @@ module _ (file : ℕ) where
           option_or-file file (target_fault rule.act.goes rule.target conds) (targets_fault rules conds)
           (target_fault-file rule.act.goes rule.target conds targets.0) (targets-file rules conds targets.1)
 
-      checks-file : (state : State) → AreTargetsIn state.rules → FindsIn file (ScannerChecks options.custom at state)
-      checks-file state targets =
-          let names = (config_of state.settings).names in
+      -- the fault of a target stands in the file, or it is one of the rules before the items
+      targets-place : (front own : List RuleOf) (conds : List (List ℕ)) → AreTargetsIn own → (fault : Fault) → targets_fault (front ++ own) conds ≡ Some fault
+          → StandsIn file fault ⊎ IsTargetFault front fault
+      targets-place [] own conds are fault is = inl (subst (IsFoundIn file) is (targets-file own conds are))
+      targets-place (rule ∷ front) own conds are fault is = of rule.act.goes rule.target refl is (targets-place front own conds are fault)
+        where
+          behind : StandsIn file fault ⊎ IsTargetFault front fault → StandsIn file fault ⊎ IsTargetFault (rule ∷ front) fault
+          behind (inl stands) = inl stands
+          behind (inr found) = inr (inr found)
+
+          among : (place : Pos) → rule.target ≡ Some place → (b : Bool)
+              → option_or (if b then None else Some (Condition place)) (targets_fault (front ++ own) conds) ≡ Some fault
+              → (targets_fault (front ++ own) conds ≡ Some fault → StandsIn file fault ⊎ IsTargetFault front fault)
+              → StandsIn file fault ⊎ IsTargetFault (rule ∷ front) fault
+          among place target true is later = behind (later is)
+          among place target false is later = let same : fault ≡ Condition place = cc (is) in inr (inl (place, target, same))
+
+          of : (goes : Option (List ℕ)) (target : Option Pos) → rule.target ≡ target
+              → option_or (target_fault goes target conds) (targets_fault (front ++ own) conds) ≡ Some fault
+              → (targets_fault (front ++ own) conds ≡ Some fault → StandsIn file fault ⊎ IsTargetFault front fault)
+              → StandsIn file fault ⊎ IsTargetFault (rule ∷ front) fault
+          of None target e is later = behind (later is)
+          of (Some goes) None e is later = behind (later is)
+          of (Some goes) (Some place) e is later = among place e (is_among goes conds) is later
+
+      found-file : (found : Option Fault) (fault : Fault) → IsFoundIn file found → Some fault ≡ found → StandsIn file fault
+      found-file found fault stands is = subst (IsFoundIn file) (sym is) stands
+
+      -- and so does that of the checks of scanners
+      scanners-place : (state : State) (front : List RuleOf) → AreTargetsBehind front state.rules → (fault : Fault)
+          → ScannerChecks options.custom at state (Some fault) → StandsIn file fault ⊎ IsTargetFault front fault
+      scanners-place state front targets fault (inr (found, clash, is)) =
+          inl (found-file (Some found) fault ((clash-file (config_of state.settings).names state.rules).finds found clash) is)
+      scanners-place state front targets fault (inl (free, inr (found, lonely, is))) =
+          inl (found-file (Some found) fault (found-file (lonely_fault at state.rules (conditions_of state.rules)) found (lonely-file state.rules (conditions_of state.rules)) lonely) is)
+      scanners-place state front targets fault (inl (free, inl (mixed, inr (found, target, is)))) =
+          let same : found ≡ fault = cc (is) in
+          let rules = ap (λ l. targets_fault l (conditions_of state.rules)) targets.1 in
+          targets-place front targets.0 (conditions_of state.rules) targets.2 fault (sym rules ∙ sym target ∙ sym is)
+      scanners-place state front targets fault (inl (free, inl (mixed, inl (reached, scanners)))) =
           let eof = (config_of state.settings).eof in
-          let conds = conditions_of state.rules in
-          let Lonely = Finds (lonely_fault at state.rules conds) in
-          let Targets = Finds (targets_fault state.rules conds) in
-          let Scanners = Finds (scanners_fault at eof state.rules conds) in
-          FindsIn-Then file (ClashCheck options.custom at names state.rules) (Then Lonely (Then Targets Scanners)) (clash-file names state.rules)
-          (FindsIn-Then file Lonely (Then Targets Scanners) (FindsIn-Finds file (lonely_fault at state.rules conds) (lonely-file state.rules conds))
-          (FindsIn-Then file Targets Scanners
-          (FindsIn-Finds file (targets_fault state.rules conds) (targets-file state.rules conds targets))
-          (FindsIn-Finds file (scanners_fault at eof state.rules conds) (scanners-file eof state.rules conds))))
+          inl (found-file (scanners_fault at eof state.rules (conditions_of state.rules)) fault (scanners-file eof state.rules (conditions_of state.rules)) scanners)
 
-      -- the fault behind the opener of a block of scanners stands in the file
-      within-file : (environment : Environment) (items : List Item) (fault : Fault) → EachHasPlaces (length lexemes) items
-          → IsFaultWithin options Code at environment lexemes items fault → StandsIn file fault
-      within-file environment items fault within (inl goes) = items-file goes within fault refl
-      within-file environment items fault within (inr found) =
-          (checks-file found.0 (targets_behind found.1 within found.0 refl tt)).finds fault found.2
+      rules-file : (rules : List RuleOf) → IsFoundIn file (no_rules_fault at rules)
+      rules-file [] = at_is
+      rules-file (rule ∷ rules) = tt
 
-      opening-file : (kind : BlockKind) → IsFoundIn file (opening_fault kind at)
-      opening-file kind = elim (opening_is kind at) [
-        | inl code ↦ subst (λ (k : BlockKind). IsFoundIn file (opening_fault k at)) (sym code) tt
-        | inr waits ↦ subst (IsFoundIn file) (sym waits) at_is
-      ]
+      block-place : (kind : BlockKind) → HasRules kind → (state : State) (front : List RuleOf) → AreTargetsBehind front state.rules → (fault : Fault)
+          → BlockChecks options.custom kind at state (Some fault) → StandsIn file fault ⊎ IsTargetFault front fault
+      block-place kind of_scanners state front targets fault found = scanners-place state front targets fault found
+      block-place kind of_use state front targets fault found = scanners-place state front targets fault found
+      block-place kind to_keep state front targets fault found = inl (found-file (no_rules_fault at state.rules) fault (rules-file state.rules) found)
 
-      -- the fault of a block stands in the file, where its opener and its tokens do
-      pub IsBlockFault-file : (kind : BlockKind) (environment : Environment) (items : List Item) (fault : Fault) → EachHasPlaces (length lexemes) items
-          → IsBlockFault options kind at environment lexemes items fault → StandsIn file fault
-      IsBlockFault-file kind environment items fault within (inl waits) = subst (IsFoundIn file) waits (opening-file kind)
-      IsBlockFault-file kind environment items fault within (inr found) =
-          within-file environment items fault within
-          (subst (λ (k : BlockKind). IsFaultWithin options k at environment lexemes items fault) (opened kind at found.0) found.1)
+      opening-file : (kind : BlockKind) → HasRules kind → (kept : Option KeptBlock) → IsFoundIn file (opening_fault kind at kept)
+      opening-file kind of_scanners held = tt
+      opening-file kind to_keep held = tt
+      opening-file kind of_use None = at_is
+      opening-file kind of_use (Some held) = tt
+
+      -- the fault of a block stands in the file, where its opener and its tokens do, or it is one of a target of the rules before its items
+      pub IsBlockFault-place : (kind : BlockKind) → HasRules kind → (environment : Environment) (items : List Item) (fault : Fault) → EachHasPlaces (length lexemes) items
+          → IsBlockFault options kind at environment lexemes items fault → StandsIn file fault ⊎ IsTargetFault (first_state kind environment).rules fault
+      IsBlockFault-place kind has environment items fault within (inl waits) = inl (subst (IsFoundIn file) waits (opening-file kind has environment.kept))
+      IsBlockFault-place kind has environment items fault within (inr (opened, inl goes)) = inl (items-file goes within fault refl)
+      IsBlockFault-place kind has environment items fault within (inr (opened, inr found)) =
+          let front = (first_state kind environment).rules in
+          block-place kind has found.0 front (targets_behind front found.1 within found.0 refl ([], sym (append-nil front), tt)) fault found.2
 
 -- a body has as many sorts as tokens
 sorts-lexemes : (kind : BlockKind) (body : List ℕ) (tokens : List Token) → length (sorts_of kind body tokens) ≡ length (lexemes_of body tokens)
 sorts-lexemes kind body [] = refl
 sorts-lexemes kind body (token ∷ tokens) = ap suc (sorts-lexemes kind body tokens)
 
--- the fault of a block stands in the file of its opener
-pub block_fault-file : (options : Options) (at start : Pos) (environment : Environment) (kind : BlockKind) (body : List ℕ) (tokens : List Token)
+-- the fault of a block stands in the file of its opener, or it is one of a target of the rules before its items
+pub block_fault-place : (options : Options) (at start : Pos) (environment : Environment) (kind : BlockKind) → HasRules kind → (body : List ℕ) (tokens : List Token)
     (items : List Item) (fault : Fault) → start.file ≡ at.file → tokens_of body start ≡ Ok tokens
     → IsBody (form_of kind) (sorts_of kind body tokens) items → IsBlockFault options kind at environment (lexemes_of body tokens) items fault
-    → StandsIn at.file fault
-block_fault-file options at start environment kind body tokens items fault same tokens_are items_are found =
-    IsBlockFault-file at.file options (lexemes_of body tokens)
-    (subst (λ file. StandInFile file (lexemes_of body tokens)) same (tokens_of-file body start tokens tokens_are)) at refl kind environment items fault
+    → StandsIn at.file fault ⊎ IsTargetFault (first_state kind environment).rules fault
+block_fault-place options at start environment kind has body tokens items fault same tokens_are items_are found =
+    IsBlockFault-place at.file options (lexemes_of body tokens)
+    (subst (λ file. StandInFile file (lexemes_of body tokens)) same (tokens_of-file body start tokens tokens_are)) at refl kind has environment items fault
     (subst (λ size. EachHasPlaces size items) (sorts-lexemes kind body tokens) (body_has_places (form_of kind) (sorts_of kind body tokens) items items_are))
     found

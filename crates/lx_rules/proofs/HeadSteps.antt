@@ -25,7 +25,8 @@ use Rattle.lx_rules.specs.Items.{State, HeadChecks, IsHead, alone, any_meaning, 
 use Rattle.lx_exprs.specs.Expressions.{IsRead, IsReadAs}
 use Rattle.lx_exprs.specs.Defined.{Meaning, is_built}
 use Rattle.lx_rules.specs.Keeping.{Holds, IsContextRead, IsHeadRead, IsRuleExpr, StopsHead}
-use Rattle.lx_exprs.specs.Seen.{IsStop, definitions_view}
+use Rattle.lx_exprs.specs.Seen.{IsStop}
+use Rattle.lx_rules.specs.Seen.{known_definitions}
 use Rattle.lx_exprs.proofs.Forms.ExpressionRanges.{part_form}
 use Rattle.lx_rules.specs.declared.conditions.FirstRule.{FirstRule}
 use Rattle.lx_rules.specs.Conditions.{earliest_default, earliest_end, standing_of}
@@ -144,7 +145,7 @@ module _ (options : Options) (lexemes : List Lexeme) (known : Known) (state : St
   -- the expression of a rule is read
   pub plain_read :
       (from until : ℕ) (room : Room) (reading : Reading) (no_star : sort_at (nth_lexeme lexemes from) ≡ sort.Star → ⊥) (no_dollar : sort_at (nth_lexeme lexemes from) ≡ sort.Dollar → ⊥)
-      → IsRead options lexemes (definitions_view known.env.definitions) room from until reading → (expr : RuleExpr)
+      → IsRead options lexemes (known_definitions known) room from until reading → (expr : RuleExpr)
       → ((meaning : Meaning) → IsReadAs room meaning reading → IsRuleExpr (is_built room meaning) (as_rule (are_groups options []) meaning) None expr)
       → IsHeadRead options lexemes state conds from None until room (head.Plain expr)
   plain_read from until room reading no_star no_dollar given expr stands =
@@ -164,7 +165,7 @@ module _ (options : Options) (lexemes : List Lexeme) (known : Known) (state : St
 
   -- what an expression that is refused stops with
   abbrev pub StopsIn : (from until : ℕ) → Stop → Type 0
-  StopsIn from until stopped = StopsAt (ExpressionChecks options lexemes (definitions_view known.env.definitions) from until) stopped
+  StopsIn from until stopped = StopsAt (ExpressionChecks options lexemes (known_definitions known) from until) stopped
 
   -- or it is refused
   pub plain_refused :
@@ -190,7 +191,7 @@ module _ (options : Options) (lexemes : List Lexeme) (known : Known) (state : St
   -- the checks of what stands behind the slash
   pub behind_refused :
       (from slash until : ℕ) (stopped : Stop) (no_star : sort_at (nth_lexeme lexemes from) ≡ sort.Star → ⊥) (no_dollar : sort_at (nth_lexeme lexemes from) ≡ sort.Dollar → ⊥)
-      → StopsAt (ContextChecks options lexemes (definitions_view known.env.definitions) from slash until) stopped
+      → StopsAt (ContextChecks options lexemes (known_definitions known) from slash until) stopped
       → StopsHead options lexemes state conds from (Some slash) until stopped
   behind_refused from slash until stop.Memory no_star no_dollar stops = tt
   behind_refused from slash until (stop.Fault fault) no_star no_dollar stops =
@@ -200,7 +201,7 @@ module _ (options : Options) (lexemes : List Lexeme) (known : Known) (state : St
   -- both are read
   pub context_read :
       (from slash until : ℕ) (room : Room) (read : RuleExpr) (no_star : sort_at (nth_lexeme lexemes from) ≡ sort.Star → ⊥) (no_dollar : sort_at (nth_lexeme lexemes from) ≡ sort.Dollar → ⊥)
-      → IsContextRead options lexemes (definitions_view known.env.definitions) room from slash until read
+      → IsContextRead options lexemes (known_definitions known) room from slash until read
       → IsHeadRead options lexemes state conds from (Some slash) until room (head.Plain read)
   context_read from slash until room read no_star no_dollar given =
       let is = subst (λ definitions. IsContextRead options lexemes definitions room from slash until read) holds.definitions given in

@@ -1,5 +1,5 @@
 -- What is asked of definitions and rules holds behind each item.
-use Rattle.std.proofs.Common.{◌≡◌, ℕ, suc, ◌+◌, ◌*◌, ◌≤◌, inr, Bool, true, false, List, [], ◌∷◌, ◌++◌, length, Option, None, Some, Ok, refl, sym, ap, ap₂, ◌∙◌, subst, arith, length-append}
+use Rattle.std.proofs.Common.{◌≡◌, ℕ, suc, ◌+◌, ◌*◌, ◌≤◌, Bool, true, false, List, [], ◌∷◌, ◌++◌, length, Option, None, Some, Ok, refl, sym, ap, ap₂, ◌∙◌, subst, arith, length-append}
 use Rattle.std.specs.List.{AllByRecursion}
 use Rattle.std.specs.Option.{option_and_then, option_map}
 use Rattle.std.specs.Prelude.{◌==◌, ◌&&◌, drop, is_some, nat_le}
@@ -17,7 +17,6 @@ use Rattle.lx_exprs.specs.Defined.{Definition, IsClassKept, IsDefined, IsTermKep
 use Rattle.lx_forms.specs.Forms.{Form}
 use Rattle.lx_exprs.specs.Expressions.{ExpressionChecks, IsExpression}
 use Rattle.lx_rules.specs.Items.{Goes, HeadChecks, HeadSort, IsAfter, IsHead, ItemChecks, ListChecks, State, TargetChecks, act_of, RuleMeaning, any, any_meaning, behind_slash, conds_of, ends, end, end_meaning, expression, first_of, head_sort, is_end, next, twice, rule_of, with_rule}
-use Rattle.lx_rules.specs.Conditions.{AreConds}
 use Rattle.lx_rules.specs.Rules.{RuleOf}
 use Rattle.lx_forms.specs.Lexemes.{Lexeme, nth_lexeme, sort_at}
 use Rattle.lx_exprs.specs.Meanings.{IsMeaning, term_or_empty}
@@ -85,13 +84,12 @@ defined_snoc options [] definition are is grouped = ((is, grouped), tt)
 defined_snoc options (first ∷ definitions) definition are is grouped =
     (are.0, defined_snoc options definitions definition are.1 is grouped)
 
--- what is asked of what is known behind items; the rules have numbers in order, and either that of `<*>` or other conditions
+-- what is asked of what is known behind items; the rules have numbers in order
 pub record IsStateWithin (options : Options) (state : State) : Type 0 where
   pub definitions : AreDefinedWithin options state.definitions
   pub rules : AllByRecursion (λ (rule : RuleOf). IsRuleMeant options.enc rule.meaning rule.slash) state.rules
   pub numbers : AllByRecursion (λ (rule : RuleOf). rule.act.number ≤ length state.rules) state.rules
   pub differ : Differ state.rules
-  pub conds : AllByRecursion (λ (rule : RuleOf). AreConds rule.conds) state.rules
   pub ends : AllByRecursion IsEndRule state.rules
   pub once : AreOnce state.rules
 
@@ -102,7 +100,6 @@ no_rules_within options state ready none = record {
   rules = subst (AllByRecursion (λ (rule : RuleOf). IsRuleMeant options.enc rule.meaning rule.slash)) (sym none) tt;
   numbers = subst (AllByRecursion (λ (rule : RuleOf). rule.act.number ≤ length state.rules)) (sym none) tt;
   differ = subst Differ (sym none) tt;
-  conds = subst (AllByRecursion (λ (rule : RuleOf). AreConds rule.conds)) (sym none) tt;
   ends = subst (AllByRecursion IsEndRule) (sym none) tt;
   once = subst AreOnce (sym none) (λ cond. omega arith);
 }
@@ -114,7 +111,7 @@ numbers_more (rule ∷ rules) less more le all = let one = all.0 in (omega (arit
 
 module _ (options : Options) (lexemes : List Lexeme) where
   -- the action of a rule has its number
-  act_number : (number : ℕ) (goes code : Option ℕ) → (act_of options lexemes number goes code).number ≡ number
+  pub act_number : (number : ℕ) (goes code : Option ℕ) → (act_of options lexemes number goes code).number ≡ number
   act_number number goes (Some code) = refl
   act_number number (Some goes) None = refl
   act_number number None None = refl
@@ -184,9 +181,9 @@ module _ (options : Options) (lexemes : List Lexeme) where
   head_once state expression conds head (Some slash) until k meaning checked is found = absurd (let h : false ≡ true = sym (ap is_end is.0) ∙ found in cc)
 
   rule_within : (state after : State) (rule : RuleOf) → IsStateWithin options state → IsRuleMeant options.enc rule.meaning rule.slash
-      → rule.act.number ≡ suc (length state.rules) → AreConds rule.conds → IsEndRule rule
+      → rule.act.number ≡ suc (length state.rules) → IsEndRule rule
       → (is_end rule.kind ≡ true → first_of is_end rule.conds state.rules ≡ None) → after ≡ with_rule state rule → IsStateWithin options after
-  rule_within state after rule within meant number conds bare free is =
+  rule_within state after rule within meant number bare free is =
       let longer : length (state.rules ++ rule ∷ []) ≡ suc (length state.rules) = let l = length-append state.rules (rule ∷ []) in omega (arith, l) in
       let more : length state.rules ≤ length (state.rules ++ rule ∷ []) = omega (arith, longer) in
       subst (IsStateWithin options) (sym is) (record {
@@ -197,7 +194,6 @@ module _ (options : Options) (lexemes : List Lexeme) where
             (numbers_more state.rules (length state.rules) (length (state.rules ++ rule ∷ [])) more within.numbers)
             (omega (arith, number, longer), tt);
         differ = differ_snoc state.rules rule (length state.rules) within.numbers within.differ number;
-        conds = all_both (λ (r : RuleOf). AreConds r.conds) state.rules (rule ∷ []) within.conds (conds, tt);
         ends = all_both IsEndRule state.rules (rule ∷ []) within.ends (bare, tt);
         once = once_more state.rules rule within.once free;
       })
@@ -218,7 +214,6 @@ module _ (options : Options) (lexemes : List Lexeme) where
         rules = within.rules;
         numbers = within.numbers;
         differ = within.differ;
-        conds = within.conds;
         ends = within.ends;
         once = within.once;
       })
@@ -229,7 +224,6 @@ module _ (options : Options) (lexemes : List Lexeme) where
         rules = within.rules;
         numbers = within.numbers;
         differ = within.differ;
-        conds = within.conds;
         ends = within.ends;
         once = within.once;
       })
@@ -241,7 +235,7 @@ module _ (options : Options) (lexemes : List Lexeme) where
       (λ fault. Then Head (TargetChecks options lexemes goes) fault) checked in
       let later = then-none Head (TargetChecks options lexemes goes) found.1 in
       let meant = head_within state within.definitions sort (conds_of options lexemes first head) head slash until is.0 is.1 later.0 is.2 in
-      rule_within state after (rule_of options lexemes (suc (length state.rules)) first head goes code is.0 is.1) within meant (act_number (suc (length state.rules)) goes code) (inr refl)
+      rule_within state after (rule_of options lexemes (suc (length state.rules)) first head goes code is.0 is.1) within meant (act_number (suc (length state.rules)) goes code)
       (head_end state sort head slash until is.0 is.1 is.2)
       (head_once state sort (conds_of options lexemes first head) head slash until is.0 is.1 later.0 is.2) is.3
   item_within state after (Text value) within checked is = subst (IsStateWithin options) (sym is) within

@@ -1,5 +1,5 @@
 -- The items of a block, one behind another.
-use Rattle.std.proofs.Common.{◌≡◌, ℕ, zero, suc, ◌-◌, ◌≤◌, ◌<◌, inr, List, [], ◌∷◌, ◌++◌, length, take, drop, get_or, Option, None, Some, Result, Ok, Err, IfOk, MatchResult, refl, ap, ◌∙◌, arith}
+use Rattle.std.proofs.Common.{◌≡◌, ℕ, zero, suc, ◌-◌, ◌≤◌, ◌<◌, inl, inr, List, [], ◌∷◌, ◌++◌, length, take, drop, get_or, Option, None, Some, Result, Ok, Err, IfOk, MatchResult, refl, subst, ap, ◌∙◌, arith}
 use Rattle.std.proofs.lemmas.List.{length-map}
 use Rattle.lx_base.specs.declared.faults.Fault.{Fault}
 use Rattle.lx_base.specs.declared.faults.Stop.{Stop}
@@ -11,17 +11,19 @@ use Rattle.lx_parse.specs.declared.sorts.Sort.TheVariants.{Semicolon, Slash, Nam
 use Rattle.lx_parse.specs.Expressions.{alt}
 use Rattle.lx_parse.specs.Items.{ReadsNames, first_name, next_name, ReadsList, no_list, all_conditions, conditions, ReadsHead, plain, trailing, any, end, ReadsAction, code, code_and_target, target, ReadsItem, define, configure, rule, ReadsItems, no_item, next_item}
 use Rattle.lx_parse.specs.Ranges.{HasExpressions, EachHasExpressions}
-use Rattle.lx_base.specs.declared.blocks.BlockKind.TheVariants.{Code}
+use Rattle.lx_base.specs.declared.blocks.BlockKind.{BlockKind}
+use Rattle.lx_base.specs.declared.blocks.BlockKind.TheVariants.{Code, Rules, Use}
 use Rattle.lx_base.specs.declared.places.Pos.{Pos}
 use Rattle.lx_parse.specs.Blocks.{IsBody, form_of}
 use Rattle.lx_parse.specs.Sorts.{sort_of, sorts_of}
 use Rattle.lx_token.specs.declared.list.Token.{Token}
 use Rattle.lx_rules.specs.Environments.{Environment}
-use Rattle.lx_rules.specs.Blocks.{ScannerChecks, StopsWith}
+use Rattle.lx_rules.specs.Blocks.{BlockChecks, HasRules, StopsWith, of_scanners, of_use, opening_fault, to_keep}
 use Rattle.lx_forms.specs.Lexemes.{Lexeme, lexeme_of, lexemes_of, sort_at, sorts_at}
 use Rattle.lx_rules.specs.Items.{State, Goes, ends, refused, next, first_state, ItemChecks, IsAfter}
 use Rattle.lx_rules.specs.Keeping.{StopsGoing}
 use Rattle.lx_exprs.specs.Checks.{StopsAt}
+use Rattle.lx_exprs.specs.Seen.{IsStop}
 use Rattle.lx_forms.proofs.FormReading.{reads_some}
 
 module _ (options : Options) (lexemes : List Lexeme) where
@@ -107,8 +109,36 @@ pub if_ok_so : {A B : Type 0} (P P' : A → Type 0) (Q : B → Type 0) (result :
 if_ok_so P P' Q (Ok a) given p = p a given
 if_ok_so P P' Q (Err b) given p = tt
 
-pub stops_behind : (options : Options) (at : Pos) (environment : Environment) (lexemes : List Lexeme) (items : List Item) (state : State) (stopped : Stop)
-    → Goes options lexemes (first_state Code environment) items (Ok state) → StopsAt (ScannerChecks options.custom at state) stopped
-    → StopsWith options Code at environment lexemes items stopped
-stops_behind options at environment lexemes items state stop.Memory goes stops = tt
-stops_behind options at environment lexemes items state (stop.Fault fault) goes stops = inr (refl, inr (state, goes, stops))
+pub stops_behind : (options : Options) (kind : BlockKind) (at : Pos) (environment : Environment) (lexemes : List Lexeme) (items : List Item) (state : State) (stopped : Stop)
+    → opening_fault kind at environment.kept ≡ None → Goes options lexemes (first_state kind environment) items (Ok state)
+    → StopsAt (BlockChecks options.custom kind at state) stopped → StopsWith options kind at environment lexemes items stopped
+stops_behind options kind at environment lexemes items state stop.Memory opened goes stops = tt
+stops_behind options kind at environment lexemes items state (stop.Fault fault) opened goes stops = inr (opened, inr (state, goes, stops))
+
+pub stops_within : (options : Options) (kind : BlockKind) (at : Pos) (environment : Environment) (lexemes : List Lexeme) (items : List Item) (stopped : Stop)
+    → opening_fault kind at environment.kept ≡ None → StopsGoing options lexemes (first_state kind environment) items stopped
+    → StopsWith options kind at environment lexemes items stopped
+stops_within options kind at environment lexemes items stop.Memory opened stops = tt
+stops_within options kind at environment lexemes items (stop.Fault fault) opened stops = inr (opened, inl stops)
+
+pub stops_opening : (options : Options) (kind : BlockKind) (at : Pos) (environment : Environment) (lexemes : List Lexeme) (items : List Item) (stopped : Stop)
+    → IsStop (opening_fault kind at environment.kept) stopped → StopsWith options kind at environment lexemes items stopped
+stops_opening options kind at environment lexemes items stop.Memory stops = tt
+stops_opening options kind at environment lexemes items (stop.Fault fault) stops = inl stops
+
+-- blocks of rules are read alike
+sorts-alike : (kind : BlockKind) → HasRules kind → (body : List ℕ) (tokens : List Token) → sorts_of kind body tokens ≡ sorts_of Code body tokens
+sorts-alike kind of_scanners body tokens = refl
+sorts-alike kind to_keep body [] = refl
+sorts-alike kind to_keep body (token ∷ tokens) =
+    ap (λ l. sort_of token.kind (take (token.to - token.from) (drop token.from body)) ∷ l) (sorts-alike Rules to_keep body tokens)
+sorts-alike kind of_use body [] = refl
+sorts-alike kind of_use body (token ∷ tokens) =
+    ap (λ l. sort_of token.kind (take (token.to - token.from) (drop token.from body)) ∷ l) (sorts-alike Use of_use body tokens)
+
+pub body-alike : (kind : BlockKind) → HasRules kind → (body : List ℕ) (tokens : List Token) (items : List Item)
+    → IsBody (form_of kind) (sorts_of kind body tokens) items → IsBody (form_of Code) (sorts_of Code body tokens) items
+body-alike kind of_scanners body tokens items read = read
+body-alike kind to_keep body tokens items read =
+    subst (λ sorts. IsBody (form_of Code) sorts items) (sorts-alike Rules to_keep body tokens) read
+body-alike kind of_use body tokens items read = subst (λ sorts. IsBody (form_of Code) sorts items) (sorts-alike Use of_use body tokens) read

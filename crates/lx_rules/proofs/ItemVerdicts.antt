@@ -4,7 +4,7 @@ use Rattle.std.specs.List.{AllByRecursion}
 use Rattle.std.specs.Option.{option_map}
 use Rattle.std.specs.Prelude.{◌==◌}
 use Rattle.lx_base.specs.declared.faults.Fault.{Fault}
-use Rattle.lx_base.specs.declared.faults.Fault.TheVariants.{BadValue, Unsupported, UnknownConfig}
+use Rattle.lx_base.specs.declared.faults.Fault.TheVariants.{BadValue, UnknownConfig}
 use Rattle.lx_base.specs.declared.places.Pos.{Pos}
 use Rattle.lx_base.specs.declared.settings.Options.{Options}
 use Rattle.lx_parse.specs.declared.items.Item.{Item}
@@ -15,7 +15,7 @@ use Rattle.lx_regex.specs.Term.{IsInRanges, Term}
 use Rattle.lx_regex.specs.declared.rules.Kind.{Kind}
 use Rattle.lx_regex.specs.declared.rules.Kind.TheVariants as kind
 use Rattle.lx_rules.specs.Buildable.{IsBuildable}
-use Rattle.lx_exprs.specs.Checks.{Check, Checks, Finds, IsIn, Then, are_groups, tags_of, unsupported}
+use Rattle.lx_exprs.specs.Checks.{Check, Checks, Finds, IsIn, Then, are_groups, tags_of}
 use Rattle.lx_rules.specs.Configurations.{config_fault, config_kind, kind_fault, set_by, setting_in, setting_of, value_fault}
 use Rattle.lx_rules.specs.declared.configurations.ConfigKind.{ConfigKind}
 use Rattle.lx_rules.specs.declared.environment.Setting.{Setting}
@@ -94,15 +94,11 @@ module _ (options : Options) (lexemes : List Lexeme) where
 
   list_decides : (is_absent : Bool) (at : Pos) → Decides (ListChecks options lexemes is_absent at)
   list_decides true at = finds_decides (unless (not options.conds) at)
-  list_decides false at =
-      then_decides (Finds (Some (Unsupported (Some at)))) (Finds (unless options.conds at)) (finds_decides (Some (Unsupported (Some at))))
-      (finds_decides (unless options.conds at))
+  list_decides false at = finds_decides (unless options.conds at)
 
   target_decides : (goes : Option ℕ) → Decides (TargetChecks options lexemes goes)
   target_decides None = finds_decides None
-  target_decides (Some goes) =
-      then_decides (Finds (unsupported (nth_lexeme lexemes (goes - 1)))) (Finds (unless options.conds (nth_lexeme lexemes (goes - 1)).at))
-      (finds_decides (unsupported (nth_lexeme lexemes (goes - 1)))) (finds_decides (unless options.conds (nth_lexeme lexemes (goes - 1)).at))
+  target_decides (Some goes) = finds_decides (unless options.conds (nth_lexeme lexemes (goes - 1)).at)
 
   head_decides : (state : State) (sort : HeadSort) (conds : List (List ℕ)) (head : ℕ) (slash : Option ℕ) (until : ℕ)
       → head_sort (sort_at (nth_lexeme lexemes head)) ≡ sort → HasExpressions (sorts_at lexemes) (Rule head head slash until None None)
@@ -119,7 +115,7 @@ module _ (options : Options) (lexemes : List Lexeme) where
   head_decides state expression conds head (Some slash) until is has = context_decides state.definitions head slash until has.0 has.1
 
   -- the expressions of a rule stand in its head
-  head_has : (first head : ℕ) (slash : Option ℕ) (until : ℕ) (goes code : Option ℕ)
+  pub head_has : (first head : ℕ) (slash : Option ℕ) (until : ℕ) (goes code : Option ℕ)
       → HasExpressions (sorts_at lexemes) (Rule first head slash until goes code)
       → HasExpressions (sorts_at lexemes) (Rule head head slash until None None)
   head_has first head None until goes code has = has

@@ -19,10 +19,10 @@ use Rattle.lx_rules.specs.declared.heads.Head.TheVariants as head
 use Rattle.lx_rules.specs.declared.kept.KeptRule.{KeptRule}
 use Rattle.lx_rules.specs.declared.rule_exprs.RuleExpr.{RuleExpr}
 use Rattle.lx_rules.specs.Blocks.{add_conds}
-use Rattle.lx_rules.specs.Conditions.{AreNumbers, cond_names, conds_seen, nothing_runs, room_behind, room_under, running_of, running_with, standing_of, standing_with}
+use Rattle.lx_rules.specs.Conditions.{AreNumbers, cond_names, conds_seen, nothing_runs, places_of, room_behind, room_under, running_of, running_with, standing_of, standing_with}
 use Rattle.lx_rules.specs.Items.{end_meaning, is_default, is_end}
 use Rattle.lx_rules.specs.Keeping.{IsBoundedExpr, IsBoundedHead, IsExprOf, IsHeadKept, IsHeadOf, IsRuleExpr, standing_in}
-use Rattle.lx_rules.specs.Kept.{AreKept, IsExprKept, IsKeptRule, IsRunning, is_within, may_stand, plain_under}
+use Rattle.lx_rules.specs.Kept.{AreKept, IsExprKept, IsKeptRule, IsRunning, is_within, may_stand, plain_under, places_from}
 use Rattle.lx_rules.specs.Rules.{RuleOf}
 use Rattle.lx_rules.proofs.CondNames.{add_conds-front, conditions_of-snoc, is_among-here, is_among-there}
 use Rattle.lx_rules.proofs.CondNumbers.{AreNumbers-more, conds_seen-more}
@@ -202,10 +202,11 @@ module _ (rules : List RuleOf) (rule : RuleOf) (held : List KeptRule) (before : 
       → conds_seen (cond_names after) one.conds ≡ rule.conds → AreNumbers (length (cond_names after)) one.conds
       → ((cond : List ℕ) → standing_of after cond
       ≡ (if is_among cond rule.conds then standing_with (standing_of before cond) (standing_in read rule.act.number rule.at) else standing_of before cond))
+      → ((cond : List ℕ) → places_of after cond ≡ places_from 0 all cond)
       → one.number ≡ rule.act.number → rule.act.number ≡ suc (length rules) → one.at ≡ rule.at → one.target ≡ rule.target
       → IsHeadOf (room_under before rule.conds) rule.kind rule.meaning rule.slash read → IsHeadKept read one → IsBoundedHead read
       → AreKept all (held ++ one ∷ []) after
-  rules_kept one after read names seen listed counts number place at_is target head_of headed bounded = record {
+  rules_kept one after read names seen listed counts places number place at_is target head_of headed bounded = record {
     names = names ∙ ap (add_conds rule.conds) is.names ∙ sym (conditions_of-snoc rules rule);
     each =
         all_zipped_more (IsKeptRule (cond_names after) all) held rules one rule
@@ -223,6 +224,7 @@ module _ (rules : List RuleOf) (rule : RuleOf) (held : List KeptRule) (before : 
         (end_in (room_under before rule.conds) rule.kind rule.meaning rule.slash read rule.act.number rule.at head_of
         ∙ ap (λ (n : ℕ). if is_end rule.kind then Some (record { number = n; at = rule.at }) else None) place)
         (ends_after cond);
+    places = places;
   }
     where
       grows : (more : List (List ℕ)) × (add_conds rule.conds (cond_names before) ≡ cond_names before ++ more)

@@ -1,8 +1,9 @@
 -- The rules of a scanner as they are kept, and their checks.
-use Rattle.std.proofs.Common.{◌≡◌, ℕ, ◌⊎◌, inl, inr, Bool, true, false, not, List, [], ◌∷◌, ◌++◌, Option, None, Some, refl, sym, ap, ap₂, ◌∙◌, subst, arith, append-nil, append_assoc}
-use Rattle.std.specs.Prelude.{◌||◌, ◌&&◌, nat_lt, if◌then◌else◌}
-use Rattle.std.specs.List.{AllZip, list_any}
+use Rattle.std.proofs.Common.{◌≡◌, ℕ, ◌⊎◌, inl, inr, Bool, true, false, not, List, [], ◌∷◌, ◌++◌, Option, None, Some, refl, sym, ap, ap₂, ◌∙◌, subst, arith, append-nil, append_assoc, suc, ◌+◌, ◌<◌, drop, get_or, length}
+use Rattle.std.specs.Prelude.{◌||◌, ◌&&◌, nat_lt, if◌then◌else◌, slice_get}
+use Rattle.std.specs.List.{AllZip, list_any, cons_option}
 use Rattle.std.specs.Option.{option_or}
+use Rattle.std.proofs.lemmas.List.{drop_more}
 use Rattle.lx_base.specs.declared.faults.Fault.TheVariants.{NoRules, TooManyParts}
 use Rattle.lx_base.specs.declared.places.Pos.{Pos}
 use Rattle.lx_exprs.specs.Checks.{is_among}
@@ -10,13 +11,13 @@ use Rattle.lx_exprs.specs.Defined.{kept}
 use Rattle.lx_rules.specs.declared.conditions.Running.{Running}
 use Rattle.lx_rules.specs.declared.kept.KeptRule.{KeptRule}
 use Rattle.lx_rules.specs.Blocks.{every, limits_fault, nesting_of, not_of_kind, of_kind, own_or, pair_fault, rules_of, rules_under, scanner_fault, scanner_rules, shared_beside, size_of, tags_of}
-use Rattle.lx_rules.specs.Conditions.{conds_seen, nothing_runs, running_with}
-use Rattle.lx_rules.specs.Finishing.{kept_defaults, kept_fault, kept_in_order, kept_others, kept_rules_of, kept_under, running_fault, running_over, weight_of}
+use Rattle.lx_rules.specs.Conditions.{nothing_runs, running_with}
+use Rattle.lx_rules.specs.Finishing.{kept_defaults, kept_fault, kept_in_order, kept_others, kept_at, kept_rules_of, running_fault, running_over, weight_of}
 use Rattle.lx_rules.specs.Items.{is_default, is_end}
-use Rattle.lx_rules.specs.Kept.{IsKeptRule, IsRunning}
+use Rattle.lx_rules.specs.Kept.{IsKeptRule, IsRunning, places_from}
 use Rattle.lx_rules.specs.Rules.{RuleOf}
 use Rattle.lx_rules.proofs.RuleLists.{IsRunning-both, IsRunning-nothing}
-use Rattle.lx_rules.proofs.ZippedLists.{filter-filter, filter-none, filter-some, zip-any, zip-append, zip-filter, zip-passes, zip-so}
+use Rattle.lx_rules.proofs.ZippedLists.{filter-filter, filter-none, filter-some, zip-any, zip-append, zip-filter, zip-so}
 
 own_or-some : {B : Type 0} (own shared : List RuleOf) → (own ≡ [] → B) → (own_or own shared ≡ own → B) → B
 own_or-some [] shared empty full = empty refl
@@ -98,21 +99,58 @@ pub record StandsUnder (names : List (List ℕ)) (all : List RuleOf) (cond : Lis
   pub held : IsKeptRule names all one rule
   pub under : (is_among cond rule.conds ≡ true) ⊎ (is_among every rule.conds ≡ true)
 
-module _ (names : List (List ℕ)) (all : List RuleOf) (held : List KeptRule) (rules : List RuleOf) (are : AllZip (IsKeptRule names all) held rules) where
-  under-zip : (cond : List ℕ) → AllZip (λ one rule. IsKeptRule names all one rule × (is_among cond rule.conds ≡ true)) (kept_under names cond held) (rules_under cond rules)
+-- the rule at one place more, if there is one
+pub kept_at-next : (places : List ℕ) (held : List KeptRule) (index : ℕ) (found : Option KeptRule) → index < length places
+    → slice_get held (get_or places index 0) ≡ found
+    → kept_at (drop index places) held ≡ cons_option found (kept_at (drop (index + 1) places) held)
+kept_at-next places held index found lt is =
+    ap (λ l. kept_at l held) (drop_more places index 0 lt) ∙ ap (λ one. cons_option one (kept_at (drop (index + 1) places) held)) is
+
+module _ (names : List (List ℕ)) (all : List RuleOf) (cond : List ℕ) where
+  -- a rule that is kept has the condition
+  abbrev IsUnder : KeptRule → RuleOf → Type 0
+  IsUnder one rule = IsKeptRule names all one rule × (is_among cond rule.conds ≡ true)
+
+  -- the rules at the places of a condition, behind so many others
+  at-zip : (whole : List KeptRule) (start : ℕ) (held : List KeptRule) (rules : List RuleOf)
+      → ((count : ℕ) → slice_get whole (start + count) ≡ slice_get held count) → AllZip (IsKeptRule names all) held rules
+      → AllZip IsUnder (kept_at (places_from start rules cond) whole) (rules_under cond rules)
+  at-zip whole start [] [] behind are = tt
+  at-zip whole start [] (rule ∷ rules) behind are = absurd are
+  at-zip whole start (one ∷ held) [] behind are = absurd are
+  at-zip whole start (one ∷ held) (rule ∷ rules) behind are =
+      at (is_among cond rule.conds) refl (at-zip whole (suc start) held rules next are.1)
+    where
+      here : slice_get whole start ≡ Some one
+      here = let same : start ≡ start + 0 = omega arith in ap (slice_get whole) same ∙ behind 0
+
+      next : (count : ℕ) → slice_get whole (suc start + count) ≡ slice_get held count
+      next count = let same : suc start + count ≡ start + suc count = omega arith in ap (slice_get whole) same ∙ behind (suc count)
+
+      at : (b : Bool) → is_among cond rule.conds ≡ b → AllZip IsUnder (kept_at (places_from (suc start) rules cond) whole) (rules_under cond rules)
+          → AllZip IsUnder (kept_at (if b then start ∷ places_from (suc start) rules cond else places_from (suc start) rules cond) whole)
+          (if b then rule ∷ rules_under cond rules else rules_under cond rules)
+      at true e later =
+          subst (λ found. AllZip IsUnder (cons_option found (kept_at (places_from (suc start) rules cond) whole)) (rule ∷ rules_under cond rules)) (sym here)
+          ((are.0, e), later)
+      at false e later = later
+
+module _ (names : List (List ℕ)) (all : List RuleOf) (held : List KeptRule) (rules : List RuleOf) (are : AllZip (IsKeptRule names all) held rules)
+    (places : List ℕ → List ℕ) (placed : (cond : List ℕ) → places cond ≡ places_from 0 rules cond) where
+  under-zip : (cond : List ℕ) → AllZip (IsUnder names all cond) (kept_at (places cond) held) (rules_under cond rules)
   under-zip cond =
-      zip-passes (IsKeptRule names all) (λ (one : KeptRule). is_among cond (conds_seen names one.conds)) (λ (rule : RuleOf). is_among cond rule.conds)
-      (λ one rule is. ap (is_among cond) is.conds) held rules are
+      subst (λ l. AllZip (IsUnder names all cond) (kept_at l held) (rules_under cond rules)) (sym (placed cond))
+      (at-zip names all cond held 0 held rules (λ count. let same : 0 + count ≡ count = omega arith in ap (slice_get held) same) are)
 
   -- the rules of the scanner of a condition
-  pub rules_of-zip : (cond : List ℕ) → AllZip (StandsUnder names all cond) (kept_rules_of names cond held) (rules_of cond rules)
+  pub rules_of-zip : (cond : List ℕ) → AllZip (StandsUnder names all cond) (kept_rules_of places cond held) (rules_of cond rules)
   rules_of-zip cond =
-      in_order-zip (StandsUnder names all cond) (λ one rule is. is.held.kind) (kept_under names cond held) (kept_under names every held) (rules_under cond rules)
+      in_order-zip (StandsUnder names all cond) (λ one rule is. is.held.kind) (kept_at (places cond) held) (kept_at (places every) held) (rules_under cond rules)
       (rules_under every rules)
-      (zip-so (λ one rule. IsKeptRule names all one rule × (is_among cond rule.conds ≡ true)) (StandsUnder names all cond)
-      (λ one rule is. record { held = is.0; under = inl is.1 }) (kept_under names cond held) (rules_under cond rules) (under-zip cond))
-      (zip-so (λ one rule. IsKeptRule names all one rule × (is_among every rule.conds ≡ true)) (StandsUnder names all cond)
-      (λ one rule is. record { held = is.0; under = inr is.1 }) (kept_under names every held) (rules_under every rules) (under-zip every))
+      (zip-so (IsUnder names all cond) (StandsUnder names all cond) (λ one rule is. record { held = is.0; under = inl is.1 }) (kept_at (places cond) held)
+      (rules_under cond rules) (under-zip cond))
+      (zip-so (IsUnder names all every) (StandsUnder names all cond) (λ one rule is. record { held = is.0; under = inr is.1 }) (kept_at (places every) held)
+      (rules_under every rules) (under-zip every))
 
 -- so far a rule goes, as far as that is kept
 IsRunning-one : (names : List (List ℕ)) (all : List RuleOf) (one : KeptRule) (rule : RuleOf) → IsKeptRule names all one rule

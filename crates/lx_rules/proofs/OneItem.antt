@@ -4,15 +4,14 @@ use Rattle.std.specs.Prelude.{not, ◌==◌}
 use Rattle.std.specs.Option.{option_map}
 use Rattle.lx_base.specs.Names.{Spellings}
 use Rattle.lx_base.specs.declared.blocks.BlockKind.{BlockKind}
-use Rattle.lx_base.specs.declared.blocks.BlockKind.TheVariants.{Code}
 use Rattle.lx_base.specs.declared.faults.Fault.{Fault}
-use Rattle.lx_base.specs.declared.faults.Fault.TheVariants.{Unsupported, BadValue}
+use Rattle.lx_base.specs.declared.faults.Fault.TheVariants.{BadValue}
 use Rattle.lx_base.specs.declared.places.Pos.{Pos}
 use Rattle.lx_base.specs.declared.settings.Options.{Options}
 use Rattle.lx_parse.specs.declared.items.Item.{Item}
 use Rattle.lx_parse.specs.declared.items.Item.TheVariants.{Define, Configure, Rule, Text}
 use Rattle.lx_regex.specs.declared.rules.Kind.{Kind}
-use Rattle.lx_rules.specs.Blocks.{AreScanners, ClashCheck, IsBlockFault, IsFaultWithin, IsResolved, NoClash, Resolves, ScannerChecks, conditions_of, environment_behind, lonely_fault, scanners_fault, targets_fault}
+use Rattle.lx_rules.specs.Blocks.{AreScanners, BlockChecks, ClashCheck, HasRules, IsBlockFault, IsFaultWithin, IsResolvedAs, NoClash, Resolves, ScannerChecks, conditions_of, environment_behind, lonely_fault, no_rules_fault, of_scanners, of_use, scanners_fault, targets_fault, to_keep}
 use Rattle.lx_exprs.specs.Checks.{Then, Finds, are_groups}
 use Rattle.lx_rules.specs.Configurations.{config_fault}
 use Rattle.lx_exprs.specs.Defined.{Definition, Meaning, IsDefined, definition_of}
@@ -26,8 +25,7 @@ use Rattle.lx_forms.specs.Lexemes.{Lexeme, nth_lexeme, sort_at}
 use Rattle.lx_rules.specs.declared.resolved.Resolved.{Resolved}
 use Rattle.lx_rules.specs.declared.resolved.Scanner.{Scanner}
 use Rattle.lx_rules.specs.Likeness.{AreAlike, HaveSameRules}
-use Rattle.lx_rules.proofs.Openings.{opened}
-use Rattle.lx_exprs.proofs.Forms.OneCheck.{FindsOne, FindsOne-Finds, FindsOne-Then, FindsOne-by, behind_meaning-one, context-one, definition-one, expression-one, expression_meaning-one, then_unsupported-one}
+use Rattle.lx_exprs.proofs.Forms.OneCheck.{FindsOne, FindsOne-Finds, FindsOne-Then, FindsOne-by, behind_meaning-one, context-one, definition-one, expression-one, expression_meaning-one}
 
 scanners-alike : (named : Bool) (rules : List RuleOf) (conds : List (List ℕ)) (scanners others : List Scanner) → AreScanners named rules conds scanners
     → AreScanners named rules conds others → HaveSameRules scanners others
@@ -36,21 +34,19 @@ scanners-alike named rules [] [] (other ∷ others) are are_other = absurd are_o
 scanners-alike named rules [] (scanner ∷ scanners) others are are_other = absurd are
 scanners-alike named rules (cond ∷ conds) [] others are are_other = absurd are
 scanners-alike named rules (cond ∷ conds) (scanner ∷ scanners) [] are are_other = absurd are_other
-scanners-alike named rules (cond ∷ conds) (scanner ∷ scanners) (other ∷ others) are are_other =
-    (are.0.patterns ∙ sym are_other.0.patterns, scanners-alike named rules conds scanners others are.1 are_other.1)
+scanners-alike named rules (cond ∷ conds) (scanner ∷ scanners) (other ∷ others) are are_other = (
+  (are.0.name ∙ sym are_other.0.name, are.0.patterns ∙ sym are_other.0.patterns),
+  scanners-alike named rules conds scanners others are.1 are_other.1,
+)
 
 module _ (options : Options) (lexemes : List Lexeme) where
   list-one : (is_absent : Bool) (at : Pos) → FindsOne (ListChecks options lexemes is_absent at)
   list-one true at = FindsOne-Finds (unless (not options.conds) at)
-  list-one false at =
-      FindsOne-Then (Finds (Some (Unsupported (Some at)))) (Finds (unless options.conds at)) (FindsOne-Finds (Some (Unsupported (Some at))))
-      (FindsOne-Finds (unless options.conds at))
+  list-one false at = FindsOne-Finds (unless options.conds at)
 
   target-one : (goes : Option ℕ) → FindsOne (TargetChecks options lexemes goes)
   target-one None = FindsOne-Finds None
-  target-one (Some goes) =
-      let lexeme = nth_lexeme lexemes (goes - 1) in
-      then_unsupported-one options [] (Finds (unless options.conds lexeme.at)) lexeme (FindsOne-Finds (unless options.conds lexeme.at))
+  target-one (Some goes) = FindsOne-Finds (unless options.conds (nth_lexeme lexemes (goes - 1)).at)
 
   head-one : (state : State) (given : HeadSort) (conds : List (List ℕ)) (head : ℕ) (slash : Option ℕ) (until : ℕ)
       → FindsOne (HeadChecks options lexemes state given conds head slash until)
@@ -149,6 +145,22 @@ module _ (options : Options) (lexemes : List Lexeme) where
           later other
           (subst (λ (s : State). Goes options lexemes s items other) (sym (after-one state item after after_other becomes becomes_other)) goes_other)
 
+  -- what one block resolves to is alike
+  resolved-alike : (kind : BlockKind) → HasRules kind → (state : State) (resolved another : Resolved) → IsResolvedAs kind options.conds state resolved
+      → IsResolvedAs kind options.conds state another → AreAlike resolved another
+  resolved-alike kind to_keep state resolved another is is_other = record {
+    config = is.2 ∙ sym is_other.2;
+    scanners = subst (λ l. HaveSameRules l another.scanners) (sym is.0) (subst (HaveSameRules []) (sym is_other.0) tt);
+  }
+  resolved-alike kind of_scanners state resolved another is is_other = record {
+    config = is.config ∙ sym is_other.config;
+    scanners = scanners-alike options.conds state.rules (conditions_of state.rules) resolved.scanners another.scanners is.scanners is_other.scanners;
+  }
+  resolved-alike kind of_use state resolved another is is_other = record {
+    config = is.config ∙ sym is_other.config;
+    scanners = scanners-alike options.conds state.rules (conditions_of state.rules) resolved.scanners another.scanners is.scanners is_other.scanners;
+  }
+
   module _ (at : Pos) where
     clash-one : (names : Spellings) (rules : List RuleOf) → FindsOne (ClashCheck options.custom at names rules)
     clash-one names rules = FindsOne-by (NoClash options.custom names rules) (NoClash options.custom names rules → ⊥) None (Some (BadValue at)) (λ holds fails. fails holds)
@@ -165,24 +177,30 @@ module _ (options : Options) (lexemes : List Lexeme) where
         (FindsOne-Then Lonely (Then Targets Scanners) (FindsOne-Finds (lonely_fault at state.rules conds))
         (FindsOne-Then Targets Scanners (FindsOne-Finds (targets_fault state.rules conds)) (FindsOne-Finds (scanners_fault at eof state.rules conds))))
 
-    module _ (environment : Environment) (items : List Item) where
-      -- what is known behind all items of a block of scanners is one thing
-      state-one : (state other : State) → Goes options lexemes (first_state Code environment) items (Ok state)
-          → Goes options lexemes (first_state Code environment) items (Ok other) → state ≡ other
+    -- so have those of a block of any kind that has rules
+    block-one : (kind : BlockKind) → HasRules kind → (state : State) → FindsOne (BlockChecks options.custom kind at state)
+    block-one kind of_scanners state = scanners-one state
+    block-one kind to_keep state = FindsOne-Finds (no_rules_fault at state.rules)
+    block-one kind of_use state = scanners-one state
+
+    module _ (environment : Environment) (items : List Item) (kind : BlockKind) (has : HasRules kind) where
+      -- what is known behind all items is one thing
+      state-one : (state other : State) → Goes options lexemes (first_state kind environment) items (Ok state)
+          → Goes options lexemes (first_state kind environment) items (Ok other) → state ≡ other
       state-one state other goes goes_other = let same = Goes-one goes (Ok other) goes_other in cc
 
-      checks-one : (state other : State) (fault found : Option Fault) → Goes options lexemes (first_state Code environment) items (Ok state)
-          → Goes options lexemes (first_state Code environment) items (Ok other) → ScannerChecks options.custom at state fault → ScannerChecks options.custom at other found
-          → fault ≡ found
+      checks-one : (state other : State) (fault found : Option Fault) → Goes options lexemes (first_state kind environment) items (Ok state)
+          → Goes options lexemes (first_state kind environment) items (Ok other) → BlockChecks options.custom kind at state fault
+          → BlockChecks options.custom kind at other found → fault ≡ found
       checks-one state other fault found goes goes_other checks checks_other =
-          (scanners-one state).one fault found checks
-          (subst (λ (s : State). ScannerChecks options.custom at s found) (sym (state-one state other goes goes_other)) checks_other)
+          (block-one kind has state).one fault found checks
+          (subst (λ (s : State). BlockChecks options.custom kind at s found) (sym (state-one state other goes goes_other)) checks_other)
 
-      -- such a block has one fault behind its opener, if it has one
-      abbrev HasFault : BlockKind → Fault → Type 0
-      HasFault kind fault = IsFaultWithin options kind at environment lexemes items fault
+      -- a block has one fault behind its opener, if it has one
+      abbrev HasFault : Fault → Type 0
+      HasFault fault = IsFaultWithin options kind at environment lexemes items fault
 
-      fault-one : (fault other : Fault) → HasFault Code fault → HasFault Code other → fault ≡ other
+      fault-one : (fault other : Fault) → HasFault fault → HasFault other → fault ≡ other
       fault-one fault other (inl goes) (inl goes_other) = let same = Goes-one goes (Err other) goes_other in cc
       fault-one fault other (inl goes) (inr found) = absurd (let same = Goes-one goes (Ok found.0) found.1 in cc)
       fault-one fault other (inr found) (inl goes) = absurd (let same = Goes-one goes (Ok found.0) found.1 in cc)
@@ -190,50 +208,29 @@ module _ (options : Options) (lexemes : List Lexeme) where
           let same = checks-one found.0 found_other.0 (Some fault) (Some other) found.1 found_other.1 found.2 found_other.2 in cc
 
       -- a block has one fault, if it has one
-      pub IsBlockFault-one : (kind : BlockKind) (fault other : Fault) → IsBlockFault options kind at environment lexemes items fault
+      pub IsBlockFault-one : (fault other : Fault) → IsBlockFault options kind at environment lexemes items fault
           → IsBlockFault options kind at environment lexemes items other → fault ≡ other
-      IsBlockFault-one kind fault other (inl waits) (inl waits_other) = let same = sym waits ∙ waits_other in cc
-      IsBlockFault-one kind fault other (inl waits) (inr found) = absurd (let same = sym waits ∙ found.0 in cc)
-      IsBlockFault-one kind fault other (inr found) (inl waits) = absurd (let same = sym waits ∙ found.0 in cc)
-      IsBlockFault-one kind fault other (inr found) (inr found_other) =
-          let code = opened kind at found.0 in
-          fault-one fault other (subst (λ (k : BlockKind). HasFault k fault) code found.1) (subst (λ (k : BlockKind). HasFault k other) code found_other.1)
+      IsBlockFault-one fault other (inl waits) (inl waits_other) = let same = sym waits ∙ waits_other in cc
+      IsBlockFault-one fault other (inl waits) (inr found) = absurd (let same = sym waits ∙ found.0 in cc)
+      IsBlockFault-one fault other (inr found) (inl waits) = absurd (let same = sym waits ∙ found.0 in cc)
+      IsBlockFault-one fault other (inr found) (inr found_other) = fault-one fault other found.1 found_other.1
 
-      abbrev ResolvesTo : BlockKind → Environment → Resolved → Type 0
-      ResolvesTo kind after resolved = Resolves options kind at environment lexemes items after resolved
-
-      code_of : (kind : BlockKind) (after : Environment) (resolved : Resolved) → ResolvesTo kind after resolved → ResolvesTo Code after resolved
-      code_of kind after resolved is = subst (λ (k : BlockKind). ResolvesTo k after resolved) (opened kind at is.opening) is
-
-      no_fault : (after : Environment) (resolved : Resolved) (fault : Fault) → ResolvesTo Code after resolved → HasFault Code fault → ⊥
-      no_fault after resolved fault is (inl goes) = let same = Goes-one is.goes (Err fault) goes in cc
-      no_fault after resolved fault is (inr found) =
-          let same = checks-one is.state found.0 None (Some fault) is.goes found.1 is.checked found.2 in cc
+      abbrev ResolvesTo : Environment → Resolved → Type 0
+      ResolvesTo after resolved = Resolves options kind at environment lexemes items after resolved
 
       -- a block that resolves has none
-      pub resolves_or_not : (kind : BlockKind) (after : Environment) (resolved : Resolved) (fault : Fault) → ResolvesTo kind after resolved
+      pub resolves_or_not : (after : Environment) (resolved : Resolved) (fault : Fault) → ResolvesTo after resolved
           → IsBlockFault options kind at environment lexemes items fault → ⊥
-      resolves_or_not kind after resolved fault is (inl waits) = let same = sym waits ∙ is.opening in cc
-      resolves_or_not kind after resolved fault is (inr found) =
-          no_fault after resolved fault (code_of kind after resolved is)
-          (subst (λ (k : BlockKind). HasFault k fault) (opened kind at found.0) found.1)
-
-      scanners_resolve-one : (after other : Environment) (resolved another : Resolved) → ResolvesTo Code after resolved → ResolvesTo Code other another
-          → (after ≡ other) × AreAlike resolved another
-      scanners_resolve-one after other resolved another is is_other =
-          let same = state-one is.state is_other.state is.goes is_other.goes in
-          let ends_so = subst (λ (s : State). IsResolved options.conds s another) (sym same) is_other.ends in (
-            is.after_is ∙ ap (environment_behind Code environment) same ∙ sym is_other.after_is,
-            record {
-              config = is.ends.config ∙ sym ends_so.config;
-              scanners =
-                  scanners-alike options.conds is.state.rules (conditions_of is.state.rules) resolved.scanners another.scanners is.ends.scanners
-                  ends_so.scanners;
-            },
-          )
+      resolves_or_not after resolved fault is (inl waits) = let same = sym waits ∙ is.opening in cc
+      resolves_or_not after resolved fault is (inr (opened, inl goes)) = let same = Goes-one is.goes (Err fault) goes in cc
+      resolves_or_not after resolved fault is (inr (opened, inr found)) =
+          let same = checks-one is.state found.0 None (Some fault) is.goes found.1 is.checked found.2 in cc
 
       -- a block leaves one environment, and what it resolves to is alike
-      pub Resolves-one : (kind : BlockKind) (after other : Environment) (resolved another : Resolved) → ResolvesTo kind after resolved
-          → ResolvesTo kind other another → (after ≡ other) × AreAlike resolved another
-      Resolves-one kind after other resolved another is is_other =
-          scanners_resolve-one after other resolved another (code_of kind after resolved is) (code_of kind other another is_other)
+      pub Resolves-one : (after other : Environment) (resolved another : Resolved) → ResolvesTo after resolved
+          → ResolvesTo other another → (after ≡ other) × AreAlike resolved another
+      Resolves-one after other resolved another is is_other =
+          let same = state-one is.state is_other.state is.goes is_other.goes in (
+            is.after_is ∙ ap (environment_behind kind environment) same ∙ sym is_other.after_is,
+            resolved-alike kind has is.state resolved another is.ends (subst (λ (s : State). IsResolvedAs kind options.conds s another) (sym same) is_other.ends),
+          )

@@ -1,5 +1,5 @@
 -- Rules with different numbers, in the order of their scanner.
-use Rattle.std.proofs.Common.{◌≡◌, ◌≢◌, ℕ, suc, ◌≤◌, Bool, true, false, not, List, [], ◌∷◌, ◌++◌, refl, sym, subst, arith}
+use Rattle.std.proofs.Common.{◌≡◌, ◌≢◌, ℕ, zero, suc, ◌<◌, ◌≤◌, Bool, true, false, not, List, [], ◌∷◌, ◌++◌, drop, get_or, length, refl, sym, subst, arith}
 use Rattle.std.specs.Prelude.{if◌then◌else◌}
 use Rattle.std.specs.List.{AllByRecursion, filter, list_any}
 use Rattle.lx_exprs.specs.Checks.{is_among}
@@ -25,6 +25,16 @@ module _ {A : Type 0} (P : A → Type 0) where
   all_both [] back here there = there
   all_both (item ∷ front) back here there = (here.0, all_both front back here.1 there)
 
+  pub all_at : (items : List A) (place : ℕ) (default : A) → AllByRecursion P items → place < length items → P (get_or items place default)
+  all_at [] place default all lt = absurd (omega (arith, lt))
+  all_at (item ∷ items) zero default all lt = all.0
+  all_at (item ∷ items) (suc place) default all lt = all_at items place default all.1 (omega (arith, lt))
+
+  pub all_drop : (count : ℕ) (items : List A) → AllByRecursion P items → AllByRecursion P (drop count items)
+  all_drop zero items all = all
+  all_drop (suc count) [] all = tt
+  all_drop (suc count) (item ∷ items) all = all_drop count items all.1
+
   pub all_filtered : (test : A → Bool) (items : List A) → AllByRecursion P items → AllByRecursion P (filter test items)
   all_filtered test [] all = tt
   all_filtered test (item ∷ items) all = at (test item) (all_filtered test items all.1)
@@ -33,7 +43,7 @@ module _ {A : Type 0} (P : A → Type 0) where
       at true later = (all.0, later)
       at false later = later
 
-all_so : {A : Type 0} (P Q : A → Type 0) → ((item : A) → P item → Q item) → (items : List A) → AllByRecursion P items → AllByRecursion Q items
+pub all_so : {A : Type 0} (P Q : A → Type 0) → ((item : A) → P item → Q item) → (items : List A) → AllByRecursion P items → AllByRecursion Q items
 all_so P Q so [] all = tt
 all_so P Q so (item ∷ items) all = (so item all.0, all_so P Q so items all.1)
 

@@ -1,16 +1,15 @@
 -- The scanners that a block resolves to are within the limits, and their classes fit the encoding.
-use Rattle.std.proofs.Common.{◌≡◌, ◌≢◌, ℕ, ◌+◌, ◌-◌, ◌*◌, ◌≤◌, Bool, true, false, List, [], ◌∷◌, length, map, Option, None, Some, inl, inr, Ok, refl, sym, ap, ap₂, ◌∙◌, subst, arith}
+use Rattle.std.proofs.Common.{◌≡◌, ◌≢◌, ℕ, ◌+◌, ◌-◌, ◌*◌, ◌≤◌, Bool, true, false, List, [], ◌∷◌, length, map, Option, None, Some, inl, inr, refl, sym, ap, ap₂, ◌∙◌, subst, arith}
 use Rattle.std.specs.List.{AllByRecursion}
 use Rattle.std.specs.Prelude.{nat_le, not, if◌then◌else◌}
 use Rattle.std.proofs.lemmas.Bool.{OnFalse_from}
 use Rattle.std.proofs.lemmas.List.{length-append, length-map}
 use Rattle.std.proofs.lemmas.List.Elements.{recursion_from_All}
 use Rattle.lx_regex.specs.ClassLimits.{AllClassesFit}
-use Rattle.lx_base.specs.declared.blocks.BlockKind.TheVariants.{Code}
+use Rattle.lx_base.specs.declared.blocks.BlockKind.{BlockKind}
 use Rattle.lx_base.specs.declared.places.Pos.{Pos}
 use Rattle.lx_base.specs.declared.settings.Enc.{Enc}
 use Rattle.lx_base.specs.declared.settings.Options.{Options}
-use Rattle.lx_parse.specs.declared.items.Item.{Item}
 use Rattle.lx_regex.specs.Limits as limits
 use Rattle.lx_regex.specs.Limits.{AreRegular, HaveDifferentNumbers, IsRegular, IsSlashOf, NoneHasNumber, StandsAmong, StandsIn, end_count}
 use Rattle.lx_regex.specs.Term.{Term, Terms, empty, class, any_unit, cat, alt, repeat, tag, group, nil, cons}
@@ -23,15 +22,15 @@ use Rattle.lx_regex.specs.declared.rules.Tag.{Tag}
 use Rattle.lx_rules.specs.declared.resolved.Resolved.{Resolved}
 use Rattle.lx_rules.specs.declared.resolved.Scanner.{Scanner}
 use Rattle.lx_rules.specs.Blocks as blocks
-use Rattle.lx_rules.specs.Blocks.{AreScanners, ClashCheck, IsResolved, IsScanner, conditions_of, every, lonely_fault, nesting_of, not_of_kind, of_kind, rules_of, scanner_fault, scanners_fault, targets_fault, ScannerChecks}
+use Rattle.lx_rules.specs.Blocks.{AreScanners, BlockChecks, ClashCheck, HasRules, IsResolvedAs, IsScanner, of_scanners, of_use, to_keep, conditions_of, every, lonely_fault, nesting_of, not_of_kind, of_kind, rules_of, scanner_fault, scanners_fault, targets_fault, ScannerChecks}
 use Rattle.lx_exprs.specs.Checks.{Check, Finds, Then}
 use Rattle.lx_exprs.specs.Defined.{Meaning, is_built, whole, whole_room}
-use Rattle.lx_rules.specs.Environments.{Environment, config_of}
-use Rattle.lx_rules.specs.Items.{Goes, State, first_state, is_end}
+use Rattle.lx_rules.specs.Conditions.{AreConds}
+use Rattle.lx_rules.specs.Environments.{config_of}
+use Rattle.lx_rules.specs.Items.{State, is_end}
 use Rattle.lx_rules.specs.Rules.{RuleOf}
-use Rattle.lx_forms.specs.Lexemes.{Lexeme}
 use Rattle.lx_rules.specs.FitScanners.{FitsLimits, IsFit}
-use Rattle.lx_exprs.specs.Within.{AreDefinedWithin, IsPlain}
+use Rattle.lx_exprs.specs.Within.{IsPlain}
 use Rattle.lx_rules.specs.Within.{IsScannerWithin}
 use Rattle.lx_rules.proofs.BuiltScanners.{all_of_scanner}
 use Rattle.lx_rules.proofs.CondNames.{AreOthers, conditions_of-others}
@@ -42,7 +41,7 @@ use Rattle.lx_exprs.proofs.Classes.ClassFits.{classes_fit, plain-behind}
 use Rattle.lx_exprs.proofs.TagLists.TagNumbers.{long-behind, merge_tags-numbers, numbers_from-shifted, tags_in-behind}
 use Rattle.lx_exprs.proofs.Forms.ClassForms.{then-none}
 use Rattle.lx_rules.proofs.EndRules.{IsEndRule, end_once, end_total, same_end, tags_of-others}
-use Rattle.lx_rules.proofs.ItemFits.{IsStateWithin, goes_within, no_rules_within}
+use Rattle.lx_rules.proofs.ItemFits.{IsStateWithin}
 use Rattle.lx_rules.proofs.RuleFits.{IsRuleMeant, IsSlashIn}
 use Rattle.lx_rules.proofs.RuleNumbers.{Differ, differ_of_scanner}
 
@@ -232,7 +231,7 @@ module _ (enc : Enc) where
         later (omega (arith, size)) (omega (arith, nesting)) (omega (arith, tags)),
       )
 
-module _ (options : Options) (place : Pos) (state : State) (within : IsStateWithin options state) (named : Bool) (acts : ℕ) where
+module _ (options : Options) (place : Pos) (state : State) (within : IsStateWithin options state) (conds_are : AllByRecursion (λ (rule : RuleOf). AreConds rule.conds) state.rules) (named : Bool) (acts : ℕ) where
   -- the scanner of a condition whose checks find nothing
   scanner_within : (eof : Option ℕ) (cond : List ℕ) (scanner : Scanner) → cond ≢ every → scanner_fault place eof (rules_of cond state.rules) ≡ None
       → IsScanner named state.rules cond scanner → IsFit acts scanner → IsScannerWithin options.enc scanner
@@ -251,7 +250,7 @@ module _ (options : Options) (place : Pos) (state : State) (within : IsStateWith
           size = fit.size;
           tags = let le = most.tags in omega (arith, tags, counted, le);
           ends = omega (arith, ends, once);
-          numbers = different options.enc scanner.set.rules rules same (differ_of_scanner cond state.rules other within.conds within.differ);
+          numbers = different options.enc scanner.set.rules rules same (differ_of_scanner cond state.rules other conds_are within.differ);
           regular = regular_all options.enc scanner.set.rules rules same all;
         };
         classes = subst (λ patterns. AllClassesFit options.enc (terms_of patterns)) (sym same) (fit_all options.enc rules all);
@@ -277,17 +276,15 @@ scanners_checked custom place state checked =
     let two = then-none Lonely (Then Targets Scanners) one.1 in
     sym (then-none Targets Scanners two.1).1
 
--- behind a block the definitions are as is asked, and its scanners are
+-- the scanners of a block are as is asked where what is known before its items is
 pub resolved_within :
-    (options : Options) (place : Pos) (environment after : Environment) (lexemes : List Lexeme) (items : List Item) (state : State) (resolved : Resolved)
-    → Goes options lexemes (first_state Code environment) items (Ok state) → ScannerChecks options.custom place state None
-    → after.definitions ≡ state.definitions → IsResolved options.conds state resolved → FitsLimits resolved → AreDefinedWithin options environment.definitions
-    → AreDefinedWithin options after.definitions × AllByRecursion (IsScannerWithin options.enc) resolved.scanners
-resolved_within options place environment after lexemes items state resolved goes checked leaves is fine ready =
-    let within =
-    goes_within options lexemes (first_state Code environment) state items (no_rules_within options (first_state Code environment) ready refl) goes in (
-      subst (AreDefinedWithin options) (sym leaves) within.definitions,
-      scanners_within options place state within options.conds (length resolved.acts) (config_of state.settings).eof (conditions_of state.rules) resolved.scanners (conditions_of-others state.rules)
-          (scanners_checked options.custom place state checked) is.scanners
-          (recursion_from_All (IsFit (length resolved.acts)) resolved.scanners fine.scanners),
-    )
+    (options : Options) (kind : BlockKind) → HasRules kind → (place : Pos) (state : State) (resolved : Resolved) → IsStateWithin options state
+    → AllByRecursion (λ (rule : RuleOf). AreConds rule.conds) state.rules → BlockChecks options.custom kind place state None → IsResolvedAs kind options.conds state resolved → FitsLimits resolved
+    → AllByRecursion (IsScannerWithin options.enc) resolved.scanners
+resolved_within options kind to_keep place state resolved within conds checked is fine = subst (AllByRecursion (IsScannerWithin options.enc)) (sym is.0) tt
+resolved_within options kind of_scanners place state resolved within conds checked is fine =
+    scanners_within options place state within conds options.conds (length resolved.acts) (config_of state.settings).eof (conditions_of state.rules) resolved.scanners (conditions_of-others state.rules)
+    (scanners_checked options.custom place state checked) is.scanners (recursion_from_All (IsFit (length resolved.acts)) resolved.scanners fine.scanners)
+resolved_within options kind of_use place state resolved within conds checked is fine =
+    scanners_within options place state within conds options.conds (length resolved.acts) (config_of state.settings).eof (conditions_of state.rules) resolved.scanners (conditions_of-others state.rules)
+    (scanners_checked options.custom place state checked) is.scanners (recursion_from_All (IsFit (length resolved.acts)) resolved.scanners fine.scanners)

@@ -1,6 +1,6 @@
 -- What the checks of a scanner say where they find nothing.
 use Rattle.std.proofs.Common.{◌≡◌, ℕ, ◌≤◌, Bool, true, false, not, List, ◌++◌, Option, None, Some, refl, sym, ap, ◌∙◌, subst, arith}
-use Rattle.std.specs.Prelude.{◌||◌, ◌&&◌, nat_lt, if◌then◌else◌}
+use Rattle.std.specs.Prelude.{◌||◌, ◌&&◌, is_some, nat_lt, if◌then◌else◌}
 use Rattle.std.specs.List.{list_any}
 use Rattle.std.specs.Option.{option_or}
 use Rattle.std.proofs.lemmas.List.Elements.{filter-append, filter_agree}
@@ -52,15 +52,15 @@ module _ (at : Pos) (eof : Option ℕ) (rules : List RuleOf) (none : scanner_fau
       limits_say at (size_of (not_of_kind is_end rules)) (nesting_of (not_of_kind is_end rules)) (tags_of (not_of_kind is_end rules)) later.1 in
       record { size = most.0; nesting = most.1; tags = most.2 }
 
-  -- where no code unit stands at the end, none is `$`
-  pub scanner_unended : eof ≡ None → list_any (λ (rule : RuleOf). is_end rule.kind) rules ≡ false
-  scanner_unended absent =
-      by (list_any (λ (rule : RuleOf). is_end rule.kind) rules)
-      (ap (λ (unit : Option ℕ). pair_fault at unit (list_any (λ (rule : RuleOf). is_end rule.kind) rules)) (sym absent) ∙ later.0)
+  -- one is `$` exactly where a code unit stands at the end
+  pub scanner_ended : list_any (λ (rule : RuleOf). is_end rule.kind) rules ≡ is_some eof
+  scanner_ended = by eof (list_any (λ (rule : RuleOf). is_end rule.kind) rules) later.0
     where
-      by : (b : Bool) → pair_fault at None b ≡ None → b ≡ false
-      by true found = absurd (let h : Some (EofPair at) ≡ None = found in cc)
-      by false found = refl
+      by : (unit : Option ℕ) (has_end : Bool) → pair_fault at unit has_end ≡ None → has_end ≡ is_some unit
+      by None false found = refl
+      by None true found = absurd (let h : Some (EofPair at) ≡ None = found in cc)
+      by (Some unit) false found = absurd (let h : Some (EofPair at) ≡ None = found in cc)
+      by (Some unit) true found = refl
 
 -- some rules go no further than others
 record GoNoFurther (rules others : List RuleOf) : Type 0 where

@@ -1,9 +1,11 @@
 -- The spellings that are set, and what stands in the places of the others.
-use Rattle.std.proofs.Common.{◌≡◌, ℕ, zero, suc, ◌<◌, ◌≤◌, List, [], ◌∷◌, ◌++◌, length, drop, get_or, set, append_assoc, Option, None, Some, refl, sym, ap, ◌∙◌, arith}
+use Rattle.std.proofs.Common.{◌≡◌, ℕ, zero, suc, ◌<◌, ◌≤◌, ◌⊎◌, inl, inr, List, [], ◌∷◌, ◌++◌, length, drop, get_or, max, set, append_assoc, Option, None, Some, refl, sym, ap, ap₂, ◌∙◌, arith}
 use Rattle.std.proofs.Math.Seq.{drop-cons}
+use Rattle.std.proofs.lemmas.Bool.{cases_lt}
 use Rattle.std.proofs.lemmas.List.{append-nil, drop_all}
 use Rattle.lx_base.specs.Names.{Spellings}
-use Rattle.lx_rules.specs.Environments.{name_at, spelled, with_name}
+use Rattle.std.specs.Option.{option_or}
+use Rattle.lx_rules.specs.Environments.{name_at, names_over, spelled, with_name}
 
 -- a name that is not set behind the others changes nothing
 pub with_name-pushed : (names : List (Option (List ℕ))) (place : ℕ) (word : List ℕ) → length names ≤ place
@@ -54,3 +56,69 @@ pub spelled-behind : (names : List (Option (List ℕ))) (usual so_far all : Spel
 spelled-behind names usual so_far all place past known =
     sym (append-nil so_far)
     ∙ ap (λ l. so_far ++ l) (sym (spelled-none (drop place names)) ∙ ap (spelled (drop place names)) (sym (drop_all place usual past))) ∙ known
+
+-- ---- what is set here, and else there
+
+-- what is less than the greater of two numbers is less than one of them
+pub less_max : (place one other : ℕ) → place < max one other → (place < one) ⊎ (place < other)
+less_max place one other less = elim (cases_lt place one) [
+  | inl here ↦ inl here
+  | inr past ↦ elim (cases_lt place other) [
+    | inl there ↦ inr there
+    | inr past_there ↦ absurd (omega (arith, less, past, past_there))
+  ]
+]
+
+get_or-nil : (place : ℕ) → get_or {A = Option (List ℕ)} [] place None ≡ None
+get_or-nil zero = refl
+get_or-nil (suc place) = refl
+
+names_over-nothing : (there : List (Option (List ℕ))) (place : ℕ) → names_over (drop place []) there ≡ there
+names_over-nothing there zero = refl
+names_over-nothing there (suc place) = refl
+
+names_over-none : (here : List (Option (List ℕ))) (place : ℕ) → names_over here (drop place []) ≡ here
+names_over-none [] zero = refl
+names_over-none [] (suc place) = refl
+names_over-none (name ∷ here) zero = refl
+names_over-none (name ∷ here) (suc place) = refl
+
+option_or-none : (name : Option (List ℕ)) → option_or name None ≡ name
+option_or-none None = refl
+option_or-none (Some name) = refl
+
+-- what is set at a place, and at those behind it
+names_over-drop : (here there : List (Option (List ℕ))) (place : ℕ) → (place < length here) ⊎ (place < length there)
+    → names_over (drop place here) (drop place there)
+    ≡ option_or (get_or here place None) (get_or there place None) ∷ names_over (drop (suc place) here) (drop (suc place) there)
+names_over-drop [] there place (inl less) = absurd (omega (arith, less))
+names_over-drop [] there place (inr less) =
+    names_over-nothing (drop place there) place ∙ drop-cons there place None less
+    ∙ ap₂ (λ first rest. first ∷ rest) (sym (ap (λ name. option_or name (get_or there place None)) (get_or-nil place)))
+    (sym (names_over-nothing (drop (suc place) there) (suc place)))
+names_over-drop (name ∷ here) [] place (inr less) = absurd (omega (arith, less))
+names_over-drop (name ∷ here) [] place (inl less) =
+    names_over-none (drop place (name ∷ here)) place ∙ drop-cons (name ∷ here) place None less
+    ∙ ap₂ (λ first rest. first ∷ rest)
+    (sym (ap (λ other. option_or (get_or (name ∷ here) place None) other) (get_or-nil place) ∙ option_or-none (get_or (name ∷ here) place None)))
+    (sym (names_over-none (drop (suc place) (name ∷ here)) (suc place)))
+names_over-drop (name ∷ here) (other ∷ there) zero less = refl
+names_over-drop (name ∷ here) (other ∷ there) (suc place) (inl less) = names_over-drop here there place (inl (omega (arith, less)))
+names_over-drop (name ∷ here) (other ∷ there) (suc place) (inr less) = names_over-drop here there place (inr (omega (arith, less)))
+
+-- one more stands before the others
+pub names_over-push : (here there so_far all : List (Option (List ℕ))) (place : ℕ) (word : Option (List ℕ)) → (place < length here) ⊎ (place < length there)
+    → word ≡ option_or (get_or here place None) (get_or there place None)
+    → so_far ++ names_over (drop place here) (drop place there) ≡ all
+    → (so_far ++ word ∷ []) ++ names_over (drop (suc place) here) (drop (suc place) there) ≡ all
+names_over-push here there so_far all place word less is known =
+    let rest = names_over (drop (suc place) here) (drop (suc place) there) in
+    append_assoc so_far (word ∷ []) rest
+    ∙ ap (λ l. so_far ++ l) (ap (λ w. w ∷ rest) is ∙ sym (names_over-drop here there place less)) ∙ known
+
+-- behind the last one of both no others stand
+pub names_over-behind : (here there so_far all : List (Option (List ℕ))) (place : ℕ) → length here ≤ place → length there ≤ place
+    → so_far ++ names_over (drop place here) (drop place there) ≡ all → so_far ≡ all
+names_over-behind here there so_far all place past past_there known =
+    sym (append-nil so_far)
+    ∙ ap (λ l. so_far ++ l) (sym (ap₂ names_over (drop_all place here past) (drop_all place there past_there))) ∙ known

@@ -1,13 +1,13 @@
 -- What a block resolves to, and the checks behind its items.
-use Rattle.std.specs.Prelude.{◌≡◌, ℕ, ◌+◌, ◌⊎◌, Bool, true, false, List, [], ◌∷◌, ◌++◌, map, max, length, drop, nat_lt, ◌||◌, Option, Some, None, is_some, Ok, Err, not, codes, if◌then◌else◌}
+use Rattle.std.specs.Prelude.{◌≡◌, ℕ, ◌+◌, ◌≤◌, ◌⊎◌, Bool, true, false, List, [], ◌∷◌, ◌++◌, map, max, length, drop, nat_lt, ◌||◌, Option, Some, None, is_some, Ok, Err, not, codes, if◌then◌else◌}
 use Rattle.std.specs.List.{AllByRecursion, list_any, filter}
 use Rattle.std.specs.Option.{option_or}
-use Rattle.lx_base.specs.declared.limits.TheConstants.{NESTING_LIMIT, SIZE_LIMIT, TAG_LIMIT}
+use Rattle.lx_base.specs.declared.limits.TheConstants.{NESTING_LIMIT, SIZE_LIMIT, SOURCE_LIMIT, TAG_LIMIT}
 use Rattle.lx_base.specs.declared.blocks.BlockKind.{BlockKind}
 use Rattle.lx_base.specs.declared.blocks.BlockKind.TheVariants as block
 use Rattle.lx_base.specs.declared.places.Pos.{Pos}
 use Rattle.lx_base.specs.declared.faults.Fault.{Fault}
-use Rattle.lx_base.specs.declared.faults.Fault.TheVariants.{NoRules, EofPair, Condition, BadValue, TooManyParts, Unsupported}
+use Rattle.lx_base.specs.declared.faults.Fault.TheVariants.{NoRules, EofPair, Condition, BadValue, TooManyParts, NoRulesToUse}
 use Rattle.lx_base.specs.declared.faults.Stop.{Stop}
 use Rattle.lx_base.specs.declared.faults.Stop.TheVariants as stop
 use Rattle.lx_base.specs.declared.settings.Options.{Options}
@@ -19,10 +19,14 @@ use Rattle.lx_regex.specs.declared.rules.Rule.{Rule}
 use Rattle.lx_regex.specs.declared.rules.Tag.{Tag}
 use Rattle.lx_rules.specs.declared.resolved.Scanner.{Scanner}
 use Rattle.lx_rules.specs.declared.resolved.Resolved.{Resolved}
-use Rattle.lx_forms.specs.Lexemes.{Lexeme}
+use Rattle.lx_forms.specs.Lexemes.{Lexeme, lexemes_of}
+use Rattle.lx_parse.specs.Blocks.{IsBody, form_of}
+use Rattle.lx_parse.specs.Sorts.{sorts_of}
+use Rattle.lx_token.specs.Tokens.{tokens_of}
+use Rattle.lx_token.specs.declared.list.Token.{Token}
 use Rattle.lx_exprs.specs.Defined.{kept, term_of_meaning}
 use Rattle.lx_exprs.specs.Meanings.{behind}
-use Rattle.lx_rules.specs.Environments.{Environment, KeptBlock, config_of}
+use Rattle.lx_rules.specs.Environments.{Environment, KeptBlock, config_of, first_environment}
 use Rattle.lx_rules.specs.Rules.{RuleOf}
 use Rattle.lx_exprs.specs.Checks.{Check, Then, Finds, is_among, tag_names}
 use Rattle.lx_rules.specs.Items.{State, first_state, Goes, is_default, is_end}
@@ -201,10 +205,16 @@ abbrev pub BlockChecks : (custom : Bool) → BlockKind → Pos → State → Che
 BlockChecks custom block.Rules at state = Finds (no_rules_fault at state.rules)
 BlockChecks custom kind at state = ScannerChecks custom at state
 
--- rules blocks, and blocks that use them, are not supported yet
-abbrev pub opening_fault : BlockKind → Pos → Option Fault
-opening_fault block.Code at = None
-opening_fault kind at = Some (Unsupported (Some at))
+-- the kinds of blocks that have definitions, configurations and rules
+pub data HasRules : BlockKind → Type 0 where
+  of_scanners : HasRules block.Code
+  to_keep : HasRules block.Rules
+  of_use : HasRules block.Use
+
+-- a block that uses the last rules block is refused where there is none
+abbrev pub opening_fault : BlockKind → Pos → Option KeptBlock → Option Fault
+opening_fault block.Use at None = Some (NoRulesToUse at)
+opening_fault kind at kept = None
 
 -- what holds behind a block that leaves what it knows, and behind which this rules block is the last one
 abbrev pub environment_with : Option KeptBlock → State → Environment
@@ -230,14 +240,29 @@ pub record IsResolved (named : Bool) (state : State) (resolved : Resolved) : Typ
   pub acts : resolved.acts ≡ map (λ (rule : RuleOf). rule.act) state.rules
   pub config : resolved.config ≡ config_of state.settings
 
+-- a rules block resolves to its configuration alone: its scanners and its actions are those of the blocks that use it
+abbrev pub IsResolvedAs : BlockKind → (named : Bool) → State → Resolved → Type 0
+IsResolvedAs block.Rules named state resolved =
+    (resolved.scanners ≡ []) × (resolved.acts ≡ []) × (resolved.config ≡ config_of state.settings)
+IsResolvedAs kind named state resolved = IsResolved named state resolved
+
 -- The block of these lexemes and items, in an environment, resolves so; or has this fault, which is the first one.
 pub record Resolves (options : Options) (kind : BlockKind) (at : Pos) (environment : Environment) (lexemes : List Lexeme) (items : List Item) (after : Environment) (resolved : Resolved) : Type 0 where
-  pub opening : opening_fault kind at ≡ None
+  pub opening : opening_fault kind at environment.kept ≡ None
   pub state : State
   pub goes : Goes options lexemes (first_state kind environment) items (Ok state)
   pub checked : BlockChecks options.custom kind at state None
   pub after_is : after ≡ environment_behind kind environment state
-  pub ends : IsResolved options.conds state resolved
+  pub ends : IsResolvedAs kind options.conds state resolved
+
+-- What holds before a block stands under these options: it is what holds before the first block, or behind one that resolves under
+-- them, where what held before that stands under them.
+pub data StandsUnder (options : Options) : Environment → Type 0 where
+  before_all : StandsUnder options first_environment
+  behind_block : {environment : Environment} → StandsUnder options environment → (kind : BlockKind) (at start : Pos) (body : List ℕ) (tokens : List Token)
+      (items : List Item) (after : Environment) (resolved : Resolved) → HasRules kind → length body ≤ SOURCE_LIMIT → tokens_of body start ≡ Ok tokens
+      → IsBody (form_of kind) (sorts_of kind body tokens) items → Resolves options kind at environment (lexemes_of body tokens) items after resolved
+      → StandsUnder options after
 
 -- the first fault of the items, or that of the checks behind them
 abbrev pub IsFaultWithin : Options → BlockKind → Pos → Environment → List Lexeme → List Item → Fault → Type 0
@@ -247,8 +272,14 @@ IsFaultWithin options kind at environment lexemes items fault =
 
 abbrev pub IsBlockFault : Options → BlockKind → Pos → Environment → List Lexeme → List Item → Fault → Type 0
 IsBlockFault options kind at environment lexemes items fault =
-    (opening_fault kind at ≡ Some fault)
-    ⊎ ((opening_fault kind at ≡ None) × IsFaultWithin options kind at environment lexemes items fault)
+    (opening_fault kind at environment.kept ≡ Some fault)
+    ⊎ ((opening_fault kind at environment.kept ≡ None) × IsFaultWithin options kind at environment lexemes items fault)
+
+-- the fault is that of a target of one of these rules
+abbrev pub IsTargetFault : List RuleOf → Fault → Type 0
+IsTargetFault [] fault = ⊥
+IsTargetFault (rule ∷ rules) fault =
+    ((place : Pos) × (rule.target ≡ Some place) × (fault ≡ Condition place)) ⊎ IsTargetFault rules fault
 
 -- a call that is to resolve a block stops with its fault, or where memory runs out
 abbrev pub StopsWith : Options → BlockKind → Pos → Environment → List Lexeme → List Item → Stop → Type 0

@@ -1,6 +1,6 @@
 -- What a block resolves to, by what is known behind its items.
-use Rattle.std.specs.Prelude.{◌≡◌, ◌≤◌, ℕ, suc, ◌&&◌, ◌||◌, nat_lt, not, Bool, true, List, [], ◌∷◌, ◌++◌, length, Option, Some, None, IfSome, if◌then◌else◌}
-use Rattle.std.specs.List.{filter, list_any}
+use Rattle.std.specs.Prelude.{◌≡◌, ◌≤◌, ℕ, suc, ◌&&◌, ◌||◌, nat_lt, not, Bool, true, List, [], ◌∷◌, ◌++◌, length, Option, Some, None, IfSome, if◌then◌else◌, slice_get}
+use Rattle.std.specs.List.{filter, list_any, filter_map}
 use Rattle.std.specs.Option.{option_or}
 use Rattle.lx_base.specs.declared.faults.Fault.{Fault}
 use Rattle.lx_base.specs.declared.faults.Fault.TheVariants.{NoRules, TooManyParts}
@@ -9,25 +9,30 @@ use Rattle.lx_base.specs.declared.places.Pos.{Pos}
 use Rattle.lx_regex.specs.Expr.{size_of, term_of}
 use Rattle.lx_regex.specs.declared.expr.Expr.{Expr}
 use Rattle.lx_regex.specs.declared.rules.Rule.{Rule}
-use Rattle.lx_exprs.specs.Checks.{Check, Finds, Then, is_among}
+use Rattle.lx_exprs.specs.Checks.{Check, Finds, Then}
 use Rattle.lx_exprs.specs.Values.{HasTagsBelow}
 use Rattle.lx_rules.specs.declared.conditions.Running.{Running}
 use Rattle.lx_rules.specs.declared.environment.Env.{Env}
+use Rattle.lx_rules.specs.Represents.{Represents}
+use Rattle.lx_base.specs.declared.blocks.BlockKind.{BlockKind}
+use Rattle.lx_base.specs.declared.settings.Options.{Options}
+use Rattle.lx_rules.specs.declared.environment.Settings as code
+use Rattle.lx_rules.specs.declared.items.Known.{Known}
 use Rattle.lx_rules.specs.declared.kept.KeptRule.{KeptRule}
+use Rattle.lx_exprs.specs.declared.definitions.Definitions.{Definitions}
 use Rattle.lx_rules.specs.declared.resolved.Act.{Act}
 use Rattle.lx_rules.specs.declared.resolved.Resolved.{Resolved}
 use Rattle.lx_rules.specs.declared.resolved.Scanner.{Scanner}
-use Rattle.lx_rules.specs.Blocks.{ClashCheck, IsResolved, IsScanner, ScannerChecks, conditions_of, environment_with, every, lonely_fault, pair_fault, rules_of, scanner_fault, target_fault, targets_fault}
-use Rattle.lx_rules.specs.Conditions.{conds_seen, nothing_runs, running_with}
-use Rattle.lx_rules.specs.Environments.{config_of}
+use Rattle.lx_rules.specs.Blocks.{BlockChecks, ClashCheck, IsResolvedAs, IsScanner, conditions_of, environment_behind, every, lonely_fault, pair_fault, rules_of, scanner_fault, target_fault, targets_fault}
+use Rattle.lx_rules.specs.Conditions.{nothing_runs, running_with}
+use Rattle.lx_rules.specs.Environments.{Environment, config_of}
 use Rattle.lx_rules.specs.Items.{State, is_default, is_end}
 use Rattle.lx_rules.specs.Rules.{RuleOf}
-use Rattle.lx_rules.specs.Seen.{environment_view}
-use Rattle.lx_rules.specs.FitScanners.{FitsLimits, HasFitDefinitions, IsFit}
+use Rattle.lx_rules.specs.FitScanners.{FitsLimits, IsFit}
 
--- the rules that have a condition
-abbrev pub kept_under : (names : List (List ℕ)) → (cond : List ℕ) → List KeptRule → List KeptRule
-kept_under names cond held = filter (λ (one : KeptRule). is_among cond (conds_seen names one.conds)) held
+-- the rules at some places
+abbrev pub kept_at : (places : List ℕ) → List KeptRule → List KeptRule
+kept_at places held = filter_map (λ place. slice_get held place) places
 
 -- the rules but for `*`, with `$` or without
 abbrev pub kept_others : (with_end : Bool) → List KeptRule → List KeptRule
@@ -43,8 +48,9 @@ kept_in_order own shared =
     kept_others true own ++ kept_others (not (list_any (λ (one : KeptRule). is_end one.kind) own)) shared
     ++ kept_defaults (if list_any (λ (one : KeptRule). is_default one.kind) own then own else shared)
 
-abbrev pub kept_rules_of : (names : List (List ℕ)) → (cond : List ℕ) → List KeptRule → List KeptRule
-kept_rules_of names cond held = kept_in_order (kept_under names cond held) (kept_under names every held)
+-- the rules of the scanner of a condition, where the rules of conditions have these places
+abbrev pub kept_rules_of : (places_of : List ℕ → List ℕ) → (cond : List ℕ) → List KeptRule → List KeptRule
+kept_rules_of places_of cond held = kept_in_order (kept_at (places_of cond) held) (kept_at (places_of every) held)
 
 -- so far a rule goes
 abbrev pub weight_of : KeptRule → Running
@@ -105,8 +111,21 @@ abbrev pub IsBuiltScanner : (named : Bool) → Pos → (eof : Option ℕ) → Li
 IsBuiltScanner named at eof rules cond scanner =
     (scanner_fault at eof (rules_of cond rules) ≡ None) × IsScanner named rules cond scanner × IsFit (length rules) scanner
 
+-- what holds behind a rules block that is known so
+abbrev pub env_keeping : Known → Env
+env_keeping known = record {
+  definitions = known.before.definitions;
+  settings = known.before.settings;
+  kept = Some (record { definitions = known.own; settings = known.settings; rules = known.rules; acts = known.acts; conds = known.conds });
+}
+
+-- what holds behind a block of scanners: what it knows, or what held before one that uses a rules block
+abbrev pub env_left : (before : Env) → (is_use : Bool) → Definitions → code.Settings → Env
+env_left before is_use own settings =
+    if is_use then before else record { definitions = own; settings = settings; kept = before.kept }
+
 -- the scanners of a block resolve so, and all is within the limits
-abbrev pub IsFinished : (conds custom : Bool) → Pos → State → Env × Resolved → Type 0
-IsFinished conds custom at state answer =
-    ScannerChecks custom at state None × (environment_view answer.0 ≡ environment_with None state) × IsResolved conds state answer.1
-    × HasFitDefinitions answer.0 × FitsLimits answer.1
+abbrev pub IsFinished : Options → BlockKind → Pos → Environment → State → Env × Resolved → Type 0
+IsFinished options kind at environment state answer =
+    BlockChecks options.custom kind at state None × Represents answer.0 (environment_behind kind environment state)
+    × IsResolvedAs kind options.conds state answer.1 × FitsLimits answer.1

@@ -6,7 +6,7 @@ use Rattle.lx_base.specs.declared.blocks.BlockKind.{BlockKind}
 use Rattle.lx_base.specs.declared.blocks.BlockKind.TheVariants as block
 use Rattle.lx_base.specs.declared.places.Pos.{Pos}
 use Rattle.lx_base.specs.declared.faults.Fault.{Fault}
-use Rattle.lx_base.specs.declared.faults.Fault.TheVariants.{Unsupported, Redefined, Condition}
+use Rattle.lx_base.specs.declared.faults.Fault.TheVariants.{Redefined, Condition}
 use Rattle.lx_base.specs.declared.settings.Options.{Options}
 use Rattle.lx_parse.specs.declared.items.Item.{Item}
 use Rattle.lx_parse.specs.declared.items.Item.TheVariants.{Define, Configure, Rule, Text}
@@ -22,10 +22,11 @@ use Rattle.lx_forms.specs.Forms.{Form}
 use Rattle.lx_exprs.specs.Defined.{Before, Definition, Meaning, IsDefined, definition_of, kept, nothing, one, row, slash_tag, whole}
 use Rattle.lx_rules.specs.Environments.{Environment, KeptBlock, Settings, no_settings, settings_over, with_setting}
 use Rattle.lx_rules.specs.declared.environment.Setting.{Setting}
+use Rattle.lx_rules.specs.Lists.{conds_at}
 use Rattle.lx_rules.specs.Rules.{RuleOf}
 use Rattle.lx_exprs.specs.Meanings.{IsMeaning}
 use Rattle.lx_rules.specs.Configurations.{config_fault, setting_of}
-use Rattle.lx_exprs.specs.Checks.{Check, Then, Finds, are_groups, unsupported, is_among}
+use Rattle.lx_exprs.specs.Checks.{Check, Then, Finds, are_groups, is_among}
 
 -- what is known behind some items of a block
 pub record State : Type 0 where
@@ -155,11 +156,11 @@ module _ (options : Options) (lexemes : List Lexeme) where
   -- a rule has a list of conditions exactly where these are in use
   abbrev pub ListChecks : (is_absent : Bool) → Pos → Check
   ListChecks true at = Finds (unless (not options.conds) at)
-  ListChecks false at = Then (Finds (Some (Unsupported (Some at)))) (Finds (unless options.conds at))
+  ListChecks false at = Finds (unless options.conds at)
 
-  -- the conditions of a rule; lists of them are not supported yet
+  -- the conditions of a rule
   abbrev pub conds_of : (first head : ℕ) → List (List ℕ)
-  conds_of first head = [] ∷ []
+  conds_of first head = conds_at lexemes first head
 
   -- the checks of a head
   abbrev pub HeadChecks : State → HeadSort → (conds : List (List ℕ)) → (head : ℕ) → (slash : Option ℕ) → (until : ℕ) → Check
@@ -168,11 +169,10 @@ module _ (options : Options) (lexemes : List Lexeme) where
   HeadChecks state expression conds head None until = ExpressionChecks options lexemes state.definitions head until
   HeadChecks state expression conds head (Some slash) until = ContextChecks options lexemes state.definitions head slash until
 
-  -- a target stands behind `=>` or `:=>`, and where conditions are in use
+  -- a target stands where conditions are in use; it is refused at the `=>` or `:=>` before it
   abbrev pub TargetChecks : (goes : Option ℕ) → Check
   TargetChecks None = Finds None
-  TargetChecks (Some goes) =
-      Then (Finds (unsupported (lexeme_at (goes - 1)))) (Finds (unless options.conds (lexeme_at (goes - 1)).at))
+  TargetChecks (Some goes) = Finds (unless options.conds (lexeme_at (goes - 1)).at)
 
   -- the checks of an item
   abbrev pub ItemChecks : State → Item → Check

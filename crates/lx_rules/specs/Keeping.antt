@@ -19,23 +19,22 @@ use Rattle.lx_forms.specs.Lexemes.{Lexeme, nth_lexeme, sort_at}
 use Rattle.lx_exprs.specs.Checks.{StopsAt}
 use Rattle.lx_exprs.specs.Expressions.{ContextChecks}
 use Rattle.lx_exprs.specs.Defined.{Definition, Meaning, is_built, kept}
-use Rattle.lx_exprs.specs.Seen.{definitions_view}
 use Rattle.lx_exprs.specs.FitDefinitions.{FitsKept}
 use Rattle.lx_exprs.specs.declared.values.Room.{Room}
 use Rattle.lx_rules.specs.Conditions.{nothing_runs, room_under}
 use Rattle.lx_rules.specs.Items.{RuleMeaning, State, Goes, expression, HeadChecks, head_sort, IsHead, ItemChecks, IsAfter, end_meaning}
 use Rattle.lx_rules.specs.Kept.{AreKept, IsExprKept}
 use Rattle.lx_rules.specs.Rules.{RuleOf}
-use Rattle.lx_rules.specs.Seen.{settings_view}
+use Rattle.lx_rules.specs.Seen.{known_definitions, rules_view, settings_view}
 use Rattle.lx_rules.specs.FitScanners.{HasFitDefinitions, IsShort}
 
 -- the code knows what is known
 pub record Holds (known : Known) (state : State) : Type 0 where
-  pub definitions : definitions_view known.env.definitions ≡ state.definitions
-  pub settings : settings_view known.env.settings ≡ state.settings
+  pub definitions : known_definitions known ≡ state.definitions
+  pub settings : settings_view known.settings ≡ state.settings
   pub acts : known.acts.items ≡ map (λ (rule : RuleOf). rule.act) state.rules
-  pub rules : AreKept state.rules known.rules.items known.conds
-  pub fit : HasFitDefinitions known.env
+  pub rules : AreKept state.rules (rules_view known.rules) known.conds
+  pub fit : HasFitDefinitions known
   pub short : All (λ (act : Act). IsShort act.code) known.acts.items
 
 -- what is read of a rule's expression has the numbers of this meaning, and its term; it may lack that where none is to stand
@@ -121,11 +120,11 @@ IsHeadKept head.End held =
     (held.kind ≡ kind.Eof) × ((read : RuleExpr) × IsRuleExpr true end_meaning None read × IsBoundedExpr read × IsExprOf read held)
 IsHeadKept (head.Plain read) held = (held.kind ≡ kind.Plain) × IsExprOf read held
 
--- a rule may be added whose conditions, head and action these are
-pub record IsNew (known : Known) (conds : List (List ℕ)) (read : Head) (at : Pos) (act : Act) (rule : RuleOf) : Type 0 where
+-- a rule may be added whose conditions, head, target and action these are
+pub record IsNew (known : Known) (conds : List (List ℕ)) (read : Head) (at : Pos) (target : Option Pos) (act : Act) (rule : RuleOf) : Type 0 where
   pub conds_are : rule.conds ≡ conds
   pub at_is : rule.at ≡ at
-  pub target_is : rule.target ≡ None
+  pub target_is : rule.target ≡ target
   pub act_is : rule.act ≡ act
   pub head_of : IsHeadOf (room_under known.conds conds) rule.kind rule.meaning rule.slash read
   pub bounded : IsBoundedHead read

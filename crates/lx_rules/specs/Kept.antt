@@ -13,7 +13,7 @@ use Rattle.lx_rules.specs.declared.conditions.FirstRule.{FirstRule}
 use Rattle.lx_rules.specs.declared.conditions.Running.{Running}
 use Rattle.lx_rules.specs.declared.kept.KeptRule.{KeptRule}
 use Rattle.lx_rules.specs.Blocks.{conditions_of, nesting_of, not_of_kind, rules_under, size_of, tags_of}
-use Rattle.lx_rules.specs.Conditions.{AreNumbers, cond_names, conds_seen, running_of, standing_of}
+use Rattle.lx_rules.specs.Conditions.{AreNumbers, cond_names, conds_seen, places_of, running_of, standing_of}
 use Rattle.lx_rules.specs.Items.{end_meaning, is_default, is_end}
 use Rattle.lx_rules.specs.Rules.{RuleOf}
 
@@ -72,6 +72,12 @@ first_from test number [] cond = None
 first_from test number (rule ∷ rules) cond =
     if test rule.kind && is_among cond rule.conds then Some (record { number = number; at = rule.at }) else first_from test (suc number) rules cond
 
+-- the places of the rules that have a condition, where they are counted from here on
+abbrev pub places_from : (place : ℕ) → List RuleOf → (cond : List ℕ) → List ℕ
+places_from place [] cond = []
+places_from place (rule ∷ rules) cond =
+    if is_among cond rule.conds then place ∷ places_from (suc place) rules cond else places_from (suc place) rules cond
+
 -- the rules are kept one by one, and so are their conditions
 pub record AreKept (rules : List RuleOf) (held : List KeptRule) (conditions : Conditions) : Type 0 where
   pub names : cond_names conditions ≡ conditions_of rules
@@ -79,3 +85,4 @@ pub record AreKept (rules : List RuleOf) (held : List KeptRule) (conditions : Co
   pub running : (cond : List ℕ) → IsRunning (plain_under cond rules) (running_of conditions cond)
   pub defaults : (cond : List ℕ) → (standing_of conditions cond).first_default ≡ first_from is_default 1 rules cond
   pub ends : (cond : List ℕ) → (standing_of conditions cond).first_end ≡ first_from is_end 1 rules cond
+  pub places : (cond : List ℕ) → places_of conditions cond ≡ places_from 0 rules cond

@@ -1,10 +1,16 @@
 -- What the definitions see of the code's values.
-use Rattle.std.specs.Prelude.{◌≡◌, ℕ, true, List, nat_lt, Option, Some, None}
+use Rattle.std.specs.Prelude.{◌≡◌, ℕ, true, false, List, [], ◌++◌, map, nat_lt, Bool, Option, Some, None}
 use Rattle.std.specs.List.{list_any}
+use Rattle.std.specs.declared.rc.Rc.{Rc}
+use Rattle.std.specs.Global.{Global, Vec}
+use Rattle.lx_exprs.specs.Defined.{Definition}
 use Rattle.lx_exprs.specs.Seen.{definitions_view}
 use Rattle.lx_rules.specs.declared.environment.Env.{Env}
+use Rattle.lx_rules.specs.declared.environment.KeptBlock.{KeptBlock}
 use Rattle.lx_rules.specs.declared.environment.Settings as code
-use Rattle.lx_rules.specs.Environments.{Environment, Settings}
+use Rattle.lx_rules.specs.declared.items.Known.{Known}
+use Rattle.lx_rules.specs.declared.kept.KeptRule.{KeptRule}
+use Rattle.lx_rules.specs.Environments.{Settings}
 
 -- what is set
 abbrev pub settings_view : code.Settings → Settings
@@ -15,6 +21,20 @@ abbrev pub IsSaid : (points : List ℕ) → Option (List ℕ) → Type 0
 IsSaid points None = list_any (λ point. nat_lt 255 point) points ≡ true
 IsSaid points (Some text) = text ≡ points
 
--- what holds behind a block; rules blocks are not supported yet
-abbrev pub environment_view : Env → Environment
-environment_view env = record { definitions = definitions_view env.definitions; settings = settings_view env.settings; kept = None }
+-- the rules that are shared
+abbrev pub rules_view : Vec (Rc KeptRule Global) → List KeptRule
+rules_view rules = map (λ one. one.value) rules.items
+
+-- the definitions of the rules block that is used, if there is one
+abbrev pub kept_definitions : Option KeptBlock → List Definition
+kept_definitions None = []
+kept_definitions (Some block) = definitions_view block.definitions
+
+abbrev pub used_definitions : (is_use : Bool) → Env → List Definition
+used_definitions false before = []
+used_definitions true before = kept_definitions before.kept
+
+-- the definitions that a block sees: those of the rules block that it uses, those before it, and its own
+abbrev pub known_definitions : Known → List Definition
+known_definitions known =
+    used_definitions known.is_use known.before ++ (definitions_view known.before.definitions ++ definitions_view known.own)

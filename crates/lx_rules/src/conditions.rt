@@ -1,4 +1,4 @@
-//! The conditions of a block, and how far the rules of each go.
+//! The conditions of a block, and what is kept of the rules of each.
 ghost use Rattle.std.specs.Prelude.{◌≡◌, map};
 ghost use Rattle.lx_exprs.specs.Values.{IsRoom};
 ghost use Rattle.lx_rules.specs.Conditions.{earlier, wider};
@@ -140,6 +140,62 @@ impl Standing {
     }
 }
 
+/// What is kept of the rules of a condition.
+#[derive(Drop)]
+struct KeptCondition {
+    /// How they stand.
+    standing: Standing,
+    /// Their places among the rules of the block, in order, counted from 0.
+    places: Vec<usize>,
+}
+
+impl KeptCondition {
+    ghost use Rattle.std.specs.Prelude.{◌≡◌, IfOk, OnOk};
+    ghost use Rattle.lx_rules.specs.Conditions.{condition_view, is_last, nothing_kept, taken};
+
+    /// There are no rules.
+    fn none(alloc: Global) -> KeptCondition
+        ensures { condition_view result ≡ nothing_kept }
+    {
+        KeptCondition {
+            standing: Standing::none(),
+            places: Vec::new(alloc),
+        }
+    }
+
+    /// The same rules.
+    fn copy(&self, alloc: Global) -> Result<KeptCondition, Memory>
+        ensures { IfOk result (λ copy. condition_view copy ≡ condition_view self.now) }
+    {
+        Ok(KeptCondition {
+            standing: self.standing,
+            places: Vec::from_slice(alloc, self.places.as_slice())?,
+        })
+    }
+
+    /// Whether the rule at a place is the last one.
+    fn ends_with(&self, place: usize) -> bool
+        ensures { result ≡ is_last place self.now.places.items }
+    {
+        match self.places.last() {
+            Some(last) => *last == place,
+            None => false,
+        }
+    }
+
+    /// Takes up the rule at a place, which stands so; but only once, since a list may name a condition twice.
+    fn take(&mut self, place: usize, rule: Standing) -> Result<(), Memory>
+        ensures { OnOk result (condition_view self.new ≡ taken place rule (condition_view self.old)) }
+    {
+        if self.ends_with(place) {
+            return Ok(());
+        }
+        self.standing = self.standing.with(rule);
+        self.places.push(place)?;
+        Ok(())
+    }
+}
+
 /// The conditions of a rule.
 #[derive(Drop)]
 pub(crate) enum Conds {
@@ -152,30 +208,46 @@ pub(crate) enum Conds {
 /// The conditions so far, each with a number: its place in the order in which they first appear, from 0. That of `<*>` has none.
 #[derive(Drop)]
 pub(crate) struct Conditions {
-    /// Their names, and how the rules of each stand.
-    named: IndexMap<Vec<u8>, Standing>,
-    /// How the rules of `<*>` stand.
-    shared: Standing,
+    /// Their names, and what is kept of the rules of each.
+    named: IndexMap<Vec<u8>, KeptCondition>,
+    /// What is kept of the rules of `<*>`.
+    shared: KeptCondition,
 }
 
 impl Conditions {
     ghost use Rattle.std.specs.Prelude.{◌≡◌, ◌<◌, ℕ, List, [], ◌∷◌, IfOk, OnOk, false, length, map, slice_index_or, if◌then◌else◌};
-    ghost use Rattle.std.specs.List.{AllByRecursion, list_any};
+    ghost use Rattle.std.specs.List.{AllByRecursion, position_or_len};
+    ghost use Rattle.std.specs.Map.{keys_of};
     ghost use Rattle.std.specs.Str.{bytes_eq};
     ghost use Rattle.lx_exprs.specs.Checks.{is_among};
     ghost use Rattle.lx_exprs.specs.Values.{IsRoom};
     ghost use Rattle.lx_rules.specs.Blocks.{add_conds, every};
-    ghost use Rattle.lx_rules.specs.Conditions.{AreConds, AreNumbers, cond_names, conds_seen, earliest_default, earliest_end, nothing_stands, room_under, standing_of, standing_with};
+    ghost use Rattle.lx_rules.specs.Conditions.{AreConds, AreNumbers, cond_names, conds_seen, earliest_default, earliest_end, kept_of, nothing_kept, places_of, room_under, standing_of, taken};
 
     /// No conditions. It takes no memory.
     pub fn new(alloc: Global) -> Conditions
         ensures names { cond_names result ≡ [] }
-        ensures standing { (cond : List ℕ) → standing_of result cond ≡ nothing_stands }
+        ensures kept { (cond : List ℕ) → kept_of result cond ≡ nothing_kept }
     {
         Conditions {
             named: IndexMap::new(alloc),
-            shared: Standing::none(),
+            shared: KeptCondition::none(alloc),
         }
+    }
+
+    /// The same conditions.
+    pub fn copy(&self, alloc: Global) -> Result<Conditions, Memory>
+        ensures names { IfOk result (λ copy. cond_names copy ≡ cond_names self.now) }
+        ensures kept { IfOk result (λ copy. (cond : List ℕ) → kept_of copy cond ≡ kept_of self.now cond) }
+    {
+        let shared = self.shared.copy(alloc)?;
+        let mut named = IndexMap::new(alloc);
+        for number in 0..self.named.len() {
+            if let Some((name, kept)) = self.named.get_index(number) {
+                named.insert(Vec::from_slice(alloc, name.as_slice())?, kept.copy(alloc)?)?;
+            }
+        }
+        Ok(Conditions { named, shared })
     }
 
     /// How many conditions there are.
@@ -207,11 +279,24 @@ impl Conditions {
         ensures { result ≡ standing_of self.now name.now }
     {
         if name == b"*".as_slice() {
-            return self.shared;
+            return self.shared.standing;
         }
         match self.named.get(name) {
-            Some(standing) => *standing,
+            Some(kept) => kept.standing,
             None => Standing::none(),
+        }
+    }
+
+    /// The places of the rules of a condition, in order.
+    pub fn places(&self, name: &[u8]) -> &[usize]
+        ensures { result.now ≡ places_of self.now name.now }
+    {
+        if name == b"*".as_slice() {
+            return self.shared.places.as_slice();
+        }
+        match self.named.get(name) {
+            Some(kept) => kept.places.as_slice(),
+            None => &[],
         }
     }
 
@@ -249,90 +334,85 @@ impl Conditions {
         room
     }
 
-    /// Whether one of some numbers is that of one of some conditions.
-    fn has_any(&self, numbers: &[usize], conds: &[&[u8]]) -> bool
-        ensures { result ≡ list_any (λ cond. is_among cond (map (λ one. one.now) conds.now)) (map (λ number. slice_index_or (cond_names self.now) number []) numbers.now) }
+    /// The number of a condition, which is appended where it is new.
+    fn number_of(&mut self, alloc: Global, cond: &[u8]) -> Result<usize, Memory>
+        requires { bytes_eq cond.now every ≡ false }
+        ensures names { OnOk result (cond_names self.new ≡ add_conds (cond.now ∷ []) (cond_names self.old)) }
+        ensures number { IfOk result (λ number. number ≡ position_or_len (λ key. bytes_eq cond.now key.items) (keys_of self.new.named.entries)) }
+        ensures within { IfOk result (λ number. number < length (cond_names self.new)) }
+        ensures kept { OnOk result ((other : List ℕ) → kept_of self.new other ≡ kept_of self.old other) }
     {
-        for number in numbers {
-            if is_among(self.name_at(*number), conds) {
-                return true;
-            }
+        if let Some(number) = self.named.get_index_of(cond) {
+            return Ok(number);
         }
-        false
+        let name = Vec::from_slice(alloc, cond)?;
+        let (number, _) = self.named.insert_full(name, KeptCondition::none(alloc))?;
+        Ok(number)
     }
 
-    /// Whether a rule has one of some conditions.
-    pub fn share(&self, rule: &Conds, conds: &[&[u8]]) -> bool
-        ensures { result ≡ list_any (λ cond. is_among cond (map (λ one. one.now) conds.now)) (conds_seen (cond_names self.now) rule.now) }
-    {
-        match rule {
-            Conds::Every => is_among(b"*", conds),
-            Conds::Listed(numbers) => self.has_any(numbers, conds),
-        }
-    }
-
-    /// Whether a rule has a condition.
-    pub fn has(&self, rule: &Conds, cond: &[u8]) -> bool
-        ensures { result ≡ is_among cond.now (conds_seen (cond_names self.now) rule.now) }
-    {
-        self.share(rule, &[cond])
-    }
-
-    /// Counts a rule that stands so for a condition, which is appended where it is new. Gives the number of the condition.
-    fn count(&mut self, alloc: Global, cond: &[u8], rule: Standing) -> Result<usize, Memory>
+    /// Counts the rule at a place, which stands so, for a condition; that is appended where it is new. Gives its number.
+    fn count(
+        &mut self,
+        alloc: Global,
+        cond: &[u8],
+        place: usize,
+        rule: Standing,
+    ) -> Result<usize, Memory>
         requires { bytes_eq cond.now every ≡ false }
         ensures names { OnOk result (cond_names self.new ≡ add_conds (cond.now ∷ []) (cond_names self.old)) }
         ensures number { IfOk result (λ number. slice_index_or (cond_names self.new) number [] ≡ cond.now) }
         ensures within { IfOk result (λ number. number < length (cond_names self.new)) }
-        ensures standing { OnOk result ((other : List ℕ) → standing_of self.new other
-            ≡ (if bytes_eq other cond.now then standing_with (standing_of self.old other) rule else standing_of self.old other)) }
+        ensures kept { OnOk result ((other : List ℕ) → kept_of self.new other
+            ≡ (if bytes_eq other cond.now then taken place rule (kept_of self.old other) else kept_of self.old other)) }
     {
-        let standing = self.standing(cond).with(rule);
-        let name = Vec::from_slice(alloc, cond)?;
-        let (number, _) = self.named.insert_full(name, standing)?;
+        let number = self.number_of(alloc, cond)?;
+        self.named[number].take(place, rule)?;
         Ok(number)
     }
 
-    /// Counts a rule that stands so for each of some conditions, and appends those that are new. Gives their numbers.
+    /// Counts the rule at a place, which stands so, for each of some conditions, and appends those that are new. Gives their
+    /// numbers.
     fn count_each(
         &mut self,
         alloc: Global,
         conds: &[&[u8]],
+        place: usize,
         rule: Standing,
     ) -> Result<Vec<usize>, Memory>
         requires { is_among every (map (λ cond. cond.now) conds.now) ≡ false }
         ensures names { OnOk result (cond_names self.new ≡ add_conds (map (λ cond. cond.now) conds.now) (cond_names self.old)) }
         ensures numbers { IfOk result (λ numbers. map (λ number. slice_index_or (cond_names self.new) number []) numbers.items ≡ map (λ cond. cond.now) conds.now) }
         ensures within { IfOk result (λ numbers. AllByRecursion (λ number. number < length (cond_names self.new)) numbers.items) }
-        ensures standing { OnOk result ((cond : List ℕ) → standing_of self.new cond
-            ≡ (if is_among cond (map (λ one. one.now) conds.now) then standing_with (standing_of self.old cond) rule else standing_of self.old cond)) }
+        ensures kept { OnOk result ((cond : List ℕ) → kept_of self.new cond
+            ≡ (if is_among cond (map (λ one. one.now) conds.now) then taken place rule (kept_of self.old cond) else kept_of self.old cond)) }
     {
         let mut numbers = Vec::new(alloc);
-        for place in 0..conds.len() {
-            let cond = conds[place];
-            let more = if is_among(cond, &conds[..place]) {
-                Standing::none()
-            } else {
-                rule
-            };
-            numbers.push(self.count(alloc, cond, more)?)?;
+        for cond in conds {
+            numbers.push(self.count(alloc, cond, place, rule)?)?;
         }
         Ok(numbers)
     }
 
-    /// Takes up a rule of some conditions that stands so: counts it for each, once, and appends those that are new.
-    pub fn enter(&mut self, alloc: Global, conds: &[&[u8]], rule: Standing) -> Result<Conds, Memory>
+    /// Takes up the rule at a place, which has some conditions and stands so: counts it for each, once, and appends those that are
+    /// new.
+    pub fn enter(
+        &mut self,
+        alloc: Global,
+        conds: &[&[u8]],
+        place: usize,
+        rule: Standing,
+    ) -> Result<Conds, Memory>
         requires { AreConds (map (λ cond. cond.now) conds.now) }
         ensures names { OnOk result (cond_names self.new ≡ add_conds (map (λ cond. cond.now) conds.now) (cond_names self.old)) }
         ensures conds { IfOk result (λ listed. conds_seen (cond_names self.new) listed ≡ map (λ cond. cond.now) conds.now) }
         ensures within { IfOk result (λ listed. AreNumbers (length (cond_names self.new)) listed) }
-        ensures standing { OnOk result ((cond : List ℕ) → standing_of self.new cond
-            ≡ (if is_among cond (map (λ one. one.now) conds.now) then standing_with (standing_of self.old cond) rule else standing_of self.old cond)) }
+        ensures kept { OnOk result ((cond : List ℕ) → kept_of self.new cond
+            ≡ (if is_among cond (map (λ one. one.now) conds.now) then taken place rule (kept_of self.old cond) else kept_of self.old cond)) }
     {
         if is_among(b"*", conds) {
-            self.shared = self.shared.with(rule);
+            self.shared.take(place, rule)?;
             return Ok(Conds::Every);
         }
-        Ok(Conds::Listed(self.count_each(alloc, conds, rule)?))
+        Ok(Conds::Listed(self.count_each(alloc, conds, place, rule)?))
     }
 }

@@ -1,14 +1,16 @@
 //! What holds from block to block.
-ghost use Rattle.std.specs.Prelude.{◌≡◌, IfOk};
-ghost use Rattle.lx_rules.specs.Environments.{config_of, first_environment, name_at};
-ghost use Rattle.lx_exprs.specs.Seen.{definitions_view, scope_view};
-ghost use Rattle.lx_exprs.specs.FitDefinitions.{ScopeFits};
-ghost use Rattle.lx_rules.specs.Seen.{environment_view};
-ghost use Rattle.lx_rules.specs.FitScanners.{HasFitDefinitions};
+ghost use Rattle.std.specs.Prelude.{◌≡◌, IfOk, None, slice_index_or};
+ghost use Rattle.std.specs.Option.{option_or};
+ghost use Rattle.lx_rules.specs.Environments.{Environment, config_of, first_environment, name_at};
+ghost use Rattle.lx_rules.specs.Represents.{Represents};
 
+use crate::conditions::Conditions;
+use crate::kept::KeptRule;
+use crate::resolved::Act;
 use lx_base::{ByteText, Memory, Names, usual_names};
-use lx_exprs::definitions::{Definitions, Scope};
+use lx_exprs::definitions::Definitions;
 use std::alloc::Global;
+use std::rc::Rc;
 
 /// A configuration that a block sets.
 #[derive(Drop)]
@@ -44,9 +46,27 @@ fn name_at<'n>(names: &'n [Option<ByteText>], place: usize, usual: &'n [u8]) -> 
     }
 }
 
+/// A copy of the spelling at a place here, if one is set there, and else of the other one.
+fn copy_over(
+    alloc: Global,
+    here: &[Option<ByteText>],
+    there: &[Option<ByteText>],
+    place: usize,
+) -> Result<Option<ByteText>, Memory>
+    ensures { IfOk result (λ word. word ≡ option_or (slice_index_or here.now place None) (slice_index_or there.now place None)) }
+{
+    match here.get(place) {
+        Some(Some(word)) => Ok(Some(ByteText::copy_of(alloc, word.as_slice())?)),
+        _ => match there.get(place) {
+            Some(Some(word)) => Ok(Some(ByteText::copy_of(alloc, word.as_slice())?)),
+            _ => Ok(None),
+        },
+    }
+}
+
 impl Settings {
     ghost use Rattle.std.specs.Prelude.{◌≡◌, IfOk, OnOk};
-    ghost use Rattle.lx_rules.specs.Environments.{config_of, no_settings, with_setting};
+    ghost use Rattle.lx_rules.specs.Environments.{config_of, no_settings, settings_over, with_setting};
     ghost use Rattle.lx_rules.specs.Seen.{settings_view};
     ghost use Rattle.lx_rules.specs.declared.environment.Setting.TheVariants.{Spelling};
 
@@ -59,6 +79,22 @@ impl Settings {
             eof: None,
             fill: None,
         }
+    }
+
+    /// What is set here, and else there.
+    pub fn over(&self, alloc: Global, other: &Settings) -> Result<Settings, Memory>
+        ensures { IfOk result (λ settings. settings_view settings ≡ settings_over (settings_view self.now) (settings_view other.now)) }
+    {
+        let count = self.names.len().max(other.names.len());
+        let mut names = Vec::new(alloc);
+        for place in 0..count {
+            names.push(copy_over(alloc, &self.names, &other.names, place)?)?;
+        }
+        Ok(Settings {
+            names,
+            eof: self.eof.or(other.eof),
+            fill: self.fill.or(other.fill),
+        })
     }
 
     /// Spells the name at a place.
@@ -100,42 +136,44 @@ impl Settings {
     }
 }
 
-/// What holds behind a block for the blocks after it: its definitions and its configuration. Contracts see it by
-/// `environment_view`.
+/// What is kept of a rules block.
+#[derive(Drop)]
+pub(crate) struct KeptBlock {
+    pub definitions: Definitions,
+    pub settings: Settings,
+    /// Its rules, in order. They are shared with the blocks that use it.
+    pub rules: Vec<Rc<KeptRule>>,
+    /// What they do, in the same order.
+    pub acts: Vec<Act>,
+    /// Their conditions.
+    pub conds: Conditions,
+}
+
+/// What holds behind a block for the blocks after it: its definitions, its configuration, and the last rules block. Contracts see
+/// what it represents.
 #[derive(Drop)]
 pub struct Env {
     pub(crate) definitions: Definitions,
     pub(crate) settings: Settings,
+    pub(crate) kept: Option<KeptBlock>,
 }
 
 impl Env {
     /// What holds before the first block: no definitions, and the default configuration. It takes no memory.
     pub fn new(alloc: Global) -> Env
-        ensures first { environment_view result ≡ first_environment }
-        ensures fit { HasFitDefinitions result }
+        ensures { Represents result first_environment }
     {
         Env {
             definitions: Definitions::new(alloc),
             settings: Settings::new(alloc),
+            kept: None,
         }
     }
 
     /// The seventeen spellings of the names of a scanner that hold here, in the order of `Names`.
     pub fn names(&self, alloc: Global) -> Result<Names, Memory>
-        ensures { IfOk result (λ names. names ≡ (config_of (environment_view self.now).settings).names) }
+        ensures { (environment : Environment) → Represents self.now environment → IfOk result (λ names. names ≡ (config_of environment.settings).names) }
     {
         self.settings.names(alloc)
-    }
-
-    /// The definitions that the next block sees.
-    pub(crate) fn scope(&self) -> Scope<'_>
-        ensures seen { scope_view result ≡ definitions_view self.now.definitions }
-        ensures fit { HasFitDefinitions self.now → ScopeFits result }
-    {
-        Scope {
-            kept: None,
-            outer: None,
-            own: &self.definitions,
-        }
     }
 }

@@ -1,28 +1,34 @@
 //! What a block resolves to, by what is known behind its items.
-ghost use Rattle.std.specs.Prelude.{◌≡◌, ◌↔◌, ◌≤◌, IsTrue, List, MatchResult, None, is_some, length};
+ghost use Rattle.std.specs.Prelude.{◌≡◌, ◌≢◌, ◌↔◌, ◌+◌, ◌*◌, ◌≤◌, Bool, IfOk, IsTrue, List, MatchResult, None, is_some, length};
 ghost use Rattle.std.specs.List.{AllByRecursion, AllZip};
+ghost use Rattle.lx_base.specs.declared.blocks.BlockKind.TheVariants as block;
 ghost use Rattle.lx_base.specs.declared.limits.TheConstants.{SOURCE_LIMIT};
-ghost use Rattle.lx_rules.specs.Blocks.{MayBeNamed, ScannerChecks, SpellingsDiffer, conditions_of, lonely_fault, target_fault};
+ghost use Rattle.lx_rules.specs.Blocks.{BlockChecks, HasRules, IsResolvedAs, MayBeNamed, ScannerChecks, no_rules_fault, SpellingsDiffer, conditions_of, lonely_fault, target_fault};
 ghost use Rattle.lx_rules.specs.Conditions.{cond_names};
-ghost use Rattle.lx_rules.specs.Environments.{config_of};
-ghost use Rattle.lx_rules.specs.Finishing.{IsFinished, IsBuiltScanner, WholeChecks, kept_targets_fault};
+ghost use Rattle.lx_rules.specs.Environments.{Environment, config_of};
+ghost use Rattle.lx_rules.specs.FitScanners.{FitsLimits};
+ghost use Rattle.lx_rules.specs.Finishing.{IsFinished, IsBuiltScanner, WholeChecks, env_keeping, env_left, kept_targets_fault};
 ghost use Rattle.lx_rules.specs.Items.{State};
 ghost use Rattle.lx_rules.specs.Keeping.{Holds};
+ghost use Rattle.lx_rules.specs.Opening.{most_before};
+ghost use Rattle.lx_rules.specs.Represents.{IsBefore};
 ghost use Rattle.lx_rules.specs.Rules.{RuleOf};
-ghost use Rattle.lx_rules.specs.declared.kept.KeptRule.{KeptRule as kept_rule};
-ghost use Rattle.lx_exprs.specs.Checks.{StopsAt};
+ghost use Rattle.lx_rules.specs.Seen.{rules_view, settings_view};
+ghost use Rattle.lx_exprs.specs.Checks.{Finds, StopsAt};
 
 use crate::conditions::Conditions;
-use crate::environment::Env;
+use crate::environment::{Env, KeptBlock, Settings};
 use crate::items::Known;
 use crate::kept::KeptRule;
 use crate::resolved::{Act, Config, Resolved, Scanner};
 use crate::scanners::scanners;
 use lx_base::names::{do_not_clash, is_tag_name, name_primitives};
-use lx_base::{Fault, Names, Options, Pos, Sequence, Stop};
+use lx_base::{BlockKind, Fault, Memory, Names, Options, Pos, Sequence, Stop};
+use lx_exprs::definitions::Definitions;
 use lx_exprs::tags::SharedTags;
 use lx_regex::Tag;
 use std::alloc::Global;
+use std::rc::Rc;
 
 /// Whether no two spellings clash, and none is the name of an input primitive where the input is custom.
 fn spellings_differ(names: &Names, custom: bool) -> bool
@@ -65,10 +71,11 @@ fn are_all_tag_names(names: &Names, has_slash: bool, tags: &SharedTags) -> bool
 }
 
 /// Whether each tag of each rule has a name that it may have beside the spellings.
-fn have_tag_names(names: &Names, rules: &[KeptRule]) -> bool
-    ensures { IsTrue result ↔ AllByRecursion (λ (one : kept_rule). AllByRecursion (MayBeNamed names.now (is_some one.slash)) one.tags) rules.now }
+fn have_tag_names(names: &Names, rules: &Vec<Rc<KeptRule>>) -> bool
+    ensures { IsTrue result ↔ AllByRecursion (λ one. AllByRecursion (MayBeNamed names.now (is_some one.value.slash)) one.value.tags) rules.now.items }
 {
-    for rule in rules {
+    let held = rules.as_slice();
+    for rule in held {
         if !are_all_tag_names(names, rule.slash.is_some(), &rule.tags) {
             return false;
         }
@@ -94,7 +101,7 @@ fn target_fault(conds: &Conditions, rule: &KeptRule, act: &Act) -> Option<Fault>
 
 /// The fault of the first target that has no rules of its own.
 fn targets_fault(known: &Known) -> Option<Fault>
-    ensures { result ≡ kept_targets_fault (cond_names known.now.conds) known.now.rules.items known.now.acts.items }
+    ensures { result ≡ kept_targets_fault (cond_names known.now.conds) (rules_view known.now.rules) known.now.acts.items }
 {
     let rules = known.rules.as_slice();
     let acts = known.acts.as_slice();
@@ -113,14 +120,14 @@ fn targets_fault(known: &Known) -> Option<Fault>
 /// Whether the spellings differ, and each tag has a name that it may have beside them.
 fn names_differ(known: &Known, names: &Names, custom: bool) -> bool
     ensures { IsTrue result ↔ (SpellingsDiffer custom names.now
-        × AllByRecursion (λ (one : kept_rule). AllByRecursion (MayBeNamed names.now (is_some one.slash)) one.tags) known.now.rules.items) }
+        × AllByRecursion (λ one. AllByRecursion (MayBeNamed names.now (is_some one.value.slash)) one.value.tags) known.now.rules.items) }
 {
-    spellings_differ(names, custom) && have_tag_names(names, known.rules.as_slice())
+    spellings_differ(names, custom) && have_tag_names(names, &known.rules)
 }
 
 /// The fault of rules that are all of `<*>`; at the opener of the block.
 fn lonely_fault(known: &Known, at: Pos) -> Option<Fault>
-    ensures { (rules : List RuleOf) → length rules ≡ length known.now.rules.items → result ≡ lonely_fault at rules (cond_names known.now.conds) }
+    ensures { (rules : List RuleOf) → length rules ≡ length (rules_view known.now.rules) → result ≡ lonely_fault at rules (cond_names known.now.conds) }
 {
     if known.rules.len() > 0 && known.conds.len() == 0 {
         return Some(Fault::Condition { at });
@@ -161,8 +168,61 @@ fn checked_scanners(
     scanners(alloc, known, options.conds, at)
 }
 
-/// What the block resolves to whose opener stands at this place, and what holds behind it.
-pub(crate) fn finish(
+/// The configuration of a block.
+fn config(alloc: Global, known: &Known) -> Result<Config, Memory>
+    ensures { IfOk result (λ config. config ≡ config_of (settings_view known.now.settings)) }
+{
+    let names = known.settings.names(alloc)?;
+    let eof = known.eof();
+    let fill = known.settings.fill.unwrap_or(true);
+    Ok(Config { names, eof, fill })
+}
+
+/// What holds behind a rules block, with what is kept of it.
+fn keep(known: Known) -> Env
+    ensures { result ≡ env_keeping known }
+{
+    let Known {
+        before,
+        own,
+        settings,
+        rules,
+        acts,
+        conds,
+        ..
+    } = known;
+    Env {
+        definitions: before.definitions,
+        settings: before.settings,
+        kept: Some(KeptBlock {
+            definitions: own,
+            settings,
+            rules,
+            acts,
+            conds,
+        }),
+    }
+}
+
+/// What a rules block resolves to.
+fn rules_resolved(alloc: Global, known: &Known, at: Pos) -> Result<Resolved, Stop>
+    ensures { (state : State) → Holds known.now state → MatchResult result
+        (λ resolved. (no_rules_fault at state.rules ≡ None) × ((named : Bool) → IsResolvedAs block.Rules named state resolved) × FitsLimits resolved)
+        (StopsAt (Finds (no_rules_fault at state.rules))) }
+{
+    if known.rules.len() == 0 {
+        return Err(Stop::Fault(Fault::NoRules { at }));
+    }
+    let config = config(alloc, known)?;
+    Ok(Resolved {
+        scanners: Sequence::new(alloc),
+        acts: Sequence::new(alloc),
+        config,
+    })
+}
+
+/// What a rules block resolves to, and what holds behind it.
+fn finish_rules(
     alloc: Global,
     known: Known,
     options: &Options,
@@ -170,19 +230,80 @@ pub(crate) fn finish(
 ) -> Result<(Env, Resolved), Stop>
     requires few { length known.acts.items ≤ SOURCE_LIMIT }
     requires holds { (state : State) × Holds known state }
-    ensures { (state : State) → Holds known state → MatchResult result
-        (IsFinished options.now.conds options.now.custom at state)
-        (StopsAt (ScannerChecks options.now.custom at state)) }
+    ensures { (state : State) (environment : Environment) → Holds known state → IsBefore block.Rules environment known.before known.is_use → MatchResult result
+        (IsFinished options.now block.Rules at environment state)
+        (StopsAt (BlockChecks options.now.custom block.Rules at state)) }
 {
-    let names = known.env.names(alloc)?;
-    let scanners = checked_scanners(alloc, &known, &names, options, at)?;
-    let eof = known.eof();
-    let Known { env, acts, .. } = known;
-    let fill = env.settings.fill.unwrap_or(true);
+    let resolved = rules_resolved(alloc, &known, at)?;
+    Ok((keep(known), resolved))
+}
+
+/// What holds behind a block of scanners: what it knows, or what held before a block that uses a rules block.
+fn leave(before: Env, is_use: bool, own: Definitions, settings: Settings) -> Env
+    ensures { result ≡ env_left before is_use own settings }
+{
+    if is_use {
+        return before;
+    }
+    Env {
+        definitions: own,
+        settings,
+        kept: before.kept,
+    }
+}
+
+/// What a block of scanners resolves to, and what holds behind it.
+fn finish_scanners(
+    alloc: Global,
+    known: Known,
+    kind: BlockKind,
+    options: &Options,
+    at: Pos,
+) -> Result<(Env, Resolved), Stop>
+    requires few { length known.acts.items ≤ 2 * SOURCE_LIMIT }
+    requires holds { (state : State) × Holds known state }
+    requires kind { HasRules kind }
+    requires other { kind ≢ block.Rules }
+    ensures { (state : State) (environment : Environment) → Holds known state → IsBefore kind environment known.before known.is_use → MatchResult result
+        (IsFinished options.now kind at environment state)
+        (StopsAt (BlockChecks options.now.custom kind at state)) }
+{
+    let config = config(alloc, &known)?;
+    let scanners = checked_scanners(alloc, &known, &config.names, options, at)?;
+    let Known {
+        before,
+        is_use,
+        own,
+        settings,
+        acts,
+        ..
+    } = known;
     let resolved = Resolved {
         scanners,
         acts: Sequence::from_vec(acts),
-        config: Config { names, eof, fill },
+        config,
     };
-    Ok((env, resolved))
+    Ok((leave(before, is_use, own, settings), resolved))
+}
+
+/// What the block of this kind resolves to whose opener stands at this place, and what holds behind it.
+pub(crate) fn finish(
+    alloc: Global,
+    known: Known,
+    kind: BlockKind,
+    options: &Options,
+    at: Pos,
+) -> Result<(Env, Resolved), Stop>
+    requires few { length known.acts.items ≤ SOURCE_LIMIT + most_before kind }
+    requires holds { (state : State) × Holds known state }
+    requires kind { HasRules kind }
+    ensures { (state : State) (environment : Environment) → Holds known state → IsBefore kind environment known.before known.is_use → MatchResult result
+        (IsFinished options.now kind at environment state)
+        (StopsAt (BlockChecks options.now.custom kind at state)) }
+{
+    if kind == BlockKind::Rules {
+        finish_rules(alloc, known, options, at)
+    } else {
+        finish_scanners(alloc, known, kind, options, at)
+    }
 }

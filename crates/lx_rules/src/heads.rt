@@ -162,7 +162,7 @@ fn read_plain(
     slash: Option<u32>,
     until: u32,
 ) -> Result<Head, Stop>
-    requires fit { HasFitDefinitions known.now.env }
+    requires fit { HasFitDefinitions known.now }
     requires expressions { HasExpressions (sorts_at (lexemes_view block.lexemes)) (item.Rule head head slash until None None) }
     requires star { sort_at (nth_lexeme (lexemes_view block.lexemes) head) ≡ Star → ⊥ }
     requires dollar { sort_at (nth_lexeme (lexemes_view block.lexemes) head) ≡ Dollar → ⊥ }
@@ -172,7 +172,7 @@ fn read_plain(
         (StopsHead block.entry.options.now (lexemes_view block.entry.lexemes) state (map (λ cond. cond.now) conds.now) head slash until) }
     ensures bounded { IfOk result IsBoundedHead }
 {
-    let scope = known.env.scope();
+    let scope = known.scope();
     let reader = Reader {
         options: block.options,
         scope,
@@ -217,7 +217,7 @@ pub(crate) fn read_head(
     slash: Option<u32>,
     until: u32,
 ) -> Result<Head, Stop>
-    requires fit { HasFitDefinitions known.now.env }
+    requires fit { HasFitDefinitions known.now }
     requires expressions { HasExpressions (sorts_at (lexemes_view block.lexemes)) (item.Rule head head slash until None None) }
     ensures read { (state : State) → Holds known.now state → MatchResult result
         (IsHeadRead block.entry.options.now (lexemes_view block.entry.lexemes) state (map (λ cond. cond.now) conds.now) head slash until

@@ -2,22 +2,24 @@
 ghost use Rattle.std.specs.Prelude.{◌≡◌, IfOk, Some};
 ghost use Rattle.lx_base.specs.declared.limits.TheConstants.{SOURCE_LIMIT};
 
-use crate::acts::act;
+use crate::acts::{act, check_target, target_place};
 use crate::conditions::Conditions;
 use crate::configurations::read_config;
-use crate::environment::Env;
+use crate::environment::{Env, Settings};
 use crate::heads::{Head, read_head};
 use crate::kept::KeptRule;
+use crate::lists::{check_list, rule_conditions};
 use crate::resolved::Act;
 use lx_base::limits::{SIZE_LIMIT, TAG_LIMIT};
 use lx_base::{Fault, Memory, Options, Pos, Stop};
-use lx_exprs::definitions::Kept;
+use lx_exprs::definitions::{Definitions, Kept, Scope};
 use lx_exprs::expressions::{Reading, read_expression};
-use lx_exprs::leaves::{Reader, unsupported};
+use lx_exprs::leaves::Reader;
 use lx_exprs::values::Room;
 use lx_forms::lexemes::Lexemes;
 use lx_parse::Item;
 use std::alloc::Global;
+use std::rc::Rc;
 
 /// What does not change while the items of a block are taken.
 #[derive(Clone, Copy)]
@@ -29,9 +31,15 @@ pub(crate) struct Block<'b> {
 /// What is known behind some items of a block.
 #[derive(Drop)]
 pub(crate) struct Known {
-    pub env: Env,
+    /// What holds before the block, but for definitions that it takes over.
+    pub before: Env,
+    /// Whether the rules block that is kept is used.
+    pub is_use: bool,
+    /// The definitions of the block, behind those that it takes over.
+    pub own: Definitions,
+    pub settings: Settings,
     /// The rules, in order.
-    pub rules: Vec<KeptRule>,
+    pub rules: Vec<Rc<KeptRule>>,
     /// What they do, in the same order.
     pub acts: Vec<Act>,
     /// Their conditions.
@@ -39,40 +47,54 @@ pub(crate) struct Known {
 }
 
 impl Known {
-    ghost use Rattle.std.specs.Prelude.{length, ◌≡◌, MatchResult, OnOk, ◌<◌, ◌≤◌, map, suc};
+    ghost use Rattle.std.specs.Prelude.{length, ◌≡◌, MatchResult, OnOk, ◌<◌, ◌≤◌, ◌*◌, map, suc};
     ghost use Rattle.lx_parse.specs.Expressions.{alt};
     ghost use Rattle.lx_parse.specs.Ranges.{IsPart, HasExpressions};
     ghost use Rattle.lx_parse.specs.declared.items.Item.TheVariants as item;
-    ghost use Rattle.lx_rules.specs.Conditions.{AreConds};
-    ghost use Rattle.lx_rules.specs.Items.{State, ItemChecks, first_of, first_state, is_default, is_end, with_rule};
+    ghost use Rattle.lx_rules.specs.Conditions.{AreConds, HasConds};
+    ghost use Rattle.lx_rules.specs.Items.{State, ItemChecks, first_of, is_default, is_end, with_rule};
     ghost use Rattle.lx_rules.specs.Rules.{RuleOf};
     ghost use Rattle.lx_rules.specs.Keeping.{Holds, IsTaken, IsNew};
     ghost use Rattle.lx_exprs.specs.Checks.{StopsAt};
     ghost use Rattle.lx_forms.specs.Lexemes.{sorts_at};
     ghost use Rattle.lx_forms.specs.Seen.{lexemes_view};
+    ghost use Rattle.lx_exprs.specs.Seen.{definitions_view, scope_view, seen_in};
+    ghost use Rattle.lx_exprs.specs.FitDefinitions.{AreFit, ScopeFits};
     ghost use Rattle.lx_rules.specs.Environments.{config_of};
-    ghost use Rattle.lx_rules.specs.Seen.{environment_view, settings_view};
+    ghost use Rattle.lx_rules.specs.Seen.{known_definitions, settings_view, used_definitions};
     ghost use Rattle.lx_rules.specs.FitScanners.{HasFitDefinitions};
-    ghost use Rattle.lx_base.specs.declared.blocks.BlockKind.TheVariants.{Code};
 
-    /// What is known before the items.
-    pub fn new(alloc: Global, env: Env) -> Known
-        requires { HasFitDefinitions env }
-        ensures { Holds result (first_state Code (environment_view env)) }
+    /// The definitions of the rules block that is used, if there is one.
+    fn used(&self) -> Option<&Definitions>
+        ensures seen { seen_in result ≡ used_definitions self.now.is_use self.now.before }
+        ensures fit { HasFitDefinitions self.now → AreFit result }
     {
-        Known {
-            env,
-            rules: Vec::new(alloc),
-            acts: Vec::new(alloc),
-            conds: Conditions::new(alloc),
+        if !self.is_use {
+            return None;
+        }
+        match &self.before.kept {
+            Some(kept) => Some(&kept.definitions),
+            None => None,
+        }
+    }
+
+    /// The definitions that the block sees.
+    pub fn scope(&self) -> Scope<'_>
+        ensures seen { scope_view result ≡ known_definitions self.now }
+        ensures fit { HasFitDefinitions self.now → ScopeFits result }
+    {
+        Scope {
+            kept: self.used(),
+            outer: Some(&self.before.definitions),
+            own: &self.own,
         }
     }
 
     /// The code unit that stands at the end of the input, if there is one.
     pub fn eof(&self) -> Option<u32>
-        ensures { result ≡ (config_of (settings_view self.now.env.settings)).eof }
+        ensures { result ≡ (config_of (settings_view self.now.settings)).eof }
     {
-        self.env.settings.eof.unwrap_or(None)
+        self.settings.eof.unwrap_or(None)
     }
 
     /// The place of the first rule `*` that has one of some conditions.
@@ -105,14 +127,15 @@ impl Known {
         until: u32,
     ) -> Result<(), Stop>
         requires part { IsPart (sorts_at (lexemes_view block.lexemes)) alt from until }
-        requires fit { HasFitDefinitions self.old.env }
+        requires fit { HasFitDefinitions self.old }
         ensures acts { OnOk result (self.new.acts ≡ self.old.acts) }
+        ensures before { OnOk result ((self.new.before ≡ self.old.before) × (self.new.is_use ≡ self.old.is_use)) }
         ensures taken { (state : State) → Holds self.old state → MatchResult result
             (λ _. IsTaken block.entry.options.now (lexemes_view block.entry.lexemes) state (item.Define name from until) self.new)
             (StopsAt (ItemChecks block.entry.options.now (lexemes_view block.entry.lexemes) state (item.Define name from until))) }
     {
         let name = block.lexemes.at(name as usize);
-        let scope = self.env.scope();
+        let scope = self.scope();
         if let Some(kept) = scope.get(name.text) {
             return Err(Stop::Fault(Fault::Redefined {
                 at: name.at,
@@ -137,7 +160,7 @@ impl Known {
             groups: value.groups,
             expr: value.into_kept(alloc)?,
         };
-        self.env.definitions.add(alloc, name.text, kept)?;
+        self.own.add(alloc, name.text, kept)?;
         Ok(())
     }
 
@@ -150,6 +173,7 @@ impl Known {
         value: u32,
     ) -> Result<(), Stop>
         ensures acts { OnOk result (self.new.acts ≡ self.old.acts) }
+        ensures before { OnOk result ((self.new.before ≡ self.old.before) × (self.new.is_use ≡ self.old.is_use)) }
         ensures taken { (state : State) → Holds self.old state → MatchResult result
             (λ _. IsTaken block.entry.options.now (lexemes_view block.entry.lexemes) state (item.Configure name value) self.new)
             (StopsAt (ItemChecks block.entry.options.now (lexemes_view block.entry.lexemes) state (item.Configure name value))) }
@@ -157,28 +181,32 @@ impl Known {
         let name = block.lexemes.at(name as usize);
         let value = block.lexemes.at(value as usize);
         let setting = read_config(alloc, block.options.enc, &name, &value)?;
-        self.env.settings.set(setting)?;
+        self.settings.set(setting)?;
         Ok(())
     }
 
-    /// Adds a rule of some conditions with its action, at whose head stands this place.
+    /// Adds a rule of some conditions with its target and its action; its head stands at a place.
     fn add_rule(
         &mut self,
         alloc: Global,
         conds: &[&[u8]],
         head: Head,
         at: Pos,
+        target: Option<Pos>,
         act: Act,
     ) -> Result<(), Memory>
         requires { AreConds (map (λ cond. cond.now) conds.now) }
         ensures few { OnOk result (length self.new.acts.items ≤ suc (length self.old.acts.items)) }
-        ensures added { (state : State) (rule : RuleOf) → Holds self.old state → IsNew self.old (map (λ cond. cond.now) conds.now) head at act rule
+        ensures before { OnOk result ((self.new.before ≡ self.old.before) × (self.new.is_use ≡ self.old.is_use)) }
+        ensures added { (state : State) (rule : RuleOf) → Holds self.old state → IsNew self.old (map (λ cond. cond.now) conds.now) head at target act rule
             → OnOk result (Holds self.new (with_rule state rule)) }
     {
         let standing = head.standing(act.number, at);
-        let listed = self.conds.enter(alloc, conds, standing)?;
-        let rule = head.into_rule(alloc, act.number, listed, at);
-        self.rules.push(rule)?;
+        let place = self.rules.len();
+        let listed = self.conds.enter(alloc, conds, place, standing)?;
+        let mut rule = head.into_rule(alloc, act.number, listed, at);
+        rule.target = target;
+        self.rules.push(Rc::new(alloc, rule)?)?;
         self.acts.push(act)?;
         Ok(())
     }
@@ -195,41 +223,37 @@ impl Known {
         goes: Option<u32>,
         code: Option<u32>,
     ) -> Result<(), Stop>
-        requires few { length self.old.acts.items < SOURCE_LIMIT }
+        requires few { length self.old.acts.items < 2 * SOURCE_LIMIT }
         requires short { length block.lexemes.body.now ≤ SOURCE_LIMIT }
         requires expressions { HasExpressions (sorts_at (lexemes_view block.lexemes)) (item.Rule first head slash until goes code) }
-        requires fit { HasFitDefinitions self.old.env }
+        requires conds { HasConds (lexemes_view block.lexemes) (item.Rule first head slash until goes code) }
+        requires fit { HasFitDefinitions self.old }
         ensures few { OnOk result (length self.new.acts.items ≤ suc (length self.old.acts.items)) }
+        ensures before { OnOk result ((self.new.before ≡ self.old.before) × (self.new.is_use ≡ self.old.is_use)) }
         ensures taken { (state : State) → Holds self.old state → MatchResult result
             (λ _. IsTaken block.entry.options.now (lexemes_view block.entry.lexemes) state (item.Rule first head slash until goes code) self.new)
             (StopsAt (ItemChecks block.entry.options.now (lexemes_view block.entry.lexemes) state (item.Rule first head slash until goes code))) }
     {
-        let opener = block.lexemes.at(first as usize);
-        if first != head {
-            return Err(unsupported(opener.at));
-        }
-        if block.options.conds {
-            return Err(Stop::Fault(Fault::Condition { at: opener.at }));
-        }
-        let conds: [&[u8]; 1] = [b""];
+        check_list(block, first, head)?;
+        let conds = rule_conditions(alloc, block.lexemes, first, head)?;
         let read = read_head(alloc, self, block, &conds, head, slash, until)?;
-        if let Some(goes) = goes {
-            let sign = block.lexemes.at((goes as usize).saturating_sub(1));
-            return Err(unsupported(sign.at));
-        }
+        check_target(block, goes)?;
         let number = self.acts.len() as u32 + 1;
-        let act = act(alloc, block, number, code)?;
-        self.add_rule(alloc, &conds, read, opener.at, act)?;
+        let act = act(alloc, block, number, goes, code)?;
+        let at = block.lexemes.at(head as usize).at;
+        self.add_rule(alloc, &conds, read, at, target_place(block, goes), act)?;
         Ok(())
     }
 
     /// Takes an item.
     pub fn take(&mut self, alloc: Global, block: Block<'_>, item: Item) -> Result<(), Stop>
-        requires few { length self.old.acts.items < SOURCE_LIMIT }
+        requires few { length self.old.acts.items < 2 * SOURCE_LIMIT }
         requires short { length block.lexemes.body.now ≤ SOURCE_LIMIT }
         requires expressions { HasExpressions (sorts_at (lexemes_view block.lexemes)) item }
-        requires fit { HasFitDefinitions self.old.env }
+        requires conds { HasConds (lexemes_view block.lexemes) item }
+        requires fit { HasFitDefinitions self.old }
         ensures few { OnOk result (length self.new.acts.items ≤ suc (length self.old.acts.items)) }
+        ensures before { OnOk result ((self.new.before ≡ self.old.before) × (self.new.is_use ≡ self.old.is_use)) }
         ensures taken { (state : State) → Holds self.old state → MatchResult result
             (λ _. IsTaken block.entry.options.now (lexemes_view block.entry.lexemes) state item self.new)
             (StopsAt (ItemChecks block.entry.options.now (lexemes_view block.entry.lexemes) state item)) }

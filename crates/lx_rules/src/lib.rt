@@ -11,6 +11,8 @@ mod heads;
 mod items;
 mod kept;
 mod laws;
+mod lists;
+mod opening;
 pub mod resolved;
 pub mod resolving;
 mod rule_exprs;
@@ -19,8 +21,8 @@ mod words;
 
 pub use environment::Env;
 pub use laws::{
-    blocks_have_spellings_of_scanners, blocks_resolve_in_one_way, blocks_resolve_or_have_a_fault,
-    environments_stay_buildable,
+    block_faults_stand_in_the_file_of_the_opener, blocks_resolve_in_one_way,
+    blocks_resolve_or_have_a_fault, resolved_blocks_are_well_formed,
 };
 pub use resolved::{Act, Config, Resolved, Scanner};
 pub use resolving::resolve;

@@ -3,11 +3,12 @@ ghost use Rattle.std.specs.Prelude.{◌≡◌, ◌++◌, IfOk, MatchResult, leng
 ghost use Rattle.std.specs.List.{AllZip, list_any};
 ghost use Rattle.lx_exprs.specs.Checks.{Finds, StopsAt};
 ghost use Rattle.lx_rules.specs.Blocks.{cond_name, conditions_of, pair_fault, rules_of, scanner_fault, scanners_fault};
-ghost use Rattle.lx_rules.specs.Conditions.{cond_names, nothing_runs};
-ghost use Rattle.lx_rules.specs.Finishing.{IsBuiltScanner, kept_defaults, kept_fault, kept_in_order, kept_others, kept_rules_of, kept_under, running_fault, running_over};
+ghost use Rattle.lx_rules.specs.Conditions.{nothing_runs, places_of};
+ghost use Rattle.lx_rules.specs.Finishing.{IsBuiltScanner, kept_defaults, kept_fault, kept_at, kept_in_order, kept_others, kept_rules_of, running_fault, running_over};
 ghost use Rattle.lx_rules.specs.Environments.{config_of};
 ghost use Rattle.lx_rules.specs.Items.{State, is_default, is_end};
 ghost use Rattle.lx_rules.specs.Keeping.{Holds};
+ghost use Rattle.lx_rules.specs.Seen.{rules_view};
 ghost use Rattle.lx_rules.specs.declared.kept.KeptRule.{KeptRule as kept_rule};
 
 use crate::conditions::Running;
@@ -26,14 +27,16 @@ fn rules_under<'k>(
     known: &'k Known,
     cond: &[u8],
 ) -> Result<Vec<&'k KeptRule>, Memory>
-    ensures { IfOk result (λ rules. map (λ one. one.now) rules.items ≡ kept_under (cond_names known.now.conds) cond.now known.now.rules.items) }
+    ensures { IfOk result (λ rules. map (λ one. one.now) rules.items ≡ kept_at (places_of known.now.conds cond.now) (rules_view known.now.rules)) }
 {
     let mut rules = Vec::new(alloc);
     let held = known.rules.as_slice();
-    for rule in held {
-        if known.conds.has(&rule.conds, cond) {
-            rules.push(rule)?;
-        }
+    let places = known.conds.places(cond);
+    for place in places {
+        let Some(rule) = held.get(*place) else {
+            continue;
+        };
+        rules.push(&**rule)?;
     }
     Ok(rules)
 }
@@ -123,7 +126,7 @@ fn in_order<'k>(
 
 /// The rules of the scanner of a condition in their order.
 fn rules_of<'k>(alloc: Global, known: &'k Known, cond: &[u8]) -> Result<Vec<&'k KeptRule>, Memory>
-    ensures { IfOk result (λ rules. map (λ one. one.now) rules.items ≡ kept_rules_of (cond_names known.now.conds) cond.now known.now.rules.items) }
+    ensures { IfOk result (λ rules. map (λ one. one.now) rules.items ≡ kept_rules_of (places_of known.now.conds) cond.now (rules_view known.now.rules)) }
 {
     let own = rules_under(alloc, known, cond)?;
     let shared = rules_under(alloc, known, b"*")?;

@@ -14,7 +14,7 @@ use Rattle.lx_base.specs.declared.settings.SurPolicy.{SurPolicy}
 use Rattle.lx_base.specs.declared.settings.SurPolicy.TheVariants.{Ignore, Substitute, Fail}
 use Rattle.lx_class.specs.declared.ranges.Range.{Range}
 use Rattle.lx_parse.specs.Expressions.{Part}
-use Rattle.lx_exprs.specs.Checks.{Check, Then, Finds, unsupported, Checks, LeafChecks, IsFilled, PointsAre, AreClasses, HasPoint, LeafHas, bounds_fault, bounds_of, class_ranges, inner_operand, is_class, is_wrong, name_fault, repeated_tag, tag_fault, tag_of, tags_of, is_tag_among}
+use Rattle.lx_exprs.specs.Checks.{Check, Then, Finds, misplaced, Checks, LeafChecks, IsFilled, PointsAre, AreClasses, HasPoint, LeafHas, bounds_fault, bounds_of, class_ranges, inner_operand, is_class, is_wrong, name_fault, repeated_tag, tag_fault, tag_of, tags_of, is_tag_among}
 use Rattle.lx_regex.specs.declared.rules.Tag.{Tag}
 use Rattle.lx_exprs.specs.Defined.{Definition, definition_of, slash_tag}
 use Rattle.lx_forms.specs.Forms.{Form, leaf, group, repeated, sequence, difference, alternative, IsForm, is_leaf, is_group, is_bare, is_repeated, is_first_post, is_sequence, is_first_cat, is_difference, is_first_diff, is_alternative}
@@ -152,15 +152,12 @@ module _ (file : ℕ) where
         if-file options.tags (repeated_tag lexeme.at (tag_of many lexeme ∷ []) seen) (Some (TagsOff lexeme.at))
         (repeated_tag-file lexeme.at (tag_of many lexeme ∷ []) seen is) is
 
-    pub unsupported-file : (lexeme : Lexeme) → lexeme.at.file ≡ file → FindsIn (Finds (unsupported lexeme))
-    unsupported-file lexeme is = FindsIn-Finds (unsupported lexeme) is
+    pub misplaced-file : (lexeme : Lexeme) → lexeme.at.file ≡ file → FindsIn (Finds (misplaced lexeme))
+    misplaced-file lexeme is = FindsIn-Finds (misplaced lexeme) is
 
     PointsAre-file : (lexeme : Lexeme) (ranges : List Range) → lexeme.at.file ≡ file → FindsIn (PointsAre options definitions lexeme ranges)
     PointsAre-file lexeme ranges is =
         FindsIn-Finds (points_fault options.enc options.surrogates lexeme.at ranges) (points-file options.enc options.surrogates lexeme.at ranges is)
-
-    pub then_unsupported : (Second : Check) (lexeme : Lexeme) → lexeme.at.file ≡ file → FindsIn Second → FindsIn (Then (Finds (unsupported lexeme)) Second)
-    then_unsupported Second lexeme is second = FindsIn-Then (Finds (unsupported lexeme)) Second (unsupported-file lexeme is) second
 
     leaf-file : (sort : TokenKind) (is_operand : Bool) (seen : List Tag) (lexeme : Lexeme) → lexeme.at.file ≡ file
         → FindsIn (LeafChecks options definitions sort is_operand seen lexeme)
@@ -178,10 +175,10 @@ module _ (file : ℕ) where
         let Points = PointsAre options definitions lexeme (class_ranges lexeme) in
         FindsIn-Then Points Filled (PointsAre-file lexeme (class_ranges lexeme) is)
         (filled-file options.empty is_operand lexeme.at (LeafHas options definitions kind.Class lexeme) is)
-    leaf-file kind.Config is_operand seen lexeme is = unsupported-file lexeme is
-    leaf-file kind.Number is_operand seen lexeme is = unsupported-file lexeme is
-    leaf-file kind.Bounds is_operand seen lexeme is = unsupported-file lexeme is
-    leaf-file kind.Code is_operand seen lexeme is = unsupported-file lexeme is
+    leaf-file kind.Config is_operand seen lexeme is = misplaced-file lexeme is
+    leaf-file kind.Number is_operand seen lexeme is = misplaced-file lexeme is
+    leaf-file kind.Bounds is_operand seen lexeme is = misplaced-file lexeme is
+    leaf-file kind.Code is_operand seen lexeme is = misplaced-file lexeme is
     leaf-file kind.Signs is_operand seen lexeme is = FindsIn-Finds None tt
 
     AreClasses-file : (left right : Form) (sign : Lexeme) → sign.at.file ≡ file → FindsIn (AreClasses options definitions left right sign)

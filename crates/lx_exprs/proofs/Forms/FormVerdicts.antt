@@ -2,7 +2,7 @@
 use Rattle.std.proofs.Common.{◌≡◌, ℕ, ◌+◌, ◌≤◌, ◌⊎◌, inl, inr, max, Bool, true, false, List, [], ◌++◌, Option, None, Some, refl, sym, subst}
 use Rattle.lx_base.specs.Spelling.{greatest_point}
 use Rattle.lx_base.specs.declared.faults.Fault.{Fault}
-use Rattle.lx_base.specs.declared.faults.Fault.TheVariants.{EmptyClass, NotClass, Unsupported, UnknownName}
+use Rattle.lx_base.specs.declared.faults.Fault.TheVariants.{EmptyClass, NotClass, Syntax, UnknownName}
 use Rattle.lx_base.specs.declared.places.Pos.{Pos}
 use Rattle.lx_base.specs.declared.settings.EmptyPolicy.{EmptyPolicy}
 use Rattle.lx_base.specs.declared.settings.EmptyPolicy.TheVariants.{MatchEmpty, MatchNone, Error}
@@ -114,7 +114,7 @@ module _ (options : Options) (definitions : List Definition) (ready : AreDefined
       of (Some definition) e none = surely (copied before definition, (definition, e, refl))
   leaf_means operand kind.STag before lexeme checked = surely (tag_meaning before (tag_of false lexeme), refl)
   leaf_means operand kind.MTag before lexeme checked = surely (tag_meaning before (tag_of true lexeme), refl)
-  leaf_means operand sort before lexeme checked = absurd (let h : None ≡ Some (Unsupported (Some lexeme.at)) = checked in cc)
+  leaf_means operand sort before lexeme checked = absurd (let h : None ≡ Some (Syntax lexeme.at) = checked in cc)
 
   pub form_means : (operand : Bool) (before : Before) (form : Form) → Checks options definitions operand before.tags form None
       → Surely ((meaning : Meaning) × IsMeaning options definitions operand before form meaning)

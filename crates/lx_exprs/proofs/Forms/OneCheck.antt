@@ -9,7 +9,7 @@ use Rattle.lx_base.specs.declared.settings.EmptyPolicy.TheVariants.{MatchEmpty, 
 use Rattle.lx_base.specs.declared.settings.Options.{Options}
 use Rattle.lx_class.proofs.Law.{same_ranges}
 use Rattle.lx_class.specs.declared.ranges.Range.{Range}
-use Rattle.lx_exprs.specs.Checks.{Check, Then, Finds, unsupported, Checks, LeafChecks, IsFilled, PointsAre, AreClasses, HasPoint, LeafHas, bounds_fault, are_groups, bounds_of, class_ranges, inner_operand, is_class, name_fault, tag_fault, tags_of}
+use Rattle.lx_exprs.specs.Checks.{Check, Then, Finds, misplaced, Checks, LeafChecks, IsFilled, PointsAre, AreClasses, HasPoint, LeafHas, bounds_fault, are_groups, bounds_of, class_ranges, inner_operand, is_class, name_fault, tag_fault, tags_of}
 use Rattle.lx_regex.specs.Expr.{ranges_of}
 use Rattle.lx_regex.specs.Term.{Term, class}
 use Rattle.lx_exprs.specs.Defined.{Before, Definition, HasClass, IsClassKept, IsDefined, IsTermKept, Meaning, count_of, definition_of, kept, nothing, is_built, meant_class, slash_tag, whole_room}
@@ -89,9 +89,6 @@ module _ (options : Options) (definitions : List Definition) where
   filled-one Error false at HasPoint =
       FindsOne-by ((point : ℕ) × HasPoint point) ((point : ℕ) → HasPoint point → ⊥) None _ (λ has none. none has.0 has.1)
 
-  pub then_unsupported-one : (Second : Check) (lexeme : Lexeme) → FindsOne Second → FindsOne (Then (Finds (unsupported lexeme)) Second)
-  then_unsupported-one Second lexeme second = FindsOne-Then (Finds (unsupported lexeme)) Second (FindsOne-Finds (unsupported lexeme)) second
-
   points-one : (lexeme : Lexeme) (ranges : List Range) → FindsOne (PointsAre options definitions lexeme ranges)
   points-one lexeme ranges = FindsOne-Finds (points_fault options.enc options.surrogates lexeme.at ranges)
 
@@ -107,10 +104,10 @@ module _ (options : Options) (definitions : List Definition) where
       let Points = PointsAre options definitions lexeme (class_ranges lexeme) in
       FindsOne-Then Points Filled (points-one lexeme (class_ranges lexeme))
       (filled-one options.empty is_operand lexeme.at (LeafHas options definitions kind.Class lexeme))
-  leaf-one kind.Config is_operand seen lexeme = FindsOne-Finds (unsupported lexeme)
-  leaf-one kind.Number is_operand seen lexeme = FindsOne-Finds (unsupported lexeme)
-  leaf-one kind.Bounds is_operand seen lexeme = FindsOne-Finds (unsupported lexeme)
-  leaf-one kind.Code is_operand seen lexeme = FindsOne-Finds (unsupported lexeme)
+  leaf-one kind.Config is_operand seen lexeme = FindsOne-Finds (misplaced lexeme)
+  leaf-one kind.Number is_operand seen lexeme = FindsOne-Finds (misplaced lexeme)
+  leaf-one kind.Bounds is_operand seen lexeme = FindsOne-Finds (misplaced lexeme)
+  leaf-one kind.Code is_operand seen lexeme = FindsOne-Finds (misplaced lexeme)
   leaf-one kind.Signs is_operand seen lexeme = FindsOne-Finds None
 
   classes-one : (left right : Form) (sign : Lexeme) → FindsOne (AreClasses options definitions left right sign)

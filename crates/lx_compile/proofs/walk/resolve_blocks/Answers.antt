@@ -2,55 +2,72 @@ use Rattle.std.proofs.Common.{◌≡◌, [], ◌∷◌, length, arith, sym, ap, 
 use Rattle.std.specs.Vec.Iter.{into_iter_items}
 use Rattle.std.proofs.lemmas.List.{nil_from_length}
 use Rattle.std.proofs.lemmas.Result.{err_from_is_err_and}
-use Rattle.lx_rules.specs.Seen.{environment_view}
-use Rattle.lx_compile.proofs.WalkRuns.{IsWalked-outside, IsWalked-block, IsWalked-end, StopsAmong-block}
+use Rattle.lx_rules.specs.Environments.{first_environment}
+use Rattle.lx_compile.proofs.WalkRuns.{IsWalked-start, IsWalked-outside, IsWalked-block, IsWalked-end, StopsAmong-block}
 use Rattle.lx_compile.proofs.walk.resolve_blocks.Goals as goal
+
+pub loop-piece-init : goal.loop-piece-init
+loop-piece-init c =
+    let gives = c.into_iter-piece-iterator.ensures.into_iter_gives in
+    let items = gives.0 ∙ c.into_vec-piece-items.ensures in record {
+      walked =
+          (first_environment, c.new-env.ensures, rw (items, c.new-parts.ensures) (IsWalked-start c.args.options.now c.args.pieces c.requires.near));
+      count = let held = c.into_vec-piece-items.result.ok in gives.1 ∙ held.0 ∙ ap length (sym gives.0);
+    }
 
 pub loop-piece-preserved-in-Continue-1 : goal.loop-piece-preserved-in-Continue-1
 loop-piece-preserved-in-Continue-1 c =
     let at = c.loop-piece in
+    let before = at.invariant.walked in
     let rest = into_iter_items c.next.new.self in
     let steps : into_iter_items at.piece-iterator ≡ c.in-Some.piece ∷ rest = c.in-Some.ensures.steps.0 in
-    let walked = rw (steps, c.in-Outside.is) at at.invariant.walked in record {
-      walked =
-          rw c.in_ok-push-in-Outside.ensures.pushed
-          (IsWalked-outside c.args.options.now c.args.pieces rest (environment_view at.env) at.parts c.in-Outside.text walked);
-      fit = at.invariant.fit;
-      defined = at.invariant.defined;
+    let walked = rw (steps, c.in-Outside.is) at before.2 in record {
+      walked = (
+        before.0,
+        before.1,
+        rw c.in_ok-push-in-Outside.ensures.pushed
+            (IsWalked-outside c.args.options.now c.args.pieces rest before.0 at.parts c.in-Outside.text walked),
+      );
       count = let was = at.invariant.count in let gone = c.in-Some.ensures.steps.1 in let short = ap length steps in omega arith;
     }
 
 pub returns-in_err-after-in-Block-clause-parts : goal.returns-in_err-after-in-Block-clause-parts
 returns-in_err-after-in-Block-clause-parts c =
     let at = c.loop-piece in
+    let before = at.invariant.walked in
     let rest = into_iter_items c.next.new.self in
     let steps : into_iter_items at.piece-iterator ≡ c.in-Some.piece ∷ rest = c.in-Some.ensures.steps.0 in
-    let walked = rw (steps, c.in-Block.is) at at.invariant.walked in
+    let walked = rw (steps, c.in-Block.is) at before.2 in
     let p = err_from_is_err_and c.from_residual-in_err-after-in-Block.result c.from_residual-in_err-after-in-Block.ensures.1 in
     rw (p.1, p.2)
-    (StopsAmong-block c.args.options.now c.args.pieces rest (environment_view at.env) at.parts c.in-Block.kind c.in-Block.body c.in-Block.at
-    c.in-Block.body_at c.in-Block.end_line c.in_err-after-in-Block.field-0.0 walked (rw c.as_slice.ensures at c.in_err-after-in-Block.ensures.block))
+    (StopsAmong-block c.args.options.now c.args.pieces rest before.0 at.parts c.in-Block.kind c.in-Block.body c.in-Block.at
+    c.in-Block.body_at c.in-Block.end_line c.in_err-after-in-Block.field-0.0 walked
+    (rw c.as_slice.ensures at c.in_err-after-in-Block.ensures.block before.0 before.1))
 
 pub loop-piece-preserved : goal.loop-piece-preserved
 loop-piece-preserved c =
     let at = c.loop-piece in
+    let before = at.invariant.walked in
     let rest = into_iter_items c.next.new.self in
     let steps : into_iter_items at.piece-iterator ≡ c.in-Some.piece ∷ rest = c.in-Some.ensures.steps.0 in
-    let walked = rw (steps, c.in-Block.is) at at.invariant.walked in
-    let answer = c.in_ok-after-in-Block in record {
-      walked =
-          rw c.in_ok-push-in-Block.ensures.pushed
-          (IsWalked-block c.args.options.now c.args.pieces rest (environment_view at.env) at.parts c.in-Block.kind c.in-Block.body c.in-Block.at
-          c.in-Block.body_at c.in-Block.end_line (environment_view answer.after) answer.resolved walked
-          (rw c.as_slice.ensures at answer.ensures.block) answer.ensures.fit.1 answer.ensures.within.1);
-      fit = answer.ensures.fit.0;
-      defined = answer.ensures.within.0;
+    let walked = rw (steps, c.in-Block.is) at before.2 in
+    let answer = c.in_ok-after-in-Block in
+    let block = answer.ensures.block before.0 before.1 in record {
+      walked = (
+        block.0,
+        block.1,
+        rw c.in_ok-push-in-Block.ensures.pushed
+            (IsWalked-block c.args.options.now c.args.pieces rest before.0 at.parts c.in-Block.kind c.in-Block.body c.in-Block.at
+            c.in-Block.body_at c.in-Block.end_line block.0 answer.resolved walked (rw c.as_slice.ensures at block.2) answer.ensures.fit
+            (answer.ensures.within before.0 before.1 walked.stands)),
+      );
       count = let was = at.invariant.count in let gone = c.in-Some.ensures.steps.1 in let short = ap length steps in omega arith;
     }
 
 pub returns-clause-parts : goal.returns-clause-parts
 returns-clause-parts c =
     let at = c.loop-piece in
+    let before = at.invariant.walked in
     let none = c.in-None.ensures.steps in
     let empty : into_iter_items at.piece-iterator ≡ [] = nil_from_length (into_iter_items at.piece-iterator) (sym at.invariant.count ∙ none.0) in
-    IsWalked-end c.args.options.now c.args.pieces (environment_view at.env) at.parts (rw empty at at.invariant.walked)
+    IsWalked-end c.args.options.now c.args.pieces before.0 at.parts (rw empty at before.2)

@@ -1,5 +1,7 @@
 use Rattle.std.proofs.Common.{◌↔◌, drop}
 use Rattle.std.specs.List.{AllByRecursion}
+use Rattle.std.specs.declared.rc.Rc.{Rc}
+use Rattle.std.specs.Global.{Global}
 use Rattle.std.specs.Prelude.{is_some}
 use Rattle.lx_rules.specs.Blocks.{MayBeNamed}
 use Rattle.lx_rules.specs.declared.kept.KeptRule.{KeptRule}
@@ -7,5 +9,5 @@ use Rattle.lx_rules.proofs.finishing.have_tag_names.Given as goal
 
 abbrev pub invariant-loop-rule : goal.invariant-loop-rule
 invariant-loop-rule l =
-    AllByRecursion (λ (one : KeptRule). AllByRecursion (MayBeNamed l.names (is_some one.slash)) one.tags) (drop l.rule-index l.rules)
-    ↔ AllByRecursion (λ (one : KeptRule). AllByRecursion (MayBeNamed l.names (is_some one.slash)) one.tags) l.rules
+    AllByRecursion (λ (one : Rc KeptRule Global). AllByRecursion (MayBeNamed l.names (is_some one.value.slash)) one.value.tags) (drop l.rule-index l.held)
+    ↔ AllByRecursion (λ (one : Rc KeptRule Global). AllByRecursion (MayBeNamed l.names (is_some one.value.slash)) one.value.tags) l.held

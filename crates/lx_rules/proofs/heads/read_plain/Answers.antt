@@ -12,7 +12,8 @@ use Rattle.lx_rules.specs.Conditions.{room_under}
 use Rattle.lx_rules.specs.Keeping.{IsContextRead, IsHeadRead, IsRuleExpr, StopsHead}
 use Rattle.lx_rules.specs.Items.{as_rule}
 use Rattle.lx_exprs.specs.Defined.{is_built}
-use Rattle.lx_exprs.specs.Seen.{definitions_view, scope_view}
+use Rattle.lx_exprs.specs.Seen.{scope_view}
+use Rattle.lx_rules.specs.Seen.{known_definitions}
 use Rattle.lx_forms.specs.Seen.{lexemes_view}
 use Rattle.lx_rules.specs.declared.heads.Head.TheVariants as head
 use Rattle.lx_rules.proofs.HeadSteps.{StopsIn, behind_refused, context_read, head_part, head_refused, plain_read}
@@ -43,7 +44,7 @@ returns-in_ok-read-in-None-clause-read c = λ state holds.
     let options = c.args.block.options.now in
     let lexemes = lexemes_view c.args.block.lexemes in
     let known = c.args.known.now in
-    let definitions = definitions_view known.env.definitions in
+    let definitions = known_definitions known in
     let room = room_under known.conds (names_in c.args.conds.now) in
     let last = c.unwrap_or.ensures ∙ ap (λ slash. unwrap_or slash c.args.until) c.in-None.is in
     let read = subst (λ l. IsRead options lexemes definitions c.room.result c.args.head l c.in_ok-reading.reading) last
@@ -74,7 +75,7 @@ returns-in_ok-read-in-Some-clause-read c = λ state holds.
     c.scope-scope.ensures.seen given in
     subst (λ slash. IsHeadRead options lexemes state conds c.args.head slash c.args.until room (head.Plain c.in_ok-read-in-Some.read)) (sym c.in-Some.is)
     (context_read options lexemes known state holds conds c.args.head c.in-Some.slash c.args.until room c.in_ok-read-in-Some.read c.requires.star c.requires.dollar
-    (subst (λ room. IsContextRead options lexemes (definitions_view known.env.definitions) room c.args.head c.in-Some.slash c.args.until c.in_ok-read-in-Some.read)
+    (subst (λ room. IsContextRead options lexemes (known_definitions known) room c.args.head c.in-Some.slash c.args.until c.in_ok-read-in-Some.read)
     c.room.ensures.room known_so))
 
 pub returns-in_err-read-in-Some-clause-read : goal.returns-in_err-read-in-Some-clause-read

@@ -1,13 +1,12 @@
-use Rattle.std.proofs.Common.{◌≡◌, ◌∙◌, ◌++◌, ◌∷◌, ℕ, List, ap, sym, refl, get_or, Vec, Global, []}
-use Rattle.std.specs.Prelude.{Some, if◌then◌else◌}
-use Rattle.std.specs.List.{position_or_len}
-use Rattle.std.specs.Map.{keys_of}
+use Rattle.std.proofs.Common.{◌≡◌, ◌<◌, ◌∙◌, ℕ, List, Vec, Global, [], true, length, ap, sym, refl, subst, get_or}
+use Rattle.std.specs.Prelude.{Some, slice_get, if◌then◌else◌}
+use Rattle.std.specs.Map.{values_of}
 use Rattle.std.specs.Str.{bytes_eq}
+use Rattle.indexmap.specs.IndexMap.{set_value_at, with_value_at}
 use Rattle.lx_exprs.specs.Checks.{is_among}
 use Rattle.lx_rules.specs.declared.conditions.Conditions.{Conditions}
-use Rattle.lx_rules.specs.declared.conditions.Standing.{Standing}
-use Rattle.lx_rules.specs.Conditions.{cond_names, standing_of, standing_with}
-use Rattle.lx_rules.proofs.ConditionEntries.{add_conds-one, counted-one, found-insert, found_in, names-insert, names_in, number-insert, same_key}
+use Rattle.lx_rules.specs.Conditions.{cond_names, condition_view, kept_of, taken}
+use Rattle.lx_rules.proofs.ConditionEntries.{added_among, found-set, found_in, kept-taken, kept_found, names-set, names_in, number-name, number-value}
 use Rattle.lx_rules.proofs.conditions.Conditions.count.Goals as goal
 
 abbrev items : Vec ℕ Global → List ℕ
@@ -15,34 +14,39 @@ items key = key.items
 
 pub returns-clause-names : goal.returns-clause-names
 returns-clause-names c =
-    let entries = c.args.self.now.named.entries in
-    let seen = cond_names c.args.self.now in
-    let key = c.in_ok-name.name in
-    let standing = c.with-standing.result in
-    let named : key.items ≡ c.args.cond.now = c.in_ok-name.ensures.items in
-    ap (names_in items) c.in_ok-number.ensures.entries ∙ names-insert items key standing entries
-    ∙ ap (λ (name : List ℕ). if is_among name seen then seen else seen ++ name ∷ []) named ∙ sym (add_conds-one c.args.cond.now seen c.requires)
+    names-set items c.take.new.self c.number_of.new.self.named.entries c.in_ok-number.number ∙ c.in_ok-number.ensures.names
 
 pub returns-clause-number : goal.returns-clause-number
 returns-clause-number c =
-    let entries = c.args.self.now.named.entries in
-    let key = c.in_ok-name.name in
-    let standing = c.with-standing.result in
-    let named : key.items ≡ c.args.cond.now = c.in_ok-name.ensures.items in
-    ap (λ number. get_or (names_in items c.insert_full.new.self.entries) number []) c.in_ok-number.ensures.index
-    ∙ ap (λ after. get_or (names_in items after) (position_or_len (same_key items key) (keys_of entries)) []) c.in_ok-number.ensures.entries
-    ∙ number-insert items key standing entries ∙ named
+    let entries = c.number_of.new.self.named.entries in
+    let number = c.in_ok-number.number in
+    let cond = c.args.cond.now in
+    let among : is_among cond (names_in items entries) ≡ true =
+    ap (is_among cond) c.in_ok-number.ensures.names ∙ added_among cond (cond_names c.args.self.now) c.requires in
+    ap (λ l. get_or l number []) (names-set items c.take.new.self entries number) ∙ ap (λ n. get_or (names_in items entries) n []) c.in_ok-number.ensures.number
+    ∙ number-name items cond entries among
 
-pub returns-clause-standing : goal.returns-clause-standing
-returns-clause-standing c = λ other.
-    let entries = c.args.self.now.named.entries in
-    let key = c.in_ok-name.name in
-    let standing = c.with-standing.result in
-    let named : key.items ≡ c.args.cond.now = c.in_ok-name.ensures.items in
-    let stands : standing ≡ standing_with (standing_of c.args.self.now c.args.cond.now) c.args.rule =
-    c.with-standing.ensures ∙ ap (λ s. standing_with s c.args.rule) c.standing.ensures in
-    let after : Conditions = record { named = c.insert_full.new.self; shared = c.args.self.now.shared } in
-    counted-one c.args.self.now after c.args.cond.now c.args.rule c.requires refl other
-    (ap (found_in items other) c.in_ok-number.ensures.entries ∙ found-insert items key standing other entries
-    ∙ ap (λ (s : Standing). if bytes_eq other key.items then Some s else found_in items other entries) stands
-    ∙ ap (λ (name : List ℕ). if bytes_eq other name then Some (standing_with (standing_of c.args.self.now c.args.cond.now) c.args.rule) else found_in items other entries) named)
+pub returns-clause-within : goal.returns-clause-within
+returns-clause-within c =
+    let number = c.in_ok-number.number in
+    subst (λ (l : List (List ℕ)). number < length l) (sym (names-set items c.take.new.self c.number_of.new.self.named.entries number))
+    c.in_ok-number.ensures.within
+
+pub returns-clause-kept : goal.returns-clause-kept
+returns-clause-kept c = λ other.
+    let middle = c.number_of.new.self in
+    let entries = middle.named.entries in
+    let number = c.in_ok-number.number in
+    let cond = c.args.cond.now in
+    let first = c.index_mut.result.now in
+    let held = c.take.new.self in
+    let after : Conditions = record { named = with_value_at middle.named number held; shared = middle.shared } in
+    let among : is_among cond (names_in items entries) ≡ true =
+    ap (is_among cond) c.in_ok-number.ensures.names ∙ added_among cond (cond_names c.args.self.now) c.requires in
+    let found : found_in items cond entries ≡ Some first =
+    sym (number-value items cond entries) ∙ ap (slice_get (values_of entries)) (sym c.in_ok-number.ensures.number) ∙ c.index_mut.ensures.value in
+    let takes : condition_view held ≡ taken c.args.place c.args.rule (kept_of middle cond) =
+    c.in_ok-take.ensures ∙ ap (taken c.args.place c.args.rule) (sym (kept_found middle cond first c.requires found)) in
+    kept-taken middle after cond c.requires refl c.args.place c.args.rule held takes other
+    (ap (λ n. found_in items other (set_value_at entries n held)) c.in_ok-number.ensures.number ∙ found-set items held cond entries among other)
+    ∙ ap (λ kept. if bytes_eq other cond then taken c.args.place c.args.rule kept else kept) (c.in_ok-number.ensures.kept other)

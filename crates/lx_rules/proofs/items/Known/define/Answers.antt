@@ -10,7 +10,8 @@ use Rattle.lx_exprs.specs.Expressions.{ExpressionChecks, IsRead}
 use Rattle.lx_exprs.specs.Defined.{IsDefined, definition_of, whole_room}
 use Rattle.lx_exprs.specs.Seen.{definition_view, definitions_view}
 use Rattle.lx_forms.specs.Seen.{lexemes_view}
-use Rattle.lx_rules.proofs.ItemSteps.{define_refused, define_taken, read_known}
+use Rattle.lx_rules.specs.Seen.{known_definitions, used_definitions}
+use Rattle.lx_rules.proofs.ItemSteps.{define_refused, define_taken, definition_of-behind, read_known}
 use Rattle.lx_rules.proofs.items.Known.define.Goals as goal
 
 pub returns-in_err-reading-clause-taken : goal.returns-in_err-reading-clause-taken
@@ -50,11 +51,20 @@ returns-clause-taken c = λ state holds.
       groups = counted.groups_is;
       term = c.in_ok-into_kept.ensures.term read.meaning read.stands.value;
     } in
-    define_taken c.args.block.options.now lexemes c.args.self.now state holds c.args.name c.args.from c.args.until _ given reading none read defined
-    (subst (λ (l : Lexeme). definitions_view c.add.new.self ≡ definitions_view c.args.self.now.env.definitions ++ definition_view l.text given ∷ []) c.at-name.ensures c.in_ok-add.ensures.added)
-    (c.in_ok-add.ensures.fit holds.fit
+    define_taken c.args.block.options.now lexemes c.args.self.now state holds c.args.name c.args.from c.args.until c.add.new.self given reading none read defined
+    (subst (λ (l : Lexeme). definitions_view c.add.new.self ≡ definitions_view c.args.self.now.own ++ definition_view l.text given ∷ []) c.at-name.ensures c.in_ok-add.ensures.added)
+    (c.in_ok-add.ensures.fit holds.fit.2
     (fits_counted 1 c.in_ok-into_kept.field-0 reading.value.size reading.value.tags (length reading.tags + 2 * reading.value.groups)
     (let tags = read.stands.tags in let all = ap (λ (l : List Tag). length l) tags in let groups = counted.groups_is in
     let count = read.stands.count in let counts = counted.tags_is in omega (arith, all, groups, count, counts))
     (c.in_ok-into_kept.ensures.kept c.in_ok-reading.ensures.bounded)))
-    refl refl refl refl
+
+pub add-requires : goal.add-requires
+add-requires c =
+    let name = c.at-name.result.text.now in
+    let known = c.args.self.now in
+    let none : definition_of (known_definitions known) name ≡ None =
+    ap (λ definitions. definition_of definitions name) (sym c.scope-scope.ensures.seen)
+    ∙ sym c.get.ensures.found ∙ ap (option_map (λ kept. definition_view name kept.now)) c.in_default.is in
+    definition_of-behind (definitions_view known.before.definitions) (definitions_view known.own) name
+    (definition_of-behind (used_definitions known.is_use known.before) (definitions_view known.before.definitions ++ definitions_view known.own) name none)

@@ -1,0 +1,63 @@
+//! The options of a case.
+
+use anyhow::{Result, bail};
+use lx_base::{EmptyPolicy, Enc, FileName, Job, Options, SurPolicy};
+use std::alloc::Global;
+
+/// The options that hold where a case names none.
+fn usual_options(alloc: Global) -> Options {
+    Options {
+        job: Job::Compile {
+            file: FileName::from_string(String::new(alloc)),
+            to: None,
+        },
+        lines: false,
+        conds: false,
+        states: false,
+        tags: false,
+        captures: false,
+        posix: false,
+        custom: false,
+        enc: Enc::Byte,
+        surrogates: SurPolicy::Ignore,
+        empty: EmptyPolicy::MatchEmpty,
+        dir: None,
+    }
+}
+
+/// The options of some words.
+pub fn read_options(alloc: Global, words: &str) -> Result<Options> {
+    let mut options = usual_options(alloc);
+    for word in words.split_whitespace() {
+        set_option(&mut options, word)?;
+    }
+    Ok(options)
+}
+
+fn set_option(options: &mut Options, word: &str) -> Result<()> {
+    match word {
+        "-c" => options.conds = true,
+        "-T" => options.tags = true,
+        "-P" => options.posix = true,
+        "--captures" => options.captures = true,
+        "--input=custom" => options.custom = true,
+        _ => return set_choice(options, word),
+    }
+    Ok(())
+}
+
+/// Sets an encoding or a policy.
+fn set_choice(options: &mut Options, word: &str) -> Result<()> {
+    match word {
+        "-8" => options.enc = Enc::Utf8,
+        "-x" => options.enc = Enc::Utf16,
+        "-u" => options.enc = Enc::Utf32,
+        "-w" => options.enc = Enc::Ucs2,
+        "--empty-class=match-none" => options.empty = EmptyPolicy::MatchNone,
+        "--empty-class=error" => options.empty = EmptyPolicy::Error,
+        "--encoding-policy=substitute" => options.surrogates = SurPolicy::Substitute,
+        "--encoding-policy=fail" => options.surrogates = SurPolicy::Fail,
+        _ => bail!("no option"),
+    }
+    Ok(())
+}

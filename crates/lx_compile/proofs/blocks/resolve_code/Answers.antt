@@ -1,0 +1,61 @@
+use Rattle.std.proofs.Common.{refl, rules}
+use Rattle.std.proofs.lemmas.Result.{err_from_is_err_and}
+use Rattle.lx_base.specs.declared.blocks.BlockKind.TheVariants.{Code}
+use Rattle.lx_rules.specs.Blocks.{of_scanners}
+use Rattle.lx_compile.specs.Blocks.{IsRead, unsupported}
+use Rattle.lx_compile.proofs.BlockStops.{StopsAt-items, StopsAt-rules, StopsAt-tokens}
+use Rattle.lx_compile.proofs.blocks.resolve_code.Goals as goal
+
+pub resolve-requires-clause-kind : goal.resolve-requires-clause-kind
+resolve-requires-clause-kind c = of_scanners
+
+pub returns-in_err-tokens-clause-block : goal.returns-in_err-tokens-clause-block
+returns-in_err-tokens-clause-block c = λ environment represents.
+    let p = err_from_is_err_and c.from_residual.result c.from_residual.ensures.1 in
+    rw (p.1, p.2)
+    (StopsAt-tokens c.args.options.now environment Code c.args.body.now c.args.at c.args.start refl c.in_err-tokens.field-0.0 c.in_err-tokens.ensures)
+
+pub returns-in_err-tree-clause-block : goal.returns-in_err-tree-clause-block
+returns-in_err-tree-clause-block c = λ environment represents.
+    let p = err_from_is_err_and c.from_residual-in_err-tree.result c.from_residual-in_err-tree.ensures.1 in
+    rw (p.1, p.2)
+    (StopsAt-items c.args.options.now environment Code c.args.body.now c.args.at c.args.start refl
+    c.in_ok-tokens.tokens c.in_err-tree.field-0.0 c.in_ok-tokens.ensures c.in_err-tree.ensures)
+
+pub returns-in_err-after-clause-block : goal.returns-in_err-after-clause-block
+returns-in_err-after-clause-block c = λ environment represents.
+    let p = err_from_is_err_and c.from_residual-in_err-after.result c.from_residual-in_err-after.ensures.1 in
+    let read : IsRead c.args.body.now c.args.start c.in_ok-tokens.tokens c.in_ok-tree.tree.items =
+    record { tokens_are = c.in_ok-tokens.ensures; items_are = c.in_ok-tree.ensures } in
+    rw (p.1, p.2)
+    (StopsAt-rules c.args.options.now environment Code c.args.body.now c.args.at c.args.start refl
+    c.in_ok-tokens.tokens c.in_ok-tree.tree.items c.in_err-after.field-0.0 read (c.in_err-after.ensures.resolves environment represents))
+
+pub returns-then-not-are_supported-clause-block : goal.returns-then-not-are_supported-clause-block
+returns-then-not-are_supported-clause-block c = λ environment represents.
+    let supported = c.are_supported.ensures in
+    let read : IsRead c.args.body.now c.args.start c.in_ok-tokens.tokens c.in_ok-tree.tree.items =
+    record { tokens_are = c.in_ok-tokens.ensures; items_are = c.in_ok-tree.ensures } in
+    let resolves = c.in_ok-after.ensures.resolves environment represents in
+    unsupported resolves.0 c.in_ok-after.resolved refl
+    (record { tokens = c.in_ok-tokens.tokens; items = c.in_ok-tree.tree.items; read = read; resolves = resolves.2 })
+    (λ are. let is = supported.1 are in search rules) refl
+
+pub returns-clause-within : goal.returns-clause-within
+returns-clause-within c = λ environment represents stands.
+    (c.in_ok-after.ensures.well_formed (λ same. cc) environment represents stands).scanners
+
+pub returns-clause-block : goal.returns-clause-block
+returns-clause-block c = λ environment represents.
+    let supported = c.are_supported.ensures in
+    let read : IsRead c.args.body.now c.args.start c.in_ok-tokens.tokens c.in_ok-tree.tree.items =
+    record { tokens_are = c.in_ok-tokens.ensures; items_are = c.in_ok-tree.ensures } in
+    let resolves = c.in_ok-after.ensures.resolves environment represents in (
+      resolves.0,
+      resolves.1,
+      record {
+        kind_is = refl;
+        resolves = record { tokens = c.in_ok-tokens.tokens; items = c.in_ok-tree.tree.items; read = read; resolves = resolves.2 };
+        supported = supported.0 (search rules);
+      },
+    )

@@ -1,0 +1,141 @@
+//! What is known before the items of a block.
+ghost use Rattle.std.specs.Prelude.{◌≡◌, IfOk, MatchResult, None};
+ghost use Rattle.lx_base.specs.declared.blocks.BlockKind.TheVariants.{Code, Rules, Use};
+ghost use Rattle.lx_exprs.specs.Seen.{IsStop};
+ghost use Rattle.lx_rules.specs.Blocks.{HasRules, opening_fault};
+ghost use Rattle.lx_rules.specs.Environments.{Environment};
+ghost use Rattle.lx_rules.specs.Opening.{IsOpened};
+ghost use Rattle.lx_rules.specs.Represents.{Represents};
+ghost use Rattle.lx_rules.specs.Seen.{rules_view};
+
+use crate::conditions::Conditions;
+use crate::environment::{Env, Settings};
+use crate::items::Known;
+use crate::kept::KeptRule;
+use crate::resolved::Act;
+use lx_base::{BlockKind, ByteText, Fault, Memory, Pos, Stop};
+use lx_exprs::definitions::Definitions;
+use std::alloc::Global;
+use std::rc::Rc;
+
+/// A copy of a text, if there is one.
+fn text_copy(alloc: Global, text: &Option<ByteText>) -> Result<Option<ByteText>, Memory>
+    ensures { IfOk result (λ copy. copy ≡ text.now) }
+{
+    match text {
+        Some(text) => Ok(Some(ByteText::copy_of(alloc, text.as_slice())?)),
+        None => Ok(None),
+    }
+}
+
+/// Copies of what rules do.
+fn act_copies(alloc: Global, acts: &[Act]) -> Result<Vec<Act>, Memory>
+    ensures { IfOk result (λ copies. copies.items ≡ acts.now) }
+{
+    let mut copies = Vec::new(alloc);
+    for act in acts {
+        copies.push(Act {
+            number: act.number,
+            goes: text_copy(alloc, &act.goes)?,
+            code: text_copy(alloc, &act.code)?,
+            at: act.at,
+        })?;
+    }
+    Ok(copies)
+}
+
+/// The same rules, which are shared.
+fn shared_rules(alloc: Global, rules: &Vec<Rc<KeptRule>>) -> Result<Vec<Rc<KeptRule>>, Memory>
+    ensures { IfOk result (λ shared. rules_view shared ≡ rules_view rules.now) }
+{
+    let mut shared = Vec::new(alloc);
+    let held = rules.as_slice();
+    for rule in held {
+        shared.push(rule.clone()?)?;
+    }
+    Ok(shared)
+}
+
+/// What is known before the items of a block that leaves what it knows.
+fn open_code(alloc: Global, env: Env) -> Known
+    requires { (environment : Environment) × Represents env environment }
+    ensures { (environment : Environment) → Represents env environment → IsOpened Code environment result }
+{
+    let Env {
+        definitions,
+        settings,
+        kept,
+    } = env;
+    Known {
+        before: Env {
+            definitions: Definitions::new(alloc),
+            settings: Settings::new(alloc),
+            kept,
+        },
+        is_use: false,
+        own: definitions,
+        settings,
+        rules: Vec::new(alloc),
+        acts: Vec::new(alloc),
+        conds: Conditions::new(alloc),
+    }
+}
+
+/// What is known before the items of a rules block.
+fn open_rules(alloc: Global, env: Env) -> Known
+    requires { (environment : Environment) × Represents env environment }
+    ensures { (environment : Environment) → Represents env environment → IsOpened Rules environment result }
+{
+    Known {
+        before: env,
+        is_use: false,
+        own: Definitions::new(alloc),
+        settings: Settings::new(alloc),
+        rules: Vec::new(alloc),
+        acts: Vec::new(alloc),
+        conds: Conditions::new(alloc),
+    }
+}
+
+/// What is known before the items of a block that uses the last rules block.
+fn open_use(alloc: Global, env: Env, at: Pos) -> Result<Known, Stop>
+    requires { (environment : Environment) × Represents env environment }
+    ensures { (environment : Environment) → Represents env environment → MatchResult result
+        (λ known. (opening_fault Use at environment.kept ≡ None) × IsOpened Use environment known)
+        (IsStop (opening_fault Use at environment.kept)) }
+{
+    let Some(held) = &env.kept else {
+        return Err(Stop::Fault(Fault::NoRulesToUse { at }));
+    };
+    let settings = held.settings.over(alloc, &env.settings)?;
+    let rules = shared_rules(alloc, &held.rules)?;
+    let acts = act_copies(alloc, held.acts.as_slice())?;
+    let conds = held.conds.copy(alloc)?;
+    Ok(Known {
+        before: env,
+        is_use: true,
+        own: Definitions::new(alloc),
+        settings,
+        rules,
+        acts,
+        conds,
+    })
+}
+
+/// What is known before the items of a block of this kind, whose opener stands at this place. A block that uses the last rules
+/// block is refused where there is none.
+pub(crate) fn open(alloc: Global, kind: BlockKind, env: Env, at: Pos) -> Result<Known, Stop>
+    requires kind { HasRules kind }
+    requires env { (environment : Environment) × Represents env environment }
+    ensures { (environment : Environment) → Represents env environment → MatchResult result
+        (λ known. (opening_fault kind at environment.kept ≡ None) × IsOpened kind environment known)
+        (IsStop (opening_fault kind at environment.kept)) }
+{
+    if kind == BlockKind::Rules {
+        return Ok(open_rules(alloc, env));
+    }
+    if kind == BlockKind::Use {
+        return open_use(alloc, env, at);
+    }
+    Ok(open_code(alloc, env))
+}
