@@ -31,7 +31,7 @@ use Rattle.lx_exprs.specs.FaultPlaces.{StandsIn}
 use Rattle.lx_compile.specs.Places.{StandsInFirst, StopsInFirst}
 use Rattle.lx_compile.specs.declared.parts.Part.{Part}
 use Rattle.lx_compile.specs.declared.parts.Part.TheVariants.{Outside, Block}
-use Rattle.lx_rules.proofs.FaultPlaces.{block_fault-place}
+use Rattle.lx_rules.proofs.Blocks.FaultPlaces.{block_fault-place}
 use Rattle.lx_forms.proofs.FilePlaces.{place_after-file}
 use Rattle.lx_compile.proofs.PiecePlaces.{IsInFile, IsPieceInFile, in_file-cut}
 

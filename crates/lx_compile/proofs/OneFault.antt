@@ -36,7 +36,7 @@ use Rattle.lx_compile.specs.Parts.{AreParts, HasTooLarge, IsFaultAmong, IsKernel
 use Rattle.lx_compile.specs.declared.parts.Part.{Part}
 use Rattle.lx_compile.specs.declared.parts.Part.TheVariants.{Outside, Block}
 use Rattle.lx_rules.specs.Likeness.{AreAlike, HaveSameRules}
-use Rattle.lx_rules.proofs.OneItem.{IsBlockFault-one, Resolves-one, resolves_or_not}
+use Rattle.lx_rules.proofs.Blocks.OneItem.{IsBlockFault-one, Resolves-one, resolves_or_not}
 
 -- ---- syntax
 

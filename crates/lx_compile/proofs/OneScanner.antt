@@ -15,8 +15,8 @@ use Rattle.lx_rules.specs.Rules.{RuleOf}
 use Rattle.lx_rules.specs.declared.resolved.Act.{Act}
 use Rattle.lx_rules.specs.declared.resolved.Resolved.{Resolved}
 use Rattle.lx_rules.specs.declared.resolved.Scanner.{Scanner}
-use Rattle.lx_rules.proofs.ListForms.{body_lists}
-use Rattle.lx_rules.proofs.SoundRules.{AreSound, goes_sound}
+use Rattle.lx_rules.proofs.CondSets.ListForms.{body_lists}
+use Rattle.lx_rules.proofs.Rules.SoundRules.{AreSound, goes_sound}
 use Rattle.lx_compile.specs.Blocks.{AreSupported, IsResolvedBody, IsSupported}
 
 -- a scanner without a name stands where conditions are not in use

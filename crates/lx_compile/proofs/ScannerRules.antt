@@ -30,11 +30,11 @@ use Rattle.lx_rules.specs.declared.resolved.Act.{Act}
 use Rattle.lx_rules.specs.declared.resolved.Config.{Config}
 use Rattle.lx_rules.specs.declared.resolved.Resolved.{Resolved}
 use Rattle.lx_rules.specs.declared.resolved.Scanner.{Scanner}
-use Rattle.lx_rules.proofs.AllowedSettings.{no_clash}
-use Rattle.lx_rules.proofs.BuiltScanners.{all_of_scanner}
-use Rattle.lx_rules.proofs.EndRules.{same_end}
-use Rattle.lx_rules.proofs.ScannerFits.{scanners_checked}
-use Rattle.lx_rules.proofs.ScannerLimits.{or_none, scanner_ended}
+use Rattle.lx_rules.proofs.Spellings.AllowedSettings.{no_clash}
+use Rattle.lx_rules.proofs.ScannerSets.BuiltScanners.{all_of_scanner}
+use Rattle.lx_rules.proofs.Rules.EndRules.{same_end}
+use Rattle.lx_rules.proofs.ScannerSets.ScannerFits.{scanners_checked}
+use Rattle.lx_rules.proofs.ScannerSets.ScannerLimits.{or_none, scanner_ended}
 use Rattle.lx_compile.specs.Blocks.{AreSupported, IsSupported, is_beyond}
 use Rattle.lx_compile.specs.Output.{actions_of}
 use Rattle.lx_compile.specs.Emittable.{CanBeEmitted}

@@ -16,8 +16,8 @@ use Rattle.lx_rules.specs.Blocks.{StandsUnder, before_all, behind_block, of_scan
 use Rattle.lx_rules.specs.Environments.{Environment, first_environment}
 use Rattle.lx_forms.specs.Lexemes.{lexemes_of}
 use Rattle.lx_rules.specs.declared.resolved.Resolved.{Resolved}
-use Rattle.lx_rules.proofs.BlockVerdicts.{body_expressions, verdict_among}
-use Rattle.lx_rules.proofs.Readiness.{stands_ready}
+use Rattle.lx_rules.proofs.Blocks.BlockVerdicts.{body_expressions, verdict_among}
+use Rattle.lx_rules.proofs.Blocks.Readiness.{stands_ready}
 use Rattle.lx_split.specs.Pieces.{Split, pieces_of}
 use Rattle.lx_split.specs.declared.pieces.SourcePiece.{SourcePiece}
 use Rattle.lx_split.specs.declared.pieces.SourcePiece.TheVariants as piece

@@ -23,7 +23,7 @@ use Rattle.lx_compile.specs.Parts.{AreParts, IsFaultAmong, StopsAmong}
 use Rattle.lx_compile.specs.Emittable.{IsNearPiece, IsEmittable, IsEmittablePart}
 use Rattle.lx_compile.specs.declared.parts.Part.{Part}
 use Rattle.lx_compile.specs.declared.parts.Part.TheVariants.{Outside, Block}
-use Rattle.lx_rules.proofs.AllowedSettings.{resolved-differ, resolved-spelled, stands-settings}
+use Rattle.lx_rules.proofs.Spellings.AllowedSettings.{resolved-differ, resolved-spelled, stands-settings}
 use Rattle.lx_compile.proofs.OneScanner.{one_scanner}
 use Rattle.lx_compile.proofs.ScannerRules.{can_be_emitted}
 

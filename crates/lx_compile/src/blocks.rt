@@ -1,7 +1,9 @@
 //! One block of a source.
-ghost use Rattle.std.specs.Prelude.{◌≡◌, ◌↔◌, IfOk, IsTrue, MatchResult, map};
+ghost use Rattle.std.specs.Prelude.{◌≡◌, ◌≢◌, ◌↔◌, IfOk, IsTrue, MatchResult, Some, map};
 ghost use Rattle.std.specs.List.{AllByRecursion, list_any};
 ghost use Rattle.lx_base.specs.declared.blocks.BlockKind.TheVariants.{Code};
+ghost use Rattle.lx_base.specs.declared.faults.Fault.TheVariants.{Unsupported};
+ghost use Rattle.lx_base.specs.declared.faults.Stop.TheVariants as stop;
 ghost use Rattle.lx_rules.specs.Blocks.{StandsUnder};
 ghost use Rattle.lx_rules.specs.Environments.{Environment};
 ghost use Rattle.lx_rules.specs.FitScanners.{FitsLimits};
@@ -67,40 +69,14 @@ fn are_supported(resolved: &Resolved) -> bool
     true
 }
 
-/// What a block of code resolves to, and what holds behind it.
-fn resolve_code(
-    alloc: Global,
-    body: &[u8],
-    at: Pos,
-    start: Pos,
-    env: Env,
-    options: &Options,
-) -> Result<(Env, Resolved), Stop>
-    requires near { IsNear body.now start }
-    requires env { (environment : Environment) × Represents env environment }
-    ensures fit { IfOk result (λ answer. FitsLimits answer.1) }
-    ensures within { (environment : Environment) → Represents env environment → StandsUnder options.now environment
-        → IfOk result (λ answer. AllByRecursion (IsScannerWithin options.now.enc) answer.1.scanners) }
-    ensures block { (environment : Environment) → Represents env environment → MatchResult result
-        (λ answer. (after : Environment) × Represents answer.0 after × IsBlock options.now environment Code body.now at start after answer.1)
-        (StopsAt options.now environment Code body.now at start) }
+/// Refuses a block of another kind than those that are compiled so far, at its opener.
+fn check_kind(kind: BlockKind, at: Pos) -> Result<(), Stop>
+    ensures { MatchResult result (λ _. kind ≡ Code) (λ refused. (kind ≢ Code) × (refused ≡ stop.Fault (Unsupported (Some at)))) }
 {
-    let tokens = tokens(alloc, body, start)?;
-    let tree = parse(alloc, body, &tokens, BlockKind::Code, start)?;
-    let (after, resolved) = resolve(
-        alloc,
-        body,
-        &tokens,
-        &tree,
-        BlockKind::Code,
-        at,
-        env,
-        options,
-    )?;
-    if !are_supported(&resolved) {
+    if kind != BlockKind::Code {
         return Err(Stop::Fault(Fault::Unsupported { at: Some(at) }));
     }
-    Ok((after, resolved))
+    Ok(())
 }
 
 /// What a block resolves to, and what holds behind it.
@@ -125,8 +101,21 @@ pub(crate) fn resolve_block(
         (λ answer. (after : Environment) × Represents answer.0 after × IsBlock options.now environment kind body.now at start after answer.1)
         (StopsAt options.now environment kind body.now at start) }
 {
-    if kind != BlockKind::Code {
+    check_kind(kind, at)?;
+    let tokens = tokens(alloc, body, start)?;
+    let tree = parse(alloc, body, &tokens, BlockKind::Code, start)?;
+    let (after, resolved) = resolve(
+        alloc,
+        body,
+        &tokens,
+        &tree,
+        BlockKind::Code,
+        at,
+        env,
+        options,
+    )?;
+    if !are_supported(&resolved) {
         return Err(Stop::Fault(Fault::Unsupported { at: Some(at) }));
     }
-    resolve_code(alloc, body, at, start, env, options)
+    Ok((after, resolved))
 }

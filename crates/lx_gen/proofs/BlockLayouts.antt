@@ -1,17 +1,17 @@
 -- Which blocks a layout has, where they stand, and that they serve the automaton.
 pub mod AcceptLoops
-pub mod BalancedTrees
+pub mod SplitTrees
 pub mod BlockLoops
 pub mod FirstAccepts
-pub mod FirstPlaces
 pub mod LayoutLengths
 pub mod LayoutPlaces
 pub mod LayoutServes
+pub mod LayoutTrees
 pub mod SplitLoops
 pub mod Splits
 pub mod StandingCodes
 pub mod TreeCodes
-pub mod TreeHalves
+pub mod TreeExamples
 pub mod TreeLoops
 pub mod ClassLists
 pub mod ClassLoops

@@ -1,5 +1,7 @@
 pub mod Operations
 pub mod Runs
 pub mod BlockLayouts
+pub mod Carrying
 pub mod Validity
 pub mod Rules
+pub mod Supplied

@@ -9,11 +9,11 @@ pub mod CarriedSteps
 pub mod CheckedCarried
 pub mod DottedCarried
 pub mod EndedCarried
-pub mod KnownStandings
 pub mod PairsCarried
 pub mod RunMachines
 pub mod Matches
 pub mod Simulation
 pub mod SlashValues
+pub mod TestedRuns
 pub mod TracedStretches
 pub mod PartialRuns

@@ -1,5 +1,5 @@
 -- Examples of layouts, of sequences, and of runs.
-use Rattle.std.specs.Prelude.{◌≡◌, ℕ, List, [], ◌∷◌, Some, None, false, true, length, map}
+use Rattle.std.specs.Prelude.{◌≡◌, ℕ, zero, suc, List, [], ◌∷◌, Option, Some, None, false, true, length, map}
 use Rattle.lx_auto.specs.Examples.{dotted}
 use Rattle.lx_auto.specs.declared.automaton.Auto.{Auto}
 use Rattle.lx_auto.specs.declared.ops.Op.TheVariants as act
@@ -10,23 +10,27 @@ use Rattle.lx_ccode.specs.declared.piece.Stmt.TheVariants.{Accept, Backup, Code,
 use Rattle.lx_ccode.specs.Machine.{by_rule, no_rule, tag_offset}
 use Rattle.lx_ccode.specs.Runs.{Ended}
 use Rattle.lx_gen.specs.Endings.{Ending}
-use Rattle.lx_gen.specs.Layout.{front_blocks, layout, numbered}
+use Rattle.lx_gen.specs.Layout.{EachTree, front_blocks, layout, numbered}
 use Rattle.lx_gen.specs.ParallelCopies.{sequentialized}
 use Rattle.lx_gen.specs.Starts.{run_with}
-use Rattle.lx_gen.specs.TestTrees.{balanced}
-use Rattle.lx_gen.specs.TransitionClasses.{Stretch}
+use Rattle.lx_gen.specs.TestTrees.{IsTreeOf, TestTree, fork, leaf, test}
+use Rattle.lx_gen.specs.TransitionClasses.{Split}
 
 -- each rule has the tag `t`, and the action `a`
 abbrev pub tagged : ℕ → Ending
 tagged rule = record { tags = (116 ∷ []) ∷ []; slash = None; groups = 0; goes_to = None; action = Some (97 ∷ []); line = None }
 
--- The layout of the automaton of `[a-cx-z] ("." [a-cx-z])* @t` for bytes. The two ranges of state 0 are one class; units behind the
--- small letters are tested first, and others in block 1. State 1 stands from block 3 on: a dot, on which it is saved, and the end in it.
--- Then come the fallback, what it does for rule 1, and the end of rule 1.
+-- Trees of tests for the automaton of `[a-cx-z] ("." [a-cx-z])* @t` for bytes. In state 0 the units behind 96 are parted behind 119.
+abbrev pub dotted_trees : (number : ℕ) → TestTree (Option ℕ)
+dotted_trees zero = test 96 None (fork 119 (test 99 (Some 0) (leaf None)) (test 122 (Some 0) (leaf None)))
+dotted_trees (suc number) = test 45 None (test 46 (Some 0) (leaf None))
+
+-- The layout by them. The two ranges of state 0 are one class; the units from 97 up to 119 are tested in block 1. State 1 stands from block
+-- 3 on: a dot, on which it is saved, and the end in it. Then come the fallback, what it does for rule 1, and the end of rule 1.
 abbrev pub dotted_blocks : List (List Stmt)
 dotted_blocks =
-    (Peek ∷ IfUnit 122 1 ∷ Goto 6 ∷ [])
-    ∷ (IfUnit 96 6 ∷ IfUnit 99 2 ∷ IfUnit 119 6 ∷ Goto 2 ∷ [])
+    (Peek ∷ IfUnit 96 6 ∷ IfUnit 119 1 ∷ IfUnit 122 2 ∷ Goto 6 ∷ [])
+    ∷ (IfUnit 99 2 ∷ Goto 6 ∷ [])
     ∷ (Skip ∷ Goto 3 ∷ [])
     ∷ (Peek ∷ IfUnit 45 5 ∷ IfUnit 46 4 ∷ Goto 5 ∷ [])
     ∷ (Backup ∷ Accept 1 ∷ Set 1 ∷ Skip ∷ Goto 0 ∷ [])
@@ -53,6 +57,10 @@ any_then = record {
   mregs = 0;
 }
 
+abbrev pub any_trees : (number : ℕ) → TestTree (Option ℕ)
+any_trees zero = leaf (Some 0)
+any_trees (suc number) = test 96 None (test 122 (Some 0) (leaf None))
+
 abbrev pub any_blocks : List (List Stmt)
 any_blocks =
     (Skip ∷ Goto 1 ∷ [])
@@ -65,36 +73,57 @@ any_blocks =
 abbrev pub untagged : ℕ → Ending
 untagged rule = record { tags = []; slash = None; groups = 0; goes_to = None; action = Some (97 ∷ []); line = None }
 
+-- the layouts stand, and their trees are trees of the tests of the states
 pub record LayoutsStand : Type 0 where
-  pub dotted : layout tagged 255 dotted 0 ≡ dotted_blocks
-  pub any : layout untagged 255 any_then 0 ≡ any_blocks
+  pub dotted_stands : layout tagged dotted_trees dotted 0 ≡ dotted_blocks
+  pub dotted_are : EachTree IsTreeOf 255 dotted_trees 0 dotted.states
+  pub any_stands : layout untagged any_trees any_then 0 ≡ any_blocks
+  pub any_are : EachTree IsTreeOf 255 any_trees 0 any_then.states
 
 -- units are of class 0 up to 10, of class 1 up to 20, and so on; behind the last of seven tests they are of class 7
-abbrev pub seven : List Stretch
-seven =
-    record { greatest = 10; class = Some 0 } ∷ record { greatest = 20; class = Some 1 } ∷ record { greatest = 30; class = Some 2 }
-    ∷ record { greatest = 40; class = Some 3 } ∷ record { greatest = 50; class = Some 4 } ∷ record { greatest = 60; class = Some 5 }
-    ∷ record { greatest = 70; class = Some 6 } ∷ []
+abbrev pub seven : Split
+seven = record {
+  tests =
+      record { greatest = 10; class = Some 0 } ∷ record { greatest = 20; class = Some 1 } ∷ record { greatest = 30; class = Some 2 }
+      ∷ record { greatest = 40; class = Some 3 } ∷ record { greatest = 50; class = Some 4 } ∷ record { greatest = 60; class = Some 5 }
+      ∷ record { greatest = 70; class = Some 6 } ∷ [];
+  last = Some 7;
+}
+
+abbrev pub seven_tree : TestTree (Option ℕ)
+seven_tree =
+    fork 40 (test 10 (Some 0) (test 20 (Some 1) (test 30 (Some 2) (leaf (Some 3)))))
+    (test 50 (Some 4) (test 60 (Some 5) (test 70 (Some 6) (leaf (Some 7)))))
 
 -- letters, digits and `_` are of class 0, and others of none
-abbrev pub letters : List Stretch
-letters =
-    record { greatest = 47; class = None } ∷ record { greatest = 57; class = Some 0 } ∷ record { greatest = 64; class = None }
-    ∷ record { greatest = 90; class = Some 0 } ∷ record { greatest = 94; class = None } ∷ record { greatest = 95; class = Some 0 }
-    ∷ record { greatest = 96; class = None } ∷ record { greatest = 122; class = Some 0 } ∷ []
+abbrev pub letters : Split
+letters = record {
+  tests =
+      record { greatest = 47; class = None } ∷ record { greatest = 57; class = Some 0 } ∷ record { greatest = 64; class = None }
+      ∷ record { greatest = 90; class = Some 0 } ∷ record { greatest = 94; class = None } ∷ record { greatest = 95; class = Some 0 }
+      ∷ record { greatest = 96; class = None } ∷ record { greatest = 122; class = Some 0 } ∷ [];
+  last = None;
+}
 
--- Of the seven each unit needs five tests at most, and the block for those up to 30 comes behind the first one. A small letter needs
--- three of the eight, and what stands before the letters at most three.
+abbrev pub letters_tree : TestTree (Option ℕ)
+letters_tree =
+    test 47 None (fork 94 (fork 64 (test 57 (Some 0) (leaf None)) (test 90 (Some 0) (leaf None)))
+    (fork 96 (test 95 (Some 0) (leaf None)) (test 122 (Some 0) (leaf None))))
+
+-- Of eight runs and of nine each unit needs four tests at most. The tests of eight are parted in the middle. Those of nine begin before the
+-- digits, and are parted in halves behind that.
 pub record TestsAreFew : Type 0 where
-  pub seven : front_blocks 0 (numbered 2 10 (balanced seven (Some 7))) ≡
-      (Peek ∷ IfUnit 30 1 ∷ IfUnit 40 5 ∷ IfUnit 50 6 ∷ IfUnit 60 7 ∷ IfUnit 70 8 ∷ Goto 9 ∷ [])
-      ∷ (IfUnit 10 2 ∷ IfUnit 20 3 ∷ Goto 4 ∷ [])
+  pub seven_is : IsTreeOf seven seven_tree
+  pub seven_stands : front_blocks 0 (numbered 2 10 seven_tree) ≡
+      (Peek ∷ IfUnit 40 1 ∷ IfUnit 50 6 ∷ IfUnit 60 7 ∷ IfUnit 70 8 ∷ Goto 9 ∷ [])
+      ∷ (IfUnit 10 2 ∷ IfUnit 20 3 ∷ IfUnit 30 4 ∷ Goto 5 ∷ [])
       ∷ []
-  pub letters : front_blocks 0 (numbered 4 5 (balanced letters None)) ≡
-      (Peek ∷ IfUnit 64 1 ∷ IfUnit 122 2 ∷ Goto 5 ∷ [])
-      ∷ (IfUnit 47 5 ∷ IfUnit 57 4 ∷ Goto 5 ∷ [])
-      ∷ (IfUnit 96 3 ∷ Goto 4 ∷ [])
-      ∷ (IfUnit 90 4 ∷ IfUnit 94 5 ∷ IfUnit 95 4 ∷ Goto 5 ∷ [])
+  pub letters_is : IsTreeOf letters letters_tree
+  pub letters_stand : front_blocks 0 (numbered 4 5 letters_tree) ≡
+      (Peek ∷ IfUnit 47 5 ∷ IfUnit 94 1 ∷ IfUnit 96 3 ∷ IfUnit 122 4 ∷ Goto 5 ∷ [])
+      ∷ (IfUnit 64 2 ∷ IfUnit 90 4 ∷ Goto 5 ∷ [])
+      ∷ (IfUnit 57 4 ∷ Goto 5 ∷ [])
+      ∷ (IfUnit 95 4 ∷ Goto 5 ∷ [])
       ∷ []
 
 -- two registers are swapped by the spare 3, and one of two writes is left out

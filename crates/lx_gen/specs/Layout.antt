@@ -9,8 +9,8 @@ use Rattle.lx_ccode.specs.declared.piece.Stmt.{Stmt}
 use Rattle.lx_ccode.specs.declared.piece.Stmt.TheVariants.{Goto, Peek}
 use Rattle.lx_gen.specs.Codes.{Choice, accept_code, choices_code, edge_code, is_saved, restore_code}
 use Rattle.lx_gen.specs.Endings.{Ending, ending_code}
-use Rattle.lx_gen.specs.TestTrees.{TestTree, edge_tree, fork, inner_blocks, inner_size, leaf, test, tree_code}
-use Rattle.lx_gen.specs.TransitionClasses.{transition_classes}
+use Rattle.lx_gen.specs.TestTrees.{IsTreeOf, TestTree, fork, inner_blocks, inner_size, leaf, test, tree_code}
+use Rattle.lx_gen.specs.TransitionClasses.{Split, edge_split, transition_classes}
 
 -- ---- the rules by which states accept
 
@@ -70,15 +70,15 @@ abbrev pub lone_size : (number : ℕ) → Option Accept → ℕ
 lone_size zero accept = 1
 lone_size (suc number) accept = end_size accept
 
-module _ (greatest : ℕ) where
-  -- the others have blocks for their tests, one for each transition class, and one for the end
-  abbrev pub size_by : (number : ℕ) → List Edge → Option Accept → ℕ
-  size_by number [] accept = lone_size number accept
-  size_by number (edge ∷ edges) accept =
-      front_size (edge_tree greatest (edge ∷ edges)) + (length (transition_classes (edge ∷ edges)) + end_size accept)
+-- the others have blocks for their tests, one for each transition class, and one for the end
+abbrev pub size_by : TestTree (Option ℕ) → (number : ℕ) → List Edge → Option Accept → ℕ
+size_by tree number [] accept = lone_size number accept
+size_by tree number (edge ∷ edges) accept = front_size tree + (length (transition_classes (edge ∷ edges)) + end_size accept)
 
+-- with a tree of tests for each state, by its number
+module _ (trees : (number : ℕ) → TestTree (Option ℕ)) where
   abbrev pub state_size : (number : ℕ) → State → ℕ
-  state_size number state = size_by number state.edges state.accept
+  state_size number state = size_by (trees number) number state.edges state.accept
 
   -- where the blocks of states end, if the first ones begin at `from`
   abbrev pub end_of : (number from : ℕ) → List State → ℕ
@@ -113,7 +113,7 @@ own_block own rule [] = rule
 own_block own rule (op ∷ ops) = own
 
 -- with the blocks of the rules' ends and of the fallback
-module _ (greatest : ℕ) (auto : Auto) (rules : ℕ → ℕ) (fall : ℕ) where
+module _ (auto : Auto) (rules : ℕ → ℕ) (fall : ℕ) where
   -- where a match ends in a state
   abbrev pub end_block : (own : ℕ) → Option Accept → ℕ
   end_block own None = fall
@@ -127,12 +127,6 @@ module _ (greatest : ℕ) (auto : Auto) (rules : ℕ → ℕ) (fall : ℕ) where
   abbrev pub place_by : (number own : ℕ) → List Edge → Option Accept → ℕ
   place_by number own [] accept = lone_place number own accept
   place_by number own (edge ∷ edges) accept = own
-
-  -- where the code of the n-th state of a list stands, if the blocks of the first one begin at `from`
-  abbrev pub place_in : (number from : ℕ) → List State → (n : ℕ) → ℕ
-  place_in number from [] n = from
-  place_in number from (state ∷ states) zero = place_by number from state.edges state.accept
-  place_in number from (state ∷ states) (suc n) = place_in (suc number) (from + state_size greatest number state) states n
 
   abbrev pub own_blocks : (block : ℕ) → List Op → List (List Stmt)
   own_blocks block [] = []
@@ -156,23 +150,32 @@ module _ (greatest : ℕ) (auto : Auto) (rules : ℕ → ℕ) (fall : ℕ) where
     class_blocks state [] = []
     class_blocks state (class ∷ classes) = edge_code auto state (saved_number saved_accepts state.accept) class (place class.to) ∷ class_blocks state classes
 
-    -- the blocks of a state, of which the first one stands at `from`
-    abbrev pub blocks_by : (number from : ℕ) → State → List Edge → List (List Stmt)
-    blocks_by number from state [] = lone_blocks number state.accept
-    blocks_by number from state (edge ∷ edges) =
+    -- the blocks of a state with this tree of tests, of which the first one stands at `from`
+    abbrev pub blocks_by : TestTree (Option ℕ) → (number from : ℕ) → State → List Edge → List (List Stmt)
+    blocks_by tree number from state [] = lone_blocks number state.accept
+    blocks_by tree number from state (edge ∷ edges) =
         front_blocks from (numbered
-        (from + front_size (edge_tree greatest (edge ∷ edges)))
-        (end_block (from + front_size (edge_tree greatest (edge ∷ edges)) + length (transition_classes (edge ∷ edges))) state.accept)
-        (edge_tree greatest (edge ∷ edges)))
+        (from + front_size tree)
+        (end_block (from + front_size tree + length (transition_classes (edge ∷ edges))) state.accept)
+        tree)
         ++ (class_blocks state (transition_classes (edge ∷ edges)) ++ end_blocks state.accept)
 
+-- and with the trees of the states
+module _ (trees : (number : ℕ) → TestTree (Option ℕ)) (auto : Auto) (rules : ℕ → ℕ) (fall : ℕ) where
+  -- where the code of the n-th state of a list stands, if the blocks of the first one begin at `from`
+  abbrev pub place_in : (number from : ℕ) → List State → (n : ℕ) → ℕ
+  place_in number from [] n = from
+  place_in number from (state ∷ states) zero = place_by auto rules fall number from state.edges state.accept
+  place_in number from (state ∷ states) (suc n) = place_in (suc number) (from + state_size trees number state) states n
+
+  module _ (saved_accepts : List Accept) (place : ℕ → ℕ) where
     abbrev pub state_blocks : (number from : ℕ) → State → List (List Stmt)
-    state_blocks number from state = blocks_by number from state state.edges
+    state_blocks number from state = blocks_by auto rules fall saved_accepts place (trees number) number from state state.edges
 
     abbrev pub states_blocks : (number from : ℕ) → List State → List (List Stmt)
     states_blocks number from [] = []
     states_blocks number from (state ∷ states) =
-        state_blocks number from state ++ states_blocks (suc number) (from + state_size greatest number state) states
+        state_blocks number from state ++ states_blocks (suc number) (from + state_size trees number state) states
 
 -- ---- the fallback and the rules
 
@@ -192,25 +195,39 @@ ending_blocks endings (accept ∷ accepts) = ending_code endings accept.rule acc
 
 -- ---- the whole
 
-module _ (greatest : ℕ) (auto : Auto) where
+module _ (trees : (number : ℕ) → TestTree (Option ℕ)) (auto : Auto) where
   -- behind the states comes the fallback, then what is done in it by rule, and then the ends of the rules
   abbrev pub fall_block : (from : ℕ) → ℕ
-  fall_block from = end_of greatest 0 from auto.states
+  fall_block from = end_of trees 0 from auto.states
 
   abbrev pub rule_block : (from : ℕ) → (rule : ℕ) → ℕ
   rule_block from rule = suc (fall_block from) + length (saved_of auto.states) + rule_place (accepts_of auto.states) rule
 
   -- where the code of each state stands
   abbrev pub place_of : (from : ℕ) → (number : ℕ) → ℕ
-  place_of from number = place_in greatest auto (rule_block from) (fall_block from) 0 from auto.states number
+  place_of from number = place_in trees auto (rule_block from) (fall_block from) 0 from auto.states number
 
--- the blocks of the automaton, of which the first one stands at `from`
-abbrev pub layout : (endings : ℕ → Ending) → (greatest : ℕ) → Auto → (from : ℕ) → List (List Stmt)
-layout endings greatest auto from =
-    states_blocks greatest auto (rule_block greatest auto from) (fall_block greatest auto from) (saved_of auto.states)
-    (place_of greatest auto from) 0 from auto.states
-    ++ choices_code (choices_from 1 (suc (fall_block greatest auto from)) (saved_of auto.states))
-    ∷ (restore_blocks (rule_block greatest auto from) (saved_of auto.states) ++ ending_blocks endings (accepts_of auto.states))
+-- the blocks of the automaton by trees of the tests of its states, of which the first one stands at `from`
+abbrev pub layout : (endings : ℕ → Ending) → (trees : (number : ℕ) → TestTree (Option ℕ)) → Auto → (from : ℕ) → List (List Stmt)
+layout endings trees auto from =
+    states_blocks trees auto (rule_block trees auto from) (fall_block trees auto from) (saved_of auto.states)
+    (place_of trees auto from) 0 from auto.states
+    ++ choices_code (choices_from 1 (suc (fall_block trees auto from)) (saved_of auto.states))
+    ∷ (restore_blocks (rule_block trees auto from) (saved_of auto.states) ++ ending_blocks endings (accepts_of auto.states))
+
+-- ---- the trees
+
+-- of the tests of each state of a list for units up to a greatest one, and of its tree; the first one has this number
+module _ (P : Split → TestTree (Option ℕ) → Type 0) (greatest : ℕ) (trees : (number : ℕ) → TestTree (Option ℕ)) where
+  abbrev pub EachTree : (number : ℕ) → List State → Type 0
+  EachTree number [] = Unit {0}
+  EachTree number (state ∷ states) = P (edge_split greatest state.edges) (trees number) × EachTree (suc number) states
+
+-- the codes are the layout of the automaton from block 0 on, by trees of the tests of its states
+pub record IsLayout (endings : ℕ → Ending) (greatest : ℕ) (auto : Auto) (codes : List (List Stmt)) : Type 0 where
+  pub trees : (number : ℕ) → TestTree (Option ℕ)
+  pub are : EachTree IsTreeOf greatest trees 0 auto.states
+  pub stands : codes ≡ layout endings trees auto 0
 
 -- accepts of one rule hold the values of its tags in the same places
 abbrev pub AreAgreed : List State → Type 0

@@ -1,7 +1,7 @@
 -- What is known before blocks are made: the transition classes and the tests of each state, the rules by which states accept, and where blocks stand.
 use Rattle.std.specs.Prelude.{◌≡◌, ℕ, suc, ◌+◌, ◌*◌, ◌<◌, ◌≤◌, List, [], ◌∷◌, map, length, Option, Some, None, IsSome, nat_eq, option_map, slice_index_or, if◌then◌else◌}
 use Rattle.std.specs.List.{AllByRecursion}
-use Rattle.lx_auto.specs.Automaton.{IsAuto}
+use Rattle.lx_auto.specs.Automaton.{AreApart, IsAuto}
 use Rattle.lx_auto.specs.declared.automaton.Accept.{Accept}
 use Rattle.lx_auto.specs.declared.automaton.Edge.{Edge}
 use Rattle.lx_auto.specs.declared.automaton.State.{State}
@@ -9,11 +9,11 @@ use Rattle.lx_ccode.specs.declared.piece.CodeBlock.{CodeBlock}
 use Rattle.lx_ccode.specs.declared.piece.Stmt.{Stmt}
 use Rattle.lx_regex.specs.declared.rules.Rule.{Rule}
 use Rattle.lx_gen.specs.Endings.{Ending}
-use Rattle.lx_gen.specs.Layout.{accepts_of, end_block, fall_block, saved_of, place_by, place_of, rule_block, state_blocks, state_size, states_blocks, class_blocks}
+use Rattle.lx_gen.specs.Layout.{accepts_of, blocks_by, class_blocks, end_block, fall_block, place_by, place_of, rule_block, saved_of, size_by, state_size, states_blocks}
 use Rattle.lx_gen.specs.Rules.{ending_of, no_ending}
-use Rattle.lx_gen.specs.TestTrees.{edge_tree}
+use Rattle.lx_gen.specs.TestTrees.{IsTreeOf, TestTree, leaf}
 use Rattle.lx_gen.specs.Views.{seen_tree, seen_classes}
-use Rattle.lx_gen.specs.TransitionClasses.{transition_classes}
+use Rattle.lx_gen.specs.TransitionClasses.{edge_split, transition_classes}
 use Rattle.lx_gen.specs.declared.accepts.First.{First}
 use Rattle.lx_gen.specs.declared.accepts.Firsts.{Firsts}
 use Rattle.lx_gen.specs.declared.ends.Ends.{Ends}
@@ -39,22 +39,41 @@ AreIndexed firsts = (rule : ℕ) → slice_index_or firsts.places.items rule Non
 abbrev pub unlabelled : List (List Stmt) → List CodeBlock
 unlabelled codes = map (λ code. record { cond = None; stmts = code }) codes
 
--- the transition classes and the tests are those of the state
+-- the transition classes are those of the state, and the tests are a tree of its tests
 pub record IsPlanned (greatest : ℕ) (plan : Plan) : Type 0 where
   pub classes : seen_classes plan.classes.items ≡ transition_classes plan.state.now.edges
-  pub tests : seen_tree plan.tests ≡ edge_tree greatest plan.state.now.edges
+  pub tests : IsTreeOf (edge_split greatest plan.state.now.edges) (seen_tree plan.tests)
 
 abbrev pub ArePlanned : (greatest : ℕ) → List Plan → Type 0
 ArePlanned greatest plans = AllByRecursion (IsPlanned greatest) plans
 
+-- the edges of each state are in ascending order
+abbrev pub HaveOrder : List State → Type 0
+HaveOrder states = AllByRecursion (λ (state : State). AreApart state.edges) states
+
+-- how many blocks the state with this number has
+abbrev pub plan_size : (number : ℕ) → Plan → ℕ
+plan_size number plan = size_by (seen_tree plan.tests) number plan.state.now.edges plan.state.now.accept
+
+-- the tree of the state with a number
+abbrev pub trees_of : List Plan → (number : ℕ) → TestTree (Option ℕ)
+trees_of plans number = slice_index_or (map (λ plan. seen_tree plan.tests) plans) number (leaf None)
+
+abbrev pub trees_at : Ends → (number : ℕ) → TestTree (Option ℕ)
+trees_at ends number = trees_of ends.plans.items number
+
 -- where the end of a rule stands
 abbrev pub rule_at : Ends → (rule : ℕ) → ℕ
-rule_at ends rule = rule_block ends.greatest ends.auto.now 0 rule
+rule_at ends rule = rule_block (trees_at ends) ends.auto.now 0 rule
+
+-- where the fallback stands
+abbrev pub fall_at : Ends → ℕ
+fall_at ends = fall_block (trees_at ends) ends.auto.now 0
 
 -- where a match ends in a state
 abbrev pub end_at : Ends → (own : ℕ) → Option Accept → ℕ
 end_at ends own accept =
-    end_block ends.greatest ends.auto.now (rule_at ends) (fall_block ends.greatest ends.auto.now 0) own accept
+    end_block ends.auto.now (rule_at ends) (fall_at ends) own accept
 
 -- the blocks where matches end are found
 pub record AreEnds (ends : Ends) : Type 0 where
@@ -66,19 +85,19 @@ pub record AreEnds (ends : Ends) : Type 0 where
   pub saved_accepts : seen_accepts ends.saved_accepts.list.items ≡ saved_of ends.auto.now.states
   pub saved_places : AreIndexed ends.saved_accepts
   pub few_saved_accepts : length ends.saved_accepts.list.items < 4294967295
-  pub fall : ends.fall ≡ fall_block ends.greatest ends.auto.now 0
-  pub rules : ends.rules ≡ suc (fall_block ends.greatest ends.auto.now 0) + length (saved_of ends.auto.now.states)
+  pub fall : ends.fall ≡ fall_at ends
+  pub rules : ends.rules ≡ suc (fall_at ends) + length (saved_of ends.auto.now.states)
 
 -- where the code of a state stands, whose blocks begin at `own`
 abbrev pub place_at : Ends → (number own : ℕ) → State → ℕ
 place_at ends number own state =
-    place_by ends.greatest ends.auto.now (rule_at ends) (fall_block ends.greatest ends.auto.now 0) number own state.edges state.accept
+    place_by ends.auto.now (rule_at ends) (fall_at ends) number own state.edges state.accept
 
 -- the same of all states of a list
 abbrev pub places_from : Ends → (number from : ℕ) → List State → List ℕ
 places_from ends number from [] = []
 places_from ends number from (state ∷ states) =
-    place_at ends number from state ∷ places_from ends (suc number) (from + state_size ends.greatest number state) states
+    place_at ends number from state ∷ places_from ends (suc number) (from + state_size (trees_at ends) number state) states
 
 -- so is the code of each state
 pub record ArePlaced (places : Places) : Type 0 where
@@ -89,18 +108,18 @@ pub record ArePlaced (places : Places) : Type 0 where
 
 abbrev pub blocks_of_classes : Ends → State → List Edge → List (List Stmt)
 blocks_of_classes ends state classes =
-    class_blocks ends.greatest ends.auto.now (rule_at ends) (fall_block ends.greatest ends.auto.now 0) (saved_of ends.auto.now.states)
-    (place_of ends.greatest ends.auto.now 0) state classes
+    class_blocks ends.auto.now (rule_at ends) (fall_at ends) (saved_of ends.auto.now.states) (place_of (trees_at ends) ends.auto.now 0) state classes
 
-abbrev pub blocks_of_state : Ends → (number from : ℕ) → State → List (List Stmt)
-blocks_of_state ends number from state =
-    state_blocks ends.greatest ends.auto.now (rule_at ends) (fall_block ends.greatest ends.auto.now 0) (saved_of ends.auto.now.states)
-    (place_of ends.greatest ends.auto.now 0) number from state
+-- of the state with this number
+abbrev pub blocks_of_plan : Ends → (number from : ℕ) → Plan → List (List Stmt)
+blocks_of_plan ends number from plan =
+    blocks_by ends.auto.now (rule_at ends) (fall_at ends) (saved_of ends.auto.now.states) (place_of (trees_at ends) ends.auto.now 0)
+    (seen_tree plan.tests) number from plan.state.now plan.state.now.edges
 
 abbrev pub blocks_of_states : Ends → (number from : ℕ) → List State → List (List Stmt)
 blocks_of_states ends number from states =
-    states_blocks ends.greatest ends.auto.now (rule_at ends) (fall_block ends.greatest ends.auto.now 0) (saved_of ends.auto.now.states)
-    (place_of ends.greatest ends.auto.now 0) number from states
+    states_blocks (trees_at ends) ends.auto.now (rule_at ends) (fall_at ends) (saved_of ends.auto.now.states)
+    (place_of (trees_at ends) ends.auto.now 0) number from states
 
 -- ---- the ends of rules
 

@@ -1,10 +1,8 @@
--- Tests of a unit as a tree, and the blocks in which they stand.
-use Rattle.std.specs.Prelude.{ℕ, zero, suc, ◌+◌, ◌-◌, ◌/◌, List, [], ◌∷◌, ◌++◌, length, take, drop, position, Option, unwrap_or, nat_eq, nat_le, if◌then◌else◌}
-use Rattle.std.specs.Option.{option_or}
-use Rattle.lx_auto.specs.declared.automaton.Edge.{Edge}
+-- Tests of a unit as a tree, what is asked of such a tree, and the blocks in which it stands.
+use Rattle.std.specs.Prelude.{◌≡◌, ◌⊎◌, ℕ, suc, ◌+◌, ◌*◌, ◌^◌, ◌≤◌, max, List, [], ◌∷◌, ◌++◌, length, Option, nat_le, if◌then◌else◌}
 use Rattle.lx_ccode.specs.declared.piece.Stmt.{Stmt}
 use Rattle.lx_ccode.specs.declared.piece.Stmt.TheVariants.{Goto, IfUnit}
-use Rattle.lx_gen.specs.TransitionClasses.{Split, Stretch, edge_split}
+use Rattle.lx_gen.specs.TransitionClasses.{Split, Stretch}
 
 -- How units go: all of them by one class, or those up to a greatest one by a class or by a tree of lower tests, and others by another tree.
 pub data TestTree (A : Type 0) : Type 0 where
@@ -18,48 +16,65 @@ picked (leaf class) unit = class
 picked (test greatest class high) unit = if nat_le unit greatest then class else picked high unit
 picked (fork greatest low high) unit = if nat_le unit greatest then picked low unit else picked high unit
 
--- ---- few tests for each unit
+-- how many tests come at most before the way of a unit is known
+abbrev pub depth : {A : Type 0} → TestTree A → ℕ
+depth (leaf class) = 0
+depth (test greatest class high) = suc (depth high)
+depth (fork greatest low high) = suc (max (depth low) (depth high))
 
--- the test of a stretch comes before those of the lower and the higher ones, which are built by themselves
-abbrev pub halved : (build : List Stretch → Option ℕ → TestTree (Option ℕ)) → (low high : List Stretch) → (last : Option ℕ) → TestTree (Option ℕ)
-halved build low [] last = leaf last
-halved build [] (middle ∷ high) last = test middle.greatest middle.class (build high last)
-halved build (stretch ∷ low) (middle ∷ high) last = fork middle.greatest (build (stretch ∷ low) middle.class) (build high last)
+module _ {A : Type 0} (G : ℕ → Type 0) (W : A → Type 0) where
+  -- of the greatest unit of each test, and of where units go
+  abbrev pub EachTest : TestTree A → Type 0
+  EachTest (leaf class) = W class
+  EachTest (test greatest class high) = G greatest × W class × EachTest high
+  EachTest (fork greatest low high) = G greatest × EachTest low × EachTest high
 
--- the place of the stretch that ends with a unit
-abbrev pub end_place : List Stretch → (unit : ℕ) → Option ℕ
-end_place stretches unit = position (λ (stretch : Stretch). nat_eq stretch.greatest unit) stretches
+-- ---- a tree of the tests of a split
 
--- Where a test parts the groups of ASCII of which texts are made: behind the space, before the letters, behind the small ones, and before
--- these. In a text the units of one group are mostly of one class.
-abbrev pub group_place : List Stretch → Option ℕ
-group_place stretches =
-    option_or (option_or (option_or (end_place stretches 32) (end_place stretches 64)) (end_place stretches 122)) (end_place stretches 96)
+-- how a unit goes by stretches: by the class of the first one up to whose greatest unit it comes, or as those behind the last one
+abbrev pub class_on : List Stretch → (last : Option ℕ) → (unit : ℕ) → Option ℕ
+class_on [] last unit = last
+class_on (stretch ∷ stretches) last unit = if nat_le unit stretch.greatest then stretch.class else class_on stretches last unit
 
--- of up to four the first, of more about the one in the middle
-abbrev pub middle_place : (count : ℕ) → ℕ
-middle_place count = (count - 3) / 2
+-- how it goes by a split
+abbrev pub split_class : Split → (unit : ℕ) → Option ℕ
+split_class split unit = class_on split.tests split.last unit
 
--- the place of the stretch whose test comes first: up to three are tested one after another, of more the groups are parted before halves
-abbrev pub first_place : List Stretch → ℕ
-first_place stretches =
-    if nat_le (length stretches) 3 then 0 else unwrap_or (group_place stretches) (middle_place (length stretches))
+-- each stretch ends no earlier than the one before it, and the first one no earlier than with `low`
+abbrev pub Ascend : (low : ℕ) → List Stretch → Type 0
+Ascend low [] = Unit {0}
+Ascend low (stretch ∷ stretches) = (low ≤ stretch.greatest) × Ascend stretch.greatest stretches
 
--- a tree of at most so many stretches
-abbrev pub balanced_in : (count : ℕ) → List Stretch → (last : Option ℕ) → TestTree (Option ℕ)
-balanced_in zero stretches last = leaf last
-balanced_in (suc count) stretches last =
-    halved (λ part class. balanced_in count part class) (take (first_place stretches) stretches) (drop (first_place stretches) stretches) last
+-- one of the stretches ends with the unit
+abbrev pub HasEnd : List Stretch → (unit : ℕ) → Type 0
+HasEnd [] unit = ⊥
+HasEnd (stretch ∷ stretches) unit = (unit ≡ stretch.greatest) ⊎ HasEnd stretches unit
 
-abbrev pub balanced : List Stretch → (last : Option ℕ) → TestTree (Option ℕ)
-balanced stretches last = balanced_in (length stretches) stretches last
+-- the units of one of the stretches, or those behind the last one, go so
+abbrev pub HasWay : List Stretch → (last class : Option ℕ) → Type 0
+HasWay [] last class = class ≡ last
+HasWay (stretch ∷ stretches) last class = (class ≡ stretch.class) ⊎ HasWay stretches last class
 
-abbrev pub split_tree : Split → TestTree (Option ℕ)
-split_tree split = balanced split.tests split.last
+-- by the tree each unit goes as the split says
+abbrev pub PicksAs : Split → TestTree (Option ℕ) → Type 0
+PicksAs split tree = (unit : ℕ) → picked tree unit ≡ split_class split unit
 
--- the tests of a state for units up to a greatest one
-abbrev pub edge_tree : (greatest : ℕ) → List Edge → TestTree (Option ℕ)
-edge_tree greatest edges = split_tree (edge_split greatest edges)
+-- the tree tests units with which stretches of the split end alone, and leads where some units go by the split alone
+abbrev pub TestsWithin : Split → TestTree (Option ℕ) → Type 0
+TestsWithin split tree = EachTest (HasEnd split.tests) (HasWay split.tests split.last) tree
+
+-- A tree of the tests of a split. Each stretch of it is a run of units that go one way, and so are the units behind the last one.
+pub record IsTreeOf (split : Split) (tree : TestTree (Option ℕ)) : Type 0 where
+  pub picks : PicksAs split tree
+  pub ends : TestsWithin split tree
+  -- no unit is tested more often than the number of the runs has binary digits
+  pub few : 2 ^ depth tree ≤ 2 * suc (length split.tests) + 1
+
+-- the same of a tree that tests no unit more often than this
+pub record IsTreeWithin (most : ℕ) (split : Split) (tree : TestTree (Option ℕ)) : Type 0 where
+  pub picks : PicksAs split tree
+  pub ends : TestsWithin split tree
+  pub few : depth tree ≤ most
 
 -- ---- code
 

@@ -1,8 +1,8 @@
 //! The blocks behind those of the states: the fallback, and the ends of rules.
 ghost use Rattle.std.specs.Prelude.{◌≡◌, ◌∷◌, ◌++◌, suc, IfOk, OnOk};
 ghost use Rattle.lx_gen.specs.Codes.{choices_code, restore_code};
-ghost use Rattle.lx_gen.specs.Layout.{choices_from, fall_block, saved_of, restore_blocks};
-ghost use Rattle.lx_gen.specs.Plans.{AreEnds, rule_at, unlabelled};
+ghost use Rattle.lx_gen.specs.Layout.{choices_from, saved_of, restore_blocks};
+ghost use Rattle.lx_gen.specs.Plans.{AreEnds, fall_at, rule_at, unlabelled};
 
 use crate::blocks::{append_block, sum};
 use crate::ends::Ends;
@@ -14,7 +14,7 @@ use std::alloc::Global;
 fn choices_code(alloc: Global, ends: &Ends<'_>) -> Result<Vec<Stmt>, Memory>
     requires { AreEnds ends.now }
     ensures { IfOk result (λ stmts. stmts.items
-        ≡ choices_code (choices_from 1 (suc (fall_block ends.now.greatest ends.now.auto.now 0)) (saved_of ends.now.auto.now.states))) }
+        ≡ choices_code (choices_from 1 (suc (fall_at ends.now)) (saved_of ends.now.auto.now.states))) }
 {
     let mut stmts = Vec::new(alloc);
     let mut saved = 1;
@@ -61,7 +61,7 @@ pub(crate) fn append_fallback(
 ) -> Result<(), Memory>
     requires { AreEnds ends.now }
     ensures { OnOk result (blocks.new.items ≡ blocks.old.items ++ unlabelled
-        (choices_code (choices_from 1 (suc (fall_block ends.now.greatest ends.now.auto.now 0)) (saved_of ends.now.auto.now.states))
+        (choices_code (choices_from 1 (suc (fall_at ends.now)) (saved_of ends.now.auto.now.states))
         ∷ restore_blocks (rule_at ends.now) (saved_of ends.now.auto.now.states))) }
 {
     append_block(blocks, choices_code(alloc, ends)?)?;

@@ -1,5 +1,5 @@
 //! What holds of laid-out pieces. Each law is the contract of a function that does nothing.
-ghost use Rattle.std.specs.Prelude.{◌≡◌, ◌⊎◌, ℕ, suc, ◌+◌, ◌<◌, ◌≤◌, Bool, List, [], ◌++◌, All, Option, Some, None, length, drop, map, nat_eq, false, true};
+ghost use Rattle.std.specs.Prelude.{◌≡◌, ◌⊎◌, ℕ, suc, ◌+◌, ◌*◌, ◌^◌, ◌<◌, ◌≤◌, Bool, List, [], ◌∷◌, ◌++◌, All, Option, Some, None, length, drop, map, nat_eq, false, true, slice_get, IsSome};
 ghost use Rattle.std.specs.List.{AllByRecursion, IsDistinct, list_any};
 ghost use Rattle.lx_base.specs.declared.limits.TheConstants.{STATEMENT_LIMIT};
 ghost use Rattle.lx_auto.specs.Automaton.{AreOps, IsAuto};
@@ -13,13 +13,14 @@ ghost use Rattle.lx_base.specs.Names.{AreAllowed, DoNotClash, Spellings};
 ghost use Rattle.lx_base.specs.Names.{name_primitives};
 ghost use Rattle.lx_base.specs.Spelling.{greatest_unit};
 ghost use Rattle.lx_base.specs.declared.settings.Enc.{Enc};
-ghost use Rattle.lx_ccode.specs.Machine.{Answer, Machine, code_at, looped};
+ghost use Rattle.lx_ccode.specs.Machine.{Answer, Machine, code_at, looped, unit_at};
 ghost use Rattle.lx_ccode.specs.Runs.{entry_block, run_of};
-ghost use Rattle.lx_ccode.specs.Scanners.{CheckAtMost, IsOfScanner, StandsIn};
+ghost use Rattle.lx_ccode.specs.Scanners.{CheckAtMost, IsMadeBy, IsOfScanner, StandsIn};
 ghost use Rattle.lx_ccode.specs.Schedules.{Schedule};
 ghost use Rattle.lx_ccode.specs.Statements.{all_statements, code_of, is_refill, is_state, statement_count};
 ghost use Rattle.lx_ccode.specs.Validity.{IsShort, IsValid, JumpsBelow, ends_once};
 ghost use Rattle.lx_ccode.specs.declared.piece.CodeBlock.{CodeBlock};
+ghost use Rattle.lx_ccode.specs.declared.piece.Mode.{Mode};
 ghost use Rattle.lx_ccode.specs.declared.piece.Piece.{Piece};
 ghost use Rattle.lx_ccode.specs.declared.piece.Stmt.{Stmt};
 ghost use Rattle.lx_ccode.specs.declared.piece.Stmt.TheVariants.{Peek};
@@ -29,25 +30,33 @@ ghost use Rattle.lx_regex.specs.Pattern.{Pattern, end_rule, patterns_of, with_te
 ghost use Rattle.lx_regex.specs.declared.rules.Rule.{Rule};
 ghost use Rattle.lx_tdfa.specs.Promise.{IsAutoUnder};
 ghost use Rattle.lx_gen.specs.Actions.{IsOwnAction, action_count};
-ghost use Rattle.lx_gen.specs.Carries.{Carries, EndsAs, HasEdge, IsReached, IsUnitOf, LeadsTo, StandsAs, StopsBehind};
+ghost use Rattle.lx_gen.specs.Carries.{Carries, EndsAs, HasEdge, IsReached, IsUnitOf, LeadsTo, NamesItsOwn, StandsAs, StopsBehind};
 ghost use Rattle.lx_gen.specs.Endings.{Ending};
-ghost use Rattle.lx_gen.specs.Layout.{StandsFrom, layout};
+ghost use Rattle.lx_gen.specs.Layout.{EachTree, StandsFrom, class_block, layout, numbered};
 ghost use Rattle.lx_gen.specs.Right.{AreEndsOf, IsRightUnder, IsSetBy};
+ghost use Rattle.lx_gen.specs.RightInMode.{HaveEndings, IsRightInMode, IsSupplied};
 ghost use Rattle.lx_gen.specs.Rules.{AreSimple, endings_of};
 ghost use Rattle.lx_gen.specs.Scanner.{AreNamed, AreShort, IsScannerUnder};
 ghost use Rattle.lx_gen.specs.ParallelCopies.{sequentialized};
 ghost use Rattle.lx_gen.specs.Serving.{Serves};
 ghost use Rattle.lx_gen.specs.Starts.{machine_with, run_with};
+ghost use Rattle.lx_gen.specs.Supplied as supplied;
+ghost use Rattle.lx_gen.specs.Supplied.{ServesEntry};
+ghost use Rattle.lx_gen.specs.Supplies.{Supply};
 ghost use Rattle.lx_gen.specs.Stops.{Stops, bank_from, last_standing, told_found};
+ghost use Rattle.lx_gen.specs.TestRuns.{ComesTo};
+ghost use Rattle.lx_gen.specs.TestTrees.{IsTreeOf, PicksAs, TestTree, TestsWithin, depth, inner_blocks, picked, split_class, tree_code};
+ghost use Rattle.lx_gen.specs.TransitionClasses.{Split};
 ghost use Rattle.lx_gen.specs.Turns.{after_ops};
 ghost use Rattle.lx_gen.specs.Written.{AreWritten, IsUnconditional};
 
-/// A piece is right in a condition where the layout of the automaton of its rules stands from the condition's block on, and the
-/// piece asks for no refill.
+/// A piece is right in a condition where the layout of the automaton of its rules stands from the condition's block on, by trees of
+/// tests by which each unit goes as the edges of its state say, and the piece asks for no refill.
 pub fn layouts_are_right()
-    ensures { (policy : Policy) (enc : Enc) (patterns : List Pattern) (auto : Auto) (endings : ℕ → Ending) (piece : Piece) (from : ℕ) (cond : List ℕ)
-        → IsAutoUnder policy enc patterns auto → AreEndsOf enc patterns endings
-        → StandsFrom (code_of piece.blocks) from (layout endings (greatest_unit enc) auto from)
+    ensures { (policy : Policy) (enc : Enc) (patterns : List Pattern) (auto : Auto) (trees : ℕ → TestTree (Option ℕ)) (endings : ℕ → Ending) (piece : Piece)
+        (from : ℕ) (cond : List ℕ) → IsAutoUnder policy enc patterns auto → AreEndsOf enc patterns endings
+        → EachTree PicksAs (greatest_unit enc) trees 0 auto.states
+        → StandsFrom (code_of piece.blocks) from (layout endings trees auto from)
         → list_any is_refill (all_statements piece.blocks) ≡ false → entry_block piece.conds cond ≡ Some from
         → IsRightUnder policy cond enc patterns endings piece }
 {}
@@ -59,6 +68,18 @@ pub fn served_pieces_are_right()
         → Serves endings (greatest_unit enc) auto (code_of piece.blocks) place saved rules fall
         → list_any is_refill (all_statements piece.blocks) ≡ false → entry_block piece.conds cond ≡ Some (place 0)
         → IsRightUnder policy cond enc patterns endings piece }
+{}
+
+/// A piece whose blocks serve the automaton of its rules is right in the mode of its supply, if a rule stands at the end of the stream
+/// only where a unit does.
+pub fn supplied_pieces_are_right()
+    ensures { (policy : Policy) (mode : Mode) (enc : Enc) (patterns : List Pattern) (auto : Auto) (endings : ℕ → Ending) (supply : Supply)
+        (piece : Piece) (place saved rules : ℕ → ℕ) (fall entry : ℕ) (cond : List ℕ)
+        → IsAutoUnder policy enc patterns auto → HaveEndings enc patterns endings
+        → supplied.Serves supply endings (greatest_unit enc) auto (code_of piece.blocks) place saved rules fall
+        → ServesEntry supply endings (greatest_unit enc) auto (code_of piece.blocks) place saved rules fall (end_rule patterns) entry
+        → (IsSome (end_rule patterns) → IsSome supply.eof) → IsSupplied mode supply auto piece
+        → entry_block piece.conds cond ≡ Some entry → IsRightInMode policy mode cond enc patterns endings piece }
 {}
 
 /// The run of a piece whose blocks serve an automaton tells the automaton's match, whatever registers and histories hold before,
@@ -83,29 +104,45 @@ pub fn fresh_machines_hold_nothing()
         → run_of piece stream start cond schedule ≡ run_with piece stream start (λ register. None) (λ history. []) cond schedule }
 {}
 
-/// The layout of an automaton asks for no refill and stores no state.
+/// The layout of an automaton, by whatever trees of tests, asks for no refill and stores no state.
 pub fn layouts_ask_for_nothing()
-    ensures { (endings : ℕ → Ending) (greatest : ℕ) (auto : Auto) (from : ℕ) (blocks : List CodeBlock)
-        → code_of blocks ≡ layout endings greatest auto from
+    ensures { (endings : ℕ → Ending) (trees : ℕ → TestTree (Option ℕ)) (auto : Auto) (from : ℕ) (blocks : List CodeBlock)
+        → code_of blocks ≡ layout endings trees auto from
         → (list_any is_refill (all_statements blocks) ≡ false) × (list_any is_state (all_statements blocks) ≡ false) }
 {}
 
 /// In a piece whose blocks are the layout of an automaton each block has one ending statement, which is its last, and each jump goes
-/// to a block that is there.
+/// to a block that is there, if the trees of tests lead where edges lead.
 pub fn layouts_are_closed()
-    ensures jumps { (endings : ℕ → Ending) (greatest : ℕ) (auto : Auto) (blocks : List CodeBlock)
-        → code_of blocks ≡ layout endings greatest auto 0 → AllByRecursion (JumpsBelow (length blocks)) (all_statements blocks) }
-    ensures ends { (endings : ℕ → Ending) (greatest : ℕ) (auto : Auto) (blocks : List CodeBlock)
-        → code_of blocks ≡ layout endings greatest auto 0
+    ensures jumps { (endings : ℕ → Ending) (greatest : ℕ) (trees : ℕ → TestTree (Option ℕ)) (auto : Auto) (blocks : List CodeBlock)
+        → EachTree TestsWithin greatest trees 0 auto.states
+        → code_of blocks ≡ layout endings trees auto 0 → AllByRecursion (JumpsBelow (length blocks)) (all_statements blocks) }
+    ensures ends { (endings : ℕ → Ending) (greatest : ℕ) (trees : ℕ → TestTree (Option ℕ)) (auto : Auto) (blocks : List CodeBlock)
+        → EachTree TestsWithin greatest trees 0 auto.states
+        → code_of blocks ≡ layout endings trees auto 0
         → AllByRecursion (λ (block : CodeBlock). ends_once block.stmts ≡ true) blocks }
 {}
 
-/// In the layout of an automaton each rule's action stands at most once, and it is the rule's own.
+/// In the layout of an automaton, by whatever trees of tests, each rule's action stands at most once, and it is the rule's own.
 pub fn actions_stand_once()
-    ensures once { (endings : ℕ → Ending) (greatest : ℕ) (auto : Auto) (from : ℕ) (blocks : List CodeBlock)
-        → code_of blocks ≡ layout endings greatest auto from → (rule : ℕ) → action_count rule (all_statements blocks) ≤ 1 }
-    ensures own { (endings : ℕ → Ending) (greatest : ℕ) (auto : Auto) (from : ℕ) (blocks : List CodeBlock)
-        → code_of blocks ≡ layout endings greatest auto from → AllByRecursion (IsOwnAction endings) (all_statements blocks) }
+    ensures once { (endings : ℕ → Ending) (trees : ℕ → TestTree (Option ℕ)) (auto : Auto) (from : ℕ) (blocks : List CodeBlock)
+        → code_of blocks ≡ layout endings trees auto from → (rule : ℕ) → action_count rule (all_statements blocks) ≤ 1 }
+    ensures own { (endings : ℕ → Ending) (trees : ℕ → TestTree (Option ℕ)) (auto : Auto) (from : ℕ) (blocks : List CodeBlock)
+        → code_of blocks ≡ layout endings trees auto from → AllByRecursion (IsOwnAction endings) (all_statements blocks) }
+{}
+
+/// A unit is tested at most as often as the number of the runs of its state has binary digits. From a block that reads the unit the
+/// machine comes to the block of the unit's way, by no more tests than its tree is deep; and the blocks of the ways, which stand in a
+/// layout in place of the classes, leave the tree as deep as it was.
+pub fn tests_of_a_unit_are_few()
+    ensures runs { (split : Split) (tree : TestTree (Option ℕ)) → IsTreeOf split tree → 2 ^ depth tree ≤ 2 * suc (length split.tests) + 1 }
+    ensures made { (piece : Piece) (stream : List ℕ) (tree : TestTree ℕ) (next unit : ℕ) (to : List Stmt) (machine : Machine) (answers : List Answer)
+        → StandsFrom (code_of piece.blocks) next (inner_blocks next tree)
+        → unit_at piece.eof stream machine.cursor machine.limit ≡ Some unit → slice_get (code_of piece.blocks) (picked tree unit) ≡ Some to
+        → ComesTo piece stream (Peek ∷ tree_code next tree) machine answers unit (depth tree) to }
+    ensures ways { (first end : ℕ) (split : Split) (tree : TestTree (Option ℕ)) → IsTreeOf split tree
+        → (depth (numbered first end tree) ≡ depth tree)
+        × ((unit : ℕ) → picked (numbered first end tree) unit ≡ class_block first end (split_class split unit)) }
 {}
 
 /// Operations one by one do to all registers but the spares what the list does at once.
@@ -129,22 +166,27 @@ pub fn rules_have_ends()
         → end_rule (patterns_of rules) ≡ None → AreEndsOf enc (patterns_of rules) (endings_of rules texts) }
 {}
 
-/// A piece without conditions whose blocks are the layout of a well-formed automaton is valid, if the ends of its rules can be written.
+/// A piece without conditions whose blocks are the layout of a well-formed automaton is valid, if the ends of its rules can be written
+/// and the trees of tests test the ends of edges alone.
 pub fn layouts_are_valid()
-    ensures { (enc : Enc) (custom : Bool) (counted : ℕ) (spellings : Spellings) (endings : ℕ → Ending) (greatest : ℕ) (auto : Auto) (piece : Piece) → IsAuto auto
+    ensures { (enc : Enc) (custom : Bool) (counted : ℕ) (spellings : Spellings) (endings : ℕ → Ending) (greatest : ℕ) (trees : ℕ → TestTree (Option ℕ)) (auto : Auto)
+        (piece : Piece) → IsAuto auto
+        → EachTree TestsWithin greatest trees 0 auto.states
         → All (λ (state : State). All (λ (edge : Edge). edge.hi ≤ greatest) state.edges) auto.states
         → IsShort greatest → AreWritten spellings endings auto.states
-        → code_of piece.blocks ≡ layout endings greatest auto 0 → IsUnconditional enc custom counted spellings piece
+        → code_of piece.blocks ≡ layout endings trees auto 0 → IsUnconditional enc custom counted spellings piece
         → IsShort counted → AreAllowed spellings → DoNotClash spellings → (custom ≡ true → name_primitives spellings ≡ false)
         → statement_count piece.blocks ≤ STATEMENT_LIMIT → IsValid piece }
 {}
 
-/// A piece without conditions whose blocks are the layout of the automaton of its rules is a scanner of these rules, if none is `$`.
+/// A piece without conditions whose blocks are the layout of the automaton of its rules, by trees of the tests of its states, is a
+/// scanner of these rules, if none is `$`.
 pub fn layouts_are_scanners()
-    ensures { (policy : Policy) (enc : Enc) (custom : Bool) (counted : ℕ) (spellings : Spellings) (rules : List Rule) (texts : List (List ℕ)) (auto : Auto) (piece : Piece)
-        → IsAutoUnder policy enc (patterns_of rules) auto → end_rule (patterns_of rules) ≡ None → IsWithinLimits rules
+    ensures { (policy : Policy) (enc : Enc) (custom : Bool) (counted : ℕ) (spellings : Spellings) (rules : List Rule) (texts : List (List ℕ)) (trees : ℕ → TestTree (Option ℕ)) (auto : Auto)
+        (piece : Piece) → IsAutoUnder policy enc (patterns_of rules) auto → EachTree IsTreeOf (greatest_unit enc) trees 0 auto.states
+        → end_rule (patterns_of rules) ≡ None → IsWithinLimits rules
         → AreShort texts → AreNamed spellings texts rules
-        → code_of piece.blocks ≡ layout (endings_of rules texts) (greatest_unit enc) auto 0 → IsUnconditional enc custom counted spellings piece
+        → code_of piece.blocks ≡ layout (endings_of rules texts) trees auto 0 → IsUnconditional enc custom counted spellings piece
         → IsShort counted → AreAllowed spellings → DoNotClash spellings → (custom ≡ true → name_primitives spellings ≡ false)
         → statement_count piece.blocks ≤ STATEMENT_LIMIT → IsScannerUnder policy enc custom counted spellings rules texts piece }
 {}
@@ -202,4 +244,19 @@ pub fn carried_states_are_blocks()
         → AllByRecursion (λ block. (block ≡ entry → ⊥) × IsOfScanner piece.blocks entry block × StandsIn piece.blocks block Peek) blocks
         → IsDistinct nat_eq blocks
         → (states : List ℕ) × (map carries.place states ≡ blocks) × AllByRecursion (HasEdge auto) states × IsDistinct nat_eq states }
+{}
+
+/// A piece whose blocks serve an automaton carries it, if different states with an edge stand at different blocks, each block of the
+/// scanner that reads a unit is one of these or the entry, and its statements name registers of the automaton.
+pub fn supplied_pieces_carry_automata()
+    ensures { (piece : Piece) (entry : ℕ) (endings : ℕ → Ending) (greatest : ℕ) (auto : Auto) (supply : Supply) (place saved rules : ℕ → ℕ) (fall : ℕ)
+        (end_rule : Option ℕ)
+        → supplied.Serves supply endings greatest auto (code_of piece.blocks) place saved rules fall
+        → ServesEntry supply endings greatest auto (code_of piece.blocks) place saved rules fall end_rule entry
+        → IsAuto auto → piece.eof ≡ supply.eof → ((unit : ℕ) → IsUnitOf piece unit → unit ≤ greatest)
+        → ((state other : ℕ) → HasEdge auto state → HasEdge auto other → place state ≡ place other → state ≡ other)
+        → ((block : ℕ) → IsOfScanner piece.blocks entry block → StandsIn piece.blocks block Peek
+        → (block ≡ entry) ⊎ ((state : ℕ) × HasEdge auto state × (place state ≡ block)))
+        → ((statement : Stmt) → IsMadeBy piece.blocks entry statement → NamesItsOwn auto statement)
+        → Carries piece entry endings auto }
 {}

@@ -5,7 +5,7 @@ ghost use Rattle.lx_base.specs.declared.limits.TheConstants.{STATEMENT_LIMIT};
 ghost use Rattle.lx_auto.specs.Automaton.{IsAuto};
 ghost use Rattle.lx_ccode.specs.Statements.{code_of, statement_count};
 ghost use Rattle.lx_ccode.specs.declared.piece.CodeBlock.{CodeBlock};
-ghost use Rattle.lx_gen.specs.Layout.{accepts_of, ending_blocks, layout};
+ghost use Rattle.lx_gen.specs.Layout.{IsLayout, accepts_of, ending_blocks};
 ghost use Rattle.lx_gen.specs.Plans.{AreEnds, AcceptsHaveEndings, unlabelled};
 ghost use Rattle.lx_gen.specs.Rules.{endings_of};
 
@@ -50,7 +50,8 @@ fn all_blocks(
 ) -> Result<Vec<CodeBlock>, Memory>
     requires formed { IsAuto auto.now }
     requires told { AcceptsHaveEndings (endings_of rules.now texts.now) auto.now.states }
-    ensures { IfOk result (λ blocks. blocks.items ≡ unlabelled (layout (endings_of rules.now texts.now) greatest auto.now 0)) }
+    ensures code { IfOk result (λ blocks. IsLayout (endings_of rules.now texts.now) greatest auto.now (code_of blocks.items)) }
+    ensures labels { IfOk result (λ blocks. AllByRecursion (λ (block : CodeBlock). block.cond ≡ None) blocks.items) }
 {
     let places = places_of(alloc, greatest, auto)?;
     let mut blocks = Vec::new(alloc);
@@ -73,7 +74,7 @@ pub(crate) fn blocks_of(
 ) -> Result<Vec<CodeBlock>, Memory>
     requires formed { IsAuto auto.now }
     requires told { AcceptsHaveEndings (endings_of rules.now texts.now) auto.now.states }
-    ensures code { IfOk result (λ blocks. code_of blocks.items ≡ layout (endings_of rules.now texts.now) greatest auto.now 0) }
+    ensures code { IfOk result (λ blocks. IsLayout (endings_of rules.now texts.now) greatest auto.now (code_of blocks.items)) }
     ensures labels { IfOk result (λ blocks. AllByRecursion (λ (block : CodeBlock). block.cond ≡ None) blocks.items) }
     ensures few { IfOk result (λ blocks. statement_count blocks.items ≤ STATEMENT_LIMIT) }
 {

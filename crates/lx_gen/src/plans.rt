@@ -1,7 +1,8 @@
 //! The transition classes and the tests of all states, and how many blocks these need.
 ghost use Rattle.std.specs.Prelude.{◌≡◌, ℕ, IfOk};
-ghost use Rattle.lx_gen.specs.Layout.{end_of, end_size, lone_size, state_size};
-ghost use Rattle.lx_gen.specs.Plans.{ArePlanned, IsPlanned, seen_states};
+ghost use Rattle.lx_auto.specs.Automaton.{AreApart};
+ghost use Rattle.lx_gen.specs.Layout.{end_of, end_size, lone_size};
+ghost use Rattle.lx_gen.specs.Plans.{ArePlanned, HaveOrder, IsPlanned, plan_size, seen_states, trees_of};
 
 use crate::blocks::sum;
 use crate::test_trees::{TestTree, front_size, split_tree};
@@ -21,6 +22,7 @@ pub(crate) struct Plan<'a> {
 
 /// The transition classes and the tests of a state for units up to a greatest one.
 fn plan_of<'a>(alloc: Global, greatest: u32, state: &'a State) -> Result<Plan<'a>, Memory>
+    requires { AreApart state.now.edges }
     ensures state { IfOk result (λ plan. plan.state.now ≡ state.now) }
     ensures planned { IfOk result (λ plan. IsPlanned greatest plan) }
 {
@@ -41,6 +43,7 @@ pub(crate) fn plans_of<'a>(
     greatest: u32,
     states: &'a [State],
 ) -> Result<Vec<Plan<'a>>, Memory>
+    requires { HaveOrder states.now }
     ensures states { IfOk result (λ plans. seen_states plans.items ≡ states.now) }
     ensures planned { IfOk result (λ plans. ArePlanned greatest plans.items) }
 {
@@ -70,7 +73,7 @@ fn lone_size(number: usize, accept: &Option<Accept>) -> u64
 
 /// How many blocks the state with this number has.
 pub(crate) fn state_size(number: usize, plan: &Plan<'_>) -> Result<u64, Memory>
-    ensures { (greatest : ℕ) → IsPlanned greatest plan.now → IfOk result (λ size. size ≡ state_size greatest number plan.now.state.now) }
+    ensures { (greatest : ℕ) → IsPlanned greatest plan.now → IfOk result (λ size. size ≡ plan_size number plan.now) }
 {
     let state = plan.state;
     if state.edges.as_slice().is_empty() {
@@ -82,7 +85,7 @@ pub(crate) fn state_size(number: usize, plan: &Plan<'_>) -> Result<u64, Memory>
 
 /// Where the blocks of states end, which begin with block 0.
 pub(crate) fn end_of(plans: &[Plan<'_>]) -> Result<u64, Memory>
-    ensures { (greatest : ℕ) → ArePlanned greatest plans.now → IfOk result (λ end. end ≡ end_of greatest 0 0 (seen_states plans.now)) }
+    ensures { (greatest : ℕ) → ArePlanned greatest plans.now → IfOk result (λ end. end ≡ end_of (trees_of plans.now) 0 0 (seen_states plans.now)) }
 {
     let mut end = 0;
     for (number, plan) in plans.iter().enumerate() {

@@ -2,8 +2,8 @@
 ghost use Rattle.std.specs.Prelude.{◌≡◌, ℕ, ◌<◌, ◌≤◌, [], ◌++◌, IfOk, OnOk, length};
 ghost use Rattle.lx_auto.specs.Automaton.{AreOps, IsAccept, IsState, LeadWithin};
 ghost use Rattle.lx_gen.specs.Codes.{edge_code, save_code};
-ghost use Rattle.lx_gen.specs.Layout.{end_blocks, fall_block, lone_blocks, lone_code};
-ghost use Rattle.lx_gen.specs.Plans.{AreEnds, ArePlaced, IsPlanned, blocks_of_state, blocks_of_states, blocks_of_classes, rule_at, unlabelled};
+ghost use Rattle.lx_gen.specs.Layout.{end_blocks, lone_blocks, lone_code};
+ghost use Rattle.lx_gen.specs.Plans.{AreEnds, ArePlaced, IsPlanned, blocks_of_classes, blocks_of_plan, blocks_of_states, fall_at, rule_at, unlabelled};
 ghost use Rattle.lx_gen.specs.Views.{seen_classes};
 
 use crate::accepts::saves_on;
@@ -92,7 +92,7 @@ fn append_end(
     requires ends { AreEnds ends.now }
     requires there { IsAccept ends.now.auto.now.regs ends.now.auto.now.mregs accept.now }
     ensures { OnOk result (blocks.new.items
-        ≡ blocks.old.items ++ unlabelled (end_blocks ends.now.greatest ends.now.auto.now (rule_at ends.now) (fall_block ends.now.greatest ends.now.auto.now 0) accept.now)) }
+        ≡ blocks.old.items ++ unlabelled (end_blocks ends.now.auto.now (rule_at ends.now) (fall_at ends.now) accept.now)) }
 {
     match accept {
         Some(accept) if !accept.ops.as_slice().is_empty() => {
@@ -107,7 +107,7 @@ fn lone_code(alloc: Global, ends: &Ends<'_>, accept: &Option<Accept>) -> Result<
     requires ends { AreEnds ends.now }
     requires there { IsAccept ends.now.auto.now.regs ends.now.auto.now.mregs accept.now }
     ensures { IfOk result (λ stmts. stmts.items
-        ≡ lone_code ends.now.greatest ends.now.auto.now (rule_at ends.now) (fall_block ends.now.greatest ends.now.auto.now 0) accept.now) }
+        ≡ lone_code ends.now.auto.now (rule_at ends.now) (fall_at ends.now) accept.now) }
 {
     match accept {
         None => {
@@ -129,7 +129,7 @@ fn append_lone(
     requires ends { AreEnds ends.now }
     requires there { IsAccept ends.now.auto.now.regs ends.now.auto.now.mregs accept.now }
     ensures { OnOk result (blocks.new.items
-        ≡ blocks.old.items ++ unlabelled (lone_blocks ends.now.greatest ends.now.auto.now (rule_at ends.now) (fall_block ends.now.greatest ends.now.auto.now 0) number accept.now)) }
+        ≡ blocks.old.items ++ unlabelled (lone_blocks ends.now.auto.now (rule_at ends.now) (fall_at ends.now) number accept.now)) }
 {
     if number == 0 {
         return append_block(blocks, lone_code(alloc, ends, accept)?);
@@ -150,7 +150,7 @@ fn append_branches(
     requires state { IsState places.now.ends.auto.now.regs places.now.ends.auto.now.mregs (length places.now.ends.auto.now.states) plan.now.state.now }
     requires some { 0 < length plan.now.state.now.edges }
     ensures { OnOk result ((number : ℕ) → blocks.new.items
-        ≡ blocks.old.items ++ unlabelled (blocks_of_state places.now.ends number from plan.now.state.now)) }
+        ≡ blocks.old.items ++ unlabelled (blocks_of_plan places.now.ends number from plan.now)) }
 {
     let state = plan.state;
     let first = sum(from, front_size(&plan.tests)?)?;
@@ -174,7 +174,7 @@ fn append_state(
     requires planned { IsPlanned places.now.ends.greatest plan.now }
     requires state { IsState places.now.ends.auto.now.regs places.now.ends.auto.now.mregs (length places.now.ends.auto.now.states) plan.now.state.now }
     ensures { OnOk result (blocks.new.items
-        ≡ blocks.old.items ++ unlabelled (blocks_of_state places.now.ends number from plan.now.state.now)) }
+        ≡ blocks.old.items ++ unlabelled (blocks_of_plan places.now.ends number from plan.now)) }
 {
     let state = plan.state;
     if state.edges.as_slice().is_empty() {

@@ -1,9 +1,8 @@
 //! Tests of a unit as a tree.
-ghost use Rattle.std.specs.Prelude.{◌≡◌, position, nat_eq, IfOk};
+ghost use Rattle.std.specs.Prelude.{◌≡◌, ◌+◌, ◌-◌, ◌*◌, ◌^◌, ◌<◌, ◌≤◌, IfOk, length};
 ghost use Rattle.lx_gen.specs.Layout.{front_size};
-ghost use Rattle.lx_gen.specs.TestTrees.{balanced, first_place, group_place, inner_size, split_tree};
+ghost use Rattle.lx_gen.specs.TestTrees.{Ascend, IsTreeOf, IsTreeWithin, inner_size};
 ghost use Rattle.lx_gen.specs.Views.{seen_split, seen_stretches, seen_tree};
-ghost use Rattle.lx_gen.specs.declared.unit_splits.Stretch.{Stretch};
 
 use crate::blocks::sum;
 use crate::unit_splits::{Split, Stretch};
@@ -29,44 +28,64 @@ pub(crate) enum TestTree {
     },
 }
 
-/// The place of the stretch that ends with a unit.
-fn end_place(tests: &[Stretch], unit: u32) -> Option<usize>
-    ensures { result ≡ position (λ (test : Stretch). nat_eq test.greatest unit) tests.now }
-{
-    tests.iter().position(|test| test.greatest == unit)
-}
+/// The units behind which a test is wished for, each before the next ones: the last ones before the digits, before the small
+/// letters, and before the capital letters, the space, and the last small letter. Texts are made of few such groups of ASCII, whose
+/// units are mostly of one class, so that a test between two groups spares others.
+const GROUP_ENDS: [u32; 5] = [0x2F, 0x60, 0x40, 0x20, 0x7A];
 
-/// The place of the first test that parts two groups of ASCII: behind the space, before the letters, behind the small letters, or
-/// before these. Texts are made of few groups, whose units are mostly of one class, so that such a test spares others.
-fn group_place(tests: &[Stretch]) -> Option<usize>
-    ensures { result ≡ group_place (seen_stretches tests.now) }
+/// The place of the test that comes first, of those from `low` up to `high`: behind a group of ASCII, or in the middle.
+fn chosen_place(tests: &[Stretch], low: usize, high: usize) -> usize
+    requires { low ≤ high }
+    ensures least { low ≤ result }
+    ensures most { result ≤ high }
 {
-    end_place(tests, 0x20)
-        .or(end_place(tests, 0x40))
-        .or(end_place(tests, 0x7A))
-        .or(end_place(tests, 0x60))
-}
-
-/// The place of the test that comes first: up to three come one after another, and of more the groups are parted before halves.
-fn first_place(tests: &[Stretch]) -> usize
-    ensures { result ≡ first_place (seen_stretches tests.now) }
-{
-    if tests.len() <= 3 {
-        return 0;
+    for unit in GROUP_ENDS {
+        match tests.iter().position(|test| test.greatest == unit) {
+            Some(place) if low <= place && place <= high => return place,
+            _ => {}
+        }
     }
-    group_place(tests).unwrap_or((tests.len() - 3) / 2)
+    low + (high - low) / 2
 }
 
-/// A tree of tests.
-fn balanced(alloc: Global, tests: &[Stretch], last: Option<usize>) -> Result<TestTree, Memory>
-    ensures { IfOk result (λ tree. seen_tree tree ≡ balanced (seen_stretches tests.now) last) }
+/// The place of the test that comes first, where a unit may be tested `left` times: one test less has to do on each side of it.
+fn first_place(tests: &[Stretch], left: u32) -> usize
+    requires some { 0 < length tests.now }
+    requires fit { length tests.now < 2 ^ left }
+    requires few { left ≤ 64 }
+    ensures within { result < length tests.now }
+    ensures low { result < 2 ^ (left - 1) }
+    ensures high { length tests.now ≤ result + 2 ^ (left - 1) }
+{
+    // A side has fewer tests than this.
+    let most = 2usize.pow(left - 1);
+    let low = tests.len().saturating_sub(most);
+    if tests.len() <= left as usize {
+        // They may come one after another, from the first one on.
+        return low;
+    }
+    let high = tests.len().min(most) - 1;
+    chosen_place(tests, low, high)
+}
+
+/// A tree of tests that tests no unit more than `left` times.
+fn tree_of(
+    alloc: Global,
+    tests: &[Stretch],
+    last: Option<usize>,
+    left: u32,
+) -> Result<TestTree, Memory>
+    requires order { Ascend 0 (seen_stretches tests.now) }
+    requires fit { length tests.now < 2 ^ left }
+    requires few { left ≤ 64 }
+    ensures { IfOk result (λ tree. IsTreeWithin left (record { tests = seen_stretches tests.now; last = last }) (seen_tree tree)) }
 {
     if tests.is_empty() {
         return Ok(TestTree::Leaf(last));
     }
-    let place = first_place(tests);
+    let place = first_place(tests, left);
     let Stretch { greatest, class } = tests[place];
-    let high = Box::new(alloc, balanced(alloc, &tests[place + 1..], last)?)?;
+    let high = Box::new(alloc, tree_of(alloc, &tests[place + 1..], last, left - 1)?)?;
     if place == 0 {
         return Ok(TestTree::Test {
             greatest,
@@ -74,7 +93,7 @@ fn balanced(alloc: Global, tests: &[Stretch], last: Option<usize>) -> Result<Tes
             high,
         });
     }
-    let low = Box::new(alloc, balanced(alloc, &tests[..place], class)?)?;
+    let low = Box::new(alloc, tree_of(alloc, &tests[..place], class, left - 1)?)?;
     Ok(TestTree::Fork {
         greatest,
         low,
@@ -82,11 +101,24 @@ fn balanced(alloc: Global, tests: &[Stretch], last: Option<usize>) -> Result<Tes
     })
 }
 
-/// The tests of a split as a tree.
-pub(crate) fn split_tree(alloc: Global, split: &Split) -> Result<TestTree, Memory>
-    ensures { IfOk result (λ tree. seen_tree tree ≡ split_tree (seen_split split.now)) }
+/// How many binary digits a number has.
+fn digit_count(number: usize) -> u32
+    requires { 0 < number }
+    ensures least { number < 2 ^ result }
+    ensures most { 2 ^ result ≤ 2 * number }
+    ensures few { result ≤ 64 }
 {
-    balanced(alloc, &split.tests, split.last)
+    number.ilog2() + 1
+}
+
+/// The tests of a split as a tree, in which no unit is tested more often than the number of the runs has binary digits. The units
+/// behind the last test are a run, too.
+pub(crate) fn split_tree(alloc: Global, split: &Split) -> Result<TestTree, Memory>
+    requires { Ascend 0 (seen_stretches split.now.tests.items) }
+    ensures { IfOk result (λ tree. IsTreeOf (seen_split split.now) (seen_tree tree)) }
+{
+    let runs = split.tests.len() + 1;
+    tree_of(alloc, &split.tests, split.last, digit_count(runs))
 }
 
 /// How many blocks a tree needs for its lower tests.

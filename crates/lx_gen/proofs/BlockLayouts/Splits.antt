@@ -4,9 +4,9 @@ use Rattle.std.proofs.Common.{sym, ap, ◌∙◌, arith, eqb-true, le-leb, leb-t
 use Rattle.lx_auto.specs.Automaton.{AreApartFrom, edge_on}
 use Rattle.lx_auto.specs.declared.automaton.Edge.{Edge}
 use Rattle.lx_auto.proofs.Edges.{edge_on-before, edge_on-here, edge_on-past}
-use Rattle.lx_gen.specs.TestTrees.{edge_tree, picked}
+use Rattle.lx_gen.specs.TestTrees.{Ascend, PicksAs, TestTree, class_on, picked}
 use Rattle.lx_gen.specs.TransitionClasses.{Stretch, before, edge_split, first_class, same_place, split_of, stretches, class_place, transition_classes}
-use Rattle.lx_gen.proofs.BlockLayouts.BalancedTrees.{Ascend, picked-balanced, class_on}
+use Rattle.lx_gen.proofs.BlockLayouts.SplitTrees.{Ascend-earlier}
 
 -- the place of an edge's class, if there is an edge
 abbrev pub edge_class : List Edge → Option Edge → Option ℕ
@@ -56,10 +56,6 @@ class_on-stretches classes low (edge ∷ edges) unit apart from =
         by false g = let lt : edge.lo - 1 < unit = leb-false unit (edge.lo - 1) g in own (omega (arith, lt, below)) again
 
 -- ---- tests
-
-Ascend-earlier : (low high : ℕ) (stretches : List Stretch) → low ≤ high → Ascend high stretches → Ascend low stretches
-Ascend-earlier low high [] le h = tt
-Ascend-earlier low high (stretch ∷ stretches) le h = (omega (arith, h.0), h.1)
 
 Ascend-stretches : (classes : List Edge) (low : ℕ) (edges : List Edge) → AreApartFrom low edges → Ascend low (stretches classes low edges)
 Ascend-stretches classes low [] apart = tt
@@ -155,10 +151,11 @@ class_on-edge_split greatest edges unit apart le =
     class_on-split_of greatest 0 (stretches (transition_classes edges) 0 edges) unit (Ascend-stretches (transition_classes edges) 0 edges apart) le
     ∙ class_on-stretches (transition_classes edges) 0 edges unit apart (omega arith)
 
--- the tests of a state
-pub picked-edge_tree : (greatest : ℕ) (edges : List Edge) (unit : ℕ) → AreApartFrom 0 edges → unit ≤ greatest
-    → picked (edge_tree greatest edges) unit ≡ edge_class (transition_classes edges) (edge_on edges unit)
-picked-edge_tree greatest edges unit apart le =
-    picked-balanced 0 (edge_split greatest edges).tests (edge_split greatest edges).last unit
-    (Ascend-split_of greatest 0 (stretches (transition_classes edges) 0 edges) (Ascend-stretches (transition_classes edges) 0 edges apart))
-    ∙ class_on-edge_split greatest edges unit apart le
+pub Ascend-edge_split : (greatest : ℕ) (edges : List Edge) → AreApartFrom 0 edges → Ascend 0 (edge_split greatest edges).tests
+Ascend-edge_split greatest edges apart =
+    Ascend-split_of greatest 0 (stretches (transition_classes edges) 0 edges) (Ascend-stretches (transition_classes edges) 0 edges apart)
+
+-- a tree of the tests of a state
+pub picked-tree : (greatest : ℕ) (edges : List Edge) (tree : TestTree (Option ℕ)) (unit : ℕ) → PicksAs (edge_split greatest edges) tree
+    → AreApartFrom 0 edges → unit ≤ greatest → picked tree unit ≡ edge_class (transition_classes edges) (edge_on edges unit)
+picked-tree greatest edges tree unit picks apart le = picks unit ∙ class_on-edge_split greatest edges unit apart le

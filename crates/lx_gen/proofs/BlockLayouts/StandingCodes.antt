@@ -46,7 +46,7 @@ length-block [] i b e = absurd (cc)
 length-block (c ∷ codes) zero b e = let k : c ≡ b = cc in let l : length c ≡ length b = ap length k in omega arith
 length-block (c ∷ codes) (suc i) b e = let k = length-block codes i b e in omega (arith, k)
 
-others : (block : List Stmt) (blocks : List (List Stmt)) (i : ℕ) (a : List (List Stmt)) → StandsFrom (block ∷ blocks) (suc i) a → StandsFrom blocks i a
+pub others : (block : List Stmt) (blocks : List (List Stmt)) (i : ℕ) (a : List (List Stmt)) → StandsFrom (block ∷ blocks) (suc i) a → StandsFrom blocks i a
 others block blocks i [] h = tt
 others block blocks i (c ∷ a) h = (h.0, others block blocks (suc i) a h.1)
 

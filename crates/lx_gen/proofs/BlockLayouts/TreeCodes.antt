@@ -6,8 +6,7 @@ use Rattle.lx_ccode.specs.Statements.{code_length}
 use Rattle.lx_ccode.specs.declared.piece.Stmt.{Stmt}
 use Rattle.lx_ccode.specs.declared.piece.Stmt.TheVariants.{Goto, IfUnit, Peek}
 use Rattle.lx_gen.specs.Layout.{front_blocks, front_size, numbered, class_block}
-use Rattle.lx_gen.specs.TestTrees.{TestTree, fork, inner_blocks, inner_size, leaf, picked, test, tree_code}
-use Rattle.lx_gen.proofs.BlockLayouts.BalancedTrees.{EachTest}
+use Rattle.lx_gen.specs.TestTrees.{EachTest, TestTree, fork, inner_blocks, inner_size, leaf, picked, test, tree_code}
 use Rattle.lx_gen.proofs.Validity.EachElement.{each-append}
 
 -- how many statements a tree has

@@ -23,7 +23,7 @@ abbrev pub held_values : Bank → List Held → List Value
 held_values k hs = map tag_value (read_all k hs)
 
 -- one of them, if there is one
-abbrev held_value : Bank → Option Held → Option Value
+abbrev pub held_value : Bank → Option Held → Option Value
 held_value k None = None
 held_value k (Some h) = Some (tag_value (read k h))
 
@@ -32,17 +32,17 @@ slice_get-held_values k [] j = refl
 slice_get-held_values k (h ∷ hs) zero = refl
 slice_get-held_values k (h ∷ hs) (suc j) = slice_get-held_values k hs j
 
-slash_value-held : (k : Bank) (hs : List Held) (s : Option ℕ) → slash_value s (held_values k hs) ≡ held_value k (slash_held s hs)
+pub slash_value-held : (k : Bank) (hs : List Held) (s : Option ℕ) → slash_value s (held_values k hs) ≡ held_value k (slash_held s hs)
 slash_value-held k hs None = refl
 slash_value-held k hs (Some j) = slice_get-held_values k hs j
 
-module _ (p : Piece) (x : List ℕ) (start : ℕ) (mk lim : ℕ) (u : Option ℕ) (ac : ℕ) (r0 : Option ℕ) (k : Bank) (q : List Answer) (n0 : ℕ) where
+module _ (p : Piece) (x : List ℕ) (start : ℕ) (mk lim : ℕ) (u : Option ℕ) (ac : ℕ) (kept r0 : Option ℕ) (k : Bank) (q : List Answer) (n0 : ℕ) where
   -- code ends so, from a cursor, a condition and what was given, with so many steps behind it
   record Gives (b : List Stmt) (cur : ℕ) (c : List ℕ) (l : List machine.Value) (e : Ended) : Type 0 where
-    gives : EndsIn p x start (length b + n0) b (machine_at cur mk lim u ac r0 k c l) q e
+    gives : EndsIn p x start (length b + n0) b (machine_at cur mk lim u ac kept r0 k c l) q e
 
   first : {s : Stmt} {b : List Stmt} {cur cur' : ℕ} {c c' : List ℕ} {l l' : List machine.Value} {e : Ended}
-      → step p x s b (machine_at cur mk lim u ac r0 k c l) q ≡ goes_on b (machine_at cur' mk lim u ac r0 k c' l') q → Gives b cur' c' l' e
+      → step p x s b (machine_at cur mk lim u ac kept r0 k c l) q ≡ goes_on b (machine_at cur' mk lim u ac kept r0 k c' l') q → Gives b cur' c' l' e
       → Gives (s ∷ b) cur c l e
   first {s} {b} h g = record { gives = end_in p x start (suc (length b) + n0) (step_in p x start h (omega arith)) g.gives (omega arith) }
 
@@ -121,9 +121,9 @@ module _ (p : Piece) (x : List ℕ) (start : ℕ) (mk lim : ℕ) (u : Option ℕ
       at : (v : Option ℕ) → k.regs r ≡ v → Gives (Back (suc r) ∷ rest) cur c l (told_on n a c l cur v)
       at None e = record { gives = widen_end p x start (suc (length rest) + n0) one_step (omega arith) }
         where
-          one_step : EndsIn p x start 1 (Back (suc r) ∷ rest) (machine_at cur mk lim u ac r0 k c l) q (told_on n a c l cur None)
-          one_step = last_in p x start (ap (λ v. back v rest (machine_at cur mk lim u ac r0 k c l) q) e)
-      at (Some v) e = first (ap (λ v. back v rest (machine_at cur mk lim u ac r0 k c l) q) e) (by_rest v c l)
+          one_step : EndsIn p x start 1 (Back (suc r) ∷ rest) (machine_at cur mk lim u ac kept r0 k c l) q (told_on n a c l cur None)
+          one_step = last_in p x start (ap (λ v. back v rest (machine_at cur mk lim u ac kept r0 k c l) q) e)
+      at (Some v) e = first (ap (λ v. back v rest (machine_at cur mk lim u ac kept r0 k c l) q) e) (by_rest v c l)
 
   told_on-with : (endings : ℕ → Ending) (n : ℕ) (vs : List Value) (cur : ℕ) (c : List ℕ) (o : Option ℕ)
       → told_on n (endings n) c (values_given (endings n) 0 (endings n).tags vs) cur o ≡ told_with endings c n cur vs o
@@ -142,23 +142,23 @@ module _ (p : Piece) (x : List ℕ) (start : ℕ) (mk lim : ℕ) (u : Option ℕ
       (tags_run a 0 a.tags hs tail cur c [] e (subst (λ z. Gives tail cur c vs (told_on n a c vs cur (put_back z cur))) (sym
       (slash_value-held k hs a.slash)) (back_run n a rest (slash_held a.slash hs) cur c vs by_rest)))
 
-module _ (p : Piece) (x : List ℕ) (start : ℕ) (mk lim : ℕ) (u : Option ℕ) (ac : ℕ) (r0 : Option ℕ) (k : Bank) (q : List Answer)
+module _ (p : Piece) (x : List ℕ) (start : ℕ) (mk lim : ℕ) (u : Option ℕ) (ac : ℕ) (kept r0 : Option ℕ) (k : Bank) (q : List Answer)
     (endings : ℕ → Ending) where
   -- from the rule's block on, with the values held so
   pub ending_run : (n : ℕ) (hs : List Held) (cur : ℕ) (c : List ℕ)
-      → EndsIn p x start (length (ending_code endings n hs)) (ending_code endings n hs) (machine_at cur mk lim u ac r0 k c []) q
+      → EndsIn p x start (length (ending_code endings n hs)) (ending_code endings n hs) (machine_at cur mk lim u ac kept r0 k c []) q
       (told_at endings c n cur (held_values k hs))
   ending_run n hs cur c =
       let z : length (ending_code endings n hs) + 0 ≤ length (ending_code endings n hs) = omega arith in
-      widen_end p x start (length (ending_code endings n hs)) (rule_run p x start mk lim u ac r0 k q 0 endings n hs (last_code endings n) cur c
-      (last_run p x start mk lim u ac r0 k q 0 endings n)).gives z
+      widen_end p x start (length (ending_code endings n hs)) (rule_run p x start mk lim u ac kept r0 k q 0 endings n hs (last_code endings n) cur c
+      (last_run p x start mk lim u ac kept r0 k q 0 endings n)).gives z
 
   -- by a jump to that block
   pub goto_run : (n block : ℕ) (hs : List Held) (cur : ℕ) (c : List ℕ)
       → slice_get (code_of p.blocks) block ≡ Some (ending_code endings n hs)
-      → EndsIn p x start (suc (length (ending_code endings n hs))) (Goto block ∷ []) (machine_at cur mk lim u ac r0 k c []) q
+      → EndsIn p x start (suc (length (ending_code endings n hs))) (Goto block ∷ []) (machine_at cur mk lim u ac kept r0 k c []) q
       (told_at endings c n cur (held_values k hs))
   goto_run n block hs cur c has =
-      let m : Machine = machine_at cur mk lim u ac r0 k c [] in
+      let m : Machine = machine_at cur mk lim u ac kept r0 k c [] in
       let s = step_in p x start {s = Goto block} {b = []} {m = m} {q = q} (ap (λ o. jump o m q) has) (omega arith) in
       end_in p x start (suc (length (ending_code endings n hs))) s (ending_run n hs cur c) (omega arith)

@@ -1,5 +1,5 @@
 -- A piece whose blocks are the layout of the automaton of rules is a scanner of these rules.
-use Rattle.std.specs.Prelude.{◌≡◌, ℕ, zero, suc, ◌-◌, ◌<◌, ◌≤◌, Bool, true, false, List, None, Some, slice_get}
+use Rattle.std.specs.Prelude.{◌≡◌, ℕ, zero, suc, ◌-◌, ◌<◌, ◌≤◌, Bool, true, false, List, Option, None, Some, slice_get}
 use Rattle.std.proofs.Common.{sym, ap, ◌∙◌, subst, arith}
 use Rattle.lx_base.specs.declared.limits.TheConstants.{STATEMENT_LIMIT}
 use Rattle.lx_auto.specs.declared.automaton.Auto.{Auto}
@@ -24,9 +24,10 @@ use Rattle.lx_regex.specs.declared.rules.Rule.{Rule}
 use Rattle.lx_tdfa.specs.Promise.{IsAutoUnder}
 use Rattle.lx_gen.specs.Actions.{IsOwnAction}
 use Rattle.lx_gen.specs.Endings.{Ending}
-use Rattle.lx_gen.specs.Layout.{StandsFrom, layout}
+use Rattle.lx_gen.specs.Layout.{EachTree, StandsFrom, layout}
 use Rattle.lx_gen.specs.Rules.{HasAction, endings_of, text_of}
 use Rattle.lx_gen.specs.Scanner.{AreNamed, AreShort, IsScannerUnder}
+use Rattle.lx_gen.specs.TestTrees.{IsTreeOf, PicksAs, TestTree, TestsWithin}
 use Rattle.lx_gen.specs.Written.{AreWritten, IsUnconditional}
 use Rattle.lx_gen.proofs.Validity.ActionCounts.{actions_once, actions_own}
 use Rattle.lx_gen.proofs.Validity.EachElement.{each-both}
@@ -36,6 +37,7 @@ use Rattle.lx_gen.proofs.Validity.LayoutLaws.{layout_right}
 use Rattle.lx_gen.proofs.Validity.QuietCodes.{layout_asks_nothing}
 use Rattle.lx_gen.proofs.Rules.RuleEndings.{endings-action, endings-no_line, limited_ends}
 use Rattle.lx_gen.proofs.Rules.RuleNames.{rules_written}
+use Rattle.lx_gen.proofs.BlockLayouts.LayoutTrees.{each-trees}
 use Rattle.lx_gen.proofs.BlockLayouts.StandingCodes.{StandsFrom-itself}
 use Rattle.lx_gen.proofs.Validity.ValidLayouts.{layout_mregs, blocks_fine, layout_valid}
 
@@ -64,18 +66,21 @@ HasAction-own names rules texts (Code number line action) own fine =
 HasAction-own names rules texts (Jump cond number) own fine = absurd fine
 HasAction-own names rules texts _ own fine = tt
 
+within : (greatest : ℕ) (trees : ℕ → TestTree (Option ℕ)) (auto : Auto) → EachTree IsTreeOf greatest trees 0 auto.states → EachTree TestsWithin greatest trees 0 auto.states
+within greatest trees auto are = each-trees IsTreeOf greatest trees TestsWithin (λ split tree is. is.ends) 0 auto.states are
+
 -- the numbers of histories in the scanner of rules leave room for one more
-pub scanner_mregs : (policy : Policy) (enc : Enc) (spellings : Spellings) (rules : List Rule) (texts : List (List ℕ)) (auto : Auto) (blocks : List CodeBlock)
-    → IsAutoUnder policy enc (patterns_of rules) auto → IsWithinLimits rules → AreShort texts → AreNamed spellings texts rules
-    → code_of blocks ≡ layout (endings_of rules texts) (greatest_unit enc) auto 0 → IsShort (mregs_of blocks)
-scanner_mregs policy enc spellings rules texts auto blocks is limits short named same =
-    layout_mregs spellings (endings_of rules texts) (greatest_unit enc) auto blocks is.fits.formed is.fits.units (greatest_unit-short enc)
+pub scanner_mregs : (policy : Policy) (enc : Enc) (spellings : Spellings) (rules : List Rule) (texts : List (List ℕ)) (trees : ℕ → TestTree (Option ℕ)) (auto : Auto)
+    (blocks : List CodeBlock) → IsAutoUnder policy enc (patterns_of rules) auto → EachTree IsTreeOf (greatest_unit enc) trees 0 auto.states → IsWithinLimits rules → AreShort texts → AreNamed spellings texts rules
+    → code_of blocks ≡ layout (endings_of rules texts) trees auto 0 → IsShort (mregs_of blocks)
+scanner_mregs policy enc spellings rules texts trees auto blocks is are limits short named same =
+    layout_mregs spellings (endings_of rules texts) (greatest_unit enc) trees auto blocks is.fits.formed (within (greatest_unit enc) trees auto are) is.fits.units (greatest_unit-short enc)
     (rules_written spellings enc rules texts auto.states limits short named is.fits.rules) same
 
-module _ (policy : Policy) (enc : Enc) (custom : Bool) (counted : ℕ) (spellings : Spellings) (rules : List Rule) (texts : List (List ℕ)) (auto : Auto) (piece : Piece)
-    (is : IsAutoUnder policy enc (patterns_of rules) auto) (no_end : end_rule (patterns_of rules) ≡ None) (limits : IsWithinLimits rules)
+module _ (policy : Policy) (enc : Enc) (custom : Bool) (counted : ℕ) (spellings : Spellings) (rules : List Rule) (texts : List (List ℕ)) (trees : ℕ → TestTree (Option ℕ)) (auto : Auto)
+    (piece : Piece) (is : IsAutoUnder policy enc (patterns_of rules) auto) (are : EachTree IsTreeOf (greatest_unit enc) trees 0 auto.states) (no_end : end_rule (patterns_of rules) ≡ None) (limits : IsWithinLimits rules)
     (short : AreShort texts) (named : AreNamed spellings texts rules)
-    (same : code_of piece.blocks ≡ layout (endings_of rules texts) (greatest_unit enc) auto 0) (bare : IsUnconditional enc custom counted spellings piece)
+    (same : code_of piece.blocks ≡ layout (endings_of rules texts) trees auto 0) (bare : IsUnconditional enc custom counted spellings piece)
     (number : IsShort counted) (allowed : AreAllowed spellings) (differ : DoNotClash spellings)
     (free : custom ≡ true → name_primitives spellings ≡ false) (few : statement_count piece.blocks ≤ STATEMENT_LIMIT) where
   written : AreWritten spellings (endings_of rules texts) auto.states
@@ -85,19 +90,21 @@ module _ (policy : Policy) (enc : Enc) (custom : Bool) (counted : ℕ) (spelling
   scanner =
       let endings : ℕ → Ending = endings_of rules texts in
       let greatest : ℕ = greatest_unit enc in
-      let quiet = layout_asks_nothing endings greatest auto 0 piece.blocks same in
+      let tested = within (greatest_unit enc) trees auto are in
+      let quiet = layout_asks_nothing endings trees auto 0 piece.blocks same in
       record {
-        valid = layout_valid enc custom counted spellings endings greatest auto piece is.fits.formed is.fits.units (greatest_unit-short enc) written same bare
+        valid = layout_valid enc custom counted spellings endings greatest trees auto piece is.fits.formed tested is.fits.units (greatest_unit-short enc) written same bare
             number allowed differ free few;
         fields = bare;
         no_refill = quiet.0;
         no_state = quiet.1;
         actions = each-both (IsOwnAction endings) (CanBeSpelled spellings) (HasAction texts) (HasAction-own spellings rules texts)
-            (all_statements piece.blocks) (actions_own endings greatest auto 0 piece.blocks same)
-            (all_fine spellings piece.blocks (blocks_fine enc custom counted spellings endings greatest auto piece is.fits.formed is.fits.units
+            (all_statements piece.blocks) (actions_own endings trees auto 0 piece.blocks same)
+            (all_fine spellings piece.blocks (blocks_fine enc custom counted spellings endings greatest trees auto piece is.fits.formed tested is.fits.units
             (greatest_unit-short enc) written same bare number allowed differ free few));
-        one_action = actions_once endings greatest auto 0 piece.blocks same;
-        right = λ cond. layout_right policy enc (patterns_of rules) auto endings piece 0 cond is (limited_ends enc rules texts limits no_end)
-            (subst (λ l. StandsFrom l 0 (layout endings greatest auto 0)) (sym same) (StandsFrom-itself (layout endings greatest auto 0)))
+        one_action = actions_once endings trees auto 0 piece.blocks same;
+        right = λ cond. layout_right policy enc (patterns_of rules) auto trees endings piece 0 cond is (limited_ends enc rules texts limits no_end)
+            (each-trees IsTreeOf (greatest_unit enc) trees PicksAs (λ split tree is. is.picks) 0 auto.states are)
+            (subst (λ l. StandsFrom l 0 (layout endings trees auto 0)) (sym same) (StandsFrom-itself (layout endings trees auto 0)))
             quiet.0 (ap (λ (l : List CondCase). entry_block l cond) bare.conds);
       }

@@ -12,7 +12,7 @@ use Rattle.lx_regex.specs.Match.{Takes}
 use Rattle.lx_regex.specs.Order.{Policy}
 use Rattle.lx_regex.specs.Pattern.{Pattern}
 use Rattle.lx_tdfa.specs.Promise.{FindsBest, IsAutoUnder, IsBest}
-use Rattle.lx_gen.specs.Stops.{Stops, last_standing, or_here, or_later}
+use Rattle.lx_gen.specs.Stops.{last_standing, or_here}
 
 same_cons : (letter unit : ℕ) (text other : List ℕ) → letter ≡ unit → text ≡ other → letter ∷ text ≡ unit ∷ other
 same_cons letter unit text other head tail = cc
@@ -110,14 +110,13 @@ module _ (policy : Policy) (enc : Enc) (patterns : List Pattern) (auto : Auto) (
   abbrev pub RunsTo : List ℕ → Standing → Type 0
   RunsTo word standing = run auto (start_with start bank) word ≡ Some standing
 
-  -- where the run on a stream stops
+  -- where the run on a stream stops: no edge is on the next unit, if there is one
   pub record IsStopped (stream : List ℕ) (last : Standing) : Type 0 where
     pub passed : List ℕ
-    pub unit : ℕ
     pub left : List ℕ
-    pub splits : stream ≡ passed ++ unit ∷ left
+    pub splits : stream ≡ passed ++ left
     pub runs : RunsTo passed last
-    pub no_edge : step auto last unit ≡ None
+    pub no_edge : (unit : ℕ) (more : List ℕ) → left ≡ unit ∷ more → step auto last unit ≡ None
     pub best : BestFront policy enc patterns start passed (found_behind auto last)
     pub offset : last.offset ≡ start + length passed
 
@@ -129,26 +128,33 @@ module _ (policy : Policy) (enc : Enc) (patterns : List Pattern) (auto : Auto) (
       by (Some edge) e = let same : behind_edge (state_of auto.states standing.state) standing edge ≡ next = cc in ap (λ s. s.offset) (sym same)
 
   stopped_from : (w passed : List ℕ) (standing : Standing) → RunsTo passed standing → BestFront policy enc patterns start passed (found_behind auto standing)
-      → standing.offset ≡ start + length passed → Stops auto standing w → IsStopped (passed ++ w) (last_standing auto standing w)
-  stopped_from [] passed standing runs best offset stops = absurd stops
-  stopped_from (v ∷ w) passed standing runs best offset stops =
-      by (step auto standing v) refl stops (λ next. stopped_from w (passed ++ v ∷ []) next)
+      → standing.offset ≡ start + length passed → IsStopped (passed ++ w) (last_standing auto standing w)
+  stopped_from [] passed standing runs best offset = record {
+    passed = passed;
+    left = [];
+    splits = refl;
+    runs = runs;
+    no_edge = λ unit more e. absurd (cc);
+    best = best;
+    offset = offset;
+  }
+  stopped_from (v ∷ w) passed standing runs best offset =
+      by (step auto standing v) refl (λ next. stopped_from w (passed ++ v ∷ []) next)
     where
-      by : (o : Option Standing) → step auto standing v ≡ o → or_later o (λ next. Stops auto next w)
+      by : (o : Option Standing) → step auto standing v ≡ o
           → ((next : Standing) → RunsTo (passed ++ v ∷ []) next → BestFront policy enc patterns start (passed ++ v ∷ []) (found_behind auto next)
-          → next.offset ≡ start + length (passed ++ v ∷ []) → Stops auto next w → IsStopped ((passed ++ v ∷ []) ++ w) (last_standing auto next w))
+          → next.offset ≡ start + length (passed ++ v ∷ []) → IsStopped ((passed ++ v ∷ []) ++ w) (last_standing auto next w))
           → IsStopped (passed ++ v ∷ w) (or_here standing o (λ next. last_standing auto next w))
-      by None stepped stops again = record {
+      by None stepped again = record {
         passed = passed;
-        unit = v;
-        left = w;
+        left = v ∷ w;
         splits = refl;
         runs = runs;
-        no_edge = stepped;
+        no_edge = λ unit more e. let same : v ≡ unit = cc in ap (λ u. step auto standing u) (sym same) ∙ stepped;
         best = best;
         offset = offset;
       }
-      by (Some next) stepped stops again =
+      by (Some next) stepped again =
           let ran : RunsTo (passed ++ v ∷ []) next = run-one_more auto (start_with start bank) passed v
           ∙ ap (λ o. and_then o (λ last. step auto last v)) runs ∙ stepped in
           let kept = is.kept start bank passed standing next v empty runs stepped in
@@ -158,10 +164,10 @@ module _ (policy : Policy) (enc : Enc) (patterns : List Pattern) (auto : Auto) (
           let l : length (passed ++ v ∷ []) ≡ length passed + 1 = length-append passed (v ∷ []) in
           let off = step-offset standing next v stepped in
           subst (λ s. IsStopped s (last_standing auto next w)) (append_assoc passed (v ∷ []) w)
-          (again next ran more' (omega (arith, l, off, offset)) stops)
+          (again next ran more' (omega (arith, l, off, offset)))
 
-  pub stopped : (stream : List ℕ) → Stops auto (start_with start bank) stream → IsStopped stream (last_standing auto (start_with start bank) stream)
-  stopped stream stops =
+  pub stopped : (stream : List ℕ) → IsStopped stream (last_standing auto (start_with start bank) stream)
+  stopped stream =
       let here = is.best start bank [] (start_with start bank) empty refl in
       stopped_from stream [] (start_with start bank) refl (BestFront-start policy enc patterns start (found_at auto (start_with start bank)) here)
-      (omega arith) stops
+      (omega arith)

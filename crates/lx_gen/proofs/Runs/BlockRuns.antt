@@ -16,10 +16,10 @@ use Rattle.lx_ccode.specs.declared.piece.Stmt.TheVariants.{Goto, Restore, Skip}
 use Rattle.lx_ccode.specs.Machine.{Answer, Machine, jump, skip}
 use Rattle.lx_ccode.specs.Statements.{code_of, statement_count}
 use Rattle.lx_tdfa.specs.Promise.{tag_value}
-use Rattle.lx_gen.specs.Codes.{accept_code, choices_code, edge_code, is_saved, save_code, saves_by, saves_on, list_code, restore_code}
+use Rattle.lx_gen.specs.Codes.{Choice, accept_code, choices_code, chosen, edge_code, is_saved, save_code, saves_by, saves_on, list_code, restore_code}
 use Rattle.lx_gen.specs.Endings.{Ending, ending_code}
 use Rattle.lx_gen.specs.ParallelCopies.{sequentialized}
-use Rattle.lx_gen.specs.Serving.{HasCode, IsEnd, IsTarget, Serves}
+use Rattle.lx_gen.specs.Serving.{HasCode, IsEnd, IsTarget, Restores}
 use Rattle.lx_gen.specs.Stops.{told_found}
 use Rattle.lx_gen.specs.Told.{told_at}
 use Rattle.lx_gen.specs.Turns.{after_ops}
@@ -51,9 +51,19 @@ abbrev pub number_of : (saved : ℕ → ℕ) → Option Left → ℕ
 number_of saved None = 0
 number_of saved (Some left) = saved left.state
 
+-- what blocks that serve an automaton have for the ends of matches, however they read units
+pub record ServeEnds (endings : ℕ → Ending) (greatest : ℕ) (auto : Auto) (blocks : List (List Stmt)) (place saved rules : ℕ → ℕ) (fall : ℕ) : Type 0 where
+  pub choices : List Choice
+  pub falls : HasCode endings greatest auto blocks place saved rules fall fall (choices_code choices)
+  pub none : chosen choices 0 ≡ None
+  pub restores : (number : ℕ) (accept : Accept) → number < length auto.states → is_saved auto.states (state_of auto.states number) ≡ true
+      → (state_of auto.states number).accept ≡ Some accept → Restores endings greatest auto blocks place saved rules fall choices number accept
+  pub ends : (number : ℕ) (accept : Accept) → number < length auto.states → (state_of auto.states number).accept ≡ Some accept
+      → HasCode endings greatest auto blocks place saved rules fall (rules accept.rule) (ending_code endings accept.rule accept.values)
+
 module _ (p : Piece) (x : List ℕ) (start : ℕ) (endings : ℕ → Ending) (greatest : ℕ) (auto : Auto) (place saved rules : ℕ → ℕ) (fall : ℕ)
-    (serves : Serves endings greatest auto (code_of p.blocks) place saved rules fall) (formed : IsAuto auto) (first : Option ℕ) (cond : List ℕ)
-    (lim : ℕ) where
+    (served : ServeEnds endings greatest auto (code_of p.blocks) place saved rules fall) (formed : IsAuto auto) (first : Option ℕ) (cond : List ℕ)
+    (lim : ℕ) (kept : Option ℕ) where
   -- the statements of the piece
   abbrev pub all : ℕ
   all = statement_count p.blocks
@@ -69,7 +79,19 @@ module _ (p : Piece) (x : List ℕ) (start : ℕ) (endings : ℕ → Ending) (gr
 
   -- the machine, where the accepting state that was saved last is this one
   abbrev pub at : (pos : ℕ) → (held : Option Left) → (u : Option ℕ) → Bank → Machine
-  at pos held u k = machine_at pos (marker_of start held) lim u (number_of saved held) first k cond []
+  at pos held u k = machine_at pos (marker_of start held) lim u (number_of saved held) kept first k cond []
+
+  -- each target is a block
+  pub target_code : (s : ℕ) (o : Option Edge) (block : ℕ) → s < length auto.states → Target s o block → (to : List Stmt) × Has block to
+  target_code s (Some edge) block lt target = (edge_code auto (state_at s) (saved s) edge (place edge.to), target)
+  target_code s None block lt target = by (state_at s).accept refl target
+    where
+      by : (o : Option Accept) → (state_at s).accept ≡ o → IsEnd endings greatest auto (code_of p.blocks) place saved rules fall o block
+          → (to : List Stmt) × Has block to
+      by None e target = (choices_code served.choices, ap (λ n. slice_get (code_of p.blocks) n) target ∙ served.falls)
+      by (Some accept) e (inl has) = (accept_code auto accept.ops (rules accept.rule), has)
+      by (Some accept) e (inr is) =
+          (ending_code endings accept.rule accept.values, ap (λ n. slice_get (code_of p.blocks) n) is.0 ∙ served.ends s accept lt e)
 
   abbrev Agree : Bank → Bank → Type 0
   Agree k b = Agrees auto.regs auto.mregs k b
@@ -79,7 +101,7 @@ module _ (p : Piece) (x : List ℕ) (start : ℕ) (endings : ℕ → Ending) (gr
       → LeadsIn p x start (length (sequentialized auto.regs auto.mregs ops)) (list_code auto ops rest) (at pos held u k) q rest
       (at pos held u (after_ops pos (sequentialized auto.regs auto.mregs ops) k)) q
   list_run ops are rest pos held u k q =
-      ops_run p x start pos (marker_of start held) lim u (number_of saved held) first cond [] q (sequentialized auto.regs auto.mregs ops)
+      ops_run p x start pos (marker_of start held) lim u (number_of saved held) kept first cond [] q (sequentialized auto.regs auto.mregs ops)
       (ArePositive-sequentialized auto.regs auto.mregs ops are) rest k
 
   -- ---- where no unit is passed any more
@@ -94,7 +116,7 @@ module _ (p : Piece) (x : List ℕ) (start : ℕ) (endings : ℕ → Ending) (gr
       subst (λ v. EndsIn p x start (length (ending_code endings accept.rule accept.values)) (ending_code endings accept.rule accept.values)
       (at cur held u k) q (told_at endings cond accept.rule cur (map tag_value v)))
       (read_all-agrees auto.regs auto.mregs accept.values k b is.1 agree)
-      (ending_run p x start (marker_of start held) lim u (number_of saved held) first k q endings accept.rule accept.values cur cond)
+      (ending_run p x start (marker_of start held) lim u (number_of saved held) kept first k q endings accept.rule accept.values cur cond)
 
   -- by a jump to that block
   jump_run : (accept : Accept) (cur : ℕ) (held : Option Left) (u : Option ℕ) (k b : Bank) (q : List Answer)
@@ -105,7 +127,7 @@ module _ (p : Piece) (x : List ℕ) (start : ℕ) (endings : ℕ → Ending) (gr
       subst (λ v. EndsIn p x start (suc (length (ending_code endings accept.rule accept.values))) (Goto (rules accept.rule) ∷ [])
       (at cur held u k) q (told_at endings cond accept.rule cur (map tag_value v)))
       (read_all-agrees auto.regs auto.mregs accept.values k b is.1 agree)
-      (goto_run p x start (marker_of start held) lim u (number_of saved held) first k q endings accept.rule (rules accept.rule) accept.values cur cond
+      (goto_run p x start (marker_of start held) lim u (number_of saved held) kept first k q endings accept.rule (rules accept.rule) accept.values cur cond
       has)
 
   -- by what the state accepts
@@ -126,18 +148,18 @@ module _ (p : Piece) (x : List ℕ) (start : ℕ) (endings : ℕ → Ending) (gr
 
   -- by the fallback
   fall_run : (pos : ℕ) (left : Option Left) (u : Option ℕ) (k b : Bank) (q : List Answer) → Agree k b → IsFoundAgain auto left
-      → EndsIn p x start (3 * all) (choices_code serves.choices) (at pos left u k) q (told_found endings cond (found_left b left) pos)
+      → EndsIn p x start (3 * all) (choices_code served.choices) (at pos left u k) q (told_found endings cond (found_left b left) pos)
   fall_run pos None u k b q agree ok =
-      let n = length-block (code_of p.blocks) fall (choices_code serves.choices) serves.falls in
-      widen_end p x start (3 * all) (choices_end p x start serves.choices (at pos None u k) q serves.none) (omega (arith, n))
+      let n = length-block (code_of p.blocks) fall (choices_code served.choices) served.falls in
+      widen_end p x start (3 * all) (choices_end p x start served.choices (at pos None u k) q served.none) (omega (arith, n))
   fall_run pos (Some left) u k b q agree ok =
-      let r = serves.restores left.state left.accept ok.0 ok.1 ok.2 in
-      let ends = serves.ends left.state left.accept ok.0 ok.2 in
+      let r = served.restores left.state left.accept ok.0 ok.1 ok.2 in
+      let ends = served.ends left.state left.accept ok.0 ok.2 in
       let code : List Stmt = restore_code (rules left.accept.rule) in
-      let n = length-block (code_of p.blocks) fall (choices_code serves.choices) serves.falls in
+      let n = length-block (code_of p.blocks) fall (choices_code served.choices) served.falls in
       let n2 = length-block (code_of p.blocks) r.0 (restore_code (rules left.accept.rule)) r.2 in
       let n3 = length-block (code_of p.blocks) (rules left.accept.rule) (ending_code endings left.accept.rule left.accept.values) ends in
-      let h = choices_run p x start serves.choices r.0 code (at pos (Some left) u k) q r.1 r.2 in
+      let h = choices_run p x start served.choices r.0 code (at pos (Some left) u k) q r.1 r.2 in
       let t = step_in p x start {s = Restore} {b = Goto (rules left.accept.rule) ∷ []} {m = at pos (Some left) u k} {q = q} refl (omega arith) in
       let is = subst (λ o. IsAccept auto.regs auto.mregs o) ok.2 (state_formed auto left.state formed).accept in
       let g = jump_run left.accept left.offset (Some left) u k b q ends is agree in
@@ -181,12 +203,12 @@ module _ (p : Piece) (x : List ℕ) (start : ℕ) (endings : ℕ → Ending) (gr
           → EndsIn p x start (3 * all) code (at pos held u k) q
           (told_found endings cond (or_else (found_by o (record { state = s; offset = pos; bank = b; left = left })) (found_left b left)) pos)
       by None e target is =
-          let c : code ≡ choices_code serves.choices = let h : slice_get (code_of p.blocks) fall ≡ Some code = ap
-          (λ n. slice_get (code_of p.blocks) n) (sym target) ∙ has in let f = serves.falls in cc in
+          let c : code ≡ choices_code served.choices = let h : slice_get (code_of p.blocks) fall ≡ Some code = ap
+          (λ n. slice_get (code_of p.blocks) n) (sym target) ∙ has in let f = served.falls in cc in
           subst (λ z. EndsIn p x start (3 * all) z (at pos held u k) q (told_found endings cond (found_left b left) pos)) (sym c)
-          (subst (λ l. EndsIn p x start (3 * all) (choices_code serves.choices) (at pos held u k) q (told_found endings cond (found_left b l) pos))
+          (subst (λ l. EndsIn p x start (3 * all) (choices_code served.choices) (at pos held u k) q (told_found endings cond (found_left b l) pos))
           (same e) (fall_run pos held u k b q agree ok))
-      by (Some accept) e target is = accepted accept (serves.ends s accept lt e) target is
+      by (Some accept) e target is = accepted accept (served.ends s accept lt e) target is
 
   -- ---- along an edge
 

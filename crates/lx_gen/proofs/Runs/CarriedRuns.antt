@@ -1,5 +1,5 @@
 -- Where a run of an automaton goes, the machine goes in a piece that carries it.
-use Rattle.std.specs.Prelude.{◌≡◌, ℕ, suc, ◌+◌, ◌<◌, ◌≤◌, Bool, List, [], ◌∷◌, ◌++◌, length, drop, Option, Some, None, refl}
+use Rattle.std.specs.Prelude.{◌≡◌, ℕ, suc, ◌+◌, ◌<◌, ◌≤◌, List, [], ◌∷◌, ◌++◌, length, drop, Option, Some, None, refl}
 use Rattle.std.proofs.Common.{sym, ap, ap₂, ◌∙◌, subst, arith}
 use Rattle.std.specs.List.{AllByRecursion}
 use Rattle.lx_auto.specs.Automaton.{edge_on, state_of}
@@ -12,12 +12,12 @@ use Rattle.lx_ccode.specs.declared.piece.Piece.{Piece}
 use Rattle.lx_ccode.specs.declared.piece.Stmt.{Stmt}
 use Rattle.lx_ccode.specs.Machine.{Answer, Machine, code_at}
 use Rattle.lx_ccode.specs.Scanners.{CheckAtMost, units_checked}
-use Rattle.lx_ccode.specs.Traces.{Trace, count_made, is_peek, is_skip, trace, trace_on}
+use Rattle.lx_ccode.specs.Traces.{is_peek, is_skip}
 use Rattle.lx_ccode.proofs.TraceSteps.{All-code, All-implied}
-use Rattle.lx_ccode.proofs.Traces.{count_made-append, trace-add}
 use Rattle.lx_gen.specs.Carries.{Carries, EndsAs, GoesBy, HasUnits, IsReached, IsUnitOf, LeadsTo, ReadsAs, StandsAs}
 use Rattle.lx_gen.specs.Endings.{Ending}
 use Rattle.lx_gen.specs.Stops.{told_found}
+use Rattle.lx_gen.proofs.Carrying.Stretches.{counted_on, next_on}
 use Rattle.lx_gen.proofs.Runs.Simulation.{left_unit}
 
 -- a run that stands somewhere stands behind each further step
@@ -47,40 +47,19 @@ module _ (piece : Piece) (entry : ℕ) (endings : ℕ → Ending) (auto : Auto) 
 
   -- ---- stretches one behind another
 
-  module _ {units : ℕ} {code : List Stmt} {machine : Machine} {answers : List Answer} {between : Standing} (first : Leads code machine answers units between)
-      (more : ℕ) where
-    made_on : (trace piece stream (first.steps + more) code machine answers).made
-        ≡ (trace piece stream first.steps code machine answers).made ++ (trace piece stream more first.next first.after answers).made
-    made_on =
-        ap (λ (t : Trace). t.made) (trace-add piece stream first.steps more code machine answers)
-        ∙ ap (λ n. (trace piece stream first.steps code machine answers).made ++ (trace_on piece stream more n).made) first.leads
-
-    next_on : (trace piece stream (first.steps + more) code machine answers).next ≡ (trace piece stream more first.next first.after answers).next
-    next_on =
-        ap (λ (t : Trace). t.next) (trace-add piece stream first.steps more code machine answers)
-        ∙ ap (λ n. (trace_on piece stream more n).next) first.leads
-
-    counted_on : (test : Stmt → Bool) → count_made test (trace piece stream (first.steps + more) code machine answers).made
-        ≡ count_made test (trace piece stream first.steps code machine answers).made
-        + count_made test (trace piece stream more first.next first.after answers).made
-    counted_on test =
-        ap (count_made test) made_on
-        ∙ count_made-append test (trace piece stream first.steps code machine answers).made
-        (trace piece stream more first.next first.after answers).made
-
   then_leads : {units more : ℕ} {code : List Stmt} {machine : Machine} {answers : List Answer} {between last : Standing}
       (first : Leads code machine answers units between) → Leads first.next first.after answers more last
       → Leads code machine answers (units + more) last
-  then_leads first then =
-      let peeks = counted_on first then.steps is_peek in
+  then_leads {code = code} {machine = machine} {answers = answers} first then =
+      let peeks = counted_on piece stream code machine answers first.steps then.steps first.leads is_peek in
       record {
         steps = first.steps + then.steps;
         next = then.next;
         after = then.after;
-        leads = next_on first then.steps ∙ then.leads;
+        leads = next_on piece stream code machine answers first.steps then.steps first.leads ∙ then.leads;
         at_place = then.at_place;
         stands = then.stands;
-        passes = counted_on first then.steps is_skip ∙ ap₂ (λ a b. a + b) first.passes then.passes;
+        passes = counted_on piece stream code machine answers first.steps then.steps first.leads is_skip ∙ ap₂ (λ a b. a + b) first.passes then.passes;
         reads = omega (arith, peeks, first.reads, then.reads);
         limit = then.limit ∙ first.limit;
         cond = then.cond ∙ first.cond;
@@ -89,15 +68,15 @@ module _ (piece : Piece) (entry : ℕ) (endings : ℕ → Ending) (auto : Auto) 
   then_ends : {units more : ℕ} {code : List Stmt} {machine : Machine} {answers : List Answer} {between last : Standing}
       (first : Leads code machine answers units between) → Ends first.next first.after answers more last
       → Ends code machine answers (units + more) last
-  then_ends {last = last} first then =
-      let peeks = counted_on first then.steps is_peek in
+  then_ends {code = code} {machine = machine} {answers = answers} {last = last} first then =
+      let peeks = counted_on piece stream code machine answers first.steps then.steps first.leads is_peek in
       record {
         steps = first.steps + then.steps;
         outcome = then.outcome;
         after = then.after;
-        over = next_on first then.steps ∙ then.over;
+        over = next_on piece stream code machine answers first.steps then.steps first.leads ∙ then.over;
         tells = then.tells ∙ ap (λ c. told_found endings c (found_behind auto last) last.offset) first.cond;
-        passes = counted_on first then.steps is_skip ∙ ap₂ (λ a b. a + b) first.passes then.passes;
+        passes = counted_on piece stream code machine answers first.steps then.steps first.leads is_skip ∙ ap₂ (λ a b. a + b) first.passes then.passes;
         reads = omega (arith, peeks, first.reads, then.reads);
       }
 

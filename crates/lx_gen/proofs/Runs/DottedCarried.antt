@@ -1,12 +1,10 @@
--- The piece of `[a-cx-z] ("." [a-cx-z])* @t` carries its automaton.
-use Rattle.std.specs.Prelude.{◌≡◌, ◌⊎◌, ℕ, zero, suc, ◌<◌, Bool, true, false, List, [], ◌∷◌, ◌++◌, length, Option, Some, None, nat_le, nat_lt, ◌&&◌, ◌==◌, refl, slice_get, if◌then◌else◌}
-use Rattle.std.proofs.Common.{sym, ap, ap₂, ◌∙◌, subst, arith, inl, inr, lt-ltb, le-leb, leb-true, leb-false}
+-- The piece of `[a-cx-z] ("." [a-cx-z])* @t` carries its automaton, which its blocks serve.
+use Rattle.std.specs.Prelude.{◌≡◌, ◌⊎◌, ℕ, zero, suc, ◌<◌, Bool, true, false, List, [], ◌∷◌, Option, Some, None, nat_le, ◌&&◌, refl, if◌then◌else◌}
+use Rattle.std.proofs.Common.{sym, ap, ◌∙◌, subst, arith, inl, inr, le-leb, leb-true, leb-false}
 use Rattle.std.proofs.lemmas.Bool.{lt-leb}
 use Rattle.std.specs.List.{AllByRecursion}
-use Rattle.lx_auto.specs.Automaton.{edge_on, has_unit, state_of}
-use Rattle.lx_auto.specs.Bank.{Bank}
+use Rattle.lx_auto.specs.Automaton.{IsAuto, edge_on, state_of}
 use Rattle.lx_auto.specs.Examples.{dotted}
-use Rattle.lx_auto.specs.Run.{Left, Standing, behind_edge, found_left}
 use Rattle.lx_auto.specs.declared.automaton.Accept.{Accept as Accepted}
 use Rattle.lx_auto.specs.declared.automaton.Edge.{Edge}
 use Rattle.lx_auto.specs.declared.automaton.Held.TheVariants.{Reg}
@@ -15,16 +13,19 @@ use Rattle.lx_base.specs.Names.{Spellings}
 use Rattle.lx_ccode.specs.declared.piece.Piece.{Piece}
 use Rattle.lx_ccode.specs.declared.piece.Stmt.{Stmt}
 use Rattle.lx_ccode.specs.declared.piece.Stmt.TheVariants.{Accept, Backup, Code, Goto, IfAccept, IfUnit, Leave, Peek, Restore, Set, Skip, Tag}
-use Rattle.lx_ccode.specs.Machine.{Answer, Machine, Outcome, Value, by_rule, code_at, no_rule, tag_offset, updated}
-use Rattle.lx_ccode.specs.Runs.{Ended}
+use Rattle.lx_ccode.specs.Machine.{code_at}
 use Rattle.lx_ccode.specs.Scanners.{IsMadeBy, StandsIn}
+use Rattle.lx_ccode.specs.Statements.{code_of}
 use Rattle.lx_ccode.specs.Traces.{is_peek}
-use Rattle.lx_ccode.proofs.TraceSteps.{All-made, EndsSo, LeadsSo, NeverStands, ends_at, ends_peek, ends_quiet, ends_telling, saved_fails, saved_holds, leads_at, leads_peek, leads_quiet, leads_skip, test_fails, test_holds}
-use Rattle.lx_gen.specs.Carries.{Carries, GoesBy, HasEdge, HasSaved, NamesItsOwn, ReadsAs, StandsAs}
+use Rattle.lx_ccode.proofs.TraceSteps.{All-made, NeverStands}
+use Rattle.lx_gen.specs.Carries.{Carries, HasEdge, NamesItsOwn}
+use Rattle.lx_gen.specs.Endings.{ending_code}
 use Rattle.lx_gen.specs.Examples.{bytes_piece, dotted_blocks, tagged}
-use Rattle.lx_gen.specs.Stops.{told_found}
-use Rattle.lx_gen.proofs.Runs.CarriedSteps.{ends_as, first_named, follows, nothing_named}
-use Rattle.lx_gen.proofs.Runs.KnownStandings.{if_edge, known_reached}
+use Rattle.lx_gen.specs.Supplied.{HasCode, IsTarget, Serves, ServesState, by_tests, reads}
+use Rattle.lx_gen.specs.Supplies.{plain_supply}
+use Rattle.lx_gen.specs.TestTrees.{TestTree, fork, leaf, picked, test}
+use Rattle.lx_gen.proofs.Carrying.SuppliedCarried.{supplied_carries}
+use Rattle.lx_gen.proofs.Runs.CarriedSteps.{first_named, nothing_named}
 
 abbrev place : ℕ → ℕ
 place zero = 0
@@ -32,6 +33,10 @@ place (suc number) = 3
 
 abbrev saved : ℕ → ℕ
 saved number = 1
+
+-- the end of the rule
+abbrev rules : ℕ → ℕ
+rules rule = 8
 
 abbrev by_tag : Accepted
 by_tag = record { rule = 1; ops = Here 0 ∷ []; values = Reg 0 ∷ [] }
@@ -45,19 +50,30 @@ high_edge = record { lo = 120; hi = 122; ops = []; to = 1 }
 abbrev dot_edge : Edge
 dot_edge = record { lo = 46; hi = 46; ops = []; to = 0 }
 
-first_leads : (s t : Bool) (edge : Edge) → (if s then Some low_edge else (if t then Some high_edge else None)) ≡ Some edge → edge.to < 2
-first_leads true t edge on = let same : low_edge ≡ edge = cc in subst (λ (e : Edge). e.to < 2) same (omega arith)
-first_leads false t edge on = subst (λ (e : Edge). e.to < 2) (if_edge t high_edge edge on) (omega arith)
-
-leads : (number unit : ℕ) (edge : Edge) → edge_on (state_of dotted.states number).edges unit ≡ Some edge → edge.to < 2
-leads zero unit edge on = first_leads (has_unit low_edge unit) (has_unit high_edge unit) edge on
-leads (suc zero) unit edge on = subst (λ (e : Edge). e.to < 2) (if_edge (has_unit dot_edge unit) dot_edge edge on) (omega arith)
-leads (suc (suc number)) unit edge on = absurd cc
-
-accepts : (number : ℕ) (other : Accepted) → (state_of dotted.states number).accept ≡ Some other → other ≡ by_tag
-accepts zero other e = absurd cc
-accepts (suc zero) other e = let same : by_tag ≡ other = cc in sym same
-accepts (suc (suc number)) other e = absurd cc
+formed : IsAuto dotted
+formed = record {
+  start = omega arith;
+  few = omega arith;
+  few_regs = omega arith;
+  few_mregs = omega arith;
+  states = (
+    record {
+      apart = (omega arith, omega arith, (omega arith, omega arith, tt));
+      lead = (omega arith, tt, (omega arith, tt, tt));
+      accept = tt;
+      leave = tt;
+    },
+    (
+      record {
+        apart = (omega arith, omega arith, tt);
+        lead = (omega arith, tt, tt);
+        accept = ((omega arith, tt), (omega arith, tt));
+        leave = (omega arith, tt);
+      },
+      tt,
+    ),
+  );
+}
 
 -- which edge is on a unit of state 0, by the tests against the bounds of both edges
 abbrev first_edge : (a b c d : Bool) → Option Edge
@@ -83,307 +99,120 @@ on_last unit high low is =
     ap (λ t. if t && nat_le unit 46 then Some dot_edge else None) (le-leb 46 unit (omega (arith, lt)))
     ∙ ap (λ t. if t then Some dot_edge else None) is
 
--- what is told in a condition, from a cursor and what was given
-abbrev told : Outcome → (cond : List ℕ) → (cursor : ℕ) → List Value → Ended
-told outcome cond cursor values = record { outcome = outcome; cursor = cursor; cond = cond; values = values }
-
--- with the tag's value behind what was given
-abbrev told_tag : (cond : List ℕ) → (cursor : ℕ) → List Value → Option ℕ → Ended
-told_tag cond cursor values offset = told (by_rule 1) cond cursor (values ++ tag_offset (116 ∷ []) offset ∷ [])
+edges_there : (number : ℕ) → number < 2 → HasEdge dotted number
+edges_there zero lt none = absurd cc
+edges_there (suc zero) lt none = absurd cc
+edges_there (suc (suc number)) lt none = omega (arith, lt)
 
 module _ (names : Spellings) where
   abbrev p : Piece
   p = bytes_piece names dotted_blocks
 
-  abbrev Stands : Machine → Standing → Type 0
-  Stands machine standing = StandsAs p tagged dotted place saved machine standing
+  abbrev Has : ℕ → List Stmt → Type 0
+  Has block code = HasCode plain_supply tagged 255 dotted (code_of p.blocks) place saved rules 6 block code
 
-  abbrev Kept : Option Left → Machine → Type 0
-  Kept left machine = HasSaved p tagged dotted place saved left machine
+  abbrev Target : ℕ → Option Edge → ℕ → Type 0
+  Target number o block = IsTarget plain_supply tagged 255 dotted (code_of p.blocks) place saved rules 6 number (state_of dotted.states number) o block
 
-  abbrev Goes : List ℕ → List Stmt → Machine → List Answer → Standing → Option Edge → Type 0
-  Goes stream code machine answers standing o = GoesBy p tagged dotted place saved stream code machine answers standing o
+  -- ---- what the blocks serve
 
-  abbrev first_code : List Stmt
-  first_code = Peek ∷ IfUnit 122 1 ∷ Goto 6 ∷ []
+  abbrev first_tree : TestTree ℕ
+  first_tree = test 96 6 (fork 119 (test 99 2 (leaf 6)) (test 122 2 (leaf 6)))
 
-  abbrev test_code : List Stmt
-  test_code = IfUnit 96 6 ∷ IfUnit 99 2 ∷ IfUnit 119 6 ∷ Goto 2 ∷ []
+  abbrev second_tree : TestTree ℕ
+  second_tree = test 45 5 (test 46 4 (leaf 5))
 
-  abbrev pass_code : List Stmt
-  pass_code = Skip ∷ Goto 3 ∷ []
+  first_leads : (unit : ℕ) → Target 0 (edge_on (state_of dotted.states 0).edges unit) (picked first_tree unit)
+  first_leads unit = by (nat_le unit 96) (nat_le unit 119) (nat_le unit 99) (nat_le unit 122) refl refl refl refl where
+    -- the edge by its bounds, and the block
+    goes_by : (a b c d : Bool) (block : ℕ) → nat_le 97 unit ≡ a → nat_le unit 99 ≡ b → nat_le 120 unit ≡ c → nat_le unit 122 ≡ d
+        → Target 0 (first_edge a b c d) block → Target 0 (edge_on (state_of dotted.states 0).edges unit) block
+    goes_by a b c d block is_a is_b is_c is_d target = subst (λ o. Target 0 o block) (sym (on_first unit a b c d is_a is_b is_c is_d)) target
 
-  abbrev second_code : List Stmt
-  second_code = Peek ∷ IfUnit 45 5 ∷ IfUnit 46 4 ∷ Goto 5 ∷ []
+    by : (low upper middle top : Bool) → nat_le unit 96 ≡ low → nat_le unit 119 ≡ upper → nat_le unit 99 ≡ middle → nat_le unit 122 ≡ top
+        → Target 0 (edge_on (state_of dotted.states 0).edges unit)
+        (if low then 6 else (if upper then (if middle then 2 else 6) else (if top then 2 else 6)))
+    by true upper middle top is_low is_upper is_middle is_top =
+        let le = leb-true unit 96 is_low in
+        goes_by false middle false top 6 (lt-leb 97 unit (omega (arith, le))) is_middle (lt-leb 120 unit (omega (arith, le))) is_top refl
+    by false true true top is_low is_upper is_middle is_top =
+        let gt = leb-false unit 96 is_low in
+        goes_by true true (nat_le 120 unit) top 2 (le-leb 97 unit (omega (arith, gt))) is_middle refl is_top refl
+    by false true false top is_low is_upper is_middle is_top =
+        let gt = leb-false unit 96 is_low in
+        let le = leb-true unit 119 is_upper in
+        goes_by true false false top 6 (le-leb 97 unit (omega (arith, gt))) is_middle (lt-leb 120 unit (omega (arith, le))) is_top refl
+    by false false middle true is_low is_upper is_middle is_top =
+        let gt = leb-false unit 119 is_upper in
+        goes_by true false true true 2 (le-leb 97 unit (omega (arith, gt))) (lt-leb unit 99 (omega (arith, gt))) (le-leb 120 unit (omega (arith, gt))) is_top
+        refl
+    by false false middle false is_low is_upper is_middle is_top =
+        let gt = leb-false unit 119 is_upper in
+        goes_by true false true false 6 (le-leb 97 unit (omega (arith, gt))) (lt-leb unit 99 (omega (arith, gt))) (le-leb 120 unit (omega (arith, gt))) is_top
+        refl
 
-  abbrev dot_code : List Stmt
-  dot_code = Backup ∷ Accept 1 ∷ Set 1 ∷ Skip ∷ Goto 0 ∷ []
+  second_leads : (unit : ℕ) → Target 1 (edge_on (state_of dotted.states 1).edges unit) (picked second_tree unit)
+  second_leads unit = by (nat_le unit 45) (nat_le unit 46) refl refl where
+    on_dot : (high : Bool) → Target 1 (if high then Some dot_edge else None) (if high then 4 else 5)
+    on_dot true = refl
+    on_dot false = inl refl
 
-  abbrev end_code : List Stmt
-  end_code = Set 1 ∷ Goto 8 ∷ []
+    by : (low high : Bool) → nat_le unit 45 ≡ low → nat_le unit 46 ≡ high
+        → Target 1 (edge_on (state_of dotted.states 1).edges unit) (if low then 5 else (if high then 4 else 5))
+    by true high is_low is_high = subst (λ o. Target 1 o 5) (sym (low_last unit is_low)) (inl refl)
+    by false high low is_high = subst (λ o. Target 1 o (if high then 4 else 5)) (sym (on_last unit high low is_high)) (on_dot high)
 
-  abbrev fall_code : List Stmt
-  fall_code = IfAccept 1 7 ∷ Leave ∷ []
+  states_serve : (number : ℕ) → number < 2
+      → ServesState plain_supply tagged 255 dotted (code_of p.blocks) place saved rules 6 number (state_of dotted.states number)
+  states_serve zero lt = reads (edges_there 0 lt) (by_tests refl first_tree 1 refl (refl, tt) (λ unit within. first_leads unit))
+  states_serve (suc zero) lt = reads (edges_there 1 lt) (by_tests refl second_tree 0 refl tt (λ unit within. second_leads unit))
+  states_serve (suc (suc number)) lt = absurd (omega (arith, lt))
 
-  abbrev restore_code : List Stmt
-  restore_code = Restore ∷ Goto 8 ∷ []
+  rule_stands : (number : ℕ) (accept : Accepted) → (state_of dotted.states number).accept ≡ Some accept
+      → Has (rules accept.rule) (ending_code tagged accept.rule accept.values)
+  rule_stands zero accept e = absurd cc
+  rule_stands (suc zero) accept e =
+      let same : by_tag ≡ accept = cc in
+      subst (λ (accept : Accepted). Has (rules accept.rule) (ending_code tagged accept.rule accept.values)) same refl
+  rule_stands (suc (suc number)) accept e = absurd cc
 
-  abbrev rule_code : List Stmt
-  rule_code = Tag (116 ∷ []) false 1 ∷ Code 1 None (97 ∷ []) ∷ []
-
-  module _ (stream : List ℕ) (answers : List Answer) where
-    rule_ends : (machine : Machine) → EndsSo p stream 0 0 rule_code machine answers (told_tag machine.cond machine.cursor machine.values (machine.registers 1))
-    rule_ends machine =
-        ends_quiet p stream (Tag (116 ∷ []) false 1) refl refl refl (ends_at p stream (Code 1 None (97 ∷ [])) refl refl refl)
-
-    -- the fallback
-    falls : (bank : Bank) (left : Option Left) (machine : Machine) (offset : ℕ) → Kept left machine
-        → ((other : Left) → left ≡ Some other → other.accept ≡ by_tag) → machine.cursor ≡ offset → machine.values ≡ []
-        → machine.registers 1 ≡ bank.regs 0
-        → EndsSo p stream 0 0 fall_code machine answers (told_found tagged machine.cond (found_left bank left) offset)
-    falls bank None machine offset none known cursor values held =
-        ends_telling p stream
-        (ends_quiet p stream (IfAccept 1 7) refl refl (saved_fails p stream (Leave ∷ []) machine answers 1 7 (ap (λ n. n == 1) none))
-        (ends_at p stream Leave refl refl refl))
-        (ap₂ (λ c v. told no_rule machine.cond c v) cursor values)
-    falls bank (Some left) machine offset has known cursor values held =
-        ends_telling p stream
-        (ends_quiet p stream (IfAccept 1 7) refl refl
-        (saved_holds p stream (Leave ∷ []) machine answers 1 7 restore_code (ap (λ n. n == 1) has.0) refl)
-        (ends_quiet p stream Restore refl refl refl
-        (ends_quiet p stream (Goto 8) refl refl refl
-        (rule_ends (record machine { cursor = machine.marker })))))
-        (ap₂ (λ c v. told_tag machine.cond c v (machine.registers 1)) has.1 values
-        ∙ ap (λ o. told_tag machine.cond left.offset [] o) held
-        ∙ ap (λ (a : Accepted). told_found tagged machine.cond (found_left bank (Some (record { state = left.state; accept = a; offset = left.offset }))) offset)
-        (sym (known left refl)))
-
-  module _ (stream : List ℕ) (machine : Machine) (answers : List Answer) (unit : ℕ) (before : nat_lt machine.cursor machine.limit ≡ true)
-      (is : slice_get stream machine.cursor ≡ Some unit) (offset : ℕ) (bank : Bank) (left : Option Left) where
-    abbrev read : Machine
-    read = record machine { unit = Some unit }
-
-    abbrev at : ℕ → Standing
-    at state = record { state = state; offset = offset; bank = bank; left = left }
-
-    still_saved : (other : Option Left) → Kept other machine → Kept other (record machine { unit = Some unit })
-    still_saved None saved = saved
-    still_saved (Some other) saved = saved
-
-    module _ (known : (other : Left) → left ≡ Some other → other.accept ≡ by_tag) (stands : Stands machine (at 0)) where
-      first_falls : EndsSo p stream 0 0 fall_code (record machine { unit = Some unit }) answers (told_found tagged machine.cond (found_left bank left) offset)
-      first_falls =
-          falls stream answers bank left (record machine { unit = Some unit }) offset (still_saved left (stands.left refl)) known stands.cursor stands.values
-          (stands.registers 0 (omega arith))
-
-      -- where no edge is on the unit, by tests that lead to the fallback
-      fall_first : EndsSo p stream 1 0 first_code machine answers (told_found tagged machine.cond (found_left bank left) offset)
-          → edge_on (state_of dotted.states 0).edges unit ≡ None
-          → Goes stream first_code machine answers (at 0) (edge_on (state_of dotted.states 0).edges unit)
-      fall_first h none =
-          subst (λ o. Goes stream first_code machine answers (at 0) o) (sym none)
-          (ends_as p tagged dotted place saved stream first_code machine answers (at 0) 1 (omega arith) h)
-
-      fall_tests : nat_le unit 122 ≡ true
-          → EndsSo p stream 0 0 test_code (record machine { unit = Some unit }) answers (told_found tagged machine.cond (found_left bank left) offset)
-          → EndsSo p stream 1 0 first_code machine answers (told_found tagged machine.cond (found_left bank left) offset)
-      fall_tests top h =
-          ends_peek p stream before unit is
-          (ends_quiet p stream (IfUnit 122 1) refl refl (test_holds p stream (Goto 6 ∷ []) read answers unit refl 122 1 test_code top refl) h)
-
-      -- where an edge is on it, to state 1
-      pass_first : (edge : Edge) → edge.to ≡ 1 → edge.ops ≡ []
-          → LeadsSo p stream 1 1 3 first_code machine answers second_code (record machine { unit = Some unit; cursor = suc machine.cursor })
-          → edge_on (state_of dotted.states 0).edges unit ≡ Some (record { lo = edge.lo; hi = edge.hi; ops = []; to = 1 })
-          → Goes stream first_code machine answers (at 0) (edge_on (state_of dotted.states 0).edges unit)
-      pass_first edge to ops h on =
-          subst (λ o. Goes stream first_code machine answers (at 0) o) (sym on)
-          (follows p tagged dotted place saved stream first_code machine answers (at 0) (record { lo = edge.lo; hi = edge.hi; ops = []; to = 1 }) second_code
-          (record machine { unit = Some unit; cursor = suc machine.cursor }) 1 (omega arith) h refl
-          (record {
-            cursor = ap suc stands.cursor;
-            registers = λ reg lt. stands.registers reg lt;
-            histories = λ mreg lt. absurd (omega (arith, lt));
-            left = λ none. absurd cc;
-            values = stands.values;
-          })
-          refl refl)
-
-      pass_tests : nat_le unit 122 ≡ true
-          → LeadsSo p stream 0 1 3 test_code (record machine { unit = Some unit }) answers second_code (record machine { unit = Some unit; cursor = suc machine.cursor })
-          → LeadsSo p stream 1 1 3 first_code machine answers second_code (record machine { unit = Some unit; cursor = suc machine.cursor })
-      pass_tests top h =
-          leads_peek p stream before unit is
-          (leads_quiet p stream (IfUnit 122 1) refl refl (test_holds p stream (Goto 6 ∷ []) read answers unit refl 122 1 test_code top refl) h)
-
-      passed : LeadsSo p stream 0 1 3 pass_code (record machine { unit = Some unit }) answers second_code (record machine { unit = Some unit; cursor = suc machine.cursor })
-      passed = leads_skip p stream before (leads_at p stream (Goto 3) refl refl 3 refl refl)
-
-      by_fourth : (t : Bool) → nat_le unit 119 ≡ t → nat_le unit 122 ≡ true → nat_le unit 96 ≡ false → nat_le unit 99 ≡ false
-          → Goes stream first_code machine answers (at 0) (edge_on (state_of dotted.states 0).edges unit)
-      by_fourth true e top low middle =
-          let gt = leb-false unit 99 middle in
-          let le = leb-true unit 119 e in
-          fall_first
-          (fall_tests top
-          (ends_quiet p stream (IfUnit 96 6) refl refl (test_fails p stream (IfUnit 99 2 ∷ IfUnit 119 6 ∷ Goto 2 ∷ []) read answers unit refl 96 6 low)
-          (ends_quiet p stream (IfUnit 99 2) refl refl (test_fails p stream (IfUnit 119 6 ∷ Goto 2 ∷ []) read answers unit refl 99 2 middle)
-          (ends_quiet p stream (IfUnit 119 6) refl refl (test_holds p stream (Goto 2 ∷ []) read answers unit refl 119 6 fall_code e refl) first_falls))))
-          (on_first unit true false false true (le-leb 97 unit (omega (arith, gt))) middle (lt-leb 120 unit (omega (arith, le))) top)
-      by_fourth false e top low middle =
-          let gt = leb-false unit 119 e in
-          pass_first high_edge refl refl
-          (pass_tests top
-          (leads_quiet p stream (IfUnit 96 6) refl refl (test_fails p stream (IfUnit 99 2 ∷ IfUnit 119 6 ∷ Goto 2 ∷ []) read answers unit refl 96 6 low)
-          (leads_quiet p stream (IfUnit 99 2) refl refl (test_fails p stream (IfUnit 119 6 ∷ Goto 2 ∷ []) read answers unit refl 99 2 middle)
-          (leads_quiet p stream (IfUnit 119 6) refl refl (test_fails p stream (Goto 2 ∷ []) read answers unit refl 119 6 e)
-          (leads_quiet p stream (Goto 2) refl refl refl passed)))))
-          (on_first unit true false true true (le-leb 97 unit (omega (arith, gt))) middle (le-leb 120 unit (omega (arith, gt))) top)
-
-      by_third : (t : Bool) → nat_le unit 99 ≡ t → nat_le unit 122 ≡ true → nat_le unit 96 ≡ false
-          → Goes stream first_code machine answers (at 0) (edge_on (state_of dotted.states 0).edges unit)
-      by_third true e top low =
-          let gt = leb-false unit 96 low in
-          pass_first low_edge refl refl
-          (pass_tests top
-          (leads_quiet p stream (IfUnit 96 6) refl refl (test_fails p stream (IfUnit 99 2 ∷ IfUnit 119 6 ∷ Goto 2 ∷ []) read answers unit refl 96 6 low)
-          (leads_quiet p stream (IfUnit 99 2) refl refl (test_holds p stream (IfUnit 119 6 ∷ Goto 2 ∷ []) read answers unit refl 99 2 pass_code e refl) passed)))
-          (on_first unit true true (nat_le 120 unit) true (le-leb 97 unit (omega (arith, gt))) e refl top)
-      by_third false e top low = by_fourth (nat_le unit 119) refl top low e
-
-      by_second : (t : Bool) → nat_le unit 96 ≡ t → nat_le unit 122 ≡ true
-          → Goes stream first_code machine answers (at 0) (edge_on (state_of dotted.states 0).edges unit)
-      by_second true e top =
-          let le = leb-true unit 96 e in
-          fall_first
-          (fall_tests top
-          (ends_quiet p stream (IfUnit 96 6) refl refl
-          (test_holds p stream (IfUnit 99 2 ∷ IfUnit 119 6 ∷ Goto 2 ∷ []) read answers unit refl 96 6 fall_code e refl) first_falls))
-          (on_first unit false (nat_le unit 99) false true (lt-leb 97 unit (omega (arith, le))) refl (lt-leb 120 unit (omega (arith, le))) top)
-      by_second false e top = by_third (nat_le unit 99) refl top e
-
-      first_goes : (t : Bool) → nat_le unit 122 ≡ t
-          → Goes stream first_code machine answers (at 0) (edge_on (state_of dotted.states 0).edges unit)
-      first_goes true e = by_second (nat_le unit 96) refl e
-      first_goes false e =
-          let gt = leb-false unit 122 e in
-          fall_first
-          (ends_peek p stream before unit is
-          (ends_quiet p stream (IfUnit 122 1) refl refl (test_fails p stream (Goto 6 ∷ []) read answers unit refl 122 1 e)
-          (ends_quiet p stream (Goto 6) refl refl refl first_falls)))
-          (on_first unit true false true false (le-leb 97 unit (omega (arith, gt))) (lt-leb unit 99 (omega (arith, gt)))
-          (le-leb 120 unit (omega (arith, gt))) e)
-
-    module _ (stands : Stands machine (at 1)) where
-      second_ends : EndsSo p stream 0 0 end_code (record machine { unit = Some unit }) answers (told_tag machine.cond offset [] (Some offset))
-      second_ends =
-          ends_telling p stream
-          (ends_quiet p stream (Set 1) refl refl refl
-          (ends_quiet p stream (Goto 8) refl refl refl
-          (rule_ends stream answers (record machine { unit = Some unit; registers = updated 1 (Some machine.cursor) machine.registers }))))
-          (ap₂ (λ c v. told_tag machine.cond c v (Some c)) stands.cursor stands.values)
-
-      dot_registers : (reg : ℕ) → reg < 1 → updated 1 (Some machine.cursor) machine.registers (suc reg)
-          ≡ (behind_edge (state_of dotted.states 1) (at 1) dot_edge).bank.regs reg
-      dot_registers zero lt = ap Some stands.cursor
-      dot_registers (suc reg) lt = absurd (omega (arith, lt))
-
-      second_on : (high : Bool) → nat_le unit 45 ≡ false → nat_le unit 46 ≡ high
-          → Goes stream second_code machine answers (at 1) (if high then Some dot_edge else None)
-      second_on true low is_high =
-          follows p tagged dotted place saved stream second_code machine answers (at 1) dot_edge first_code
-          (record machine {
-            unit = Some unit;
-            marker = machine.cursor;
-            accept = 1;
-            registers = updated 1 (Some machine.cursor) machine.registers;
-            cursor = suc machine.cursor;
-          }) 1 (omega arith)
-          (leads_peek p stream before unit is
-          (leads_quiet p stream (IfUnit 45 5) refl refl (test_fails p stream (IfUnit 46 4 ∷ Goto 5 ∷ []) read answers unit refl 45 5 low)
-          (leads_quiet p stream (IfUnit 46 4) refl refl (test_holds p stream (Goto 5 ∷ []) read answers unit refl 46 4 dot_code is_high refl)
-          (leads_quiet p stream Backup refl refl refl
-          (leads_quiet p stream (Accept 1) refl refl refl
-          (leads_quiet p stream (Set 1) refl refl refl
-          (leads_skip p stream before
-          (leads_at p stream (Goto 0) refl refl 0 refl refl))))))))
-          refl
-          (record {
-            cursor = ap suc stands.cursor;
-            registers = dot_registers;
-            histories = λ mreg lt. absurd (omega (arith, lt));
-            left = λ none. (refl, stands.cursor);
-            values = stands.values;
-          })
-          refl refl
-      second_on false low is_high =
-          ends_as p tagged dotted place saved stream second_code machine answers (at 1) 1 (omega arith)
-          (ends_peek p stream before unit is
-          (ends_quiet p stream (IfUnit 45 5) refl refl (test_fails p stream (IfUnit 46 4 ∷ Goto 5 ∷ []) read answers unit refl 45 5 low)
-          (ends_quiet p stream (IfUnit 46 4) refl refl (test_fails p stream (Goto 5 ∷ []) read answers unit refl 46 4 is_high)
-          (ends_quiet p stream (Goto 5) refl refl refl second_ends))))
-
-      second_goes : (low : Bool) → nat_le unit 45 ≡ low → Goes stream second_code machine answers (at 1) (edge_on (state_of dotted.states 1).edges unit)
-      second_goes true is_low =
-          subst (λ o. Goes stream second_code machine answers (at 1) o) (sym (low_last unit is_low))
-          (ends_as p tagged dotted place saved stream second_code machine answers (at 1) 1 (omega arith)
-          (ends_peek p stream before unit is
-          (ends_quiet p stream (IfUnit 45 5) refl refl
-          (test_holds p stream (IfUnit 46 4 ∷ Goto 5 ∷ []) read answers unit refl 45 5 end_code is_low refl) second_ends)))
-      second_goes false low =
-          subst (λ o. Goes stream second_code machine answers (at 1) o) (sym (on_last unit (nat_le unit 46) low refl)) (second_on (nat_le unit 46) low refl)
-
-  -- ---- the fields
-
-  reads : (state : ℕ) → state < 2 → (offset : ℕ) (bank : Bank) (left : Option Left) → ((other : Left) → left ≡ Some other → other.accept ≡ by_tag)
-      → ReadsAs p tagged dotted place saved (place state) (record { state = state; offset = offset; bank = bank; left = left })
-  reads zero lt offset bank left known = record {
-    code = first_code;
-    is = refl;
-    goes = λ stream machine answers unit stands units is within.
-        first_goes stream machine answers unit (lt-ltb machine.cursor machine.limit units.one) is offset bank left known stands (nat_le unit 122) refl;
+  serves : Serves plain_supply tagged 255 dotted (code_of p.blocks) place saved rules 6
+  serves = record {
+    states = states_serve;
+    choices = record { saved = 1; block = 7 } ∷ [];
+    falls = refl;
+    none = refl;
+    restores = λ number accept lt is e. (7, refl, refl);
+    ends = λ number accept lt e. rule_stands number accept e;
   }
-  reads (suc zero) lt offset bank left known = record {
-    code = second_code;
-    is = refl;
-    goes = λ stream machine answers unit stands units is within.
-        second_goes stream machine answers unit (lt-ltb machine.cursor machine.limit units.one) is offset bank left stands (nat_le unit 45) refl;
-  }
-  reads (suc (suc state)) lt offset bank left known = absurd (omega (arith, lt))
 
-  edges_there : (state : ℕ) → state < 2 → HasEdge dotted state
-  edges_there zero lt none = absurd cc
-  edges_there (suc zero) lt none = absurd cc
-  edges_there (suc (suc state)) lt none = omega (arith, lt)
+  -- ---- the blocks and statements of the scanner
 
-  within : (state : ℕ) → HasEdge dotted state → place state < length p.blocks
-  within zero has = omega arith
-  within (suc state) has = omega arith
-
-  apart : (state other : ℕ) → HasEdge dotted state → HasEdge dotted other → place state ≡ place other → state ≡ other
+  apart : (number other : ℕ) → HasEdge dotted number → HasEdge dotted other → place number ≡ place other → number ≡ other
   apart zero zero has too same = refl
   apart zero (suc other) has too same = absurd (omega (arith, same))
-  apart (suc state) zero has too same = absurd (omega (arith, same))
+  apart (suc number) zero has too same = absurd (omega (arith, same))
   apart (suc zero) (suc zero) has too same = refl
   apart (suc zero) (suc (suc other)) has too same = absurd (too refl)
-  apart (suc (suc state)) (suc other) has too same = absurd (has refl)
+  apart (suc (suc number)) (suc other) has too same = absurd (has refl)
 
   never : (block : ℕ) (code : List Stmt) → code_at p.blocks (Some block) ≡ Some code → AllByRecursion (λ s. is_peek s ≡ false) code
       → StandsIn p.blocks block Peek → ⊥
   never block code at quiet stands = NeverStands p.blocks block Peek code at (λ s. is_peek s ≡ false) quiet stands (λ e. absurd cc)
 
-  peeks : (block : ℕ) → StandsIn p.blocks block Peek → (block ≡ 0) ⊎ ((state : ℕ) × HasEdge dotted state × (place state ≡ block))
+  peeks : (block : ℕ) → StandsIn p.blocks block Peek → (block ≡ 0) ⊎ ((number : ℕ) × HasEdge dotted number × (place number ≡ block))
   peeks zero stands = inl refl
-  peeks (suc zero) stands = absurd (never 1 test_code refl (refl, (refl, (refl, (refl, tt)))) stands)
-  peeks (suc (suc zero)) stands = absurd (never 2 pass_code refl (refl, (refl, tt)) stands)
+  peeks (suc zero) stands = absurd (never 1 (IfUnit 99 2 ∷ Goto 6 ∷ []) refl (refl, (refl, tt)) stands)
+  peeks (suc (suc zero)) stands = absurd (never 2 (Skip ∷ Goto 3 ∷ []) refl (refl, (refl, tt)) stands)
   peeks (suc (suc (suc zero))) stands = inr (1, edges_there 1 (omega arith), refl)
-  peeks (suc (suc (suc (suc zero)))) stands = absurd (never 4 dot_code refl (refl, (refl, (refl, (refl, (refl, tt))))) stands)
-  peeks (suc (suc (suc (suc (suc zero))))) stands = absurd (never 5 end_code refl (refl, (refl, tt)) stands)
-  peeks (suc (suc (suc (suc (suc (suc zero)))))) stands = absurd (never 6 fall_code refl (refl, (refl, tt)) stands)
-  peeks (suc (suc (suc (suc (suc (suc (suc zero))))))) stands = absurd (never 7 restore_code refl (refl, (refl, tt)) stands)
-  peeks (suc (suc (suc (suc (suc (suc (suc (suc zero)))))))) stands = absurd (never 8 rule_code refl (refl, (refl, tt)) stands)
+  peeks (suc (suc (suc (suc zero)))) stands = absurd (never 4 (Backup ∷ Accept 1 ∷ Set 1 ∷ Skip ∷ Goto 0 ∷ []) refl (refl, (refl, (refl, (refl, (refl, tt))))) stands)
+  peeks (suc (suc (suc (suc (suc zero))))) stands = absurd (never 5 (Set 1 ∷ Goto 8 ∷ []) refl (refl, (refl, tt)) stands)
+  peeks (suc (suc (suc (suc (suc (suc zero)))))) stands = absurd (never 6 (IfAccept 1 7 ∷ Leave ∷ []) refl (refl, (refl, tt)) stands)
+  peeks (suc (suc (suc (suc (suc (suc (suc zero))))))) stands = absurd (never 7 (Restore ∷ Goto 8 ∷ []) refl (refl, (refl, tt)) stands)
+  peeks (suc (suc (suc (suc (suc (suc (suc (suc zero)))))))) stands = absurd (never 8 (Tag (116 ∷ []) false 1 ∷ Code 1 None (97 ∷ []) ∷ []) refl (refl, (refl, tt)) stands)
   peeks (suc (suc (suc (suc (suc (suc (suc (suc (suc block))))))))) stands = let none = stands.1 in absurd cc
 
+  -- statements name register 1 or none
   own : (statement : Stmt) → IsMadeBy p.blocks 0 statement → NamesItsOwn dotted statement
   own statement made =
       All-made (NamesItsOwn dotted) p.blocks 0 statement
@@ -391,18 +220,6 @@ module _ (names : Spellings) where
       made
 
   pub dots_carried : Carries (bytes_piece names dotted_blocks) 0 tagged dotted
-  dots_carried = record {
-    place = place;
-    saved = saved;
-    blocks = within;
-    apart = apart;
-    peeks = λ block of stands. peeks block stands;
-    registers = own;
-    starts = λ start bank empty. reads 0 (omega arith) start bank None (λ other e. absurd cc);
-    moves = λ standing reached.
-        let known = known_reached dotted 2 (omega arith) (λ accept. accept ≡ by_tag) leads (λ number unit edge other on e. accepts number other e) standing reached in
-        reads standing.state known.state standing.offset standing.bank standing.left known.left;
-    stops = λ standing reached none.
-        let known = known_reached dotted 2 (omega arith) (λ accept. accept ≡ by_tag) leads (λ number unit edge other on e. accepts number other e) standing reached in
-        absurd (edges_there standing.state known.state none);
-  }
+  dots_carried =
+      supplied_carries plain_supply tagged 255 dotted p place saved rules 6 serves formed 0 None refl (λ unit lt. omega (arith, lt)) apart
+      (λ block of stands. peeks block stands) own

@@ -44,7 +44,7 @@ IsWord-front : (enc : Enc) (patterns : List Pattern) (a b : List ℕ) → IsWord
 IsWord-front enc patterns [] b h = tt
 IsWord-front enc patterns (unit ∷ a) b h = (h.0, IsWord-front enc patterns a b h.1)
 
-IsWord-units : (enc : Enc) (patterns : List Pattern) (word : List ℕ) → IsWord enc (terms_of patterns) word
+pub IsWord-units : (enc : Enc) (patterns : List Pattern) (word : List ℕ) → IsWord enc (terms_of patterns) word
     → AllByRecursion (λ unit. unit ≤ greatest_unit enc) word
 IsWord-units enc patterns [] h = tt
 IsWord-units enc patterns (unit ∷ word) h = (h.0, IsWord-units enc patterns word h.1)
@@ -58,13 +58,12 @@ All-at : {A : Type 0} (P : A → Type 0) (xs : List A) (i : ℕ) (x : A) → sli
 All-at P xs i x e h = subst (λ y. P y) (get_or_from_slice_get xs i x x e) (All-get_or P xs i x (slice_get_within xs i x e) h)
 
 module _ (policy : Policy) (enc : Enc) (patterns : List Pattern) (auto : Auto) (is : IsAutoUnder policy enc patterns auto) (endings : ℕ → Ending)
-    (ends : AreEndsOf enc patterns endings)
     (stream : List ℕ) (start : ℕ) (bank : Bank) (empty : bank.mregs 0 ≡ []) (units : IsWord enc (terms_of patterns) (drop start stream)) where
   abbrev Begins : List ℕ → Type 0
   Begins word = BeginsMatch enc (terms_of patterns) word
 
   -- a word at the start that begins no match stops the run
-  stops_there : (word : List ℕ) → IsWordAt stream start word → (Begins word → ⊥) → Stops auto (start_with start bank) (drop start stream)
+  pub stops_there : (word : List ℕ) → IsWordAt stream start word → (Begins word → ⊥) → Stops auto (start_with start bank) (drop start stream)
   stops_there word at none =
       let spelled = IsWord-front enc patterns word at.0 (subst (λ l. IsWord enc (terms_of patterns) l) at.1 units) in
       let no_run = by (run auto (start_with start bank) word) refl (is.begins start bank word empty spelled).0 in
@@ -82,23 +81,26 @@ module _ (policy : Policy) (enc : Enc) (patterns : List Pattern) (auto : Auto) (
       ∙ ap (option_map (λ (pattern : Pattern). pattern.term)) takes.1 in
       taken_begins enc (terms_of patterns) place takes.0.term word at takes.2
 
-  module _ (last : Standing) (stop : IsStopped policy enc patterns auto is start bank empty (drop start stream) last) where
+  -- the ends of rules put the cursor back to their trailing contexts, and no rule ends here since the stream does
+  module _ (slashes : All (λ (pattern : Pattern). (endings pattern.number).slash ≡ pattern.slash) (with_terms patterns))
+      (set : All (λ (pattern : Pattern). IsSetBy enc pattern pattern.slash) (with_terms patterns))
+      (no_end : (rule : ℕ) → IsEnd policy enc patterns stream start rule → ⊥)
+      (last : Standing) (stop : IsStopped policy enc patterns auto is start bank empty (drop start stream) last) where
     passed_at : IsWordAt stream start stop.passed
-    passed_at = (stop.unit ∷ stop.left, stop.splits)
+    passed_at = (stop.left, stop.splits)
 
     passed_begins : Begins stop.passed
     passed_begins =
-        let spelled = IsWord-front enc patterns stop.passed (stop.unit ∷ stop.left)
+        let spelled = IsWord-front enc patterns stop.passed stop.left
         (subst (λ l. IsWord enc (terms_of patterns) l) stop.splits units) in
         (is.begins start bank stop.passed empty spelled).0 (subst (λ o. IsSome o) (sym stop.runs) refl)
 
     -- with one unit more no match is begun
     ends_there : (unit : ℕ) (back : List ℕ) → IsWordAt stream start (stop.passed ++ unit ∷ back) → Begins (stop.passed ++ unit ∷ back) → ⊥
     ends_there unit back at begun =
-        let e1 : stop.passed ++ stop.unit ∷ stop.left ≡ stop.passed ++ (unit ∷ back ++ at.0) = sym stop.splits ∙ at.1
+        let e1 : stop.passed ++ stop.left ≡ stop.passed ++ (unit ∷ back ++ at.0) = sym stop.splits ∙ at.1
         ∙ append_assoc stop.passed (unit ∷ back) at.0 in
-        let e2 = same_behind stop.passed (stop.unit ∷ stop.left) (unit ∷ back ++ at.0) e1 in
-        let same : stop.unit ≡ unit = cc in
+        let e2 = same_behind stop.passed stop.left (unit ∷ back ++ at.0) e1 in
         let more : List ℕ = stop.passed ++ unit ∷ [] in
         let splits : stop.passed ++ unit ∷ back ≡ (stop.passed ++ unit ∷ []) ++ back = sym (append_assoc stop.passed (unit ∷ []) back) in
         let begun1 = front_begins enc (terms_of patterns) (stop.passed ++ unit ∷ []) back (subst (λ l. Begins l) splits begun) in
@@ -109,7 +111,7 @@ module _ (policy : Policy) (enc : Enc) (patterns : List Pattern) (auto : Auto) (
         let some = (is.begins start bank (stop.passed ++ unit ∷ []) empty spelled).1 begun1 in
         let none : run auto (start_with start bank) (stop.passed ++ unit ∷ []) ≡ None =
         run-one_more auto (start_with start bank) stop.passed unit ∙ ap (λ o. and_then o (λ last. step auto last unit)) stop.runs
-        ∙ ap (λ u. step auto last u) (sym same) ∙ stop.no_edge in
+        ∙ stop.no_edge unit (back ++ at.0) e2 in
         nothing (subst (λ o. IsSome o) none some)
       where
         nothing : IsSome {T = Standing} None → ⊥
@@ -117,16 +119,13 @@ module _ (policy : Policy) (enc : Enc) (patterns : List Pattern) (auto : Auto) (
 
     -- what begins a match there is a front of what was passed
     begun_within : (other : List ℕ) → IsWordAt stream start other → Begins other → (back : List ℕ) × (stop.passed ≡ other ++ back)
-    begun_within other at begun = by (fronts stop.passed (stop.unit ∷ stop.left) other at.0 (sym stop.splits ∙ at.1))
+    begun_within other at begun = by (fronts stop.passed stop.left other at.0 (sym stop.splits ∙ at.1))
       where
         by : ((back : List ℕ) × (stop.passed ≡ other ++ back)) ⊎ ((unit : ℕ) × (back : List ℕ) × (other ≡ stop.passed ++ unit ∷ back))
             → (back : List ℕ) × (stop.passed ≡ other ++ back)
         by (inl within) = within
         by (inr longer) =
             absurd (ends_there longer.0 longer.1 (subst (λ l. IsWordAt stream start l) longer.2 at) (subst (λ l. Begins l) longer.2 begun))
-
-    no_end : (rule : ℕ) → IsEnd policy enc patterns stream start rule → ⊥
-    no_end rule end = let e = sym ends.no_end ∙ end.1 in cc
 
     -- the match, and what is told of it
     Told : Option Found → Type 0
@@ -152,12 +151,12 @@ module _ (policy : Policy) (enc : Enc) (patterns : List Pattern) (auto : Auto) (
         let best = front.best in
         let pattern : Pattern = best.pattern in
         let saved = All-at (λ (pattern : Pattern). (endings pattern.number).slash ≡ pattern.slash)
-        (with_terms patterns) best.place best.pattern best.is ends.slashes in
-        let set = All-at (λ (pattern : Pattern). IsSetBy enc pattern pattern.slash) (with_terms patterns) best.place best.pattern best.is ends.set in
+        (with_terms patterns) best.place best.pattern best.is slashes in
+        let sets = All-at (λ (pattern : Pattern). IsSetBy enc pattern pattern.slash) (with_terms patterns) best.place best.pattern best.is set in
         let back = put_back-cursor enc best.pattern best.pattern.slash start (part_at patterns best.place) front.front best.tree
-        (map tag_value found.values) set best.values in
-        let whole : drop start stream ≡ front.front ++ (front.back ++ stop.unit ∷ stop.left) =
-        stop.splits ∙ ap (λ l. l ++ stop.unit ∷ stop.left) front.splits ∙ append_assoc front.front front.back (stop.unit ∷ stop.left) in
+        (map tag_value found.values) sets best.values in
+        let whole : drop start stream ≡ front.front ++ (front.back ++ stop.left) =
+        stop.splits ∙ ap (λ l. l ++ stop.left) front.splits ∙ append_assoc front.front front.back stop.left in
         let told : told_at endings cond best.pattern.number found.offset
         (map tag_value found.values) ≡ told_by endings cond best.pattern.number back.0 (map tag_value found.values) =
         ap (λ s. told_with endings cond best.pattern.number found.offset (map tag_value found.values)
@@ -168,7 +167,7 @@ module _ (policy : Policy) (enc : Enc) (patterns : List Pattern) (auto : Auto) (
           matched best.pattern.number back.0 (map tag_value found.values),
           by_rule front.front best.place best.pattern back.0 (map tag_value found.values) no_end
               (record {
-                is_word = (front.back ++ stop.unit ∷ stop.left, whole);
+                is_word = (front.back ++ stop.left, whole);
                 takes = (best.pattern, best.is, (best.tree, best.least.yields));
                 longest = λ other taker at takes. let w = begun_within other at
                     (taken_begun other taker takes) in front.longest other w.0 taker w.1 takes;
@@ -179,21 +178,20 @@ module _ (policy : Policy) (enc : Enc) (patterns : List Pattern) (auto : Auto) (
           ap (λ n. told_at endings cond n found.offset (map tag_value found.values)) best.rule ∙ told,
         )
 
-  pub outcome_told : (word : List ℕ) → IsWordAt stream start word → (Begins word → ⊥) → (cond : List ℕ)
-      → Stops auto (start_with start bank) (drop start stream)
-      × ((outcome : Outcome) × IsMatch policy enc patterns stream start outcome
+  -- what is told where the run on the rest of the stream stops, or where that ends, is a match of the rules
+  pub outcome_told : All (λ (pattern : Pattern). (endings pattern.number).slash ≡ pattern.slash) (with_terms patterns)
+      → All (λ (pattern : Pattern). IsSetBy enc pattern pattern.slash) (with_terms patterns)
+      → ((rule : ℕ) → IsEnd policy enc patterns stream start rule → ⊥) → (cond : List ℕ)
+      → (outcome : Outcome) × IsMatch policy enc patterns stream start outcome
       × (told_found endings cond (found_behind auto (last_standing auto (start_with start bank) (drop start stream)))
       (last_standing auto (start_with start bank) (drop start stream)).offset
-      ≡ told_of endings cond outcome))
+      ≡ told_of endings cond outcome)
   unfolding Told
-  outcome_told word at none cond =
-      let stops = stops_there word at none in
+  outcome_told slashes set no_end cond =
       let last : Standing = last_standing auto (start_with start bank) (drop start stream) in
-      let stop = stopped policy enc patterns auto is start bank empty (drop start stream) stops in (
-        stops,
-        match_told (last_standing auto (start_with start bank) (drop start stream)) stop
-            (found_behind auto (last_standing auto (start_with start bank) (drop start stream))) stop.best cond,
-      )
+      let stop = stopped policy enc patterns auto is start bank empty (drop start stream) in
+      match_told slashes set no_end (last_standing auto (start_with start bank) (drop start stream)) stop
+      (found_behind auto (last_standing auto (start_with start bank) (drop start stream))) stop.best cond
 
 -- a piece that asks for no refill, in a condition whose block is that of state 0
 pub served_right : (policy : Policy) (enc : Enc) (patterns : List Pattern) (auto : Auto) (endings : ℕ → Ending) (piece : Piece) (place saved rules : ℕ → ℕ) (fall : ℕ)
@@ -204,7 +202,9 @@ pub served_right : (policy : Policy) (enc : Enc) (patterns : List Pattern) (auto
     → IsRightUnder policy cond enc patterns endings piece
 served_right policy enc patterns auto endings piece place saved rules fall cond is ends serves quiet entry stream start schedule word registers histories le units legal at none empty =
     let bank : Bank = bank_from registers histories in
-    let told = outcome_told policy enc patterns auto is endings ends stream start (bank_from registers histories) empty units word at none cond in
+    let no_end : (rule : ℕ) → IsEnd policy enc patterns stream start rule → ⊥ = λ rule end. let e = sym ends.no_end ∙ end.1 in cc in
+    let stops = stops_there policy enc patterns auto is endings stream start (bank_from registers histories) empty units word at none in
+    let told = outcome_told policy enc patterns auto is endings stream start (bank_from registers histories) empty units ends.slashes ends.set no_end cond in
     let ran = run_found piece stream start endings (greatest_unit enc) auto place saved rules fall serves is.fits.formed cond entry le
-    (IsWord-units enc patterns (drop start stream) units) registers histories told.0 schedule (legal.whole quiet) in
-    (told.1.0, told.1.1, ran ∙ told.1.2)
+    (IsWord-units enc patterns (drop start stream) units) registers histories stops schedule (legal.whole quiet) in
+    (told.0, told.1, ran ∙ told.2)

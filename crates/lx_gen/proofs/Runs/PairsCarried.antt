@@ -1,28 +1,29 @@
--- The piece of `"a" ("ba")*` carries its automaton.
-use Rattle.std.specs.Prelude.{◌≡◌, ◌⊎◌, ℕ, zero, suc, ◌<◌, Bool, true, false, List, [], ◌∷◌, length, Option, Some, None, nat_le, nat_lt, ◌&&◌, ◌==◌, refl, slice_get, if◌then◌else◌}
-use Rattle.std.proofs.Common.{sym, ap, ap₂, ◌∙◌, subst, arith, inl, inr, lt-ltb, le-leb, leb-true, leb-false}
+-- The piece of `"a" ("ba")*` carries its automaton, which its blocks serve.
+use Rattle.std.specs.Prelude.{◌≡◌, ◌⊎◌, ℕ, zero, suc, ◌<◌, Bool, true, false, List, [], ◌∷◌, Option, Some, None, nat_le, ◌&&◌, refl, if◌then◌else◌}
+use Rattle.std.proofs.Common.{sym, ap, ◌∙◌, subst, arith, inl, inr, le-leb, leb-true, leb-false}
 use Rattle.std.proofs.lemmas.Bool.{lt-leb}
 use Rattle.std.specs.List.{AllByRecursion}
-use Rattle.lx_auto.specs.Automaton.{edge_on, has_unit, state_of}
-use Rattle.lx_auto.specs.Bank.{Bank}
-use Rattle.lx_auto.specs.Run.{Left, Standing, found_left}
+use Rattle.lx_auto.specs.Automaton.{IsAuto, edge_on, state_of}
 use Rattle.lx_auto.specs.declared.automaton.Accept.{Accept as Accepted}
 use Rattle.lx_auto.specs.declared.automaton.Edge.{Edge}
 use Rattle.lx_base.specs.Names.{Spellings}
 use Rattle.lx_ccode.specs.declared.piece.Piece.{Piece}
 use Rattle.lx_ccode.specs.declared.piece.Stmt.{Stmt}
-use Rattle.lx_ccode.specs.declared.piece.Stmt.TheVariants.{Accept, Backup, Code, Goto, IfAccept, IfUnit, Leave, Peek, Restore, Skip}
-use Rattle.lx_ccode.specs.Machine.{Answer, Machine, Outcome, Value, by_rule, code_at, no_rule}
-use Rattle.lx_ccode.specs.Runs.{Ended}
+use Rattle.lx_ccode.specs.declared.piece.Stmt.TheVariants.{Accept, Backup, Code, Goto, IfAccept, Leave, Peek, Restore, Skip}
+use Rattle.lx_ccode.specs.Machine.{code_at}
 use Rattle.lx_ccode.specs.Scanners.{CheckAtMost, IsMadeBy, StandsIn}
+use Rattle.lx_ccode.specs.Statements.{code_of}
 use Rattle.lx_ccode.specs.Traces.{is_peek}
-use Rattle.lx_ccode.proofs.TraceSteps.{All-made, EndsSo, NeverStands, ends_at, ends_peek, ends_quiet, ends_telling, saved_fails, saved_holds, leads_at, leads_peek, leads_quiet, leads_skip, test_fails, test_holds}
+use Rattle.lx_ccode.proofs.TraceSteps.{All-made, NeverStands}
 use Rattle.lx_gen.specs.CarriedExamples.{paired, paired_blocks}
-use Rattle.lx_gen.specs.Carries.{Carries, GoesBy, HasEdge, HasSaved, NamesItsOwn, ReadsAs, StandsAs}
+use Rattle.lx_gen.specs.Carries.{Carries, HasEdge, NamesItsOwn}
+use Rattle.lx_gen.specs.Endings.{ending_code}
 use Rattle.lx_gen.specs.Examples.{bytes_piece, untagged}
-use Rattle.lx_gen.specs.Stops.{told_found}
-use Rattle.lx_gen.proofs.Runs.CarriedSteps.{ends_as, follows, nothing_named}
-use Rattle.lx_gen.proofs.Runs.KnownStandings.{if_edge, known_reached}
+use Rattle.lx_gen.specs.Supplied.{HasCode, IsTarget, Serves, ServesState, by_tests, reads}
+use Rattle.lx_gen.specs.Supplies.{plain_supply}
+use Rattle.lx_gen.specs.TestTrees.{TestTree, leaf, picked, test}
+use Rattle.lx_gen.proofs.Carrying.SuppliedCarried.{supplied_carries}
+use Rattle.lx_gen.proofs.Runs.CarriedSteps.{nothing_named}
 
 abbrev place : ℕ → ℕ
 place zero = 0
@@ -30,6 +31,10 @@ place (suc number) = 2
 
 abbrev pub saved : ℕ → ℕ
 saved number = 1
+
+-- the end of the rule
+abbrev rules : ℕ → ℕ
+rules rule = 6
 
 abbrev pub by_first : Accepted
 by_first = record { rule = 1; ops = []; values = [] }
@@ -40,15 +45,24 @@ to_second = record { lo = 97; hi = 97; ops = []; to = 1 }
 abbrev pub to_first : Edge
 to_first = record { lo = 98; hi = 98; ops = []; to = 0 }
 
-pub leads : (number unit : ℕ) (edge : Edge) → edge_on (state_of paired.states number).edges unit ≡ Some edge → edge.to < 2
-leads zero unit edge on = subst (λ (e : Edge). e.to < 2) (if_edge (has_unit to_second unit) to_second edge on) (omega arith)
-leads (suc zero) unit edge on = subst (λ (e : Edge). e.to < 2) (if_edge (has_unit to_first unit) to_first edge on) (omega arith)
-leads (suc (suc number)) unit edge on = absurd cc
+pub paired_formed : IsAuto paired
+paired_formed = record {
+  start = omega arith;
+  few = omega arith;
+  few_regs = omega arith;
+  few_mregs = omega arith;
+  states = (
+    record { apart = (omega arith, omega arith, tt); lead = (omega arith, tt, tt); accept = tt; leave = tt },
+    (record { apart = (omega arith, omega arith, tt); lead = (omega arith, tt, tt); accept = (tt, tt); leave = tt }, tt),
+  );
+}
 
-pub accepts : (number : ℕ) (other : Accepted) → (state_of paired.states number).accept ≡ Some other → other ≡ by_first
-accepts zero other e = absurd cc
-accepts (suc zero) other e = let same : by_first ≡ other = cc in sym same
-accepts (suc (suc number)) other e = absurd cc
+-- its accept has what holds of that of rule 1
+pub accepted_first : (Holds : Accepted → Type 0) → Holds by_first → (number : ℕ) (accept : Accepted) → (state_of paired.states number).accept ≡ Some accept
+    → Holds accept
+accepted_first Holds first zero accept e = absurd cc
+accepted_first Holds first (suc zero) accept e = let same : by_first ≡ accept = cc in subst Holds same first
+accepted_first Holds first (suc (suc number)) accept e = absurd cc
 
 -- which edge is on a unit
 pub low_none : (unit : ℕ) → nat_le unit 96 ≡ true → edge_on (state_of paired.states 0).edges unit ≡ None
@@ -75,196 +89,88 @@ on_last unit high low is =
     ap (λ t. if t && nat_le unit 98 then Some to_first else None) (le-leb 98 unit (omega (arith, lt)))
     ∙ ap (λ t. if t then Some to_first else None) is
 
--- what is told in a condition, from a cursor and what was given
-abbrev pub told : Outcome → (cond : List ℕ) → (cursor : ℕ) → List Value → Ended
-told outcome cond cursor values = record { outcome = outcome; cursor = cursor; cond = cond; values = values }
-
-pub edges_there : (state : ℕ) → state < 2 → HasEdge paired state
+pub edges_there : (number : ℕ) → number < 2 → HasEdge paired number
 edges_there zero lt none = absurd cc
 edges_there (suc zero) lt none = absurd cc
-edges_there (suc (suc state)) lt none = omega (arith, lt)
+edges_there (suc (suc number)) lt none = omega (arith, lt)
 
 module _ (names : Spellings) where
   abbrev p : Piece
   p = bytes_piece names paired_blocks
 
-  abbrev Stands : Machine → Standing → Type 0
-  Stands machine standing = StandsAs p untagged paired place saved machine standing
+  abbrev Has : ℕ → List Stmt → Type 0
+  Has block code = HasCode plain_supply untagged 255 paired (code_of p.blocks) place saved rules 4 block code
 
-  abbrev Kept : Option Left → Machine → Type 0
-  Kept left machine = HasSaved p untagged paired place saved left machine
+  abbrev Target : ℕ → Option Edge → ℕ → Type 0
+  Target number o block = IsTarget plain_supply untagged 255 paired (code_of p.blocks) place saved rules 4 number (state_of paired.states number) o block
 
-  abbrev Goes : List ℕ → List Stmt → Machine → List Answer → Standing → Option Edge → Type 0
-  Goes stream code machine answers standing o = GoesBy p untagged paired place saved stream code machine answers standing o
+  -- ---- what the blocks serve
 
-  abbrev first_code : List Stmt
-  first_code = Peek ∷ IfUnit 96 4 ∷ IfUnit 97 1 ∷ Goto 4 ∷ []
+  abbrev first_tree : TestTree ℕ
+  first_tree = test 96 4 (test 97 1 (leaf 4))
 
-  abbrev second_code : List Stmt
-  second_code = Peek ∷ IfUnit 97 6 ∷ IfUnit 98 3 ∷ Goto 6 ∷ []
+  abbrev second_tree : TestTree ℕ
+  second_tree = test 97 6 (test 98 3 (leaf 6))
 
-  abbrev fall_code : List Stmt
-  fall_code = IfAccept 1 5 ∷ Leave ∷ []
+  first_leads : (unit : ℕ) → Target 0 (edge_on (state_of paired.states 0).edges unit) (picked first_tree unit)
+  first_leads unit = by (nat_le unit 96) (nat_le unit 97) refl refl where
+    on_a : (high : Bool) → Target 0 (if high then Some to_second else None) (if high then 1 else 4)
+    on_a true = refl
+    on_a false = refl
 
-  module _ (stream : List ℕ) (answers : List Answer) (bank : Bank) where
-    -- the fallback
-    falls : (left : Option Left) (machine : Machine) (offset : ℕ) → Kept left machine
-        → ((other : Left) → left ≡ Some other → other.accept ≡ by_first) → machine.cursor ≡ offset → machine.values ≡ []
-        → EndsSo p stream 0 0 fall_code machine answers (told_found untagged machine.cond (found_left bank left) offset)
-    falls None machine offset none known cursor values =
-        ends_telling p stream
-        (ends_quiet p stream (IfAccept 1 5) refl refl (saved_fails p stream (Leave ∷ []) machine answers 1 5 (ap (λ n. n == 1) none))
-        (ends_at p stream Leave refl refl refl))
-        (ap₂ (λ c v. told no_rule machine.cond c v) cursor values)
-    falls (Some left) machine offset has known cursor values =
-        ends_telling p stream
-        (ends_quiet p stream (IfAccept 1 5) refl refl
-        (saved_holds p stream (Leave ∷ []) machine answers 1 5 (Restore ∷ Goto 6 ∷ []) (ap (λ n. n == 1) has.0) refl)
-        (ends_quiet p stream Restore refl refl refl
-        (ends_quiet p stream (Goto 6) refl refl refl
-        (ends_at p stream (Code 1 None (97 ∷ [])) refl refl refl))))
-        (ap₂ (λ c v. told (by_rule 1) machine.cond c v) has.1 values
-        ∙ ap (λ (a : Accepted). told_found untagged machine.cond (found_left bank (Some (record { state = left.state; accept = a; offset = left.offset }))) offset)
-        (sym (known left refl)))
+    by : (low high : Bool) → nat_le unit 96 ≡ low → nat_le unit 97 ≡ high
+        → Target 0 (edge_on (state_of paired.states 0).edges unit) (if low then 4 else (if high then 1 else 4))
+    by true high is_low is_high = subst (λ o. Target 0 o 4) (sym (low_none unit is_low)) refl
+    by false high low is_high = subst (λ o. Target 0 o (if high then 1 else 4)) (sym (on_first unit high low is_high)) (on_a high)
 
-  module _ (stream : List ℕ) (machine : Machine) (answers : List Answer) (unit : ℕ) (before : nat_lt machine.cursor machine.limit ≡ true)
-      (is : slice_get stream machine.cursor ≡ Some unit) (offset : ℕ) (bank : Bank) (left : Option Left) where
-    abbrev read : Machine
-    read = record machine { unit = Some unit }
+  second_leads : (unit : ℕ) → Target 1 (edge_on (state_of paired.states 1).edges unit) (picked second_tree unit)
+  second_leads unit = by (nat_le unit 97) (nat_le unit 98) refl refl where
+    on_b : (high : Bool) → Target 1 (if high then Some to_first else None) (if high then 3 else 6)
+    on_b true = refl
+    on_b false = inr (refl, refl)
 
-    abbrev at : ℕ → Standing
-    at state = record { state = state; offset = offset; bank = bank; left = left }
+    by : (low high : Bool) → nat_le unit 97 ≡ low → nat_le unit 98 ≡ high
+        → Target 1 (edge_on (state_of paired.states 1).edges unit) (if low then 6 else (if high then 3 else 6))
+    by true high is_low is_high = subst (λ o. Target 1 o 6) (sym (low_last unit is_low)) (inr (refl, refl))
+    by false high low is_high = subst (λ o. Target 1 o (if high then 3 else 6)) (sym (on_last unit high low is_high)) (on_b high)
 
-    still_saved : (other : Option Left) → Kept other machine → Kept other (record machine { unit = Some unit })
-    still_saved None saved = saved
-    still_saved (Some other) saved = saved
+  states_serve : (number : ℕ) → number < 2
+      → ServesState plain_supply untagged 255 paired (code_of p.blocks) place saved rules 4 number (state_of paired.states number)
+  states_serve zero lt = reads (edges_there 0 lt) (by_tests refl first_tree 0 refl tt (λ unit within. first_leads unit))
+  states_serve (suc zero) lt = reads (edges_there 1 lt) (by_tests refl second_tree 0 refl tt (λ unit within. second_leads unit))
+  states_serve (suc (suc number)) lt = absurd (omega (arith, lt))
 
-    module _ (known : (other : Left) → left ≡ Some other → other.accept ≡ by_first) (stands : Stands machine (at 0)) where
-      first_falls : EndsSo p stream 0 0 fall_code (record machine { unit = Some unit }) answers (told_found untagged machine.cond (found_left bank left) offset)
-      first_falls =
-          falls stream answers bank left (record machine { unit = Some unit }) offset (still_saved left (stands.left refl)) known stands.cursor stands.values
-
-      first_on : (high : Bool) → nat_le unit 96 ≡ false → nat_le unit 97 ≡ high
-          → Goes stream first_code machine answers (at 0) (if high then Some to_second else None)
-      first_on true low is_high =
-          follows p untagged paired place saved stream first_code machine answers (at 0) to_second second_code
-          (record machine { unit = Some unit; cursor = suc machine.cursor }) 1 (omega arith)
-          (leads_peek p stream before unit is
-          (leads_quiet p stream (IfUnit 96 4) refl refl (test_fails p stream (IfUnit 97 1 ∷ Goto 4 ∷ []) read answers unit refl 96 4 low)
-          (leads_quiet p stream (IfUnit 97 1) refl refl (test_holds p stream (Goto 4 ∷ []) read answers unit refl 97 1 (Skip ∷ Goto 2 ∷ []) is_high refl)
-          (leads_skip p stream before
-          (leads_at p stream (Goto 2) refl refl 2 refl refl)))))
-          refl
-          (record {
-            cursor = ap suc stands.cursor;
-            registers = λ reg lt. absurd (omega (arith, lt));
-            histories = λ mreg lt. absurd (omega (arith, lt));
-            left = λ none. absurd cc;
-            values = stands.values;
-          })
-          refl refl
-      first_on false low is_high =
-          ends_as p untagged paired place saved stream first_code machine answers (at 0) 1 (omega arith)
-          (ends_peek p stream before unit is
-          (ends_quiet p stream (IfUnit 96 4) refl refl (test_fails p stream (IfUnit 97 1 ∷ Goto 4 ∷ []) read answers unit refl 96 4 low)
-          (ends_quiet p stream (IfUnit 97 1) refl refl (test_fails p stream (Goto 4 ∷ []) read answers unit refl 97 1 is_high)
-          (ends_quiet p stream (Goto 4) refl refl refl first_falls))))
-
-      first_goes : (low : Bool) → nat_le unit 96 ≡ low → Goes stream first_code machine answers (at 0) (edge_on (state_of paired.states 0).edges unit)
-      first_goes true is_low =
-          subst (λ o. Goes stream first_code machine answers (at 0) o) (sym (low_none unit is_low))
-          (ends_as p untagged paired place saved stream first_code machine answers (at 0) 1 (omega arith)
-          (ends_peek p stream before unit is
-          (ends_quiet p stream (IfUnit 96 4) refl refl
-          (test_holds p stream (IfUnit 97 1 ∷ Goto 4 ∷ []) read answers unit refl 96 4 fall_code is_low refl) first_falls)))
-      first_goes false low =
-          subst (λ o. Goes stream first_code machine answers (at 0) o) (sym (on_first unit (nat_le unit 97) low refl)) (first_on (nat_le unit 97) low refl)
-
-    module _ (stands : Stands machine (at 1)) where
-      second_ends : EndsSo p stream 0 0 (Code 1 None (97 ∷ []) ∷ []) (record machine { unit = Some unit }) answers (told (by_rule 1) machine.cond offset [])
-      second_ends =
-          ends_telling p stream (ends_at p stream (Code 1 None (97 ∷ [])) refl refl refl)
-          (ap₂ (λ c v. told (by_rule 1) machine.cond c v) stands.cursor stands.values)
-
-      second_on : (high : Bool) → nat_le unit 97 ≡ false → nat_le unit 98 ≡ high
-          → Goes stream second_code machine answers (at 1) (if high then Some to_first else None)
-      second_on true low is_high =
-          follows p untagged paired place saved stream second_code machine answers (at 1) to_first first_code
-          (record machine { unit = Some unit; marker = machine.cursor; accept = 1; cursor = suc machine.cursor }) 1 (omega arith)
-          (leads_peek p stream before unit is
-          (leads_quiet p stream (IfUnit 97 6) refl refl (test_fails p stream (IfUnit 98 3 ∷ Goto 6 ∷ []) read answers unit refl 97 6 low)
-          (leads_quiet p stream (IfUnit 98 3) refl refl
-          (test_holds p stream (Goto 6 ∷ []) read answers unit refl 98 3 (Backup ∷ Accept 1 ∷ Skip ∷ Goto 0 ∷ []) is_high refl)
-          (leads_quiet p stream Backup refl refl refl
-          (leads_quiet p stream (Accept 1) refl refl refl
-          (leads_skip p stream before
-          (leads_at p stream (Goto 0) refl refl 0 refl refl)))))))
-          refl
-          (record {
-            cursor = ap suc stands.cursor;
-            registers = λ reg lt. absurd (omega (arith, lt));
-            histories = λ mreg lt. absurd (omega (arith, lt));
-            left = λ none. (refl, stands.cursor);
-            values = stands.values;
-          })
-          refl refl
-      second_on false low is_high =
-          ends_as p untagged paired place saved stream second_code machine answers (at 1) 1 (omega arith)
-          (ends_peek p stream before unit is
-          (ends_quiet p stream (IfUnit 97 6) refl refl (test_fails p stream (IfUnit 98 3 ∷ Goto 6 ∷ []) read answers unit refl 97 6 low)
-          (ends_quiet p stream (IfUnit 98 3) refl refl (test_fails p stream (Goto 6 ∷ []) read answers unit refl 98 3 is_high)
-          (ends_quiet p stream (Goto 6) refl refl refl second_ends))))
-
-      second_goes : (low : Bool) → nat_le unit 97 ≡ low → Goes stream second_code machine answers (at 1) (edge_on (state_of paired.states 1).edges unit)
-      second_goes true is_low =
-          subst (λ o. Goes stream second_code machine answers (at 1) o) (sym (low_last unit is_low))
-          (ends_as p untagged paired place saved stream second_code machine answers (at 1) 1 (omega arith)
-          (ends_peek p stream before unit is
-          (ends_quiet p stream (IfUnit 97 6) refl refl
-          (test_holds p stream (IfUnit 98 3 ∷ Goto 6 ∷ []) read answers unit refl 97 6 (Code 1 None (97 ∷ []) ∷ []) is_low refl) second_ends)))
-      second_goes false low =
-          subst (λ o. Goes stream second_code machine answers (at 1) o) (sym (on_last unit (nat_le unit 98) low refl)) (second_on (nat_le unit 98) low refl)
-
-  -- ---- the fields
-
-  reads : (state : ℕ) → state < 2 → (offset : ℕ) (bank : Bank) (left : Option Left) → ((other : Left) → left ≡ Some other → other.accept ≡ by_first)
-      → ReadsAs p untagged paired place saved (place state) (record { state = state; offset = offset; bank = bank; left = left })
-  reads zero lt offset bank left known = record {
-    code = first_code;
-    is = refl;
-    goes = λ stream machine answers unit stands units is within.
-        first_goes stream machine answers unit (lt-ltb machine.cursor machine.limit units.one) is offset bank left known stands (nat_le unit 96) refl;
+  serves : Serves plain_supply untagged 255 paired (code_of p.blocks) place saved rules 4
+  serves = record {
+    states = states_serve;
+    choices = record { saved = 1; block = 5 } ∷ [];
+    falls = refl;
+    none = refl;
+    restores = λ number accept lt is e. (5, refl, refl);
+    ends = λ number accept lt e.
+        accepted_first (λ accept. Has (rules accept.rule) (ending_code untagged accept.rule accept.values)) refl number accept e;
   }
-  reads (suc zero) lt offset bank left known = record {
-    code = second_code;
-    is = refl;
-    goes = λ stream machine answers unit stands units is within.
-        second_goes stream machine answers unit (lt-ltb machine.cursor machine.limit units.one) is offset bank left stands (nat_le unit 97) refl;
-  }
-  reads (suc (suc state)) lt offset bank left known = absurd (omega (arith, lt))
 
-  within : (state : ℕ) → HasEdge paired state → place state < length p.blocks
-  within zero has = omega arith
-  within (suc state) has = omega arith
+  -- ---- the blocks and statements of the scanner
 
-  apart : (state other : ℕ) → HasEdge paired state → HasEdge paired other → place state ≡ place other → state ≡ other
+  apart : (number other : ℕ) → HasEdge paired number → HasEdge paired other → place number ≡ place other → number ≡ other
   apart zero zero has too same = refl
   apart zero (suc other) has too same = absurd (omega (arith, same))
-  apart (suc state) zero has too same = absurd (omega (arith, same))
+  apart (suc number) zero has too same = absurd (omega (arith, same))
   apart (suc zero) (suc zero) has too same = refl
   apart (suc zero) (suc (suc other)) has too same = absurd (too refl)
-  apart (suc (suc state)) (suc other) has too same = absurd (has refl)
+  apart (suc (suc number)) (suc other) has too same = absurd (has refl)
 
   never : (block : ℕ) (code : List Stmt) → code_at p.blocks (Some block) ≡ Some code → AllByRecursion (λ s. is_peek s ≡ false) code
       → StandsIn p.blocks block Peek → ⊥
   never block code at quiet stands = NeverStands p.blocks block Peek code at (λ s. is_peek s ≡ false) quiet stands (λ e. absurd cc)
 
-  peeks : (block : ℕ) → StandsIn p.blocks block Peek → (block ≡ 0) ⊎ ((state : ℕ) × HasEdge paired state × (place state ≡ block))
+  peeks : (block : ℕ) → StandsIn p.blocks block Peek → (block ≡ 0) ⊎ ((number : ℕ) × HasEdge paired number × (place number ≡ block))
   peeks zero stands = inl refl
   peeks (suc zero) stands = absurd (never 1 (Skip ∷ Goto 2 ∷ []) refl (refl, (refl, tt)) stands)
   peeks (suc (suc zero)) stands = inr (1, edges_there 1 (omega arith), refl)
   peeks (suc (suc (suc zero))) stands = absurd (never 3 (Backup ∷ Accept 1 ∷ Skip ∷ Goto 0 ∷ []) refl (refl, (refl, (refl, (refl, tt)))) stands)
-  peeks (suc (suc (suc (suc zero)))) stands = absurd (never 4 fall_code refl (refl, (refl, tt)) stands)
+  peeks (suc (suc (suc (suc zero)))) stands = absurd (never 4 (IfAccept 1 5 ∷ Leave ∷ []) refl (refl, (refl, tt)) stands)
   peeks (suc (suc (suc (suc (suc zero))))) stands = absurd (never 5 (Restore ∷ Goto 6 ∷ []) refl (refl, (refl, tt)) stands)
   peeks (suc (suc (suc (suc (suc (suc zero)))))) stands = absurd (never 6 (Code 1 None (97 ∷ []) ∷ []) refl (refl, tt) stands)
   peeks (suc (suc (suc (suc (suc (suc (suc block))))))) stands = let none = stands.1 in absurd cc
@@ -277,21 +183,9 @@ module _ (names : Spellings) where
       made
 
   pub pairs_carried : Carries (bytes_piece names paired_blocks) 0 untagged paired
-  pairs_carried = record {
-    place = place;
-    saved = saved;
-    blocks = within;
-    apart = apart;
-    peeks = λ block of stands. peeks block stands;
-    registers = own;
-    starts = λ start bank empty. reads 0 (omega arith) start bank None (λ other e. absurd cc);
-    moves = λ standing reached.
-        let known = known_reached paired 2 (omega arith) (λ accept. accept ≡ by_first) leads (λ number unit edge other on e. accepts number other e) standing reached in
-        reads standing.state known.state standing.offset standing.bank standing.left known.left;
-    stops = λ standing reached none.
-        let known = known_reached paired 2 (omega arith) (λ accept. accept ≡ by_first) leads (λ number unit edge other on e. accepts number other e) standing reached in
-        absurd (edges_there standing.state known.state none);
-  }
+  pairs_carried =
+      supplied_carries plain_supply untagged 255 paired p place saved rules 4 serves paired_formed 0 None refl (λ unit lt. omega (arith, lt)) apart
+      (λ block of stands. peeks block stands) own
 
   -- it checks for no units
   pub pairs_check_nothing : CheckAtMost 1 (bytes_piece names paired_blocks).blocks

@@ -40,7 +40,7 @@ updated-raised_at first target value regs (suc reg) = by (nat_eq reg target) ref
         let ne : suc reg ≢ suc target = λ z. true≢false (sym (eq-eqb reg target (omega arith)) ∙ q) in
         ap (λ t. if t then value else regs reg) (ne_eqb (suc reg) (suc target) ne) ∙ ap (λ t. if t then value else regs reg) (sym q)
 
-updated-raised : (first : Option ℕ) (target : ℕ) (value : Option ℕ) (regs : ℕ → Option ℕ)
+pub updated-raised : (first : Option ℕ) (target : ℕ) (value : Option ℕ) (regs : ℕ → Option ℕ)
     → updated (suc target) value (raised first regs) ≡ raised first (updated target value regs)
 updated-raised first target value regs = λ i reg. updated-raised_at first target value regs reg i
 
@@ -63,10 +63,10 @@ abbrev pub ArePositive : List Op → Type 0
 ArePositive [] = Unit {0}
 ArePositive (op ∷ ops) = IsPositive op × ArePositive ops
 
--- where the cursor, the marker and the limit stand, the unit that was read, the saved number, the registers, the condition, and
--- what was given
-abbrev pub machine_at : (cur mk lim : ℕ) → (u : Option ℕ) → (ac : ℕ) → (first : Option ℕ) → Bank → (cond : List ℕ) → List Value → Machine
-machine_at cur mk lim u ac first k cond values = record {
+-- where the cursor, the marker and the limit stand, the unit that was read, the saved number, the state that was stored, the registers,
+-- the condition, and what was given
+abbrev pub machine_at : (cur mk lim : ℕ) → (u : Option ℕ) → (ac : ℕ) → (kept first : Option ℕ) → Bank → (cond : List ℕ) → List Value → Machine
+machine_at cur mk lim u ac kept first k cond values = record {
   cursor = cur;
   marker = mk;
   limit = lim;
@@ -75,7 +75,7 @@ machine_at cur mk lim u ac first k cond values = record {
   registers = raised first k.regs;
   histories = k.mregs;
   cond = cond;
-  state = None;
+  state = kept;
   values = values;
 }
 
@@ -92,9 +92,9 @@ length-ops_code [] b = omega arith
 length-ops_code (op ∷ ops) b = let h = length-ops_code ops b in omega (arith, h)
 
 module _ (p : Piece) (x : List ℕ) (start : ℕ) where
-  module _ (cur mk lim : ℕ) (u : Option ℕ) (ac : ℕ) (first : Option ℕ) (cond : List ℕ) (values : List Value) (q : List Answer) where
+  module _ (cur mk lim : ℕ) (u : Option ℕ) (ac : ℕ) (kept first : Option ℕ) (cond : List ℕ) (values : List Value) (q : List Answer) where
     abbrev at : Bank → Machine
-    at k = machine_at cur mk lim u ac first k cond values
+    at k = machine_at cur mk lim u ac kept first k cond values
 
     op_step : (op : Op) → IsPositive op → (b : List Stmt) (k : Bank) → step p x (op_code op) b (at k) q ≡ goes_on b (at (after_op cur op k)) q
     op_step (Here r) pos b k = ap (λ g. goes_on b (record (at k) { registers = g }) q) (updated-raised first r (Some cur) k.regs)

@@ -1,6 +1,6 @@
 -- Blocks that serve an automaton run as it does: the run ends with the automaton's match, under every legal schedule.
 use Rattle.std.specs.Prelude.{◌≡◌, ℕ, zero, suc, ◌+◌, ◌-◌, ◌*◌, ◌<◌, ◌≤◌, List, [], ◌∷◌, length, drop, Option, Some, None, Bool, true, false, ◌||◌, nat_lt, nat_eq, refl, slice_get, if◌then◌else◌}
-use Rattle.std.proofs.Common.{inl, inr, sym, ap, ◌∙◌, subst, arith, lt-ltb, length-drop}
+use Rattle.std.proofs.Common.{sym, ap, ◌∙◌, subst, arith, lt-ltb, length-drop}
 use Rattle.std.proofs.Math.Bool.{or-true}
 use Rattle.std.specs.List.{AllByRecursion, list_any}
 use Rattle.lx_auto.specs.Automaton.{IsAuto, edge_on, has_unit, state_of}
@@ -18,14 +18,14 @@ use Rattle.lx_ccode.specs.Machine.{Answer, Machine, code_at, jump, peek, units_o
 use Rattle.lx_ccode.specs.Runs.{entry_block, loop_count, run, run_in}
 use Rattle.lx_ccode.specs.Schedules.{Schedule}
 use Rattle.lx_ccode.specs.Statements.{code_of, statement_count}
-use Rattle.lx_gen.specs.Codes.{Choice, accept_code, choices_code, edge_code, is_saved, saves_by, saves_on}
-use Rattle.lx_gen.specs.Endings.{Ending, ending_code}
-use Rattle.lx_gen.specs.Serving.{IsEnd, Serves, ServesState, by_jump, by_tests, itself}
+use Rattle.lx_gen.specs.Codes.{Choice, choices_code, edge_code, is_saved, saves_by, saves_on}
+use Rattle.lx_gen.specs.Endings.{Ending}
+use Rattle.lx_gen.specs.Serving.{Serves, ServesState, by_jump, by_tests, itself}
 use Rattle.lx_gen.specs.Starts.{machine_with, run_with}
 use Rattle.lx_gen.specs.Stops.{Stops, bank_from, last_standing, or_here, or_later, told_found}
 use Rattle.lx_gen.specs.TestTrees.{inner_blocks, picked, tree_code}
 use Rattle.lx_gen.proofs.Operations.Agreeing.{Agrees, Agrees-after}
-use Rattle.lx_gen.proofs.Runs.BlockRuns.{Has, IsFoundAgain, Target, all, at, behind, edge_run, held_after, held_behind, stop_run}
+use Rattle.lx_gen.proofs.Runs.BlockRuns.{Has, IsFoundAgain, ServeEnds, Target, all, at, behind, edge_run, held_after, held_behind, stop_run, target_code}
 use Rattle.lx_gen.proofs.Runs.RunMachines.{machine_at, raised-shift, tree_run}
 use Rattle.lx_gen.proofs.BlockLayouts.StandingCodes.{length-block, length-with_row}
 use Rattle.lx_gen.proofs.Runs.PartialRuns.{EndsIn, LeadsIn, end_in, loop_count-mono, stays_in, step_in, then_in, widen}
@@ -41,7 +41,7 @@ left_unit zero unit more (other ∷ stream) left =
 left_unit (suc pos) unit more (other ∷ stream) left = let rest = left_unit pos unit more stream left in (omega (arith, rest.0), rest.1, rest.2)
 
 -- the edge on a unit is one of the edges
-list_any-edge_on : (test : Edge → Bool) (edges : List Edge) (unit : ℕ) (edge : Edge) → edge_on edges unit ≡ Some edge → test edge ≡ true
+pub list_any-edge_on : (test : Edge → Bool) (edges : List Edge) (unit : ℕ) (edge : Edge) → edge_on edges unit ≡ Some edge → test edge ≡ true
     → list_any test edges ≡ true
 list_any-edge_on test [] unit edge on passes = absurd (cc)
 list_any-edge_on test (first ∷ edges) unit edge on passes =
@@ -53,7 +53,7 @@ list_any-edge_on test (first ∷ edges) unit edge on passes =
     by false on again = ap (λ t. test first || t) (again on) ∙ or-true (test first)
 
 -- what is saved on an edge is found again, too
-IsHeldWell-after : (auto : Auto) (s pos : ℕ) (o next : Option Accept) (held : Option Left) → s < length auto.states
+pub IsHeldWell-after : (auto : Auto) (s pos : ℕ) (o next : Option Accept) (held : Option Left) → s < length auto.states
     → (saves_by o next ≡ true → is_saved auto.states (state_of auto.states s) ≡ true) → (state_of auto.states s).accept ≡ o
     → IsFoundAgain auto held → IsFoundAgain auto (held_after o next s pos held)
 IsHeldWell-after auto s pos None next held lt saves e ok = ok
@@ -61,7 +61,7 @@ IsHeldWell-after auto s pos (Some accept) None held lt saves e ok = (lt, saves r
 IsHeldWell-after auto s pos (Some accept) (Some other) held lt saves e ok = ok
 
 -- before a state that does not accept it is what was left last
-held_after-left : (o next : Option Accept) (held : Option Left) (standing : Standing) → (o ≡ None → held ≡ standing.left) → next ≡ None
+pub held_after-left : (o next : Option Accept) (held : Option Left) (standing : Standing) → (o ≡ None → held ≡ standing.left) → next ≡ None
     → held_after o next standing.state standing.offset held ≡ left_after o standing
 held_after-left None next held standing same none = same refl
 held_after-left (Some accept) None held standing same none = refl
@@ -69,17 +69,20 @@ held_after-left (Some accept) (Some other) held standing same none = absurd (cc)
 
 module _ (p : Piece) (x : List ℕ) (start : ℕ) (endings : ℕ → Ending) (greatest : ℕ) (auto : Auto) (place saved rules : ℕ → ℕ) (fall : ℕ)
     (serves : Serves endings greatest auto (code_of p.blocks) place saved rules fall) (formed : IsAuto auto) (first : Option ℕ) (cond : List ℕ) where
+  abbrev served : ServeEnds endings greatest auto (code_of p.blocks) place saved rules fall
+  served = record { choices = serves.choices; falls = serves.falls; none = serves.none; restores = serves.restores; ends = serves.ends }
+
   abbrev Have : ℕ → List Stmt → Type 0
-  Have block code = Has p x start endings greatest auto place saved rules fall serves formed first cond (length x) block code
+  Have block code = Has p x start endings greatest auto place saved rules fall served formed first cond (length x) None block code
 
   abbrev To : (s : ℕ) → Option Edge → ℕ → Type 0
-  To s o block = Target p x start endings greatest auto place saved rules fall serves formed first cond (length x) s o block
+  To s o block = Target p x start endings greatest auto place saved rules fall served formed first cond (length x) None s o block
 
   abbrev mach : (pos : ℕ) → (held : Option Left) → (u : Option ℕ) → Bank → Machine
-  mach pos held u k = at p x start endings greatest auto place saved rules fall serves formed first cond (length x) pos held u k
+  mach pos held u k = at p x start endings greatest auto place saved rules fall served formed first cond (length x) None pos held u k
 
   abbrev size : ℕ
-  size = all p x start endings greatest auto place saved rules fall serves formed first cond (length x)
+  size = all p x start endings greatest auto place saved rules fall served formed first cond (length x) None
 
   -- what a state's block leads to on a unit
   record Entered (s : ℕ) (o : Option Edge) (code : List Stmt) (pos : ℕ) (held : Option Left) (u : Option ℕ) (k : Bank)
@@ -91,17 +94,6 @@ module _ (p : Piece) (x : List ℕ) (start : ℕ) (endings : ℕ → Ending) (gr
     unit : Option ℕ
     leads : LeadsIn p x start size code (mach pos held u k) q to (mach pos held unit k) q
 
-  target_code : (s : ℕ) (o : Option Edge) (block : ℕ) → s < length auto.states → To s o block → (to : List Stmt) × Have block to
-  target_code s (Some edge) block lt target = (edge_code auto (state_of auto.states s) (saved s) edge (place edge.to), target)
-  target_code s None block lt target = by (state_of auto.states s).accept refl target
-    where
-      by : (o : Option Accept) → (state_of auto.states s).accept ≡ o → IsEnd endings greatest auto (code_of p.blocks) place saved rules fall o block
-          → (to : List Stmt) × Have block to
-      by None e target = (choices_code serves.choices, ap (λ n. slice_get (code_of p.blocks) n) target ∙ serves.falls)
-      by (Some accept) e (inl has) = (accept_code auto accept.ops (rules accept.rule), has)
-      by (Some accept) e (inr is) =
-          (ending_code endings accept.rule accept.values, ap (λ n. slice_get (code_of p.blocks) n) is.0 ∙ serves.ends s accept lt e)
-
   enter : (s pos v : ℕ) (code : List Stmt) (held : Option Left) (u : Option ℕ) (k : Bank) (q : List Answer)
       → ServesState endings greatest auto (code_of p.blocks) place saved rules fall s (state_of auto.states s) → Have (place s) code
       → s < length auto.states → slice_get x pos ≡ Some v → pos < length x → v ≤ greatest
@@ -109,7 +101,7 @@ module _ (p : Piece) (x : List ℕ) (start : ℕ) (endings : ℕ → Ending) (gr
   enter s pos v code held u k q (itself leads) has known ev lt within =
       record { block = place s; to = code; target = leads v within; has = has; unit = u; leads = stays_in p x start size code (mach pos held u k) q }
   enter s pos v code held u k q (by_jump block is leads) has known ev lt within =
-      let to = target_code s (edge_on (state_of auto.states s).edges v) block known (leads v within) in
+      let to = target_code p x start endings greatest auto place saved rules fall served formed first cond (length x) None s (edge_on (state_of auto.states s).edges v) block known (leads v within) in
       let c : code ≡ Goto block ∷ [] = cc in
       let n = length-block (code_of p.blocks) (place s) (Goto block ∷ []) is in
       let h = step_in p x start {s = Goto block} {b = []} {m = mach pos held u k} {q = q} (ap (λ o. jump o (mach pos held u k) q) to.1)
@@ -124,7 +116,7 @@ module _ (p : Piece) (x : List ℕ) (start : ℕ) (endings : ℕ → Ending) (gr
             (widen p x start size h (omega (arith, n)));
       }
   enter s pos v code held u k q (by_tests tree next is stands leads) has known ev lt within =
-      let to = target_code s (edge_on (state_of auto.states s).edges v) (picked tree v) known (leads v within) in
+      let to = target_code p x start endings greatest auto place saved rules fall served formed first cond (length x) None s (edge_on (state_of auto.states s).edges v) (picked tree v) known (leads v within) in
       let rest : List Stmt = tree_code next tree in
       let c : code ≡ Peek ∷ tree_code next tree = cc in
       let n = length-with_row (code_of p.blocks) (place s) (Peek ∷ tree_code next tree) next (inner_blocks next tree) is stands
@@ -152,7 +144,7 @@ module _ (p : Piece) (x : List ℕ) (start : ℕ) (endings : ℕ → Ending) (gr
           → (code : List Stmt) × Have (place s) code
       by (by_tests tree next is stands leads) = (Peek ∷ tree_code next tree, is)
       by (by_jump block is leads) = (Goto block ∷ [], is)
-      by (itself leads) = target_code s (edge_on (state_of auto.states s).edges 0) (place s) lt (leads 0 (omega arith))
+      by (itself leads) = target_code p x start endings greatest auto place saved rules fall served formed first cond (length x) None s (edge_on (state_of auto.states s).edges 0) (place s) lt (leads 0 (omega arith))
 
   -- the end of the run from a state's block on
   abbrev Simulated : List ℕ → Standing → Type 0
@@ -179,8 +171,8 @@ module _ (p : Piece) (x : List ℕ) (start : ℕ) (endings : ℕ → Ending) (gr
           (told_found endings cond (found_behind auto (or_here st (by_edge (state_of auto.states st.state) st o) (λ next. last_standing auto next w)))
           (or_here st (by_edge (state_of auto.states st.state) st o) (λ next. last_standing auto next w)).offset)
       by None on entered stops again =
-          let g = stop_run p x start endings greatest auto place saved rules fall serves formed first cond
-          (length x) st.state entered.block st.offset entered.to st.left held entered.unit k st.bank q
+          let g = stop_run p x start endings greatest auto place saved rules fall served formed first cond
+          (length x) None st.state entered.block st.offset entered.to st.left held entered.unit k st.bank q
           lt entered.target entered.has agree ok same in
           end_in p x start (suc (length w) * (2 * size) + 2 * size) entered.leads g (omega arith)
       by (Some edge) on entered stops again =
@@ -194,16 +186,16 @@ module _ (p : Piece) (x : List ℕ) (start : ℕ) (endings : ℕ → Ending) (gr
           let has' : slice_get (code_of p.blocks) entered.block ≡ Some entered.to = entered.has in
           let c : entered.to ≡ block_code = cc in
           let n = length-block (code_of p.blocks) entered.block block_code is in
-          let f = edge_run p x start endings greatest auto place saved rules fall serves formed first cond
-          (length x) edge next_code.0 st.state st.offset held entered.unit k q
+          let f = edge_run p x start endings greatest auto place saved rules fall served formed first cond
+          (length x) None edge next_code.0 st.state st.offset held entered.unit k q
           leads.1 next_code.1 unit_here.0 in
           let l = subst (λ z. LeadsIn p x start size code (mach st.offset held u k) q z
           (mach st.offset held entered.unit k) q) c entered.leads in
-          let k1 : Bank = behind p x start endings greatest auto place saved rules fall serves formed first cond
-          (length x) st.state st.offset edge k in
+          let k1 : Bank = behind p x start endings greatest auto place saved rules fall served formed first cond
+          (length x) None st.state st.offset edge k in
           let after : Option Accept = (state_of auto.states edge.to).accept in
-          let held1 : Option Left = held_behind p x start endings greatest auto place saved rules fall serves formed first cond
-          (length x) st.state st.offset edge held in
+          let held1 : Option Left = held_behind p x start endings greatest auto place saved rules fall served formed first cond
+          (length x) None st.state st.offset edge held in
           let ok1 = IsHeldWell-after auto st.state st.offset state.accept after held lt
           (λ saves. list_any-edge_on (λ edge. saves_on auto.states state edge) state.edges v edge on saves) refl ok in
           let agree1 = Agrees-after auto.regs auto.mregs st.offset state.leave k st.bank formed_state.leave agree in
@@ -216,7 +208,7 @@ module _ (p : Piece) (x : List ℕ) (start : ℕ) (endings : ℕ → Ending) (gr
 fits : (l d n : ℕ) → l ≡ d → 0 < n → l * (2 * n) + 2 * n < 2 * (d + 2) * n
 fits l d n e h = let g : l * (2 * n) ≡ d * (2 * n) = ap (λ k. k * (2 * n)) e in omega (arith, g)
 
-choices_code-some : (choices : List Choice) → 0 < length (choices_code choices)
+pub choices_code-some : (choices : List Choice) → 0 < length (choices_code choices)
 choices_code-some [] = omega arith
 choices_code-some (choice ∷ choices) = omega arith
 
@@ -252,7 +244,7 @@ run_found p x start endings greatest auto place saved rules fall serves formed c
     let prod : length w * (2 * size) + 2 * size < loop_count p start (length x) = fits (length w) (length x - start) size lw (omega (arith, n, n1)) in
     let f : ℕ = fuel - suc h.steps in
     let go = h.ends.by f fuel 0 (omega (arith, h.few, prod, mono)) (omega (arith, h.few, prod)) in
-    let em : m ≡ machine_at start start (length x) None 0 (registers 0) k cond [] =
+    let em : m ≡ machine_at start start (length x) None 0 None (registers 0) k cond [] =
     ap (λ l. machine_with registers histories start l cond) whole
     ∙ ap (λ g. machine_with g histories start (length x) cond) (sym (raised-shift registers)) in
     ap (λ o. run_in p x start o m q) found ∙ ap (λ m. run p x start fuel 0 code.0 m q) em ∙ go

@@ -14,6 +14,7 @@ use Rattle.lx_gen.specs.Actions.{IsOwnAction, action_count}
 use Rattle.lx_gen.specs.Codes.{Choice, choices_code}
 use Rattle.lx_gen.specs.Endings.{Ending, action_code, cond_code, ending_code, last_code}
 use Rattle.lx_gen.specs.Layout.{accepts_of, choices_from, ending_blocks, fall_block, saved_of, layout, place_of, restore_blocks, rule_block, states_blocks}
+use Rattle.lx_gen.specs.TestTrees.{TestTree}
 use Rattle.lx_gen.proofs.BlockLayouts.FirstAccepts.{HaveOwnRules, HaveOwnRules-firsts, NoneByRule}
 use Rattle.lx_gen.proofs.Validity.PlainCodes.{Plain, PlainAll, choices_plain, is_plain, restores_plain, rule-before, states_plain}
 
@@ -128,41 +129,41 @@ own-endings endings (accept ∷ accepts) =
     endings accept.rule accept.values (last_code endings accept.rule)
     (own-last_code endings accept.rule (joined (ending_blocks endings accepts)) (own-endings endings accepts))
 
-module _ (endings : ℕ → Ending) (greatest : ℕ) (auto : Auto) (from : ℕ) (blocks : List CodeBlock)
-    (same : code_of blocks ≡ layout endings greatest auto from) where
+module _ (endings : ℕ → Ending) (trees : ℕ → TestTree (Option ℕ)) (auto : Auto) (from : ℕ) (blocks : List CodeBlock)
+    (same : code_of blocks ≡ layout endings trees auto from) where
   states_codes : List (List Stmt)
-  states_codes = states_blocks greatest auto (rule_block greatest auto from) (fall_block greatest auto from) (saved_of auto.states)
-      (place_of greatest auto from) 0 from auto.states
+  states_codes = states_blocks trees auto (rule_block trees auto from) (fall_block trees auto from) (saved_of auto.states)
+      (place_of trees auto from) 0 from auto.states
 
-  all_joined : all_statements blocks ≡ joined (layout endings greatest auto from)
+  all_joined : all_statements blocks ≡ joined (layout endings trees auto from)
   all_joined = all_statements-joined blocks ∙ ap (λ l. joined l) same
 
   pub actions_once : (rule : ℕ) → action_count rule (all_statements blocks) ≤ 1
   unfolding states_codes
   actions_once rule =
-      let choices : List Choice = choices_from 1 (suc (fall_block greatest auto from)) (saved_of auto.states) in
-      let restores : List (List Stmt) = restore_blocks (rule_block greatest auto from) (saved_of auto.states) in
+      let choices : List Choice = choices_from 1 (suc (fall_block trees auto from)) (saved_of auto.states) in
+      let restores : List (List Stmt) = restore_blocks (rule_block trees auto from) (saved_of auto.states) in
       let ends : List (List Stmt) = ending_blocks endings (accepts_of auto.states) in
       let e : action_count rule (all_statements blocks) ≡ action_count rule (joined ends) =
       ap (λ l. action_count rule l) all_joined
       ∙ count-plain_all rule states_codes (choices_code choices ∷ (restores ++ ends))
-      (states_plain greatest auto (rule_block greatest auto from) (fall_block greatest auto from) (saved_of auto.states)
-      (place_of greatest auto from) 0 from auto.states)
+      (states_plain trees auto (rule_block trees auto from) (fall_block trees auto from) (saved_of auto.states)
+      (place_of trees auto from) 0 from auto.states)
       ∙ count-plain rule (choices_code choices) (joined (restores ++ ends)) (choices_plain choices)
-      ∙ count-plain_all rule restores ends (restores_plain (rule_block greatest auto from) (saved_of auto.states)) in
+      ∙ count-plain_all rule restores ends (restores_plain (rule_block trees auto from) (saved_of auto.states)) in
       let few = count-own_rules endings rule (accepts_of auto.states) (HaveOwnRules-firsts (λ state. state.accept) [] auto.states tt) in
       omega (arith, e, few)
 
   pub actions_own : AllByRecursion (IsOwnAction endings) (all_statements blocks)
   unfolding states_codes
   actions_own =
-      let choices : List Choice = choices_from 1 (suc (fall_block greatest auto from)) (saved_of auto.states) in
-      let restores : List (List Stmt) = restore_blocks (rule_block greatest auto from) (saved_of auto.states) in
+      let choices : List Choice = choices_from 1 (suc (fall_block trees auto from)) (saved_of auto.states) in
+      let restores : List (List Stmt) = restore_blocks (rule_block trees auto from) (saved_of auto.states) in
       let ends : List (List Stmt) = ending_blocks endings (accepts_of auto.states) in
       subst (λ l. AllByRecursion (IsOwnAction endings) l) (sym all_joined)
       (own-plain_all endings states_codes (choices_code choices ∷ (restores ++ ends))
-      (states_plain greatest auto (rule_block greatest auto from) (fall_block greatest auto from) (saved_of auto.states)
-      (place_of greatest auto from) 0 from auto.states)
+      (states_plain trees auto (rule_block trees auto from) (fall_block trees auto from) (saved_of auto.states)
+      (place_of trees auto from) 0 from auto.states)
       (own-plain endings (choices_code choices) (joined (restores ++ ends)) (choices_plain choices)
-      (own-plain_all endings restores ends (restores_plain (rule_block greatest auto from) (saved_of auto.states))
+      (own-plain_all endings restores ends (restores_plain (rule_block trees auto from) (saved_of auto.states))
       (own-endings endings (accepts_of auto.states)))))

@@ -17,8 +17,7 @@ use Rattle.lx_gen.specs.Codes.{Choice, accept_code, choices_code, edge_code, sav
 use Rattle.lx_gen.specs.Endings.{Ending, action_code, back_code, cond_code, ending_code, ends_code, groups_code, is_slash, last_code, rule_code, slash_held, tag_code, tags_code, unless}
 use Rattle.lx_gen.specs.Layout.{front_blocks, front_size}
 use Rattle.lx_gen.specs.ParallelCopies.{sequentialized}
-use Rattle.lx_gen.specs.TestTrees.{TestTree}
-use Rattle.lx_gen.proofs.BlockLayouts.BalancedTrees.{EachTest}
+use Rattle.lx_gen.specs.TestTrees.{EachTest, TestTree}
 use Rattle.lx_gen.proofs.BlockLayouts.TreeCodes.{each-front_blocks}
 
 module _ (n : ℕ) where

@@ -1,6 +1,6 @@
 -- Each block of a layout ends once, and its jumps go to blocks that are there.
 use Rattle.std.specs.Prelude.{◌≡◌, ℕ, zero, suc, ◌+◌, ◌-◌, ◌<◌, ◌≤◌, List, [], ◌∷◌, ◌++◌, length, Option, Some, None, Bool, true, false, nat_le, nat_lt, refl, if◌then◌else◌}
-use Rattle.std.proofs.Common.{sym, ap, ◌∙◌, subst, arith}
+use Rattle.std.proofs.Common.{inl, inr, sym, ap, ◌∙◌, subst, arith}
 use Rattle.std.proofs.lemmas.List.{length-map}
 use Rattle.std.proofs.lemmas.Option.{slice_get_within}
 use Rattle.std.specs.List.{AllByRecursion}
@@ -15,14 +15,14 @@ use Rattle.lx_ccode.specs.declared.piece.CodeBlock.{CodeBlock}
 use Rattle.lx_ccode.specs.declared.piece.Stmt.{Stmt}
 use Rattle.lx_gen.specs.Codes.{choices_code}
 use Rattle.lx_gen.specs.Endings.{Ending}
-use Rattle.lx_gen.specs.Layout.{accepts_of, blocks_by, choices_from, end_block, end_blocks, end_of, end_size, ending_blocks, fall_block, front_blocks, front_size, saved_accept, saved_number, saved_of, layout, lone_blocks, lone_place, lone_size, numbered, own_block, own_blocks, own_size, place_by, place_in, place_of, restore_blocks, rule_block, size_by, state_size, states_blocks, class_block, class_blocks}
-use Rattle.lx_gen.specs.TestTrees.{TestTree, edge_tree}
+use Rattle.lx_gen.specs.Layout.{EachTree, accepts_of, blocks_by, choices_from, end_block, end_blocks, end_of, end_size, ending_blocks, fall_block, front_blocks, front_size, saved_accept, saved_number, saved_of, layout, lone_blocks, lone_place, lone_size, numbered, own_block, own_blocks, own_size, place_by, place_in, place_of, restore_blocks, rule_block, size_by, state_size, states_blocks, class_block, class_blocks}
+use Rattle.lx_gen.specs.TestTrees.{EachTest, HasEnd, HasWay, TestTree, TestsWithin}
 use Rattle.lx_gen.specs.TransitionClasses.{Split, Stretch, before, edge_split, first_class, has_class, same_place, split_of, stretches, class_place, transition_classes, classes_onto}
-use Rattle.lx_gen.proofs.BlockLayouts.BalancedTrees.{EachTest, each-balanced}
 use Rattle.lx_gen.proofs.Validity.CodeFits.{ChoicesBelow, Fits, accept_fits, choices_fit, edge_fits, ending_fits, front_fits, goto_fits, restore_fits}
-use Rattle.lx_gen.proofs.Validity.EachElement.{each-append, each-map}
+use Rattle.lx_gen.proofs.Validity.EachElement.{each-append}
 use Rattle.lx_gen.proofs.BlockLayouts.FirstAccepts.{Chosen, HasRule, all-chosen, each-firsts, has_rule-firsts, saved-chosen, rule_place-below}
 use Rattle.lx_gen.proofs.BlockLayouts.LayoutLengths.{length-layout}
+use Rattle.lx_gen.proofs.BlockLayouts.SplitTrees.{each-tests}
 use Rattle.lx_gen.proofs.BlockLayouts.TreeCodes.{each-numbered, front_size-numbered}
 use Rattle.lx_gen.proofs.BlockLayouts.ClassLists.{has_class-last, has_class-onto, class_found}
 
@@ -93,36 +93,43 @@ class_below n first end count (Some place) is fit below = omega (arith, is)
 abbrev pub AllFit : (n : ℕ) → List (List Stmt) → Type 0
 AllFit n codes = AllByRecursion (Fits n) codes
 
--- the blocks of the tests of a state
-edge_tree-classes : (greatest : ℕ) (edges : List Edge) → EachTest (λ unit. Unit {0}) (IsClass (length (transition_classes edges))) (edge_tree greatest edges)
-edge_tree-classes greatest edges =
+-- where units go by stretches is a class of them
+HasWay-classes : (count : ℕ) (list : List Stretch) (last class : Option ℕ) → AreClasses count list → IsClass count last → HasWay list last class
+    → IsClass count class
+HasWay-classes count [] last class are is e = subst (IsClass count) (sym e) is
+HasWay-classes count (stretch ∷ list) last class are is (inl e) = subst (IsClass count) (sym e) are.0
+HasWay-classes count (stretch ∷ list) last class are is (inr h) = HasWay-classes count list last class are.1 is h
+
+-- a tree of the tests of a state leads to its classes
+tree-classes : (greatest : ℕ) (edges : List Edge) (tree : TestTree (Option ℕ)) → TestsWithin (edge_split greatest edges) tree
+    → EachTest (λ unit. Unit {0}) (IsClass (length (transition_classes edges))) tree
+tree-classes greatest edges tree ends =
     let split : Split = edge_split greatest edges in
     let count : ℕ = length (transition_classes edges) in
     let are = AreClasses-split_of (length (transition_classes edges)) greatest (stretches (transition_classes edges) 0 edges)
     (AreClasses-stretches (transition_classes edges) 0 edges (HaveClasses-onto edges [])) in
-    each-balanced (λ unit. Unit {0}) (IsClass count) split.tests split.last
-    (each-map (λ (stretch : Stretch). IsClass count stretch.class) (λ (stretch : Stretch). Unit {0} × IsClass count stretch.class)
-    (λ stretch is. (tt, is)) split.tests are.0) are.1
+    each-tests (HasEnd split.tests) (λ unit. Unit {0}) (HasWay split.tests split.last) (IsClass count) (λ unit has. tt)
+    (λ class has. HasWay-classes count split.tests split.last class are.0 are.1 has) tree ends
 
 -- ---- the blocks of states
 
 -- with so many blocks, among which are that of the fallback and those of the rules
-module _ (greatest : ℕ) (auto : Auto) (rules : ℕ → ℕ) (fall : ℕ) (n : ℕ) (falls : fall < n) where
+module _ (greatest : ℕ) (trees : ℕ → TestTree (Option ℕ)) (auto : Auto) (rules : ℕ → ℕ) (fall : ℕ) (n : ℕ) (falls : fall < n) where
   abbrev RuleBelow : Accept → Type 0
   RuleBelow accept = rules accept.rule < n
 
   abbrev RulesBelow : List State → Type 0
   RulesBelow states = AllByRecursion (λ (state : State). Chosen RuleBelow state.accept) states
 
-  own_blocks-fit : (block : ℕ) (ops : List Op) → block < n → AllFit n (own_blocks greatest auto rules fall block ops)
+  own_blocks-fit : (block : ℕ) (ops : List Op) → block < n → AllFit n (own_blocks auto rules fall block ops)
   own_blocks-fit block [] below = tt
   own_blocks-fit block (op ∷ ops) below = (accept_fits n auto (op ∷ ops) block below, tt)
 
-  end_blocks-fit : (o : Option Accept) → Chosen RuleBelow o → AllFit n (end_blocks greatest auto rules fall o)
+  end_blocks-fit : (o : Option Accept) → Chosen RuleBelow o → AllFit n (end_blocks auto rules fall o)
   end_blocks-fit None below = tt
   end_blocks-fit (Some accept) below = own_blocks-fit (rules accept.rule) accept.ops below
 
-  lone_blocks-fit : (number : ℕ) (o : Option Accept) → Chosen RuleBelow o → AllFit n (lone_blocks greatest auto rules fall number o)
+  lone_blocks-fit : (number : ℕ) (o : Option Accept) → Chosen RuleBelow o → AllFit n (lone_blocks auto rules fall number o)
   lone_blocks-fit zero None below = (goto_fits n fall falls, tt)
   lone_blocks-fit zero (Some accept) below = (accept_fits n auto accept.ops (rules accept.rule) below, tt)
   lone_blocks-fit (suc number) o below = end_blocks-fit o below
@@ -131,73 +138,73 @@ module _ (greatest : ℕ) (auto : Auto) (rules : ℕ → ℕ) (fall : ℕ) (n : 
   own_below own rule [] below fit = below
   own_below own rule (op ∷ ops) below fit = omega (arith, fit)
 
-  end_below : (own : ℕ) (o : Option Accept) → Chosen RuleBelow o → own + end_size o ≤ n → end_block greatest auto rules fall own o < n
+  end_below : (own : ℕ) (o : Option Accept) → Chosen RuleBelow o → own + end_size o ≤ n → end_block auto rules fall own o < n
   end_below own None below fit = falls
   end_below own (Some accept) below fit = own_below own (rules accept.rule) accept.ops below fit
 
-  end_of-more : (number from : ℕ) (states : List State) → from ≤ end_of greatest number from states
+  end_of-more : (number from : ℕ) (states : List State) → from ≤ end_of trees number from states
   end_of-more number from [] = omega arith
   end_of-more number from (state ∷ states) =
-      let h = end_of-more (suc number) (from + state_size greatest number state) states in omega (arith, h)
+      let h = end_of-more (suc number) (from + state_size trees number state) states in omega (arith, h)
 
   -- ---- where the code of states stands
 
   lone_below : (number own : ℕ) (o : Option Accept) → Chosen RuleBelow o → own + lone_size number o ≤ n
-      → lone_place greatest auto rules fall number own o < n
+      → lone_place auto rules fall number own o < n
   lone_below zero own o below fit = omega (arith, fit)
   lone_below (suc number) own o below fit = end_below own o below fit
 
-  place_by-below : (number own : ℕ) (edges : List Edge) (o : Option Accept) → Chosen RuleBelow o → own < n
-      → own + size_by greatest number edges o ≤ n → place_by greatest auto rules fall number own edges o < n
-  place_by-below number own [] o below lt fit = lone_below number own o below fit
-  place_by-below number own (edge ∷ edges) o below lt fit = lt
+  place_by-below : (tests : TestTree (Option ℕ)) (number own : ℕ) (edges : List Edge) (o : Option Accept) → Chosen RuleBelow o → own < n
+      → own + size_by tests number edges o ≤ n → place_by auto rules fall number own edges o < n
+  place_by-below tests number own [] o below lt fit = lone_below number own o below fit
+  place_by-below tests number own (edge ∷ edges) o below lt fit = lt
 
-  place_in-below : (number from : ℕ) (states : List State) (s : ℕ) → RulesBelow states → end_of greatest number from states < n
-      → place_in greatest auto rules fall number from states s < n
+  place_in-below : (number from : ℕ) (states : List State) (s : ℕ) → RulesBelow states → end_of trees number from states < n
+      → place_in trees auto rules fall number from states s < n
   place_in-below number from [] s below fit = fit
   place_in-below number from (state ∷ states) zero below fit =
-      let grows = end_of-more (suc number) (from + state_size greatest number state) states in
-      place_by-below number from state.edges state.accept below.0 (omega (arith, grows, fit)) (omega (arith, grows, fit))
+      let grows = end_of-more (suc number) (from + state_size trees number state) states in
+      place_by-below (trees number) number from state.edges state.accept below.0 (omega (arith, grows, fit)) (omega (arith, grows, fit))
   place_in-below number from (state ∷ states) (suc s) below fit =
-      place_in-below (suc number) (from + state_size greatest number state) states s below.1 fit
+      place_in-below (suc number) (from + state_size trees number state) states s below.1 fit
 
   -- ---- their blocks
 
   module _ (saved_accepts : List Accept) (place : ℕ → ℕ) (places : (s : ℕ) → place s < n) where
-    class_blocks-fit : (state : State) (classes : List Edge) → AllFit n (class_blocks greatest auto rules fall saved_accepts place state classes)
+    class_blocks-fit : (state : State) (classes : List Edge) → AllFit n (class_blocks auto rules fall saved_accepts place state classes)
     class_blocks-fit state [] = tt
     class_blocks-fit state (class ∷ classes) =
         (edge_fits n auto state (saved_number saved_accepts state.accept) class (place class.to) (places class.to), class_blocks-fit state classes)
 
-    state_fits : (number from : ℕ) (state : State) (edges : List Edge) → Chosen RuleBelow state.accept
-        → from + size_by greatest number edges state.accept ≤ n
-        → AllFit n (blocks_by greatest auto rules fall saved_accepts place number from state edges)
-    state_fits number from state [] below fit = lone_blocks-fit number state.accept below
-    state_fits number from state (edge ∷ edges) below fit =
+    state_fits : (tests : TestTree (Option ℕ)) (number from : ℕ) (state : State) (edges : List Edge) → Chosen RuleBelow state.accept
+        → TestsWithin (edge_split greatest edges) tests → from + size_by tests number edges state.accept ≤ n
+        → AllFit n (blocks_by auto rules fall saved_accepts place tests number from state edges)
+    state_fits tests number from state [] below ends fit = lone_blocks-fit number state.accept below
+    state_fits tests number from state (edge ∷ edges) below ends fit =
         let classes : List Edge = transition_classes (edge ∷ edges) in
-        let first : ℕ = from + front_size (edge_tree greatest (edge ∷ edges)) in
-        let own : ℕ = from + front_size (edge_tree greatest (edge ∷ edges)) + length (transition_classes (edge ∷ edges)) in
-        let end : ℕ = end_block greatest auto rules fall own state.accept in
-        let tree : TestTree ℕ = numbered first end (edge_tree greatest (edge ∷ edges)) in
-        let size = front_size-numbered first end (edge_tree greatest (edge ∷ edges)) in
+        let first : ℕ = from + front_size tests in
+        let own : ℕ = from + front_size tests + length (transition_classes (edge ∷ edges)) in
+        let end : ℕ = end_block auto rules fall own state.accept in
+        let tree : TestTree ℕ = numbered first end tests in
+        let size = front_size-numbered first end tests in
         let end_fits = end_below own state.accept below (omega (arith, fit)) in
         each-append (Fits n) (front_blocks from tree)
-        (class_blocks greatest auto rules fall saved_accepts place state classes ++ end_blocks greatest auto rules fall state.accept)
+        (class_blocks auto rules fall saved_accepts place state classes ++ end_blocks auto rules fall state.accept)
         (front_fits n from tree (each-numbered first end (λ unit. Unit {0}) (IsClass (length (transition_classes (edge ∷ edges)))) (λ block. block < n)
         (λ class is. class_below n first end (length (transition_classes (edge ∷ edges))) class is (omega (arith, fit)) end_fits)
-        (edge_tree greatest (edge ∷ edges)) (edge_tree-classes greatest (edge ∷ edges))) (omega (arith, size, fit)))
-        (each-append (Fits n) (class_blocks greatest auto rules fall saved_accepts place state classes) (end_blocks greatest auto rules fall state.accept)
+        tests (tree-classes greatest (edge ∷ edges) tests ends)) (omega (arith, size, fit)))
+        (each-append (Fits n) (class_blocks auto rules fall saved_accepts place state classes) (end_blocks auto rules fall state.accept)
         (class_blocks-fit state classes) (end_blocks-fit state.accept below))
 
-    states_fit : (number from : ℕ) (states : List State) → RulesBelow states → end_of greatest number from states ≤ n
-        → AllFit n (states_blocks greatest auto rules fall saved_accepts place number from states)
-    states_fit number from [] below fit = tt
-    states_fit number from (state ∷ states) below fit =
-        let grows = end_of-more (suc number) (from + state_size greatest number state) states in
-        each-append (Fits n) (blocks_by greatest auto rules fall saved_accepts place number from state state.edges)
-        (states_blocks greatest auto rules fall saved_accepts place (suc number) (from + state_size greatest number state) states)
-        (state_fits number from state state.edges below.0 (omega (arith, grows, fit)))
-        (states_fit (suc number) (from + state_size greatest number state) states below.1 fit)
+    states_fit : (number from : ℕ) (states : List State) → RulesBelow states → EachTree TestsWithin greatest trees number states
+        → end_of trees number from states ≤ n → AllFit n (states_blocks trees auto rules fall saved_accepts place number from states)
+    states_fit number from [] below are fit = tt
+    states_fit number from (state ∷ states) below are fit =
+        let grows = end_of-more (suc number) (from + state_size trees number state) states in
+        each-append (Fits n) (blocks_by auto rules fall saved_accepts place (trees number) number from state state.edges)
+        (states_blocks trees auto rules fall saved_accepts place (suc number) (from + state_size trees number state) states)
+        (state_fits (trees number) number from state state.edges below.0 are.0 (omega (arith, grows, fit)))
+        (states_fit (suc number) (from + state_size trees number state) states below.1 are.1 fit)
 
 -- ---- the fallback and the rules
 
@@ -216,30 +223,31 @@ ending_blocks-fit n endings (accept ∷ accepts) = (ending_fits n endings accept
 
 -- ---- the whole
 
-layout_fits : (endings : ℕ → Ending) (greatest : ℕ) (auto : Auto) → AllFit (length (layout endings greatest auto 0)) (layout endings greatest auto 0)
-layout_fits endings greatest auto =
-    let n : ℕ = length (layout endings greatest auto 0) in
-    let rules : ℕ → ℕ = rule_block greatest auto 0 in
-    let fall : ℕ = fall_block greatest auto 0 in
-    let place : ℕ → ℕ = place_of greatest auto 0 in
+layout_fits : (endings : ℕ → Ending) (greatest : ℕ) (trees : ℕ → TestTree (Option ℕ)) (auto : Auto) → EachTree TestsWithin greatest trees 0 auto.states
+    → AllFit (length (layout endings trees auto 0)) (layout endings trees auto 0)
+layout_fits endings greatest trees auto are =
+    let n : ℕ = length (layout endings trees auto 0) in
+    let rules : ℕ → ℕ = rule_block trees auto 0 in
+    let fall : ℕ = fall_block trees auto 0 in
+    let place : ℕ → ℕ = place_of trees auto 0 in
     let saved_accepts : List Accept = saved_of auto.states in
-    let count = length-layout endings greatest auto in
-    let falls : fall_block greatest auto 0 < length (layout endings greatest auto 0) = omega (arith, count) in
-    let below : AllByRecursion (λ (state : State). Chosen (λ (accept : Accept). rule_block greatest auto 0 accept.rule < length
-    (layout endings greatest auto 0)) state.accept) auto.states =
-    all-chosen (HasRule (accepts_of auto.states)) (λ (accept : Accept). rule_block greatest auto 0 accept.rule < length (layout endings greatest auto 0))
+    let count = length-layout endings trees auto in
+    let falls : fall_block trees auto 0 < length (layout endings trees auto 0) = omega (arith, count) in
+    let below : AllByRecursion (λ (state : State). Chosen (λ (accept : Accept). rule_block trees auto 0 accept.rule < length
+    (layout endings trees auto 0)) state.accept) auto.states =
+    all-chosen (HasRule (accepts_of auto.states)) (λ (accept : Accept). rule_block trees auto 0 accept.rule < length (layout endings trees auto 0))
     (λ accept has. let lt = rule_place-below (accepts_of auto.states) accept.rule has in omega (arith, count, lt)) auto.states
     (has_rule-firsts (λ state. state.accept) [] auto.states) in
-    let places : (s : ℕ) → place_of greatest auto 0 s < length (layout endings greatest auto 0) =
-    λ s. place_in-below greatest auto rules fall n falls 0 0 auto.states s below falls in
-    each-append (Fits n) (states_blocks greatest auto rules fall saved_accepts place 0 0 auto.states)
+    let places : (s : ℕ) → place_of trees auto 0 s < length (layout endings trees auto 0) =
+    λ s. place_in-below greatest trees auto rules fall n falls 0 0 auto.states s below falls in
+    each-append (Fits n) (states_blocks trees auto rules fall saved_accepts place 0 0 auto.states)
     (choices_code (choices_from 1 (suc fall) saved_accepts) ∷ (restore_blocks rules saved_accepts ++ ending_blocks endings (accepts_of auto.states)))
-    (states_fit greatest auto rules fall n falls saved_accepts place places 0 0 auto.states below (omega (arith, falls))) (
+    (states_fit greatest trees auto rules fall n falls saved_accepts place places 0 0 auto.states below are (omega (arith, falls))) (
       choices_fit n (choices_from 1 (suc fall) saved_accepts) (choices_below n 1 (suc fall) saved_accepts (omega (arith, count))),
       each-append (Fits n) (restore_blocks rules saved_accepts) (ending_blocks endings (accepts_of auto.states))
-          (restore_blocks-fit n rules saved_accepts (each-firsts (λ (accept : Accept). rule_block greatest auto 0 accept.rule < length
-          (layout endings greatest auto 0)) (saved_accept auto.states) [] auto.states tt
-          (saved-chosen (λ (accept : Accept). rule_block greatest auto 0 accept.rule < length (layout endings greatest auto 0)) auto.states
+          (restore_blocks-fit n rules saved_accepts (each-firsts (λ (accept : Accept). rule_block trees auto 0 accept.rule < length
+          (layout endings trees auto 0)) (saved_accept auto.states) [] auto.states tt
+          (saved-chosen (λ (accept : Accept). rule_block trees auto 0 accept.rule < length (layout endings trees auto 0)) auto.states
           auto.states below)))
           (ending_blocks-fit n endings (accepts_of auto.states)),
     )
@@ -258,13 +266,14 @@ fit_ends : (n : ℕ) (blocks : List CodeBlock) → AllFit n (code_of blocks) →
 fit_ends n [] h = tt
 fit_ends n (block ∷ blocks) h = (h.0.ends, fit_ends n blocks h.1)
 
-module _ (endings : ℕ → Ending) (greatest : ℕ) (auto : Auto) (blocks : List CodeBlock) (same : code_of blocks ≡ layout endings greatest auto 0) where
+module _ (endings : ℕ → Ending) (greatest : ℕ) (trees : ℕ → TestTree (Option ℕ)) (auto : Auto) (blocks : List CodeBlock)
+    (are : EachTree TestsWithin greatest trees 0 auto.states) (same : code_of blocks ≡ layout endings trees auto 0) where
   fit : AllFit (length blocks) (code_of blocks)
   fit =
-      let e : length (layout endings greatest auto 0) ≡ length blocks = ap (λ l. length l) (sym same)
+      let e : length (layout endings trees auto 0) ≡ length blocks = ap (λ l. length l) (sym same)
       ∙ length-map blocks (λ (block : CodeBlock). block.stmts) in
-      subst (λ n. AllFit n (code_of blocks)) e (subst (λ l. AllFit (length (layout endings greatest auto 0)) l) (sym same)
-      (layout_fits endings greatest auto))
+      subst (λ n. AllFit n (code_of blocks)) e (subst (λ l. AllFit (length (layout endings trees auto 0)) l) (sym same)
+      (layout_fits endings greatest trees auto are))
 
   pub layout_jumps : AllByRecursion (JumpsBelow (length blocks)) (all_statements blocks)
   layout_jumps = fit_jumps (length blocks) blocks fit

@@ -16,9 +16,8 @@ use Rattle.lx_gen.specs.Codes.{Choice, accept_code, choices_code, edge_code, sav
 use Rattle.lx_gen.specs.Endings.{Ending, back_code, ends_code, groups_code, is_slash, rule_code, slash_held, tag_code, tags_code, unless}
 use Rattle.lx_gen.specs.Layout.{blocks_by, end_block, end_blocks, front_blocks, front_size, saved_number, lone_blocks, numbered, own_blocks, restore_blocks, state_size, states_blocks, class_blocks}
 use Rattle.lx_gen.specs.ParallelCopies.{sequentialized}
-use Rattle.lx_gen.specs.TestTrees.{TestTree, edge_tree, fork, leaf, test}
+use Rattle.lx_gen.specs.TestTrees.{EachTest, TestTree, fork, leaf, test}
 use Rattle.lx_gen.specs.TransitionClasses.{transition_classes}
-use Rattle.lx_gen.proofs.BlockLayouts.BalancedTrees.{EachTest}
 use Rattle.lx_gen.proofs.Validity.EachElement.{each-append}
 use Rattle.lx_gen.proofs.BlockLayouts.TreeCodes.{each-front_blocks}
 
@@ -85,44 +84,44 @@ front_plain from tree =
     each-front_blocks (λ greatest. Unit {0}) (λ block. Unit {0}) Plain (λ block any. (refl, tt)) (λ greatest block code any every h. (refl, h))
     (λ code h. (refl, h)) from tree (tree_any tree) (λ block lt. tt)
 
-module _ (greatest : ℕ) (auto : Auto) (rules : ℕ → ℕ) (fall : ℕ) where
-  own_plain : (block : ℕ) (ops : List Op) → PlainAll (own_blocks greatest auto rules fall block ops)
+module _ (trees : ℕ → TestTree (Option ℕ)) (auto : Auto) (rules : ℕ → ℕ) (fall : ℕ) where
+  own_plain : (block : ℕ) (ops : List Op) → PlainAll (own_blocks auto rules fall block ops)
   own_plain block [] = tt
   own_plain block (op ∷ ops) = (accept_plain auto (op ∷ ops) block, tt)
 
-  end_plain : (o : Option Accept) → PlainAll (end_blocks greatest auto rules fall o)
+  end_plain : (o : Option Accept) → PlainAll (end_blocks auto rules fall o)
   end_plain None = tt
   end_plain (Some accept) = own_plain (rules accept.rule) accept.ops
 
-  lone_plain : (number : ℕ) (o : Option Accept) → PlainAll (lone_blocks greatest auto rules fall number o)
+  lone_plain : (number : ℕ) (o : Option Accept) → PlainAll (lone_blocks auto rules fall number o)
   lone_plain zero None = ((refl, tt), tt)
   lone_plain zero (Some accept) = (accept_plain auto accept.ops (rules accept.rule), tt)
   lone_plain (suc number) o = end_plain o
 
   module _ (saved_accepts : List Accept) (place : ℕ → ℕ) where
-    classes_plain : (state : State) (classes : List Edge) → PlainAll (class_blocks greatest auto rules fall saved_accepts place state classes)
+    classes_plain : (state : State) (classes : List Edge) → PlainAll (class_blocks auto rules fall saved_accepts place state classes)
     classes_plain state [] = tt
     classes_plain state (class ∷ classes) = (edge_plain auto state (saved_number saved_accepts state.accept) class (place class.to), classes_plain state classes)
 
-    state_plain : (number from : ℕ) (state : State) (edges : List Edge)
-        → PlainAll (blocks_by greatest auto rules fall saved_accepts place number from state edges)
-    state_plain number from state [] = lone_plain number state.accept
-    state_plain number from state (edge ∷ edges) =
-        let first : ℕ = from + front_size (edge_tree greatest (edge ∷ edges)) in
-        let end : ℕ = end_block greatest auto rules fall (first + length (transition_classes (edge ∷ edges))) state.accept in
-        let tree : TestTree ℕ = numbered first end (edge_tree greatest (edge ∷ edges)) in
-        let classes : List (List Stmt) = class_blocks greatest auto rules fall saved_accepts place state (transition_classes (edge ∷ edges)) in
-        let ends : List (List Stmt) = end_blocks greatest auto rules fall state.accept in
+    state_plain : (tests : TestTree (Option ℕ)) (number from : ℕ) (state : State) (edges : List Edge)
+        → PlainAll (blocks_by auto rules fall saved_accepts place tests number from state edges)
+    state_plain tests number from state [] = lone_plain number state.accept
+    state_plain tests number from state (edge ∷ edges) =
+        let first : ℕ = from + front_size tests in
+        let end : ℕ = end_block auto rules fall (first + length (transition_classes (edge ∷ edges))) state.accept in
+        let tree : TestTree ℕ = numbered first end tests in
+        let classes : List (List Stmt) = class_blocks auto rules fall saved_accepts place state (transition_classes (edge ∷ edges)) in
+        let ends : List (List Stmt) = end_blocks auto rules fall state.accept in
         each-append Plain (front_blocks from tree) (classes ++ ends) (front_plain from tree)
         (each-append Plain classes ends (classes_plain state (transition_classes (edge ∷ edges))) (end_plain state.accept))
 
     pub states_plain : (number from : ℕ) (states : List State)
-        → PlainAll (states_blocks greatest auto rules fall saved_accepts place number from states)
+        → PlainAll (states_blocks trees auto rules fall saved_accepts place number from states)
     states_plain number from [] = tt
     states_plain number from (state ∷ states) =
-        each-append Plain (blocks_by greatest auto rules fall saved_accepts place number from state state.edges)
-        (states_blocks greatest auto rules fall saved_accepts place (suc number) (from + state_size greatest number state) states)
-        (state_plain number from state state.edges) (states_plain (suc number) (from + state_size greatest number state) states)
+        each-append Plain (blocks_by auto rules fall saved_accepts place (trees number) number from state state.edges)
+        (states_blocks trees auto rules fall saved_accepts place (suc number) (from + state_size trees number state) states)
+        (state_plain (trees number) number from state state.edges) (states_plain (suc number) (from + state_size trees number state) states)
 
 -- ---- the fallback by rule
 

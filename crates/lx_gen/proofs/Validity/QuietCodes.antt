@@ -12,6 +12,7 @@ use Rattle.lx_ccode.specs.declared.piece.Stmt.TheVariants.{Need, State as StoreS
 use Rattle.lx_gen.specs.Codes.{Choice, choices_code}
 use Rattle.lx_gen.specs.Endings.{Ending, action_code, cond_code, ending_code, last_code}
 use Rattle.lx_gen.specs.Layout.{accepts_of, choices_from, ending_blocks, fall_block, saved_of, layout, place_of, restore_blocks, rule_block, states_blocks}
+use Rattle.lx_gen.specs.TestTrees.{TestTree}
 use Rattle.lx_gen.proofs.Validity.PlainCodes.{Plain, PlainAll, choices_plain, is_plain, restores_plain, rule-before, states_plain}
 
 -- no statement asks for a refill or stores a state
@@ -65,17 +66,17 @@ endings_quiet : (endings : ℕ → Ending) (accepts : List Accept) → QuietAll 
 endings_quiet endings [] = tt
 endings_quiet endings (accept ∷ accepts) = (ending_quiet endings accept.rule accept.values, endings_quiet endings accepts)
 
-layout_quiet : (endings : ℕ → Ending) (greatest : ℕ) (auto : Auto) (from : ℕ) → QuietAll (layout endings greatest auto from)
-layout_quiet endings greatest auto from =
-    let rules : ℕ → ℕ = rule_block greatest auto from in
-    let fall : ℕ = fall_block greatest auto from in
-    let place : ℕ → ℕ = place_of greatest auto from in
+layout_quiet : (endings : ℕ → Ending) (trees : ℕ → TestTree (Option ℕ)) (auto : Auto) (from : ℕ) → QuietAll (layout endings trees auto from)
+layout_quiet endings trees auto from =
+    let rules : ℕ → ℕ = rule_block trees auto from in
+    let fall : ℕ = fall_block trees auto from in
+    let place : ℕ → ℕ = place_of trees auto from in
     let saved_accepts : List Accept = saved_of auto.states in
-    let choices : List Choice = choices_from 1 (suc (fall_block greatest auto from)) (saved_of auto.states) in
+    let choices : List Choice = choices_from 1 (suc (fall_block trees auto from)) (saved_of auto.states) in
     let ends : List (List Stmt) = ending_blocks endings (accepts_of auto.states) in
-    QuietAll-plain (states_blocks greatest auto rules fall saved_accepts place 0 from auto.states)
+    QuietAll-plain (states_blocks trees auto rules fall saved_accepts place 0 from auto.states)
     (choices_code choices ∷ (restore_blocks rules saved_accepts ++ ends))
-    (states_plain greatest auto rules fall saved_accepts place 0 from auto.states) (
+    (states_plain trees auto rules fall saved_accepts place 0 from auto.states) (
       Quiet-plain (choices_code choices) (choices_plain choices),
       QuietAll-plain (restore_blocks rules saved_accepts) ends (restores_plain rules saved_accepts) (endings_quiet endings (accepts_of auto.states)),
     )
@@ -93,8 +94,8 @@ all_quiet : (blocks : List CodeBlock) → QuietAll (code_of blocks)
 all_quiet [] h = (refl, refl)
 all_quiet (block ∷ blocks) h = any_quiet block.stmts (all_statements blocks) h.0 (all_quiet blocks h.1)
 
-pub layout_asks_nothing : (endings : ℕ → Ending) (greatest : ℕ) (auto : Auto) (from : ℕ) (blocks : List CodeBlock)
-    → code_of blocks ≡ layout endings greatest auto from
+pub layout_asks_nothing : (endings : ℕ → Ending) (trees : ℕ → TestTree (Option ℕ)) (auto : Auto) (from : ℕ) (blocks : List CodeBlock)
+    → code_of blocks ≡ layout endings trees auto from
     → (list_any is_refill (all_statements blocks) ≡ false) × (list_any is_state (all_statements blocks) ≡ false)
-layout_asks_nothing endings greatest auto from blocks same =
-    all_quiet blocks (subst (λ l. QuietAll l) (sym same) (layout_quiet endings greatest auto from))
+layout_asks_nothing endings trees auto from blocks same =
+    all_quiet blocks (subst (λ l. QuietAll l) (sym same) (layout_quiet endings trees auto from))

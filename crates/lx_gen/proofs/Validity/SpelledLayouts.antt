@@ -1,6 +1,6 @@
 -- The numbers and names of a layout can be spelled.
 use Rattle.std.specs.Prelude.{ℕ, zero, suc, ◌+◌, ◌-◌, ◌<◌, ◌≤◌, List, [], ◌∷◌, ◌++◌, length, Option, Some, None, All, Bool, true, false, nat_le, nat_lt, if◌then◌else◌}
-use Rattle.std.proofs.Common.{arith}
+use Rattle.std.proofs.Common.{inl, inr, arith}
 use Rattle.std.specs.List.{AllByRecursion}
 use Rattle.lx_auto.specs.Automaton.{AreApartFrom, AreHeld, AreOps, AreStates, IsAccept, IsAuto, LeadWithin}
 use Rattle.lx_auto.specs.declared.automaton.Accept.{Accept}
@@ -12,15 +12,15 @@ use Rattle.lx_base.specs.Names.{Spellings}
 use Rattle.lx_ccode.specs.Validity.{IsShort}
 use Rattle.lx_gen.specs.Codes.{choices_code}
 use Rattle.lx_gen.specs.Endings.{Ending}
-use Rattle.lx_gen.specs.Layout.{accepts_of, blocks_by, choices_from, end_block, end_blocks, ending_blocks, fall_block, front_blocks, front_size, saved_accept, saved_number, saved_of, layout, lone_blocks, numbered, own_blocks, place_of, restore_blocks, rule_block, state_size, states_blocks, class_blocks}
-use Rattle.lx_gen.specs.TestTrees.{TestTree, edge_tree}
+use Rattle.lx_gen.specs.Layout.{EachTree, accepts_of, blocks_by, choices_from, end_block, end_blocks, ending_blocks, fall_block, front_blocks, front_size, saved_accept, saved_number, saved_of, layout, lone_blocks, numbered, own_blocks, place_of, restore_blocks, rule_block, state_size, states_blocks, class_blocks}
+use Rattle.lx_gen.specs.TestTrees.{EachTest, HasEnd, HasWay, TestTree, TestsWithin}
 use Rattle.lx_gen.specs.TransitionClasses.{Split, Stretch, before, edge_split, first_class, has_class, same_place, split_of, stretches, class_place, transition_classes, classes_onto}
 use Rattle.lx_gen.specs.Written.{AcceptIsWritten, AreWritten, IsWrittenAccept}
-use Rattle.lx_gen.proofs.BlockLayouts.BalancedTrees.{EachTest, each-balanced}
-use Rattle.lx_gen.proofs.Validity.EachElement.{each-append, each-map}
+use Rattle.lx_gen.proofs.Validity.EachElement.{each-append}
 use Rattle.lx_gen.proofs.Validity.SpelledCodes.{ChoicesShort, CodeCanBeSpelled, accept_fine, choices_fine, edge_fine, ending_fine, front_fine}
 use Rattle.lx_gen.proofs.BlockLayouts.FirstAccepts.{Chosen, each-firsts, length-firsts, rule_place-within}
 use Rattle.lx_gen.proofs.Rules.RuleEndings.{each-All}
+use Rattle.lx_gen.proofs.BlockLayouts.SplitTrees.{each-tests}
 use Rattle.lx_gen.proofs.BlockLayouts.TreeCodes.{each-numbered}
 
 -- ---- tests
@@ -68,13 +68,18 @@ split-short greatest (stretch ∷ list) h = by (nat_le greatest stretch.greatest
     by true again = tt
     by false again = join (same_place stretch.class (first_class (split_of greatest list).tests (split_of greatest list).last)) again
 
-edge_tree-short : (greatest : ℕ) (edges : List Edge) → EdgesShort edges → EachTest IsShort (λ class. Unit {0}) (edge_tree greatest edges)
-edge_tree-short greatest edges units =
+HasEnd-short : (list : List Stretch) (unit : ℕ) → StretchesShort list → HasEnd list unit → IsShort unit
+HasEnd-short [] unit short has = absurd has
+HasEnd-short (stretch ∷ list) unit short (inl e) = let h = short.0 in omega (arith, e, h)
+HasEnd-short (stretch ∷ list) unit short (inr has) = HasEnd-short list unit short.1 has
+
+tree-short : (greatest : ℕ) (edges : List Edge) (tree : TestTree (Option ℕ)) → TestsWithin (edge_split greatest edges) tree → EdgesShort edges
+    → EachTest IsShort (λ class. Unit {0}) tree
+tree-short greatest edges tree ends units =
     let split : Split = edge_split greatest edges in
-    each-balanced IsShort (λ class. Unit {0}) split.tests split.last
-    (each-map (λ (stretch : Stretch). IsShort stretch.greatest) (λ (stretch : Stretch). IsShort stretch.greatest × Unit {0})
-    (λ stretch short. (short, tt)) split.tests
-    (split-short greatest (stretches (transition_classes edges) 0 edges) (stretches-short (transition_classes edges) 0 edges units))) tt
+    let short = split-short greatest (stretches (transition_classes edges) 0 edges) (stretches-short (transition_classes edges) 0 edges units) in
+    each-tests (HasEnd split.tests) IsShort (HasWay split.tests split.last) (λ class. Unit {0})
+    (λ unit has. HasEnd-short split.tests unit short has) (λ class has. tt) tree ends
 
 -- ---- transition classes
 
@@ -108,25 +113,25 @@ saved_number-short saved_accepts None few = omega arith
 saved_number-short saved_accepts (Some accept) few = let h = rule_place-within saved_accepts accept.rule in omega (arith, h, few)
 
 module _ (names : Spellings) where
-  module _ (greatest : ℕ) (auto : Auto) (rules : ℕ → ℕ) (fall : ℕ) (few : auto.regs ≤ 1073741824) (few_mregs : auto.mregs ≤ 1073741824) where
+  module _ (greatest : ℕ) (trees : ℕ → TestTree (Option ℕ)) (auto : Auto) (rules : ℕ → ℕ) (fall : ℕ) (few : auto.regs ≤ 1073741824) (few_mregs : auto.mregs ≤ 1073741824) where
     own_blocks-fine : (block : ℕ) (ops : List Op) → AreOps auto.regs auto.mregs ops
-        → AllByRecursion (CodeCanBeSpelled names) (own_blocks greatest auto rules fall block ops)
+        → AllByRecursion (CodeCanBeSpelled names) (own_blocks auto rules fall block ops)
     own_blocks-fine block [] are = tt
     own_blocks-fine block (op ∷ ops) are = (accept_fine names auto few few_mregs (op ∷ ops) block are, tt)
 
-    end_blocks-fine : (o : Option Accept) → IsAccept auto.regs auto.mregs o → AllByRecursion (CodeCanBeSpelled names) (end_blocks greatest auto rules fall o)
+    end_blocks-fine : (o : Option Accept) → IsAccept auto.regs auto.mregs o → AllByRecursion (CodeCanBeSpelled names) (end_blocks auto rules fall o)
     end_blocks-fine None is = tt
     end_blocks-fine (Some accept) is = own_blocks-fine (rules accept.rule) accept.ops is.0
 
     lone_blocks-fine : (number : ℕ) (o : Option Accept) → IsAccept auto.regs auto.mregs o
-        → AllByRecursion (CodeCanBeSpelled names) (lone_blocks greatest auto rules fall number o)
+        → AllByRecursion (CodeCanBeSpelled names) (lone_blocks auto rules fall number o)
     lone_blocks-fine zero None is = ((tt, tt), tt)
     lone_blocks-fine zero (Some accept) is = (accept_fine names auto few few_mregs accept.ops (rules accept.rule) is.0, tt)
     lone_blocks-fine (suc number) o is = end_blocks-fine o is
 
     module _ (saved_accepts : List Accept) (place : ℕ → ℕ) (short : IsShort greatest) (few_saved_accepts : length saved_accepts < 4294967295) where
       class_blocks-fine : (state : State) (classes : List Edge) → AreOps auto.regs auto.mregs state.leave → HaveOps auto.regs auto.mregs classes
-          → AllByRecursion (CodeCanBeSpelled names) (class_blocks greatest auto rules fall saved_accepts place state classes)
+          → AllByRecursion (CodeCanBeSpelled names) (class_blocks auto rules fall saved_accepts place state classes)
       class_blocks-fine state [] leave h = tt
       class_blocks-fine state (class ∷ classes) leave h = (
         edge_fine names auto few few_mregs state (saved_number saved_accepts state.accept) class (place class.to) (saved_number-short saved_accepts state.accept few_saved_accepts)
@@ -134,34 +139,35 @@ module _ (names : Spellings) where
         class_blocks-fine state classes leave h.1,
       )
 
-      state_fine : (number from : ℕ) (state : State) (edges : List Edge) → AreOps auto.regs auto.mregs state.leave
-          → HaveOps auto.regs auto.mregs edges → EdgesShort edges → IsAccept auto.regs auto.mregs state.accept
-          → AllByRecursion (CodeCanBeSpelled names) (blocks_by greatest auto rules fall saved_accepts place number from state edges)
-      state_fine number from state [] leave ops units is = lone_blocks-fine number state.accept is
-      state_fine number from state (edge ∷ edges) leave ops units is =
+      state_fine : (tests : TestTree (Option ℕ)) (number from : ℕ) (state : State) (edges : List Edge) → TestsWithin (edge_split greatest edges) tests
+          → AreOps auto.regs auto.mregs state.leave → HaveOps auto.regs auto.mregs edges → EdgesShort edges → IsAccept auto.regs auto.mregs state.accept
+          → AllByRecursion (CodeCanBeSpelled names) (blocks_by auto rules fall saved_accepts place tests number from state edges)
+      state_fine tests number from state [] within leave ops units is = lone_blocks-fine number state.accept is
+      state_fine tests number from state (edge ∷ edges) within leave ops units is =
           let classes : List Edge = transition_classes (edge ∷ edges) in
-          let first : ℕ = from + front_size (edge_tree greatest (edge ∷ edges)) in
-          let own : ℕ = from + front_size (edge_tree greatest (edge ∷ edges)) + length (transition_classes (edge ∷ edges)) in
-          let end : ℕ = end_block greatest auto rules fall own state.accept in
-          let tree : TestTree ℕ = numbered first end (edge_tree greatest (edge ∷ edges)) in
+          let first : ℕ = from + front_size tests in
+          let own : ℕ = from + front_size tests + length (transition_classes (edge ∷ edges)) in
+          let end : ℕ = end_block auto rules fall own state.accept in
+          let tree : TestTree ℕ = numbered first end tests in
           each-append (CodeCanBeSpelled names) (front_blocks from tree)
-          (class_blocks greatest auto rules fall saved_accepts place state classes ++ end_blocks greatest auto rules fall state.accept)
+          (class_blocks auto rules fall saved_accepts place state classes ++ end_blocks auto rules fall state.accept)
           (front_fine names from tree (each-numbered first end IsShort (λ class. Unit {0}) (λ block. Unit {0}) (λ class any. tt)
-          (edge_tree greatest (edge ∷ edges)) (edge_tree-short greatest (edge ∷ edges) units)))
-          (each-append (CodeCanBeSpelled names) (class_blocks greatest auto rules fall saved_accepts place state classes) (end_blocks greatest auto rules fall state.accept)
+          tests (tree-short greatest (edge ∷ edges) tests within units)))
+          (each-append (CodeCanBeSpelled names) (class_blocks auto rules fall saved_accepts place state classes) (end_blocks auto rules fall state.accept)
           (class_blocks-fine state classes leave (HaveOps-onto auto.regs auto.mregs (edge ∷ edges) [] tt ops)) (end_blocks-fine state.accept is))
 
       states_fine : (count number from : ℕ) (states : List State) → AreStates auto.regs auto.mregs count states
           → AllByRecursion (λ (state : State). All (λ (edge : Edge). edge.hi ≤ greatest) state.edges) states
-          → AllByRecursion (CodeCanBeSpelled names) (states_blocks greatest auto rules fall saved_accepts place number from states)
-      states_fine count number from [] are units = tt
-      states_fine count number from (state ∷ states) are units =
-          each-append (CodeCanBeSpelled names) (blocks_by greatest auto rules fall saved_accepts place number from state state.edges)
-          (states_blocks greatest auto rules fall saved_accepts place (suc number) (from + state_size greatest number state) states)
-          (state_fine number from state state.edges are.0.leave (HaveOps-lead auto.regs auto.mregs count state.edges are.0.lead)
+          → EachTree TestsWithin greatest trees number states
+          → AllByRecursion (CodeCanBeSpelled names) (states_blocks trees auto rules fall saved_accepts place number from states)
+      states_fine count number from [] are units within = tt
+      states_fine count number from (state ∷ states) are units within =
+          each-append (CodeCanBeSpelled names) (blocks_by auto rules fall saved_accepts place (trees number) number from state state.edges)
+          (states_blocks trees auto rules fall saved_accepts place (suc number) (from + state_size trees number state) states)
+          (state_fine (trees number) number from state state.edges within.0 are.0.leave (HaveOps-lead auto.regs auto.mregs count state.edges are.0.lead)
           (EdgesShort-apart greatest 0 state.edges short are.0.apart (each-All (λ (edge : Edge). edge.hi ≤ greatest) state.edges units.0))
           are.0.accept)
-          (states_fine count (suc number) (from + state_size greatest number state) states are.1 units.1)
+          (states_fine count (suc number) (from + state_size trees number state) states are.1 units.1 within.1)
 
   -- ---- the fallback
 
@@ -199,24 +205,24 @@ module _ (names : Spellings) where
 
   -- ---- the whole
 
-  pub layout_fine : (endings : ℕ → Ending) (greatest : ℕ) (auto : Auto) (from : ℕ) → IsShort greatest → IsAuto auto
-      → All (λ (state : State). All (λ (edge : Edge). edge.hi ≤ greatest) state.edges) auto.states → AreWritten names endings auto.states
-      → AllByRecursion (CodeCanBeSpelled names) (layout endings greatest auto from)
-  layout_fine endings greatest auto from short formed units written =
-      let rules : ℕ → ℕ = rule_block greatest auto from in
-      let fall : ℕ = fall_block greatest auto from in
-      let place : ℕ → ℕ = place_of greatest auto from in
+  pub layout_fine : (endings : ℕ → Ending) (greatest : ℕ) (trees : ℕ → TestTree (Option ℕ)) (auto : Auto) (from : ℕ) → IsShort greatest → IsAuto auto
+      → EachTree TestsWithin greatest trees 0 auto.states → All (λ (state : State). All (λ (edge : Edge). edge.hi ≤ greatest) state.edges) auto.states → AreWritten names endings auto.states
+      → AllByRecursion (CodeCanBeSpelled names) (layout endings trees auto from)
+  layout_fine endings greatest trees auto from short formed within units written =
+      let rules : ℕ → ℕ = rule_block trees auto from in
+      let fall : ℕ = fall_block trees auto from in
+      let place : ℕ → ℕ = place_of trees auto from in
       let saved_accepts : List Accept = saved_of auto.states in
       let few : length auto.states < 4294967295 = formed.few in
       let more : length (saved_of auto.states) ≤ 0 + length auto.states = length-firsts (saved_accept auto.states) [] auto.states in
       let few_saved_accepts : length (saved_of auto.states) < 4294967295 = omega (arith, few, more) in
       let ends = each-firsts (EndIsWritten endings auto) (λ state. state.accept) [] auto.states tt
       (ends_written endings auto (length auto.states) auto.states written formed.states) in
-      each-append (CodeCanBeSpelled names) (states_blocks greatest auto rules fall saved_accepts place 0 from auto.states)
+      each-append (CodeCanBeSpelled names) (states_blocks trees auto rules fall saved_accepts place 0 from auto.states)
       (choices_code (choices_from 1 (suc fall) saved_accepts) ∷ (restore_blocks rules saved_accepts ++ ending_blocks endings (accepts_of auto.states)))
-      (states_fine greatest auto rules fall formed.few_regs formed.few_mregs saved_accepts place short few_saved_accepts (length auto.states) 0 from auto.states
+      (states_fine greatest trees auto rules fall formed.few_regs formed.few_mregs saved_accepts place short few_saved_accepts (length auto.states) 0 from auto.states
       formed.states
-      (each-All (λ (state : State). All (λ (edge : Edge). edge.hi ≤ greatest) state.edges) auto.states units)) (
+      (each-All (λ (state : State). All (λ (edge : Edge). edge.hi ≤ greatest) state.edges) auto.states units) within) (
         choices_fine names (choices_from 1 (suc fall) saved_accepts) (choices-short 1 (suc fall) saved_accepts (omega (arith, few_saved_accepts))),
         each-append (CodeCanBeSpelled names) (restore_blocks rules saved_accepts) (ending_blocks endings (accepts_of auto.states))
             (restore_blocks-fine rules saved_accepts)

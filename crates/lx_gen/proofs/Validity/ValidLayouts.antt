@@ -26,7 +26,8 @@ use Rattle.lx_ccode.specs.declared.piece.Piece.{Piece}
 use Rattle.lx_ccode.specs.declared.piece.StateCase.{StateCase}
 use Rattle.lx_encode.specs.Units.{unit_size}
 use Rattle.lx_gen.specs.Endings.{Ending}
-use Rattle.lx_gen.specs.Layout.{layout}
+use Rattle.lx_gen.specs.Layout.{EachTree, layout}
+use Rattle.lx_gen.specs.TestTrees.{TestTree, TestsWithin}
 use Rattle.lx_gen.specs.Written.{AreWritten, IsUnconditional, plain_head}
 use Rattle.lx_gen.proofs.Validity.EachElement.{each-map}
 use Rattle.lx_gen.proofs.Validity.SpelledCodes.{CodeCanBeSpelled, CanBeSpelled}
@@ -44,36 +45,36 @@ unit_size-is Utf16 = inr (inl refl)
 unit_size-is Utf32 = inr (inr refl)
 
 -- the numbers of histories in a layout leave room for one more
-pub layout_mregs : (spellings : Spellings) (endings : ℕ → Ending) (greatest : ℕ) (auto : Auto) (blocks : List CodeBlock) → IsAuto auto
-    → All (λ (state : State). All (λ (edge : Edge). edge.hi ≤ greatest) state.edges) auto.states → IsShort greatest
-    → AreWritten spellings endings auto.states → code_of blocks ≡ layout endings greatest auto 0 → IsShort (mregs_of blocks)
-layout_mregs spellings endings greatest auto blocks formed units short written same =
+pub layout_mregs : (spellings : Spellings) (endings : ℕ → Ending) (greatest : ℕ) (trees : ℕ → TestTree (Option ℕ)) (auto : Auto) (blocks : List CodeBlock) → IsAuto auto
+    → EachTree TestsWithin greatest trees 0 auto.states → All (λ (state : State). All (λ (edge : Edge). edge.hi ≤ greatest) state.edges) auto.states → IsShort greatest
+    → AreWritten spellings endings auto.states → code_of blocks ≡ layout endings trees auto 0 → IsShort (mregs_of blocks)
+layout_mregs spellings endings greatest trees auto blocks formed within units short written same =
     mregs_short spellings blocks (FineBlocks-codes spellings blocks
-    (subst (λ l. AllByRecursion (CodeCanBeSpelled spellings) l) (sym same) (layout_fine spellings endings greatest auto 0 short formed units written)))
+    (subst (λ l. AllByRecursion (CodeCanBeSpelled spellings) l) (sym same) (layout_fine spellings endings greatest trees auto 0 short formed within units written)))
 
-module _ (enc : Enc) (custom : Bool) (counted : ℕ) (spellings : Spellings) (endings : ℕ → Ending) (greatest : ℕ) (auto : Auto) (piece : Piece)
-    (formed : IsAuto auto) (units : All (λ (state : State). All (λ (edge : Edge). edge.hi ≤ greatest) state.edges) auto.states)
+module _ (enc : Enc) (custom : Bool) (counted : ℕ) (spellings : Spellings) (endings : ℕ → Ending) (greatest : ℕ) (trees : ℕ → TestTree (Option ℕ)) (auto : Auto)
+    (piece : Piece) (formed : IsAuto auto) (within : EachTree TestsWithin greatest trees 0 auto.states) (units : All (λ (state : State). All (λ (edge : Edge). edge.hi ≤ greatest) state.edges) auto.states)
     (short : IsShort greatest) (written : AreWritten spellings endings auto.states)
-    (same : code_of piece.blocks ≡ layout endings greatest auto 0) (bare : IsUnconditional enc custom counted spellings piece)
+    (same : code_of piece.blocks ≡ layout endings trees auto 0) (bare : IsUnconditional enc custom counted spellings piece)
     (number : IsShort counted) (allowed : AreAllowed spellings) (differ : DoNotClash spellings)
     (free : custom ≡ true → name_primitives spellings ≡ false) (few : statement_count piece.blocks ≤ STATEMENT_LIMIT) where
   pub blocks_fine : BlocksCanBeSpelled spellings piece.blocks
   blocks_fine = FineBlocks-codes spellings piece.blocks
-      (subst (λ l. AllByRecursion (CodeCanBeSpelled spellings) l) (sym same) (layout_fine spellings endings greatest auto 0 short formed units written))
+      (subst (λ l. AllByRecursion (CodeCanBeSpelled spellings) l) (sym same) (layout_fine spellings endings greatest trees auto 0 short formed within units written))
 
   ends : AllByRecursion (λ (block : CodeBlock). ends_once block.stmts ≡ true) piece.blocks
-  ends = layout_ends endings greatest auto piece.blocks same
+  ends = layout_ends endings greatest trees auto piece.blocks within same
 
   jumps : AllByRecursion (JumpsBelow (length piece.blocks)) (all_statements piece.blocks)
-  jumps = layout_jumps endings greatest auto piece.blocks same
+  jumps = layout_jumps endings greatest trees auto piece.blocks within same
 
   no_state : list_any is_state (all_statements piece.blocks) ≡ false
-  no_state = (layout_asks_nothing endings greatest auto 0 piece.blocks same).1
+  no_state = (layout_asks_nothing endings trees auto 0 piece.blocks same).1
 
   some_block : 0 < length piece.blocks
   some_block =
-      let count = length-layout endings greatest auto in
-      let e : length (layout endings greatest auto 0) ≡ length piece.blocks = ap (λ l. length l) (sym same)
+      let count = length-layout endings trees auto in
+      let e : length (layout endings trees auto 0) ≡ length piece.blocks = ap (λ l. length l) (sym same)
       ∙ length-map piece.blocks (λ (block : CodeBlock). block.stmts) in
       omega (arith, count, e)
 

@@ -1,20 +1,67 @@
-use Rattle.std.proofs.Common.{◌≡◌, refl, rules, subst, sym}
-use Rattle.std.specs.Prelude.{MatchResult}
-use Rattle.lx_base.specs.declared.blocks.BlockKind.{BlockKind}
+use Rattle.std.proofs.Common.{refl, rules}
+use Rattle.std.proofs.lemmas.Result.{err_from_is_err_and}
 use Rattle.lx_base.specs.declared.blocks.BlockKind.TheVariants.{Code}
-use Rattle.lx_rules.specs.Environments.{Environment}
-use Rattle.lx_rules.specs.Represents.{Represents}
-use Rattle.lx_compile.specs.Blocks.{IsBlock, StopsAt, other_kind}
+use Rattle.lx_rules.specs.Blocks.{of_scanners}
+use Rattle.lx_compile.specs.Blocks.{IsRead, other_kind, unsupported}
+use Rattle.lx_compile.proofs.BlockStops.{StopsAt-items, StopsAt-rules, StopsAt-tokens}
 use Rattle.lx_compile.proofs.blocks.resolve_block.Goals as goal
 
-pub returns-then-ne-clause-block : goal.returns-then-ne-clause-block
-returns-then-ne-clause-block c = λ environment represents. other_kind (λ same. let is = c.if-ne.ensures in search rules) refl
+pub resolve-requires-clause-kind : goal.resolve-requires-clause-kind
+resolve-requires-clause-kind c = of_scanners
+
+pub returns-in_err-check_kind-clause-block : goal.returns-in_err-check_kind-clause-block
+returns-in_err-check_kind-clause-block c = λ environment represents.
+    let p = err_from_is_err_and c.from_residual.result c.from_residual.ensures.1 in
+    let refused = c.in_err-check_kind.ensures in
+    rw (p.1, p.2, refused.1) (other_kind refused.0 refl)
+
+pub returns-in_err-tokens-clause-block : goal.returns-in_err-tokens-clause-block
+returns-in_err-tokens-clause-block c = λ environment represents.
+    let p = err_from_is_err_and c.from_residual-in_err-tokens.result c.from_residual-in_err-tokens.ensures.1 in
+    rw (p.1, p.2)
+    (StopsAt-tokens c.args.options.now environment c.args.kind c.args.body.now c.args.at c.args.start c.in_ok-check_kind.ensures c.in_err-tokens.field-0.0 c.in_err-tokens.ensures)
+
+pub returns-in_err-tree-clause-block : goal.returns-in_err-tree-clause-block
+returns-in_err-tree-clause-block c = λ environment represents.
+    let p = err_from_is_err_and c.from_residual-in_err-tree.result c.from_residual-in_err-tree.ensures.1 in
+    rw (p.1, p.2)
+    (StopsAt-items c.args.options.now environment c.args.kind c.args.body.now c.args.at c.args.start c.in_ok-check_kind.ensures
+    c.in_ok-tokens.tokens c.in_err-tree.field-0.0 c.in_ok-tokens.ensures c.in_err-tree.ensures)
+
+pub returns-in_err-after-clause-block : goal.returns-in_err-after-clause-block
+returns-in_err-after-clause-block c = λ environment represents.
+    let p = err_from_is_err_and c.from_residual-in_err-after.result c.from_residual-in_err-after.ensures.1 in
+    let read : IsRead c.args.body.now c.args.start c.in_ok-tokens.tokens c.in_ok-tree.tree.items =
+    record { tokens_are = c.in_ok-tokens.ensures; items_are = c.in_ok-tree.ensures } in
+    rw (p.1, p.2)
+    (StopsAt-rules c.args.options.now environment c.args.kind c.args.body.now c.args.at c.args.start c.in_ok-check_kind.ensures
+    c.in_ok-tokens.tokens c.in_ok-tree.tree.items c.in_err-after.field-0.0 read (c.in_err-after.ensures.resolves environment represents))
+
+pub returns-then-not-are_supported-clause-block : goal.returns-then-not-are_supported-clause-block
+returns-then-not-are_supported-clause-block c = λ environment represents.
+    let supported = c.are_supported.ensures in
+    let read : IsRead c.args.body.now c.args.start c.in_ok-tokens.tokens c.in_ok-tree.tree.items =
+    record { tokens_are = c.in_ok-tokens.ensures; items_are = c.in_ok-tree.ensures } in
+    let resolves = c.in_ok-after.ensures.resolves environment represents in
+    unsupported resolves.0 c.in_ok-after.resolved c.in_ok-check_kind.ensures
+    (record { tokens = c.in_ok-tokens.tokens; items = c.in_ok-tree.tree.items; read = read; resolves = resolves.2 })
+    (λ are. let is = supported.1 are in search rules) refl
+
+pub returns-clause-within : goal.returns-clause-within
+returns-clause-within c = λ environment represents stands.
+    (c.in_ok-after.ensures.well_formed (λ same. cc) environment represents stands).scanners
 
 pub returns-clause-block : goal.returns-clause-block
-returns-clause-block c =
-    let code : c.args.kind ≡ Code = let is = c.if-ne.ensures in search rules in
-    λ environment represents.
-    subst (λ (kind : BlockKind).
-    MatchResult c.resolve_code.result
-    (λ answer. (after : Environment) × Represents answer.0 after × IsBlock c.args.options.now environment kind c.args.body.now c.args.at c.args.start after answer.1)
-    (StopsAt c.args.options.now environment kind c.args.body.now c.args.at c.args.start)) (sym code) (c.resolve_code.ensures.block environment represents)
+returns-clause-block c = λ environment represents.
+    let supported = c.are_supported.ensures in
+    let read : IsRead c.args.body.now c.args.start c.in_ok-tokens.tokens c.in_ok-tree.tree.items =
+    record { tokens_are = c.in_ok-tokens.ensures; items_are = c.in_ok-tree.ensures } in
+    let resolves = c.in_ok-after.ensures.resolves environment represents in (
+      resolves.0,
+      resolves.1,
+      record {
+        kind_is = c.in_ok-check_kind.ensures;
+        resolves = record { tokens = c.in_ok-tokens.tokens; items = c.in_ok-tree.tree.items; read = read; resolves = resolves.2 };
+        supported = supported.0 (search rules);
+      },
+    )

@@ -2,11 +2,18 @@ use Rattle.std.proofs.Common.{◌≡◌, ap, subst, sym, ◌∙◌, arith, lengt
 use Rattle.std.proofs.lemmas.List.{length-map}
 use Rattle.lx_auto.specs.declared.automaton.State.{State}
 use Rattle.lx_gen.specs.Layout.{accepts_of, end_of, saved_of}
-use Rattle.lx_gen.specs.Plans.{ArePlanned, seen_states}
+use Rattle.lx_gen.specs.Plans.{ArePlanned, HaveOrder, seen_states, trees_of}
 use Rattle.lx_gen.specs.declared.accepts.First.{First}
 use Rattle.lx_gen.specs.declared.plans.Plan.{Plan}
 use Rattle.lx_gen.proofs.BlockLayouts.AcceptLoops.{saved_of-length}
+use Rattle.lx_gen.proofs.BlockLayouts.BlockLoops.{states_ordered}
 use Rattle.lx_gen.proofs.ends.ends_of.Goals as goal
+
+pub plans_of-requires : goal.plans_of-requires
+plans_of-requires c =
+    let auto = c.args.auto.now in
+    subst (λ (l : List State). HaveOrder l) (sym c.as_slice.ensures)
+    (states_ordered auto.regs auto.mregs (length auto.states) auto.states c.requires.states)
 
 pub returns-clause-ends : goal.returns-clause-ends
 returns-clause-ends c =
@@ -18,8 +25,8 @@ returns-clause-ends c =
     let planned_states : seen_states c.in_ok-plans.plans.items ≡ states = c.in_ok-plans.ensures.states ∙ c.as_slice.ensures in
     let fall = c.in_ok-fall.ensures c.args.greatest
     (subst (λ l. ArePlanned c.args.greatest l) (sym c.as_slice-3.ensures.value) c.in_ok-plans.ensures.planned)
-    ∙ ap (λ (l : List Plan). end_of c.args.greatest 0 0 (seen_states l)) c.as_slice-3.ensures.value
-    ∙ ap (λ (l : List State). end_of c.args.greatest 0 0 l) planned_states in
+    ∙ ap (λ (l : List Plan). end_of (trees_of l) 0 0 (seen_states l)) c.as_slice-3.ensures.value
+    ∙ ap (λ (l : List State). end_of (trees_of c.in_ok-plans.plans.items) 0 0 l) planned_states in
     let len : c.len.result ≡ length saved_accepts = c.len.ensures ∙ c.in_ok-saved_accepts.saved_accepts.list.ok.0 in
     record {
       formed = c.requires;

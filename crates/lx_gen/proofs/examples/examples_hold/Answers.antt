@@ -1,9 +1,10 @@
 use Rattle.std.proofs.Common.{refl}
 use Rattle.lx_gen.specs.Starts.{run_with}
+use Rattle.lx_gen.proofs.BlockLayouts.TreeExamples.{any_are_trees, dotted_are_trees, letters_is_tree, seven_is_tree}
 use Rattle.lx_gen.proofs.examples.examples_hold.Goals as goal
 
 pub returns-clause-layouts : goal.returns-clause-layouts
-returns-clause-layouts c = record { dotted = refl; any = refl }
+returns-clause-layouts c = record { dotted_stands = refl; dotted_are = dotted_are_trees; any_stands = refl; any_are = any_are_trees }
 
 pub returns-clause-runs : goal.returns-clause-runs
 unfolding run_with
@@ -13,4 +14,4 @@ pub returns-clause-sequences : goal.returns-clause-sequences
 returns-clause-sequences c = record { swap = refl; chain = refl; turned = refl; last_counts = refl }
 
 pub returns-clause-tests : goal.returns-clause-tests
-returns-clause-tests c = record { seven = refl; letters = refl }
+returns-clause-tests c = record { seven_is = seven_is_tree; seven_stands = refl; letters_is = letters_is_tree; letters_stand = refl }

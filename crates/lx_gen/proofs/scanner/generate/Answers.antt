@@ -10,7 +10,7 @@ use Rattle.lx_ccode.specs.declared.piece.CodeBlock.{CodeBlock}
 use Rattle.lx_ccode.specs.declared.piece.Mode.TheVariants.{Plain}
 use Rattle.lx_encode.specs.Units.{unit_size}
 use Rattle.lx_regex.specs.Order.{greedy}
-use Rattle.lx_gen.specs.Layout.{layout}
+use Rattle.lx_gen.specs.Layout.{IsLayout}
 use Rattle.lx_gen.specs.Rules.{endings_of}
 use Rattle.lx_gen.proofs.Rules.RuleTold.{rules_told}
 use Rattle.lx_gen.proofs.Rules.Scanners.{scanner, scanner_mregs}
@@ -32,10 +32,11 @@ pub overflow_cast-head : goal.overflow_cast-head
 overflow_cast-head c =
     let endings = endings_of c.args.rules.now c.args.texts.now in
     let units = greatest_is c.args.enc c.greatest_unit.result c.greatest_unit.ensures in
-    let code = c.in_ok-blocks.ensures.code ∙ ap (λ n. layout endings n c.args.auto.now 0) units in
+    let laid : IsLayout endings (greatest_unit c.args.enc) c.args.auto.now (code_of c.in_ok-blocks.blocks.items) =
+    subst (λ n. IsLayout endings n c.args.auto.now (code_of c.in_ok-blocks.blocks.items)) units c.in_ok-blocks.ensures.code in
     let few : mregs_of c.in_ok-blocks.blocks.items < 2 ^ 32 =
-    scanner_mregs greedy c.args.enc c.args.names.now c.args.rules.now c.args.texts.now c.args.auto.now c.in_ok-blocks.blocks.items
-    c.requires.auto c.requires.limits c.requires.short c.requires.named code in
+    scanner_mregs greedy c.args.enc c.args.names.now c.args.rules.now c.args.texts.now laid.trees c.args.auto.now c.in_ok-blocks.blocks.items
+    c.requires.auto laid.are c.requires.limits c.requires.short c.requires.named laid.stands in
     let is : c.mregs_of-mregs.result ≡ mregs_of c.in_ok-blocks.blocks.items = c.mregs_of-mregs.ensures ∙ ap mregs_of c.deref-2.ensures.value in
     omega (arith, few, is)
 
@@ -44,11 +45,13 @@ returns c =
     let endings = endings_of c.args.rules.now c.args.texts.now in
     let units = greatest_is c.args.enc c.greatest_unit.result c.greatest_unit.ensures in
     let blocks = c.from_vec.ensures in
-    let code = ap (λ l. code_of l) blocks ∙ c.in_ok-blocks.ensures.code ∙ ap (λ n. layout endings n c.args.auto.now 0) units in
+    let laid : IsLayout endings (greatest_unit c.args.enc) c.args.auto.now (code_of c.in_ok-blocks.blocks.items) =
+    subst (λ n. IsLayout endings n c.args.auto.now (code_of c.in_ok-blocks.blocks.items)) units c.in_ok-blocks.ensures.code in
+    let code = ap (λ l. code_of l) blocks ∙ laid.stands in
     let regs_is : c.regs_of-regs.result ≡ regs_of c.from_vec.result = c.regs_of-regs.ensures ∙ ap regs_of (c.deref.ensures.value ∙ sym blocks) in
     let mregs_is : c.mregs_of-mregs.result ≡ mregs_of c.from_vec.result = c.mregs_of-mregs.ensures ∙ ap mregs_of (c.deref-2.ensures.value ∙ sym blocks) in
-    scanner greedy c.args.enc c.args.custom c.args.number c.args.names.now c.args.rules.now c.args.texts.now c.args.auto.now _
-    c.requires.auto c.requires.no_end c.requires.limits c.requires.short c.requires.named code
+    scanner greedy c.args.enc c.args.custom c.args.number c.args.names.now c.args.rules.now c.args.texts.now laid.trees c.args.auto.now _
+    c.requires.auto laid.are c.requires.no_end c.requires.limits c.requires.short c.requires.named code
     (record {
       number = refl;
       head = λ i. Some (record { custom = c.args.custom; enc = c.args.enc; mode = Plain; regs = regs_is i; mregs = mregs_is i; states = 0 });

@@ -5,7 +5,7 @@ use Rattle.lx_rules.specs.Configurations.{said}
 use Rattle.lx_rules.specs.Seen.{IsSaid}
 use Rattle.lx_rules.specs.declared.environment.Setting.{Setting}
 use Rattle.lx_rules.specs.declared.environment.Setting.TheVariants as set
-use Rattle.lx_rules.proofs.SaidTexts.{wide_refused}
+use Rattle.lx_rules.proofs.Spellings.SaidTexts.{wide_refused}
 use Rattle.lx_rules.proofs.configurations.spelling_of.Goals as goal
 
 pub returns-in_default : goal.returns-in_default

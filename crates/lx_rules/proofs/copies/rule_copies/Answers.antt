@@ -1,7 +1,7 @@
 use Rattle.std.proofs.Common.{map, sym, subst, take}
 use Rattle.std.specs.List.{AllZip}
 use Rattle.lx_rules.specs.Finishing.{IsCopyOf}
-use Rattle.lx_rules.proofs.CopiedRules.{built_at, copies_more}
+use Rattle.lx_rules.proofs.Rules.CopiedRules.{built_at, copies_more}
 use Rattle.lx_rules.proofs.copies.rule_copies.Goals as goal
 
 pub rule_copy-requires : goal.rule_copy-requires

@@ -1,6 +1,6 @@
 use Rattle.std.proofs.Common.{◌∙◌, inl, refl}
 use Rattle.lx_regex.specs.Expr.{term_of}
-use Rattle.lx_rules.proofs.CopiedRules.{shifted-nothing}
+use Rattle.lx_rules.proofs.Rules.CopiedRules.{shifted-nothing}
 use Rattle.lx_rules.proofs.copies.rule_copy.Goals as goal
 
 pub returns : goal.returns

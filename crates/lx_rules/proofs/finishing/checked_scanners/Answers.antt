@@ -1,5 +1,5 @@
 use Rattle.std.proofs.Common.{subst}
-use Rattle.lx_rules.proofs.FinishingSteps.{scanners_end, whole_stops}
+use Rattle.lx_rules.proofs.Blocks.FinishingSteps.{scanners_end, whole_stops}
 use Rattle.lx_rules.specs.Finishing.{WholeChecks}
 use Rattle.lx_rules.proofs.finishing.checked_scanners.Goals as goal
 

@@ -3,7 +3,7 @@ use Rattle.std.proofs.lemmas.Result.{err_from_is_err_and}
 use Rattle.lx_base.specs.declared.blocks.BlockKind.TheVariants.{Rules}
 use Rattle.lx_rules.specs.Blocks.{environment_behind}
 use Rattle.lx_rules.specs.Represents.{Represents}
-use Rattle.lx_rules.proofs.FinishingSteps.{keeping_represents}
+use Rattle.lx_rules.proofs.Blocks.FinishingSteps.{keeping_represents}
 use Rattle.lx_rules.proofs.finishing.finish_rules.Goals as goal
 
 pub returns-in_err-resolved : goal.returns-in_err-resolved

@@ -3,7 +3,7 @@ use Rattle.std.proofs.lemmas.Result.{err_from_is_err_and}
 use Rattle.lx_rules.specs.Blocks.{environment_behind}
 use Rattle.lx_rules.specs.Represents.{Represents}
 use Rattle.lx_rules.specs.declared.resolved.Config.{Config}
-use Rattle.lx_rules.proofs.FinishingSteps.{config_known, left_represents, scanners_as, scanners_checks, scanners_finished, scanners_stops}
+use Rattle.lx_rules.proofs.Blocks.FinishingSteps.{config_known, left_represents, scanners_as, scanners_checks, scanners_finished, scanners_stops}
 use Rattle.lx_rules.proofs.finishing.finish_scanners.Goals as goal
 
 pub returns-in_err-scanners : goal.returns-in_err-scanners

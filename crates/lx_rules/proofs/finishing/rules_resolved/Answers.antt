@@ -1,5 +1,5 @@
 use Rattle.std.proofs.Common.{arith}
-use Rattle.lx_rules.proofs.FinishingSteps.{rules_finished}
+use Rattle.lx_rules.proofs.Blocks.FinishingSteps.{rules_finished}
 use Rattle.lx_rules.proofs.finishing.rules_resolved.Goals as goal
 
 pub returns : goal.returns

@@ -2,7 +2,7 @@ use Rattle.std.proofs.Common.{◌∙◌, ap, ap₂, drop, map, sym}
 use Rattle.std.proofs.lemmas.List.{drop_all}
 use Rattle.lx_rules.specs.Conditions.{cond_names}
 use Rattle.lx_rules.specs.Finishing.{kept_targets_fault}
-use Rattle.lx_rules.proofs.CopiedRules.{no_targets}
+use Rattle.lx_rules.proofs.Rules.CopiedRules.{no_targets}
 use Rattle.lx_rules.proofs.finishing.targets_fault.Goals as goal
 
 pub returns-in_default : goal.returns-in_default

@@ -1,6 +1,6 @@
 use Rattle.std.proofs.Common.{◌∙◌, sym}
 use Rattle.std.proofs.lemmas.Bool.{false≢true}
-use Rattle.lx_rules.proofs.FinishingSteps.{whole_clash, whole_lonely, whole_targets}
+use Rattle.lx_rules.proofs.Blocks.FinishingSteps.{whole_clash, whole_lonely, whole_targets}
 use Rattle.lx_rules.proofs.finishing.whole_fault.Goals as goal
 
 pub returns-then-not-names_differ : goal.returns-then-not-names_differ

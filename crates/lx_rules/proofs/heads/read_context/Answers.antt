@@ -6,9 +6,9 @@ use Rattle.lx_exprs.specs.Seen.{scope_view}
 use Rattle.lx_forms.specs.Seen.{lexemes_view}
 use Rattle.lx_rules.specs.Items.{trailing}
 use Rattle.lx_rules.specs.Keeping.{IsRuleExpr}
-use Rattle.lx_rules.proofs.ContextSteps.{before_is, context_is, context_stops}
+use Rattle.lx_rules.proofs.Rules.ContextSteps.{before_is, context_is, context_stops}
 use Rattle.std.proofs.lemmas.Result.{err_from_is_err_and}
-use Rattle.lx_rules.proofs.ReadContexts.{first_less}
+use Rattle.lx_rules.proofs.Rules.ReadContexts.{first_less}
 use Rattle.lx_rules.proofs.heads.read_context.Goals as goal
 
 pub returns-clause-read : goal.returns-clause-read

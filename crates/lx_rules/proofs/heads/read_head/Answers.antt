@@ -7,7 +7,7 @@ use Rattle.lx_rules.specs.Conditions.{room_under}
 use Rattle.lx_rules.specs.Items.{any_meaning, as_rule, twice}
 use Rattle.lx_rules.specs.Keeping.{IsRuleExpr}
 use Rattle.lx_rules.specs.declared.heads.Head.TheVariants as head
-use Rattle.lx_rules.proofs.HeadSteps.{IsOnce, end_read, star_read}
+use Rattle.lx_rules.proofs.Rules.HeadSteps.{IsOnce, end_read, star_read}
 use Rattle.lx_rules.proofs.heads.read_head.Goals as goal
 
 pub returns-in_ok-read-in-Star-clause-read : goal.returns-in_ok-read-in-Star-clause-read

@@ -16,7 +16,7 @@ use Rattle.lx_exprs.specs.Seen.{scope_view}
 use Rattle.lx_rules.specs.Seen.{known_definitions}
 use Rattle.lx_forms.specs.Seen.{lexemes_view}
 use Rattle.lx_rules.specs.declared.heads.Head.TheVariants as head
-use Rattle.lx_rules.proofs.HeadSteps.{StopsIn, behind_refused, context_read, head_part, head_refused, plain_read}
+use Rattle.lx_rules.proofs.Rules.HeadSteps.{StopsIn, behind_refused, context_read, head_part, head_refused, plain_read}
 use Rattle.lx_rules.proofs.heads.read_plain.Goals as goal
 
 abbrev names_in : List (Bor (List ℕ)) → List (List ℕ)

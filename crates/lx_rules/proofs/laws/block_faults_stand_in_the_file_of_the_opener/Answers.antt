@@ -1,4 +1,4 @@
-use Rattle.lx_rules.proofs.FaultPlaces.{block_fault-place}
+use Rattle.lx_rules.proofs.Blocks.FaultPlaces.{block_fault-place}
 use Rattle.lx_rules.proofs.laws.block_faults_stand_in_the_file_of_the_opener.Goals as goal
 
 pub returns : goal.returns

@@ -1,4 +1,4 @@
-use Rattle.lx_rules.proofs.OneItem.{IsBlockFault-one, Resolves-one, resolves_or_not}
+use Rattle.lx_rules.proofs.Blocks.OneItem.{IsBlockFault-one, Resolves-one, resolves_or_not}
 use Rattle.lx_rules.proofs.laws.blocks_resolve_in_one_way.Goals as goal
 
 pub returns-clause-alike : goal.returns-clause-alike

@@ -1,7 +1,7 @@
 use Rattle.lx_forms.specs.Lexemes.{lexemes_of}
-use Rattle.lx_rules.proofs.BlockVerdicts.{body_expressions, verdict_among}
-use Rattle.lx_rules.proofs.ItemRuns.{body-alike}
-use Rattle.lx_rules.proofs.Readiness.{stands_ready}
+use Rattle.lx_rules.proofs.Blocks.BlockVerdicts.{body_expressions, verdict_among}
+use Rattle.lx_rules.proofs.Blocks.ItemRuns.{body-alike}
+use Rattle.lx_rules.proofs.Blocks.Readiness.{stands_ready}
 use Rattle.lx_rules.proofs.laws.blocks_resolve_or_have_a_fault.Goals as goal
 
 pub returns : goal.returns

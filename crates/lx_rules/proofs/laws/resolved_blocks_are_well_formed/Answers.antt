@@ -1,4 +1,4 @@
-use Rattle.lx_rules.proofs.WellFormedBlocks.{well_formed}
+use Rattle.lx_rules.proofs.Blocks.WellFormedBlocks.{well_formed}
 use Rattle.lx_rules.proofs.laws.resolved_blocks_are_well_formed.Goals as goal
 
 pub returns : goal.returns

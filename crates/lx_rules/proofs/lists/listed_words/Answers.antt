@@ -2,7 +2,7 @@ use Rattle.std.proofs.Common.{◌≡◌, ◌≤◌, ◌+◌, ◌-◌, ◌∙◌,
 use Rattle.std.proofs.lemmas.List.{map-append}
 use Rattle.lx_forms.specs.Seen.{lexeme_view, lexemes_view}
 use Rattle.lx_rules.specs.Lists.{is_comma, words_of}
-use Rattle.lx_rules.proofs.ListWords.{comma_passed, word_taken}
+use Rattle.lx_rules.proofs.CondSets.ListWords.{comma_passed, word_taken}
 use Rattle.lx_rules.proofs.lists.listed_words.Goals as goal
 
 pub loop-place-preserved-then-is_comma : goal.loop-place-preserved-then-is_comma

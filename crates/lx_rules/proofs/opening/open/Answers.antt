@@ -1,6 +1,6 @@
 use Rattle.std.proofs.Common.{◌≡◌, rules, refl}
 use Rattle.lx_base.specs.declared.blocks.BlockKind.TheVariants.{Code, Rules}
-use Rattle.lx_rules.proofs.OpenedBlocks.{scanners_kind}
+use Rattle.lx_rules.proofs.Blocks.OpenedBlocks.{scanners_kind}
 use Rattle.lx_rules.proofs.opening.open.Goals as goal
 
 pub returns-then-eq : goal.returns-then-eq

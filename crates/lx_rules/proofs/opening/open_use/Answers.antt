@@ -1,5 +1,5 @@
 use Rattle.std.proofs.Common.{◌∙◌}
-use Rattle.lx_rules.proofs.OpenedBlocks.{used_opened}
+use Rattle.lx_rules.proofs.Blocks.OpenedBlocks.{used_opened}
 use Rattle.lx_rules.proofs.opening.open_use.Goals as goal
 
 pub returns : goal.returns

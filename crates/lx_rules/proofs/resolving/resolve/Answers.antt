@@ -15,10 +15,10 @@ use Rattle.lx_rules.specs.Items.{Goes, first_state}
 use Rattle.lx_rules.specs.FitScanners.{FitsLimits}
 use Rattle.lx_rules.specs.Keeping.{StopsGoing}
 use Rattle.lx_rules.specs.WellFormed.{IsWellFormed}
-use Rattle.lx_rules.proofs.ItemRuns.{body-alike, lexemes_few, sorts_of-lexemes, match_so, if_ok_so, stops_behind, stops_opening, stops_within}
-use Rattle.lx_rules.proofs.OpenedBlocks.{most_before-le}
-use Rattle.lx_rules.proofs.ListForms.{body_lists}
-use Rattle.lx_rules.proofs.WellFormedBlocks.{well_formed}
+use Rattle.lx_rules.proofs.Blocks.ItemRuns.{body-alike, lexemes_few, sorts_of-lexemes, match_so, if_ok_so, stops_behind, stops_opening, stops_within}
+use Rattle.lx_rules.proofs.Blocks.OpenedBlocks.{most_before-le}
+use Rattle.lx_rules.proofs.CondSets.ListForms.{body_lists}
+use Rattle.lx_rules.proofs.Blocks.WellFormedBlocks.{well_formed}
 use Rattle.lx_rules.proofs.resolving.resolve.Goals as goal
 
 pub take_items-requires-clause-few : goal.take_items-requires-clause-few

@@ -8,8 +8,8 @@ use Rattle.lx_rules.specs.Items.{Goes, ends}
 use Rattle.lx_rules.specs.Keeping.{StopsGoing}
 use Rattle.lx_forms.specs.Lexemes.{sorts_at}
 use Rattle.lx_forms.specs.Seen.{lexemes_view}
-use Rattle.lx_rules.proofs.ItemRuns.{goes-snoc, goes-stops, expressions_at}
-use Rattle.lx_rules.proofs.RuleNumbers.{all_at}
+use Rattle.lx_rules.proofs.Blocks.ItemRuns.{goes-snoc, goes-stops, expressions_at}
+use Rattle.lx_rules.proofs.Rules.RuleNumbers.{all_at}
 use Rattle.lx_rules.proofs.resolving.take_items.Goals as goal
 
 pub loop-item-init : goal.loop-item-init

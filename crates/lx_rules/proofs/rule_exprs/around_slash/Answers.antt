@@ -1,6 +1,6 @@
 use Rattle.lx_exprs.proofs.TagLists.TermTags.{HasTagsBelow-whole}
 use Rattle.lx_regex.specs.Expr.{term_of}
-use Rattle.lx_rules.proofs.ContextExprs.{around-tags}
+use Rattle.lx_rules.proofs.Rules.ContextExprs.{around-tags}
 use Rattle.lx_rules.proofs.rule_exprs.around_slash.Goals as goal
 
 pub returns-clause-tags : goal.returns-clause-tags

@@ -6,7 +6,7 @@ use Rattle.std.specs.Prelude.{slice_get}
 use Rattle.std.specs.declared.rc.Rc.{Rc}
 use Rattle.lx_rules.specs.declared.kept.KeptRule.{KeptRule}
 use Rattle.lx_rules.specs.Finishing.{kept_at}
-use Rattle.lx_rules.proofs.KeptScanners.{kept_at-next}
+use Rattle.lx_rules.proofs.ScannerSets.KeptScanners.{kept_at-next}
 use Rattle.lx_rules.proofs.scanners.rules_under.Goals as goal
 
 abbrev rule_in : Rc KeptRule Global → KeptRule

@@ -7,9 +7,9 @@ use Rattle.lx_rules.specs.Conditions.{cond_names, places_of}
 use Rattle.lx_rules.specs.Environments.{config_of}
 use Rattle.lx_rules.specs.Seen.{rules_view}
 use Rattle.lx_rules.specs.Finishing.{IsBuilt, IsCopyOf, kept_fault, kept_rules_of}
-use Rattle.lx_rules.proofs.FinishingSteps.{eof_known}
-use Rattle.lx_rules.proofs.KeptScanners.{kept_fault-is}
-use Rattle.lx_rules.proofs.CopiedScanners.{scanner_built, scanner_sound, scanner_zip}
+use Rattle.lx_rules.proofs.Blocks.FinishingSteps.{eof_known}
+use Rattle.lx_rules.proofs.ScannerSets.KeptScanners.{kept_fault-is}
+use Rattle.lx_rules.proofs.ScannerSets.CopiedScanners.{scanner_built, scanner_sound, scanner_zip}
 use Rattle.lx_rules.proofs.scanners.scanner.Goals as goal
 
 abbrev seen : List (Bor KeptRule) → List KeptRule

@@ -4,7 +4,7 @@ use Rattle.std.specs.List.{AllZip}
 use Rattle.lx_rules.specs.Blocks.{conditions_of}
 use Rattle.lx_rules.specs.Environments.{config_of}
 use Rattle.lx_rules.specs.Finishing.{IsBuiltScanner}
-use Rattle.lx_rules.proofs.CopiedScanners.{scanners_stop, sound_more}
+use Rattle.lx_rules.proofs.ScannerSets.CopiedScanners.{scanners_stop, sound_more}
 use Rattle.lx_rules.proofs.scanners.scanners.Goals as goal
 
 pub returns-in_err-scanner : goal.returns-in_err-scanner

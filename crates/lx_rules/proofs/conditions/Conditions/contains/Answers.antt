@@ -1,7 +1,7 @@
 use Rattle.std.proofs.Common.{◌∙◌, ap}
 use Rattle.std.specs.Prelude.{is_some}
 use Rattle.lx_exprs.proofs.TagLists.TagIndexes.{is_some-copied}
-use Rattle.lx_rules.proofs.ConditionEntries.{found-is_among}
+use Rattle.lx_rules.proofs.CondSets.ConditionEntries.{found-is_among}
 use Rattle.lx_rules.proofs.conditions.Conditions.contains.Goals as goal
 
 pub returns : goal.returns

@@ -6,7 +6,7 @@ use Rattle.std.specs.Str.{bytes_eq}
 use Rattle.lx_rules.specs.declared.conditions.Standing.{Standing}
 use Rattle.lx_rules.specs.Blocks.{every}
 use Rattle.lx_rules.specs.Conditions.{condition_view, nothing_kept}
-use Rattle.lx_rules.proofs.CopiedConditions.{found-seen, names-seen, seen-all, seen-copied}
+use Rattle.lx_rules.proofs.CondSets.CopiedConditions.{found-seen, names-seen, seen-all, seen-copied}
 use Rattle.lx_rules.proofs.conditions.Conditions.copy.Goals.{in-Some+in_ok-from_slice+in_ok-copy+in_ok-insert+in-None-1, in-Some+in_ok-from_slice+in_ok-copy+in_ok-insert+in-Some-1, in_default}
 use Rattle.lx_rules.proofs.conditions.Conditions.copy.Goals as goal
 

@@ -1,5 +1,5 @@
 use Rattle.std.proofs.Common.{◌≡◌, take}
-use Rattle.lx_rules.proofs.CopiedConditions.{seen_entries}
+use Rattle.lx_rules.proofs.CondSets.CopiedConditions.{seen_entries}
 use Rattle.lx_rules.proofs.conditions.Conditions.copy.Given as goal
 
 abbrev pub invariant-loop-number : goal.invariant-loop-number

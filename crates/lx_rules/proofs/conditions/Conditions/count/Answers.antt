@@ -6,7 +6,7 @@ use Rattle.indexmap.specs.IndexMap.{set_value_at, with_value_at}
 use Rattle.lx_exprs.specs.Checks.{is_among}
 use Rattle.lx_rules.specs.declared.conditions.Conditions.{Conditions}
 use Rattle.lx_rules.specs.Conditions.{cond_names, condition_view, kept_of, taken}
-use Rattle.lx_rules.proofs.ConditionEntries.{added_among, found-set, found_in, kept-taken, kept_found, names-set, names_in, number-name, number-value}
+use Rattle.lx_rules.proofs.CondSets.ConditionEntries.{added_among, found-set, found_in, kept-taken, kept_found, names-set, names_in, number-name, number-value}
 use Rattle.lx_rules.proofs.conditions.Conditions.count.Goals as goal
 
 abbrev items : Vec ℕ Global → List ℕ

@@ -7,8 +7,8 @@ use Rattle.std.proofs.lemmas.List.{length-map}
 use Rattle.lx_exprs.specs.Checks.{is_among}
 use Rattle.lx_rules.specs.Blocks.{every}
 use Rattle.lx_rules.specs.Conditions.{cond_names, kept_of, taken}
-use Rattle.lx_rules.proofs.CondNumbers.{names_one, none_at, numbers_one, take_one, within_one}
-use Rattle.lx_rules.proofs.TakenRules.{taken-more}
+use Rattle.lx_rules.proofs.CondSets.CondNumbers.{names_one, none_at, numbers_one, take_one, within_one}
+use Rattle.lx_rules.proofs.Rules.TakenRules.{taken-more}
 use Rattle.lx_rules.proofs.conditions.Conditions.count_each.Goals as goal
 
 abbrev nothing : Bor (List ℕ)

@@ -4,7 +4,7 @@ use Rattle.std.specs.Str.{bytes_eq}
 use Rattle.lx_exprs.specs.Checks.{is_among}
 use Rattle.lx_rules.specs.declared.conditions.Conditions.{Conditions}
 use Rattle.lx_rules.specs.Conditions.{cond_names}
-use Rattle.lx_rules.proofs.ConditionEntries.{add_conds-one, found-insert, found-is_among, found-none, found_in, kept-new, names-insert, names_in, number-inserted, number_in}
+use Rattle.lx_rules.proofs.CondSets.ConditionEntries.{add_conds-one, found-insert, found-is_among, found-none, found_in, kept-new, names-insert, names_in, number-inserted, number_in}
 use Rattle.lx_rules.proofs.conditions.Conditions.number_of.Goals as goal
 
 abbrev items : Vec ℕ Global → List ℕ

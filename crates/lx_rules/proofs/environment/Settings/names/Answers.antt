@@ -2,7 +2,7 @@ use Rattle.std.proofs.Common.{◌≡◌, ◌∙◌, ◌<◌, ◌≤◌, ◌++◌
 use Rattle.std.proofs.lemmas.List.{get_or_default}
 use Rattle.lx_base.specs.Names.{Spellings, usual_names}
 use Rattle.lx_rules.specs.Environments.{name_at, spelled}
-use Rattle.lx_rules.proofs.SpelledNames.{spelled-behind, spelled-push}
+use Rattle.lx_rules.proofs.Spellings.SpelledNames.{spelled-behind, spelled-push}
 use Rattle.lx_rules.proofs.environment.Settings.names.Goals as goal
 
 pub loop-place-preserved : goal.loop-place-preserved

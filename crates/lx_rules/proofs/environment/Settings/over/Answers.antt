@@ -2,7 +2,7 @@ use Rattle.std.proofs.Common.{◌∙◌, ◌++◌, ℕ, suc, List, Option, None,
 use Rattle.std.specs.Prelude.{slice_index_or}
 use Rattle.std.specs.Option.{option_or}
 use Rattle.lx_rules.specs.Environments.{Settings, names_over}
-use Rattle.lx_rules.proofs.SpelledNames.{less_max, names_over-behind, names_over-push}
+use Rattle.lx_rules.proofs.Spellings.SpelledNames.{less_max, names_over-behind, names_over-push}
 use Rattle.lx_rules.proofs.environment.Settings.over.Goals as goal
 
 pub loop-place-preserved : goal.loop-place-preserved

@@ -1,6 +1,6 @@
 use Rattle.std.proofs.Common.{◌∙◌, Option, ap, ap₂, ℕ, List, Bool, arith}
 use Rattle.lx_rules.specs.Environments.{Settings, with_name}
-use Rattle.lx_rules.proofs.SpelledNames.{with_name-pushed, with_name-set}
+use Rattle.lx_rules.proofs.Spellings.SpelledNames.{with_name-pushed, with_name-set}
 use Rattle.lx_rules.proofs.environment.Settings.spell.Goals as goal
 
 pub loop-self-preserved : goal.loop-self-preserved

@@ -7,7 +7,7 @@ use Rattle.std.specs.Prelude.{if◌then◌else◌}
 use Rattle.lx_exprs.specs.Checks.{is_among}
 use Rattle.lx_rules.specs.declared.items.Known.{Known}
 use Rattle.lx_rules.specs.Conditions.{AreNumbers, cond_names, conds_seen, kept_of, taken}
-use Rattle.lx_rules.proofs.RuleSteps.{headed-target, holds_more}
+use Rattle.lx_rules.proofs.Rules.RuleSteps.{headed-target, holds_more}
 use Rattle.lx_rules.proofs.items.Known.add_rule.Goals as goal
 
 pub returns-clause-added : goal.returns-clause-added

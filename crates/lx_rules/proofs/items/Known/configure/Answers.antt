@@ -1,6 +1,6 @@
 use Rattle.std.proofs.Common.{sym}
 use Rattle.lx_forms.specs.Seen.{lexemes_view}
-use Rattle.lx_rules.proofs.ItemSteps.{configured}
+use Rattle.lx_rules.proofs.Blocks.ItemSteps.{configured}
 use Rattle.lx_rules.proofs.items.Known.configure.Goals as goal
 
 pub returns-clause-taken : goal.returns-clause-taken

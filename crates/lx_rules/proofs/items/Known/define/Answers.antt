@@ -11,7 +11,7 @@ use Rattle.lx_exprs.specs.Defined.{IsDefined, definition_of, whole_room}
 use Rattle.lx_exprs.specs.Seen.{definition_view, definitions_view}
 use Rattle.lx_forms.specs.Seen.{lexemes_view}
 use Rattle.lx_rules.specs.Seen.{known_definitions, used_definitions}
-use Rattle.lx_rules.proofs.ItemSteps.{define_refused, define_taken, definition_of-behind, read_known}
+use Rattle.lx_rules.proofs.Blocks.ItemSteps.{define_refused, define_taken, definition_of-behind, read_known}
 use Rattle.lx_rules.proofs.items.Known.define.Goals as goal
 
 pub returns-in_err-reading-clause-taken : goal.returns-in_err-reading-clause-taken

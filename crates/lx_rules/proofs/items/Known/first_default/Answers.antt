@@ -1,5 +1,5 @@
 use Rattle.std.proofs.Common.{None, Some, map}
-use Rattle.lx_rules.proofs.HeadSteps.{default_first}
+use Rattle.lx_rules.proofs.Rules.HeadSteps.{default_first}
 use Rattle.lx_rules.proofs.items.Known.first_default.Goals as goal
 
 pub returns-in-Some : goal.returns-in-Some

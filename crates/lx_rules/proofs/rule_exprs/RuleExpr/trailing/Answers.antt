@@ -1,6 +1,6 @@
 use Rattle.std.proofs.Common.{◌≡◌, ◌⊎◌, ◌∙◌, ◌+◌, IfNone, IfSome, false, true, ap, subst}
 use Rattle.lx_exprs.specs.Defined.{is_built, kept}
-use Rattle.lx_rules.proofs.ReadContexts.{groups_in, read_is}
+use Rattle.lx_rules.proofs.Rules.ReadContexts.{groups_in, read_is}
 use Rattle.lx_rules.proofs.rule_exprs.RuleExpr.trailing.Goals as goal
 
 pub returns-clause-means : goal.returns-clause-means
