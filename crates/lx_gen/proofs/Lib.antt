@@ -5,3 +5,4 @@ pub mod Carrying
 pub mod Validity
 pub mod Rules
 pub mod Supplied
+pub mod SuppliedLayouts

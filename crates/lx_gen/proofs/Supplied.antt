@@ -5,6 +5,7 @@ pub mod Checks
 pub mod Claims
 pub mod CountedReaders
 pub mod EndReaders
+pub mod EnteredStates
 pub mod MatchRuns
 pub mod PlainServing
 pub mod ReaderClaims

@@ -17,11 +17,13 @@ pub mod Serving
 pub mod Starts
 pub mod Stops
 pub mod Supplied
+pub mod SuppliedLayout
 pub mod Supplies
 pub mod TestRuns
 pub mod TestTrees
 pub mod Told
 pub mod TransitionClasses
 pub mod Turns
+pub mod UnitApart
 pub mod Views
 pub mod Written

@@ -1,6 +1,7 @@
 -- When blocks serve an automaton whose scanner gets its units in some way: each state and each edge has its block, and so have the ends of a
 -- match.
-use Rattle.std.specs.Prelude.{◌≡◌, ◌≢◌, ◌⊎◌, ℕ, suc, ◌<◌, ◌≤◌, Bool, true, false, List, [], ◌∷◌, length, Option, Some, None, slice_get}
+use Rattle.std.specs.Prelude.{◌≡◌, ◌≢◌, ◌⊎◌, ℕ, suc, ◌<◌, ◌≤◌, Bool, nat_eq, zero, ◌||◌, true, false, List, [], ◌∷◌, length, Option, Some, None, slice_get}
+use Rattle.std.specs.List.{list_any}
 use Rattle.lx_auto.specs.Automaton.{edge_on, state_of}
 use Rattle.lx_auto.specs.declared.automaton.Accept.{Accept}
 use Rattle.lx_auto.specs.declared.automaton.Auto.{Auto}
@@ -13,6 +14,17 @@ use Rattle.lx_gen.specs.Endings.{Ending, ending_code}
 use Rattle.lx_gen.specs.Layout.{StandsFrom}
 use Rattle.lx_gen.specs.Supplies.{Reader, Supply, back_code, end_test, entry, need_code, state, try_code}
 use Rattle.lx_gen.specs.TestTrees.{TestTree, inner_blocks, picked, tree_code}
+
+-- an edge leads to the state with this number
+abbrev pub is_led_to : List State → (number : ℕ) → Bool
+is_led_to states number = list_any (λ state. list_any (λ (edge : Edge). nat_eq edge.to number) state.edges) states
+
+-- A match comes to the code of the state with this number. Where a rule stands at the end of the input a match begins in an entry that
+-- stands apart, and comes to the code of state 0 only by an edge; but where that has no edge the entry leads to it.
+abbrev pub is_entered : (end_rule : Option ℕ) → Auto → (number : ℕ) → Bool
+is_entered None auto number = true
+is_entered (Some rule) auto zero = nat_eq (length (state_of auto.states 0).edges) 0 || is_led_to auto.states 0
+is_entered (Some rule) auto (suc number) = true
 
 -- With this supply of units, these ends of rules, units up to a greatest one, and blocks; each state has a block where its code begins, and
 -- a number by which it is saved. The end of each rule has a block, and so has the fallback.
@@ -64,11 +76,12 @@ module _ (supply : Supply) (endings : ℕ → Ending) (greatest : ℕ) (auto : A
         → ServesState number given
 
   -- A match begins in the block of state 0. Where a rule stands at the end of the input, the entry stands apart: from its block units lead
-  -- as in state 0, and at the end it is that rule's.
+  -- as in state 0, and at the end it is that rule's. To state 0 no other code stands where no edge leads to it.
   abbrev pub ServesEntry : (end_rule : Option ℕ) → (block : ℕ) → Type 0
   ServesEntry None block = block ≡ place 0
   ServesEntry (Some rule) block =
-      ServesReader entry 0 block (λ unit to. IsTarget 0 (state_of auto.states 0) (edge_on (state_of auto.states 0).edges unit) to)
+      (is_entered (Some rule) auto 0 ≡ false → place 0 ≡ block)
+      × ServesReader entry 0 block (λ unit to. IsTarget 0 (state_of auto.states 0) (edge_on (state_of auto.states 0).edges unit) to)
       (λ end. HasCode end (ending_code endings rule []))
 
   -- a state that is saved is found again by the number by which it is saved
@@ -76,8 +89,10 @@ module _ (supply : Supply) (endings : ℕ → Ending) (greatest : ℕ) (auto : A
   Restores choices number accept =
       (block : ℕ) × (chosen choices (saved number) ≡ Some block) × HasCode block (restore_code (rules accept.rule))
 
-  pub record Serves : Type 0 where
-    pub states : (number : ℕ) → number < length auto.states → ServesState number (state_of auto.states number)
+  -- with this rule at the end of the input
+  pub record Serves (end_rule : Option ℕ) : Type 0 where
+    pub states : (number : ℕ) → number < length auto.states → is_entered end_rule auto number ≡ true
+        → ServesState number (state_of auto.states number)
     pub choices : List Choice
     pub falls : HasCode fall (choices_code choices)
     -- the number 0 is that of no state

@@ -40,6 +40,11 @@ abbrev pub class_place : List Edge → Edge → ℕ
 class_place [] edge = 0
 class_place (class ∷ classes) edge = if same_class class edge then 0 else suc (class_place classes edge)
 
+-- the place of an edge's class, if there is an edge
+abbrev pub edge_class : List Edge → Option Edge → Option ℕ
+edge_class classes None = None
+edge_class classes (Some edge) = Some (class_place classes edge)
+
 -- ---- units
 
 -- units up to a greatest one are of the class at this place, or of none

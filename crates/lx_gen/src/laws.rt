@@ -32,7 +32,7 @@ ghost use Rattle.lx_tdfa.specs.Promise.{IsAutoUnder};
 ghost use Rattle.lx_gen.specs.Actions.{IsOwnAction, action_count};
 ghost use Rattle.lx_gen.specs.Carries.{Carries, EndsAs, HasEdge, IsReached, IsUnitOf, LeadsTo, NamesItsOwn, StandsAs, StopsBehind};
 ghost use Rattle.lx_gen.specs.Endings.{Ending};
-ghost use Rattle.lx_gen.specs.Layout.{EachTree, StandsFrom, class_block, layout, numbered};
+ghost use Rattle.lx_gen.specs.Layout.{AreAgreed, EachTree, StandsFrom, class_block, layout, numbered};
 ghost use Rattle.lx_gen.specs.Right.{AreEndsOf, IsRightUnder, IsSetBy};
 ghost use Rattle.lx_gen.specs.RightInMode.{HaveEndings, IsRightInMode, IsSupplied};
 ghost use Rattle.lx_gen.specs.Rules.{AreSimple, endings_of};
@@ -41,8 +41,10 @@ ghost use Rattle.lx_gen.specs.ParallelCopies.{sequentialized};
 ghost use Rattle.lx_gen.specs.Serving.{Serves};
 ghost use Rattle.lx_gen.specs.Starts.{machine_with, run_with};
 ghost use Rattle.lx_gen.specs.Supplied as supplied;
+ghost use Rattle.lx_gen.specs.SuppliedLayout as layouts;
+ghost use Rattle.lx_gen.specs.SuppliedLayout.{EachReader, number_in, supplied_layout};
 ghost use Rattle.lx_gen.specs.Supplied.{ServesEntry};
-ghost use Rattle.lx_gen.specs.Supplies.{Supply};
+ghost use Rattle.lx_gen.specs.Supplies.{Reader, Supply};
 ghost use Rattle.lx_gen.specs.Stops.{Stops, bank_from, last_standing, told_found};
 ghost use Rattle.lx_gen.specs.TestRuns.{ComesTo};
 ghost use Rattle.lx_gen.specs.TestTrees.{IsTreeOf, PicksAs, TestTree, TestsWithin, depth, inner_blocks, picked, split_class, tree_code};
@@ -76,10 +78,83 @@ pub fn supplied_pieces_are_right()
     ensures { (policy : Policy) (mode : Mode) (enc : Enc) (patterns : List Pattern) (auto : Auto) (endings : ℕ → Ending) (supply : Supply)
         (piece : Piece) (place saved rules : ℕ → ℕ) (fall entry : ℕ) (cond : List ℕ)
         → IsAutoUnder policy enc patterns auto → HaveEndings enc patterns endings
-        → supplied.Serves supply endings (greatest_unit enc) auto (code_of piece.blocks) place saved rules fall
+        → supplied.Serves supply endings (greatest_unit enc) auto (code_of piece.blocks) place saved rules fall (end_rule patterns)
         → ServesEntry supply endings (greatest_unit enc) auto (code_of piece.blocks) place saved rules fall (end_rule patterns) entry
         → (IsSome (end_rule patterns) → IsSome supply.eof) → IsSupplied mode supply auto piece
         → entry_block piece.conds cond ≡ Some entry → IsRightInMode policy mode cond enc patterns endings piece }
+{}
+
+/// The blocks of a layout with a supply of units serve the automaton, from the entry of the layout on, if a rule stands at the end of
+/// the input only where a unit does, and by each tree of tests units go as the edges say.
+pub fn supplied_layouts_serve()
+    ensures blocks { (supply : Supply) (endings : ℕ → Ending) (end_rule : Option ℕ) (greatest : ℕ) (trees : Reader → TestTree (Option ℕ)) (auto : Auto)
+        (begin : ℕ) (blocks : List (List Stmt)) → IsAuto auto
+        → All (λ (state : State). All (λ (edge : Edge). edge.hi ≤ greatest) state.edges) auto.states → AreAgreed auto.states
+        → (IsSome end_rule → IsSome supply.eof) → EachReader PicksAs supply.eof greatest trees auto
+        → StandsFrom blocks begin (supplied_layout supply endings end_rule trees auto begin)
+        → supplied.Serves supply endings greatest auto blocks (layouts.place_of supply end_rule trees auto begin) (number_in auto.states)
+        (layouts.rule_block supply end_rule trees auto begin) (layouts.fall_block supply end_rule trees auto begin) end_rule }
+    ensures entry { (supply : Supply) (endings : ℕ → Ending) (end_rule : Option ℕ) (greatest : ℕ) (trees : Reader → TestTree (Option ℕ)) (auto : Auto)
+        (begin : ℕ) (blocks : List (List Stmt)) → IsAuto auto
+        → All (λ (state : State). All (λ (edge : Edge). edge.hi ≤ greatest) state.edges) auto.states
+        → (IsSome end_rule → IsSome supply.eof) → EachReader PicksAs supply.eof greatest trees auto
+        → StandsFrom blocks begin (supplied_layout supply endings end_rule trees auto begin)
+        → ServesEntry supply endings greatest auto blocks (layouts.place_of supply end_rule trees auto begin) (number_in auto.states)
+        (layouts.rule_block supply end_rule trees auto begin) (layouts.fall_block supply end_rule trees auto begin) end_rule
+        (layouts.entry_of supply end_rule trees auto begin) }
+{}
+
+/// So a piece is right in the mode of its supply where such a layout of the automaton of its rules stands in it, by trees of tests by which
+/// each unit goes as the edges say, and the condition begins at the entry of the layout.
+pub fn supplied_layouts_are_right()
+    ensures { (policy : Policy) (mode : Mode) (enc : Enc) (patterns : List Pattern) (auto : Auto) (trees : Reader → TestTree (Option ℕ))
+        (endings : ℕ → Ending) (supply : Supply) (piece : Piece) (begin : ℕ) (cond : List ℕ)
+        → IsAutoUnder policy enc patterns auto → HaveEndings enc patterns endings
+        → EachReader PicksAs supply.eof (greatest_unit enc) trees auto
+        → StandsFrom (code_of piece.blocks) begin (supplied_layout supply endings (end_rule patterns) trees auto begin)
+        → (IsSome (end_rule patterns) → IsSome supply.eof) → IsSupplied mode supply auto piece
+        → entry_block piece.conds cond ≡ Some (layouts.entry_of supply (end_rule patterns) trees auto begin)
+        → IsRightInMode policy mode cond enc patterns endings piece }
+{}
+
+/// In a piece whose blocks are a layout with a supply of units each block has one ending statement, which is its last, and each jump goes
+/// to a block that is there, if the trees of tests lead where edges lead.
+pub fn supplied_layouts_are_closed()
+    ensures jumps { (supply : Supply) (endings : ℕ → Ending) (end_rule : Option ℕ) (greatest : ℕ) (trees : Reader → TestTree (Option ℕ)) (auto : Auto)
+        (blocks : List CodeBlock) → IsAuto auto → EachReader TestsWithin supply.eof greatest trees auto
+        → code_of blocks ≡ supplied_layout supply endings end_rule trees auto 0 → AllByRecursion (JumpsBelow (length blocks)) (all_statements blocks) }
+    ensures ends { (supply : Supply) (endings : ℕ → Ending) (end_rule : Option ℕ) (greatest : ℕ) (trees : Reader → TestTree (Option ℕ)) (auto : Auto)
+        (blocks : List CodeBlock) → IsAuto auto → EachReader TestsWithin supply.eof greatest trees auto
+        → code_of blocks ≡ supplied_layout supply endings end_rule trees auto 0
+        → AllByRecursion (λ (block : CodeBlock). ends_once block.stmts ≡ true) blocks }
+{}
+
+/// A layout whose supply has no checks and tries no refill asks for no refill and stores no state.
+pub fn supplied_layouts_ask_for_nothing()
+    ensures { (supply : Supply) (endings : ℕ → Ending) (end_rule : Option ℕ) (greatest : ℕ) (trees : Reader → TestTree (Option ℕ)) (auto : Auto)
+        (blocks : List CodeBlock) → IsAuto auto → EachReader TestsWithin supply.eof greatest trees auto → supply.tries ≡ false
+        → ((state : ℕ) → supply.check state ≡ 0) → code_of blocks ≡ supplied_layout supply endings end_rule trees auto 0
+        → (list_any is_refill (all_statements blocks) ≡ false) × (list_any is_state (all_statements blocks) ≡ false) }
+{}
+
+/// A layout with a supply of units stores no state where the supply has no numbers for that.
+pub fn supplied_layouts_store_nothing()
+    ensures { (supply : Supply) (endings : ℕ → Ending) (end_rule : Option ℕ) (greatest : ℕ) (trees : Reader → TestTree (Option ℕ)) (auto : Auto)
+        (blocks : List CodeBlock) → IsAuto auto → EachReader TestsWithin supply.eof greatest trees auto → supply.stored ≡ None
+        → code_of blocks ≡ supplied_layout supply endings end_rule trees auto 0 → list_any is_state (all_statements blocks) ≡ false }
+{}
+
+/// A piece whose blocks are a layout of an automaton with a supply of units carries the automaton, if its statements name registers of the
+/// automaton.
+pub fn supplied_layouts_carry_automata()
+    ensures { (piece : Piece) (endings : ℕ → Ending) (end_rule : Option ℕ) (greatest : ℕ) (auto : Auto) (supply : Supply)
+        (trees : Reader → TestTree (Option ℕ)) → IsAuto auto
+        → All (λ (state : State). All (λ (edge : Edge). edge.hi ≤ greatest) state.edges) auto.states → AreAgreed auto.states
+        → (IsSome end_rule → IsSome supply.eof) → EachReader IsTreeOf supply.eof greatest trees auto
+        → code_of piece.blocks ≡ supplied_layout supply endings end_rule trees auto 0
+        → piece.eof ≡ supply.eof → ((unit : ℕ) → IsUnitOf piece unit → unit ≤ greatest)
+        → ((statement : Stmt) → IsMadeBy piece.blocks (layouts.entry_of supply end_rule trees auto 0) statement → NamesItsOwn auto statement)
+        → Carries piece (layouts.entry_of supply end_rule trees auto 0) endings auto }
 {}
 
 /// The run of a piece whose blocks serve an automaton tells the automaton's match, whatever registers and histories hold before,
@@ -251,7 +326,7 @@ pub fn carried_states_are_blocks()
 pub fn supplied_pieces_carry_automata()
     ensures { (piece : Piece) (entry : ℕ) (endings : ℕ → Ending) (greatest : ℕ) (auto : Auto) (supply : Supply) (place saved rules : ℕ → ℕ) (fall : ℕ)
         (end_rule : Option ℕ)
-        → supplied.Serves supply endings greatest auto (code_of piece.blocks) place saved rules fall
+        → supplied.Serves supply endings greatest auto (code_of piece.blocks) place saved rules fall end_rule
         → ServesEntry supply endings greatest auto (code_of piece.blocks) place saved rules fall end_rule entry
         → IsAuto auto → piece.eof ≡ supply.eof → ((unit : ℕ) → IsUnitOf piece unit → unit ≤ greatest)
         → ((state other : ℕ) → HasEdge auto state → HasEdge auto other → place state ≡ place other → state ≡ other)

@@ -19,11 +19,11 @@ module _ (trees : ℕ → TestTree (Option ℕ)) (auto : Auto) (rules : ℕ → 
   length-own_blocks block [] = refl
   length-own_blocks block (op ∷ ops) = refl
 
-  length-end_blocks : (o : Option Accept) → length (end_blocks auto rules fall o) ≡ end_size o
+  pub length-end_blocks : (o : Option Accept) → length (end_blocks auto rules fall o) ≡ end_size o
   length-end_blocks None = refl
   length-end_blocks (Some accept) = length-own_blocks (rules accept.rule) accept.ops
 
-  length-lone_blocks : (number : ℕ) (o : Option Accept) → length (lone_blocks auto rules fall number o) ≡ lone_size number o
+  pub length-lone_blocks : (number : ℕ) (o : Option Accept) → length (lone_blocks auto rules fall number o) ≡ lone_size number o
   length-lone_blocks zero o = refl
   length-lone_blocks (suc number) o = length-end_blocks o
 
@@ -68,7 +68,7 @@ pub length-restore_blocks : (rules : ℕ → ℕ) (saved_accepts : List Accept) 
 length-restore_blocks rules [] = refl
 length-restore_blocks rules (accept ∷ saved_accepts) = ap suc (length-restore_blocks rules saved_accepts)
 
-length-ending_blocks : (endings : ℕ → Ending) (accepts : List Accept) → length (ending_blocks endings accepts) ≡ length accepts
+pub length-ending_blocks : (endings : ℕ → Ending) (accepts : List Accept) → length (ending_blocks endings accepts) ≡ length accepts
 length-ending_blocks endings [] = refl
 length-ending_blocks endings (accept ∷ accepts) = ap suc (length-ending_blocks endings accepts)
 

@@ -18,12 +18,12 @@ use Rattle.lx_gen.specs.Endings.{Ending, ending_code}
 use Rattle.lx_gen.specs.Layout.{AreAgreed, EachTree, StandsFrom, accepts_of, blocks_by, choices_from, end_block, end_blocks, ending_blocks, fall_block, front_blocks, front_size, saved_number, saved_of, layout, lone_blocks, lone_code, numbered, own_block, own_blocks, place_by, place_of, restore_blocks, rule_block, rule_place, state_blocks, class_block, class_blocks}
 use Rattle.lx_gen.specs.Serving.{IsEnd, IsTarget, Restores, Serves, ServesState, by_jump, by_tests, itself}
 use Rattle.lx_gen.specs.TestTrees.{PicksAs, TestTree, fork, inner_blocks, leaf, picked, test, tree_code}
-use Rattle.lx_gen.specs.TransitionClasses.{edge_split, has_class, same_class, class_place, transition_classes}
+use Rattle.lx_gen.specs.TransitionClasses.{edge_class, edge_split, has_class, same_class, class_place, transition_classes}
 use Rattle.lx_gen.proofs.BlockLayouts.LayoutLengths.{length-restore_blocks, length-class_blocks}
 use Rattle.lx_gen.proofs.BlockLayouts.LayoutPlaces.{begin_in, place_in-begin, rest_stands, states_stand}
 use Rattle.lx_gen.proofs.BlockLayouts.LayoutTrees.{tree_at}
 use Rattle.lx_gen.proofs.Rules.RuleBlocks.{chosen-below, chosen-choices_from, first_end_stands, has_rule-saved, restore_stands}
-use Rattle.lx_gen.proofs.BlockLayouts.Splits.{edge_class, picked-tree}
+use Rattle.lx_gen.proofs.BlockLayouts.Splits.{picked-tree}
 use Rattle.lx_gen.proofs.BlockLayouts.StandingCodes.{StandsFrom-back, StandsFrom-front, StandsFrom-get}
 use Rattle.lx_gen.proofs.BlockLayouts.TreeCodes.{front_size-numbered, length-front_blocks, picked-numbered}
 use Rattle.lx_gen.proofs.BlockLayouts.ClassLists.{has_class-on, same_class-ops, same_class-to, class_found, class_place-first}
@@ -45,14 +45,14 @@ module _ (endings : ℕ → Ending) (greatest : ℕ) (trees : ℕ → TestTree (
   abbrev last_blocks : State → List (List Stmt)
   last_blocks state = end_blocks auto rules fall state.accept
 
-  slice_get-class_blocks : (state : State) (classes : List Edge) (j : ℕ) (class : Edge) → slice_get classes j ≡ Some class
+  pub slice_get-class_blocks : (state : State) (classes : List Edge) (j : ℕ) (class : Edge) → slice_get classes j ≡ Some class
       → slice_get (edges_blocks state classes) j ≡ Some (edge_code auto state (saved_number saved_accepts state.accept) class (place class.to))
   slice_get-class_blocks state [] j class e = absurd (cc)
   slice_get-class_blocks state (first ∷ classes) zero class e =
       let same : first ≡ class = cc in ap (λ w. Some (edge_code auto state (saved_number saved_accepts state.accept) w (place w.to))) same
   slice_get-class_blocks state (first ∷ classes) (suc j) class e = slice_get-class_blocks state classes j class e
 
-  edge_code-same : (number : ℕ) (state : State) (class edge : Edge) → same_class class edge ≡ true
+  pub edge_code-same : (number : ℕ) (state : State) (class edge : Edge) → same_class class edge ≡ true
       → edge_code auto state number class (place class.to) ≡ edge_code auto state number edge (place edge.to)
   edge_code-same number state class edge same =
       ap (λ ops. save_code (saves_by state.accept (state_of auto.states class.to).accept) number

@@ -5,13 +5,8 @@ use Rattle.lx_auto.specs.Automaton.{AreApartFrom, edge_on}
 use Rattle.lx_auto.specs.declared.automaton.Edge.{Edge}
 use Rattle.lx_auto.proofs.Edges.{edge_on-before, edge_on-here, edge_on-past}
 use Rattle.lx_gen.specs.TestTrees.{Ascend, PicksAs, TestTree, class_on, picked}
-use Rattle.lx_gen.specs.TransitionClasses.{Stretch, before, edge_split, first_class, same_place, split_of, stretches, class_place, transition_classes}
+use Rattle.lx_gen.specs.TransitionClasses.{Stretch, before, edge_class, edge_split, first_class, same_place, split_of, stretches, class_place, transition_classes}
 use Rattle.lx_gen.proofs.BlockLayouts.SplitTrees.{Ascend-earlier}
-
--- the place of an edge's class, if there is an edge
-abbrev pub edge_class : List Edge → Option Edge → Option ℕ
-edge_class classes None = None
-edge_class classes (Some edge) = Some (class_place classes edge)
 
 -- ---- stretches
 
@@ -145,7 +140,7 @@ class_on-split_of greatest low (stretch ∷ list) unit h le =
         ap (λ t. if t then stretch.class else class_on list None unit) (sym (le-leb unit stretch.greatest (omega arith)))
     by false e again = join (same_place stretch.class (first_class (split_of greatest list).tests (split_of greatest list).last)) refl again
 
-class_on-edge_split : (greatest : ℕ) (edges : List Edge) (unit : ℕ) → AreApartFrom 0 edges → unit ≤ greatest
+pub class_on-edge_split : (greatest : ℕ) (edges : List Edge) (unit : ℕ) → AreApartFrom 0 edges → unit ≤ greatest
     → class_on (edge_split greatest edges).tests (edge_split greatest edges).last unit ≡ edge_class (transition_classes edges) (edge_on edges unit)
 class_on-edge_split greatest edges unit apart le =
     class_on-split_of greatest 0 (stretches (transition_classes edges) 0 edges) unit (Ascend-stretches (transition_classes edges) 0 edges apart) le

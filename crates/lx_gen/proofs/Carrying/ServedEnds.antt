@@ -36,7 +36,7 @@ abbrev unmatched_at : (cond : List ℕ) → (cursor : ℕ) → List Value → En
 unmatched_at cond cursor values = record { outcome = no_rule; cursor = cursor; cond = cond; values = values }
 
 module _ (supply : Supply) (endings : ℕ → Ending) (greatest : ℕ) (auto : Auto) (piece : Piece) (place saved rules : ℕ → ℕ) (fall : ℕ)
-    (serves : Serves supply endings greatest auto (code_of piece.blocks) place saved rules fall) (formed : IsAuto auto) (stream : List ℕ)
+    (end_rule : Option ℕ) (serves : Serves supply endings greatest auto (code_of piece.blocks) place saved rules fall end_rule) (formed : IsAuto auto) (stream : List ℕ)
     (answers : List Answer) where
   abbrev pub Has : ℕ → List Stmt → Type 0
   Has block code = HasCode supply endings greatest auto (code_of piece.blocks) place saved rules fall block code

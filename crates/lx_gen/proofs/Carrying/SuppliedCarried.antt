@@ -1,5 +1,5 @@
 -- A piece whose blocks serve an automaton with some supply of units carries the automaton.
-use Rattle.std.specs.Prelude.{◌≡◌, ◌⊎◌, ℕ, zero, suc, ◌+◌, ◌<◌, ◌≤◌, List, [], ◌∷◌, length, Option, Some, None, refl, slice_get}
+use Rattle.std.specs.Prelude.{◌≡◌, ◌⊎◌, ℕ, zero, suc, ◌+◌, ◌<◌, ◌≤◌, Bool, true, false, List, [], ◌∷◌, length, Option, Some, None, refl, slice_get}
 use Rattle.std.proofs.Common.{inl, inr, sym, ap, ◌∙◌, subst, arith}
 use Rattle.lx_auto.specs.Automaton.{IsAuto, edge_on, state_of}
 use Rattle.lx_auto.specs.Bank.{Bank}
@@ -20,8 +20,10 @@ use Rattle.lx_ccode.proofs.TraceSteps.{LeadsSo, goto_step}
 use Rattle.lx_gen.specs.Carries.{Carries, EndsAs, GoesBy, HasEdge, IsUnitOf, NamesItsOwn, ReadsAs, StopsAs}
 use Rattle.lx_gen.specs.Codes.{accept_code, choices_code, edge_code}
 use Rattle.lx_gen.specs.Endings.{Ending, ending_code}
-use Rattle.lx_gen.specs.Supplied.{IsEnd, IsTarget, Serves, ServesEntry, ServesReader, ServesState, ends, goes, reads}
+use Rattle.lx_gen.specs.Supplied.{IsEnd, IsTarget, Serves, ServesEntry, ServesReader, ServesState, ends, goes, is_entered, reads}
 use Rattle.lx_gen.specs.Supplies.{Reader, Supply}
+use Rattle.lx_gen.specs.Supplies as supplies
+use Rattle.lx_gen.proofs.Supplied.EnteredStates.{behind_entry, entered-lone}
 use Rattle.lx_gen.proofs.Carrying.ServedEdges.{edge_leads, passed, passed_stands}
 use Rattle.lx_gen.proofs.Carrying.ServedEnds.{stop_ends}
 use Rattle.lx_gen.proofs.Carrying.ServedReaders.{Enters, reader_code, reader_enters}
@@ -37,7 +39,8 @@ block_within (first ∷ blocks) zero code is = omega arith
 block_within (first ∷ blocks) (suc block) code is = let within = block_within blocks block code is in omega (arith, within)
 
 module _ (supply : Supply) (endings : ℕ → Ending) (greatest : ℕ) (auto : Auto) (piece : Piece) (place saved rules : ℕ → ℕ) (fall : ℕ)
-    (serves : Serves supply endings greatest auto (code_of piece.blocks) place saved rules fall) (formed : IsAuto auto) where
+    (end_rule : Option ℕ) (entry : ℕ) (serves : Serves supply endings greatest auto (code_of piece.blocks) place saved rules fall end_rule)
+    (serves_entry : ServesEntry supply endings greatest auto (code_of piece.blocks) place saved rules fall end_rule entry) (formed : IsAuto auto) where
   abbrev state_at : ℕ → State
   state_at number = state_of auto.states number
 
@@ -83,14 +86,22 @@ module _ (supply : Supply) (endings : ℕ → Ending) (greatest : ℕ) (auto : A
       (λ unit to. Target number (edge_on (state_at number).edges unit) to) Stops
       (λ unit to. target_code number lt (edge_on (state_at number).edges unit) to) reader_serves
 
-  -- each state has a block
+  -- each state has a block; one to which no match comes has the entry's
   state_code : (number : ℕ) → number < length auto.states → (code : List Stmt) × Code (place number) code
-  state_code number lt = by (serves.states number lt) where
+  state_code number lt = by_entry (is_entered end_rule auto number) refl where
     by : ServesState supply endings greatest auto (code_of piece.blocks) place saved rules fall number (state_at number)
         → (code : List Stmt) × Code (place number) code
     by (ends none end) = end_code number lt (place number) end
     by (goes none block has end) = (Goto block ∷ [], has)
     by (reads some reader) = like_code number lt _ _ (place number) _ reader
+
+    by_entry : (t : Bool) → is_entered end_rule auto number ≡ t → (code : List Stmt) × Code (place number) code
+    by_entry true entered = by (serves.states number lt entered)
+    by_entry false never =
+        let behind = behind_entry end_rule auto number never in
+        let apart = subst (λ o. ServesEntry supply endings greatest auto (code_of piece.blocks) place saved rules fall o entry) behind.some serves_entry in
+        let code = like_code 0 formed.start _ _ entry _ apart.1 in
+        (code.0, ap (λ n. slice_get (code_of piece.blocks) (place n)) behind.zeroth ∙ ap (λ n. slice_get (code_of piece.blocks) n) (apart.0 behind.never) ∙ code.1)
 
   -- ---- what reads a unit
 
@@ -104,7 +115,7 @@ module _ (supply : Supply) (endings : ℕ → Ending) (greatest : ℕ) (auto : A
     goes_on_edge None unit code on before enters =
         ends_as piece endings auto place saved stream code machine answers standing (enters.peeks + 0) (let few = enters.few in omega (arith, few))
         (walk_ends piece stream enters.walks
-        (stop_ends supply endings greatest auto piece place saved rules fall serves formed stream answers enters.block enters.to
+        (stop_ends supply endings greatest auto piece place saved rules fall end_rule serves formed stream answers enters.block enters.to
         (record machine { state = enters.state; unit = enters.unit }) standing usual.state enters.target enters.has
         (stands_still piece endings auto place saved stands enters.state enters.unit) usual.left))
     goes_on_edge (Some edge) unit code on before enters =
@@ -133,7 +144,7 @@ module _ (supply : Supply) (endings : ℕ → Ending) (greatest : ℕ) (auto : A
         → EndsAs piece endings auto place saved stream code machine answers 0 standing
     stops_at block code has end =
         ends_as piece endings auto place saved stream code machine answers standing 0 (omega arith)
-        (stop_ends supply endings greatest auto piece place saved rules fall serves formed stream answers block code machine standing usual.state end has
+        (stop_ends supply endings greatest auto piece place saved rules fall end_rule serves formed stream answers block code machine standing usual.state end has
         stands usual.left)
 
     stops_behind : (block : ℕ) → Ends (state_at standing.state).accept block
@@ -142,7 +153,7 @@ module _ (supply : Supply) (endings : ℕ → Ending) (greatest : ℕ) (auto : A
         let to = end_code standing.state usual.state block end in
         ends_as piece endings auto place saved stream (Goto block ∷ []) machine answers standing 0 (omega arith)
         (walk_ends piece stream (walk_step piece stream (Goto block) refl refl (goto_step piece stream [] machine answers block to.0 to.1))
-        (stop_ends supply endings greatest auto piece place saved rules fall serves formed stream answers block to.0 machine standing usual.state end to.1
+        (stop_ends supply endings greatest auto piece place saved rules fall end_rule serves formed stream answers block to.0 machine standing usual.state end to.1
         stands usual.left))
 
   -- from a reader's block the machine goes as the run does
@@ -177,48 +188,58 @@ module _ (supply : Supply) (endings : ℕ → Ending) (greatest : ℕ) (auto : A
 
   place_stops : (standing : Standing) → IsUsual auto formed standing → (state_at standing.state).edges ≡ []
       → StopsAs piece endings auto place saved (place standing.state) standing
-  place_stops standing usual none = by (serves.states standing.state usual.state) where
-    by : ServesState supply endings greatest auto (code_of piece.blocks) place saved rules fall standing.state (state_at standing.state)
-        → StopsAs piece endings auto place saved (place standing.state) standing
-    by (ends also end) =
-        let code = end_code standing.state usual.state (place standing.state) end in
-        record {
-          code = code.0;
-          is = code.1;
-          stops = λ stream machine answers stands. stops_at stream machine answers standing usual stands (place standing.state) code.0 code.1 end;
+  place_stops standing usual none =
+      by (serves.states standing.state usual.state (entered-lone end_rule auto standing.state none)) where
+        by : ServesState supply endings greatest auto (code_of piece.blocks) place saved rules fall standing.state (state_at standing.state)
+            → StopsAs piece endings auto place saved (place standing.state) standing
+        by (ends also end) =
+            let code = end_code standing.state usual.state (place standing.state) end in
+            record {
+              code = code.0;
+              is = code.1;
+              stops = λ stream machine answers stands. stops_at stream machine answers standing usual stands (place standing.state) code.0 code.1 end;
+            }
+        by (goes also block has end) = record {
+          code = Goto block ∷ [];
+          is = has;
+          stops = λ stream machine answers stands. stops_behind stream machine answers standing usual stands block end;
         }
-    by (goes also block has end) = record {
-      code = Goto block ∷ [];
-      is = has;
-      stops = λ stream machine answers stands. stops_behind stream machine answers standing usual stands block end;
-    }
-    by (reads some reader) = absurd (some none)
+        by (reads some reader) = absurd (some none)
 
   place_reads : (standing : Standing) → IsUsual auto formed standing → ((unit : ℕ) → IsUnitOf piece unit → unit ≤ greatest)
       → Reads (place standing.state) standing
-  place_reads standing usual within = by (serves.states standing.state usual.state) where
+  place_reads standing usual within = by_entry (is_entered end_rule auto standing.state) refl where
     by : ServesState supply endings greatest auto (code_of piece.blocks) place saved rules fall standing.state (state_at standing.state)
         → Reads (place standing.state) standing
     by (ends none end) = ended_reads (place standing.state) standing none (place_stops standing usual none)
     by (goes none block has end) = ended_reads (place standing.state) standing none (place_stops standing usual none)
     by (reads some reader) = reader_reads standing usual _ _ (place standing.state) _ reader within
 
-  entry_reads : (end_rule : Option ℕ) (entry : ℕ) → ServesEntry supply endings greatest auto (code_of piece.blocks) place saved rules fall end_rule entry
-      → ((unit : ℕ) → IsUnitOf piece unit → unit ≤ greatest) → (start : ℕ) (bank : Bank) → Reads entry (start_with start bank)
-  entry_reads None entry is within start bank =
-      subst (λ block. Reads block (start_with start bank)) (sym is) (place_reads (start_with start bank) (usual_start auto formed start bank) within)
-  entry_reads (Some rule) entry reader within start bank =
-      reader_reads (start_with start bank) (usual_start auto formed start bank) _ _ entry _ reader within
+    by_entry : (t : Bool) → is_entered end_rule auto standing.state ≡ t → Reads (place standing.state) standing
+    by_entry true entered = by (serves.states standing.state usual.state entered)
+    by_entry false never =
+        let behind = behind_entry end_rule auto standing.state never in
+        let apart = subst (λ o. ServesEntry supply endings greatest auto (code_of piece.blocks) place saved rules fall o entry) behind.some serves_entry in
+        let here : place standing.state ≡ entry = ap (λ n. place n) behind.zeroth ∙ apart.0 behind.never in
+        let stop : ℕ → Type 0 = λ end. slice_get (code_of piece.blocks) end ≡ Some (ending_code endings behind.rule []) in
+        subst (λ block. Reads block standing) (sym here)
+        (reader_reads standing usual supplies.entry 0 entry stop
+        (subst (λ n. ReadsLike n supplies.entry 0 entry stop) (sym behind.zeroth) apart.1) within)
 
-  pub supplied_carries : (entry : ℕ) (end_rule : Option ℕ)
-      → ServesEntry supply endings greatest auto (code_of piece.blocks) place saved rules fall end_rule entry
-      → ((unit : ℕ) → IsUnitOf piece unit → unit ≤ greatest)
+  entry_reads : (given : Option ℕ) → ServesEntry supply endings greatest auto (code_of piece.blocks) place saved rules fall given entry
+      → ((unit : ℕ) → IsUnitOf piece unit → unit ≤ greatest) → (start : ℕ) (bank : Bank) → Reads entry (start_with start bank)
+  entry_reads None is within start bank =
+      subst (λ block. Reads block (start_with start bank)) (sym is) (place_reads (start_with start bank) (usual_start auto formed start bank) within)
+  entry_reads (Some rule) reader within start bank =
+      reader_reads (start_with start bank) (usual_start auto formed start bank) _ _ entry _ reader.1 within
+
+  pub supplied_carries : ((unit : ℕ) → IsUnitOf piece unit → unit ≤ greatest)
       → ((state other : ℕ) → HasEdge auto state → HasEdge auto other → place state ≡ place other → state ≡ other)
       → ((block : ℕ) → IsOfScanner piece.blocks entry block → StandsIn piece.blocks block Peek
       → (block ≡ entry) ⊎ ((state : ℕ) × HasEdge auto state × (place state ≡ block)))
       → ((statement : Stmt) → IsMadeBy piece.blocks entry statement → NamesItsOwn auto statement)
       → Carries piece entry endings auto
-  supplied_carries entry end_rule serves_entry within apart peeks own = record {
+  supplied_carries within apart peeks own = record {
     place = place;
     saved = saved;
     blocks = λ number has.
@@ -227,7 +248,7 @@ module _ (supply : Supply) (endings : ℕ → Ending) (greatest : ℕ) (auto : A
     apart = apart;
     peeks = peeks;
     registers = own;
-    starts = λ start bank empty. entry_reads end_rule entry serves_entry within start bank;
+    starts = λ start bank empty. entry_reads end_rule serves_entry within start bank;
     moves = λ standing reached. place_reads standing (usual_reached auto formed standing reached) within;
     stops = λ standing reached none. place_stops standing (usual_reached auto formed standing reached) none;
   }

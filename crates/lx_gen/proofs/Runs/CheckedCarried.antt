@@ -163,9 +163,9 @@ module _ (names : Spellings) where
       subst (λ (accept : Accepted). Has (rules accept.rule) (ending_code untagged accept.rule accept.values)) same refl
   rule_stands (suc (suc (suc number))) accept lt e = absurd (omega (arith, lt))
 
-  serves : Serves supply untagged 255 both (code_of p.blocks) place saved rules 4
+  serves : Serves supply untagged 255 both (code_of p.blocks) place saved rules 4 None
   serves = record {
-    states = states_serve;
+    states = λ number lt entered. states_serve number lt;
     choices = [];
     falls = refl;
     none = refl;
@@ -207,5 +207,5 @@ module _ (names : Spellings) where
 
   pub checked_carried : Carries (checked_piece names) 0 untagged both
   checked_carried =
-      supplied_carries supply untagged 255 both p place saved rules 4 serves formed 0 None refl (λ unit lt. omega (arith, lt)) apart
+      supplied_carries supply untagged 255 both p place saved rules 4 None 0 serves refl formed (λ unit lt. omega (arith, lt)) apart
       (λ block of stands. peeks block stands) own

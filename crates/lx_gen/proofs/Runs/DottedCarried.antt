@@ -176,9 +176,9 @@ module _ (names : Spellings) where
       subst (λ (accept : Accepted). Has (rules accept.rule) (ending_code tagged accept.rule accept.values)) same refl
   rule_stands (suc (suc number)) accept e = absurd cc
 
-  serves : Serves plain_supply tagged 255 dotted (code_of p.blocks) place saved rules 6
+  serves : Serves plain_supply tagged 255 dotted (code_of p.blocks) place saved rules 6 None
   serves = record {
-    states = states_serve;
+    states = λ number lt entered. states_serve number lt;
     choices = record { saved = 1; block = 7 } ∷ [];
     falls = refl;
     none = refl;
@@ -221,5 +221,5 @@ module _ (names : Spellings) where
 
   pub dots_carried : Carries (bytes_piece names dotted_blocks) 0 tagged dotted
   dots_carried =
-      supplied_carries plain_supply tagged 255 dotted p place saved rules 6 serves formed 0 None refl (λ unit lt. omega (arith, lt)) apart
+      supplied_carries plain_supply tagged 255 dotted p place saved rules 6 None 0 serves refl formed (λ unit lt. omega (arith, lt)) apart
       (λ block of stands. peeks block stands) own

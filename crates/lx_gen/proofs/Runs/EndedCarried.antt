@@ -1,6 +1,6 @@
 -- The piece of `"a" ("ba")*` with the end of the stream, refills and stored states carries its automaton, which its blocks serve.
 use Rattle.std.specs.Prelude.{◌≡◌, ◌⊎◌, ℕ, zero, suc, ◌<◌, Bool, true, false, List, [], ◌∷◌, Option, Some, None, nat_le, refl, if◌then◌else◌}
-use Rattle.std.proofs.Common.{sym, subst, arith, inl, inr, leb-true}
+use Rattle.std.proofs.Common.{sym, subst, arith, inl, inr, leb-true, true≢false}
 use Rattle.std.specs.List.{AllByRecursion}
 use Rattle.lx_auto.specs.Automaton.{edge_on, state_of}
 use Rattle.lx_auto.specs.declared.automaton.Edge.{Edge}
@@ -104,9 +104,9 @@ module _ (names : Spellings) where
       (at_end 0 refl second_tree 0 16 11 refl tt (λ unit within some. second_leads unit some) refl (inr (refl, refl)) (16, inr (refl, refl), refl, refl))
   states_serve (suc (suc number)) lt = absurd (omega (arith, lt))
 
-  serves : Serves supply untagged 255 paired (code_of p.blocks) place saved rules 14
+  serves : Serves supply untagged 255 paired (code_of p.blocks) place saved rules 14 (Some 2)
   serves = record {
-    states = states_serve;
+    states = λ number lt entered. states_serve number lt;
     choices = record { saved = 1; block = 15 } ∷ [];
     falls = refl;
     none = refl;
@@ -116,7 +116,8 @@ module _ (names : Spellings) where
   }
 
   serves_entry : ServesEntry supply untagged 255 paired (code_of p.blocks) place saved rules 14 (Some 2) 0
-  serves_entry = at_end 0 refl (first_tree 1) 0 14 2 refl tt (λ unit within some. first_leads 1 unit some) refl refl (17, refl, refl, refl)
+  serves_entry =
+      (λ never. absurd (true≢false never), at_end 0 refl (first_tree 1) 0 14 2 refl tt (λ unit within some. first_leads 1 unit some) refl refl (17, refl, refl, refl))
 
   -- ---- the blocks and statements of the scanner
 
@@ -162,5 +163,5 @@ module _ (names : Spellings) where
 
   pub ended_carried : Carries (ended_piece names) 0 untagged paired
   ended_carried =
-      supplied_carries supply untagged 255 paired p place saved rules 14 serves paired_formed 0 (Some 2) serves_entry (λ unit lt. omega (arith, lt)) apart
+      supplied_carries supply untagged 255 paired p place saved rules 14 (Some 2) 0 serves serves_entry paired_formed (λ unit lt. omega (arith, lt)) apart
       (λ block of stands. peeks block stands) own

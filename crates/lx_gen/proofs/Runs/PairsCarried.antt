@@ -140,9 +140,9 @@ module _ (names : Spellings) where
   states_serve (suc zero) lt = reads (edges_there 1 lt) (by_tests refl second_tree 0 refl tt (λ unit within. second_leads unit))
   states_serve (suc (suc number)) lt = absurd (omega (arith, lt))
 
-  serves : Serves plain_supply untagged 255 paired (code_of p.blocks) place saved rules 4
+  serves : Serves plain_supply untagged 255 paired (code_of p.blocks) place saved rules 4 None
   serves = record {
-    states = states_serve;
+    states = λ number lt entered. states_serve number lt;
     choices = record { saved = 1; block = 5 } ∷ [];
     falls = refl;
     none = refl;
@@ -184,7 +184,7 @@ module _ (names : Spellings) where
 
   pub pairs_carried : Carries (bytes_piece names paired_blocks) 0 untagged paired
   pairs_carried =
-      supplied_carries plain_supply untagged 255 paired p place saved rules 4 serves paired_formed 0 None refl (λ unit lt. omega (arith, lt)) apart
+      supplied_carries plain_supply untagged 255 paired p place saved rules 4 None 0 serves refl paired_formed (λ unit lt. omega (arith, lt)) apart
       (λ block of stands. peeks block stands) own
 
   -- it checks for no units

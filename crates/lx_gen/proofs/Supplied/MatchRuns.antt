@@ -16,13 +16,14 @@ use Rattle.lx_gen.specs.Endings.{Ending, ending_code}
 use Rattle.lx_gen.specs.RightInMode.{AreEnough, AreStoredBy}
 use Rattle.lx_gen.specs.Starts.{machine_with, run_with}
 use Rattle.lx_gen.specs.Stops.{bank_from, last_standing}
-use Rattle.lx_gen.specs.Supplied.{IsTarget, Serves, ServesEntry}
+use Rattle.lx_gen.specs.Supplied.{IsTarget, Serves, ServesEntry, is_entered}
 use Rattle.lx_gen.specs.Supplies.{Supply, entry}
 use Rattle.lx_gen.specs.Told.{told_at}
 use Rattle.lx_gen.proofs.BlockLayouts.StandingCodes.{length-block}
 use Rattle.lx_gen.proofs.Rules.RuleEnds.{ending_run}
 use Rattle.lx_gen.proofs.Runs.PartialRuns.{EndsIn, widen_end}
 use Rattle.lx_gen.proofs.Runs.RunMachines.{machine_at, raised-shift}
+use Rattle.lx_gen.proofs.Supplied.EnteredStates.{entered-edge}
 use Rattle.lx_gen.proofs.Supplied.ReaderClaims.{TellsOrEnds, reader_claim, told_behind}
 use Rattle.lx_gen.proofs.Supplied.ReaderRuns.{reader_code}
 use Rattle.lx_gen.proofs.Supplied.Standings.{HoldsAs, HoldsAs-edge, StandsAt}
@@ -35,12 +36,13 @@ told_from endings cond auto (Some rule) st [] = told_at endings cond rule st.off
 told_from endings cond auto (Some rule) st (unit ∷ w) = told_behind endings cond auto (last_standing auto st (unit ∷ w))
 
 module _ (p : Piece) (x : List ℕ) (start : ℕ) (supply : Supply) (endings : ℕ → Ending) (greatest : ℕ) (auto : Auto) (place saved rules : ℕ → ℕ) (fall : ℕ)
-    (serves : Serves supply endings greatest auto (code_of p.blocks) place saved rules fall) (formed : IsAuto auto)
+    (end_rule : Option ℕ) (begin : ℕ) (serves : Serves supply endings greatest auto (code_of p.blocks) place saved rules fall end_rule)
+    (enters : ServesEntry supply endings greatest auto (code_of p.blocks) place saved rules fall end_rule begin) (formed : IsAuto auto)
     (at_limit : p.eof ≡ supply.eof) (stored : AreStoredBy supply.stored p) (enough : supply.eof ≡ None → AreEnough auto supply.check)
     (first : Option ℕ) (cond : List ℕ) where
   abbrev TellsHere : (lim : ℕ) → Standing → List Stmt → (u kept : Option ℕ) → Bank → List Answer → (told : Ended) → Type 0
   TellsHere lim st code u kept k q told =
-      Tells p x start supply endings greatest auto place saved rules fall serves formed at_limit stored enough first cond lim st code None u kept k q told
+      Tells p x start supply endings greatest auto place saved rules fall end_rule begin serves enters formed at_limit stored enough first cond lim st code None u kept k q told
 
   -- from the entry on, where a rule stands at the end
   module _ (rule block : ℕ) (code : List Stmt) (own : slice_get (code_of p.blocks) block ≡ Some code) (some : IsSome supply.eof)
@@ -54,11 +56,11 @@ module _ (p : Piece) (x : List ℕ) (start : ℕ) (supply : Supply) (endings : �
     entry_claim zero w lim u kept q buffer few h stands = absurd (omega (arith, few))
     entry_claim (suc g) w lim u kept q buffer few h stands =
         reader_claim p x start supply endings greatest auto place saved rules fall
-        (served p x start supply endings greatest auto place saved rules fall serves formed at_limit stored enough first cond) formed at_limit stored
-        (next_code p x start supply endings greatest auto place saved rules fall serves formed at_limit stored enough first cond) first cond
+        (served p x start supply endings greatest auto place saved rules fall end_rule begin serves enters formed at_limit stored enough first cond) formed at_limit stored
+        (next_code p x start supply endings greatest auto place saved rules fall end_rule begin serves enters formed at_limit stored enough first cond) first cond
         (start_with start bank) None bank h entry 0 block (λ end. slice_get (code_of p.blocks) end ≡ Some (ending_code endings rule []))
         (λ to is. (ending_code endings rule [], is)) code own w lim u kept q buffer stands (λ none. absurd (no_none none))
-        (told_from endings cond auto (Some rule) (start_with start bank) w) reader (λ none. absurd (no_none none))
+        (told_from endings cond auto (Some rule) (start_with start bank) w) reader.1 (λ none. absurd (no_none none))
         (λ unit w' e. ap (λ l. told_from endings cond auto (Some rule) (start_with start bank) l) e)
         (λ to next lim' u' kept' q' e is is_next.
         let n = length-block (code_of p.blocks) to (ending_code endings rule []) is in
@@ -70,36 +72,37 @@ module _ (p : Piece) (x : List ℕ) (start : ℕ) (supply : Supply) (endings : �
         (told_at endings cond rule start [])) same (widen_end p x start (3 * statement_count p.blocks) over (omega (arith, n)))))
         (λ lim' u' kept' q' buffer' fewer stands'. entry_claim g w lim' u' kept' q' buffer' (omega (arith, few, fewer)) h stands')
         (λ unit w' edge e code' lim' u' kept' q' buffer' fewer on is stands'.
-        state_claim p x start supply endings greatest auto place saved rules fall serves formed at_limit stored enough first cond
+        state_claim p x start supply endings greatest auto place saved rules fall end_rule begin serves enters formed at_limit stored enough first cond
         (suc (length w' + length q')) w' lim' u' kept' q' buffer' _ _ _ code' (omega arith)
-        (HoldsAs-edge auto (start_with start bank) None bank unit edge formed h on) stands' is)
+        (entered-edge end_rule auto 0 unit edge h.state on) (HoldsAs-edge auto (start_with start bank) None bank unit edge formed h on) stands' is)
 
   -- from any entry on
   module _ (bank : Bank) (h : HoldsAs auto (start_with start bank) None bank) (w : List ℕ) (lim : ℕ) (q : List Answer) (buffer : Buffer)
       (stands : StandsAt p x start supply greatest auto w lim (start_with start bank) q buffer) where
-    entered : (end_rule : Option ℕ) (block : ℕ) → (IsSome end_rule → IsSome supply.eof)
-        → ServesEntry supply endings greatest auto (code_of p.blocks) place saved rules fall end_rule block
+    entered : (given : Option ℕ) (block : ℕ) → end_rule ≡ given → (IsSome given → IsSome supply.eof)
+        → ServesEntry supply endings greatest auto (code_of p.blocks) place saved rules fall given block
         → (code : List Stmt) × (slice_get (code_of p.blocks) block ≡ Some code)
-        × TellsHere lim (start_with start bank) code None None bank q (told_from endings cond auto end_rule (start_with start bank) w)
-    entered None block some same =
-        let code = next_code p x start supply endings greatest auto place saved rules fall serves formed at_limit stored enough first cond 0 h.state in (
+        × TellsHere lim (start_with start bank) code None None bank q (told_from endings cond auto given (start_with start bank) w)
+    entered None block is some same =
+        let code = next_code p x start supply endings greatest auto place saved rules fall end_rule begin serves enters formed at_limit stored enough first cond 0 h.state in (
           code.0,
           ap (λ n. slice_get (code_of p.blocks) n) same ∙ code.1,
-          state_claim p x start supply endings greatest auto place saved rules fall serves formed at_limit stored enough first cond
-              (suc (length w + length q)) w lim None None q buffer (start_with start bank) None bank code.0 (omega arith) h stands code.1,
+          state_claim p x start supply endings greatest auto place saved rules fall end_rule begin serves enters formed at_limit stored enough first cond
+              (suc (length w + length q)) w lim None None q buffer (start_with start bank) None bank code.0 (omega arith)
+              (ap (λ o. is_entered o auto 0) is) h stands code.1,
         )
-    entered (Some rule) block some reader =
+    entered (Some rule) block is some reader =
         let code = reader_code supply endings greatest auto (code_of p.blocks) place saved rules fall entry 0 block
         (λ unit to. IsTarget supply endings greatest auto (code_of p.blocks) place saved rules fall 0 (state_of auto.states 0)
         (edge_on (state_of auto.states 0).edges unit) to) (λ end. slice_get (code_of p.blocks) end ≡ Some (ending_code endings rule []))
-        (λ unit to is. target p x start supply endings greatest auto place saved rules fall serves formed at_limit stored enough first cond 0
-        (edge_on (state_of auto.states 0).edges unit) to h.state is) reader in
+        (λ unit to is. target p x start supply endings greatest auto place saved rules fall end_rule begin serves enters formed at_limit stored enough first cond 0
+        (edge_on (state_of auto.states 0).edges unit) to h.state is) reader.1 in
         (code.0, code.1, entry_claim rule block code.0 code.1 (some refl) reader bank (suc (length q)) w lim None None q buffer (omega arith) h stands)
 
 -- the run of a match under a schedule
 pub match_run : (p : Piece) (x : List ℕ) (start : ℕ) (supply : Supply) (endings : ℕ → Ending) (greatest : ℕ) (auto : Auto) (place saved rules : ℕ → ℕ)
-    (fall : ℕ) → Serves supply endings greatest auto (code_of p.blocks) place saved rules fall → IsAuto auto → p.eof ≡ supply.eof
-    → AreStoredBy supply.stored p → (supply.eof ≡ None → AreEnough auto supply.check) → (cond : List ℕ) (end_rule : Option ℕ) (block : ℕ)
+    (fall : ℕ) (end_rule : Option ℕ) (block : ℕ) → Serves supply endings greatest auto (code_of p.blocks) place saved rules fall end_rule → IsAuto auto
+    → p.eof ≡ supply.eof → AreStoredBy supply.stored p → (supply.eof ≡ None → AreEnough auto supply.check) → (cond : List ℕ)
     → (IsSome end_rule → IsSome supply.eof)
     → ServesEntry supply endings greatest auto (code_of p.blocks) place saved rules fall end_rule block → entry_block p.conds cond ≡ Some block
     → start ≤ length x → AllByRecursion (λ unit. unit ≤ greatest) (drop start x) → (registers : ℕ → Option ℕ) (histories : ℕ → List (Option ℕ))
@@ -108,7 +111,7 @@ pub match_run : (p : Piece) (x : List ℕ) (start : ℕ) (supply : Supply) (endi
     (told_from endings cond auto end_rule (start_with start (bank_from registers histories)) (drop start x))
     (run_with p x start registers histories cond schedule)
 unfolding run_with
-match_run p x start supply endings greatest auto place saved rules fall serves formed at_limit stored enough cond end_rule block some entered_by is_entry le small registers histories schedule legal whole =
+match_run p x start supply endings greatest auto place saved rules fall end_rule block serves formed at_limit stored enough cond some entered_by is_entry le small registers histories schedule legal whole =
     let q : List Answer = schedule.answers in
     let k : Bank = bank_from registers histories in
     let m : Machine = machine_with registers histories start schedule.first cond in
@@ -129,9 +132,9 @@ match_run p x start supply endings greatest auto place saved rules fall serves f
       whole = whole;
       ready = λ none unchecked. suffices-start auto supply.check (schedule.first - start) (enough none) unchecked;
     } in
-    let claim = entered p x start supply endings greatest auto place saved rules fall serves formed at_limit stored enough (registers 0) cond
+    let claim = entered p x start supply endings greatest auto place saved rules fall end_rule block serves entered_by formed at_limit stored enough (registers 0) cond
     (bank_from registers histories) holds (drop start x) schedule.first schedule.answers (record { base = 0; limit = schedule.first; closed = false })
-    stands end_rule block some entered_by in
+    stands end_rule block refl some entered_by in
     let go = claim.2.holds 0 fuel (omega arith) (omega arith) in
     let found : code_at p.blocks (entry_block p.conds cond) ≡ Some claim.0 = ap (λ o. code_at p.blocks o) is_entry ∙ claim.1 in
     let same : m ≡ machine_at start start schedule.first None 0 None (registers 0) k cond [] =

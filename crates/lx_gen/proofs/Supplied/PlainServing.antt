@@ -1,5 +1,5 @@
 -- Blocks that serve an automaton with all units there from the start serve it without a supply, too.
-use Rattle.std.specs.Prelude.{◌≡◌, ℕ, List, [], ◌∷◌, Some, None, slice_get}
+use Rattle.std.specs.Prelude.{◌≡◌, ℕ, List, [], ◌∷◌, Some, None, slice_get, refl}
 use Rattle.std.proofs.Common.{sym, ap, ◌∙◌, subst}
 use Rattle.lx_auto.specs.Automaton.{edge_on, state_of}
 use Rattle.lx_auto.specs.declared.automaton.Auto.{Auto}
@@ -36,9 +36,9 @@ module _ (supply : Supply) (endings : ℕ → Ending) (greatest : ℕ) (auto : A
   plain_state number (reads some (itself none no_check leads)) = serving.itself leads
   plain_state number (reads some (at_end eof is tree next to asked own row leads apart leads_eof last)) = absurd (let e = sym is ∙ none in cc)
 
-  pub plain_serves : Serves supply endings greatest auto blocks place saved rules fall → serving.Serves endings greatest auto blocks place saved rules fall
+  pub plain_serves : Serves supply endings greatest auto blocks place saved rules fall None → serving.Serves endings greatest auto blocks place saved rules fall
   plain_serves serves = record {
-    states = λ number lt. plain_state number (serves.states number lt);
+    states = λ number lt. plain_state number (serves.states number lt refl);
     choices = serves.choices;
     falls = serves.falls;
     none = serves.none;

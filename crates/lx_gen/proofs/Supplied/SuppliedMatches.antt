@@ -57,7 +57,7 @@ module _ (policy : Policy) (enc : Enc) (patterns : List Pattern) (auto : Auto) (
       (match.0, match.1, tells ∙ ap (λ l. told_from endings cond auto None (start_with start bank) l) (sym split) ∙ match.2)
 
   module _ (supply : Supply) (piece : Piece) (place saved rules : ℕ → ℕ) (fall entry : ℕ)
-      (serves : Serves supply endings (greatest_unit enc) auto (code_of piece.blocks) place saved rules fall)
+      (serves : Serves supply endings (greatest_unit enc) auto (code_of piece.blocks) place saved rules fall (end_rule patterns))
       (enters : ServesEntry supply endings (greatest_unit enc) auto (code_of piece.blocks) place saved rules fall (end_rule patterns) entry)
       (some : IsSome (end_rule patterns) → IsSome supply.eof) (is_entry : entry_block piece.conds cond ≡ Some entry) where
     -- without a unit at the end no rule stands there, and the entry is the block of state 0
@@ -73,7 +73,8 @@ module _ (policy : Policy) (enc : Enc) (patterns : List Pattern) (auto : Auto) (
         let lone = lone_entry of.0 (end_rule patterns) refl enters in
         inr (served_right policy enc patterns auto endings piece place saved rules fall cond is
         (record { slashes = ends.slashes; set = ends.set; no_end = lone.0 })
-        (plain_serves supply endings (greatest_unit enc) auto (code_of piece.blocks) place saved rules fall of.0 of.1 serves) of.2
+        (plain_serves supply endings (greatest_unit enc) auto (code_of piece.blocks) place saved rules fall of.0 of.1
+        (subst (λ o. Serves supply endings (greatest_unit enc) auto (code_of piece.blocks) place saved rules fall o) lone.0 serves)) of.2
         (is_entry ∙ ap (λ n. Some n) lone.1) stream start schedule on.0 registers histories le units legal on.1 on.2 empty)
 
     -- in the other modes
@@ -83,8 +84,8 @@ module _ (policy : Policy) (enc : Enc) (patterns : List Pattern) (auto : Auto) (
         → schedule.first ≡ units) where
       mode_right : IsRightInMode policy mode cond enc patterns endings piece
       mode_right stream start schedule registers histories le units legal on empty answered =
-          by (match_run piece stream start supply endings (greatest_unit enc) auto place saved rules fall serves is.fits.formed supplied.eof supplied.stored
-          enough cond (end_rule patterns) entry some enters is_entry le (IsWord-units enc patterns (drop start stream) units) registers histories schedule
+          by (match_run piece stream start supply endings (greatest_unit enc) auto place saved rules fall (end_rule patterns) entry serves is.fits.formed
+          supplied.eof supplied.stored enough cond some enters is_entry le (IsWord-units enc patterns (drop start stream) units) registers histories schedule
           legal (whole (length stream) start schedule legal))
         where
           by : TellsOrEnds piece supply (length stream)
@@ -102,7 +103,7 @@ module _ (policy : Policy) (enc : Enc) (patterns : List Pattern) (auto : Auto) (
 pub supplied_right : (policy : Policy) (mode : Mode) (enc : Enc) (patterns : List Pattern) (auto : Auto) (endings : ℕ → Ending) (supply : Supply)
     (piece : Piece) (place saved rules : ℕ → ℕ) (fall entry : ℕ) (cond : List ℕ)
     → IsAutoUnder policy enc patterns auto → HaveEndings enc patterns endings
-    → Serves supply endings (greatest_unit enc) auto (code_of piece.blocks) place saved rules fall
+    → Serves supply endings (greatest_unit enc) auto (code_of piece.blocks) place saved rules fall (end_rule patterns)
     → ServesEntry supply endings (greatest_unit enc) auto (code_of piece.blocks) place saved rules fall (end_rule patterns) entry
     → (IsSome (end_rule patterns) → IsSome supply.eof) → IsSupplied mode supply auto piece → entry_block piece.conds cond ≡ Some entry
     → IsRightInMode policy mode cond enc patterns endings piece

@@ -1,6 +1,6 @@
 -- Blocks that serve an automaton with a supply run as it does, under every legal schedule, unless a refill or a check ends the run.
-use Rattle.std.specs.Prelude.{◌≡◌, ◌≢◌, ℕ, zero, suc, ◌+◌, ◌-◌, ◌*◌, ◌<◌, ◌≤◌, List, [], ◌∷◌, length, Contains, Option, Some, None, refl, slice_get}
-use Rattle.std.proofs.Common.{inr, sym, ap, subst, arith}
+use Rattle.std.specs.Prelude.{◌≡◌, ◌≢◌, ℕ, zero, suc, ◌+◌, ◌-◌, ◌*◌, ◌<◌, ◌≤◌, Bool, true, false, List, [], ◌∷◌, length, Contains, Option, Some, None, refl, slice_get}
+use Rattle.std.proofs.Common.{inr, sym, ap, ◌∙◌, subst, arith}
 use Rattle.lx_auto.specs.Automaton.{IsAuto, edge_on, state_of}
 use Rattle.lx_auto.specs.Bank.{Bank}
 use Rattle.lx_auto.specs.Run.{Left, Standing, by_edge}
@@ -14,16 +14,17 @@ use Rattle.lx_ccode.specs.Runs.{Ended}
 use Rattle.lx_ccode.specs.Schedules.{Buffer}
 use Rattle.lx_ccode.specs.Statements.{code_of, statement_count}
 use Rattle.lx_fill.specs.Checks.{Reads, Suffices, ends as reads_none, goes_on as reads_on, graph_of, meets as reads_last, stops as reads_one}
-use Rattle.lx_gen.specs.Endings.{Ending}
+use Rattle.lx_gen.specs.Endings.{Ending, ending_code}
 use Rattle.lx_gen.specs.RightInMode.{AreEnough, AreStoredBy}
 use Rattle.lx_gen.specs.Serving as serving
 use Rattle.lx_gen.specs.Stops.{last_standing, or_here}
-use Rattle.lx_gen.specs.Supplied.{IsEnd, IsTarget, Serves, ServesState, ends, goes, reads}
-use Rattle.lx_gen.specs.Supplies.{Supply, state}
+use Rattle.lx_gen.specs.Supplied.{IsEnd, IsTarget, Serves, ServesEntry, ServesState, ends, goes, is_entered, reads}
+use Rattle.lx_gen.specs.Supplies.{Supply, entry, state}
 use Rattle.lx_gen.proofs.BlockLayouts.StandingCodes.{length-block}
 use Rattle.lx_gen.proofs.Runs.BlockRuns.{ServeEnds, stop_run, target_code}
 use Rattle.lx_gen.proofs.Runs.PartialRuns.{EndsIn, end_in, step_in, widen_end}
 use Rattle.lx_gen.proofs.Supplied.Claims.{ends_so}
+use Rattle.lx_gen.proofs.Supplied.EnteredStates.{behind_entry, entered-edge}
 use Rattle.lx_gen.proofs.Supplied.ReaderClaims.{Claims, TellsOrEnds, mach, reader_claim, told_behind}
 use Rattle.lx_gen.proofs.Supplied.ReaderRuns.{reader_code}
 use Rattle.lx_gen.proofs.Supplied.Standings.{HoldsAs, HoldsAs-edge, StandsAt, suffices-more, suffices-one}
@@ -58,7 +59,8 @@ suffices-start auto check units enough unchecked = by (graph_of auto 0) refl
         absurd (enough.start some unchecked)
 
 module _ (p : Piece) (x : List ℕ) (start : ℕ) (supply : Supply) (endings : ℕ → Ending) (greatest : ℕ) (auto : Auto) (place saved rules : ℕ → ℕ) (fall : ℕ)
-    (serves : Serves supply endings greatest auto (code_of p.blocks) place saved rules fall) (formed : IsAuto auto)
+    (end_rule : Option ℕ) (begin : ℕ) (serves : Serves supply endings greatest auto (code_of p.blocks) place saved rules fall end_rule)
+    (enters : ServesEntry supply endings greatest auto (code_of p.blocks) place saved rules fall end_rule begin) (formed : IsAuto auto)
     (at_limit : p.eof ≡ supply.eof) (stored : AreStoredBy supply.stored p) (enough : supply.eof ≡ None → AreEnough auto supply.check)
     (first : Option ℕ) (cond : List ℕ) where
   abbrev pub served : ServeEnds endings greatest auto (code_of p.blocks) place saved rules fall
@@ -69,9 +71,18 @@ module _ (p : Piece) (x : List ℕ) (start : ℕ) (supply : Supply) (endings : �
       → (next : List Stmt) × (slice_get (code_of p.blocks) to ≡ Some next)
   target number o to lt is = target_code p x start endings greatest auto place saved rules fall served formed first cond 0 None number o to lt is
 
-  -- each state has a block
+  -- the entry has a block, where it stands apart
+  entry_code : (rule block : ℕ) → ServesEntry supply endings greatest auto (code_of p.blocks) place saved rules fall (Some rule) block
+      → (code : List Stmt) × (slice_get (code_of p.blocks) block ≡ Some code)
+  entry_code rule block reader =
+      reader_code supply endings greatest auto (code_of p.blocks) place saved rules fall entry 0 block
+      (λ unit to. IsTarget supply endings greatest auto (code_of p.blocks) place saved rules fall 0 (state_of auto.states 0)
+      (edge_on (state_of auto.states 0).edges unit) to) (λ end. slice_get (code_of p.blocks) end ≡ Some (ending_code endings rule []))
+      (λ unit to is. target 0 (edge_on (state_of auto.states 0).edges unit) to formed.start is) reader.1
+
+  -- so has each state; one to which no match comes has the entry's
   pub next_code : (number : ℕ) → number < length auto.states → (code : List Stmt) × (slice_get (code_of p.blocks) (place number) ≡ Some code)
-  next_code number lt = by (serves.states number lt)
+  next_code number lt = by_entry (is_entered end_rule auto number) refl
     where
       by : ServesState supply endings greatest auto (code_of p.blocks) place saved rules fall number (state_of auto.states number)
           → (code : List Stmt) × (slice_get (code_of p.blocks) (place number) ≡ Some code)
@@ -83,6 +94,15 @@ module _ (p : Piece) (x : List ℕ) (start : ℕ) (supply : Supply) (endings : �
           (edge_on (state_of auto.states number).edges unit) block)
           (IsEnd supply endings greatest auto (code_of p.blocks) place saved rules fall (state_of auto.states number).accept)
           (λ unit to is. target number (edge_on (state_of auto.states number).edges unit) to lt is) reader
+
+      by_entry : (t : Bool) → is_entered end_rule auto number ≡ t
+          → (code : List Stmt) × (slice_get (code_of p.blocks) (place number) ≡ Some code)
+      by_entry true entered = by (serves.states number lt entered)
+      by_entry false never =
+          let behind = behind_entry end_rule auto number never in
+          let apart = subst (λ o. ServesEntry supply endings greatest auto (code_of p.blocks) place saved rules fall o begin) behind.some enters in
+          let code = entry_code behind.rule begin apart in
+          (code.0, ap (λ n. slice_get (code_of p.blocks) (place n)) behind.zeroth ∙ ap (λ n. slice_get (code_of p.blocks) n) (apart.0 behind.never) ∙ code.1)
 
   abbrev pub at : (pos lim : ℕ) → Option Left → (u kept : Option ℕ) → Bank → Machine
   at pos lim held u kept k = mach p x start supply endings greatest auto place saved rules fall served formed at_limit stored next_code first cond pos lim held u kept k
@@ -121,12 +141,13 @@ module _ (p : Piece) (x : List ℕ) (start : ℕ) (supply : Supply) (endings : �
   abbrev pub FromState : (g : ℕ) → Type 0
   FromState g =
       (w : List ℕ) (lim : ℕ) (u kept : Option ℕ) (q : List Answer) (buffer : Buffer) (st : Standing) (held : Option Left) (k : Bank) (code : List Stmt)
-      → length w + length q < g → HoldsAs auto st held k → StandsOn w lim st q buffer → slice_get (code_of p.blocks) (place st.state) ≡ Some code
+      → length w + length q < g → is_entered end_rule auto st.state ≡ true → HoldsAs auto st held k → StandsOn w lim st q buffer → slice_get (code_of p.blocks) (place st.state) ≡ Some code
       → Tells lim st code held u kept k q (told_on st w)
 
   pub state_claim : (g : ℕ) → FromState g
-  state_claim zero w lim u kept q buffer st held k code few h stands own = absurd (omega (arith, few))
-  state_claim (suc g) w lim u kept q buffer st held k code few h stands own = by (serves.states st.state h.state) (state_claim g)
+  state_claim zero w lim u kept q buffer st held k code few entered h stands own = absurd (omega (arith, few))
+  state_claim (suc g) w lim u kept q buffer st held k code few entered h stands own =
+      by (serves.states st.state h.state entered) (state_claim g)
     where
       by : ServesState supply endings greatest auto (code_of p.blocks) place saved rules fall st.state (state_of auto.states st.state) → FromState g
           → Tells lim st code held u kept k q (told_on st w)
@@ -151,10 +172,11 @@ module _ (p : Piece) (x : List ℕ) (start : ℕ) (supply : Supply) (endings : �
           (λ to next lim' u' kept' q' e is is_next.
           subst (λ l. EndsIn p x start (3 * statement_count p.blocks) next (at st.offset lim' held u' kept' k) q' (told_on st l)) (sym e)
           (end_run st held k h to lim' u' kept' q' next is is_next))
-          (λ lim' u' kept' q' buffer' fewer stands'. later w lim' u' kept' q' buffer' st held k code (omega (arith, few, fewer)) h stands' own)
+          (λ lim' u' kept' q' buffer' fewer stands'. later w lim' u' kept' q' buffer' st held k code (omega (arith, few, fewer)) entered h stands' own)
           (λ unit w' edge e code' lim' u' kept' q' buffer' fewer on is stands'.
           let n = ap length e in
-          later w' lim' u' kept' q' buffer' _ _ _ code' (omega (arith, few, fewer, n)) (HoldsAs-edge auto st held k unit edge formed h on) stands' is)
+          later w' lim' u' kept' q' buffer' _ _ _ code' (omega (arith, few, fewer, n))
+          (entered-edge end_rule auto st.state unit edge h.state on) (HoldsAs-edge auto st held k unit edge formed h on) stands' is)
         where
           there : supply.eof ≡ None → supply.check st.state ≡ 0 → st.offset < lim
           there none unchecked =

@@ -27,7 +27,7 @@ module _ (n : ℕ) where
     pub jumps : AllByRecursion (JumpsBelow n) code
 
   -- with one statement more in front
-  more : (statement : Stmt) (code : List Stmt) → is_ending statement ≡ false → JumpsBelow n statement → Fits code → Fits (statement ∷ code)
+  pub more : (statement : Stmt) (code : List Stmt) → is_ending statement ≡ false → JumpsBelow n statement → Fits code → Fits (statement ∷ code)
   more statement [] goes below fits = absurd (true≢false (sym fits.ends))
   more statement (next ∷ code) goes below fits = record {
     ends = ap (λ t. if t then false else ends_once (next ∷ code)) goes ∙ fits.ends;

@@ -29,11 +29,11 @@ use Rattle.lx_gen.proofs.BlockLayouts.ClassLists.{has_class-last, has_class-onto
 -- ---- transition classes
 
 -- each edge's class is found
-abbrev HaveClasses : List Edge → List Edge → Type 0
+abbrev pub HaveClasses : List Edge → List Edge → Type 0
 HaveClasses classes [] = Unit {0}
 HaveClasses classes (edge ∷ edges) = (has_class classes edge ≡ true) × HaveClasses classes edges
 
-HaveClasses-onto : (edges found : List Edge) → HaveClasses (classes_onto found edges) edges
+pub HaveClasses-onto : (edges found : List Edge) → HaveClasses (classes_onto found edges) edges
 HaveClasses-onto [] found = tt
 HaveClasses-onto (edge ∷ edges) found = by (has_class found edge) refl (λ classes. HaveClasses-onto edges classes)
   where
@@ -43,14 +43,14 @@ HaveClasses-onto (edge ∷ edges) found = by (has_class found edge) refl (λ cla
     by false e again = (has_class-onto edges (found ++ edge ∷ []) edge (has_class-last found edge), again (found ++ edge ∷ []))
 
 -- a class is one of so many, if there is one
-abbrev IsClass : (count : ℕ) → Option ℕ → Type 0
+abbrev pub IsClass : (count : ℕ) → Option ℕ → Type 0
 IsClass count None = Unit {0}
 IsClass count (Some place) = place < count
 
-abbrev AreClasses : (count : ℕ) → List Stretch → Type 0
+abbrev pub AreClasses : (count : ℕ) → List Stretch → Type 0
 AreClasses count list = AllByRecursion (λ (stretch : Stretch). IsClass count stretch.class) list
 
-AreClasses-stretches : (classes : List Edge) (low : ℕ) (edges : List Edge) → HaveClasses classes edges → AreClasses (length classes) (stretches classes low edges)
+pub AreClasses-stretches : (classes : List Edge) (low : ℕ) (edges : List Edge) → HaveClasses classes edges → AreClasses (length classes) (stretches classes low edges)
 AreClasses-stretches classes low [] h = tt
 AreClasses-stretches classes low (edge ∷ edges) h = by (nat_lt low edge.lo) (AreClasses-stretches classes (edge.hi + 1) edges h.1)
   where
@@ -67,7 +67,7 @@ AreClasses-stretches classes low (edge ∷ edges) h = by (nat_lt low edge.lo) (A
     by true again = (tt, (own, again))
     by false again = (own, again)
 
-AreClasses-split_of : (count greatest : ℕ) (list : List Stretch) → AreClasses count list
+pub AreClasses-split_of : (count greatest : ℕ) (list : List Stretch) → AreClasses count list
     → AreClasses count (split_of greatest list).tests × IsClass count (split_of greatest list).last
 AreClasses-split_of count greatest [] h = (tt, tt)
 AreClasses-split_of count greatest (stretch ∷ list) h = by (nat_le greatest stretch.greatest) (AreClasses-split_of count greatest list h.1)
@@ -258,11 +258,11 @@ jumps-append : (n : ℕ) (a b : List Stmt) → AllByRecursion (JumpsBelow n) a �
 jumps-append n [] b h g = g
 jumps-append n (statement ∷ a) b h g = (h.0, jumps-append n a b h.1 g)
 
-fit_jumps : (n : ℕ) (blocks : List CodeBlock) → AllFit n (code_of blocks) → AllByRecursion (JumpsBelow n) (all_statements blocks)
+pub fit_jumps : (n : ℕ) (blocks : List CodeBlock) → AllFit n (code_of blocks) → AllByRecursion (JumpsBelow n) (all_statements blocks)
 fit_jumps n [] h = tt
 fit_jumps n (block ∷ blocks) h = jumps-append n block.stmts (all_statements blocks) h.0.jumps (fit_jumps n blocks h.1)
 
-fit_ends : (n : ℕ) (blocks : List CodeBlock) → AllFit n (code_of blocks) → AllByRecursion (λ (block : CodeBlock). ends_once block.stmts ≡ true) blocks
+pub fit_ends : (n : ℕ) (blocks : List CodeBlock) → AllFit n (code_of blocks) → AllByRecursion (λ (block : CodeBlock). ends_once block.stmts ≡ true) blocks
 fit_ends n [] h = tt
 fit_ends n (block ∷ blocks) h = (h.0.ends, fit_ends n blocks h.1)
 

@@ -62,13 +62,13 @@ save_plain : (saves : Bool) (saved : ℕ) (rest : List Stmt) → Plain rest → 
 save_plain false saved rest h = h
 save_plain true saved rest h = (refl, (refl, h))
 
-edge_plain : (auto : Auto) (state : State) (saved : ℕ) (edge : Edge) (block : ℕ) → Plain (edge_code auto state saved edge block)
+pub edge_plain : (auto : Auto) (state : State) (saved : ℕ) (edge : Edge) (block : ℕ) → Plain (edge_code auto state saved edge block)
 edge_plain auto state saved edge block =
     save_plain (saves_on auto.states state edge) saved (list_code auto state.leave (list_code auto edge.ops (Skip ∷ Goto block ∷ [])))
     (list_plain auto state.leave (list_code auto edge.ops (Skip ∷ Goto block ∷ []))
     (list_plain auto edge.ops (Skip ∷ Goto block ∷ []) (refl, (refl, tt))))
 
-accept_plain : (auto : Auto) (ops : List Op) (block : ℕ) → Plain (accept_code auto ops block)
+pub accept_plain : (auto : Auto) (ops : List Op) (block : ℕ) → Plain (accept_code auto ops block)
 accept_plain auto ops block = list_plain auto ops (Goto block ∷ []) (refl, tt)
 
 -- ---- the blocks of the states

@@ -16,14 +16,14 @@ use Rattle.lx_gen.specs.TestTrees.{TestTree}
 use Rattle.lx_gen.proofs.Validity.PlainCodes.{Plain, PlainAll, choices_plain, is_plain, restores_plain, rule-before, states_plain}
 
 -- no statement asks for a refill or stores a state
-abbrev IsQuiet : Stmt → Type 0
+abbrev pub IsQuiet : Stmt → Type 0
 IsQuiet statement = (is_refill statement ≡ false) × (is_state statement ≡ false)
 
-abbrev Quiet : List Stmt → Type 0
+abbrev pub Quiet : List Stmt → Type 0
 Quiet [] = Unit {0}
 Quiet (statement ∷ code) = IsQuiet statement × Quiet code
 
-abbrev QuietAll : List (List Stmt) → Type 0
+abbrev pub QuietAll : List (List Stmt) → Type 0
 QuietAll [] = Unit {0}
 QuietAll (code ∷ codes) = Quiet code × QuietAll codes
 
@@ -39,7 +39,7 @@ plain-state _ e = refl
 quiet-plain : (statement : Stmt) (code : List Stmt) → is_plain statement ≡ true → Quiet code → Quiet (statement ∷ code)
 quiet-plain statement code e h = ((plain-refill statement e, plain-state statement e), h)
 
-Quiet-plain : (code : List Stmt) → Plain code → Quiet code
+pub Quiet-plain : (code : List Stmt) → Plain code → Quiet code
 Quiet-plain [] h = tt
 Quiet-plain (statement ∷ code) h = quiet-plain statement code h.0 (Quiet-plain code h.1)
 
@@ -59,7 +59,7 @@ last_code_quiet : (endings : ℕ → Ending) (rule : ℕ) → Quiet (last_code e
 last_code_quiet endings rule =
     cond_quiet (endings rule).goes_to (action_code rule (endings rule) (endings rule).action) (action_quiet rule (endings rule) (endings rule).action)
 
-ending_quiet : (endings : ℕ → Ending) (rule : ℕ) (values : List Held) → Quiet (ending_code endings rule values)
+pub ending_quiet : (endings : ℕ → Ending) (rule : ℕ) (values : List Held) → Quiet (ending_code endings rule values)
 ending_quiet endings rule values = rule-before Quiet quiet-plain endings rule values (last_code endings rule) (last_code_quiet endings rule)
 
 endings_quiet : (endings : ℕ → Ending) (accepts : List Accept) → QuietAll (ending_blocks endings accepts)
@@ -89,7 +89,7 @@ any_quiet (statement ∷ code) rest h g =
     let again = any_quiet code rest h.1 g in
     (ap (λ t. t || list_any is_refill (code ++ rest)) h.0.0 ∙ again.0, ap (λ t. t || list_any is_state (code ++ rest)) h.0.1 ∙ again.1)
 
-all_quiet : (blocks : List CodeBlock) → QuietAll (code_of blocks)
+pub all_quiet : (blocks : List CodeBlock) → QuietAll (code_of blocks)
     → (list_any is_refill (all_statements blocks) ≡ false) × (list_any is_state (all_statements blocks) ≡ false)
 all_quiet [] h = (refl, refl)
 all_quiet (block ∷ blocks) h = any_quiet block.stmts (all_statements blocks) h.0 (all_quiet blocks h.1)

@@ -3,4 +3,4 @@ use Rattle.lx_gen.proofs.laws.supplied_pieces_carry_automata.Goals as goal
 
 pub returns : goal.returns
 returns c piece entry endings greatest auto supply place saved rules fall end_rule serves serves_entry formed eof within apart peeks own =
-    supplied_carries supply endings greatest auto piece place saved rules fall serves formed entry end_rule serves_entry within apart peeks own
+    supplied_carries supply endings greatest auto piece place saved rules fall end_rule entry serves serves_entry formed within apart peeks own
