@@ -11,7 +11,7 @@ use std::marker::Model;
 ///
 /// A register holds an offset or none. An m-register holds a history, which is a list of such values. Both are counted
 /// from 0, each sort by itself. The m-register 0 is never written, so its history is always empty.
-#[derive(Clone, Copy, PartialEq, Eq)]
+#[derive(Clone, Copy, PartialEq, Eq, Hash)]
 pub enum Op {
     /// The register with this number gets the offset.
     Here(u32),

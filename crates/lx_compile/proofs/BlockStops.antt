@@ -1,6 +1,5 @@
 -- The faults of one block.
-use Rattle.std.proofs.Common.{◌≡◌, ℕ, Bool, true, false, List, Option, None, Some, Ok, refl}
-use Rattle.std.specs.Prelude.{◌↔◌, ◌&&◌, IsTrue, is_none, not}
+use Rattle.std.proofs.Common.{◌≡◌, ℕ, List, Ok}
 use Rattle.lx_base.specs.declared.blocks.BlockKind.{BlockKind}
 use Rattle.lx_base.specs.declared.blocks.BlockKind.TheVariants.{Code}
 use Rattle.lx_base.specs.declared.faults.Stop.{Stop}
@@ -30,14 +29,3 @@ module _ (options : Options) (environment : Environment) (kind : BlockKind) (bod
       → StopsRules options Code at environment (lexemes_of body tokens) items stopped → StopsAt options environment kind body at start stopped
   StopsAt-rules tokens items stop.Memory read stops = stops
   StopsAt-rules tokens items (stop.Fault fault) read stops = refused tokens items code read stops
-
--- a scanner is supported where four tests find nothing
-pub supported-tests : (fill : Bool) (eof : Option ℕ) (beyond : Bool) (cond : Option (List ℕ))
-    → IsTrue (not fill && (is_none eof && (not beyond && is_none cond))) ↔ ((fill ≡ false) × (eof ≡ None) × (beyond ≡ false) × (cond ≡ None))
-supported-tests false None false None = (λ _. (refl, refl, refl, refl), λ _. refl)
-supported-tests false None false (Some cond) =
-    (λ is. absurd (let h : false ≡ true = is in cc), λ all. absurd (let h : Some cond ≡ None = all.3 in cc))
-supported-tests false None true cond = (λ is. absurd (let h : false ≡ true = is in cc), λ all. absurd (let h : true ≡ false = all.2 in cc))
-supported-tests false (Some unit) beyond cond =
-    (λ is. absurd (let h : false ≡ true = is in cc), λ all. absurd (let h : Some unit ≡ None = all.1 in cc))
-supported-tests true eof beyond cond = (λ is. absurd (let h : false ≡ true = is in cc), λ all. absurd (let h : true ≡ false = all.0 in cc))

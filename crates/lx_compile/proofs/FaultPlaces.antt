@@ -23,7 +23,7 @@ use Rattle.lx_base.specs.Places.{file_start, place_after}
 use Rattle.lx_token.specs.Spans.{EachStands}
 use Rattle.lx_token.specs.declared.list.Token.{Token}
 use Rattle.lx_token.proofs.Walk.{tokens_stand, fault_is_bad_token}
-use Rattle.lx_compile.specs.Blocks.{IsFaultOf, other_kind, no_token, no_items, refused, unsupported}
+use Rattle.lx_compile.specs.Blocks.{IsFaultOf, other_kind, no_token, no_items, refused}
 use Rattle.lx_compile.specs.FirstFault.{IsFaultOfPieces, IsFirstFault, StopsWith}
 use Rattle.lx_compile.specs.FirstFault.{IsFaultOfSource as IsFaultWithin}
 use Rattle.lx_compile.specs.Parts.{AreParts, IsFaultAmong, IsKernelFault}
@@ -63,8 +63,6 @@ block-in_first options environment kind body at start fault (refused tokens item
       | inl stands ↦ subst (λ file. StandsIn file fault) places.at_in stands
       | inr target ↦ absurd target
     ]
-block-in_first options environment kind body at start fault (unsupported after resolved code resolves not_supported is) places =
-    in_first fault _ is places.at_in
 
 among-in_first : (options : Options) (environment : Environment) (pieces : List SourcePiece) (fault : Fault)
     → IsFaultAmong options environment pieces fault → AllByRecursion IsPieceInFile pieces → StandsInFirst fault

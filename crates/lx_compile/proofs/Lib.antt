@@ -1,8 +1,8 @@
 pub mod ActionSlices
-pub mod ActionTexts
+pub mod ScannerRuns
 pub mod BlockStops
-pub mod OneScanner
-pub mod ScannerRules
+pub mod UnmarkedTexts
+pub mod PieceActions
 pub mod OutputCuts
 pub mod OutsideTexts
 pub mod PiecePlaces

@@ -1,7 +1,6 @@
 -- A source has one first fault, or none.
 use Rattle.std.proofs.Common.{◌≡◌, ℕ, zero, suc, ◌<◌, ◌≤◌, ◌⊎◌, Bool, true, false, List, [], ◌∷◌, ◌++◌, length, take, drop, Option, Some, None, Ok, Err, refl, sym, ap, subst, inl, inr, ◌∙◌, arith, append_assoc, append-nil}
 use Rattle.std.specs.Prelude.{nat_lt}
-use Rattle.std.specs.List.{AllByRecursion, list_any}
 use Rattle.std.proofs.lemmas.Bool.{cases_lt}
 use Rattle.std.proofs.lemmas.List.{drop_all, take_all}
 use Rattle.std.proofs.Math.Nat.{le_antisymm}
@@ -22,7 +21,6 @@ use Rattle.lx_regex.specs.Pattern.{Pattern, terms_of}
 use Rattle.lx_rules.specs.Blocks.{IsBlockFault, Resolves, of_scanners}
 use Rattle.lx_rules.specs.Environments.{Environment, first_environment}
 use Rattle.lx_forms.specs.Lexemes.{lexemes_of}
-use Rattle.lx_rules.specs.declared.resolved.Config.{Config}
 use Rattle.lx_rules.specs.declared.resolved.Resolved.{Resolved}
 use Rattle.lx_rules.specs.declared.resolved.Scanner.{Scanner}
 use Rattle.lx_split.specs.Pieces.{Split, pieces_of}
@@ -30,7 +28,7 @@ use Rattle.lx_split.specs.declared.pieces.SourcePiece.{SourcePiece}
 use Rattle.lx_split.specs.declared.pieces.SourcePiece.TheVariants as piece
 use Rattle.lx_token.specs.Tokens.{tokens_of}
 use Rattle.lx_token.specs.declared.list.Token.{Token}
-use Rattle.lx_compile.specs.Blocks.{AreSupported, IsSupported, is_beyond, IsBlock, IsFaultOf, IsRead, IsResolvedBody, no_items, no_token, other_kind, refused, unsupported}
+use Rattle.lx_compile.specs.Blocks.{IsBlock, IsFaultOf, IsRead, IsResolvedBody, no_items, no_token, other_kind, refused}
 use Rattle.lx_compile.specs.FirstFault.{IsFaultBehind, IsFaultOfBlocks, IsFaultOfPieces, IsFaultOfSource, IsFirstFault}
 use Rattle.lx_compile.specs.Parts.{AreParts, HasTooLarge, IsFaultAmong, IsKernelFault}
 use Rattle.lx_compile.specs.declared.parts.Part.{Part}
@@ -117,26 +115,6 @@ module _ (body : List ℕ) (start : Pos) (tokens : List Token) where
 
 -- ---- what blocks resolve to
 
--- what is alike is supported, or is not
-supported-alike : (config other_config : Config) (scanners others : List Scanner) → config ≡ other_config → HaveSameRules scanners others
-    → AllByRecursion (IsSupported config) scanners → AllByRecursion (IsSupported other_config) others
-supported-alike config other_config [] [] is same are = tt
-supported-alike config other_config [] (other ∷ others) is same are = absurd same
-supported-alike config other_config (scanner ∷ scanners) [] is same are = absurd same
-supported-alike config other_config (scanner ∷ scanners) (other ∷ others) is same are = (
-  (
-    ap (λ (c : Config). c.fill) (sym is) ∙ are.0.0,
-    ap (λ (c : Config). c.eof) (sym is) ∙ are.0.1,
-    ap (list_any is_beyond) (sym same.0.1) ∙ are.0.2,
-    sym same.0.0 ∙ are.0.3,
-  ),
-  supported-alike config other_config scanners others is same.1 are.1,
-)
-
-AreSupported-alike : (resolved other : Resolved) → AreAlike resolved other → AreSupported resolved → AreSupported other
-AreSupported-alike resolved other alike are =
-    supported-alike resolved.config other.config resolved.scanners other.scanners alike.config alike.scanners are
-
 -- what is alike has too many kernels, or has not
 too_large-alike : (enc : Enc) (scanners others : List Scanner) → HaveSameRules scanners others → HasTooLarge enc scanners → HasTooLarge enc others
 too_large-alike enc [] others same large = absurd large
@@ -195,7 +173,7 @@ module _ (options : Options) where
         let same : others ≡ tokens = let found = sym are ∙ read.tokens_are in cc in
         read_or_not body start tokens items fault read.items_are (subst (λ (list : List Token). IsSyntaxFault Code body start list fault) same syntax)
 
-    -- a block that resolves, and is supported, has no fault
+    -- a block that resolves has no fault
     block_or_not : (after : Environment) (resolved : Resolved) (fault : Fault) → IsBlock options environment kind body at start after resolved
         → IsFaultOf options environment kind body at start fault → ⊥
     block_or_not after resolved fault is (other_kind other fault_is) = other is.kind_is
@@ -204,8 +182,6 @@ module _ (options : Options) where
         items_or_not is.resolves.tokens tokens is.resolves.items fault is.resolves.read are syntax
     block_or_not after resolved fault is (refused tokens items code read found) =
         body_or_not after resolved tokens items fault is.resolves read found
-    block_or_not after resolved fault is (unsupported other another code resolves not_supported fault_is) =
-        not_supported (AreSupported-alike resolved another (body-one after other resolved another is.resolves resolves).1 is.supported)
 
     -- a block has one fault, if it has one
     fault-one : (fault other : Fault) → IsFaultOf options environment kind body at start fault → IsFaultOf options environment kind body at start other → fault ≡ other
@@ -213,13 +189,10 @@ module _ (options : Options) where
     fault-one fault other (other_kind not_code is) (no_token code none) = absurd (not_code code)
     fault-one fault other (other_kind not_code is) (no_items tokens code are syntax) = absurd (not_code code)
     fault-one fault other (other_kind not_code is) (refused tokens items code read found) = absurd (not_code code)
-    fault-one fault other (other_kind not_code is) (unsupported after resolved code resolves not_supported is_other) = absurd (not_code code)
     fault-one fault other (no_token code none) (other_kind not_code is) = absurd (not_code code)
     fault-one fault other (no_token code none) (no_token code_other none_other) = let found = sym none ∙ none_other in cc
     fault-one fault other (no_token code none) (no_items tokens code_other are syntax) = absurd (tokens_or_not tokens fault are none)
     fault-one fault other (no_token code none) (refused tokens items code_other read found) = absurd (tokens_or_not tokens fault read.tokens_are none)
-    fault-one fault other (no_token code none) (unsupported after resolved code_other resolves not_supported is) =
-        absurd (tokens_or_not resolves.tokens fault resolves.read.tokens_are none)
     fault-one fault other (no_items tokens code are syntax) (other_kind not_code is) = absurd (not_code code)
     fault-one fault other (no_items tokens code are syntax) (no_token code_other none) = absurd (tokens_or_not tokens other are none)
     fault-one fault other (no_items tokens code are syntax) (no_items others code_other are_other syntax_other) =
@@ -227,8 +200,6 @@ module _ (options : Options) where
         syntax-one body start tokens fault other syntax (subst (λ (list : List Token). IsSyntaxFault Code body start list other) same syntax_other)
     fault-one fault other (no_items tokens code are syntax) (refused others items code_other read found) =
         absurd (items_or_not others tokens items fault read are syntax)
-    fault-one fault other (no_items tokens code are syntax) (unsupported after resolved code_other resolves not_supported is) =
-        absurd (items_or_not resolves.tokens tokens resolves.items fault resolves.read are syntax)
     fault-one fault other (refused tokens items code read found) (other_kind not_code is) = absurd (not_code code)
     fault-one fault other (refused tokens items code read found) (no_token code_other none) = absurd (tokens_or_not tokens other read.tokens_are none)
     fault-one fault other (refused tokens items code read found) (no_items others code_other are syntax) =
@@ -236,17 +207,6 @@ module _ (options : Options) where
     fault-one fault other (refused tokens items code read found) (refused others another code_other read_other found_other) =
         IsBlockFault-one options (lexemes_of body tokens) at environment items Code of_scanners fault other found
         (resolves-again read read_other (λ tokens items. IsBlockFault options Code at environment (lexemes_of body tokens) items other) found_other)
-    fault-one fault other (refused tokens items code read found) (unsupported after resolved code_other resolves not_supported is) =
-        absurd (body_or_not after resolved tokens items fault resolves read found)
-    fault-one fault other (unsupported after resolved code resolves not_supported is) (other_kind not_code is_other) = absurd (not_code code)
-    fault-one fault other (unsupported after resolved code resolves not_supported is) (no_token code_other none) =
-        absurd (tokens_or_not resolves.tokens other resolves.read.tokens_are none)
-    fault-one fault other (unsupported after resolved code resolves not_supported is) (no_items tokens code_other are syntax) =
-        absurd (items_or_not resolves.tokens tokens resolves.items other resolves.read are syntax)
-    fault-one fault other (unsupported after resolved code resolves not_supported is) (refused tokens items code_other read found) =
-        absurd (body_or_not after resolved tokens items other resolves read found)
-    fault-one fault other (unsupported after resolved code resolves not_supported is) (unsupported after_other another code_other resolves_other not_supported_other is_other) =
-        is ∙ sym is_other
 
   -- ---- sources
 

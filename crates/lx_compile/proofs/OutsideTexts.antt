@@ -28,7 +28,7 @@ pieces_of-outside options source pieces none are = by (mark_place (file_start 0)
 
 -- texts of outside text are that text
 texts-outside : (options : Options) (source output : List ℕ) (parts : List Part) → AreParts options first_environment (outside source) parts
-    → AreTexts options.enc options.custom 1 parts output → output ≡ source
+    → AreTexts options 1 0 parts output → output ≡ source
 texts-outside options [] output [] are texts = texts
 texts-outside options [] output (part ∷ parts) are texts = absurd are
 texts-outside options (letter ∷ source) output [] are texts = absurd are

@@ -23,7 +23,7 @@ use Rattle.lx_split.specs.declared.pieces.SourcePiece.{SourcePiece}
 use Rattle.lx_split.specs.declared.pieces.SourcePiece.TheVariants as piece
 use Rattle.lx_token.specs.Tokens.{tokens_of}
 use Rattle.lx_token.specs.declared.list.Token.{Token}
-use Rattle.lx_compile.specs.Blocks.{AreSupported, IsBlock, IsFaultOf, IsRead, IsResolvedBody, no_items, no_token, other_kind, refused, unsupported}
+use Rattle.lx_compile.specs.Blocks.{IsBlock, IsFaultOf, IsRead, no_items, no_token, other_kind, refused}
 use Rattle.lx_compile.specs.Emittable.{IsNearPiece}
 use Rattle.lx_compile.specs.FirstFault.{IsFaultOfBlocks, IsFaultOfPieces, IsFaultOfSource, IsFirstFault}
 use Rattle.lx_compile.specs.Parts.{AreParts, HasTooLarge, IsFaultAmong, IsKernelFault}
@@ -49,20 +49,13 @@ module _ (options : Options) where
   module _ (environment : Environment) (kind : BlockKind) (body : List ℕ) (at start : Pos) (stands : StandsUnder options environment)
       (no_block : (after : Environment) (resolved : Resolved) → IsBlock options environment kind body at start after resolved → ⊥)
       (no_fault : (fault : Fault) → IsFaultOf options environment kind body at start fault → ⊥) where
-    -- what a body resolves to is supported, or that it is not is its fault
-    body_or_fault : (after : Environment) (resolved : Resolved) → kind ≡ Code → IsResolvedBody options environment body at start after resolved → ⊥
-    body_or_fault after resolved code resolves = no_fault (Unsupported (Some at)) (unsupported after resolved code resolves refuses refl)
-      where
-        refuses : AreSupported resolved → ⊥
-        refuses supported = no_block after resolved (record { kind_is = code; resolves = resolves; supported = supported })
-
     -- items resolve, or have a fault
     items_or_fault : (tokens : List Token) (items : List Item) → kind ≡ Code → IsRead body start tokens items → ⊥
     items_or_fault tokens items code read =
         verdict_among options Code of_scanners at environment (lexemes_of body tokens) items (stands_ready options environment stands)
         (body_expressions body tokens items read.items_are)
-        (λ after resolved resolves. body_or_fault after resolved code
-        (record { tokens = tokens; items = items; read = read; resolves = resolves }))
+        (λ after resolved resolves. no_block after resolved
+        (record { kind_is = code; resolves = record { tokens = tokens; items = items; read = read; resolves = resolves } }))
         (λ fault found. no_fault fault (refused tokens items code read found))
 
     -- a body of rules resolves, or has a fault

@@ -1,7 +1,6 @@
 -- The blocks of a source, one behind another.
 use Rattle.std.proofs.Common.{ℕ, ◌+◌, ◌≤◌, arith, List, [], ◌∷◌, ◌++◌, length, refl, subst, inl, inr, append_assoc, append-nil}
 use Rattle.std.specs.Prelude.{All}
-use Rattle.std.specs.List.{AllByRecursion}
 use Rattle.std.proofs.lemmas.List.Elements.{All-head, All-nil, All-push, All-tail}
 use Rattle.std.proofs.lemmas.List.{length_push}
 use Rattle.lx_base.specs.declared.blocks.BlockKind.{BlockKind}
@@ -12,24 +11,20 @@ use Rattle.lx_base.specs.declared.faults.Stop.TheVariants as stop
 use Rattle.lx_base.specs.declared.places.Pos.{Pos}
 use Rattle.lx_base.specs.declared.settings.Options.{Options}
 use Rattle.lx_rules.specs.Environments.{Environment, first_environment}
-use Rattle.lx_rules.specs.FitScanners.{FitsLimits}
 use Rattle.lx_rules.specs.Blocks.{StandsUnder, before_all, behind_block, of_scanners}
-use Rattle.lx_rules.specs.Within.{IsScannerWithin}
+use Rattle.lx_rules.specs.WellFormed.{IsWellFormed}
 use Rattle.lx_rules.specs.declared.resolved.Resolved.{Resolved}
 use Rattle.lx_split.specs.declared.pieces.SourcePiece.{SourcePiece}
 use Rattle.lx_split.specs.declared.pieces.SourcePiece.TheVariants as piece
 use Rattle.lx_compile.specs.Blocks.{IsBlock, StopsAt}
 use Rattle.lx_compile.specs.Parts.{AreParts, IsFaultAmong, StopsAmong}
-use Rattle.lx_compile.specs.Emittable.{IsNearPiece, IsEmittable, IsEmittablePart}
+use Rattle.lx_compile.specs.Emittable.{IsNear, IsNearPiece, IsEmittablePart}
 use Rattle.lx_compile.specs.declared.parts.Part.{Part}
 use Rattle.lx_compile.specs.declared.parts.Part.TheVariants.{Outside, Block}
-use Rattle.lx_rules.proofs.Spellings.AllowedSettings.{resolved-differ, resolved-spelled, stands-settings}
-use Rattle.lx_compile.proofs.OneScanner.{one_scanner}
-use Rattle.lx_compile.proofs.ScannerRules.{can_be_emitted}
 
 -- what holds behind some parts, where this environment holds and these pieces are left
 pub record IsWalked (options : Options) (pieces rest : List SourcePiece) (environment : Environment) (parts : List Part) : Type 0 where
-  pub emittable : All (IsEmittablePart options.enc options.custom) parts
+  pub emittable : All (IsEmittablePart options) parts
   pub stands : StandsUnder options environment
   pub few : length parts + length rest ≤ length pieces
   pub near : All IsNearPiece rest
@@ -38,7 +33,7 @@ pub record IsWalked (options : Options) (pieces rest : List SourcePiece) (enviro
 
 pub IsWalked-start : (options : Options) (pieces : List SourcePiece) → All IsNearPiece pieces → IsWalked options pieces pieces first_environment []
 IsWalked-start options pieces near = record {
-  emittable = All-nil (IsEmittablePart options.enc options.custom);
+  emittable = All-nil (IsEmittablePart options);
   stands = before_all;
   few = omega arith;
   near = near;
@@ -49,7 +44,7 @@ IsWalked-start options pieces near = record {
 pub IsWalked-outside : (options : Options) (pieces rest : List SourcePiece) (environment : Environment) (parts : List Part) (text : List ℕ)
     → IsWalked options pieces (piece.Outside text ∷ rest) environment parts → IsWalked options pieces rest environment (parts ++ Outside text ∷ [])
 IsWalked-outside options pieces rest environment parts text walked = record {
-  emittable = All-push (IsEmittablePart options.enc options.custom) parts (Outside text) walked.emittable tt;
+  emittable = All-push (IsEmittablePart options) parts (Outside text) walked.emittable tt;
   stands = walked.stands;
   few = omega (arith, walked.few, length_push parts (Outside text));
   near = All-tail IsNearPiece (piece.Outside text) rest walked.near;
@@ -57,42 +52,26 @@ IsWalked-outside options pieces rest environment parts text walked = record {
   refuses = λ fault is. walked.refuses fault is;
 }
 
--- what a block of a source resolves to can be emitted
-pub IsEmittable-block : (options : Options) (environment : Environment) (kind : BlockKind) (body : List ℕ) (at start : Pos) (after : Environment) (resolved : Resolved)
-    → length body ≤ 16777216 → StandsUnder options environment → IsBlock options environment kind body at start after resolved → FitsLimits resolved
-    → AllByRecursion (IsScannerWithin options.enc) resolved.scanners → IsEmittable options.enc options.custom resolved
-IsEmittable-block options environment kind body at start after resolved short stands block fine within =
-    let resolves = block.resolves.resolves in record {
-      fits = fine;
-      supported = block.supported;
-      allowed =
-          resolved-spelled options Code of_scanners at environment after body block.resolves.tokens block.resolves.items resolved short
-          (stands-settings options environment stands) resolves;
-      differ = resolved-differ options Code of_scanners at environment after _ block.resolves.items resolved (λ same. cc) resolves;
-      one = one_scanner options environment body at start after resolved block.resolves block.supported;
-      scanners = can_be_emitted options at environment _ block.resolves.items after resolved resolves block.supported fine within;
-    }
-
 pub IsWalked-block : (options : Options) (pieces rest : List SourcePiece) (environment : Environment) (parts : List Part)
     (kind : BlockKind) (body : List ℕ) (at start : Pos) (end_line : ℕ) (after : Environment) (resolved : Resolved)
     → IsWalked options pieces (piece.Block kind body at start end_line ∷ rest) environment parts
-    → IsBlock options environment kind body at start after resolved → FitsLimits resolved → AllByRecursion (IsScannerWithin options.enc) resolved.scanners
+    → IsBlock options environment kind body at start after resolved → IsWellFormed options resolved
     → IsWalked options pieces rest after (parts ++ Block at resolved ∷ [])
-IsWalked-block options pieces rest environment parts kind body at start end_line after resolved walked block fine within = record {
+IsWalked-block options pieces rest environment parts kind body at start end_line after resolved walked block formed = record {
   emittable =
-      All-push (IsEmittablePart options.enc options.custom) parts (Block at resolved) walked.emittable
-      (IsEmittable-block options environment kind body at start after resolved short walked.stands block fine within);
+      All-push (IsEmittablePart options) parts (Block at resolved) walked.emittable
+      formed;
   stands =
       let is = block.resolves in
-      behind_block walked.stands Code at start body is.tokens is.items after resolved of_scanners short is.read.tokens_are is.read.items_are is.resolves;
+      behind_block walked.stands Code at start body is.tokens is.items after resolved of_scanners near.size is.read.tokens_are is.read.items_are is.resolves;
   few = omega (arith, walked.few, length_push parts (Block at resolved));
   near = All-tail IsNearPiece (piece.Block kind body at start end_line) rest walked.near;
   continues = λ more are. rw append_assoc (walked.continues (Block at resolved ∷ more) (refl, (after, block, are)));
   refuses = λ fault is. walked.refuses fault (inr (after, resolved, block, is));
 }
   where
-    short : length body ≤ 16777216
-    short = (All-head IsNearPiece (piece.Block kind body at start end_line) rest walked.near).size
+    near : IsNear body start
+    near = All-head IsNearPiece (piece.Block kind body at start end_line) rest walked.near
 
 -- the parts behind the last piece
 pub IsWalked-end : (options : Options) (pieces : List SourcePiece) (environment : Environment) (parts : List Part)

@@ -1,6 +1,5 @@
 -- One block of a source: what it resolves to, or its fault.
-use Rattle.std.specs.Prelude.{◌≡◌, ◌≢◌, ◌==◌, ◌||◌, ℕ, Bool, false, not, List, is_some, Some, None, Ok, Err}
-use Rattle.std.specs.List.{AllByRecursion, list_any}
+use Rattle.std.specs.Prelude.{◌≡◌, ◌≢◌, ℕ, List, Some, Ok, Err}
 use Rattle.lx_base.specs.declared.blocks.BlockKind.{BlockKind}
 use Rattle.lx_base.specs.declared.blocks.BlockKind.TheVariants.{Code}
 use Rattle.lx_base.specs.declared.faults.Fault.{Fault}
@@ -12,28 +11,12 @@ use Rattle.lx_base.specs.declared.settings.Options.{Options}
 use Rattle.lx_parse.specs.Blocks.{IsBody, IsSyntaxFault, form_of}
 use Rattle.lx_parse.specs.Sorts.{sorts_of}
 use Rattle.lx_parse.specs.declared.items.Item.{Item}
-use Rattle.lx_regex.specs.Pattern.{Pattern, patterns_of}
 use Rattle.lx_rules.specs.Blocks.{IsBlockFault, Resolves}
 use Rattle.lx_rules.specs.Environments.{Environment}
 use Rattle.lx_forms.specs.Lexemes.{lexemes_of}
-use Rattle.lx_rules.specs.declared.resolved.Config.{Config}
 use Rattle.lx_rules.specs.declared.resolved.Resolved.{Resolved}
-use Rattle.lx_rules.specs.declared.resolved.Scanner.{Scanner}
 use Rattle.lx_token.specs.Tokens.{tokens_of}
 use Rattle.lx_token.specs.declared.list.Token.{Token}
-
--- a rule has what is not emitted so far: a history tag, groups, or a trailing context
-abbrev pub is_beyond : Pattern → Bool
-is_beyond pattern = list_any (λ is_many. is_many) pattern.many || (not (pattern.groups == 0) || is_some pattern.slash)
-
--- A scanner is emitted so far if it asks for no refill, no code unit stands at the end, so that it has no `$`, no rule of it has a
--- history tag, groups or a trailing context, and it has no condition.
-abbrev pub IsSupported : Config → Scanner → Type 0
-IsSupported config scanner =
-    (config.fill ≡ false) × (config.eof ≡ None) × (list_any is_beyond (patterns_of scanner.set.rules) ≡ false) × (scanner.cond ≡ None)
-
-abbrev pub AreSupported : Resolved → Type 0
-AreSupported resolved = AllByRecursion (IsSupported resolved.config) resolved.scanners
 
 -- the body of a block of rules that begins at a place has these tokens and items
 pub record IsRead (body : List ℕ) (start : Pos) (tokens : List Token) (items : List Item) : Type 0 where
@@ -51,10 +34,9 @@ pub record IsResolvedBody (options : Options) (environment : Environment) (body 
 pub record IsBlock (options : Options) (environment : Environment) (kind : BlockKind) (body : List ℕ) (at start : Pos) (after : Environment) (resolved : Resolved) : Type 0 where
   pub kind_is : kind ≡ Code
   pub resolves : IsResolvedBody options environment body at start after resolved
-  pub supported : AreSupported resolved
 
 -- The fault of the block: it is of another kind; or no token stands somewhere in its body; or the tokens are no items; or the
--- items have a fault; or a scanner is not supported yet.
+-- items have a fault.
 pub data IsFaultOf (options : Options) (environment : Environment) (kind : BlockKind) (body : List ℕ) (at start : Pos) (fault : Fault) : Type 0 where
   other_kind : kind ≢ Code → fault ≡ Unsupported (Some at) → IsFaultOf options environment kind body at start fault
   no_token : kind ≡ Code → tokens_of body start ≡ Err fault → IsFaultOf options environment kind body at start fault
@@ -62,8 +44,6 @@ pub data IsFaultOf (options : Options) (environment : Environment) (kind : Block
       → IsFaultOf options environment kind body at start fault
   refused : (tokens : List Token) (items : List Item) → kind ≡ Code → IsRead body start tokens items
       → IsBlockFault options Code at environment (lexemes_of body tokens) items fault → IsFaultOf options environment kind body at start fault
-  unsupported : (after : Environment) (resolved : Resolved) → kind ≡ Code → IsResolvedBody options environment body at start after resolved
-      → (AreSupported resolved → ⊥) → fault ≡ Unsupported (Some at) → IsFaultOf options environment kind body at start fault
 
 -- a call that is to resolve the block stops with its fault, or where memory runs out
 abbrev pub StopsAt : Options → Environment → BlockKind → (body : List ℕ) → (at start : Pos) → Stop → Type 0

@@ -2,10 +2,7 @@
 use Rattle.std.specs.Prelude.{◌≡◌, false}
 use Rattle.lx_base.specs.declared.settings.Options.{Options}
 
--- what is asked for is compiled so far: no `#line`, conditions, stored states or captures
+-- what is asked for is compiled so far: no `#line`, and no captures by the POSIX order
 pub record ArePlain (options : Options) : Type 0 where
   pub lines : options.lines ≡ false
-  pub conds : options.conds ≡ false
-  pub states : options.states ≡ false
-  pub captures : options.captures ≡ false
   pub posix : options.posix ≡ false

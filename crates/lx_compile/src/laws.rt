@@ -37,7 +37,7 @@ pub fn sources_have_one_first_fault()
 /// laws of `lx_creader` there is no other cut, and the first begin mark that is asked for is that of the first such piece.
 pub fn outputs_are_cut_as_their_sources()
     ensures { (options : Options) (source output : List ℕ) → length source ≤ SOURCE_LIMIT → (is : IsOutput options source output) →
-        (cut : List OutputPart) × AreCut cut × (output ≡ parts_text cut) × AreOutputParts options.enc options.custom 1 is.parts cut }
+        (cut : List OutputPart) × AreCut cut × (output ≡ parts_text cut) × AreOutputParts options 1 0 is.parts cut }
 {}
 
 /// The piece of each block is found in an output by its number: its text stands where the first begin mark of that number does.
@@ -45,7 +45,7 @@ pub fn outputs_are_cut_as_their_sources()
 pub fn emitted_pieces_are_found()
     ensures { (options : Options) (source output : List ℕ) → length source ≤ SOURCE_LIMIT → (is : IsOutput options source output) →
         (earlier : List Part) (at : Pos) (resolved : Resolved) (more : List Part) → is.parts ≡ earlier ++ Block at resolved ∷ more →
-        IsFound options.enc options.custom earlier resolved output }
+        IsFound options earlier resolved output }
 {}
 
 /// A source has a first fault, or it has none: that neither holds cannot be.

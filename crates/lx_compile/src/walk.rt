@@ -23,7 +23,7 @@ pub(crate) fn resolve_blocks(
 ) -> Result<Sequence<Part>, Stop>
     requires plain { ArePlain options.now }
     requires near { All IsNearPiece pieces }
-    ensures emittable { IfOk result (λ parts. All (IsEmittablePart options.now.enc options.now.custom) parts) }
+    ensures emittable { IfOk result (λ parts. All (IsEmittablePart options.now) parts) }
     ensures few { IfOk result (λ parts. length parts ≤ length pieces) }
     ensures parts { MatchResult result
         (λ parts. AreParts options.now first_environment pieces parts)

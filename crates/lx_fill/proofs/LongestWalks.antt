@@ -140,10 +140,12 @@ small-more graph chosen known state place within small other = elim (cases_eq ot
 ]
 
 pub all-longest : (graph : Graph) (count : ℕ) (chosen : List Bool) (order known : List ℕ) → IsChoice graph count chosen order → length known ≡ count
+    → ((state : ℕ) → get_or known state 0 ≤ count)
     → ((place : ℕ) → place < length order → IsLongest graph chosen (get_or order place 0) (get_or known (get_or order place 0) 0))
     → AreLongest graph count chosen known
-all-longest graph count chosen order known choice fit longest = record {
+all-longest graph count chosen order known choice fit few longest = record {
   fit = fit;
+  few = few;
   longest = λ state lt. let stands = choice.every state lt in
       subst (λ s. IsLongest graph chosen s (get_or known s 0)) stands.2 (longest stands.0 stands.1);
 }

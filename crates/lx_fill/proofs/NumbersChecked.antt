@@ -79,6 +79,7 @@ module _ (auto : Auto) (chosen : List Bool) (order known numbers : List ℕ) (ch
   pub numbers-checked : length numbers ≡ length auto.states → AreChecks auto numbers
   numbers-checked long = record {
     each_state = long;
+    few = λ state. of_known (chosen_at chosen state) state (are state);
     start = λ some. numbered 0 (choice.marks.start some);
     cycle = λ state some other. round state other (choice.marks.cycle state (only_chosen state some));
     most = λ state some units walk.
@@ -89,6 +90,10 @@ module _ (auto : Auto) (chosen : List Bool) (order known numbers : List ℕ) (ch
         (longest-at state (only_chosen state some)).1;
   }
     where
+      of_known : (t : Bool) (state : ℕ) → get_or numbers state 0 ≡ (if t then get_or known state 0 else 0) → get_or numbers state 0 ≤ length auto.states
+      of_known true state e = let few = longest.few state in omega (arith, e, few)
+      of_known false state e = omega (arith, e)
+
       round : (state : ℕ) → state ≢ 0 → ((state ≡ 0) × (graph_of auto 0 ≢ [])) ⊎ Leads (graph_of auto) state state → Leads (graph_of auto) state state
       round state other (inl start) = absurd (other start.0)
       round state other (inr leads) = leads

@@ -37,9 +37,11 @@ abbrev pub Suffices : Graph → (number : ℕ → ℕ) → (state units : ℕ) �
 Suffices graph number state units = (others : ℕ) → Reads graph number state others → others ≤ units
 
 -- the list has for each state its number, or 0 where it has none: the start has one where it has an edge, and each other one
--- stands on a cycle; from a state with a number so many units suffice, and some walk reads exactly so many
+-- stands on a cycle; from a state with a number so many units suffice, and some walk reads exactly so many, which are no more than there
+-- are states
 pub record AreChecks (auto : Auto) (checks : List ℕ) : Type 0 where
   pub each_state : length checks ≡ length auto.states
+  pub few : (state : ℕ) → slice_index checks state ≤ length auto.states
   pub start : graph_of auto 0 ≢ [] → slice_index checks 0 ≢ 0
   pub cycle : (state : ℕ) → slice_index checks state ≢ 0 → state ≢ 0 → Leads (graph_of auto) state state
   pub most : (state : ℕ) → slice_index checks state ≢ 0 → Suffices (graph_of auto) (slice_index checks) state (slice_index checks state)

@@ -1,5 +1,5 @@
 -- The longest walks to the next check.
-use Rattle.std.specs.Prelude.{◌≡◌, ℕ, suc, ◌<◌, max, List, [], ◌∷◌, length, Bool, slice_index, if◌then◌else◌}
+use Rattle.std.specs.Prelude.{◌≡◌, ℕ, suc, ◌<◌, ◌≤◌, max, List, [], ◌∷◌, length, Bool, slice_index, if◌then◌else◌}
 use Rattle.lx_fill.specs.Checks.{Graph, Reads, Suffices}
 use Rattle.lx_fill.specs.Search.{chosen_at}
 
@@ -20,7 +20,8 @@ mark chosen state = if chosen_at chosen state then 1 else 0
 abbrev pub IsLongest : Graph → List Bool → (state units : ℕ) → Type 0
 IsLongest graph chosen state units = Suffices graph (mark chosen) state units × Reads graph (mark chosen) state units
 
--- the same of each of so many states
+-- the same of each of so many states, which are no fewer
 pub record AreLongest (graph : Graph) (count : ℕ) (chosen : List Bool) (known : List ℕ) : Type 0 where
   pub fit : length known ≡ count
+  pub few : (state : ℕ) → slice_index known state ≤ count
   pub longest : (state : ℕ) → state < count → IsLongest graph chosen state (slice_index known state)

@@ -1,8 +1,7 @@
-pub mod Operations
-pub mod Runs
-pub mod BlockLayouts
-pub mod Carrying
-pub mod Validity
-pub mod Rules
-pub mod Supplied
-pub mod SuppliedLayouts
+pub mod Elements
+pub mod EndRules
+pub mod FitSources
+pub mod RightScanners
+pub mod RuleEndings
+pub mod SourceLists
+pub mod WrittenEnds

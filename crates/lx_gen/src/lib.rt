@@ -1,23 +1,8 @@
-//! The emitted piece of an automaton with registers.
+//! The emitted piece of a block of scanners.
 #![tactic(auto)]
 
-mod accepts;
-mod blocks;
-mod endings;
-mod ends;
-pub mod examples;
-mod fallback;
-mod fronts;
-pub mod laws;
-mod layouts;
-mod parallel_copies;
-mod places;
-mod plans;
-mod scanner;
-mod state_blocks;
-mod statements;
-mod test_trees;
-mod transition_classes;
-mod unit_splits;
+mod contexts;
+mod generating;
+mod scanner_ends;
 
-pub use scanner::generate;
+pub use generating::generate;

@@ -1,5 +1,5 @@
 -- What holds of what a block of scanners resolves to, whatever it says.
-use Rattle.std.specs.Prelude.{◌≡◌, ℕ, zero, suc, Bool, List, [], ◌∷◌, Option, Some, None, is_some}
+use Rattle.std.specs.Prelude.{◌≡◌, ℕ, zero, suc, Bool, true, List, [], ◌∷◌, Option, Some, None, is_some}
 use Rattle.std.specs.List.{AllByRecursion, list_any}
 use Rattle.lx_base.specs.Names.{AreAllowed, IsTagName, Spellings}
 use Rattle.lx_base.specs.declared.settings.Options.{Options}
@@ -18,6 +18,14 @@ use Rattle.lx_rules.specs.declared.resolved.Scanner.{Scanner}
 abbrev pub has_end : Scanner → Bool
 has_end scanner = list_any (λ (rule : Rule). is_end rule.kind) scanner.set.rules
 
+-- a rule `$` gives nothing: it has no tags, no trailing context and no groups
+abbrev pub IsBareEnd : Rule → Type 0
+IsBareEnd rule = is_end rule.kind ≡ true → (rule.tags ≡ []) × (rule.slash ≡ None) × (rule.groups ≡ 0)
+
+-- so do those of scanners
+abbrev pub HaveBareEnds : List Scanner → Type 0
+HaveBareEnds scanners = AllByRecursion (λ (scanner : Scanner). AllByRecursion IsBareEnd scanner.set.rules) scanners
+
 -- each tag but that of the slash, if there is one, has a name that it may have beside the spellings; that of the slash has none
 abbrev pub HaveNames : Spellings → (slash : Option ℕ) → List Tag → Type 0
 HaveNames names slash [] = Unit {0}
@@ -31,8 +39,8 @@ HaveTagNames names rules = AllByRecursion (λ (rule : Rule). HaveNames names rul
 
 -- The spellings are ones that a scanner may have, and differ; a code unit at the end is one of the encoding. An automaton can be built
 -- of each scanner: it is within the limits, its rules have different numbers, and their tags, slashes and groups stand in their
--- expressions. It has a rule `$` exactly where a code unit stands at the end, and its tags have names that they may have, but for
--- those of slashes, which have none. Scanners and actions belong together.
+-- expressions. It has a rule `$` exactly where a code unit stands at the end, and such a rule gives nothing. Its tags have names that they
+-- may have, but for those of slashes, which have none. Scanners and actions belong together.
 pub record IsWellFormed (options : Options) (resolved : Resolved) : Type 0 where
   pub spellings : AreAllowed resolved.config.names
   pub differ : SpellingsDiffer options.custom resolved.config.names
@@ -40,5 +48,6 @@ pub record IsWellFormed (options : Options) (resolved : Resolved) : Type 0 where
   pub fits : FitsLimits resolved
   pub scanners : AllByRecursion (IsScannerWithin options.enc) resolved.scanners
   pub ends : AllByRecursion (λ (scanner : Scanner). has_end scanner ≡ is_some resolved.config.eof) resolved.scanners
+  pub bare : HaveBareEnds resolved.scanners
   pub tags : AllByRecursion (λ (scanner : Scanner). HaveTagNames resolved.config.names scanner.set.rules) resolved.scanners
   pub linked : AreLinked options.conds resolved

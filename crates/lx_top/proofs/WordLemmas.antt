@@ -24,29 +24,19 @@ or-none true two is = absurd (let h = is in cc)
 or-none false two is = (refl, is)
 
 -- what the flags of a line say where it asks for nothing that waits
-record Waits (conditions states captures source compiled shown : Bool) : Type 0 where
-  pub conditions_off : conditions ≡ false
-  pub states_off : states ≡ false
-  pub captures_off : captures ≡ false
+record Waits (source compiled shown : Bool) : Type 0 where
   pub source_off : source ≡ false
   pub compiled_shown : (compiled && not shown) ≡ false
 
-none_waits : (conditions states reusable captures folder source window piece compiled shown : Bool)
-    → (conditions || (states || (reusable || (captures || (folder || (source || (window || (piece || (compiled && not shown))))))))) ≡ false
-    → Waits conditions states captures source compiled shown
-none_waits conditions states reusable captures folder source window piece compiled shown none =
-    let states_on = or-none conditions _ none in
-    let reusable_on = or-none states _ states_on.1 in
-    let captures_on = or-none reusable _ reusable_on.1 in
-    let folder_on = or-none captures _ captures_on.1 in
+none_waits : (reusable folder source window piece compiled shown : Bool)
+    → (reusable || (folder || (source || (window || (piece || (compiled && not shown)))))) ≡ false → Waits source compiled shown
+none_waits reusable folder source window piece compiled shown none =
+    let folder_on = or-none reusable _ none in
     let source_on = or-none folder _ folder_on.1 in
     let window_on = or-none source _ source_on.1 in
     let piece_on = or-none window _ window_on.1 in
     let last = or-none piece _ piece_on.1 in
     record {
-      conditions_off = states_on.0;
-      states_off = reusable_on.0;
-      captures_off = folder_on.0;
       source_off = window_on.0;
       compiled_shown = last.1;
     }
@@ -55,14 +45,10 @@ none_waits conditions states reusable captures folder source window piece compil
 plain_compiled : (line : Line) → waits line ≡ false → has_value line (codes "x-run") ≡ false → ArePlain (options_of line)
 unfolding options_of
 plain_compiled line none no_run =
-    let given = none_waits (has_flag line (codes "conditions")) (has_flag line (codes "storable-state")) (has_flag line (codes "reusable"))
-    (has_flag line (codes "captures")) (has_value line (codes "include")) (has_value line (codes "x-source"))
+    let given = none_waits (has_flag line (codes "reusable")) (has_value line (codes "include")) (has_value line (codes "x-source"))
     (has_value line (codes "x-window")) (has_value line (codes "x-piece")) (compiles line) (has_flag line (codes "no-debug-info")) none in
     record {
       lines = shown (has_value line (codes "x-run")) (has_value line (codes "x-source")) (has_flag line (codes "no-debug-info")) no_run given.source_off given.compiled_shown;
-      conds = given.conditions_off;
-      states = given.states_off;
-      captures = given.captures_off;
       posix = refl;
     }
   where

@@ -165,10 +165,7 @@ pub fn waits(line: &ArgMatches<'_>) -> bool
     ensures { result ≡ waits (rows_of (found_of line.now)) }
 {
     let compiles = !has_value(line, "x-run") && !has_value(line, "x-source");
-    has_flag(line, "conditions")
-        || has_flag(line, "storable-state")
-        || has_flag(line, "reusable")
-        || has_flag(line, "captures")
+    has_flag(line, "reusable")
         || has_value(line, "include")
         || has_value(line, "x-source")
         || has_value(line, "x-window")

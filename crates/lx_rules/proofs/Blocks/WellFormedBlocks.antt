@@ -6,8 +6,10 @@ use Rattle.lx_base.specs.Names.{Spellings, IsTagName}
 use Rattle.lx_base.specs.declared.blocks.BlockKind.{BlockKind}
 use Rattle.lx_base.specs.declared.blocks.BlockKind.TheVariants.{Rules}
 use Rattle.lx_base.specs.declared.places.Pos.{Pos}
+use Rattle.lx_base.specs.declared.settings.Enc.{Enc}
 use Rattle.lx_base.specs.declared.settings.Options.{Options}
 use Rattle.lx_exprs.specs.Checks.{tag_names}
+use Rattle.lx_exprs.specs.Defined.{Meaning}
 use Rattle.lx_forms.specs.Lexemes.{lexemes_of}
 use Rattle.lx_parse.specs.Blocks.{IsBody, form_of}
 use Rattle.lx_parse.specs.Sorts.{sorts_of}
@@ -19,9 +21,9 @@ use Rattle.lx_regex.specs.declared.rules.Tag.{Tag}
 use Rattle.lx_rules.specs.Blocks.{AreScanners, HasRules, IsResolved, IsResolvedAs, MayBeNamed, Resolves, ScannerChecks, StandsUnder, conditions_of, given_names, names_of, of_scanners, of_use, pattern_of, rules_of, scanner_fault, scanners_fault, to_keep}
 use Rattle.lx_rules.specs.Environments.{Environment, config_of}
 use Rattle.lx_rules.specs.FitScanners.{FitsLimits}
-use Rattle.lx_rules.specs.Items.{State, first_state, is_end}
+use Rattle.lx_rules.specs.Items.{State, end_meaning, first_state, is_end}
 use Rattle.lx_rules.specs.Rules.{RuleOf}
-use Rattle.lx_rules.specs.WellFormed.{HaveNames, HaveTagNames, IsWellFormed, has_end}
+use Rattle.lx_rules.specs.WellFormed.{HaveBareEnds, HaveNames, HaveTagNames, IsBareEnd, IsWellFormed, has_end}
 use Rattle.lx_rules.specs.Within.{IsScannerWithin}
 use Rattle.lx_rules.specs.declared.resolved.Config.{Config}
 use Rattle.lx_rules.specs.declared.resolved.Resolved.{Resolved}
@@ -30,8 +32,8 @@ use Rattle.lx_token.specs.Tokens.{tokens_of}
 use Rattle.lx_token.specs.declared.list.Token.{Token}
 use Rattle.lx_rules.proofs.Spellings.AllowedSettings.{no_clash, resolved-differ, resolved-eof, resolved-spelled, scanner_checks, stands-settings}
 use Rattle.lx_rules.proofs.ScannerSets.BuiltScanners.{all_of_scanner}
-use Rattle.lx_rules.proofs.Rules.EndRules.{same_end}
-use Rattle.lx_rules.proofs.Blocks.ItemFits.{goes_within}
+use Rattle.lx_rules.proofs.Rules.EndRules.{IsEndRule, same_end}
+use Rattle.lx_rules.proofs.Blocks.ItemFits.{IsStateWithin, goes_within}
 use Rattle.lx_rules.proofs.Blocks.ItemRuns.{body-alike}
 use Rattle.lx_rules.proofs.ScannerSets.LinkedScanners.{block_linked}
 use Rattle.lx_rules.proofs.CondSets.ListForms.{body_lists}
@@ -40,6 +42,7 @@ use Rattle.lx_rules.proofs.Rules.NamedTags.{tokens_of-marked}
 use Rattle.lx_rules.proofs.Blocks.Readiness.{first_sound, first_within, stands_ready}
 use Rattle.lx_rules.proofs.ScannerSets.ScannerFits.{resolved_within, scanners_checked}
 use Rattle.lx_rules.proofs.ScannerSets.ScannerLimits.{or_none, scanner_ended}
+use Rattle.lx_rules.proofs.Rules.RuleFits.{IsRuleMeant, IsSlashIn}
 use Rattle.lx_rules.proofs.Rules.SoundRules.{all_apart, goes_sound}
 
 -- ---- the rules of a scanner
@@ -114,6 +117,46 @@ ends-built (one ∷ built) (rule ∷ rules) same =
     let rest : map regex.pattern_of built ≡ map pattern_of rules = let h = same in cc in
     ap₂ (λ here later. here || later) (ap (λ (p : Pattern). regex.is_end p.kind) first ∙ same_end rule.kind) (ends-built built rules rest)
 
+-- a rule `$` means nothing, and has no trailing context
+abbrev IsBare : RuleOf → Type 0
+IsBare rule = is_end rule.kind ≡ true → (rule.meaning ≡ end_meaning) × (rule.slash ≡ None)
+
+-- a trailing context has a tag, and what stands in the place of an expression of `$` has none
+bare_slash : (slash : Option ℕ) → IsSlashIn end_meaning slash → slash ≡ None
+bare_slash None is = refl
+bare_slash (Some slash) is = absurd (let h : None ≡ Some false = is.0 in cc)
+
+rule_bare : (enc : Enc) (rule : RuleOf) → IsRuleMeant enc rule.meaning rule.slash → IsEndRule rule → IsBare rule
+rule_bare enc rule meant end = λ e. (end e, bare_slash rule.slash (subst (λ (m : Meaning). IsSlashIn m rule.slash) (end e) meant.slashed))
+
+each_bare : (enc : Enc) (rules : List RuleOf) → AllByRecursion (λ (rule : RuleOf). IsRuleMeant enc rule.meaning rule.slash) rules
+    → AllByRecursion IsEndRule rules → AllByRecursion IsBare rules
+each_bare enc [] meant ends = tt
+each_bare enc (rule ∷ rules) meant ends = (rule_bare enc rule meant.0 ends.0, each_bare enc rules meant.1 ends.1)
+
+no_tags : (tags : List Tag) → map (λ (tag : Tag). tag.many) tags ≡ [] → tags ≡ []
+no_tags [] none = refl
+no_tags (tag ∷ tags) none = absurd (let h = none in cc)
+
+-- so a rule `$` that is built gives nothing
+built_bare : (one : Rule) (rule : RuleOf) → regex.pattern_of one ≡ pattern_of rule → IsBare rule → IsBareEnd one
+built_bare one rule same bare = λ e.
+    let kind : regex.is_end one.kind ≡ is_end rule.kind = ap (λ (p : Pattern). regex.is_end p.kind) same ∙ same_end rule.kind in
+    let is = bare (sym kind ∙ e) in (
+      no_tags one.tags (ap (λ (p : Pattern). p.many) same ∙ ap (λ (m : Meaning). map (λ (tag : Tag). tag.many) m.tags) is.0),
+      ap (λ (p : Pattern). p.slash) same ∙ is.1,
+      ap (λ (p : Pattern). p.groups) same ∙ ap (λ (m : Meaning). m.groups) is.0,
+    )
+
+rules_bare : (built : List Rule) (rules : List RuleOf) → map regex.pattern_of built ≡ map pattern_of rules → AllByRecursion IsBare rules
+    → AllByRecursion IsBareEnd built
+rules_bare [] rules same bare = tt
+rules_bare (one ∷ built) [] same bare = absurd (let h = same in cc)
+rules_bare (one ∷ built) (rule ∷ rules) same bare =
+    let first : regex.pattern_of one ≡ pattern_of rule = let h = same in cc in
+    let rest : map regex.pattern_of built ≡ map pattern_of rules = let h = same in cc in
+    (built_bare one rule first bare.0, rules_bare built rules rest bare.1)
+
 -- ---- the scanners of a block
 
 module _ (at : Pos) (state : State) (named : Bool) where
@@ -129,6 +172,16 @@ module _ (at : Pos) (state : State) (named : Bool) where
       let rules = rules_of cond state.rules in
       let found = or_none (scanner_fault at eof rules) (scanners_fault at eof state.rules conds) none in
       (ends-built scanner.set.rules rules are.0.patterns ∙ scanner_ended at eof rules found.0, all_end conds scanners found.1 are.1)
+
+  all_bare : (conds : List (List ℕ)) (scanners : List Scanner) → AllByRecursion IsBare state.rules → AreScanners named state.rules conds scanners
+      → HaveBareEnds scanners
+  all_bare [] [] bare are = tt
+  all_bare [] (scanner ∷ scanners) bare are = absurd are
+  all_bare (cond ∷ conds) [] bare are = absurd are
+  all_bare (cond ∷ conds) (scanner ∷ scanners) bare are = (
+    rules_bare scanner.set.rules (rules_of cond state.rules) are.0.patterns (all_of_scanner IsBare cond state.rules bare),
+    all_bare conds scanners bare are.1,
+  )
 
   all_named : (names : Spellings) (conds : List (List ℕ)) (scanners : List Scanner)
       → AllByRecursion (IsRuleNamed names) state.rules → AreScanners named state.rules conds scanners
@@ -166,6 +219,14 @@ module _ (options : Options) (kind : BlockKind) (at start : Pos) (environment af
   are : IsResolved options.conds state resolved
   are = scanner_ends kind has options.conds state resolved other is.ends
 
+  within : IsStateWithin options state
+  within =
+      let ready = stands_ready options environment stands in
+      goes_within options (lexemes_of body tokens) (first_state kind environment) state items (first_within options environment ready kind has) is.goes
+
+  bare : HaveBareEnds resolved.scanners
+  bare = all_bare at state options.conds conds resolved.scanners (each_bare options.enc state.rules within.rules within.ends) are.scanners
+
   scanners : AllByRecursion (IsScannerWithin options.enc) resolved.scanners
   scanners =
       let lexemes = lexemes_of body tokens in
@@ -173,8 +234,7 @@ module _ (options : Options) (kind : BlockKind) (at start : Pos) (environment af
       let ready = stands_ready options environment stands in
       let lists = body_lists body start tokens items tokens_are (body-alike kind has body tokens items items_are) in
       let sound = goes_sound options lexemes first state items (first_sound options environment ready kind has) lists.0 lists.1 is.goes in
-      resolved_within options kind has at state resolved
-      (goes_within options lexemes first state items (first_within options environment ready kind has) is.goes)
+      resolved_within options kind has at state resolved within
       (all_apart options.conds state.rules sound) is.checked is.ends fits
 
   ends : AllByRecursion (λ (scanner : Scanner). has_end scanner ≡ is_some resolved.config.eof) resolved.scanners
@@ -204,6 +264,7 @@ module _ (options : Options) (kind : BlockKind) (at start : Pos) (environment af
         fits = fits;
         scanners = scanners;
         ends = ends;
+        bare = bare;
         tags = tags;
         linked = block_linked options kind at start environment after body tokens items resolved has stands tokens_are items_are is;
       }

@@ -1,8 +1,7 @@
-use Rattle.std.proofs.Common.{refl, rules}
-use Rattle.std.proofs.lemmas.Result.{err_from_is_err_and}
-use Rattle.lx_base.specs.declared.blocks.BlockKind.TheVariants.{Code}
+use Rattle.std.proofs.Common.{refl}
+use Rattle.std.proofs.lemmas.Result.{MatchResult-weaker, err_from_is_err_and}
 use Rattle.lx_rules.specs.Blocks.{of_scanners}
-use Rattle.lx_compile.specs.Blocks.{IsRead, other_kind, unsupported}
+use Rattle.lx_compile.specs.Blocks.{IsRead, other_kind}
 use Rattle.lx_compile.proofs.BlockStops.{StopsAt-items, StopsAt-rules, StopsAt-tokens}
 use Rattle.lx_compile.proofs.blocks.resolve_block.Goals as goal
 
@@ -28,40 +27,22 @@ returns-in_err-tree-clause-block c = λ environment represents.
     (StopsAt-items c.args.options.now environment c.args.kind c.args.body.now c.args.at c.args.start c.in_ok-check_kind.ensures
     c.in_ok-tokens.tokens c.in_err-tree.field-0.0 c.in_ok-tokens.ensures c.in_err-tree.ensures)
 
-pub returns-in_err-after-clause-block : goal.returns-in_err-after-clause-block
-returns-in_err-after-clause-block c = λ environment represents.
-    let p = err_from_is_err_and c.from_residual-in_err-after.result c.from_residual-in_err-after.ensures.1 in
-    let read : IsRead c.args.body.now c.args.start c.in_ok-tokens.tokens c.in_ok-tree.tree.items =
-    record { tokens_are = c.in_ok-tokens.ensures; items_are = c.in_ok-tree.ensures } in
-    rw (p.1, p.2)
-    (StopsAt-rules c.args.options.now environment c.args.kind c.args.body.now c.args.at c.args.start c.in_ok-check_kind.ensures
-    c.in_ok-tokens.tokens c.in_ok-tree.tree.items c.in_err-after.field-0.0 read (c.in_err-after.ensures.resolves environment represents))
-
-pub returns-then-not-are_supported-clause-block : goal.returns-then-not-are_supported-clause-block
-returns-then-not-are_supported-clause-block c = λ environment represents.
-    let supported = c.are_supported.ensures in
-    let read : IsRead c.args.body.now c.args.start c.in_ok-tokens.tokens c.in_ok-tree.tree.items =
-    record { tokens_are = c.in_ok-tokens.ensures; items_are = c.in_ok-tree.ensures } in
-    let resolves = c.in_ok-after.ensures.resolves environment represents in
-    unsupported resolves.0 c.in_ok-after.resolved c.in_ok-check_kind.ensures
-    (record { tokens = c.in_ok-tokens.tokens; items = c.in_ok-tree.tree.items; read = read; resolves = resolves.2 })
-    (λ are. let is = supported.1 are in search rules) refl
-
-pub returns-clause-within : goal.returns-clause-within
-returns-clause-within c = λ environment represents stands.
-    (c.in_ok-after.ensures.well_formed (λ same. cc) environment represents stands).scanners
+pub returns-clause-formed : goal.returns-clause-formed
+returns-clause-formed c = c.resolve.ensures.well_formed (λ same. cc)
 
 pub returns-clause-block : goal.returns-clause-block
 returns-clause-block c = λ environment represents.
-    let supported = c.are_supported.ensures in
     let read : IsRead c.args.body.now c.args.start c.in_ok-tokens.tokens c.in_ok-tree.tree.items =
     record { tokens_are = c.in_ok-tokens.ensures; items_are = c.in_ok-tree.ensures } in
-    let resolves = c.in_ok-after.ensures.resolves environment represents in (
+    MatchResult-weaker c.resolve.result (c.resolve.ensures.resolves environment represents)
+    (λ answer resolves. (
       resolves.0,
       resolves.1,
       record {
         kind_is = c.in_ok-check_kind.ensures;
         resolves = record { tokens = c.in_ok-tokens.tokens; items = c.in_ok-tree.tree.items; read = read; resolves = resolves.2 };
-        supported = supported.0 (search rules);
       },
-    )
+    ))
+    (λ stopped stops.
+    StopsAt-rules c.args.options.now environment c.args.kind c.args.body.now c.args.at c.args.start c.in_ok-check_kind.ensures
+    c.in_ok-tokens.tokens c.in_ok-tree.tree.items stopped read stops)

@@ -58,8 +58,8 @@ loop-piece-preserved c =
         block.1,
         rw c.in_ok-push-in-Block.ensures.pushed
             (IsWalked-block c.args.options.now c.args.pieces rest before.0 at.parts c.in-Block.kind c.in-Block.body c.in-Block.at
-            c.in-Block.body_at c.in-Block.end_line block.0 answer.resolved walked (rw c.as_slice.ensures at block.2) answer.ensures.fit
-            (answer.ensures.within before.0 before.1 walked.stands)),
+            c.in-Block.body_at c.in-Block.end_line block.0 answer.resolved walked (rw c.as_slice.ensures at block.2)
+            (answer.ensures.formed before.0 before.1 walked.stands)),
       );
       count = let was = at.invariant.count in let gone = c.in-Some.ensures.steps.1 in let short = ap length steps in omega arith;
     }

@@ -34,4 +34,6 @@ loop-state-preserved c =
 pub returns : goal.returns
 returns c =
     all-longest (graph_of c.args.auto.now) (length c.args.auto.now.states) c.args.chosen.now c.args.order.now c.loop-state.known.items c.requires.choice
-    c.loop-state.invariant.fit (λ place lt. c.loop-state.invariant.longest place (omega (arith, lt, c.loop-state-test.false)))
+    c.loop-state.invariant.fit
+    (λ state. let small = c.loop-state.invariant.small state in let few = c.requires.choice.few in omega (arith, small, few, c.loop-state.auto.state-index-end))
+    (λ place lt. c.loop-state.invariant.longest place (omega (arith, lt, c.loop-state-test.false)))

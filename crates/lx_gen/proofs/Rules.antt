@@ -1,8 +1,0 @@
--- The ends of rules, and a piece as a scanner of them.
-pub mod EndingLoops
-pub mod RuleBlocks
-pub mod RuleEndings
-pub mod RuleEnds
-pub mod RuleNames
-pub mod RuleTold
-pub mod Scanners

@@ -1,5 +1,0 @@
-use Rattle.lx_gen.proofs.Runs.CarriedExamples.{pieces_carry}
-use Rattle.lx_gen.proofs.examples.pieces_carry_automata.Goals as goal
-
-pub returns : goal.returns
-returns c = pieces_carry

@@ -1,5 +1,0 @@
-use Rattle.lx_gen.proofs.SuppliedLayouts.QuietLayouts.{layout_quiet}
-use Rattle.lx_gen.proofs.laws.supplied_layouts_ask_for_nothing.Goals as goal
-
-pub returns : goal.returns
-returns c = layout_quiet

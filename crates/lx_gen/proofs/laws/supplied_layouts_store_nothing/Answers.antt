@@ -1,5 +1,0 @@
-use Rattle.lx_gen.proofs.SuppliedLayouts.StoredNothing.{layout_stores_nothing}
-use Rattle.lx_gen.proofs.laws.supplied_layouts_store_nothing.Goals as goal
-
-pub returns : goal.returns
-returns c = layout_stores_nothing

@@ -1,6 +1,0 @@
-use Rattle.lx_gen.proofs.Carrying.SuppliedCarried.{supplied_carries}
-use Rattle.lx_gen.proofs.laws.supplied_pieces_carry_automata.Goals as goal
-
-pub returns : goal.returns
-returns c piece entry endings greatest auto supply place saved rules fall end_rule serves serves_entry formed eof within apart peeks own =
-    supplied_carries supply endings greatest auto piece place saved rules fall end_rule entry serves serves_entry formed within apart peeks own

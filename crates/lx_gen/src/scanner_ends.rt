@@ -1,0 +1,94 @@
+//! What the rules of a scanner do at their ends, by what the block says.
+ghost use Rattle.std.specs.Prelude.{◌≡◌, ◌<◌, ◌≤◌, All, IfOk, [], length, option_copied, slice_index_or, Some};
+ghost use Rattle.lx_ccode.specs.Validity.{IsLine};
+ghost use Rattle.lx_layout.specs.RuleEnds.{ending_of, endings_of};
+ghost use Rattle.lx_regex.specs.declared.rules.Rule.{Rule as rule_type};
+ghost use Rattle.lx_gen.specs.Generated.{act_ending, act_of, endings_by, mark_of};
+ghost use Rattle.lx_gen.specs.Seen.{HaveShortLines, seen_marks};
+
+use lx_base::{ByteText, FileNames, Memory, Pos};
+use lx_ccode::LineMark;
+use lx_layout::RuleEnd;
+use lx_regex::Rule;
+use lx_rules::Act;
+use std::alloc::Global;
+
+/// The names of files, where the lines of actions are told.
+#[derive(Clone, Copy)]
+pub(crate) struct Marks<'a> {
+    pub names: Option<&'a FileNames>,
+}
+
+/// The name of a file by its place, empty past the list.
+fn file_of(alloc: Global, names: &FileNames, file: u32) -> Result<ByteText, Memory>
+    ensures { IfOk result (λ name. name ≡ slice_index_or names.now file []) }
+{
+    match names.get(file) {
+        None => Ok(ByteText::new(alloc)),
+        Some(name) => ByteText::copy_of(alloc, name.as_bytes()),
+    }
+}
+
+/// The line where an action stands, if it is told.
+fn mark_of(alloc: Global, marks: Marks<'_>, at: Pos) -> Result<Option<LineMark>, Memory>
+    ensures mark { IfOk result (λ mark. mark ≡ mark_of (seen_marks marks.entry) at) }
+    ensures line { IfOk result IsLine }
+{
+    match marks.names {
+        None => Ok(None),
+        Some(names) => Ok(Some(LineMark {
+            line: at.line,
+            file: file_of(alloc, names, at.file)?,
+        })),
+    }
+}
+
+/// What the rule of a number, counted from 1, does.
+fn act_of(acts: &[Act], number: u32) -> Option<&Act>
+    ensures { option_copied result ≡ act_of acts.now number }
+{
+    match number.checked_sub(1) {
+        None => None,
+        Some(place) => acts.get(place as usize),
+    }
+}
+
+/// What a rule does at its end.
+fn rule_end<'a>(
+    alloc: Global,
+    marks: Marks<'_>,
+    rule: &'a Rule,
+    act: &'a Act,
+) -> Result<RuleEnd<'a>, Memory>
+    ensures rule { IfOk result (λ end. end.rule.now ≡ rule.now) }
+    ensures ending { IfOk result (λ end. ending_of end ≡ act_ending (seen_marks marks.entry) rule.now (Some act.now)) }
+    ensures line { IfOk result (λ end. IsLine end.line) }
+{
+    Ok(RuleEnd {
+        rule,
+        goes: &act.goes,
+        action: &act.code,
+        line: mark_of(alloc, marks, act.at)?,
+    })
+}
+
+/// What the rules of a scanner do at their ends; each has an act.
+pub(crate) fn rule_ends<'a>(
+    alloc: Global,
+    marks: Marks<'_>,
+    rules: &'a [Rule],
+    acts: &'a [Act],
+) -> Result<Vec<RuleEnd<'a>>, Memory>
+    requires { All (λ (rule : rule_type). (0 < rule.number) × (rule.number ≤ length acts.now)) rules.now }
+    ensures endings { IfOk result (λ ends. endings_of ends.items ≡ endings_by (seen_marks marks.entry) acts.now rules.now) }
+    ensures lines { IfOk result (λ ends. HaveShortLines (endings_of ends.items)) }
+{
+    let mut ends = Vec::new(alloc);
+    for rule in rules {
+        let Some(act) = act_of(acts, rule.number) else {
+            unreachable!()
+        };
+        ends.push(rule_end(alloc, marks, rule, act)?)?;
+    }
+    Ok(ends)
+}

@@ -1,0 +1,12 @@
+pub mod Operations
+pub mod Runs
+pub mod BlockLayouts
+pub mod Carrying
+pub mod Validity
+pub mod Rules
+pub mod Supplied
+pub mod SuppliedLayouts
+pub mod PartLayouts
+pub mod Laying
+pub mod PieceLaws
+pub mod ScannerLaws

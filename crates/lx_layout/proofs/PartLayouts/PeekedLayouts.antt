@@ -1,0 +1,166 @@
+-- A layout that reads a unit asks for units before, or for a refill at the end, where all that reads does.
+use Rattle.std.specs.Prelude.{◌≡◌, ◌⊎◌, ℕ, suc, ◌+◌, Bool, true, false, List, [], ◌∷◌, ◌++◌, Option, Some, None, refl}
+use Rattle.std.proofs.Common.{inl, inr, subst, sym}
+use Rattle.std.proofs.lemmas.Bool.{false≢true}
+use Rattle.lx_auto.specs.Automaton.{state_of}
+use Rattle.lx_auto.specs.declared.automaton.Auto.{Auto}
+use Rattle.lx_auto.specs.declared.automaton.Edge.{Edge}
+use Rattle.lx_auto.specs.declared.automaton.State.{State}
+use Rattle.lx_ccode.specs.Counts.{is_peek}
+use Rattle.lx_ccode.specs.declared.piece.Stmt.{Stmt}
+use Rattle.lx_layout.specs.Endings.{Ending}
+use Rattle.lx_layout.specs.Halting.{Halting, ended_accepts, halted_accept, is_entered, saved_accepts}
+use Rattle.lx_layout.specs.Layout.{end_blocks, ending_blocks, restore_blocks}
+use Rattle.lx_layout.specs.SuppliedLayout.{at_end_blocks, blocks_by, class_blocks, end_rule_block, end_rule_part, entry_part, entry_tests_size, entry_way, fall_block, fallback_part, first_restore, kept, lone_number, place_of, reader_blocks, rule_block, state_end, state_size, state_to, state_way, states_begin, states_blocks, states_part, supplied_layout, tests_of, turn_begin, turn_of, with_blocks}
+use Rattle.lx_layout.specs.Supplies.{Reader, Supply, entry, state}
+use Rattle.lx_layout.specs.TestTrees.{TestTree}
+use Rattle.lx_layout.specs.TransitionClasses.{transition_classes}
+use Rattle.lx_layout.proofs.PartLayouts.AskedLayouts.{Has, has-back, has-front, has-split, no_peek}
+use Rattle.lx_layout.proofs.PartLayouts.CalmBlocks.{Calm, calm_classes, calm_end, calm_lone, calm_rest}
+use Rattle.lx_layout.proofs.Validity.EachElement.{each-append}
+
+either : {A B C : Type 0} → A ⊎ B → (A → C) → (B → C) → C
+either (inl a) f g = f a
+either (inr b) f g = g b
+
+module _ (passes : Stmt → Bool) (supply : Supply) (halting : Halting) (endings : ℕ → Ending) (end_rule : Option ℕ) (trees : Reader → TestTree (Option ℕ))
+    (auto : Auto) where
+  -- a statement of what reads passes the test, in its tests or at the end of the input
+  abbrev pub Passes : Reader → (units : ℕ) → Type 0
+  Passes reader units = (from block here : ℕ) (tree : TestTree ℕ) (to : ℕ → ℕ) (end : ℕ)
+      → Has passes (reader_blocks supply.stored reader supply.eof units from tree) ⊎ Has passes (at_end_blocks supply reader block here to end)
+
+  module _ (rules : ℕ → ℕ) (fall begin : ℕ) (place : ℕ → ℕ) where
+    abbrev own_blocks : (s from : ℕ) → State → (edges : List Edge) → List (List Stmt)
+    own_blocks s from given edges = blocks_by supply halting end_rule trees auto rules fall begin (saved_accepts halting auto.states) place s from given edges
+
+    kept_true : (t : Bool) (codes : List (List Stmt)) → t ≡ true → Has passes codes → Has passes (kept t codes)
+    kept_true t codes e h = subst (λ y. Has passes (kept y codes)) (sym e) h
+
+    -- a state that has an edge, and to which a match comes
+    pub state_passes : (s from : ℕ) (given : State) (edge : Edge) (edges : List Edge) → is_entered end_rule auto s ≡ true
+        → Passes (state s) (supply.check s) → Has passes (own_blocks s from given (edge ∷ edges))
+    state_passes s from given edge edges entered asks =
+        let tests_row : List (List Stmt) = tests_of supply halting end_rule trees auto rules fall begin (saved_accepts halting auto.states) place s from given in
+        let classes_row : List (List Stmt) = class_blocks halting auto (saved_accepts halting auto.states) place given (transition_classes (edge ∷ edges)) in
+        let turn_row : List (List Stmt) = turn_of supply halting end_rule trees auto rules fall begin (saved_accepts halting auto.states) place s from given in
+        let end_row : List (List Stmt) = end_blocks auto rules fall (halted_accept halting s given) in
+        either (asks from from (turn_begin supply halting end_rule trees auto s from given.edges)
+        (with_blocks (state_way supply halting end_rule trees auto rules fall begin s from given) (trees (state s)))
+        (state_to supply halting end_rule trees auto rules fall begin s from given)
+        (state_end supply halting end_rule trees auto rules fall begin s from given))
+        (λ h. has-front passes tests_row (classes_row ++ (turn_row ++ end_row)) (kept_true (is_entered end_rule auto s) _ entered h))
+        (λ h. has-back passes tests_row (classes_row ++ (turn_row ++ end_row))
+        (has-back passes classes_row (turn_row ++ end_row) (has-front passes turn_row end_row (kept_true (is_entered end_rule auto s) _ entered h))))
+
+    state_peeks : (s from : ℕ) (given : State) (edges : List Edge) → ((edges ≡ [] → ⊥) → Passes (state s) (supply.check s))
+        → Has is_peek (own_blocks s from given edges) → Has passes (own_blocks s from given edges)
+    state_peeks s from given [] asks h = absurd (no_peek _ (calm_lone halting endings auto rules fall (lone_number end_rule s) given.accept) h)
+    state_peeks s from given (edge ∷ edges) asks h = by (is_entered end_rule auto s) refl
+      where
+        none_kept : (tests turn : List (List Stmt)) → Has is_peek (kept false tests
+            ++ (class_blocks halting auto (saved_accepts halting auto.states) place given (transition_classes (edge ∷ edges))
+            ++ (kept false turn ++ end_blocks auto rules fall (halted_accept halting s given)))) → ⊥
+        none_kept tests turn g =
+            no_peek _ (each-append Calm (class_blocks halting auto (saved_accepts halting auto.states) place given (transition_classes (edge ∷ edges)))
+            (end_blocks auto rules fall (halted_accept halting s given))
+            (calm_classes halting endings auto (saved_accepts halting auto.states) place given (transition_classes (edge ∷ edges)))
+            (calm_end halting endings auto rules fall (halted_accept halting s given))) g
+
+        by : (t : Bool) → is_entered end_rule auto s ≡ t → Has passes (own_blocks s from given (edge ∷ edges))
+        by true entered = state_passes s from given edge edges entered (asks (λ e. absurd (cc)))
+        by false entered =
+            let tests : List (List Stmt) = reader_blocks supply.stored (state s) supply.eof (supply.check s) from
+            (with_blocks (state_way supply halting end_rule trees auto rules fall begin s from given) (trees (state s))) in
+            let turn : List (List Stmt) = at_end_blocks supply (state s) from (turn_begin supply halting end_rule trees auto s from given.edges)
+            (state_to supply halting end_rule trees auto rules fall begin s from given)
+            (state_end supply halting end_rule trees auto rules fall begin s from given) in
+            absurd (none_kept tests turn
+            (subst (λ t. Has is_peek (kept t tests
+            ++ (class_blocks halting auto (saved_accepts halting auto.states) place given (transition_classes (edge ∷ edges))
+            ++ (kept t turn ++ end_blocks auto rules fall (halted_accept halting s given))))) entered h))
+
+    -- what is asked of each state that has an edge
+    abbrev pub EachPasses : (s : ℕ) → List State → Type 0
+    EachPasses s [] = Unit {0}
+    EachPasses s (given ∷ states) = ((given.edges ≡ [] → ⊥) → Passes (state s) (supply.check s)) × EachPasses (suc s) states
+
+    abbrev all_blocks : (s from : ℕ) → List State → List (List Stmt)
+    all_blocks s from states = states_blocks supply halting end_rule trees auto rules fall begin (saved_accepts halting auto.states) place s from states
+
+    states_peek : (s from : ℕ) (states : List State) → EachPasses s states → Has is_peek (all_blocks s from states) → Has passes (all_blocks s from states)
+    states_peek s from [] asks h = absurd (false≢true h)
+    states_peek s from (given ∷ states) asks h =
+        either (has-split is_peek (own_blocks s from given given.edges) (all_blocks (suc s) (from + state_size supply halting end_rule trees auto s given) states) h)
+        (λ g. has-front passes (own_blocks s from given given.edges) (all_blocks (suc s) (from + state_size supply halting end_rule trees auto s given) states)
+        (state_peeks s from given given.edges asks.0 g))
+        (λ g. has-back passes (own_blocks s from given given.edges) (all_blocks (suc s) (from + state_size supply halting end_rule trees auto s given) states)
+        (states_peek (suc s) (from + state_size supply halting end_rule trees auto s given) states asks.1 g))
+
+    -- if state 0 has an edge
+    first_passes : (from : ℕ) (states : List State) → ((state_of states 0).edges ≡ [] → ⊥) → is_entered end_rule auto 0 ≡ true
+        → Passes (state 0) (supply.check 0) → Has passes (all_blocks 0 from states)
+    first_passes from [] some entered asks = absurd (some refl)
+    first_passes from (given ∷ states) some entered asks =
+        has-front passes (own_blocks 0 from given given.edges) (all_blocks 1 (from + state_size supply halting end_rule trees auto 0 given) states)
+        (by given.edges some)
+      where
+        by : (edges : List Edge) → (edges ≡ [] → ⊥) → Has passes (own_blocks 0 from given edges)
+        by [] some = absurd (some refl)
+        by (edge ∷ edges) some = state_passes 0 from given edge edges entered asks
+
+  -- ---- the whole
+
+  module _ (begin : ℕ) where
+    abbrev rule_at : ℕ → ℕ
+    rule_at = rule_block supply halting end_rule trees auto begin
+
+    abbrev fall_at : ℕ
+    fall_at = fall_block supply halting end_rule trees auto begin
+
+    abbrev start : ℕ
+    start = states_begin supply halting end_rule trees auto begin
+
+    abbrev place_at : ℕ → ℕ
+    place_at = place_of supply halting end_rule trees auto begin
+
+    abbrev rest : List (List Stmt)
+    rest =
+        fallback_part halting auto (first_restore supply halting end_rule trees auto begin)
+        ++ (restore_blocks (rule_block supply halting end_rule trees auto begin) (saved_accepts halting auto.states)
+        ++ (ending_blocks endings (ended_accepts halting auto.states) ++ end_rule_part endings end_rule))
+
+    entry_passes : (o : Option ℕ) → ((rule : ℕ) → o ≡ Some rule → Passes entry 0) → Has is_peek (entry_part supply halting end_rule trees auto begin o)
+        → Has passes (entry_part supply halting end_rule trees auto begin o)
+    entry_passes None asks h = absurd (false≢true h)
+    entry_passes (Some rule) asks h =
+        let way = entry_way supply halting end_rule trees auto rule_at fall_at begin start (state_of auto.states 0) in
+        let tests_row : List (List Stmt) = reader_blocks supply.stored entry supply.eof 0 begin (with_blocks way (trees entry)) in
+        let turn_row : List (List Stmt) = at_end_blocks supply entry begin (begin + entry_tests_size supply halting end_rule trees auto)
+        (state_to supply halting end_rule trees auto rule_at fall_at begin 0 start (state_of auto.states 0))
+        (end_rule_block supply halting end_rule trees auto begin) in
+        either (asks rule refl begin begin (begin + entry_tests_size supply halting end_rule trees auto) (with_blocks way (trees entry))
+        (state_to supply halting end_rule trees auto rule_at fall_at begin 0 start (state_of auto.states 0))
+        (end_rule_block supply halting end_rule trees auto begin))
+        (λ g. has-front passes tests_row turn_row g) (λ g. has-back passes tests_row turn_row g)
+
+    pub layout_peeks : ((rule : ℕ) → end_rule ≡ Some rule → Passes entry 0) → EachPasses rule_at fall_at begin place_at 0 auto.states
+        → Has is_peek (supplied_layout supply halting endings end_rule trees auto begin)
+        → Has passes (supplied_layout supply halting endings end_rule trees auto begin)
+    layout_peeks entry_asks asks h =
+        let first : List (List Stmt) = entry_part supply halting end_rule trees auto begin end_rule in
+        let states : List (List Stmt) = states_part supply halting end_rule trees auto begin in
+        either (has-split is_peek first (states ++ rest) h)
+        (λ g. has-front passes first (states ++ rest) (entry_passes end_rule entry_asks g))
+        (λ g. has-back passes first (states ++ rest)
+        (either (has-split is_peek states rest g)
+        (λ k. has-front passes states rest (states_peek rule_at fall_at begin place_at 0 start auto.states asks k))
+        (λ k. absurd (no_peek rest (calm_rest halting endings auto rule_at (first_restore supply halting end_rule trees auto begin) end_rule) k))))
+
+    pub layout_starts : ((state_of auto.states 0).edges ≡ [] → ⊥) → is_entered end_rule auto 0 ≡ true → Passes (state 0) (supply.check 0)
+        → Has passes (supplied_layout supply halting endings end_rule trees auto begin)
+    layout_starts some entered asks =
+        let first : List (List Stmt) = entry_part supply halting end_rule trees auto begin end_rule in
+        let states : List (List Stmt) = states_part supply halting end_rule trees auto begin in
+        has-back passes first (states ++ rest)
+        (has-front passes states rest (first_passes rule_at fall_at begin place_at start auto.states some entered asks))

@@ -1,0 +1,8 @@
+-- The ends of rules, and a piece as a scanner of them.
+pub mod EndCodes
+pub mod EndPlaces
+pub mod EndingLoops
+pub mod RuleBlocks
+pub mod RuleEndings
+pub mod RuleEnds
+pub mod SwitchCases

@@ -1,0 +1,24 @@
+-- Where the blocks of a layout with a supply of units stand, and that they serve the automaton.
+pub mod ApartUnits
+pub mod Readers
+pub mod Lengths
+pub mod Places
+pub mod StatesServe
+pub mod LayoutServes
+pub mod ReaderWays
+pub mod FirstsFrom
+pub mod BareUnits
+pub mod EachBlock
+pub mod EachLayout
+pub mod WholeLayout
+pub mod HeldLayouts
+pub mod ClosedCodes
+pub mod ClosedLayouts
+pub mod CommonCodes
+pub mod PeekedBlocks
+pub mod ApartPlaces
+pub mod ReturnBlocks
+pub mod OwnBlocks
+pub mod CarriedLayouts
+pub mod StoredNothing
+pub mod QuietLayouts

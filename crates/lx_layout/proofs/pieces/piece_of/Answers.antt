@@ -1,0 +1,33 @@
+use Rattle.std.proofs.Common.{IfSome, rules, subst, sym, ◌∙◌}
+use Rattle.std.specs.Prelude.{◌≡◌, ◌≤◌}
+use Rattle.lx_base.specs.declared.limits.TheConstants.{STATEMENT_LIMIT}
+use Rattle.lx_ccode.specs.States.{states_from}
+use Rattle.lx_ccode.specs.Statements.{statement_count}
+use Rattle.lx_ccode.specs.Validity.{labels}
+use Rattle.lx_layout.specs.PieceViews.{seen_form, seen_sources}
+use Rattle.lx_layout.specs.Pieces.{HasFields}
+use Rattle.lx_layout.specs.Switches.{cond_cases}
+use Rattle.lx_layout.proofs.PieceLaws.ShortHistories.{histories_short}
+use Rattle.lx_layout.proofs.PieceLaws.WholePieces.{is_piece}
+use Rattle.lx_layout.proofs.pieces.piece_of.Goals as goal
+
+pub piece_with-requires : goal.piece_with-requires
+piece_with-requires c =
+    let laid = c.in_ok-blocks.ensures.parts in
+    histories_short (seen_form c.args.form) (seen_sources c.args.scanners.now) laid.0 c.in_ok-blocks.blocks.items c.requires laid.1 laid.2
+    c.in_ok-blocks.ensures.few
+
+pub returns : goal.returns
+returns c =
+    let form = seen_form c.args.form in
+    let laid = c.in_ok-blocks.ensures.parts in
+    let piece = c.in_ok-piece.piece in
+    let told = c.in_ok-piece.ensures in
+    let same = sym told.blocks in
+    is_piece form (seen_sources c.args.scanners.now) laid.0 piece c.requires laid.1
+    (let h = c.well_formed in search rules)
+    (told.blocks ∙ laid.2)
+    (subst (λ blocks. statement_count blocks ≤ STATEMENT_LIMIT) same c.in_ok-blocks.ensures.few)
+    (subst (λ blocks. HasFields form (labels blocks) piece) same told.fields)
+    (subst (λ blocks. IfSome piece.states (λ cases. cases ≡ states_from 0 blocks)) same told.states)
+    (subst (λ blocks. piece.conds ≡ cond_cases 0 blocks) same told.conds)

@@ -1,0 +1,185 @@
+-- Examples of layouts, of sequences, and of runs.
+use Rattle.std.specs.Prelude.{◌≡◌, ℕ, zero, suc, nat_eq, List, [], ◌∷◌, Option, Some, None, false, true, length, map}
+use Rattle.lx_auto.specs.Examples.{dotted}
+use Rattle.lx_auto.specs.declared.automaton.Auto.{Auto}
+use Rattle.lx_auto.specs.declared.ops.Op.TheVariants as act
+use Rattle.lx_base.specs.Names.{Spellings}
+use Rattle.lx_ccode.specs.declared.piece.Piece.{Piece}
+use Rattle.lx_ccode.specs.declared.piece.Stmt.{Stmt}
+use Rattle.lx_ccode.specs.declared.piece.Stmt.TheVariants.{Accept, Backup, Code, Goto, IfAccept, IfUnit, Leave, Peek, Restore, Set, Skip, Tag}
+use Rattle.lx_ccode.specs.Machine.{by_rule, no_rule, tag_offset}
+use Rattle.lx_ccode.specs.Runs.{Ended}
+use Rattle.lx_layout.specs.Endings.{Ending}
+use Rattle.lx_layout.specs.Halting.{Halting}
+use Rattle.lx_layout.specs.Layout.{class_block}
+use Rattle.lx_layout.specs.ParallelCopies.{sequentialized}
+use Rattle.lx_layout.specs.Starts.{run_with}
+use Rattle.lx_layout.specs.SuppliedLayout.{EachReader, reader_blocks, supplied_layout, with_blocks}
+use Rattle.lx_layout.specs.Supplies.{Reader, entry, plain_supply, state}
+use Rattle.lx_layout.specs.TestTrees.{IsTreeOf, TestTree, fork, leaf, test}
+use Rattle.lx_layout.specs.TransitionClasses.{Split}
+
+-- each rule has the tag `t`, and the action `a`
+abbrev pub tagged : ℕ → Ending
+tagged rule = record { tags = (116 ∷ []) ∷ []; slash = None; groups = 0; goes_to = None; action = Some (97 ∷ []); line = None }
+
+-- Trees of tests for the automaton of `[a-cx-z] ("." [a-cx-z])* @t` for bytes. In state 0 the units behind 96 are parted behind 119.
+abbrev pub dotted_tree : (number : ℕ) → TestTree (Option ℕ)
+dotted_tree zero = test 96 None (fork 119 (test 99 (Some 0) (leaf None)) (test 122 (Some 0) (leaf None)))
+dotted_tree (suc number) = test 45 None (test 46 (Some 0) (leaf None))
+
+abbrev pub dotted_trees : Reader → TestTree (Option ℕ)
+dotted_trees entry = dotted_tree 0
+dotted_trees (state number) = dotted_tree number
+
+-- a match can end in both states, and falls back from state 0, which does not accept
+abbrev pub dotted_halting : Halting
+dotted_halting = record { halts = λ number. true; falls = λ number. nat_eq number 0 }
+
+-- The layout by them. The two ranges of state 0 are one class; the units from 97 up to 119 are tested in block 1. State 1 stands from block
+-- 3 on: a dot, on which it is saved, and the end in it. Then come the fallback, what it does for rule 1, and the end of rule 1.
+abbrev pub dotted_blocks : List (List Stmt)
+dotted_blocks =
+    (Peek ∷ IfUnit 96 6 ∷ IfUnit 119 1 ∷ IfUnit 122 2 ∷ Goto 6 ∷ [])
+    ∷ (IfUnit 99 2 ∷ Goto 6 ∷ [])
+    ∷ (Skip ∷ Goto 3 ∷ [])
+    ∷ (Peek ∷ IfUnit 45 5 ∷ IfUnit 46 4 ∷ Goto 5 ∷ [])
+    ∷ (Backup ∷ Accept 1 ∷ Set 1 ∷ Skip ∷ Goto 0 ∷ [])
+    ∷ (Set 1 ∷ Goto 8 ∷ [])
+    ∷ (IfAccept 1 7 ∷ Leave ∷ [])
+    ∷ (Restore ∷ Goto 8 ∷ [])
+    ∷ (Tag (116 ∷ []) false 1 ∷ Code 1 None (97 ∷ []) ∷ [])
+    ∷ []
+
+-- An automaton of `[^] [a-z]*` with the rule 1. On any byte state 0 goes on, so it has no test, and no match can end in it. The end in
+-- state 1 is the rule's block. No match falls back from a state, so there is no fallback.
+abbrev pub any_then : Auto
+any_then = record {
+  states = record {
+    edges = record { lo = 0; hi = 255; ops = []; to = 1 } ∷ [];
+    accept = None;
+    leave = [];
+  } ∷ record {
+    edges = record { lo = 97; hi = 122; ops = []; to = 1 } ∷ [];
+    accept = Some (record { rule = 1; ops = []; values = [] });
+    leave = [];
+  } ∷ [];
+  regs = 0;
+  mregs = 0;
+}
+
+abbrev pub any_tree : (number : ℕ) → TestTree (Option ℕ)
+any_tree zero = leaf (Some 0)
+any_tree (suc number) = test 96 None (test 122 (Some 0) (leaf None))
+
+abbrev pub any_trees : Reader → TestTree (Option ℕ)
+any_trees entry = any_tree 0
+any_trees (state number) = any_tree number
+
+abbrev pub any_halting : Halting
+any_halting = record { halts = λ number. nat_eq number 1; falls = λ number. false }
+
+abbrev pub any_blocks : List (List Stmt)
+any_blocks =
+    (Skip ∷ Goto 1 ∷ [])
+    ∷ (Peek ∷ IfUnit 96 3 ∷ IfUnit 122 2 ∷ Goto 3 ∷ [])
+    ∷ (Skip ∷ Goto 1 ∷ [])
+    ∷ (Code 1 None (97 ∷ []) ∷ [])
+    ∷ []
+
+abbrev pub untagged : ℕ → Ending
+untagged rule = record { tags = []; slash = None; groups = 0; goes_to = None; action = Some (97 ∷ []); line = None }
+
+-- the layouts stand, and their trees are trees of the tests of the states
+pub record LayoutsStand : Type 0 where
+  pub dotted_stands : supplied_layout plain_supply dotted_halting tagged None dotted_trees dotted 0 ≡ dotted_blocks
+  pub dotted_are : EachReader IsTreeOf None 255 dotted_trees dotted
+  pub any_stands : supplied_layout plain_supply any_halting untagged None any_trees any_then 0 ≡ any_blocks
+  pub any_are : EachReader IsTreeOf None 255 any_trees any_then
+
+-- units are of class 0 up to 10, of class 1 up to 20, and so on; behind the last of seven tests they are of class 7
+abbrev pub seven : Split
+seven = record {
+  tests =
+      record { greatest = 10; class = Some 0 } ∷ record { greatest = 20; class = Some 1 } ∷ record { greatest = 30; class = Some 2 }
+      ∷ record { greatest = 40; class = Some 3 } ∷ record { greatest = 50; class = Some 4 } ∷ record { greatest = 60; class = Some 5 }
+      ∷ record { greatest = 70; class = Some 6 } ∷ [];
+  last = Some 7;
+}
+
+abbrev pub seven_tree : TestTree (Option ℕ)
+seven_tree =
+    fork 40 (test 10 (Some 0) (test 20 (Some 1) (test 30 (Some 2) (leaf (Some 3)))))
+    (test 50 (Some 4) (test 60 (Some 5) (test 70 (Some 6) (leaf (Some 7)))))
+
+-- letters, digits and `_` are of class 0, and others of none
+abbrev pub letters : Split
+letters = record {
+  tests =
+      record { greatest = 47; class = None } ∷ record { greatest = 57; class = Some 0 } ∷ record { greatest = 64; class = None }
+      ∷ record { greatest = 90; class = Some 0 } ∷ record { greatest = 94; class = None } ∷ record { greatest = 95; class = Some 0 }
+      ∷ record { greatest = 96; class = None } ∷ record { greatest = 122; class = Some 0 } ∷ [];
+  last = None;
+}
+
+abbrev pub letters_tree : TestTree (Option ℕ)
+letters_tree =
+    test 47 None (fork 94 (fork 64 (test 57 (Some 0) (leaf None)) (test 90 (Some 0) (leaf None)))
+    (fork 96 (test 95 (Some 0) (leaf None)) (test 122 (Some 0) (leaf None))))
+
+-- Of eight runs and of nine each unit needs four tests at most. The tests of eight are parted in the middle. Those of nine begin before the
+-- digits, and are parted in halves behind that.
+pub record TestsAreFew : Type 0 where
+  pub seven_is : IsTreeOf seven seven_tree
+  pub seven_stands : reader_blocks None entry None 0 0 (with_blocks (class_block 2 10) seven_tree) ≡
+      (Peek ∷ IfUnit 40 1 ∷ IfUnit 50 6 ∷ IfUnit 60 7 ∷ IfUnit 70 8 ∷ Goto 9 ∷ [])
+      ∷ (IfUnit 10 2 ∷ IfUnit 20 3 ∷ IfUnit 30 4 ∷ Goto 5 ∷ [])
+      ∷ []
+  pub letters_is : IsTreeOf letters letters_tree
+  pub letters_stand : reader_blocks None entry None 0 0 (with_blocks (class_block 4 5) letters_tree) ≡
+      (Peek ∷ IfUnit 47 5 ∷ IfUnit 94 1 ∷ IfUnit 96 3 ∷ IfUnit 122 4 ∷ Goto 5 ∷ [])
+      ∷ (IfUnit 64 2 ∷ IfUnit 90 4 ∷ Goto 5 ∷ [])
+      ∷ (IfUnit 57 4 ∷ Goto 5 ∷ [])
+      ∷ (IfUnit 95 4 ∷ Goto 5 ∷ [])
+      ∷ []
+
+-- two registers are swapped by the spare 3, and one of two writes and a copy of a register to itself are left out
+pub record SequencesAreShort : Type 0 where
+  pub swap : sequentialized 3 1 (act.Copy 0 1 ∷ act.Copy 1 0 ∷ []) ≡ act.Copy 3 0 ∷ act.Copy 0 1 ∷ act.Copy 1 3 ∷ []
+  pub chain : sequentialized 3 1 (act.Copy 0 1 ∷ act.Copy 1 2 ∷ []) ≡ act.Copy 0 1 ∷ act.Copy 1 2 ∷ []
+  pub turned : sequentialized 3 1 (act.Copy 1 2 ∷ act.Copy 0 1 ∷ []) ≡ act.Copy 0 1 ∷ act.Copy 1 2 ∷ []
+  pub last_counts : sequentialized 3 1 (act.Here 1 ∷ act.Copy 0 1 ∷ act.Null 1 ∷ []) ≡ act.Copy 0 1 ∷ act.Null 1 ∷ []
+  pub to_itself : sequentialized 3 1 (act.Here 0 ∷ act.Copy 1 2 ∷ act.Copy 0 0 ∷ []) ≡ act.Copy 1 2 ∷ []
+
+-- a piece of these blocks, with the usual spellings
+abbrev pub bytes_piece : Spellings → List (List Stmt) → Piece
+bytes_piece names codes = record {
+  number = 1;
+  head = None;
+  names = names;
+  unit = 1;
+  eof = None;
+  declares = true;
+  ctx = false;
+  states = None;
+  conds = [];
+  blocks = map (λ code. record { cond = None; stmts = code }) codes;
+  line = None;
+}
+
+-- what its run tells on a stream from the start of it, where registers hold 7 before
+abbrev pub run_on : Spellings → List ℕ → Ended
+run_on names stream =
+    run_with (bytes_piece names dotted_blocks) stream 0 (λ register. Some 7) (λ history. []) [] (record { first = length stream; answers = [] })
+
+-- On `a.x!` the longest word is matched. On `a.!` the run falls back behind `a`, with the tag's value there. On `a!` it ends at once,
+-- and on `!` no rule is found, with the cursor behind the longest word that begins a match.
+pub record RunsOfDotted : Type 0 where
+  pub whole : (names : Spellings) → run_on names (97 ∷ 46 ∷ 120 ∷ 33 ∷ [])
+      ≡ record { outcome = by_rule 1; cursor = 3; cond = []; values = tag_offset (116 ∷ []) (Some 3) ∷ [] }
+  pub falls_back : (names : Spellings) → run_on names (97 ∷ 46 ∷ 33 ∷ [])
+      ≡ record { outcome = by_rule 1; cursor = 1; cond = []; values = tag_offset (116 ∷ []) (Some 1) ∷ [] }
+  pub at_once : (names : Spellings) → run_on names (97 ∷ 33 ∷ [])
+      ≡ record { outcome = by_rule 1; cursor = 1; cond = []; values = tag_offset (116 ∷ []) (Some 1) ∷ [] }
+  pub none : (names : Spellings) → run_on names (33 ∷ [])
+      ≡ record { outcome = no_rule; cursor = 0; cond = []; values = [] }

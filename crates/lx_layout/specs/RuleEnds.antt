@@ -1,0 +1,46 @@
+-- What the rules of a scanner do at their ends, as the code has it.
+use Rattle.std.specs.Prelude.{◌≡◌, ℕ, suc, ◌+◌, ◌*◌, ◌≤◌, List, [], ◌∷◌, length, Option, Some, None, IsSome, nat_eq, option_map, if◌then◌else◌}
+use Rattle.lx_auto.specs.declared.automaton.Accept.{Accept}
+use Rattle.lx_layout.specs.Endings.{Ending}
+use Rattle.lx_layout.specs.NumberIndexes.{noted_place}
+use Rattle.lx_layout.specs.Rules.{names_of}
+use Rattle.lx_layout.specs.declared.rule_ends.EndIndex.{EndIndex}
+use Rattle.lx_layout.specs.declared.rule_ends.RuleEnd.{RuleEnd}
+
+abbrev pub ending_of : RuleEnd → Ending
+ending_of end = record {
+  tags = names_of end.rule.now.tags;
+  slash = end.rule.now.slash;
+  groups = end.rule.now.groups;
+  goes_to = end.goes.now;
+  action = end.action.now;
+  line = end.line;
+}
+
+-- where there is no rule
+abbrev pub no_ending : Ending
+no_ending = record { tags = []; slash = None; groups = 0; goes_to = None; action = None; line = None }
+
+-- the ending of the first rule with a number
+abbrev pub endings_of : List RuleEnd → (number : ℕ) → Ending
+endings_of [] number = no_ending
+endings_of (end ∷ ends) number = if nat_eq number end.rule.now.number then ending_of end else endings_of ends number
+
+-- its place
+abbrev pub end_place : List RuleEnd → (number : ℕ) → Option ℕ
+end_place [] number = None
+end_place (end ∷ ends) number = if nat_eq number end.rule.now.number then Some 0 else option_map suc (end_place ends number)
+
+-- some rule has this number
+abbrev pub HasEnd : List RuleEnd → (number : ℕ) → Type 0
+HasEnd ends number = IsSome (end_place ends number)
+
+-- the table has the places of the rules
+abbrev pub AreEndsIndexed : EndIndex → Type 0
+AreEndsIndexed index = (number : ℕ) → noted_place index.places number ≡ end_place index.ends.now number
+
+-- the end of an accept's rule is told, and each of its tags and groups has a value
+pub record HasToldEnd (ends : List RuleEnd) (accept : Accept) : Type 0 where
+  pub end : HasEnd ends accept.rule
+  pub groups : (endings_of ends accept.rule).groups ≤ 65
+  pub values : length accept.values ≡ length (endings_of ends accept.rule).tags + 2 * (endings_of ends accept.rule).groups

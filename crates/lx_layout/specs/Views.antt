@@ -1,0 +1,32 @@
+-- What the definitions see of what the code holds.
+use Rattle.std.specs.Prelude.{ℕ, List, Option, map}
+use Rattle.lx_auto.specs.declared.automaton.Edge.{Edge}
+use Rattle.lx_layout.specs.TestTrees.{TestTree, fork, leaf, test}
+use Rattle.lx_layout.specs.TransitionClasses.{Split, Stretch}
+use Rattle.lx_layout.specs.declared.test_trees.TestTree as held_tree
+use Rattle.lx_layout.specs.declared.test_trees.TestTree.TheOpen.{TestTree-F}
+use Rattle.lx_layout.specs.declared.test_trees.TestTree.TheFolds.{fold-TestTree}
+use Rattle.lx_layout.specs.declared.unit_splits.Split as held_split
+use Rattle.lx_layout.specs.declared.unit_splits.Stretch as held_stretch
+use Rattle.lx_layout.specs.declared.transition_classes.TransitionClass.{TransitionClass}
+
+abbrev pub seen_classes : List TransitionClass → List Edge
+seen_classes classes = map (λ class. class.edge.now) classes
+
+abbrev pub seen_stretch : held_stretch.Stretch → Stretch
+seen_stretch stretch = record { greatest = stretch.greatest; class = stretch.class }
+
+abbrev pub seen_stretches : List held_stretch.Stretch → List Stretch
+seen_stretches stretches = map seen_stretch stretches
+
+abbrev pub seen_split : held_split.Split → Split
+seen_split split = record { tests = seen_stretches split.tests.items; last = split.last }
+
+-- one test, with the trees behind it
+abbrev pub seen_test : TestTree-F (TestTree (Option ℕ)) → TestTree (Option ℕ)
+seen_test (TestTree-F.Leaf class) = leaf class
+seen_test (TestTree-F.Test greatest class high) = test greatest class high.value
+seen_test (TestTree-F.Fork greatest low high) = fork greatest low.value high.value
+
+abbrev pub seen_tree : held_tree.TestTree → TestTree (Option ℕ)
+seen_tree = fold-TestTree (TestTree (Option ℕ)) seen_test

@@ -1,0 +1,18 @@
+//! Worked examples of layouts, of tests of a unit, of sequences of operations, and of automata that pieces carry.
+ghost use Rattle.lx_base.specs.Names.{Spellings};
+ghost use Rattle.lx_layout.specs.CarriedExamples.{PiecesCarry};
+ghost use Rattle.lx_layout.specs.Examples.{LayoutsStand, RunsOfDotted, SequencesAreShort, TestsAreFew};
+
+/// The examples of `specs/Examples.antt` are right.
+pub fn examples_hold()
+    ensures layouts { LayoutsStand }
+    ensures runs { RunsOfDotted }
+    ensures sequences { SequencesAreShort }
+    ensures tests { TestsAreFew }
+{}
+
+/// The examples of `specs/CarriedExamples.antt` are right: four pieces carry their automata, whatever their names are, and one of them
+/// carries no automaton of another rule.
+pub fn pieces_carry_automata()
+    ensures { (names : Spellings) → PiecesCarry names }
+{}

@@ -1,0 +1,220 @@
+//! The blocks of scanners, one behind another.
+ghost use Rattle.std.specs.Prelude.{◌≡◌, ◌≤◌, ◌&&◌, List, IfOk, IfSome, is_some};
+ghost use Rattle.std.specs.List.{list_any};
+ghost use Rattle.lx_base.specs.Spelling.{greatest_unit};
+ghost use Rattle.lx_base.specs.declared.limits.TheConstants.{STATEMENT_LIMIT};
+ghost use Rattle.lx_ccode.specs.Counts.{mregs_of, state_count};
+ghost use Rattle.lx_ccode.specs.States.{states_from};
+ghost use Rattle.lx_ccode.specs.Statements.{all_statements, has_register_one, statement_count};
+ghost use Rattle.lx_ccode.specs.Validity.{IsShort, labels};
+ghost use Rattle.lx_layout.specs.LaidParts.{seen_given};
+ghost use Rattle.lx_layout.specs.Parts.{Part, parts_blocks};
+ghost use Rattle.lx_layout.specs.PieceViews.{seen_form, seen_source, seen_sources};
+ghost use Rattle.lx_layout.specs.Pieces.{AreFit, ArePartsOf, HasFields, IsPieceOf, given_of, head_of, mode_of};
+ghost use Rattle.lx_layout.specs.Switches.{cond_cases};
+
+use crate::demands::{Demand, PartInput};
+use crate::parts::append_part;
+use crate::rule_ends::RuleEnd;
+use crate::switches::{cond_cases, names_register_one, state_cases};
+use lx_auto::Auto;
+use lx_base::{ByteText, Enc, Memory, Names, Sequence};
+use lx_ccode::{
+    CodeBlock, Head, LineMark, Mode, Piece, StateCase, count_statements, mregs_of, regs_of,
+};
+use lx_encode::{greatest_unit, unit_bytes};
+use std::alloc::Global;
+
+/// What a piece is beside its scanners.
+#[derive(Drop)]
+pub struct PieceForm<'a> {
+    /// The number in its output, counted from 1.
+    pub number: u32,
+    pub names: &'a Names,
+    pub enc: Enc,
+    /// Whether it reads its input by primitives of the user's, and not through pointers.
+    pub custom: bool,
+    /// The unit that stands at the end of the input, if one does.
+    pub eof: Option<u32>,
+    /// Whether refills are asked for.
+    pub fill: bool,
+    /// Whether the state is stored before each refill. The user declares the variables then.
+    pub stores: bool,
+    /// The number of the first state that is stored.
+    pub first_state: u64,
+    /// Whether it has a switch over its states.
+    pub switches: bool,
+    /// Whether register 1 is spelled as the context marker, if a statement has it.
+    pub context: bool,
+    /// The place behind the block, if that is told.
+    pub line: Option<LineMark>,
+}
+
+/// What is given of a scanner.
+#[derive(Clone, Copy)]
+pub struct ScannerInput<'a, 'b> {
+    /// The name of its condition, if it has one.
+    pub cond: &'a Option<ByteText>,
+    pub auto: &'a Auto,
+    /// For how many units each state checks where units are counted, by its number; 0 where it does not.
+    pub checks: &'a [u32],
+    /// What its rules do at their ends.
+    pub ends: &'b [RuleEnd<'a>],
+    /// The number of the rule at the end of the input, if there is one.
+    pub end_rule: Option<u32>,
+}
+
+/// How a scanner finds the end of its input.
+pub(crate) fn mode_of(eof: Option<u32>, fill: bool) -> Mode
+    ensures { result ≡ mode_of eof fill }
+{
+    match (eof, fill) {
+        (None, false) => Mode::Plain,
+        (None, true) => Mode::Count,
+        (Some(_), false) => Mode::EofFixed,
+        (Some(_), true) => Mode::Eof,
+    }
+}
+
+/// What the layout of a scanner is made of.
+fn part_input<'b>(form: &PieceForm<'_>, scanner: &ScannerInput<'b, 'b>) -> PartInput<'b>
+    ensures given { seen_given result ≡ given_of (seen_form form.now) (seen_source scanner.now) }
+    ensures greatest { result.greatest ≡ greatest_unit form.now.enc }
+    ensures ends { result.ends.now ≡ scanner.now.ends.now }
+    ensures auto { result.auto.now ≡ scanner.now.auto.now }
+    ensures end_rule { result.end_rule ≡ scanner.now.end_rule }
+{
+    let counted = form.fill && form.eof.is_none();
+    PartInput {
+        cond: scanner.cond,
+        demand: Demand {
+            eof: form.eof,
+            tries: form.fill && form.eof.is_some(),
+            checks: if counted { Some(scanner.checks) } else { None },
+            stores: form.stores,
+        },
+        greatest: greatest_unit(form.enc),
+        ends: scanner.ends,
+        end_rule: scanner.end_rule,
+        auto: scanner.auto,
+    }
+}
+
+/// The blocks of scanners one behind another.
+///
+/// Blocks with more than 2^62 statements count as want of memory.
+pub(crate) fn scanner_blocks(
+    alloc: Global,
+    form: &PieceForm<'_>,
+    scanners: &[ScannerInput<'_, '_>],
+) -> Result<Vec<CodeBlock>, Memory>
+    requires { AreFit (seen_form form.now) (seen_sources scanners.now) }
+    ensures parts { IfOk result (λ blocks. (parts : List Part) × ArePartsOf (seen_form form.now) (seen_sources scanners.now) parts
+        × (blocks.items ≡ parts_blocks 0 form.now.first_state parts)) }
+    ensures few { IfOk result (λ blocks. statement_count blocks.items ≤ STATEMENT_LIMIT) }
+{
+    let mut blocks = Vec::new(alloc);
+    let mut next = form.first_state;
+    for scanner in scanners {
+        next = append_part(alloc, &mut blocks, &part_input(form, scanner), next)?;
+    }
+    if count_statements(&blocks).is_none() {
+        return Err(Memory);
+    }
+    Ok(blocks)
+}
+
+/// A copy of the spellings.
+fn copied_names(alloc: Global, names: &[ByteText]) -> Result<Names, Memory>
+    ensures { IfOk result (λ copy. copy ≡ names.now) }
+{
+    let mut copies = Vec::new(alloc);
+    for name in names {
+        copies.push(ByteText::copy_of(alloc, name.as_slice())?)?;
+    }
+    Ok(Names::from_vec(copies))
+}
+
+/// What a piece of these blocks tells of itself, where they store so many states.
+fn head_of(form: &PieceForm<'_>, blocks: &[CodeBlock], states: u64) -> Head
+    requires short { IsShort (mregs_of blocks.now) }
+    requires states { states ≡ state_count blocks.now }
+    ensures { result ≡ head_of (seen_form form.now) blocks.now }
+{
+    let mregs = mregs_of(blocks);
+    Head {
+        custom: form.custom,
+        enc: form.enc,
+        mode: mode_of(form.eof, form.fill),
+        regs: regs_of(blocks),
+        mregs: mregs as u32,
+        states,
+    }
+}
+
+/// Whether register 1 is spelled as the context marker.
+fn has_context(context: bool, blocks: &[CodeBlock]) -> bool
+    ensures { result ≡ (context && list_any has_register_one (all_statements blocks.now)) }
+{
+    context && names_register_one(blocks)
+}
+
+/// The switch over stored states, if the piece has one.
+fn switch_of(switches: bool, cases: Vec<StateCase>) -> Option<Sequence<StateCase>>
+    ensures has { is_some result ≡ switches }
+    ensures cases { IfSome result (λ switch. switch ≡ cases.items) }
+{
+    if switches {
+        return Some(Sequence::from_vec(cases));
+    }
+    None
+}
+
+/// The piece of these blocks, whose histories have numbers of 32 bits.
+pub(crate) fn piece_with(
+    alloc: Global,
+    form: PieceForm<'_>,
+    blocks: Vec<CodeBlock>,
+) -> Result<Piece, Memory>
+    requires { IsShort (mregs_of blocks.items) }
+    ensures fields { IfOk result (λ piece. HasFields (seen_form form.entry) (labels blocks.items) piece) }
+    ensures blocks { IfOk result (λ piece. piece.blocks ≡ blocks.items) }
+    ensures states { IfOk result (λ piece. IfSome piece.states (λ cases. cases ≡ states_from 0 blocks.items)) }
+    ensures conds { IfOk result (λ piece. piece.conds ≡ cond_cases 0 blocks.items) }
+{
+    let names = copied_names(alloc, form.names.as_slice())?;
+    let cases = state_cases(alloc, &blocks)?;
+    let conds = cond_cases(alloc, &blocks)?;
+    let head = head_of(&form, &blocks, cases.len() as u64);
+    let ctx = has_context(form.context, &blocks);
+    let states = switch_of(form.switches, cases);
+    Ok(Piece {
+        number: form.number,
+        head: Some(head),
+        names,
+        unit: unit_bytes(form.enc),
+        eof: form.eof,
+        declares: !form.stores,
+        ctx,
+        states,
+        conds: Sequence::from_vec(conds),
+        blocks: Sequence::from_vec(blocks),
+        line: form.line,
+    })
+}
+
+/// The piece of scanners, one behind another, each with its automaton.
+///
+/// It may answer want of memory, which no clause ties to a cause; a piece that would have more than 2^62 statements counts as that.
+pub fn piece_of(
+    alloc: Global,
+    form: PieceForm<'_>,
+    scanners: &[ScannerInput<'_, '_>],
+) -> Result<Piece, Memory>
+    requires { AreFit (seen_form form) (seen_sources scanners.now) }
+    ensures { IfOk result (IsPieceOf (seen_form form.entry) (seen_sources scanners.now)) }
+{
+    let blocks = scanner_blocks(alloc, &form, scanners)?;
+    let piece = piece_with(alloc, form, blocks)?;
+    Ok(piece)
+}

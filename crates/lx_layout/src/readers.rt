@@ -1,0 +1,245 @@
+//! The blocks of what reads a unit.
+ghost use Rattle.std.specs.Prelude.{◌≡◌, ◌++◌, [], None, IfOk, OnOk};
+ghost use Rattle.lx_layout.specs.Layout.{class_block};
+ghost use Rattle.lx_layout.specs.Plans.{unlabelled};
+ghost use Rattle.lx_layout.specs.SuppliedLayout.{check_blocks, check_size, read_blocks, reader_blocks, reader_size, with_blocks};
+ghost use Rattle.lx_layout.specs.Supplies.{entry, need_code, store_code};
+ghost use Rattle.lx_layout.specs.TestTrees.{inner_blocks, tree_code};
+ghost use Rattle.lx_layout.specs.Views.{seen_tree};
+ghost use Rattle.lx_layout.specs.Ways.{constant, way_of};
+
+use crate::blocks::{append_block, sum};
+use crate::test_trees::{TestTree, inner_size};
+use crate::unit_splits::same_place;
+use lx_base::Memory;
+use lx_ccode::{CodeBlock, Stmt};
+use std::alloc::Global;
+
+/// Where the tests of a state lead.
+#[derive(Clone, Copy)]
+pub(crate) struct Exits {
+    /// The block of the first transition class. Those of the others follow it.
+    pub first: u64,
+    /// The block where the match ends.
+    pub end: u64,
+    /// How many transition classes there are.
+    pub count: usize,
+    /// The block where the unit at the end of the input leads.
+    pub turn: u64,
+}
+
+/// How a unit is read.
+#[derive(Clone, Copy)]
+pub(crate) struct Reading {
+    /// By which number what reads is stored, if it is.
+    pub stored: Option<u64>,
+    /// For how many units is checked before, or 0.
+    pub units: u32,
+}
+
+/// The block of the class at a place. Without a class the match ends.
+pub(crate) fn class_block(first: u64, end: u64, class: Option<usize>) -> Result<u64, Memory>
+    ensures { IfOk result (λ block. block ≡ class_block first end class) }
+{
+    match class {
+        None => Ok(end),
+        Some(place) => sum(first, place as u64),
+    }
+}
+
+/// The block of the class at a place, where the place behind those of the classes is that of the unit at the end of the input.
+fn way_of(exits: Exits, class: Option<usize>) -> Result<u64, Memory>
+    ensures { IfOk result (λ block. block ≡ way_of exits class) }
+{
+    if same_place(class, Some(exits.count)) {
+        return Ok(exits.turn);
+    }
+    class_block(exits.first, exits.end, class)
+}
+
+/// Appends the statements of tests. The blocks of the lower tests begin at `next`.
+fn append_tests(
+    stmts: &mut Vec<Stmt>,
+    exits: Exits,
+    next: u64,
+    tree: &TestTree,
+) -> Result<(), Memory>
+    ensures { OnOk result (stmts.new.items ≡ stmts.old.items ++ tree_code next (with_blocks (way_of exits) (seen_tree tree.now))) }
+{
+    match tree {
+        TestTree::Leaf(class) => {
+            stmts.push(Stmt::Goto(way_of(exits, *class)?))?;
+            Ok(())
+        }
+        TestTree::Test {
+            greatest,
+            class,
+            high,
+        } => {
+            stmts.push(Stmt::IfUnit(*greatest, way_of(exits, *class)?))?;
+            append_tests(stmts, exits, next, high)
+        }
+        TestTree::Fork {
+            greatest,
+            low,
+            high,
+        } => {
+            stmts.push(Stmt::IfUnit(*greatest, next))?;
+            let behind = sum(sum(1, next)?, inner_size(low)?)?;
+            append_tests(stmts, exits, behind, high)
+        }
+    }
+}
+
+/// Appends the blocks of the lower tests. The first of them has the number `next`.
+fn append_lower(
+    alloc: Global,
+    blocks: &mut Vec<CodeBlock>,
+    exits: Exits,
+    next: u64,
+    tree: &TestTree,
+) -> Result<(), Memory>
+    ensures { OnOk result (blocks.new.items
+        ≡ blocks.old.items ++ unlabelled (inner_blocks next (with_blocks (way_of exits) (seen_tree tree.now)))) }
+{
+    match tree {
+        TestTree::Leaf(_) => Ok(()),
+        TestTree::Test { high, .. } => append_lower(alloc, blocks, exits, next, high),
+        TestTree::Fork { low, high, .. } => {
+            let inside = sum(1, next)?;
+            let mut stmts = Vec::new(alloc);
+            append_tests(&mut stmts, exits, inside, low)?;
+            append_block(blocks, stmts)?;
+            append_lower(alloc, blocks, exits, inside, low)?;
+            let behind = sum(inside, inner_size(low)?)?;
+            append_lower(alloc, blocks, exits, behind, high)
+        }
+    }
+}
+
+/// Appends the statement that stores what reads, if it is stored.
+pub(crate) fn append_store(stmts: &mut Vec<Stmt>, stored: Option<u64>) -> Result<(), Memory>
+    ensures { OnOk result (stmts.new.items ≡ stmts.old.items ++ store_code (constant stored) entry []) }
+{
+    if let Some(number) = stored {
+        stmts.push(Stmt::State(number))?;
+    }
+    Ok(())
+}
+
+/// The statements of a check for units, if there is one.
+fn need_code(alloc: Global, reading: Reading) -> Result<Vec<Stmt>, Memory>
+    ensures { IfOk result (λ stmts. stmts.items ≡ need_code (constant reading.stored) entry reading.units []) }
+{
+    let mut stmts = Vec::new(alloc);
+    if reading.units != 0 {
+        append_store(&mut stmts, reading.stored)?;
+        stmts.push(Stmt::Need(reading.units))?;
+    }
+    Ok(stmts)
+}
+
+/// Appends the block that reads the unit and tests it, which has the number `from`, and those of the lower tests.
+fn append_read(
+    alloc: Global,
+    blocks: &mut Vec<CodeBlock>,
+    exits: Exits,
+    reading: Reading,
+    from: u64,
+    tree: &TestTree,
+) -> Result<(), Memory>
+    ensures { OnOk result (blocks.new.items ≡ blocks.old.items
+        ++ unlabelled (read_blocks (constant reading.stored) entry reading.units from (with_blocks (way_of exits) (seen_tree tree.now)))) }
+{
+    let next = sum(1, from)?;
+    let mut stmts = need_code(alloc, reading)?;
+    stmts.push(Stmt::Peek)?;
+    append_tests(&mut stmts, exits, next, tree)?;
+    append_block(blocks, stmts)?;
+    append_lower(alloc, blocks, exits, next, tree)
+}
+
+/// Appends a block with a check and a jump, if there is a check.
+fn append_check(
+    alloc: Global,
+    blocks: &mut Vec<CodeBlock>,
+    reading: Reading,
+    block: u64,
+) -> Result<(), Memory>
+    ensures { OnOk result (blocks.new.items ≡ blocks.old.items ++ unlabelled (check_blocks (constant reading.stored) entry reading.units block)) }
+{
+    if reading.units == 0 {
+        return Ok(());
+    }
+    let mut stmts = need_code(alloc, reading)?;
+    stmts.push(Stmt::Goto(block))?;
+    append_block(blocks, stmts)
+}
+
+/// Appends the blocks of what reads, where no unit stands at the end of the input.
+fn append_plain(
+    alloc: Global,
+    blocks: &mut Vec<CodeBlock>,
+    exits: Exits,
+    reading: Reading,
+    from: u64,
+    tree: &TestTree,
+) -> Result<(), Memory>
+    ensures { OnOk result (blocks.new.items ≡ blocks.old.items
+        ++ unlabelled (reader_blocks (constant reading.stored) entry None reading.units from (with_blocks (way_of exits) (seen_tree tree.now)))) }
+{
+    match tree {
+        TestTree::Leaf(class) => append_check(alloc, blocks, reading, way_of(exits, *class)?),
+        TestTree::Test { .. } | TestTree::Fork { .. } => {
+            append_read(alloc, blocks, exits, reading, from, tree)
+        }
+    }
+}
+
+/// Appends the blocks of what reads, of which the first one has the number `from`.
+pub(crate) fn append_reader(
+    alloc: Global,
+    blocks: &mut Vec<CodeBlock>,
+    exits: Exits,
+    eof: Option<u32>,
+    reading: Reading,
+    from: u64,
+    tree: &TestTree,
+) -> Result<(), Memory>
+    ensures { OnOk result (blocks.new.items ≡ blocks.old.items
+        ++ unlabelled (reader_blocks (constant reading.stored) entry eof reading.units from (with_blocks (way_of exits) (seen_tree tree.now)))) }
+{
+    if eof.is_none() {
+        return append_plain(alloc, blocks, exits, reading, from, tree);
+    }
+    let stored = reading.stored;
+    let unchecked = Reading { stored, units: 0 };
+    append_read(alloc, blocks, exits, unchecked, from, tree)
+}
+
+/// How many blocks what reads has for a check alone.
+fn check_size(units: u32) -> u64
+    ensures { result ≡ check_size units }
+{
+    if units == 0 { 0 } else { 1 }
+}
+
+/// How many blocks what reads has for its check and its tests, where no unit stands at the end of the input.
+fn plain_size(units: u32, tree: &TestTree) -> Result<u64, Memory>
+    ensures { IfOk result (λ size. size ≡ reader_size None units (seen_tree tree.now)) }
+{
+    match tree {
+        TestTree::Leaf(_) => Ok(check_size(units)),
+        TestTree::Test { .. } | TestTree::Fork { .. } => sum(1, inner_size(tree)?),
+    }
+}
+
+/// How many blocks what reads has for its check and its tests.
+pub(crate) fn reader_size(eof: Option<u32>, units: u32, tree: &TestTree) -> Result<u64, Memory>
+    ensures { IfOk result (λ size. size ≡ reader_size eof units (seen_tree tree.now)) }
+{
+    if eof.is_none() {
+        return plain_size(units, tree);
+    }
+    sum(1, inner_size(tree)?)
+}
