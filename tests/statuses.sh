@@ -34,9 +34,18 @@ cmp plain.c made.c
 ends 1 '' 're2c: error: usage\n'
 ends 1 '' 're2c: error: usage\n' -i "$(printf 'a\377.c')"
 ends 1 '' 'none.re:1:1: error: no such file\n' -i none.re
-ends 1 '' 'rules.re:1:8: error: not supported yet\n' -i -o made.c rules.re
+ends 1 '' 'rules.re:1:8: error: no rules\n' -i -o made.c rules.re
 cmp plain.c made.c
 ends 2 '' 're2c: error: read failed\n' -i folder
+# no source that can be generated has a fault, and the scanner of each matches once by each of its rules
+count=1
+while [ "$count" -le 200 ]; do
+	"$root/bin/re2c" --x-source "$count" -o source.c > out.txt
+	sed -n 2p out.txt | grep -qx "matches $count"
+	sed -n 3p out.txt | grep -q "^rule $count "
+	count=$((count + 1))
+done
+echo "status 0: generated sources of 1 to 200 rules"
 # a file that does not fit in the memory that there may be
 head -c 12000000 /dev/zero | tr '\0' 'x' > long.c
 (

@@ -1,7 +1,7 @@
 #!/bin/sh
-# Compiles the scanners of the examples as C, and runs each: it prints the numbers of the actions that it should enter.
+# Compiles the scanners of the examples as C, and runs each: it prints lines that were worked out by hand.
 #
-# Usage: tests/c/examples.sh, from anywhere; CC names the compiler (cc where it is unset).
+# Usage: tests/c/examples.sh, from anywhere; RE2C names the program (bin/re2c where it is unset), and CC the compiler (cc where it is unset).
 . "$(dirname "$0")/setup.sh"
 
 # prints NAME EXPECTED [OPTION ..]: what the example prints, with blanks for line feeds, where it is compiled with these options
@@ -9,7 +9,7 @@ prints() {
 	name=$1
 	expected=$2
 	shift 2
-	"$root/bin/re2c" -i "$@" "$root/examples/$name.re" > "$work/$name.c"
+	"$program" -i "$@" "$root/examples/$name.re" > "$work/$name.c"
 	# shellcheck disable=SC2086
 	"$compiler" $options "$work/$name.c" -o "$work/$name"
 	test "$("$work/$name" | tr '\n' ' ')" = "$expected "
@@ -24,3 +24,18 @@ prints dates "24.12.2024 31.01.2025" -T
 prints utf_8 "dollar pound . . euro money bag . ." -8
 prints utf_16 "1 0 3 2 0 2" -x
 prints utf_32 "a e e f ? l ? ?" -u
+prints ranges "number:0-1 range:1-3 number:3-5 fraction:6-9 fraction:10-12 call:13-14 name:15-16 call:18-19 name:22-23 end:24-25"
+prints addresses "9 3-30 3-7 - - 10-21 - - 21-30 23-30 9 34-56 34-37 40-43 40-42 43-51 51-56 52-56 56-56 -" --captures
+prints options "build 8=13 17 25=30 clean" -T
+prints words_of_file "word:0-1 word:2-12 string:13-19 word:20-23 word:24-28 word:29-33 word:34-37 other:37-38 other:38-39 other:39-40 \
+word:40-46 end:46-46"
+prints settings "15-20=23-25 36-42=- 45-50=57-60 fault:61" -T
+prints padded "number:0-4 word:5-8 number:9-10 word:10-12 word:13-16 number:17-20 other:20-21 number:22-30 word:31-32 other:32-33 \
+word:33-34 number:35-36 word:36-37 end:37-38"
+prints strings_and_comments "word:0-3 text:23-29 escape:29-31 sign:32-33 word:39-43 text:45-47 unclosed:47-48 unclosed:48-50 end:50-50" -c
+prints pushed "word:0-2 word:3-5 fraction:6-13 other:13-14 word:15-17 fraction:18-25 other:25-26 number:27-28 other:28-29 word:30-33 \
+fraction:34-37 word:37-38 other:38-39 end:39-39" -f
+prints numbers "decimal:0-1 comma:1-3 hexadecimal:3-7 comma:7-8 octal:8-11 comma:11-12 fraction:12-16 comma:16-18 other:18-19 end:19-20 \
+name:0-2 sign:2-3 fraction:3-6 sign:6-7 hexadecimal:7-11 sign:11-12 octal:12-13 decimal:13-14 end:14-15"
+prints names_in_utf_8 "0-9 14-19 20-24 33-37" -8
+prints without_buffer "word:0-4 fraction:5-8 word:9-11 number:12-14 other:14-15 end:15-15" --input custom

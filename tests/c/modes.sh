@@ -3,7 +3,7 @@
 # their state are left at each refill, too. What they print is compared with lines that were worked out by hand, and with the program's own
 # run of the emitted text. Where the compiler has an address sanitizer it is used.
 #
-# Usage: tests/c/modes.sh, from anywhere; CC names the compiler (cc where it is unset).
+# Usage: tests/c/modes.sh, from anywhere; RE2C names the program (bin/re2c where it is unset), and CC the compiler (cc where it is unset).
 . "$(dirname "$0")/setup.sh"
 
 printf 'int main(void) { return 0; }\n' > "$work/empty.c"
@@ -33,7 +33,7 @@ refilled() {
 		for tag in $tags; do printf 'static const YYCTYPE *%s;\n' "$tag"; done
 		case " $* " in
 		*" -f "*)
-			printf 'static YYCTYPE yych;\nstatic unsigned int yyaccept;\n#define YYGETSTATE() state\n#define YYSETSTATE(number) state = number\n'
+			printf 'static YYCTYPE yych;\n#define YYGETSTATE() state\n#define YYSETSTATE(number) state = number\n'
 			if [ "$counts" = 1 ]; then printf '#define YYFILL(units) wait_for_units()\n'; else printf '#define YYFILL() wait_for_units()\n'; fi
 			;;
 		*)
@@ -51,7 +51,7 @@ refilled() {
 		cat "$work/$name.rules"
 		printf '*/\n\treturn 0;\n}\n#include "refilled.h"\n'
 	} > "$work/$name.re"
-	"$root/bin/re2c" -i "$@" -o "$work/$name.c" "$work/$name.re"
+	"$program" -i "$@" -o "$work/$name.c" "$work/$name.re"
 	{
 		printf '#define REGISTERS(DO)'
 		grep -o 'yyt[0-9][0-9]*' "$work/$name.c" | sort -u | sed 's/.*/ DO(&)/' | tr -d '\n' || true
@@ -61,7 +61,7 @@ refilled() {
 	# shellcheck disable=SC2059
 	printf "$input" > "$work/$name.in"
 	echo "$lines" | tr '|' '\n' > "$work/$name.wanted"
-	"$root/bin/re2c" --x-run "$work/$name.in" "$work/$name.c" > "$work/$name.told"
+	"$program" --x-run "$work/$name.in" "$work/$name.c" > "$work/$name.told"
 	sed 's/ => .*//; s/^jump /rule /' "$work/$name.told" > "$work/$name.run"
 	diff "$work/$name.wanted" "$work/$name.run"
 	# shellcheck disable=SC2086

@@ -10,6 +10,7 @@ static long padding = PADDING, before;
 static unsigned char *buffer, *token;
 static const unsigned char *YYCURSOR, *YYMARKER, *YYCTXMARKER, *YYLIMIT;
 static jmp_buf leave;
+static unsigned int yyaccept; /* that of a scanner that stores its state */
 static int state = -1, cond;
 
 #define DECLARE(name) static const unsigned char *name;

@@ -6,16 +6,17 @@
 	else \
 		printf(" " #name "=-");
 
-/* A match, from the start or from the state that is stored; the scanner may be left many times. */
+/* A match, from the start or from the state that is stored; the scanner may be left many times, and once more where there is no more. */
 static int whole_match(void)
 {
 	volatile int ended = 0;
 
 	state = -1;
+	yyaccept = 0;
 	if (setjmp(leave)) {
-		if (fill() && ended)
+		if (ended)
 			return 0;
-		ended = 1;
+		ended = fill();
 	}
 	return match();
 }

@@ -2,7 +2,7 @@
 # Compiles scanners with classes, repetitions and tags as C, some of them as custom ones, and runs each beside the program's own run of the emitted text: both
 # print the same lines.
 #
-# Usage: tests/c/rows.sh, from anywhere; CC names the compiler (cc where it is unset).
+# Usage: tests/c/rows.sh, from anywhere; RE2C names the program (bin/re2c where it is unset), and CC the compiler (cc where it is unset).
 . "$(dirname "$0")/setup.sh"
 
 # same NAME UNIT RULE TAGS INPUT [OPTION ..]: the rules stand in the file NAME.rules, each with an action that returns its number;
@@ -18,7 +18,7 @@ same() {
 		cat "$work/$name.rules"
 		printf '*/\n\treturn 0;\n}\n#include "main.h"\n'
 	} > "$work/$name.re"
-	"$root/bin/re2c" -i "$@" -o "$work/$name.c" "$work/$name.re"
+	"$program" -i "$@" -o "$work/$name.c" "$work/$name.re"
 	grep -o 'yyt[0-9][0-9]*' "$work/$name.c" | sort -u | sed 's/.*/static const YYCTYPE *&;/' > "$work/registers.h" || true
 	cp "$root/tests/c/run.h" "$root/tests/c/custom.h" "$root/tests/c/main.h" "$work"
 	# shellcheck disable=SC2059
@@ -26,7 +26,7 @@ same() {
 	# shellcheck disable=SC2086
 	"$compiler" $options "$work/$name.c" -o "$work/$name"
 	"$work/$name" "$work/$name.in" > "$work/$name.found"
-	"$root/bin/re2c" --x-run "$work/$name.in" "$work/$name.c" > "$work/$name.wanted"
+	"$program" --x-run "$work/$name.in" "$work/$name.c" > "$work/$name.wanted"
 	diff "$work/$name.wanted" "$work/$name.found"
 	echo "$name: $(wc -l < "$work/$name.wanted") lines"
 }

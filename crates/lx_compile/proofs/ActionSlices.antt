@@ -1,14 +1,18 @@
--- The text of an action stands in the body of its block, and begins with a brace.
-use Rattle.std.proofs.Common.{◌≡◌, ℕ, zero, suc, ◌<◌, ◌-◌, ◌∙◌, arith, Bool, true, false, List, [], ◌∷◌, ◌++◌, map, length, take, drop, codes, Option, Some, None, Result, Ok, refl, sym, ap, subst}
+-- No begin mark begins in an action, which begins with a brace: it stands in the body of its block, or in that of an earlier rules block.
+use Rattle.std.proofs.Common.{◌≡◌, ℕ, zero, suc, ◌<◌, ◌-◌, ◌∙◌, arith, Bool, true, false, List, [], ◌∷◌, ◌++◌, map, length, take, drop, codes, Option, Some, None, Result, Ok, refl, sym, ap, subst, append_assoc}
 use Rattle.std.specs.Prelude.{◌==◌, IfSome, if◌then◌else◌, is_some}
 use Rattle.std.specs.List.{AllByRecursion}
 use Rattle.std.proofs.lemmas.Bool.{eqb-true}
 use Rattle.std.proofs.lemmas.List.{take-append-drop}
 use Rattle.lx_base.specs.Letters.{begins_with}
+use Rattle.lx_base.specs.declared.blocks.BlockKind.{BlockKind}
 use Rattle.lx_base.specs.declared.blocks.BlockKind.TheVariants as block
 use Rattle.lx_base.specs.declared.faults.Fault.{Fault}
 use Rattle.lx_base.specs.declared.places.Pos.{Pos}
 use Rattle.lx_base.specs.declared.settings.Options.{Options}
+use Rattle.lx_ccode.specs.Marks.{HasNoBegin}
+use Rattle.lx_ccode.proofs.BeginMarks.{HasNoBegin-ends}
+use Rattle.lx_parse.specs.Blocks.{IsBody, form_of}
 use Rattle.lx_parse.specs.Items.{place, ReadsAction, code, code_and_target, target, ReadsItem, define, configure, rule, ReadsItems, no_item, next_item}
 use Rattle.lx_parse.specs.Sorts.{letter_sort, sign_of, sort_of, sorts_of}
 use Rattle.lx_parse.specs.declared.items.Item.{Item}
@@ -16,12 +20,15 @@ use Rattle.lx_parse.specs.declared.items.Item.TheVariants.{Define, Configure, Ru
 use Rattle.lx_parse.specs.declared.sorts.Sort.{Sort}
 use Rattle.lx_parse.specs.declared.sorts.Sort.TheVariants.{Code}
 use Rattle.lx_parse.proofs.Behind.{IsBehind, here, behind_next, behind_trans, drop-place, head_behind, item_behind, list_behind}
-use Rattle.lx_rules.specs.Environments.{Environment}
-use Rattle.lx_rules.specs.Items.{Goes, IsAfter, State, act_of, ends, next, refused}
+use Rattle.lx_rules.specs.Blocks.{HasRules, IsResolvedAs, environment_behind, of_scanners, of_use, to_keep}
+use Rattle.lx_rules.specs.Environments.{Environment, KeptBlock}
+use Rattle.lx_rules.specs.Items.{Goes, IsAfter, State, act_of, ends, first_state, next, refused, state_behind}
 use Rattle.lx_rules.specs.Rules.{RuleOf}
 use Rattle.lx_forms.specs.Lexemes.{Lexeme, lexeme_of, lexemes_of, nth_lexeme, sort_at}
 use Rattle.lx_rules.specs.declared.resolved.Act.{Act}
 use Rattle.lx_rules.specs.declared.resolved.Resolved.{Resolved}
+use Rattle.lx_rules.specs.declared.resolved.Scanner.{Scanner}
+use Rattle.lx_split.specs.Cuts.{HasNoMark}
 use Rattle.lx_token.specs.Spans.{AreInOrder, EachStands, Stands}
 use Rattle.lx_token.specs.declared.kinds.TokenKind.{TokenKind}
 use Rattle.lx_token.specs.declared.kinds.TokenKind.TheVariants as kind
@@ -29,14 +36,44 @@ use Rattle.lx_token.specs.declared.list.Token.{Token}
 use Rattle.lx_token.specs.Braces.{after_bounds, after_braces, after_code}
 use Rattle.lx_token.specs.Rows.{after_token}
 use Rattle.lx_token.proofs.Walk.{tokens_stand}
-use Rattle.lx_compile.specs.Blocks.{IsResolvedBody}
+use Rattle.lx_compile.specs.Blocks.{IsBlock, asks, content_of, gives_nothing, resolves}
+use Rattle.lx_compile.specs.declared.parts.Content.{Content}
+use Rattle.lx_compile.specs.declared.parts.Content.TheVariants.{Asks, Scanners}
+use Rattle.lx_compile.proofs.UnmarkedTexts.{HasNoBegin-unmarked, HasNoMark-behind}
 
 -- the text stands in the body, and begins with a brace
-pub record IsAction (body text : List ℕ) : Type 0 where
-  pub before : List ℕ
-  pub behind : List ℕ
-  pub is : body ≡ before ++ (text ++ behind)
-  pub braced : begins_with (codes "{") text ≡ true
+record IsAction (body text : List ℕ) : Type 0 where
+  before : List ℕ
+  behind : List ℕ
+  is : body ≡ before ++ (text ++ behind)
+  braced : begins_with (codes "{") text ≡ true
+
+-- it begins with a brace, and no begin mark begins in it
+abbrev pub IsPlainAction : List ℕ → Type 0
+IsPlainAction text = (begins_with (codes "{") text ≡ true) × HasNoBegin text (codes "\n")
+
+-- so do the actions that there are
+abbrev pub ArePlainActs : List Act → Type 0
+ArePlainActs acts = AllByRecursion (λ (act : Act). IfSome act.code IsPlainAction) acts
+
+-- the body stands in a text without marks
+abbrev pub StandsUnmarked : List ℕ → Type 0
+StandsUnmarked body = (before after : List ℕ) × HasNoMark (before ++ (body ++ after))
+
+plain_action : (body text : List ℕ) → StandsUnmarked body → IsAction body text → IsPlainAction text
+plain_action body text stands is = (
+  is.braced,
+  HasNoBegin-ends text (is.behind ++ after) (codes "\n") refl (HasNoBegin-unmarked text (is.behind ++ after) (HasNoMark-behind is.before (text ++ (is.behind ++ after)) within)),
+)
+  where
+    after : List ℕ
+    after = stands.1
+
+    whole : body ++ after ≡ is.before ++ (text ++ (is.behind ++ after))
+    whole = ap (λ (l : List ℕ). l ++ after) is.is ∙ append_assoc is.before (text ++ is.behind) after ∙ ap (λ (l : List ℕ). is.before ++ l) (append_assoc text is.behind after)
+
+    within : HasNoMark (is.before ++ (text ++ (is.behind ++ after)))
+    within = subst HasNoMark whole (HasNoMark-behind stands.0 (body ++ after) stands.2)
 
 -- ---- tokens
 
@@ -109,31 +146,31 @@ lexeme_at_place body start from size (token ∷ tokens) (suc place) rest order s
 
 -- ---- items
 
-module _ (options : Options) (body : List ℕ) (lexemes : List Lexeme) where
-  -- where an item is a rule with an action, that is one of the body
+-- the action of a rule is plain, if it has one
+abbrev HasPlainAct : RuleOf → Type 0
+HasPlainAct one = IfSome one.act.code IsPlainAction
+
+module _ (options : Options) (lexemes : List Lexeme) where
+  -- where an item is a rule with an action, that is plain
   abbrev ItemActs : Item → Type 0
-  ItemActs (Rule first head slash until goes coded) = IfSome coded (λ place. IsAction body (nth_lexeme lexemes place).text)
+  ItemActs (Rule first head slash until goes coded) = IfSome coded (λ place. IsPlainAction (nth_lexeme lexemes place).text)
   ItemActs _ = Unit {0}
 
   abbrev EachActs : List Item → Type 0
   EachActs items = AllByRecursion ItemActs items
 
-  -- the act of a rule has such an action, if it has one
-  abbrev pub HasAct : Act → Type 0
-  HasAct act = IfSome act.code (IsAction body)
-
   -- so do those of all rules so far
-  abbrev pub HaveActs : State → Type 0
-  HaveActs state = AllByRecursion (λ (one : RuleOf). HasAct one.act) state.rules
+  abbrev HaveActs : State → Type 0
+  HaveActs state = AllByRecursion HasPlainAct state.rules
 
-  act_has : (number : ℕ) (goes coded : Option ℕ) → IfSome coded (λ place. IsAction body (nth_lexeme lexemes place).text)
-      → HasAct (act_of options lexemes number goes coded)
+  act_has : (number : ℕ) (goes coded : Option ℕ) → IfSome coded (λ place. IsPlainAction (nth_lexeme lexemes place).text)
+      → IfSome (act_of options lexemes number goes coded).code IsPlainAction
   act_has number goes (Some coded) acts = acts
   act_has number (Some goes) None acts = tt
   act_has number None None acts = tt
 
-  acts-append : (rules : List RuleOf) (one : RuleOf) → AllByRecursion (λ (rule : RuleOf). HasAct rule.act) rules → HasAct one.act
-      → AllByRecursion (λ (rule : RuleOf). HasAct rule.act) (rules ++ one ∷ [])
+  acts-append : (rules : List RuleOf) (one : RuleOf) → AllByRecursion HasPlainAct rules → HasPlainAct one
+      → AllByRecursion HasPlainAct (rules ++ one ∷ [])
   acts-append [] one have has = (has, tt)
   acts-append (first ∷ rules) one have has = (have.0, acts-append rules one have.1 has)
 
@@ -152,21 +189,22 @@ module _ (options : Options) (body : List ℕ) (lexemes : List Lexeme) where
   acts-goes (next {state = state} {item = item} after checks becomes goes) last is acts have =
       acts-goes goes last is acts.1 (acts-after state item after becomes acts.0 have)
 
-  acts-map : (rules : List RuleOf) → AllByRecursion (λ (rule : RuleOf). HasAct rule.act) rules → AllByRecursion HasAct (map (λ (rule : RuleOf). rule.act) rules)
-  acts-map [] have = tt
-  acts-map (first ∷ rules) have = (have.0, acts-map rules have.1)
+acts-map : (rules : List RuleOf) → AllByRecursion HasPlainAct rules → ArePlainActs (map (λ (rule : RuleOf). rule.act) rules)
+acts-map [] have = tt
+acts-map (first ∷ rules) have = (have.0, acts-map rules have.1)
 
 -- ---- the items of a body
 
-module _ (options : Options) (body : List ℕ) (start : Pos) (tokens : List Token) (order : AreInOrder 0 (length body) tokens) (stands : EachStands body start tokens) where
+module _ (options : Options) (body : List ℕ) (start : Pos) (tokens : List Token) (order : AreInOrder 0 (length body) tokens) (stands : EachStands body start tokens)
+    (unmarked : StandsUnmarked body) where
   abbrev sorts : List Sort
   sorts = sorts_of block.Code body tokens
 
   abbrev Acts : Item → Type 0
-  Acts = ItemActs options body (lexemes_of body tokens)
+  Acts = ItemActs options (lexemes_of body tokens)
 
-  code_at : (rest : List Sort) → IsBehind sorts (Code ∷ rest) → IsAction body (nth_lexeme (lexemes_of body tokens) (place (length sorts) (Code ∷ rest))).text
-  code_at rest behind = lexeme_at_place body start 0 (length body) tokens (place (length sorts) (Code ∷ rest)) rest order stands (drop-place sorts (Code ∷ rest) behind)
+  code_at : (rest : List Sort) → IsBehind sorts (Code ∷ rest) → IsPlainAction (nth_lexeme (lexemes_of body tokens) (place (length sorts) (Code ∷ rest))).text
+  code_at rest behind = plain_action body _ unmarked (lexeme_at_place body start 0 (length body) tokens (place (length sorts) (Code ∷ rest)) rest order stands (drop-place sorts (Code ∷ rest) behind))
 
   action_acts : (first head until : ℕ) (slash goes coded : Option ℕ) (text rest : List Sort) → IsBehind sorts text → ReadsAction (length sorts) goes coded text rest
       → Acts (Rule first head slash until goes coded)
@@ -187,14 +225,72 @@ module _ (options : Options) (body : List ℕ) (start : Pos) (tokens : List Toke
   items_act items text behind (next_item item others _ rest read more) =
       (item_acts item text rest behind read, items_act others rest (behind_trans sorts text rest behind (item_behind (length sorts) item text rest read)) more)
 
--- the action of each act of a block that has one stands in the block's body
-pub acts_of_body : (options : Options) (environment : Environment) (body : List ℕ) (at start : Pos) (after : Environment) (resolved : Resolved)
-    → IsResolvedBody options environment body at start after resolved
-    → AllByRecursion (λ (act : Act). IfSome act.code (IsAction body)) resolved.acts
-acts_of_body options environment body at start after resolved is =
-    let stand = tokens_stand body start is.tokens is.read.tokens_are in
-    let lexemes : List Lexeme = lexemes_of body is.tokens in
-    let state = is.resolves.state in
-    let acts = items_act options body start is.tokens stand.in_order stand.each_stands is.items (sorts_of block.Code body is.tokens) (here _) is.read.items_are in
-    subst (λ (l : List Act). AllByRecursion (HasAct options body lexemes) l) (sym is.resolves.ends.acts)
-    (acts-map options body lexemes state.rules (acts-goes options body lexemes is.resolves.goes state refl acts tt))
+-- ---- blocks
+
+-- the sorts of a block with rules are those of a block of scanners
+sorts_of-rules : {kind : BlockKind} → HasRules kind → (body : List ℕ) (tokens : List Token) → sorts_of kind body tokens ≡ sorts_of block.Code body tokens
+sorts_of-rules of_scanners body tokens = refl
+sorts_of-rules to_keep body [] = refl
+sorts_of-rules to_keep body (token ∷ tokens) = ap (λ (l : List Sort). sort_at (lexeme_of body token) ∷ l) (sorts_of-rules to_keep body tokens)
+sorts_of-rules of_use body [] = refl
+sorts_of-rules of_use body (token ∷ tokens) = ap (λ (l : List Sort). sort_at (lexeme_of body token) ∷ l) (sorts_of-rules of_use body tokens)
+
+reads_items : {kind : BlockKind} → HasRules kind → (body : List ℕ) (tokens : List Token) (items : List Item) → IsBody (form_of kind) (sorts_of kind body tokens) items
+    → ReadsItems (length (sorts_of block.Code body tokens)) items (sorts_of block.Code body tokens)
+reads_items of_scanners body tokens items is = is
+reads_items to_keep body tokens items is = subst (λ (l : List Sort). ReadsItems (length l) items l) (sorts_of-rules to_keep body tokens) is
+reads_items of_use body tokens items is = subst (λ (l : List Sort). ReadsItems (length l) items l) (sorts_of-rules of_use body tokens) is
+
+-- the rules that are kept have plain actions
+abbrev pub KeepsPlain : Environment → Type 0
+KeepsPlain environment = IfSome environment.kept (λ (kept : KeptBlock). AllByRecursion HasPlainAct kept.rules)
+
+first_acts : {kind : BlockKind} → HasRules kind → (environment : Environment) → KeepsPlain environment
+    → AllByRecursion HasPlainAct (first_state kind environment).rules
+first_acts of_scanners environment keeps = tt
+first_acts to_keep environment keeps = tt
+first_acts of_use environment keeps = by environment.kept keeps
+  where
+    by : (kept : Option KeptBlock) → IfSome kept (λ (kept : KeptBlock). AllByRecursion HasPlainAct kept.rules)
+        → AllByRecursion HasPlainAct (state_behind kept environment).rules
+    by None keeps = tt
+    by (Some kept) keeps = keeps
+
+keeps_behind : {kind : BlockKind} → HasRules kind → (environment : Environment) (state : State) → KeepsPlain environment
+    → AllByRecursion HasPlainAct state.rules → KeepsPlain (environment_behind kind environment state)
+keeps_behind of_scanners environment state keeps have = keeps
+keeps_behind to_keep environment state keeps have = have
+keeps_behind of_use environment state keeps have = keeps
+
+resolved_acts : {kind : BlockKind} → HasRules kind → (named : Bool) (state : State) (resolved : Resolved) → AllByRecursion HasPlainAct state.rules
+    → IsResolvedAs kind named state resolved → ArePlainActs resolved.acts
+resolved_acts of_scanners named state resolved have is = subst ArePlainActs (sym is.acts) (acts-map state.rules have)
+resolved_acts to_keep named state resolved have is = subst ArePlainActs (sym is.1) tt
+resolved_acts of_use named state resolved have is = subst ArePlainActs (sym is.acts) (acts-map state.rules have)
+
+-- so do the scanners that a block gives
+abbrev pub HasPlainActs : Content → Type 0
+HasPlainActs (Scanners resolved) = ArePlainActs resolved.acts
+HasPlainActs (Asks directive) = Unit {0}
+
+content_acts : (resolved : Resolved) (scanners : List Scanner) → ArePlainActs resolved.acts → HasPlainActs (content_of resolved scanners)
+content_acts resolved [] have = tt
+content_acts resolved (scanner ∷ scanners) have = have
+
+-- what a block in a text without marks gives and leaves
+pub acts_of_block : (options : Options) (environment : Environment) (kind : BlockKind) (body : List ℕ) (at start : Pos) (after : Environment) (content : Content)
+    → IsBlock options environment kind body at start after content → StandsUnmarked body → KeepsPlain environment
+    → HasPlainActs content × KeepsPlain after
+acts_of_block options environment kind body at start after content (resolves tokens items resolved has read is content_is) unmarked keeps =
+    let stand = tokens_stand body start tokens read.tokens_are in
+    let acts = items_act options body start tokens stand.in_order stand.each_stands unmarked items (sorts_of block.Code body tokens) (here _)
+    (reads_items has body tokens items read.items_are) in
+    let have : AllByRecursion HasPlainAct is.state.rules =
+    acts-goes options (lexemes_of body tokens) is.goes is.state refl acts (first_acts has environment keeps) in (
+      subst HasPlainActs (sym content_is) (content_acts resolved resolved.scanners (resolved_acts has options.conds is.state resolved have is.ends)),
+      subst KeepsPlain (sym is.after_is) (keeps_behind has environment is.state keeps have),
+    )
+acts_of_block options environment kind body at start after content (asks tokens items directive read same content_is) unmarked keeps =
+    (subst HasPlainActs (sym content_is) tt, subst KeepsPlain (sym same) keeps)
+acts_of_block options environment kind body at start after content (gives_nothing none same content_is) unmarked keeps =
+    (subst HasPlainActs (sym content_is) tt, subst KeepsPlain (sym same) keeps)

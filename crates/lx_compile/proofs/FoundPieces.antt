@@ -1,20 +1,26 @@
 -- The piece of each block is found by its number, and that of the first scanner without one.
-use Rattle.std.proofs.Common.{◌≡◌, ◌≢◌, ℕ, suc, ◌+◌, ◌<◌, ◌≤◌, ◌∙◌, arith, List, [], ◌∷◌, ◌++◌, length, drop, Option, Some, None, refl, sym, ap, subst}
+use Rattle.std.proofs.Common.{◌≡◌, ℕ, suc, ◌+◌, ◌≤◌, ◌∙◌, arith, true, List, [], ◌∷◌, ◌++◌, length, drop, Option, Some, None, refl, sym, ap, subst}
+use Rattle.std.specs.Prelude.{IfSome}
 use Rattle.std.specs.List.{AllByRecursion}
 use Rattle.std.proofs.Math.Seq.{drop-append_seam}
-use Rattle.lx_base.specs.Names.{usual_names}
+use Rattle.std.proofs.lemmas.Bool.{false≢true}
+use Rattle.lx_base.specs.Names.{Spellings}
 use Rattle.lx_base.specs.declared.places.Pos.{Pos}
 use Rattle.lx_base.specs.declared.settings.Options.{Options}
-use Rattle.lx_ccode.specs.Bodies.{body_piece_text}
 use Rattle.lx_ccode.specs.Validity.{IsShort}
-use Rattle.lx_ccode.specs.declared.bodies.Body.TheVariants.{Empty}
-use Rattle.lx_creader.specs.Cut.{Answers, AreCut, OutputPart, empty, outside, part_text, parts_text, scanner}
+use Rattle.lx_creader.specs.Cut.{Answers, AreCut, HasNoOpener, OutputPart, part_text, parts_text}
 use Rattle.lx_creader.specs.Marks.{IsFirstBegin}
 use Rattle.lx_creader.proofs.Cuts.{cut_from, first_begin, parts_text-append}
-use Rattle.lx_rules.specs.declared.resolved.Resolved.{Resolved}
-use Rattle.lx_rules.specs.declared.resolved.Scanner.{Scanner}
-use Rattle.lx_compile.specs.Cut.{AreOutputParts, HaveNoScanner, IsFound, IsPieceOf, block_count}
-use Rattle.lx_compile.specs.Output.{IsOutput, IsTextOf}
+use Rattle.lx_files.specs.declared.files.HeldFile.{HeldFile}
+use Rattle.lx_split.specs.Includes.{expansion}
+use Rattle.lx_compile.specs.Cut.{HaveNoScanner, IsFound, is_piece, is_scanner, number_after, number_behind, output_part, output_parts}
+use Rattle.lx_compile.specs.FirstFault.{setting_of}
+use Rattle.lx_compile.specs.Made.{AreMade, IsMadeOf, Setting}
+use Rattle.lx_compile.specs.Output.{IsOutput, last_names}
+use Rattle.lx_compile.specs.declared.made.Made.{Made}
+use Rattle.lx_compile.specs.declared.made.Made.TheVariants as made
+use Rattle.lx_compile.specs.declared.parts.Content.{Content}
+use Rattle.lx_compile.specs.declared.parts.Content.TheVariants.{Asks, Scanners}
 use Rattle.lx_compile.specs.declared.parts.Part.{Part}
 use Rattle.lx_compile.specs.declared.parts.Part.TheVariants.{Outside, Block}
 use Rattle.lx_compile.proofs.OutputCuts.{cut-output}
@@ -23,144 +29,147 @@ use Rattle.lx_compile.proofs.OutputCuts.{cut-output}
 abbrev NoneAnswers : Option ℕ → List OutputPart → Type 0
 NoneAnswers block parts = AllByRecursion (λ (part : OutputPart). Answers block part → ⊥) parts
 
--- a cut at a block: the parts before it, its piece, and the parts behind
-record IsCutAt (options : Options) (number : ℕ) (earlier : List Part) (resolved : Resolved) (cut : List OutputPart) : Type 0 where
-  front : List OutputPart
-  part : OutputPart
-  rest : List OutputPart
-  is : cut ≡ front ++ part ∷ rest
-  first_state : ℕ
-  next : ℕ
-  piece : IsPieceOf options (number + block_count earlier) first_state next resolved resolved.scanners part
-  others : NoneAnswers (Some (number + block_count earlier)) front
-  no_scanner : HaveNoScanner earlier → NoneAnswers None front
+-- ---- the numbers of pieces
 
-piece_is_no_other : (options : Options) (number first_state next asked : ℕ) (resolved : Resolved) (scanners : List Scanner) (part : OutputPart) → number < asked
-    → IsPieceOf options number first_state next resolved scanners part → Answers (Some asked) part → ⊥
-piece_is_no_other options number first_state next asked resolved [] (empty other) less is answers = omega (arith, less, is.0, answers)
-piece_is_no_other options number first_state next asked resolved [] (outside text) less is answers = is
-piece_is_no_other options number first_state next asked resolved [] (scanner piece) less is answers = is
-piece_is_no_other options number first_state next asked resolved (one ∷ scanners) (scanner piece) less is answers =
-    let same = is.0.generated.fields.number in omega (arith, less, same, answers)
-piece_is_no_other options number first_state next asked resolved (one ∷ scanners) (outside text) less is answers = is
-piece_is_no_other options number first_state next asked resolved (one ∷ scanners) (empty other) less is answers = is
+-- a piece of scanners has this number
+abbrev HasNumber : (number : ℕ) → Made → Type 0
+HasNumber number (made.Scanners piece checks) = piece.number ≡ number
+HasNumber number one = Unit {0}
 
-piece_is_no_scanner : (options : Options) (number first_state next : ℕ) (resolved : Resolved) (scanners : List Scanner) (part : OutputPart) → scanners ≡ []
-    → IsPieceOf options number first_state next resolved scanners part → Answers None part → ⊥
-piece_is_no_scanner options number first_state next resolved [] (empty other) none is answers = answers
-piece_is_no_scanner options number first_state next resolved [] (outside text) none is answers = is
-piece_is_no_scanner options number first_state next resolved [] (scanner piece) none is answers = is
-piece_is_no_scanner options number first_state next resolved (one ∷ scanners) part none is answers = let h = none in cc
+-- pieces are numbered from here on
+abbrev AreNumbered : (number : ℕ) → List Made → Type 0
+AreNumbered number [] = Unit {0}
+AreNumbered number (one ∷ some) = HasNumber number one × AreNumbered (number_behind number one) some
 
-cut_at : (options : Options) (number first_state : ℕ) (earlier : List Part) (at : Pos) (resolved : Resolved) (more : List Part) (cut : List OutputPart)
-    → AreOutputParts options number first_state (earlier ++ Block at resolved ∷ more) cut → IsCutAt options number earlier resolved cut
-cut_at options number first_state [] at resolved more [] are = absurd are
-cut_at options number first_state [] at resolved more (part ∷ cut) are = record {
-  front = [];
-  part = part;
-  rest = cut;
-  is = refl;
-  first_state = first_state;
-  next = are.0;
-  piece = subst (λ (n : ℕ). IsPieceOf options n first_state are.0 resolved resolved.scanners part) (omega arith) are.1;
-  others = tt;
-  no_scanner = λ none. tt;
-}
-cut_at options number first_state (Outside text ∷ earlier) at resolved more [] are = absurd are
-cut_at options number first_state (Outside text ∷ earlier) at resolved more (scanner piece ∷ cut) are = absurd are
-cut_at options number first_state (Outside text ∷ earlier) at resolved more (empty other ∷ cut) are = absurd are
-cut_at options number first_state (Outside text ∷ earlier) at resolved more (outside other ∷ cut) are =
-    let found = cut_at options number first_state earlier at resolved more cut are.1 in record {
-      front = outside other ∷ found.front;
-      part = found.part;
-      rest = found.rest;
-      is = ap (λ (l : List OutputPart). outside other ∷ l) found.is;
-      first_state = found.first_state;
-      next = found.next;
-      piece = found.piece;
-      others = (λ is. is, found.others);
-      no_scanner = λ none. (λ is. is, found.no_scanner none);
-    }
-cut_at options number first_state (Block place before ∷ earlier) at resolved more [] are = absurd are
-cut_at options number first_state (Block place before ∷ earlier) at resolved more (first ∷ cut) are =
-    let found = cut_at options (suc number) are.0 earlier at resolved more cut are.2 in
-    let same : suc number + block_count earlier ≡ number + suc (block_count earlier) = omega arith in record {
-      front = first ∷ found.front;
-      part = found.part;
-      rest = found.rest;
-      is = ap (λ (l : List OutputPart). first ∷ l) found.is;
-      first_state = found.first_state;
-      next = found.next;
-      piece = subst (λ (n : ℕ). IsPieceOf options n found.first_state found.next resolved resolved.scanners found.part) same found.piece;
-      others = (
-        piece_is_no_other options number first_state are.0 (number + suc (block_count earlier)) before before.scanners first (omega arith) are.1,
-        subst (λ (n : ℕ). NoneAnswers (Some n) found.front) same found.others,
-      );
-      no_scanner = λ none. (piece_is_no_scanner options number first_state are.0 before before.scanners first none.0 are.1, found.no_scanner none.1);
-    }
+number_of_block : (setting : Setting) (number first_state next : ℕ) (at : Pos) (line : ℕ) (content : Content) (one : Made)
+    → IsMadeOf setting number first_state next at line content one → HasNumber number one × (suc number ≡ number_behind number one)
+number_of_block setting number first_state next at line (Scanners resolved) (made.Scanners piece checks) is = (is.0.generated.fields.number, refl)
+number_of_block setting number first_state next at line (Scanners resolved) (made.Outside text) is = absurd is
+number_of_block setting number first_state next at line (Scanners resolved) (made.Bare place mark other) is = absurd is
+number_of_block setting number first_state next at line (Asks directive) (made.Bare place mark other) is = (tt, refl)
+number_of_block setting number first_state next at line (Asks directive) (made.Outside text) is = absurd is
+number_of_block setting number first_state next at line (Asks directive) (made.Scanners piece checks) is = absurd is
 
-answers-number : (options : Options) (number first_state next : ℕ) (resolved : Resolved) (scanners : List Scanner) (part : OutputPart)
-    → IsPieceOf options number first_state next resolved scanners part → Answers (Some number) part
-answers-number options number first_state next resolved [] (empty other) is = is.0
-answers-number options number first_state next resolved [] (outside text) is = absurd is
-answers-number options number first_state next resolved [] (scanner piece) is = absurd is
-answers-number options number first_state next resolved (one ∷ scanners) (scanner piece) is = is.0.generated.fields.number
-answers-number options number first_state next resolved (one ∷ scanners) (outside text) is = absurd is
-answers-number options number first_state next resolved (one ∷ scanners) (empty other) is = absurd is
+AreNumbered-made : (setting : Setting) (number first_state : ℕ) (parts : List Part) (some : List Made) → AreMade setting number first_state parts some
+    → AreNumbered number some
+AreNumbered-made setting number first_state [] [] given = tt
+AreNumbered-made setting number first_state [] (one ∷ some) given = absurd given
+AreNumbered-made setting number first_state (Outside text ∷ parts) [] given = absurd given
+AreNumbered-made setting number first_state (Outside text ∷ parts) (made.Outside other ∷ some) given =
+    (tt, AreNumbered-made setting number first_state parts some given.1)
+AreNumbered-made setting number first_state (Outside text ∷ parts) (made.Scanners piece checks ∷ some) given = absurd given
+AreNumbered-made setting number first_state (Outside text ∷ parts) (made.Bare place mark other ∷ some) given = absurd given
+AreNumbered-made setting number first_state (Block at line content ∷ parts) [] given = absurd given
+AreNumbered-made setting number first_state (Block at line content ∷ parts) (one ∷ some) given =
+    let first = number_of_block setting number first_state given.0 at line content one given.1 in
+    (first.0, subst (λ (n : ℕ). AreNumbered n some) first.1 (AreNumbered-made setting (suc number) given.0 parts some given.2))
 
-answers-scanner : (options : Options) (number first_state next : ℕ) (resolved : Resolved) (scanners : List Scanner) (part : OutputPart) → scanners ≢ []
-    → IsPieceOf options number first_state next resolved scanners part → Answers None part
-answers-scanner options number first_state next resolved [] part some is = absurd (some refl)
-answers-scanner options number first_state next resolved (one ∷ scanners) (scanner piece) some is = tt
-answers-scanner options number first_state next resolved (one ∷ scanners) (outside text) some is = absurd is
-answers-scanner options number first_state next resolved (one ∷ scanners) (empty other) some is = absurd is
+-- ---- the parts before a piece
 
-text_of_piece : (options : Options) (number first_state next : ℕ) (resolved : Resolved) (scanners : List Scanner) (part : OutputPart)
-    → IsPieceOf options number first_state next resolved scanners part → IsTextOf options number first_state next resolved scanners (part_text part)
-text_of_piece options number first_state next resolved [] (empty other) is = (is.1, ap (λ (n : ℕ). body_piece_text n usual_names Empty None) is.0)
-text_of_piece options number first_state next resolved [] (outside text) is = absurd is
-text_of_piece options number first_state next resolved [] (scanner piece) is = absurd is
-text_of_piece options number first_state next resolved (one ∷ scanners) (scanner piece) is = (piece, is.0, is.1, refl)
-text_of_piece options number first_state next resolved (one ∷ scanners) (outside text) is = absurd is
-text_of_piece options number first_state next resolved (one ∷ scanners) (empty other) is = absurd is
+-- the number of the piece behind these, if the first has this one
+abbrev number_past : (number : ℕ) → List Made → ℕ
+number_past number [] = number
+number_past number (one ∷ some) = number_past (number_behind number one) some
 
-short_number : (options : Options) (number first_state next : ℕ) (resolved : Resolved) (scanners : List Scanner) (part : OutputPart) (rest : List OutputPart)
-    → IsPieceOf options number first_state next resolved scanners part → AreCut (part ∷ rest) → IsShort number
-short_number options number first_state next resolved [] (empty other) rest is cut = omega (arith, is.0, cut.0)
-short_number options number first_state next resolved [] (outside text) rest is cut = absurd is
-short_number options number first_state next resolved [] (scanner piece) rest is cut = absurd is
-short_number options number first_state next resolved (one ∷ scanners) (scanner piece) rest is cut =
-    let same = is.0.generated.fields.number in let short = cut.0.range.number in omega (arith, same, short)
-short_number options number first_state next resolved (one ∷ scanners) (outside text) rest is cut = absurd is
-short_number options number first_state next resolved (one ∷ scanners) (empty other) rest is cut = absurd is
+number_past-least : (number : ℕ) (some : List Made) → number ≤ number_past number some
+number_past-least number [] = omega arith
+number_past-least number (made.Outside text ∷ some) = number_past-least number some
+number_past-least number (made.Scanners piece checks ∷ some) = omega (arith, number_past-least (suc number) some)
+number_past-least number (made.Bare at line directive ∷ some) = omega (arith, number_past-least (suc number) some)
 
-pub is_found : (options : Options) (source output : List ℕ) → length source ≤ 16777216 → (is : IsOutput options source output)
-    → (earlier : List Part) (at : Pos) (resolved : Resolved) (more : List Part) → is.parts ≡ earlier ++ Block at resolved ∷ more
-    → IsFound options earlier resolved output
-is_found options source output small is earlier at resolved more parts =
-    let whole = cut-output options source output small is in
-    let found = cut_at options 1 0 earlier at resolved more whole.0 (subst (λ l. AreOutputParts options 1 0 l whole.0) parts whole.3) in
-    let number : 1 + block_count earlier ≡ suc (block_count earlier) = omega arith in
-    let cut : AreCut (found.front ++ found.part ∷ found.rest) = subst AreCut found.is whole.1 in
-    let text : output ≡ parts_text (found.front ++ found.part ∷ found.rest) = whole.2 ∙ ap parts_text found.is in
-    let piece : IsPieceOf options (suc (block_count earlier)) found.first_state found.next resolved resolved.scanners found.part =
-    subst (λ (n : ℕ). IsPieceOf options n found.first_state found.next resolved resolved.scanners found.part) number found.piece in
-    let short : IsShort (suc (block_count earlier)) =
-    short_number options (suc (block_count earlier)) found.first_state found.next resolved resolved.scanners found.part found.rest piece (cut_from found.front (found.part ∷ found.rest) cut) in
-    record {
-      first_state = found.first_state;
-      next = found.next;
-      offset = length (parts_text found.front);
-      text = part_text found.part;
-      rest = parts_text found.rest;
-      stands = ap (λ (l : List ℕ). drop (length (parts_text found.front)) l) (text ∙ parts_text-append found.front (found.part ∷ found.rest))
-          ∙ drop-append_seam (parts_text found.front) (parts_text (found.part ∷ found.rest));
-      is = text_of_piece options (suc (block_count earlier)) found.first_state found.next resolved resolved.scanners found.part piece;
-      first = subst (λ (l : List ℕ). IsFirstBegin (Some (suc (block_count earlier))) l (length (parts_text found.front))) (sym text)
-          (first_begin (Some (suc (block_count earlier))) found.front found.part found.rest short cut
-          (subst (λ (n : ℕ). NoneAnswers (Some n) found.front) number found.others)
-          (answers-number options (suc (block_count earlier)) found.first_state found.next resolved resolved.scanners found.part piece));
-      first_scanner = λ none some. subst (λ (l : List ℕ). IsFirstBegin None l (length (parts_text found.front))) (sym text)
-          (first_begin None found.front found.part found.rest tt cut (found.no_scanner none)
-          (answers-scanner options (suc (block_count earlier)) found.first_state found.next resolved resolved.scanners found.part some piece));
-    }
+number_past-after : (number : ℕ) (some : List Made) → number_past number some + 1 ≡ number + number_after some
+number_past-after number [] = refl
+number_past-after number (made.Outside text ∷ some) = number_past-after number some
+number_past-after number (made.Scanners piece checks ∷ some) = omega (arith, number_past-after (suc number) some)
+number_past-after number (made.Bare at line directive ∷ some) = omega (arith, number_past-after (suc number) some)
+
+AreNumbered-past : (number : ℕ) (earlier rest : List Made) → AreNumbered number (earlier ++ rest) → AreNumbered (number_past number earlier) rest
+AreNumbered-past number [] rest numbered = numbered
+AreNumbered-past number (one ∷ earlier) rest numbered = AreNumbered-past (number_behind number one) earlier rest numbered.1
+
+module _ (names : Spellings) (all : List Made) where
+  output_parts-append : (number : ℕ) (earlier rest : List Made)
+      → output_parts names all number (earlier ++ rest) ≡ output_parts names all number earlier ++ output_parts names all (number_past number earlier) rest
+  output_parts-append number [] rest = refl
+  output_parts-append number (one ∷ earlier) rest =
+      ap (λ (l : List OutputPart). output_part names all number one ∷ l) (output_parts-append (number_behind number one) earlier rest)
+
+  others_answer : (asked number : ℕ) (earlier rest : List Made) → number_past number earlier ≤ asked → AreNumbered number (earlier ++ rest)
+      → NoneAnswers (Some asked) (output_parts names all number earlier)
+  others_answer asked number [] rest within numbered = tt
+  others_answer asked number (made.Outside text ∷ earlier) rest within numbered =
+      (λ is. is, others_answer asked number earlier rest within numbered.1)
+  others_answer asked number (made.Scanners piece checks ∷ earlier) rest within numbered =
+      let least = number_past-least (suc number) earlier in
+      let same : piece.number ≡ number = numbered.0 in
+      (λ is. omega (arith, within, least, same, is), others_answer asked (suc number) earlier rest within numbered.1)
+  others_answer asked number (made.Bare at line directive ∷ earlier) rest within numbered =
+      let least = number_past-least (suc number) earlier in
+      (λ is. omega (arith, within, least, is), others_answer asked (suc number) earlier rest within numbered.1)
+
+  no_scanner_answers : (number : ℕ) (earlier : List Made) → HaveNoScanner earlier → NoneAnswers None (output_parts names all number earlier)
+  no_scanner_answers number [] none = tt
+  no_scanner_answers number (made.Outside text ∷ earlier) none = (λ is. is, no_scanner_answers number earlier none.1)
+  no_scanner_answers number (made.Scanners piece checks ∷ earlier) none = absurd (false≢true (sym none.0))
+  no_scanner_answers number (made.Bare at line directive ∷ earlier) none = (λ is. is, no_scanner_answers (suc number) earlier none.1)
+
+  -- ---- the piece
+
+  answers-number : (number : ℕ) (one : Made) → HasNumber number one → is_piece one ≡ true → Answers (Some number) (output_part names all number one)
+  answers-number number (made.Outside text) numbered is = absurd (false≢true is)
+  answers-number number (made.Scanners piece checks) numbered is = numbered
+  answers-number number (made.Bare at line directive) numbered is = refl
+
+  answers-scanner : (number : ℕ) (one : Made) → is_scanner one ≡ true → Answers None (output_part names all number one)
+  answers-scanner number (made.Outside text) is = absurd (false≢true is)
+  answers-scanner number (made.Scanners piece checks) is = tt
+  answers-scanner number (made.Bare at line directive) is = absurd (false≢true is)
+
+  short_number : (number : ℕ) (one : Made) (rest : List OutputPart) → HasNumber number one → is_piece one ≡ true
+      → AreCut (output_part names all number one ∷ rest) → IsShort number
+  short_number number (made.Outside text) rest numbered is cut = absurd (false≢true is)
+  short_number number (made.Scanners piece checks) rest numbered is cut =
+      let same : piece.number ≡ number = numbered in let short = cut.0.range.number in omega (arith, same, short)
+  short_number number (made.Bare at line directive) rest numbered is cut = cut.0
+
+  found_behind : (number : ℕ) (earlier : List Made) (one : Made) (more : List Made) (output : List ℕ) → number ≡ number_past 1 earlier
+      → AreNumbered 1 (earlier ++ one ∷ more) → AreCut (output_parts names all 1 earlier ++ output_parts names all number (one ∷ more))
+      → output ≡ parts_text (output_parts names all 1 earlier ++ output_parts names all number (one ∷ more))
+      → number ≡ number_after earlier → IsFound names all earlier one output
+  found_behind number earlier one more output past numbered cut text after =
+      let front : List OutputPart = output_parts names all 1 earlier in
+      let part : OutputPart = output_part names all number one in
+      let rest : List OutputPart = output_parts names all (number_behind number one) more in
+      let own : HasNumber number one =
+      (subst (λ (n : ℕ). AreNumbered n (one ∷ more)) (sym past) (AreNumbered-past 1 earlier (one ∷ more) numbered)).0 in
+      let within : number_past 1 earlier ≤ number = omega (arith, past) in
+      record {
+        offset = length (parts_text front);
+        rest = parts_text rest;
+        stands = ap (drop (length (parts_text front))) (text ∙ parts_text-append front (part ∷ rest))
+            ∙ drop-append_seam (parts_text front) (parts_text (part ∷ rest))
+            ∙ ap (λ (n : ℕ). part_text (output_part names all n one) ++ parts_text rest) after;
+        first = λ is.
+            subst (λ (n : ℕ). IsFirstBegin (Some n) output (length (parts_text front))) after
+            (subst (λ (l : List ℕ). IsFirstBegin (Some number) l (length (parts_text front))) (sym text)
+            (first_begin (Some number) front part rest (short_number number one rest own is (cut_from front (part ∷ rest) cut)) cut
+            (others_answer number 1 earlier (one ∷ more) within numbered) (answers-number number one own is)));
+        first_scanner = λ none is.
+            subst (λ (l : List ℕ). IsFirstBegin None l (length (parts_text front))) (sym text)
+            (first_begin None front part rest tt cut (no_scanner_answers 1 earlier none) (answers-scanner number one is));
+      }
+
+pub is_found : (options : Options) (seen : List HeldFile) (main output : List ℕ) (made : List Made) → HasNoOpener main → IfSome options.dir HasNoOpener
+    → (is : IsOutput options seen main made output) → (earlier : List Made) (one : Made) (more : List Made) → made ≡ earlier ++ one ∷ more
+    → IsFound (last_names is) made earlier one output
+is_found options seen main output made main_plain dir_plain is earlier one more whole =
+    let names : Spellings = last_names is in
+    let cut = cut-output options seen main output made main_plain dir_plain is in
+    let number : ℕ = number_past 1 earlier in
+    let after : number ≡ number_after earlier = omega (arith, number_past-after 1 earlier) in
+    let parts : output_parts names made 1 made ≡ output_parts names made 1 earlier ++ output_parts names made number (one ∷ more) =
+    ap (output_parts names made 1) whole ∙ output_parts-append names made 1 earlier (one ∷ more) in
+    let setting : Setting = setting_of options (expansion options seen main).met.names is.is.parts in
+    let numbered : AreNumbered 1 (earlier ++ one ∷ more) =
+    subst (AreNumbered 1) whole (AreNumbered-made setting 1 0 is.is.parts made is.is.made_are) in
+    found_behind names made number earlier one more output refl numbered (subst AreCut parts cut.0) (cut.1 ∙ ap parts_text parts) after

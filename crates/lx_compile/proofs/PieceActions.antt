@@ -1,122 +1,105 @@
 -- The actions of a piece are those of its block, and no begin mark stands in them.
-use Rattle.std.proofs.Common.{◌≡◌, ℕ, zero, suc, List, [], ◌∷◌, ◌++◌, ◌∙◌, Bool, true, false, Option, Some, None, codes, refl, ap, subst, append_assoc}
+use Rattle.std.proofs.Common.{ℕ, zero, suc, List, [], ◌∷◌, Bool, true, false, Option, Some, None, sym, subst}
 use Rattle.std.specs.Prelude.{IfSome, nat_eq, slice_get, if◌then◌else◌}
 use Rattle.std.specs.List.{AllByRecursion}
 use Rattle.std.proofs.lemmas.List.Elements.{All-contains, All-from_recursion}
 use Rattle.lx_auto.specs.declared.automaton.Auto.{Auto}
-use Rattle.lx_ccode.specs.Marks.{HasNoBegin, IsUnmarked, IsUnmarkedLine}
-use Rattle.lx_ccode.specs.declared.piece.LineMark.{LineMark}
+use Rattle.lx_ccode.specs.Marks.{IsUnmarked, IsUnmarkedLine}
 use Rattle.lx_ccode.specs.declared.piece.Stmt.{Stmt}
 use Rattle.lx_ccode.specs.declared.piece.Stmt.TheVariants.{Peek, Skip, Backup, Restore, Accept, Set, Unset, Copy, MSet, MUnset, MCopy, IfUnit, IfAccept, IfEnd, State, Need, Try, Cond, Tag, Count, End, Back, Goto, Leave, Code, Jump}
-use Rattle.lx_ccode.proofs.BeginMarks.{HasNoBegin-ends}
-use Rattle.lx_gen.specs.Generated.{act_ending, act_of, endings_by, sources_of}
+use Rattle.lx_gen.specs.Generated.{Marks, act_ending, act_of, endings_by, sources_of}
 use Rattle.lx_layout.specs.Endings.{Ending}
 use Rattle.lx_layout.specs.Pieces.{IsActionOf, Source}
 use Rattle.lx_regex.specs.declared.rules.Rule.{Rule}
 use Rattle.lx_rules.specs.declared.resolved.Act.{Act}
 use Rattle.lx_rules.specs.declared.resolved.Scanner.{Scanner}
-use Rattle.lx_split.specs.Cuts.{HasNoMark}
-use Rattle.lx_compile.proofs.ActionSlices.{IsAction}
-use Rattle.lx_compile.proofs.UnmarkedTexts.{HasNoBegin-unmarked, HasNoMark-behind}
+use Rattle.lx_compile.proofs.ActionSlices.{ArePlainActs, IsPlainAction}
+use Rattle.lx_compile.proofs.UnmarkedTexts.{ArePlain, IsUnmarkedLine-mark}
 
-module _ (body : List ℕ) where
-  -- the action of an ending, if it has one, stands in the body, and its line is not told
-  record IsOfBody (ending : Ending) : Type 0 where
-    acts : IfSome ending.action (IsAction body)
-    untold : ending.line ≡ None
+module _ (marks : Marks) (plain : IfSome marks ArePlain) where
+  -- the action of an ending, if it has one, is plain, and so is its line
+  record IsPlainEnding (ending : Ending) : Type 0 where
+    acts : IfSome ending.action IsPlainAction
+    line : IsUnmarkedLine ending.line
 
-  abbrev ActsInBody : Act → Type 0
-  ActsInBody act = IfSome act.code (IsAction body)
+  abbrev HasPlainAct : Act → Type 0
+  HasPlainAct act = IfSome act.code IsPlainAction
 
-  found_act : (acts : List Act) (place : ℕ) → AllByRecursion ActsInBody acts → IfSome (slice_get acts place) ActsInBody
+  found_act : (acts : List Act) (place : ℕ) → ArePlainActs acts → IfSome (slice_get acts place) HasPlainAct
   found_act [] zero have = tt
   found_act [] (suc place) have = tt
   found_act (act ∷ acts) zero have = have.0
   found_act (act ∷ acts) (suc place) have = found_act acts place have.1
 
-  act_found : (acts : List Act) (number : ℕ) → AllByRecursion ActsInBody acts → IfSome (act_of acts number) ActsInBody
+  act_found : (acts : List Act) (number : ℕ) → ArePlainActs acts → IfSome (act_of acts number) HasPlainAct
   act_found acts zero have = tt
   act_found acts (suc place) have = found_act acts place have
 
-  ending_of_body : (rule : Rule) (found : Option Act) → IfSome found ActsInBody → IsOfBody (act_ending None rule found)
-  ending_of_body rule None have = record { acts = tt; untold = refl }
-  ending_of_body rule (Some act) have = record { acts = have; untold = refl }
+  plain_ending : (rule : Rule) (found : Option Act) → IfSome found HasPlainAct → IsPlainEnding (act_ending marks rule found)
+  plain_ending rule None have = record { acts = tt; line = tt }
+  plain_ending rule (Some act) have = record { acts = have; line = IsUnmarkedLine-mark marks plain act.at }
 
-  either : (same : Bool) (ending other : Ending) → IsOfBody ending → IsOfBody other → IsOfBody (if same then ending else other)
+  either : (same : Bool) (ending other : Ending) → IsPlainEnding ending → IsPlainEnding other → IsPlainEnding (if same then ending else other)
   either true ending other is is_other = is
   either false ending other is is_other = is_other
 
-  endings_of_body : (acts : List Act) (rules : List Rule) (number : ℕ) → AllByRecursion ActsInBody acts → IsOfBody (endings_by None acts rules number)
-  endings_of_body acts [] number have = record { acts = tt; untold = refl }
-  endings_of_body acts (rule ∷ rules) number have =
-      either (nat_eq number rule.number) (act_ending None rule (act_of acts number)) (endings_by None acts rules number)
-      (ending_of_body rule (act_of acts number) (act_found acts number have)) (endings_of_body acts rules number have)
+  plain_endings : (acts : List Act) (rules : List Rule) (number : ℕ) → ArePlainActs acts → IsPlainEnding (endings_by marks acts rules number)
+  plain_endings acts [] number have = record { acts = tt; line = tt }
+  plain_endings acts (rule ∷ rules) number have =
+      either (nat_eq number rule.number) (act_ending marks rule (act_of acts number)) (endings_by marks acts rules number)
+      (plain_ending rule (act_of acts number) (act_found acts number have)) (plain_endings acts rules number have)
 
-  sources_of_body : (acts : List Act) (scanners : List Scanner) (autos : List Auto) (checks : List (List ℕ)) → AllByRecursion ActsInBody acts
-      → AllByRecursion (λ (source : Source). (number : ℕ) → IsOfBody (source.endings number)) (sources_of None acts scanners autos checks)
-  sources_of_body acts [] autos checks have = tt
-  sources_of_body acts (scanner ∷ scanners) [] [] have = tt
-  sources_of_body acts (scanner ∷ scanners) [] (list ∷ checks) have = tt
-  sources_of_body acts (scanner ∷ scanners) (auto ∷ autos) [] have = tt
-  sources_of_body acts (scanner ∷ scanners) (auto ∷ autos) (list ∷ checks) have =
-      (λ number. endings_of_body acts scanner.set.rules number have, sources_of_body acts scanners autos checks have)
+  abbrev IsPlainSource : Source → Type 0
+  IsPlainSource source = (number : ℕ) → IsPlainEnding (source.endings number)
 
-  module _ (before after : List ℕ) (none : HasNoMark (before ++ (body ++ after))) where
-    -- an action in a source without marks has none
-    unmarked_action : (text : List ℕ) → IsAction body text → HasNoBegin text (codes "\n")
-    unmarked_action text is =
-        HasNoBegin-ends text (is.behind ++ after) (codes "\n") refl (HasNoBegin-unmarked text (is.behind ++ after) (HasNoMark-behind is.before (text ++ (is.behind ++ after)) within))
-      where
-        whole : body ++ after ≡ is.before ++ (text ++ (is.behind ++ after))
-        whole = ap (λ (l : List ℕ). l ++ after) is.is ∙ append_assoc is.before (text ++ is.behind) after ∙ ap (λ (l : List ℕ). is.before ++ l) (append_assoc text is.behind after)
+  plain_sources : (acts : List Act) (scanners : List Scanner) (autos : List Auto) (checks : List (List ℕ)) → ArePlainActs acts
+      → AllByRecursion IsPlainSource (sources_of marks acts scanners autos checks)
+  plain_sources acts [] autos checks have = tt
+  plain_sources acts (scanner ∷ scanners) [] [] have = tt
+  plain_sources acts (scanner ∷ scanners) [] (list ∷ checks) have = tt
+  plain_sources acts (scanner ∷ scanners) (auto ∷ autos) [] have = tt
+  plain_sources acts (scanner ∷ scanners) (auto ∷ autos) (list ∷ checks) have =
+      (λ number. plain_endings acts scanner.set.rules number have, plain_sources acts scanners autos checks have)
 
-        within : HasNoMark (is.before ++ (text ++ (is.behind ++ after)))
-        within = subst HasNoMark whole (HasNoMark-behind before (body ++ after) none)
+  module _ (sources : List Source) (have : AllByRecursion IsPlainSource sources) where
+    unmarked : (statement : Stmt) → IsActionOf sources statement → IsUnmarked statement
+    unmarked (Code rule line action) is =
+        let of : IsPlainEnding (is.0.endings rule) =
+        All-contains IsPlainSource sources is.0 (All-from_recursion IsPlainSource sources have) is.1 rule in
+        let stands : IsPlainAction action = subst (λ (code : Option (List ℕ)). IfSome code IsPlainAction) is.2.0 of.acts in
+        (subst IsUnmarkedLine (sym is.2.1) of.line, stands.0, stands.1)
+    unmarked (Jump cond rule) is = tt
+    unmarked (Peek) is = tt
+    unmarked (Skip) is = tt
+    unmarked (Backup) is = tt
+    unmarked (Restore) is = tt
+    unmarked (Accept accept) is = tt
+    unmarked (Set register) is = tt
+    unmarked (Unset register) is = tt
+    unmarked (Copy register source) is = tt
+    unmarked (MSet history) is = tt
+    unmarked (MUnset history) is = tt
+    unmarked (MCopy history source) is = tt
+    unmarked (IfUnit greatest block) is = tt
+    unmarked (IfAccept accept block) is = tt
+    unmarked (IfEnd block) is = tt
+    unmarked (State state) is = tt
+    unmarked (Need units) is = tt
+    unmarked (Try block) is = tt
+    unmarked (Cond cond) is = tt
+    unmarked (Tag tag many register) is = tt
+    unmarked (Count groups) is = tt
+    unmarked (End place register) is = tt
+    unmarked (Back register) is = tt
+    unmarked (Goto block) is = tt
+    unmarked (Leave) is = tt
 
-    unmarked_line : (line : Option LineMark) → line ≡ None → IsUnmarkedLine line
-    unmarked_line None is = tt
-    unmarked_line (Some mark) is = absurd cc
+    each_unmarked : (statements : List Stmt) → AllByRecursion (IsActionOf sources) statements → AllByRecursion IsUnmarked statements
+    each_unmarked [] is = tt
+    each_unmarked (statement ∷ statements) is = (unmarked statement is.0, each_unmarked statements is.1)
 
-    module _ (sources : List Source) (have : AllByRecursion (λ (source : Source). (number : ℕ) → IsOfBody (source.endings number)) sources) where
-      unmarked : (statement : Stmt) → IsActionOf sources statement → IsUnmarked statement
-      unmarked (Code rule line action) is =
-          let of = All-contains (λ (source : Source). (number : ℕ) → IsOfBody (source.endings number)) sources is.0
-          (All-from_recursion (λ (source : Source). (number : ℕ) → IsOfBody (source.endings number)) sources have) is.1 rule in
-          let stands : IsAction body action = subst (λ (code : Option (List ℕ)). IfSome code (IsAction body)) is.2.0 of.acts in
-          (unmarked_line line (is.2.1 ∙ of.untold), stands.braced, unmarked_action action stands)
-      unmarked (Jump cond rule) is = tt
-      unmarked (Peek) is = tt
-      unmarked (Skip) is = tt
-      unmarked (Backup) is = tt
-      unmarked (Restore) is = tt
-      unmarked (Accept accept) is = tt
-      unmarked (Set register) is = tt
-      unmarked (Unset register) is = tt
-      unmarked (Copy register source) is = tt
-      unmarked (MSet history) is = tt
-      unmarked (MUnset history) is = tt
-      unmarked (MCopy history source) is = tt
-      unmarked (IfUnit greatest block) is = tt
-      unmarked (IfAccept accept block) is = tt
-      unmarked (IfEnd block) is = tt
-      unmarked (State state) is = tt
-      unmarked (Need units) is = tt
-      unmarked (Try block) is = tt
-      unmarked (Cond cond) is = tt
-      unmarked (Tag tag many register) is = tt
-      unmarked (Count groups) is = tt
-      unmarked (End place register) is = tt
-      unmarked (Back register) is = tt
-      unmarked (Goto block) is = tt
-      unmarked (Leave) is = tt
-
-      each_unmarked : (statements : List Stmt) → AllByRecursion (IsActionOf sources) statements → AllByRecursion IsUnmarked statements
-      each_unmarked [] is = tt
-      each_unmarked (statement ∷ statements) is = (unmarked statement is.0, each_unmarked statements is.1)
-
-    -- no begin mark stands in the statements of a piece of the block's scanners
-    pub all_unmarked : (acts : List Act) (scanners : List Scanner) (autos : List Auto) (checks : List (List ℕ)) (statements : List Stmt)
-        → AllByRecursion (λ (act : Act). IfSome act.code (IsAction body)) acts
-        → AllByRecursion (IsActionOf (sources_of None acts scanners autos checks)) statements → AllByRecursion IsUnmarked statements
-    all_unmarked acts scanners autos checks statements have is =
-        each_unmarked (sources_of None acts scanners autos checks) (sources_of_body acts scanners autos checks have) statements is
+  -- no begin mark stands in the statements of a piece of the block's scanners
+  pub all_unmarked : (acts : List Act) (scanners : List Scanner) (autos : List Auto) (checks : List (List ℕ)) (statements : List Stmt) → ArePlainActs acts
+      → AllByRecursion (IsActionOf (sources_of marks acts scanners autos checks)) statements → AllByRecursion IsUnmarked statements
+  all_unmarked acts scanners autos checks statements have is =
+      each_unmarked (sources_of marks acts scanners autos checks) (plain_sources acts scanners autos checks have) statements is

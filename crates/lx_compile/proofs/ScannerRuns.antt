@@ -1,7 +1,7 @@
 -- The automata of a block's scanners, and their checks, one behind another.
-use Rattle.std.proofs.Common.{◌≡◌, ℕ, ◌<◌, List, [], ◌∷◌, ◌++◌, length, arith, inl, inr, subst, append_assoc, append-nil}
+use Rattle.std.proofs.Common.{◌≡◌, ℕ, suc, ◌<◌, ◌+◌, add-one, List, [], ◌∷◌, ◌++◌, length, drop, get_or, inl, inr, sym, ap, subst, append_assoc, append-nil, ◌∙◌}
+use Rattle.std.proofs.Math.Seq.{drop-cons}
 use Rattle.std.specs.List.{AllByRecursion}
-use Rattle.std.proofs.lemmas.List.Elements.{All-from_recursion}
 use Rattle.lx_auto.specs.Automaton.{IsAuto}
 use Rattle.lx_auto.specs.declared.automaton.Auto.{Auto}
 use Rattle.lx_base.specs.declared.faults.Stop.{Stop}
@@ -13,12 +13,17 @@ use Rattle.lx_fill.specs.Checks.{AreChecks}
 use Rattle.lx_regex.specs.Order.{greedy}
 use Rattle.lx_regex.specs.Pattern.{patterns_of}
 use Rattle.lx_rules.specs.Within.{IsScannerWithin}
-use Rattle.lx_rules.specs.declared.resolved.Act.{Act}
 use Rattle.lx_rules.specs.declared.resolved.Scanner.{Scanner}
 use Rattle.lx_tdfa.specs.Making.{StopsBy}
 use Rattle.lx_tdfa.specs.Promise.{IsAutoOf}
 use Rattle.lx_compile.specs.Emittable.{AreAutosOf, AreChecksOf}
 use Rattle.lx_compile.specs.Parts.{HasTooLarge, IsTooLarge}
+
+-- the element at a place is the first one of those from there on
+pub elements_from : {A : Type 0} (elements : List A) (i : ℕ) (element : A) → i < length elements → element ≡ get_or elements i element
+    → drop i elements ≡ element ∷ drop (i + 1) elements
+elements_from {A = A} elements i element lt at =
+    rw add-one (drop-cons elements i element lt ∙ ap (λ (e : A). e ∷ drop (suc i) elements) (sym at))
 
 -- ---- automata
 

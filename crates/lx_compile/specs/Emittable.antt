@@ -1,6 +1,5 @@
 -- What the steps of a compilation know of the parts of a source.
-use Rattle.std.specs.Prelude.{◌≡◌, ℕ, ◌≤◌, List, [], ◌∷◌, length}
-use Rattle.std.specs.List.{AllByRecursion}
+use Rattle.std.specs.Prelude.{ℕ, ◌<◌, ◌≤◌, List, [], ◌∷◌, length}
 use Rattle.lx_auto.specs.declared.automaton.Auto.{Auto}
 use Rattle.lx_base.specs.declared.limits.TheConstants.{SOURCE_LIMIT}
 use Rattle.lx_base.specs.declared.places.Pos.{Pos}
@@ -9,10 +8,13 @@ use Rattle.lx_base.specs.declared.settings.Options.{Options}
 use Rattle.lx_fill.specs.Checks.{AreChecks}
 use Rattle.lx_regex.specs.Pattern.{patterns_of}
 use Rattle.lx_rules.specs.WellFormed.{IsWellFormed}
+use Rattle.lx_rules.specs.declared.resolved.Resolved.{Resolved}
 use Rattle.lx_rules.specs.declared.resolved.Scanner.{Scanner}
 use Rattle.lx_split.specs.declared.pieces.SourcePiece.{SourcePiece}
 use Rattle.lx_split.specs.declared.pieces.SourcePiece.TheVariants as piece
 use Rattle.lx_tdfa.specs.Promise.{IsAutoOf}
+use Rattle.lx_compile.specs.declared.parts.Content.{Content}
+use Rattle.lx_compile.specs.declared.parts.Content.TheVariants.{Asks, Scanners}
 use Rattle.lx_compile.specs.declared.parts.Part.{Part}
 use Rattle.lx_compile.specs.declared.parts.Part.TheVariants.{Outside, Block}
 
@@ -26,10 +28,19 @@ abbrev pub IsNearPiece : SourcePiece → Type 0
 IsNearPiece (piece.Outside text) = Unit {0}
 IsNearPiece (piece.Block kind body at start end_line) = IsNear body start
 
--- what a block resolves to is well formed
-abbrev pub IsEmittablePart : Options → Part → Type 0
-IsEmittablePart options (Outside text) = Unit {0}
-IsEmittablePart options (Block at resolved) = IsWellFormed options resolved
+-- a block has a scanner and is well formed
+pub record CanBeMade (options : Options) (resolved : Resolved) : Type 0 where
+  pub some : 0 < length resolved.scanners
+  pub formed : IsWellFormed options resolved
+
+-- so is each block that gives scanners
+abbrev pub HasMakeable : Options → Content → Type 0
+HasMakeable options (Scanners resolved) = CanBeMade options resolved
+HasMakeable options (Asks directive) = Unit {0}
+
+abbrev pub IsMakeable : Options → Part → Type 0
+IsMakeable options (Outside text) = Unit {0}
+IsMakeable options (Block at line content) = HasMakeable options content
 
 -- each scanner has the automaton of its rules
 abbrev pub AreAutosOf : Enc → List Scanner → List Auto → Type 0

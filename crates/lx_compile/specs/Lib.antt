@@ -1,8 +1,12 @@
-pub mod Cut
 pub mod Blocks
+pub mod Cut
+pub mod Directives
+pub mod Emittable
+pub mod Facts
 pub mod FirstFault
+pub mod Made
+pub mod Making
 pub mod Options
 pub mod Output
 pub mod Parts
-pub mod Places
-pub mod Emittable
+pub mod Writing

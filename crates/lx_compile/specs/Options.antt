@@ -2,7 +2,6 @@
 use Rattle.std.specs.Prelude.{◌≡◌, false}
 use Rattle.lx_base.specs.declared.settings.Options.{Options}
 
--- what is asked for is compiled so far: no `#line`, and no captures by the POSIX order
-pub record ArePlain (options : Options) : Type 0 where
-  pub lines : options.lines ≡ false
-  pub posix : options.posix ≡ false
+-- captures by the POSIX order are not asked for, so the trees of rules are the leftmost greedy ones
+abbrev pub IsGreedy : Options → Type 0
+IsGreedy options = options.posix ≡ false

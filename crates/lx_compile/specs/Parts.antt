@@ -1,5 +1,6 @@
--- The parts of a source: texts outside of blocks, and what the blocks resolve to.
-use Rattle.std.specs.Prelude.{◌≡◌, ◌⊎◌, List, [], ◌∷◌, Option, Some, None}
+-- The parts of a source: texts outside of blocks, and what the blocks give.
+use Rattle.std.specs.Prelude.{◌≡◌, ◌⊎◌, Bool, true, false, not, List, [], ◌∷◌, Option, Some, None}
+use Rattle.std.specs.List.{list_any}
 use Rattle.lx_base.specs.declared.faults.Fault.{Fault}
 use Rattle.lx_base.specs.declared.faults.Fault.TheVariants.{TooManyStates}
 use Rattle.lx_base.specs.declared.faults.Stop.{Stop}
@@ -9,27 +10,25 @@ use Rattle.lx_base.specs.declared.settings.Options.{Options}
 use Rattle.lx_regex.specs.Kernel.{HasTooManyKernels}
 use Rattle.lx_regex.specs.Pattern.{patterns_of, terms_of}
 use Rattle.lx_rules.specs.Environments.{Environment}
-use Rattle.lx_rules.specs.declared.resolved.Resolved.{Resolved}
 use Rattle.lx_rules.specs.declared.resolved.Scanner.{Scanner}
 use Rattle.lx_split.specs.declared.pieces.SourcePiece.{SourcePiece}
 use Rattle.lx_split.specs.declared.pieces.SourcePiece.TheVariants as piece
 use Rattle.lx_compile.specs.Blocks.{IsBlock, IsFaultOf}
+use Rattle.lx_compile.specs.declared.parts.Content.{Content}
+use Rattle.lx_compile.specs.declared.parts.Content.TheVariants.{Asks, Scanners}
+use Rattle.lx_compile.specs.declared.parts.Directive.TheVariants.{GetState}
 use Rattle.lx_compile.specs.declared.parts.Part.{Part}
 use Rattle.lx_compile.specs.declared.parts.Part.TheVariants.{Outside, Block}
 
--- the pieces of a source are these parts: each block resolves in the environment that the blocks before it left
-abbrev pub AreParts : Options → Environment → List SourcePiece → List Part → Type 0
-AreParts options environment [] [] = Unit {0}
-AreParts options environment [] (part ∷ parts) = ⊥
-AreParts options environment (piece.Outside text ∷ pieces) [] = ⊥
-AreParts options environment (piece.Outside text ∷ pieces) (Outside other ∷ parts) =
-    (other ≡ text) × AreParts options environment pieces parts
-AreParts options environment (piece.Outside text ∷ pieces) (Block place resolved ∷ parts) = ⊥
-AreParts options environment (piece.Block kind body at start end_line ∷ pieces) [] = ⊥
-AreParts options environment (piece.Block kind body at start end_line ∷ pieces) (Outside other ∷ parts) = ⊥
-AreParts options environment (piece.Block kind body at start end_line ∷ pieces) (Block place resolved ∷ parts) =
-    (place ≡ at)
-    × ((after : Environment) × IsBlock options environment kind body at start after resolved × AreParts options after pieces parts)
+-- the pieces of a source are these parts: each block is taken in the environment that the blocks before it left, and the last one leaves `last`
+abbrev pub AreParts : Options → Environment → List SourcePiece → List Part → (last : Environment) → Type 0
+AreParts options environment [] [] last = last ≡ environment
+AreParts options environment (piece.Outside text ∷ pieces) (Outside other ∷ parts) last =
+    (other ≡ text) × AreParts options environment pieces parts last
+AreParts options environment (piece.Block kind body at start end_line ∷ pieces) (Block place line content ∷ parts) last =
+    (place ≡ at) × (line ≡ end_line)
+    × ((after : Environment) × IsBlock options environment kind body at start after content × AreParts options after pieces parts last)
+AreParts options environment pieces parts last = ⊥
 
 -- the fault of the first block that has one
 abbrev pub IsFaultAmong : Options → Environment → List SourcePiece → Fault → Type 0
@@ -37,13 +36,22 @@ IsFaultAmong options environment [] fault = ⊥
 IsFaultAmong options environment (piece.Outside text ∷ pieces) fault = IsFaultAmong options environment pieces fault
 IsFaultAmong options environment (piece.Block kind body at start end_line ∷ pieces) fault =
     IsFaultOf options environment kind body at start fault
-    ⊎ ((after : Environment) × (resolved : Resolved)
-    × IsBlock options environment kind body at start after resolved × IsFaultAmong options after pieces fault)
+    ⊎ ((after : Environment) × (content : Content)
+    × IsBlock options environment kind body at start after content × IsFaultAmong options after pieces fault)
 
 -- a call that is to resolve the blocks stops with that fault, or where memory runs out
 abbrev pub StopsAmong : Options → Environment → List SourcePiece → Stop → Type 0
 StopsAmong options environment pieces stop.Memory = Unit {0}
 StopsAmong options environment pieces (stop.Fault fault) = IsFaultAmong options environment pieces fault
+
+-- a block asks for a switch over the states of all scanners
+abbrev pub asks_for_states : Part → Bool
+asks_for_states (Block at line (Asks GetState)) = true
+asks_for_states part = false
+
+-- the pieces of scanners switch over their states themselves, where no block asks for that
+abbrev pub switch_themselves : List Part → Bool
+switch_themselves parts = not (list_any asks_for_states parts)
 
 -- the scanner has too many kernels in the encoding
 abbrev pub IsTooLarge : Enc → Scanner → Type 0
@@ -54,13 +62,18 @@ abbrev pub HasTooLarge : Enc → List Scanner → Type 0
 HasTooLarge enc [] = ⊥
 HasTooLarge enc (scanner ∷ scanners) = IsTooLarge enc scanner ⊎ HasTooLarge enc scanners
 
+-- so has one of those that a block gives
+abbrev pub HasTooLargeContent : Enc → Content → Type 0
+HasTooLargeContent enc (Scanners resolved) = HasTooLarge enc resolved.scanners
+HasTooLargeContent enc (Asks directive) = ⊥
+
 -- the fault of the first block that has such a scanner, or none
 abbrev pub IsKernelFault : Enc → List Part → Option Fault → Type 0
 IsKernelFault enc [] fault = fault ≡ None
 IsKernelFault enc (Outside text ∷ parts) fault = IsKernelFault enc parts fault
-IsKernelFault enc (Block at resolved ∷ parts) fault =
-    (HasTooLarge enc resolved.scanners × (fault ≡ Some (TooManyStates at)))
-    ⊎ ((HasTooLarge enc resolved.scanners → ⊥) × IsKernelFault enc parts fault)
+IsKernelFault enc (Block at line content ∷ parts) fault =
+    (HasTooLargeContent enc content × (fault ≡ Some (TooManyStates at)))
+    ⊎ ((HasTooLargeContent enc content → ⊥) × IsKernelFault enc parts fault)
 
 -- a call that is to make the scanners stops with that fault, or where memory runs out
 abbrev pub StopsByKernels : Enc → List Part → Stop → Type 0

@@ -1,32 +1,60 @@
 //! One block of a source.
-ghost use Rattle.std.specs.Prelude.{◌≡◌, ◌≢◌, IfOk, MatchResult, Some};
-ghost use Rattle.lx_base.specs.declared.blocks.BlockKind.TheVariants.{Code};
-ghost use Rattle.lx_base.specs.declared.faults.Fault.TheVariants.{Unsupported};
-ghost use Rattle.lx_base.specs.declared.faults.Stop.TheVariants as stop;
-ghost use Rattle.lx_rules.specs.Blocks.{StandsUnder};
+ghost use Rattle.std.specs.Prelude.{◌≡◌, List, IfOk, MatchResult};
+ghost use Rattle.lx_parse.specs.declared.items.Item.{Item};
+ghost use Rattle.lx_rules.specs.Blocks.{HasRules, StandsUnder};
 ghost use Rattle.lx_rules.specs.Environments.{Environment};
 ghost use Rattle.lx_rules.specs.Represents.{Represents};
-ghost use Rattle.lx_rules.specs.WellFormed.{IsWellFormed};
-ghost use Rattle.lx_compile.specs.Blocks.{IsBlock, StopsAt};
-ghost use Rattle.lx_compile.specs.Emittable.{IsNear};
+ghost use Rattle.lx_token.specs.declared.list.Token.{Token};
+ghost use Rattle.lx_compile.specs.Blocks.{IsBlock, StopsAt, content_of};
+ghost use Rattle.lx_compile.specs.Emittable.{HasMakeable, IsNear};
 
-use lx_base::{BlockKind, Fault, Options, Pos, Stop};
+use crate::directives::read_directive;
+use crate::parts::{Content, Directive};
+use lx_base::{BlockKind, Options, Pos, Stop};
 use lx_parse::parse;
 use lx_rules::{Env, Resolved, resolve};
 use lx_token::tokens;
 use std::alloc::Global;
 
-/// Refuses a block of another kind than those that are compiled so far, at its opener.
-fn check_kind(kind: BlockKind, at: Pos) -> Result<(), Stop>
-    ensures { MatchResult result (λ _. kind ≡ Code) (λ refused. (kind ≢ Code) × (refused ≡ stop.Fault (Unsupported (Some at)))) }
+/// What a block of rules gives that resolves so.
+fn content_of(resolved: Resolved) -> Content
+    ensures { result ≡ content_of resolved resolved.scanners }
 {
-    if kind != BlockKind::Code {
-        return Err(Stop::Fault(Fault::Unsupported { at: Some(at) }));
+    if resolved.scanners.as_slice().is_empty() {
+        Content::Asks(Directive::Nothing)
+    } else {
+        Content::Scanners(resolved)
     }
-    Ok(())
 }
 
-/// What a block resolves to, and what holds behind it.
+/// What a block of rules gives, and what holds behind it.
+///
+/// It refuses with the first fault of the block; `Memory` may be answered, and no clause ties it to a cause.
+fn resolve_rules(
+    alloc: Global,
+    kind: BlockKind,
+    body: &[u8],
+    at: Pos,
+    start: Pos,
+    env: Env,
+    options: &Options,
+) -> Result<(Env, Content), Stop>
+    requires kind { HasRules kind }
+    requires near { IsNear body.now start }
+    requires env { (environment : Environment) × Represents env environment }
+    ensures makeable { (environment : Environment) → Represents env environment → StandsUnder options.now environment
+        → IfOk result (λ answer. HasMakeable options.now answer.1) }
+    ensures block { (environment : Environment) → Represents env environment → MatchResult result
+        (λ answer. (after : Environment) × Represents answer.0 after × IsBlock options.now environment kind body.now at start after answer.1)
+        (StopsAt options.now environment kind body.now at start) }
+{
+    let tokens = tokens(alloc, body, start)?;
+    let tree = parse(alloc, body, &tokens, kind, start)?;
+    let (after, resolved) = resolve(alloc, body, &tokens, &tree, kind, at, env, options)?;
+    Ok((after, content_of(resolved)))
+}
+
+/// What a block gives, and what holds behind it.
 ///
 /// Its opener stands at `at`, and its body begins at `start`. It refuses with the first fault of the block; `Memory` may be
 /// answered, and no clause ties it to a cause.
@@ -38,26 +66,25 @@ pub(crate) fn resolve_block(
     start: Pos,
     env: Env,
     options: &Options,
-) -> Result<(Env, Resolved), Stop>
+) -> Result<(Env, Content), Stop>
     requires near { IsNear body.now start }
     requires env { (environment : Environment) × Represents env environment }
-    ensures formed { (environment : Environment) → Represents env environment → StandsUnder options.now environment
-        → IfOk result (λ answer. IsWellFormed options.now answer.1) }
+    ensures makeable { (environment : Environment) → Represents env environment → StandsUnder options.now environment
+        → IfOk result (λ answer. HasMakeable options.now answer.1) }
     ensures block { (environment : Environment) → Represents env environment → MatchResult result
         (λ answer. (after : Environment) × Represents answer.0 after × IsBlock options.now environment kind body.now at start after answer.1)
         (StopsAt options.now environment kind body.now at start) }
 {
-    check_kind(kind, at)?;
-    let tokens = tokens(alloc, body, start)?;
-    let tree = parse(alloc, body, &tokens, BlockKind::Code, start)?;
-    resolve(
-        alloc,
-        body,
-        &tokens,
-        &tree,
-        BlockKind::Code,
-        at,
-        env,
-        options,
-    )
+    match kind {
+        BlockKind::Code | BlockKind::Rules | BlockKind::Use => {
+            resolve_rules(alloc, kind, body, at, start, env, options)
+        }
+        BlockKind::Ignore | BlockKind::Include | BlockKind::Enter | BlockKind::Leave => {
+            Ok((env, Content::Asks(Directive::Nothing)))
+        }
+        _ => {
+            let directive = read_directive(alloc, kind, body, start)?;
+            Ok((env, Content::Asks(directive)))
+        }
+    }
 }

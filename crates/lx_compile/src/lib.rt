@@ -2,11 +2,17 @@
 #![tactic(auto)]
 
 mod blocks;
+mod bodies;
 mod compiling;
-mod emission;
+mod directives;
+mod facts;
 pub mod laws;
+mod made;
+mod making;
 mod parts;
 mod walk;
+mod writing;
 
 pub use compiling::compile;
-pub use parts::Part;
+pub use made::Made;
+pub use parts::{Content, Directive, Part};

@@ -1,18 +1,24 @@
 //! The blocks of a source, in order.
 ghost use Rattle.std.specs.Prelude.{◌≡◌, ◌≤◌, All, IfOk, MatchResult, length};
-ghost use Rattle.lx_rules.specs.Environments.{first_environment};
-ghost use Rattle.lx_compile.specs.Options.{ArePlain};
-ghost use Rattle.lx_compile.specs.Parts.{AreParts, StopsAmong};
-ghost use Rattle.lx_compile.specs.Emittable.{IsNearPiece, IsEmittablePart};
+ghost use Rattle.lx_rules.specs.Environments.{Environment, config_of, first_environment};
+ghost use Rattle.lx_compile.specs.Parts.{AreParts, StopsAmong, asks_for_states, switch_themselves};
+ghost use Rattle.lx_compile.specs.Emittable.{IsMakeable, IsNearPiece};
 
 use crate::blocks::resolve_block;
-use crate::parts::Part;
-use lx_base::{Options, Sequence, Stop};
+use crate::parts::{Content, Directive, Part};
+use lx_base::{Names, Options, Sequence, Stop};
 use lx_rules::Env;
 use lx_split::{Pieces, SourcePiece};
 use std::alloc::Global;
 
-/// The parts of a source: each block resolves in the environment that the blocks before it left.
+/// The parts of a source, and the spellings that hold at its end.
+#[derive(Drop)]
+pub(crate) struct Resolution {
+    pub parts: Sequence<Part>,
+    pub names: Names,
+}
+
+/// The parts of a source: each block is resolved in the environment that the blocks before it left.
 ///
 /// It refuses with the first fault of the first block that has one; `Memory` may be answered, and no clause
 /// ties it to a cause.
@@ -20,13 +26,13 @@ pub(crate) fn resolve_blocks(
     alloc: Global,
     pieces: Pieces,
     options: &Options,
-) -> Result<Sequence<Part>, Stop>
-    requires plain { ArePlain options.now }
+) -> Result<Resolution, Stop>
     requires near { All IsNearPiece pieces }
-    ensures emittable { IfOk result (λ parts. All (IsEmittablePart options.now) parts) }
-    ensures few { IfOk result (λ parts. length parts ≤ length pieces) }
+    ensures makeable { IfOk result (λ resolution. All (IsMakeable options.now) resolution.parts) }
+    ensures few { IfOk result (λ resolution. length resolution.parts ≤ length pieces) }
     ensures parts { MatchResult result
-        (λ parts. AreParts options.now first_environment pieces parts)
+        (λ resolution. (last : Environment) × AreParts options.now first_environment pieces resolution.parts last
+        × (resolution.names ≡ (config_of last.settings).names))
         (StopsAmong options.now first_environment pieces) }
 {
     let mut parts = Sequence::new(alloc);
@@ -39,9 +45,9 @@ pub(crate) fn resolve_blocks(
                 body,
                 at,
                 body_at,
-                ..
+                end_line,
             } => {
-                let (after, resolved) = resolve_block(
+                let (after, content) = resolve_block(
                     alloc,
                     kind,
                     body.as_slice(),
@@ -51,9 +57,39 @@ pub(crate) fn resolve_blocks(
                     options,
                 )?;
                 env = after;
-                parts.push(Part::Block { at, resolved })?;
+                parts.push(Part::Block {
+                    at,
+                    line: end_line,
+                    content,
+                })?;
             }
         }
     }
-    Ok(parts)
+    let names = env.names(alloc)?;
+    Ok(Resolution { parts, names })
+}
+
+/// Whether a part asks for a switch over the states of all scanners.
+fn asks_for_states(part: &Part) -> bool
+    ensures { result ≡ asks_for_states part.now }
+{
+    matches!(
+        part,
+        Part::Block {
+            content: Content::Asks(Directive::GetState),
+            ..
+        }
+    )
+}
+
+/// Whether the pieces of scanners switch over their states themselves.
+pub(crate) fn switch_themselves(parts: &[Part]) -> bool
+    ensures { result ≡ switch_themselves parts.now }
+{
+    for part in parts {
+        if asks_for_states(part) {
+            return false;
+        }
+    }
+    true
 }

@@ -18,8 +18,9 @@ use Rattle.lx_ccode.specs.declared.piece.Piece.{Piece}
 use Rattle.lx_ccode.proofs.RoundTrip.{piece_at-text}
 use Rattle.lx_ccode.proofs.Tails.{piece_text-append}
 use Rattle.lx_ccode.proofs.Words.{behind-stop, decimal_digits, decimal_value, front-stop}
-use Rattle.lx_creader.specs.Cut.{Answers, AreCut, OutputPart, begins_outside, empty, outside, part_text, parts_text, scanner}
+use Rattle.lx_creader.specs.Cut.{Answers, AreCut, HasNoOpener, OutputPart, bare, begins_outside, outside, part_text, parts_text, scanner}
 use Rattle.lx_creader.specs.Marks.{BeginsBlock, IsFirstBegin, begin_mark, scanner_line}
+use Rattle.lx_creader.proofs.BareParts.{OpensNowhere, OpensNowhere-text, bare-then, opens-stop}
 
 -- ---- numbers before another byte than a digit
 
@@ -74,21 +75,28 @@ parts_text-starts : (parts : List OutputPart) → begins_outside parts ≡ false
 parts_text-starts [] none = inl refl
 parts_text-starts (outside text ∷ parts) none = absurd (false≢true (sym none))
 parts_text-starts (scanner piece ∷ parts) none = inr refl
-parts_text-starts (empty number ∷ parts) none = inr refl
+parts_text-starts (bare number inner ∷ parts) none = inr refl
 
 -- ---- pieces
 
-empty-then : (number : ℕ) (tail : List ℕ) → part_text (empty number) ++ tail ≡ codes "/*!begin:re2c " ++ (decimal number ++ 42 ∷ (codes "/\n/*!end:re2c*/" ++ tail))
-empty-then number tail = ap (λ (l : List ℕ). codes "/*!begin:re2c " ++ l) (append_assoc (decimal number) (codes "*/\n/*!end:re2c*/") tail)
+-- behind the line of a scanner's begin mark stands a mark that is no end mark
+abbrev IsOtherMark : List ℕ → Type 0
+IsOtherMark bytes = (begins_with (codes "/*!") bytes ≡ true) × (begins_with (codes "/*!e") bytes ≡ false)
 
--- no end mark stands at once behind the begin mark of a scanner
-no_end : (head : Option Head) (text : List ℕ) → begins_with (codes "/\n/*!e") (codes "/\n" ++ head_then head (codes "/*!names:re2c " ++ text)) ≡ false
-no_end None text = refl
-no_end (Some head) text = refl
+head_mark : (head : Option Head) (text : List ℕ) → IsOtherMark (head_then head (codes "/*!names:re2c " ++ text))
+head_mark None text = (refl, refl)
+head_mark (Some head) text = (refl, refl)
 
-no_end_line : (headed : Bool) (rest : List ℕ) → begins_with (codes "/\n/*!e") (47 ∷ (scanner_line headed ++ rest)) ≡ false
-no_end_line false rest = refl
-no_end_line true rest = refl
+line_mark : (headed : Bool) (rest : List ℕ) → IsOtherMark (drop 1 (scanner_line headed ++ rest))
+line_mark false rest = (refl, refl)
+line_mark true rest = (refl, refl)
+
+-- none stands behind that of a piece without a scanner
+no_other_mark : (inner tail bytes : List ℕ) → OpensNowhere inner → IsOtherMark bytes → bytes ≡ inner ++ (codes "/*!end:re2c*/" ++ tail) → ⊥
+no_other_mark [] tail bytes none mark same = false≢true (sym mark.1 ∙ ap (begins_with (codes "/*!e")) same)
+no_other_mark (letter ∷ inner) tail bytes none mark same =
+    false≢true (sym (opens-stop letter inner (codes "/*!end:re2c*/" ++ tail) refl none.0)
+    ∙ sym (ap (begins_with (codes "/*!")) same) ∙ mark.0)
 
 -- a head line or the line of the spellings stands there
 line_begins : (head : Option Head) (number : ℕ) (bytes text : List ℕ) → number < 2 ^ 32
@@ -97,19 +105,46 @@ line_begins None number bytes text h e = (number, h, false, text, e)
 line_begins (Some head) number bytes text h e = (number, h, true, _, e)
 
 -- a piece of a scanner is none without one
-scanner-empty : (piece : Piece) (number : ℕ) (tail rest : List ℕ) → IsShort piece.number → IsShort number → piece_text piece ++ tail ≡ part_text (empty number) ++ rest → ⊥
-scanner-empty piece number tail rest h k same =
-    let whole : piece_then piece tail ≡ codes "/*!begin:re2c " ++ (decimal number ++ 42 ∷ (codes "/\n/*!end:re2c*/" ++ rest)) =
-    sym (piece_text-append piece tail) ∙ same ∙ empty-then number rest in
-    let both = numbers-one piece.number number _ (codes "/\n/*!end:re2c*/" ++ rest) h k (ap (λ (l : List ℕ). drop 14 l) whole) in
-    false≢true (sym (no_end piece.head _) ∙ ap (begins_with (codes "/\n/*!e")) both.1)
+scanner-bare : (piece : Piece) (number : ℕ) (inner tail rest : List ℕ) → IsShort piece.number → IsShort number → HasNoOpener inner
+    → piece_text piece ++ tail ≡ part_text (bare number inner) ++ rest → ⊥
+scanner-bare piece number inner tail rest h k none same =
+    let behind : List ℕ = codes "/\n" ++ (inner ++ (codes "/*!end:re2c*/" ++ rest)) in
+    let whole : piece_then piece tail ≡ codes "/*!begin:re2c " ++ (decimal number ++ 42 ∷ behind) =
+    sym (piece_text-append piece tail) ∙ same ∙ bare-then number inner rest in
+    let both = numbers-one piece.number number _ behind h k (ap (λ (l : List ℕ). drop 14 l) whole) in
+    no_other_mark inner rest _ (OpensNowhere-text inner none) (head_mark piece.head _) (ap (λ (l : List ℕ). drop 2 l) both.1)
 
-empty-one : (number other : ℕ) (tail rest : List ℕ) → IsShort number → IsShort other → part_text (empty number) ++ tail ≡ part_text (empty other) ++ rest
-    → (number ≡ other) × (tail ≡ rest)
-empty-one number other tail rest h k same =
-    let whole = sym (empty-then number tail) ∙ same ∙ empty-then other rest in
-    let both = numbers-one number other (codes "/\n/*!end:re2c*/" ++ tail) (codes "/\n/*!end:re2c*/" ++ rest) h k (ap (λ (l : List ℕ). drop 14 l) whole) in
-    (both.0, append_cancel_left (codes "/\n/*!end:re2c*/") tail rest both.1)
+-- an opener stands at the front of an end mark, and not at that of a text in which none begins
+no_opener_first : (letter : ℕ) (text tail rest : List ℕ) → begins_with (codes "/*!") (letter ∷ text) ≡ false
+    → codes "/*!end:re2c*/" ++ rest ≡ letter ∷ text ++ (codes "/*!end:re2c*/" ++ tail) → ⊥
+no_opener_first letter text tail rest none same =
+    false≢true (sym (opens-stop letter text (codes "/*!end:re2c*/" ++ tail) refl none) ∙ sym (ap (begins_with (codes "/*!")) same))
+
+-- texts in which no opener begins end where the first end mark begins
+inner-one : (inner other tail rest : List ℕ) → OpensNowhere inner → OpensNowhere other
+    → inner ++ (codes "/*!end:re2c*/" ++ tail) ≡ other ++ (codes "/*!end:re2c*/" ++ rest) → inner ≡ other
+inner-one [] [] tail rest none free same = refl
+inner-one [] (letter ∷ other) tail rest none free same = absurd (no_opener_first letter other rest tail free.0 same)
+inner-one (letter ∷ inner) [] tail rest none free same = absurd (no_opener_first letter inner tail rest none.0 (sym same))
+inner-one (letter ∷ inner) (next ∷ other) tail rest none free same =
+    let head : letter ≡ next = (let h = same in cc) in
+    let behind : inner ++ (codes "/*!end:re2c*/" ++ tail) ≡ other ++ (codes "/*!end:re2c*/" ++ rest) = (let h = same in cc) in
+    ap (λ (l : List ℕ). letter ∷ l) (inner-one inner other tail rest none.1 free.1 behind) ∙ ap (λ (l : ℕ). l ∷ other) head
+
+bare-one : (number other : ℕ) (inner next tail rest : List ℕ) → IsShort number → IsShort other → HasNoOpener inner → HasNoOpener next
+    → part_text (bare number inner) ++ tail ≡ part_text (bare other next) ++ rest → (number ≡ other) × (inner ≡ next) × (tail ≡ rest)
+bare-one number other inner next tail rest h k none free same =
+    let end : List ℕ = codes "/*!end:re2c*/" in
+    let whole = sym (bare-then number inner tail) ∙ same ∙ bare-then other next rest in
+    let both = numbers-one number other (codes "/\n" ++ (inner ++ (end ++ tail))) (codes "/\n" ++ (next ++ (end ++ rest))) h k
+    (ap (λ (l : List ℕ). drop 14 l) whole) in
+    let behind : inner ++ (end ++ tail) ≡ next ++ (end ++ rest) = ap (λ (l : List ℕ). drop 2 l) both.1 in
+    let inner_is : inner ≡ next = inner-one inner next tail rest (OpensNowhere-text inner none) (OpensNowhere-text next free) behind in (
+      both.0,
+      inner_is,
+      append_cancel_left end tail rest (append_cancel_left inner (end ++ tail) (end ++ rest)
+          (behind ∙ ap (λ (l : List ℕ). l ++ (end ++ rest)) (sym inner_is))),
+    )
 
 scanner-one : (piece other : Piece) (tail rest : List ℕ) → IsValid piece → IsValid other → piece_text piece ++ tail ≡ piece_text other ++ rest
     → (piece ≡ other) × (tail ≡ rest)
@@ -132,32 +167,33 @@ pub AreCut-one : (parts other : List OutputPart) → AreCut parts → AreCut oth
 AreCut-one [] [] cut more same = refl
 AreCut-one [] (outside text ∷ other) cut more same = absurd (not_empty text (parts_text other) more.0 (sym same))
 AreCut-one [] (scanner piece ∷ other) cut more same = absurd cc
-AreCut-one [] (empty number ∷ other) cut more same = absurd cc
+AreCut-one [] (bare number inner ∷ other) cut more same = absurd cc
 AreCut-one (outside text ∷ parts) [] cut more same = absurd (not_empty text (parts_text parts) cut.0 same)
 AreCut-one (scanner piece ∷ parts) [] cut more same = absurd cc
-AreCut-one (empty number ∷ parts) [] cut more same = absurd cc
+AreCut-one (bare number inner ∷ parts) [] cut more same = absurd cc
 AreCut-one (outside text ∷ parts) (outside next ∷ other) cut more same =
     let text_is : text ≡ next = text-one text next (parts_text parts) (parts_text other) (parts_text-starts parts cut.1) (parts_text-starts other more.1) cut.2 more.2 same in
     let rest : parts_text parts ≡ parts_text other = append_cancel_left text (parts_text parts) (parts_text other) (same ∙ ap (λ (l : List ℕ). l ++ parts_text other) (sym text_is)) in
     ap (λ (l : List ℕ). outside l ∷ parts) text_is ∙ ap (λ (l : List OutputPart). outside next ∷ l) (AreCut-one parts other cut.3 more.3 rest)
 AreCut-one (outside text ∷ parts) (scanner piece ∷ other) cut more same =
     absurd (outside-begins text (parts_text parts) (parts_text (scanner piece ∷ other)) cut.0 cut.2 refl same)
-AreCut-one (outside text ∷ parts) (empty number ∷ other) cut more same =
-    absurd (outside-begins text (parts_text parts) (parts_text (empty number ∷ other)) cut.0 cut.2 refl same)
+AreCut-one (outside text ∷ parts) (bare number inner ∷ other) cut more same =
+    absurd (outside-begins text (parts_text parts) (parts_text (bare number inner ∷ other)) cut.0 cut.2 refl same)
 AreCut-one (scanner piece ∷ parts) (outside text ∷ other) cut more same =
     absurd (outside-begins text (parts_text other) (parts_text (scanner piece ∷ parts)) more.0 more.2 refl (sym same))
-AreCut-one (empty number ∷ parts) (outside text ∷ other) cut more same =
-    absurd (outside-begins text (parts_text other) (parts_text (empty number ∷ parts)) more.0 more.2 refl (sym same))
+AreCut-one (bare number inner ∷ parts) (outside text ∷ other) cut more same =
+    absurd (outside-begins text (parts_text other) (parts_text (bare number inner ∷ parts)) more.0 more.2 refl (sym same))
 AreCut-one (scanner piece ∷ parts) (scanner next ∷ other) cut more same =
     let both = scanner-one piece next (parts_text parts) (parts_text other) cut.0 more.0 same in
     ap (λ (p : Piece). scanner p ∷ parts) both.0 ∙ ap (λ (l : List OutputPart). scanner next ∷ l) (AreCut-one parts other cut.2 more.2 both.1)
-AreCut-one (scanner piece ∷ parts) (empty number ∷ other) cut more same =
-    absurd (scanner-empty piece number (parts_text parts) (parts_text other) cut.0.range.number more.0 same)
-AreCut-one (empty number ∷ parts) (scanner piece ∷ other) cut more same =
-    absurd (scanner-empty piece number (parts_text other) (parts_text parts) more.0.range.number cut.0 (sym same))
-AreCut-one (empty number ∷ parts) (empty next ∷ other) cut more same =
-    let both = empty-one number next (parts_text parts) (parts_text other) cut.0 more.0 same in
-    ap (λ (n : ℕ). empty n ∷ parts) both.0 ∙ ap (λ (l : List OutputPart). empty next ∷ l) (AreCut-one parts other cut.2 more.2 both.1)
+AreCut-one (scanner piece ∷ parts) (bare number inner ∷ other) cut more same =
+    absurd (scanner-bare piece number inner (parts_text parts) (parts_text other) cut.0.range.number more.0 more.1 same)
+AreCut-one (bare number inner ∷ parts) (scanner piece ∷ other) cut more same =
+    absurd (scanner-bare piece number inner (parts_text other) (parts_text parts) more.0.range.number cut.0 cut.1 (sym same))
+AreCut-one (bare number inner ∷ parts) (bare next text ∷ other) cut more same =
+    let all = bare-one number next inner text (parts_text parts) (parts_text other) cut.0 more.0 cut.1 more.1 same in
+    ap (λ (n : ℕ). bare n inner ∷ parts) all.0 ∙ ap (λ (l : List ℕ). bare next l ∷ parts) all.1
+    ∙ ap (λ (l : List OutputPart). bare next text ∷ l) (AreCut-one parts other cut.3 more.3 all.2)
 
 -- ---- the first begin mark
 
@@ -180,12 +216,16 @@ begins-scanner None piece tail short valid begins = tt
 begins-scanner (Some number) piece tail short valid begins =
     (mark_number piece.number number _ begins.0 valid.range.number short (sym (piece_text-append piece tail) ∙ begins.1)).0
 
-begins-empty : (block : Option ℕ) (number : ℕ) (tail : List ℕ) → IfSome block IsShort → IsShort number → BeginsBlock block (part_text (empty number) ++ tail) → Answers block (empty number)
-begins-empty (Some asked) number tail short h begins =
-    (mark_number number asked (codes "/\n/*!end:re2c*/" ++ tail) begins.0 h short (sym (empty-then number tail) ∙ begins.1)).0
-begins-empty None number tail short h begins =
-    let both = mark_number number begins.0 (codes "/\n/*!end:re2c*/" ++ tail) (scanner_line begins.2 ++ begins.3) h (omega (arith, begins.1)) (sym (empty-then number tail) ∙ begins.4) in
-    false≢true (sym (no_end_line begins.2 begins.3) ∙ sym (ap (begins_with (codes "/\n/*!e")) both.1))
+begins-bare : (block : Option ℕ) (number : ℕ) (inner tail : List ℕ) → IfSome block IsShort → IsShort number → HasNoOpener inner
+    → BeginsBlock block (part_text (bare number inner) ++ tail) → Answers block (bare number inner)
+begins-bare (Some asked) number inner tail short h none begins =
+    (mark_number number asked (codes "/\n" ++ (inner ++ (codes "/*!end:re2c*/" ++ tail))) begins.0 h short
+    (sym (bare-then number inner tail) ∙ begins.1)).0
+begins-bare None number inner tail short h none begins =
+    let both = mark_number number begins.0 (codes "/\n" ++ (inner ++ (codes "/*!end:re2c*/" ++ tail))) (scanner_line begins.2 ++ begins.3)
+    h (omega (arith, begins.1)) (sym (bare-then number inner tail) ∙ begins.4) in
+    no_other_mark inner tail (drop 1 (scanner_line begins.2 ++ begins.3)) (OpensNowhere-text inner none) (line_mark begins.2 begins.3)
+    (sym (ap (λ (l : List ℕ). drop 2 l) both.1))
 
 -- within a part that is not asked for, the block begins at no place
 within-one : (block : Option ℕ) (part : OutputPart) (parts : List OutputPart) → IfSome block IsShort → AreCut (part ∷ parts) → (Answers block part → ⊥)
@@ -197,16 +237,18 @@ within-one block (scanner piece) parts short cut none (suc place) within begins 
     let size : length (piece_text piece) ≡ suc (length (drop 1 (piece_text piece))) = refl in
     false≢true (sym (HasNoBegin-at (drop 1 (piece_text piece)) (parts_text parts) cut.1 place (omega (arith, within, size)))
     ∙ begins-block block (drop place (drop 1 (piece_text piece) ++ parts_text parts)) begins)
-within-one block (empty number) parts short cut none zero within begins = none (begins-empty block number (parts_text parts) short cut.0 begins)
-within-one block (empty number) parts short cut none (suc place) within begins =
-    let size : length (part_text (empty number)) ≡ suc (length (drop 1 (part_text (empty number)))) = refl in
-    false≢true (sym (HasNoBegin-at (drop 1 (part_text (empty number))) (parts_text parts) cut.1 place (omega (arith, within, size)))
-    ∙ begins-block block (drop place (drop 1 (part_text (empty number)) ++ parts_text parts)) begins)
+within-one block (bare number inner) parts short cut none zero within begins =
+    none (begins-bare block number inner (parts_text parts) short cut.0 cut.1 begins)
+within-one block (bare number inner) parts short cut none (suc place) within begins =
+    let behind : List ℕ = drop 1 (part_text (bare number inner)) in
+    let size : length (part_text (bare number inner)) ≡ suc (length behind) = refl in
+    false≢true (sym (HasNoBegin-at behind (parts_text parts) cut.2 place (omega (arith, within, size)))
+    ∙ begins-block block (drop place (behind ++ parts_text parts)) begins)
 
 cut-behind : (part : OutputPart) (parts : List OutputPart) → AreCut (part ∷ parts) → AreCut parts
 cut-behind (outside text) parts cut = cut.3
 cut-behind (scanner piece) parts cut = cut.2
-cut-behind (empty number) parts cut = cut.2
+cut-behind (bare number inner) parts cut = cut.3
 
 before-one : (block : Option ℕ) (parts rest : List OutputPart) → IfSome block IsShort → AreCut (parts ++ rest) → AllByRecursion (λ (part : OutputPart). Answers block part → ⊥) parts
     → (place : ℕ) → place < length (parts_text parts) → BeginsBlock block (drop place (parts_text (parts ++ rest))) → ⊥
@@ -228,15 +270,16 @@ mark-then number after = ap (λ (l : List ℕ). codes "/*!begin:re2c " ++ l) (sy
 
 answers-begin : (block : Option ℕ) (part : OutputPart) (parts : List OutputPart) → AreCut (part ∷ parts) → Answers block part → BeginsBlock block (part_text part ++ parts_text parts)
 answers-begin block (outside text) parts cut is = absurd is
-answers-begin None (empty number) parts cut is = absurd is
+answers-begin None (bare number inner) parts cut is = absurd is
 answers-begin None (scanner piece) parts cut is =
     line_begins piece.head piece.number (piece_text piece ++ parts_text parts) _ (omega (arith, cut.0.range.number))
     (piece_text-append piece (parts_text parts) ∙ mark-then piece.number _)
 answers-begin (Some number) (scanner piece) parts cut is =
     subst (λ (n : ℕ). BeginsBlock (Some n) (piece_text piece ++ parts_text parts)) is (_, piece_text-append piece (parts_text parts) ∙ mark-then piece.number _)
-answers-begin (Some number) (empty other) parts cut is =
-    subst (λ (n : ℕ). BeginsBlock (Some n) (part_text (empty other) ++ parts_text parts)) is
-    (codes "\n/*!end:re2c*/" ++ parts_text parts, empty-then other (parts_text parts) ∙ mark-then other (codes "\n/*!end:re2c*/" ++ parts_text parts))
+answers-begin (Some number) (bare other inner) parts cut is =
+    let behind : List ℕ = codes "\n" ++ (inner ++ (codes "/*!end:re2c*/" ++ parts_text parts)) in
+    subst (λ (n : ℕ). BeginsBlock (Some n) (part_text (bare other inner) ++ parts_text parts)) is
+    (behind, bare-then other inner (parts_text parts) ∙ mark-then other behind)
 
 pub cut_from : (first rest : List OutputPart) → AreCut (first ++ rest) → AreCut rest
 cut_from [] rest is = is

@@ -1,5 +1,6 @@
 pub mod FittedPieces
 pub mod Fronts
+pub mod BareParts
 pub mod BeginMarks
 pub mod Cuts
 pub mod NameLists

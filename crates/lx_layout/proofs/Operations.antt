@@ -1,5 +1,6 @@
 -- Lists of operations, at once and one by one.
 pub mod Agreeing
+pub mod CopiesBelow
 pub mod CopySequences
 pub mod Sequentialized
 pub mod OpBounds

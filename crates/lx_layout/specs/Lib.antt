@@ -41,6 +41,7 @@ pub mod TransitionClasses
 pub mod Turns
 pub mod UnitApart
 pub mod Views
+pub mod WaitingCopies
 pub mod Ways
 pub mod Writable
 pub mod Written

@@ -3,6 +3,7 @@
 
 mod accepts;
 mod blocks;
+mod copy_sequences;
 mod demands;
 pub mod examples;
 mod halting;
@@ -32,3 +33,4 @@ mod unit_splits;
 
 pub use pieces::{PieceForm, ScannerInput, piece_of};
 pub use rule_ends::RuleEnd;
+pub use switches::{names_register_one, state_cases};

@@ -38,7 +38,7 @@ fn append_states(cases: &mut Vec<StateCase>, block: u64, stmts: &[Stmt]) -> Resu
 }
 
 /// The cases of the states that blocks store, in the order in which these stand.
-pub(crate) fn state_cases(alloc: Global, blocks: &[CodeBlock]) -> Result<Vec<StateCase>, Memory>
+pub fn state_cases(alloc: Global, blocks: &[CodeBlock]) -> Result<Vec<StateCase>, Memory>
     ensures { IfOk result (λ cases. cases.items ≡ states_from 0 blocks.now) }
 {
     let mut cases = Vec::new(alloc);
@@ -91,7 +91,7 @@ fn any_register_one(stmts: &[Stmt]) -> bool
 }
 
 /// Whether a statement of blocks names register 1.
-pub(crate) fn names_register_one(blocks: &[CodeBlock]) -> bool
+pub fn names_register_one(blocks: &[CodeBlock]) -> bool
     ensures { result ≡ list_any has_register_one (all_statements blocks.now) }
 {
     for block in blocks {

@@ -1,4 +1,5 @@
 pub mod BlockEnds
+pub mod CleanNames
 pub mod Cutting
 pub mod ExpandStops
 pub mod Expansions
@@ -13,5 +14,9 @@ pub mod OpenerTexts
 pub mod Openings
 pub mod Passing
 pub mod PieceCounts
+pub mod PlaceBounds
+pub mod SoundExpansions
+pub mod SoundPieces
+pub mod Straddles
 pub mod Walking
 pub mod Walks

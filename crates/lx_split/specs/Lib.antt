@@ -1,5 +1,6 @@
 pub mod Bodies
 pub mod Cuts
+pub mod Expanded
 pub mod IncludeNames
 pub mod Includes
 pub mod Libraries

@@ -1,10 +1,22 @@
 -- What is read before a text is made.
-use Rattle.std.proofs.Common.{◌≡◌, ℕ, List, [], ◌∷◌, Option, Some, None, MatchOption, refl}
+use Rattle.std.proofs.Common.{◌≡◌, ◌≤◌, ℕ, List, [], ◌∷◌, Option, Some, None, MatchOption, Result, IfErr, IsErrAnd, refl, subst, sym}
 use Rattle.std.proofs.lemmas.Slice.Eq.{bytes_eq-Decides}
+use Rattle.lx_base.specs.declared.settings.Options.{Options}
+use Rattle.lx_compile.specs.FirstFault.{IsFirstFault, StopsWith}
+use Rattle.lx_compile.specs.Output.{IsOutput}
+use Rattle.lx_compile.specs.declared.made.Made.{Made}
+use Rattle.lx_files.specs.Counts.{Rose}
 use Rattle.lx_files.specs.declared.files.HeldFile.{HeldFile}
 use Rattle.lx_files.specs.Held.{bytes_of, Sees}
 use Rattle.lx_files.specs.Reading.{Gives}
-use Rattle.lx_top.specs.Steps.{HaltsRead, IsNoFile}
+use Rattle.lx_split.specs.Includes.{expansion}
+use Rattle.lx_split.specs.declared.expanding.ExpandStop.{ExpandStop}
+use Rattle.lx_split.specs.declared.expanding.ExpandStop.TheVariants as stop
+use Rattle.lx_top.specs.Output.{GoesTo}
+use Rattle.lx_top.specs.Outside.{FilesView, SinkView}
+use Rattle.lx_top.specs.Puts.{halt_of_expand}
+use Rattle.lx_top.specs.Steps.{Cites, HaltsRead, IsNoFile, JobEnds}
+use Rattle.lx_top.proofs.JobLemmas.{IfErr-residual, JobEnds-delivered, JobEnds-reason}
 use Rattle.lx_top.specs.declared.endings.Halt.{Halt}
 use Rattle.lx_top.specs.declared.endings.Halt.TheVariants as halt
 
@@ -38,3 +50,58 @@ HaltsRead-missing seen CountRose file name (halt.Fault fault) missing is = (is, 
 HaltsRead-missing seen CountRose file name halt.ReadFailed missing is = absurd is
 HaltsRead-missing seen CountRose file name halt.PutFailed missing is = absurd is
 HaltsRead-missing seen CountRose file name halt.OutOfMemory missing is = tt
+
+-- ---- a compilation
+
+-- a call that is to compile a source stopped
+pub Ends-stopped : (options : Options) (seen : List HeldFile) (main : List ℕ) (target : Option (List ℕ)) (files files' : FilesView) (out : SinkView) (names : List (List ℕ))
+    (stopped : ExpandStop) {T : Type 0} (ended : Result T Halt) → IsErrAnd ended (λ given. given ≡ halt_of_expand stopped)
+    → StopsWith options seen main (Rose files.faults files'.faults) names stopped → files'.held ≡ files.held
+    → (made : List Made) × JobEnds (IsFirstFault options seen main made) target (GoesTo target (IsOutput options seen main made)) files files' out out ended
+    × IfErr ended (Cites (expansion options seen main).met.names names)
+Ends-stopped options seen main target files files' out names stop.Memory ended is stops held = (
+  [],
+  JobEnds-reason _ _ _ _ _ _ _ ended halt.OutOfMemory is tt (refl, held),
+  IfErr-residual ended halt.OutOfMemory (Cites (expansion options seen main).met.names names) is tt,
+)
+Ends-stopped options seen main target files files' out names (stop.Fault fault) ended is stops held = (
+  stops.0.0,
+  JobEnds-reason _ _ _ _ _ _ _ ended (halt.Fault fault) is stops.0.1 (refl, held),
+  IfErr-residual ended (halt.Fault fault) (Cites (expansion options seen main).met.names names) is (stops.1, stops.2),
+)
+Ends-stopped options seen main target files files' out names stop.ReadFailed ended is stops held = (
+  [],
+  JobEnds-reason _ _ _ _ _ _ _ ended halt.ReadFailed is stops.0 (refl, held),
+  IfErr-residual ended halt.ReadFailed (Cites (expansion options seen main).met.names names) is tt,
+)
+
+module _ (options : Options) (seen : List HeldFile) (main : List ℕ) (made : List Made) (none : IsFirstFault options seen main made None)
+    (files middle files' : FilesView) (held : middle.held ≡ files.held) (fewer : files.faults ≤ middle.faults) (writes : middle.write_faults ≡ files.write_faults)
+    (out out' : SinkView) where
+  -- the job is to compile the source to the file, or without one to the standard output
+  abbrev Compiles : (target : Option (List ℕ)) → {T : Type 0} → Result T Halt → Type 0
+  Compiles target ended = JobEnds (IsFirstFault options seen main made) target (GoesTo target (IsOutput options seen main made)) files files' out out' ended
+
+  -- so many bytes were given to the file and the text to the standard output
+  abbrev Delivered : (target : Option (List ℕ)) (bytes text : List ℕ) → {T : Type 0} → Result T Halt → Type 0
+  Delivered target bytes text ended = JobEnds (λ fault. fault ≡ None) target (λ given put. (given ≡ bytes) × (put ≡ text)) middle files' out out' ended
+
+  Compiles-given : (target : Option (List ℕ)) (bytes text : List ℕ) {T : Type 0} (ended : Result T Halt)
+      → GoesTo target (IsOutput options seen main made) bytes text → Delivered target bytes text ended → Compiles target ended
+  Compiles-given target bytes text ended right ends =
+      JobEnds-delivered (IsFirstFault options seen main made) target (GoesTo target (IsOutput options seen main made)) bytes text files middle files' out out' ended
+      held fewer writes none right ends
+
+  -- the output was given to the standard output
+  pub Compiles-out : (target : Option (List ℕ)) (output text : List ℕ) {T : Type 0} (ended : Result T Halt) → target ≡ None → text ≡ output
+      → IsOutput options seen main made output → Delivered None [] text ended → Compiles target ended
+  Compiles-out target output text ended is same right ends =
+      subst (λ target. Compiles target ended) (sym is)
+      (Compiles-given None [] text ended (refl, subst (IsOutput options seen main made) (sym same) right) ends)
+
+  -- the output was given to the file
+  pub Compiles-file : (target : Option (List ℕ)) (name output bytes : List ℕ) {T : Type 0} (ended : Result T Halt) → target ≡ Some name → bytes ≡ output
+      → IsOutput options seen main made output → Delivered target bytes [] ended → Compiles target ended
+  Compiles-file target name output bytes ended is same right ends =
+      Compiles-given target bytes [] ended
+      (subst (λ target. GoesTo target (IsOutput options seen main made) bytes []) (sym is) (subst (IsOutput options seen main made) (sym same) right, refl)) ends

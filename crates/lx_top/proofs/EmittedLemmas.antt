@@ -1,5 +1,5 @@
 -- Runs of emitted files: their faults, and how they end.
-use Rattle.std.proofs.Common.{◌≡◌, ℕ, Bool, true, false, List, [], ◌∷◌, take, drop, Option, Some, None, Result, refl, sym, ap, subst, ◌∙◌, inl, inr, arith}
+use Rattle.std.proofs.Common.{◌≡◌, ℕ, Bool, true, false, List, [], ◌∷◌, ◌++◌, take, drop, Option, Some, None, Result, Ok, Err, IfErr, refl, sym, ap, subst, ◌∙◌, inl, inr, arith}
 use Rattle.std.proofs.lemmas.Bool.{cases_lt}
 use Rattle.std.proofs.Math.Nat.{le_antisymm}
 use Rattle.std.proofs.lemmas.Slice.Eq.{bytes_eq-Decides}
@@ -11,6 +11,7 @@ use Rattle.lx_base.specs.declared.settings.Job.TheVariants.{Run}
 use Rattle.lx_base.specs.declared.settings.Options.{Options}
 use Rattle.lx_base.specs.declared.faults.Fault.{Fault}
 use Rattle.lx_base.specs.declared.faults.Fault.TheVariants.{NotEmitted}
+use Rattle.lx_compile.specs.declared.made.Made.{Made}
 use Rattle.lx_files.specs.declared.files.HeldFile.{HeldFile}
 use Rattle.lx_files.specs.Held.{bytes_of, Sees}
 use Rattle.lx_base.specs.Places.{next_place, place_after, file_start}
@@ -21,10 +22,10 @@ use Rattle.lx_creader.specs.Marks.{IsFirstBegin}
 use Rattle.lx_run.specs.Texts.{run_text}
 use Rattle.lx_top.specs.Emitted.{IsEmittedFault, IsRunFault, IsRunText, IsUnread, Scans, input_fault, place_in}
 use Rattle.lx_top.specs.FirstFault.{IsFaultOf}
-use Rattle.lx_top.specs.Jobs.{target_of}
-use Rattle.lx_top.specs.Output.{IsJobText}
+use Rattle.lx_top.specs.Jobs.{names_of, target_of}
+use Rattle.lx_top.specs.Output.{IsJobRight}
 use Rattle.lx_top.specs.Outside.{FilesView, SinkView}
-use Rattle.lx_top.specs.Steps.{HaltsRead, HaltsScan, IsPlacedHalt, JobEnds}
+use Rattle.lx_top.specs.Steps.{Cites, HaltsRead, HaltsScan, IsPlacedHalt, JobEnds}
 use Rattle.lx_top.specs.declared.endings.Halt.{Halt}
 use Rattle.lx_top.specs.declared.endings.Halt.TheVariants as halt
 use Rattle.lx_top.proofs.JobLemmas.{JobEnds-among, Reason, Reason-read}
@@ -51,7 +52,7 @@ IsPlacedHalt-not_emitted name names bytes offset halted is =
 
 -- ---- one fault
 
-IsFirstBegin-unique : (block : Option ℕ) (bytes : List ℕ) (offset other : ℕ) → IsFirstBegin block bytes offset → IsFirstBegin block bytes other → offset ≡ other
+pub IsFirstBegin-unique : (block : Option ℕ) (bytes : List ℕ) (offset other : ℕ) → IsFirstBegin block bytes offset → IsFirstBegin block bytes other → offset ≡ other
 IsFirstBegin-unique block bytes offset other first second = elim (cases_lt offset other) [
   | inl before ↦ absurd (second.none_before offset before first.begins)
   | inr behind ↦ elim (cases_lt other offset) [
@@ -60,22 +61,22 @@ IsFirstBegin-unique block bytes offset other first second = elim (cases_lt offse
   ]
 ]
 
-BeginsWithPiece-unique : (bytes : List ℕ) (piece other : Piece) → BeginsWithPiece bytes piece → BeginsWithPiece bytes other → piece ≡ other
+pub BeginsWithPiece-unique : (bytes : List ℕ) (piece other : Piece) → BeginsWithPiece bytes piece → BeginsWithPiece bytes other → piece ≡ other
 BeginsWithPiece-unique bytes piece other first second = ap (λ (read : Piece × List ℕ). read.0) (sym (piece_at-front bytes piece first) ∙ piece_at-front bytes other second)
 
-IsUnread-unique : (bytes : List ℕ) (block : Option ℕ) (offset other : ℕ) → IsUnread bytes block offset → IsUnread bytes block other → offset ≡ other
+pub IsUnread-unique : (bytes : List ℕ) (block : Option ℕ) (offset other : ℕ) → IsUnread bytes block offset → IsUnread bytes block other → offset ≡ other
 IsUnread-unique bytes block offset other (inl first) (inl second) = first.1 ∙ sym second.1
 IsUnread-unique bytes block offset other (inl first) (inr second) = absurd (first.0 other second.0.begins)
 IsUnread-unique bytes block offset other (inr first) (inl second) = absurd (second.0 offset first.0.begins)
 IsUnread-unique bytes block offset other (inr first) (inr second) = IsFirstBegin-unique block bytes offset other first.0 second.0
 
 -- a scanner is read, or none is
-read-or_not : (bytes : List ℕ) (block : Option ℕ) (offset : ℕ) (piece : Piece) → IsUnread bytes block offset → Scans bytes block piece → ⊥
+pub read-or_not : (bytes : List ℕ) (block : Option ℕ) (offset : ℕ) (piece : Piece) → IsUnread bytes block offset → Scans bytes block piece → ⊥
 read-or_not bytes block offset piece (inl unread) scans = unread.0 scans.offset scans.first.begins
 read-or_not bytes block offset piece (inr unread) scans =
     unread.1 piece (subst (λ at. BeginsWithPiece (drop at bytes) piece) (IsFirstBegin-unique block bytes scans.offset offset scans.first unread.0) scans.begins)
 
-Scans-unique : (bytes : List ℕ) (block : Option ℕ) (piece other : Piece) → Scans bytes block piece → Scans bytes block other → piece ≡ other
+pub Scans-unique : (bytes : List ℕ) (block : Option ℕ) (piece other : Piece) → Scans bytes block piece → Scans bytes block other → piece ≡ other
 Scans-unique bytes block piece other first second =
     BeginsWithPiece-unique (drop second.offset bytes) piece other
     (subst (λ at. BeginsWithPiece (drop at bytes) piece) (IsFirstBegin-unique block bytes first.offset second.offset first.first second.first) first.begins) second.begins
@@ -120,20 +121,24 @@ pub IsRunFault-input : (block : Option ℕ) (name : List ℕ) (given : Option (L
 IsRunFault-input block name given emitted bytes scanned piece fault is scans fault_is =
     subst (λ scanned. IsRunFault block name given emitted scanned fault) (sym is) (inr (piece, scans, fault_is))
 
+-- nothing goes to a file, and the text is right
+abbrev IsTextAlone : (IsText : List ℕ → Type 0) → (bytes text : List ℕ) → Type 0
+IsTextAlone IsText bytes text = (bytes ≡ []) × IsText text
+
 -- the scanner was run over the input
 pub JobEnds-run : (block : Option ℕ) (name emitted bytes input ran : List ℕ) (scanned given : Option (List ℕ)) (piece : Piece) (files files' : FilesView) (out out' : SinkView)
     {T : Type 0} (ended : Result T Halt) → files' ≡ files → scanned ≡ Some bytes → given ≡ Some input → Scans bytes block piece → ran ≡ input
-    → ((view : FilesView) → JobEnds (λ fault. fault ≡ input_fault [] piece.unit (Some ran)) None (λ text. text ≡ run_text piece ran) view view out out' ended)
-    → JobEnds (IsRunFault block name given emitted scanned) None (IsRunText block scanned given) files files' out out' ended
+    → ((view : FilesView) → JobEnds (λ fault. fault ≡ input_fault [] piece.unit (Some ran)) None (λ bytes text. (bytes ≡ []) × (text ≡ run_text piece ran)) view view out out' ended)
+    → JobEnds (IsRunFault block name given emitted scanned) None (λ bytes text. (bytes ≡ []) × IsRunText block scanned given text) files files' out out' ended
 JobEnds-run block name emitted bytes input ran scanned given piece files files' out out' ended same scanned_is given_is scans ran_is ends =
-    let over : JobEnds (λ fault. fault ≡ input_fault [] piece.unit (Some input)) None (λ text. text ≡ run_text piece input) files files out out' ended =
-    subst (λ ran. JobEnds (λ fault. fault ≡ input_fault [] piece.unit (Some ran)) None (λ text. text ≡ run_text piece ran) files files out out' ended) ran_is (ends files) in
-    subst (λ after. JobEnds (IsRunFault block name given emitted scanned) None (IsRunText block scanned given) files after out out' ended) (sym same)
-    (subst (λ scanned. JobEnds (IsRunFault block name given emitted scanned) None (IsRunText block scanned given) files files out out' ended) (sym scanned_is)
-    (subst (λ given. JobEnds (IsRunFault block name given emitted (Some bytes)) None (IsRunText block (Some bytes) given) files files out out' ended) (sym given_is)
-    (JobEnds-among (λ fault. fault ≡ input_fault [] piece.unit (Some input)) None (λ text. text ≡ run_text piece input) files files out out'
-    (IsRunFault block name (Some input) emitted (Some bytes)) (IsRunText block (Some bytes) (Some input))
-    (λ fault is. inr (piece, scans, is)) (λ text is. (piece, scans, is)) ended over)))
+    let over : JobEnds (λ fault. fault ≡ input_fault [] piece.unit (Some input)) None (IsTextAlone (λ text. text ≡ run_text piece input)) files files out out' ended =
+    subst (λ ran. JobEnds (λ fault. fault ≡ input_fault [] piece.unit (Some ran)) None (IsTextAlone (λ text. text ≡ run_text piece ran)) files files out out' ended) ran_is (ends files) in
+    subst (λ after. JobEnds (IsRunFault block name given emitted scanned) None (IsTextAlone (IsRunText block scanned given)) files after out out' ended) (sym same)
+    (subst (λ scanned. JobEnds (IsRunFault block name given emitted scanned) None (IsTextAlone (IsRunText block scanned given)) files files out out' ended) (sym scanned_is)
+    (subst (λ given. JobEnds (IsRunFault block name given emitted (Some bytes)) None (IsTextAlone (IsRunText block (Some bytes) given)) files files out out' ended) (sym given_is)
+    (JobEnds-among (λ fault. fault ≡ input_fault [] piece.unit (Some input)) None (IsTextAlone (λ text. text ≡ run_text piece input)) files files out out'
+    (IsRunFault block name (Some input) emitted (Some bytes)) (IsTextAlone (IsRunText block (Some bytes) (Some input)))
+    (λ fault is. inr (piece, scans, is)) (λ bytes text is. (is.0, (piece, scans, is.1))) ended over)))
 
 -- ---- two files that were read
 
@@ -163,11 +168,36 @@ Reason-second block name emitted bytes seen second piece CountRose halted is sam
     (sym (ap (input_fault name piece.unit) (same ∙ missing)))) halts
 
 -- the job was a run
-pub JobEnds-asked : (options : Options) (job : Job) (input emitted : List ℕ) (block : Option ℕ) (window piece : ℕ) (name other : List ℕ) (seen : List HeldFile) (files files' : FilesView) (out out' : SinkView)
-    {T : Type 0} (ended : Result T Halt) → job ≡ Run input emitted block window piece → name ≡ emitted → other ≡ input
-    → JobEnds (IsRunFault block other (bytes_of seen other) name (bytes_of seen name)) None (IsRunText block (bytes_of seen name) (bytes_of seen other)) files files' out out' ended
-    → JobEnds (IsFaultOf options job seen) (target_of job) (IsJobText options job seen) files files' out out' ended
-JobEnds-asked options job input emitted block window piece name other seen files files' out out' ended is name_is other_is ends =
-    subst (λ job. JobEnds (IsFaultOf options job seen) (target_of job) (IsJobText options job seen) files files' out out' ended) (sym is)
-    (subst (λ emitted. JobEnds (IsRunFault block input (bytes_of seen input) emitted (bytes_of seen emitted)) None (IsRunText block (bytes_of seen emitted) (bytes_of seen input)) files files' out out' ended) name_is
-    (subst (λ input. JobEnds (IsRunFault block input (bytes_of seen input) name (bytes_of seen name)) None (IsRunText block (bytes_of seen name) (bytes_of seen input)) files files' out out' ended) other_is ends))
+pub JobEnds-asked : (options : Options) (job : Job) (input emitted : List ℕ) (block : Option ℕ) (window piece : ℕ) (name other : List ℕ) (seen : List HeldFile) (made : List Made)
+    (files files' : FilesView) (out out' : SinkView) {T : Type 0} (ended : Result T Halt) → job ≡ Run input emitted block window piece → name ≡ emitted → other ≡ input
+    → JobEnds (IsRunFault block other (bytes_of seen other) name (bytes_of seen name)) None (λ bytes text. (bytes ≡ []) × IsRunText block (bytes_of seen name) (bytes_of seen other) text)
+    files files' out out' ended
+    → JobEnds (IsFaultOf options job seen made) (target_of job) (IsJobRight options job seen made) files files' out out' ended
+JobEnds-asked options job input emitted block window piece name other seen made files files' out out' ended is name_is other_is ends =
+    subst (λ job. JobEnds (IsFaultOf options job seen made) (target_of job) (IsJobRight options job seen made) files files' out out' ended) (sym is)
+    (subst (λ emitted. JobEnds (IsRunFault block input (bytes_of seen input) emitted (bytes_of seen emitted)) None
+    (IsTextAlone (IsRunText block (bytes_of seen emitted) (bytes_of seen input))) files files' out out' ended) name_is
+    (subst (λ input. JobEnds (IsRunFault block input (bytes_of seen input) name (bytes_of seen name)) None
+    (IsTextAlone (IsRunText block (bytes_of seen name) (bytes_of seen input))) files files' out out' ended) other_is ends))
+
+-- the names of a run
+pub names-two : (names first both : List (List ℕ)) (name other emitted input : List ℕ) → names ≡ [] → first ≡ names ++ name ∷ [] → both ≡ first ++ other ∷ []
+    → name ≡ emitted → other ≡ input → both ≡ emitted ∷ input ∷ []
+names-two names first both name other emitted input none first_is both_is name_is other_is = rw (both_is, first_is, none, name_is, other_is) refl
+
+Cites-both : (emitted input : List ℕ) (halted : Halt) → IsPlacedHalt (emitted ∷ input ∷ []) halted → Cites (emitted ∷ input ∷ []) (emitted ∷ input ∷ []) halted
+Cites-both emitted input (halt.Fault fault) placed = (refl, placed)
+Cites-both emitted input halt.ReadFailed placed = tt
+Cites-both emitted input halt.PutFailed placed = tt
+Cites-both emitted input halt.OutOfMemory placed = tt
+
+-- its message cites them
+pub Cites-asked : (options : Options) (job : Job) (input emitted : List ℕ) (block : Option ℕ) (window piece : ℕ) (name other : List ℕ) (seen : List HeldFile) (names : List (List ℕ))
+    {T : Type 0} (ended : Result T Halt) → job ≡ Run input emitted block window piece → name ≡ emitted → other ≡ input → names ≡ emitted ∷ input ∷ []
+    → IfErr ended (IsPlacedHalt (name ∷ other ∷ [])) → IfErr ended (Cites (names_of options job seen) names)
+Cites-asked options job input emitted block window piece name other seen names (Ok value) is name_is other_is names_are placed = tt
+Cites-asked options job input emitted block window piece name other seen names (Err halted) is name_is other_is names_are placed =
+    subst (λ job. Cites (names_of options job seen) names halted) (sym is)
+    (subst (λ (names : List (List ℕ)). Cites (emitted ∷ input ∷ []) names halted) (sym names_are)
+    (Cites-both emitted input halted (subst (λ (emitted : List ℕ). IsPlacedHalt (emitted ∷ input ∷ []) halted) name_is
+    (subst (λ (input : List ℕ). IsPlacedHalt (name ∷ input ∷ []) halted) other_is placed))))

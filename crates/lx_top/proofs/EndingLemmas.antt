@@ -5,12 +5,13 @@ use Rattle.lx_base.specs.declared.faults.Fault.{Fault}
 use Rattle.lx_base.specs.Message.{message_text}
 use Rattle.lx_files.specs.Counts.{Rose, IsCalm}
 use Rattle.lx_files.specs.declared.files.HeldFile.{HeldFile}
+use Rattle.lx_compile.specs.declared.made.Made.{Made}
 use Rattle.lx_top.specs.Outside.{Outside, NoCountRose}
-use Rattle.lx_top.specs.Delivery.{Completes, DeliveryRose}
+use Rattle.lx_top.specs.Delivery.{Completes, FailsToGive}
 use Rattle.lx_top.specs.Endings.{EndsAs, EndsSo, IsExpected, TellsMessage}
 use Rattle.lx_top.specs.FirstFault.{IsFirstFault}
 use Rattle.lx_top.specs.Jobs.{file_names, job_of, options_for, target_of}
-use Rattle.lx_top.specs.Output.{IsTextOf}
+use Rattle.lx_top.specs.Output.{IsRightOf}
 use Rattle.lx_top.specs.Steps.{Cites, Halts, Reports}
 use Rattle.lx_top.specs.declared.endings.Ending.{Ending}
 use Rattle.lx_top.specs.declared.endings.Ending.TheVariants.{Done, Refused, ReadFailed, PutFailed, OutOfMemory}
@@ -22,38 +23,41 @@ use Rattle.lx_top.proofs.FaultLemmas.{IsFirstFault-unique}
 not_calm : (before after : ℕ) → Rose before after → IsCalm before after → ⊥
 not_calm before after rose calm = omega (arith, rose calm.0)
 
-module _ (words : List (List ℕ)) (seen : List HeldFile) (before after : Outside) where
+module _ (words : List (List ℕ)) (seen : List HeldFile) (made : List Made) (before after : Outside) where
   abbrev IsFault : Option Fault → Type 0
-  IsFault = IsFirstFault words seen
+  IsFault = IsFirstFault words seen made
 
   abbrev EndsIn : Ending → Type 0
-  EndsIn = EndsAs IsFault (file_names words) (target_of (job_of words)) (IsTextOf (options_for words) seen) before after
+  EndsIn = EndsAs IsFault (file_names words seen) (target_of (job_of words)) (IsRightOf (options_for words) seen made) before after
 
-  delivery_calm : (target : Option (List ℕ)) → DeliveryRose target before.files after.files before.out after.out → NoCountRose before after → ⊥
-  delivery_calm None rose calm = not_calm before.out.faults after.out.faults rose calm.out
-  delivery_calm (Some name) rose calm = not_calm before.files.write_faults after.files.write_faults rose calm.writes
+  -- where no count rose, nothing failed while bytes and a text were given
+  gives_calm : (target : Option (List ℕ)) (bytes text : List ℕ) → FailsToGive target bytes text before.files after.files before.out after.out
+      → NoCountRose before after → ⊥
+  gives_calm None bytes text (inl fails) calm = fails.0
+  gives_calm (Some name) bytes text (inl fails) calm = not_calm before.files.write_faults after.files.write_faults fails.0.1 calm.writes
+  gives_calm target bytes text (inr fails) calm = not_calm before.out.faults after.out.faults fails.2 calm.out
 
   -- where there is no fault, and where there is one
   expected-none : (fault : Option Fault) → IsFault None → IsFault fault → IsExpected fault Done
-  expected-none fault none is = subst (λ given. IsExpected given Done) (IsFirstFault-unique words seen None fault none is) (inl refl)
+  expected-none fault none is = subst (λ given. IsExpected given Done) (IsFirstFault-unique words seen made None fault none is) (inl refl)
 
   expected-some : (first : Fault) (fault : Option Fault) → IsFault (Some first) → IsFault fault → IsExpected fault Refused
-  expected-some first fault some is = subst (λ given. IsExpected given Refused) (IsFirstFault-unique words seen (Some first) fault some is) (inl refl)
+  expected-some first fault some is = subst (λ given. IsExpected given Refused) (IsFirstFault-unique words seen made (Some first) fault some is) (inl refl)
 
   -- where no count rose, the ending is the expected one
   EndsAs-expected : (ending : Ending) → EndsIn ending → NoCountRose before after → (fault : Option Fault) → IsFault fault → IsExpected fault ending
   EndsAs-expected Done ends calm fault is = expected-none fault ends.completes.no_fault is
   EndsAs-expected Refused ends calm fault is = expected-some ends.first fault ends.is_first is
   EndsAs-expected ReadFailed ends calm fault is = absurd (not_calm before.files.faults after.files.faults ends.rose calm.reads)
-  EndsAs-expected PutFailed (inl ends) calm fault is = absurd (delivery_calm (target_of (job_of words)) ends.1 calm)
+  EndsAs-expected PutFailed (inl ends) calm fault is = absurd (gives_calm (target_of (job_of words)) ends.0.bytes ends.0.text ends.0.fails calm)
   EndsAs-expected PutFailed (inr ends) calm fault is = absurd (not_calm before.err.faults after.err.faults ends.1 calm.err)
   EndsAs-expected OutOfMemory ends calm None is = inr refl
   EndsAs-expected OutOfMemory ends calm (Some first) is = inr refl
 
   -- a job that broke off and was told
   Halts-told : (halt : Halt) (ending : Ending) →
-      Halts IsFault (target_of (job_of words)) (IsTextOf (options_for words) seen) before.files after.files before.out after.out halt →
-      Reports (file_names words) before.err after.err halt ending → EndsIn ending
+      Halts IsFault (target_of (job_of words)) (IsRightOf (options_for words) seen made) before.files after.files before.out after.out halt →
+      Reports (file_names words seen) before.err after.err halt ending → EndsIn ending
   Halts-told (halt.Fault first) Done halts told = absurd told
   Halts-told (halt.Fault first) Refused halts told = record { first = first; is_first = halts.0; told = told; nothing = halts.1 }
   Halts-told (halt.Fault first) ReadFailed halts told = absurd told
@@ -61,12 +65,12 @@ module _ (words : List (List ℕ)) (seen : List HeldFile) (before after : Outsid
   Halts-told (halt.Fault first) OutOfMemory halts told = inr (record { first = first; is_first = halts.0; nothing = halts.1; told = told })
   Halts-told halt.ReadFailed ending halts told =
       subst EndsIn (sym told.ending_is) (record { rose = halts.0; nothing = halts.1; told = told.told })
-  Halts-told halt.PutFailed ending halts told = subst EndsIn (sym told.ending_is) (inl (halts.0, halts.1, told.told))
+  Halts-told halt.PutFailed ending halts told = subst EndsIn (sym told.ending_is) (inl (halts, told.told))
   Halts-told halt.OutOfMemory ending halts told = subst EndsIn (sym told.ending_is) (inl (halts, told.told))
 
   -- the message cites the names that the words name
-  Reports-names : (names : List (List ℕ)) (halt : Halt) (ending : Ending) → Cites (file_names words) names halt → Reports names before.err after.err halt ending →
-      Reports (file_names words) before.err after.err halt ending
+  Reports-names : (names : List (List ℕ)) (halt : Halt) (ending : Ending) → Cites (file_names words seen) names halt → Reports names before.err after.err halt ending →
+      Reports (file_names words seen) before.err after.err halt ending
   Reports-names names (halt.Fault first) ending cites told = subst (λ given. TellsMessage (message_text given first) before.err after.err ending) cites.0 told
   Reports-names names halt.ReadFailed ending cites told = told
   Reports-names names halt.PutFailed ending cites told = told
@@ -74,16 +78,16 @@ module _ (words : List (List ℕ)) (seen : List HeldFile) (before after : Outsid
 
   -- a run whose job broke off
   pub EndsSo-broken : (names : List (List ℕ)) (halt : Halt) (ending : Ending) → Sees before.files.held seen →
-      Halts IsFault (target_of (job_of words)) (IsTextOf (options_for words) seen) before.files after.files before.out after.out halt →
-      Cites (file_names words) names halt → Reports names before.err after.err halt ending → EndsSo words before after ending
+      Halts IsFault (target_of (job_of words)) (IsRightOf (options_for words) seen made) before.files after.files before.out after.out halt →
+      Cites (file_names words seen) names halt → Reports names before.err after.err halt ending → EndsSo words before after ending
   EndsSo-broken names halt ending sees halts cites told =
       let ends : EndsIn ending = Halts-told halt ending halts (Reports-names names halt ending cites told) in
-      record { seen = seen; sees = sees; ends = ends; expected = λ calm fault is. EndsAs-expected ending ends calm fault is }
+      record { seen = seen; made = made; sees = sees; ends = ends; expected = λ calm fault is. EndsAs-expected ending ends calm fault is }
 
   -- a run whose job was done
   pub EndsSo-done : Sees before.files.held seen →
-      Completes IsFault (target_of (job_of words)) (IsTextOf (options_for words) seen) before.files after.files before.out after.out →
+      Completes IsFault (target_of (job_of words)) (IsRightOf (options_for words) seen made) before.files after.files before.out after.out →
       after.err.given ≡ before.err.given → EndsSo words before after Done
   EndsSo-done sees completes err_stays =
       let ends : EndsIn Done = record { completes = completes; err_stays = err_stays } in
-      record { seen = seen; sees = sees; ends = ends; expected = λ calm fault is. EndsAs-expected Done ends calm fault is }
+      record { seen = seen; made = made; sees = sees; ends = ends; expected = λ calm fault is. EndsAs-expected Done ends calm fault is }

@@ -1,5 +1,5 @@
 -- How a job ends, from how its steps ended.
-use Rattle.std.proofs.Common.{◌≡◌, ℕ, Bool, true, false, List, [], Option, Some, None, Result, Ok, Err, IsErrAnd, IfErr, refl, sym, ap, subst, ◌∙◌, inl, inr}
+use Rattle.std.proofs.Common.{◌≡◌, ◌≤◌, ℕ, Bool, true, false, List, [], Option, Some, None, Result, Ok, Err, IsErrAnd, IfErr, refl, sym, ap, subst, ◌∙◌, inl, inr, arith}
 use Rattle.std.specs.Prelude.{◌||◌, if◌then◌else◌}
 use Rattle.lx_base.specs.declared.faults.Fault.{Fault}
 use Rattle.lx_base.specs.Message.{HasFile, place_of}
@@ -11,14 +11,16 @@ use Rattle.lx_files.specs.Counts.{Rose}
 use Rattle.lx_files.specs.Held.{bytes_of}
 use Rattle.lx_files.specs.declared.files.HeldFile.{HeldFile}
 use Rattle.lx_words.specs.Line.{is_refused, line_of}
-use Rattle.lx_words.specs.Options.{StopsBy, words_fault}
+use Rattle.lx_words.specs.Options.{StopsBy, options_of, words_fault}
 use Rattle.lx_words.specs.Points.{is_wrong}
 use Rattle.lx_words.specs.Waiting.{waits}
-use Rattle.lx_top.specs.Delivery.{GivesOut, GivesUp, BreaksOff, DeliversNothing}
+use Rattle.lx_compile.specs.Options.{IsGreedy}
+use Rattle.lx_compile.specs.declared.made.Made.{Made}
+use Rattle.lx_top.specs.Delivery.{Bound, BreaksOff, Completes, DeliversNothing, FailsToBind, FailsToGive, GivesInPart, GivesOut, GivesUp, MayBeBound}
 use Rattle.lx_top.specs.FirstFault.{IsFaultBehind, IsFirstFault, IsJobFault}
 use Rattle.lx_top.specs.Jobs.{file_names, job_of, names_behind, names_of, options_for, target_of}
 use Rattle.lx_top.specs.Outside.{FilesView, SinkView, files_view}
-use Rattle.lx_top.specs.Output.{IsTextOf}
+use Rattle.lx_top.specs.Output.{IsRightOf}
 use Rattle.lx_base.specs.Places.{file_start}
 use Rattle.lx_top.specs.Puts.{halt_of_stop}
 use Rattle.lx_top.specs.Steps.{Cites, Halts, HaltsRead, JobEnds}
@@ -39,7 +41,7 @@ Reason-read IsFault CountRose seen file name halt.ReadFailed known halts = halts
 Reason-read IsFault CountRose seen file name halt.PutFailed known halts = halts
 Reason-read IsFault CountRose seen file name halt.OutOfMemory known halts = tt
 
-module _ (IsFault : Option Fault → Type 0) (target : Option (List ℕ)) (IsRight : List ℕ → Type 0) (files files' : FilesView) (out out' : SinkView) where
+module _ (IsFault : Option Fault → Type 0) (target : Option (List ℕ)) (IsRight : (bytes text : List ℕ) → Type 0) (files files' : FilesView) (out out' : SinkView) where
   -- a job broke off that had given nothing
   Halts-reason : (halted : Halt) → Reason IsFault (Rose files.faults files'.faults) halted → DeliversNothing files files' out out'
       → Halts IsFault target IsRight files files' out out' halted
@@ -57,46 +59,158 @@ module _ (IsFault : Option Fault → Type 0) (target : Option (List ℕ)) (IsRig
       subst (Halts IsFault target IsRight files files' out out') (sym is) (Halts-reason halted reason nothing)
 
   -- the same of other faults and other right texts, where these are among them
-  module _ (IsFault' : Option Fault → Type 0) (IsRight' : List ℕ → Type 0)
-      (faults : (fault : Option Fault) → IsFault fault → IsFault' fault) (rights : (text : List ℕ) → IsRight text → IsRight' text) where
+  module _ (IsFault' : Option Fault → Type 0) (IsRight' : (bytes text : List ℕ) → Type 0)
+      (faults : (fault : Option Fault) → IsFault fault → IsFault' fault) (rights : (bytes text : List ℕ) → IsRight bytes text → IsRight' bytes text) where
     GivesOut-among : GivesOut IsFault target IsRight files files' out out' → GivesOut IsFault' target IsRight' files files' out out'
-    GivesOut-among gives = record { no_fault = faults None gives.no_fault; text = gives.text; right = rights gives.text gives.right; delivers = gives.delivers }
+    GivesOut-among gives = record {
+      no_fault = faults None gives.no_fault;
+      bytes = gives.bytes;
+      text = gives.text;
+      right = rights gives.bytes gives.text gives.right;
+      fails = gives.fails;
+    }
 
     GivesUp-among : GivesUp IsFault target IsRight files files' out out' → GivesUp IsFault' target IsRight' files files' out out'
-    GivesUp-among gives = record { no_fault = faults None gives.no_fault; text = gives.text; right = rights gives.text gives.right; delivers = gives.delivers }
+    GivesUp-among gives = record {
+      no_fault = faults None gives.no_fault;
+      bytes = gives.bytes;
+      text = gives.text;
+      right = rights gives.bytes gives.text gives.right;
+      gives = gives.gives;
+    }
 
     BreaksOff-among : BreaksOff IsFault target IsRight files files' out out' → BreaksOff IsFault' target IsRight' files files' out out'
     BreaksOff-among (inl nothing) = inl nothing
     BreaksOff-among (inr gives) = inr (GivesUp-among gives)
 
-    pub JobEnds-among : {T : Type 0} (ended : Result T Halt) → JobEnds IsFault target IsRight files files' out out' ended → JobEnds IsFault' target IsRight' files files' out out' ended
-    JobEnds-among (Ok value) ends =
-        record { no_fault = faults None ends.no_fault; text = ends.text; right = rights ends.text ends.right; delivers = ends.delivers; puts_calm = ends.puts_calm; writes_calm = ends.writes_calm }
+    pub JobEnds-among : {T : Type 0} (ended : Result T Halt) → JobEnds IsFault target IsRight files files' out out' ended
+        → JobEnds IsFault' target IsRight' files files' out out' ended
+    JobEnds-among (Ok value) ends = record {
+      no_fault = faults None ends.no_fault;
+      bytes = ends.bytes;
+      text = ends.text;
+      right = rights ends.bytes ends.text ends.right;
+      delivers = ends.delivers;
+      puts_calm = ends.puts_calm;
+      writes_calm = ends.writes_calm;
+    }
     JobEnds-among (Err (halt.Fault first)) ends = (faults (Some first) ends.0, ends.1)
     JobEnds-among (Err halt.ReadFailed) ends = ends
-    JobEnds-among (Err halt.PutFailed) ends = (GivesOut-among ends.0, ends.1)
+    JobEnds-among (Err halt.PutFailed) ends = GivesOut-among ends
     JobEnds-among (Err halt.OutOfMemory) ends = BreaksOff-among ends
 
--- a job whose text was made and is right ends as its delivery; before it files were read, which changed nothing of theirs
-pub JobEnds-delivered : (IsFault : Option Fault → Type 0) (target : Option (List ℕ)) (IsRight : List ℕ → Type 0) (text : List ℕ) (files middle files' : FilesView) (out out' : SinkView)
-    {T : Type 0} (ended : Result T Halt) → middle ≡ files → IsFault None → IsRight text
-    → JobEnds (λ fault. fault ≡ None) target (λ given. given ≡ text) middle files' out out' ended → JobEnds IsFault target IsRight files files' out out' ended
-JobEnds-delivered IsFault target IsRight text files middle files' out out' ended same none right ends =
-    JobEnds-among (λ fault. fault ≡ None) target (λ given. given ≡ text) files files' out out' IsFault IsRight
-    (λ fault is. subst IsFault (sym is) none) (λ given is. subst IsRight (sym is) right) ended
-    (subst (λ before. JobEnds (λ fault. fault ≡ None) target (λ given. given ≡ text) before files' out out' ended) same ends)
+-- ---- views of files
+
+pub files_view-same : {held held' : Option (List HeldFile)} {faults faults' writes writes' : ℕ} → held' ≡ held → faults' ≡ faults → writes' ≡ writes
+    → files_view held' faults' writes' ≡ files_view held faults writes
+files_view-same held_is faults_is writes_is = rw (held_is, faults_is, writes_is) refl
+
+-- ---- earlier counts of reads
+
+-- the same files where so many reads had failed
+abbrev earlier : FilesView → ℕ → FilesView
+earlier files faults = files_view files.held faults files.write_faults
+
+module _ (files files' : FilesView) (faults : ℕ) (fewer : faults ≤ files.faults) where
+  Rose-earlier : Rose files.faults files'.faults → Rose faults files'.faults
+  Rose-earlier rose below = rose (omega (arith, fewer, below))
+
+  Bound-earlier : (target : Option (List ℕ)) (bytes : List ℕ) → Bound target bytes files files' → Bound target bytes (earlier files faults) files'
+  Bound-earlier None bytes bound = bound
+  Bound-earlier (Some name) bytes bound = bound
+
+  MayBeBound-earlier : (target : Option (List ℕ)) (bytes : List ℕ) → MayBeBound target bytes files files' → MayBeBound target bytes (earlier files faults) files'
+  MayBeBound-earlier None bytes bound = bound
+  MayBeBound-earlier (Some name) bytes bound = bound
+
+  FailsToBind-earlier : (target : Option (List ℕ)) (bytes : List ℕ) → FailsToBind target bytes files files' → FailsToBind target bytes (earlier files faults) files'
+  FailsToBind-earlier None bytes fails = fails
+  FailsToBind-earlier (Some name) bytes fails = fails
+
+  module _ (target : Option (List ℕ)) (bytes text : List ℕ) (out out' : SinkView) where
+    FailsToGive-earlier : FailsToGive target bytes text files files' out out' → FailsToGive target bytes text (earlier files faults) files' out out'
+    FailsToGive-earlier (inl fails) = inl (FailsToBind-earlier target bytes fails.0, fails.1)
+    FailsToGive-earlier (inr fails) = inr (Bound-earlier target bytes fails.0, fails.1, fails.2)
+
+    GivesInPart-earlier : GivesInPart target bytes text files files' out out' → GivesInPart target bytes text (earlier files faults) files' out out'
+    GivesInPart-earlier (inl gives) = inl (MayBeBound-earlier target bytes gives.0, gives.1)
+    GivesInPart-earlier (inr gives) = inr (Bound-earlier target bytes gives.0, gives.1)
+
+  module _ (IsFault : Option Fault → Type 0) (target : Option (List ℕ)) (IsRight : (bytes text : List ℕ) → Type 0) (out out' : SinkView) where
+    Completes-earlier : Completes IsFault target IsRight files files' out out' → Completes IsFault target IsRight (earlier files faults) files' out out'
+    Completes-earlier ends = record {
+      no_fault = ends.no_fault;
+      bytes = ends.bytes;
+      text = ends.text;
+      right = ends.right;
+      delivers = record { bound = Bound-earlier target ends.bytes ends.delivers.bound; given = ends.delivers.given };
+      puts_calm = ends.puts_calm;
+      writes_calm = ends.writes_calm;
+    }
+
+    GivesOut-earlier : GivesOut IsFault target IsRight files files' out out' → GivesOut IsFault target IsRight (earlier files faults) files' out out'
+    GivesOut-earlier gives = record {
+      no_fault = gives.no_fault;
+      bytes = gives.bytes;
+      text = gives.text;
+      right = gives.right;
+      fails = FailsToGive-earlier target gives.bytes gives.text out out' gives.fails;
+    }
+
+    BreaksOff-earlier : BreaksOff IsFault target IsRight files files' out out' → BreaksOff IsFault target IsRight (earlier files faults) files' out out'
+    BreaksOff-earlier (inl nothing) = inl nothing
+    BreaksOff-earlier (inr gives) = inr (record {
+      no_fault = gives.no_fault;
+      bytes = gives.bytes;
+      text = gives.text;
+      right = gives.right;
+      gives = GivesInPart-earlier target gives.bytes gives.text out out' gives.gives;
+    })
+
+    JobEnds-earlier : {T : Type 0} (ended : Result T Halt) → JobEnds IsFault target IsRight files files' out out' ended
+        → JobEnds IsFault target IsRight (earlier files faults) files' out out' ended
+    JobEnds-earlier (Ok value) ends = Completes-earlier ends
+    JobEnds-earlier (Err (halt.Fault first)) ends = ends
+    JobEnds-earlier (Err halt.ReadFailed) ends = (Rose-earlier ends.0, ends.1)
+    JobEnds-earlier (Err halt.PutFailed) ends = GivesOut-earlier ends
+    JobEnds-earlier (Err halt.OutOfMemory) ends = BreaksOff-earlier ends
+
+-- A job whose bytes and text were made and are right ends as its delivery; before it files were read, which changed nothing of theirs but the
+-- count of reads that failed.
+pub JobEnds-delivered : (IsFault : Option Fault → Type 0) (target : Option (List ℕ)) (IsRight : (bytes text : List ℕ) → Type 0) (bytes text : List ℕ)
+    (files middle files' : FilesView) (out out' : SinkView) {T : Type 0} (ended : Result T Halt)
+    → middle.held ≡ files.held → files.faults ≤ middle.faults → middle.write_faults ≡ files.write_faults → IsFault None → IsRight bytes text
+    → JobEnds (λ fault. fault ≡ None) target (λ given put. (given ≡ bytes) × (put ≡ text)) middle files' out out' ended
+    → JobEnds IsFault target IsRight files files' out out' ended
+JobEnds-delivered IsFault target IsRight bytes text files middle files' out out' ended held fewer writes none right ends =
+    subst (λ (before : FilesView). JobEnds IsFault target IsRight before files' out out' ended) (files_view-same held refl writes)
+    (JobEnds-earlier middle files' files.faults fewer IsFault target IsRight out out' ended
+    (JobEnds-among (λ fault. fault ≡ None) target (λ given put. (given ≡ bytes) × (put ≡ text)) middle files' out out' IsFault IsRight
+    (λ fault is. subst IsFault (sym is) none)
+    (λ given put is. subst (λ (given : List ℕ). IsRight given put) (sym is.0) (subst (IsRight bytes) (sym is.1) right)) ended ends))
+
+-- a delivery breaks off with no fault, so its message cites none
+pub Cites-delivered : (target : Option (List ℕ)) (IsRight : (bytes text : List ℕ) → Type 0) (files files' : FilesView) (out out' : SinkView) (cited names : List (List ℕ))
+    {T : Type 0} (ended : Result T Halt) → JobEnds (λ fault. fault ≡ None) target IsRight files files' out out' ended → IfErr ended (Cites cited names)
+Cites-delivered target IsRight files files' out out' cited names (Ok value) ends = tt
+Cites-delivered target IsRight files files' out out' cited names (Err (halt.Fault first)) ends = absurd (let h = ends.0 in cc)
+Cites-delivered target IsRight files files' out out' cited names (Err halt.ReadFailed) ends = tt
+Cites-delivered target IsRight files files' out out' cited names (Err halt.PutFailed) ends = tt
+Cites-delivered target IsRight files files' out out' cited names (Err halt.OutOfMemory) ends = tt
 
 -- ---- the words
 
 -- words that are read have no fault before that of their job
-pub IsFirstFault-job : (words : List (List ℕ)) (files : List HeldFile) (fault : Option Fault) → words_fault words ≡ None → IsJobFault (options_for words) files fault → IsFirstFault words files fault
-IsFirstFault-job words files fault none is = subst (λ of_words. IsFaultBehind of_words (options_for words) files fault) (sym none) is
+pub IsFirstFault-job : (words : List (List ℕ)) (files : List HeldFile) (made : List Made) (fault : Option Fault) → words_fault words ≡ None
+    → IsJobFault (options_for words) files made fault → IsFirstFault words files made fault
+IsFirstFault-job words files made fault none is = subst (λ of_words. IsFaultBehind of_words (options_for words) files made fault) (sym none) is
 
 -- words that are not read have a fault, or memory ran out
-pub Reason-words : (words : List (List ℕ)) (files : List HeldFile) (CountRose : Type 0) (stopped : Stop) → StopsBy (words_fault words) stopped
-    → Reason (IsFirstFault words files) CountRose (halt_of_stop stopped)
-Reason-words words files CountRose stop.Memory stops = tt
-Reason-words words files CountRose (stop.Fault first) stops = subst (λ of_words. IsFaultBehind of_words (options_for words) files (Some first)) (sym stops) refl
+pub Reason-words : (words : List (List ℕ)) (files : List HeldFile) (made : List Made) (CountRose : Type 0) (stopped : Stop)
+    → StopsBy (words_fault words) stopped → Reason (IsFirstFault words files made) CountRose (halt_of_stop stopped)
+Reason-words words files made CountRose stop.Memory stops = tt
+Reason-words words files made CountRose (stop.Fault first) stops =
+    subst (λ of_words. IsFaultBehind of_words (options_for words) files made (Some first)) (sym stops) refl
 
 -- a fault of the words stands in no file
 words_fault-placed : (words : List (List ℕ)) (first : Fault) → words_fault words ≡ Some first → place_of first ≡ None
@@ -109,35 +223,41 @@ words_fault-placed words first = by (is_refused words || is_wrong (line_of words
     by false false is = absurd (let h = is in cc)
 
 -- the message of a fault of the words cites no file
-pub Cites-words : {T : Type 0} (words names : List (List ℕ)) (ended : Result T Halt) (stopped : Stop) → IsErrAnd ended (λ given. given ≡ halt_of_stop stopped)
-    → StopsBy (words_fault words) stopped → names ≡ [] → IfErr ended (Cites (file_names words) names)
-Cites-words words names (Ok value) stopped is stops none = tt
-Cites-words words names (Err given) stopped is stops none = subst (Cites (file_names words) names) (sym is) (by stopped stops)
+pub Cites-words : {T : Type 0} (words names : List (List ℕ)) (seen : List HeldFile) (ended : Result T Halt) (stopped : Stop)
+    → IsErrAnd ended (λ given. given ≡ halt_of_stop stopped) → StopsBy (words_fault words) stopped → names ≡ []
+    → IfErr ended (Cites (file_names words seen) names)
+Cites-words words names seen (Ok value) stopped is stops none = tt
+Cites-words words names seen (Err given) stopped is stops none = subst (Cites (file_names words seen) names) (sym is) (by stopped stops)
   where
-    by : (stopped : Stop) → StopsBy (words_fault words) stopped → Cites (file_names words) names (halt_of_stop stopped)
+    by : (stopped : Stop) → StopsBy (words_fault words) stopped → Cites (file_names words seen) names (halt_of_stop stopped)
     by stop.Memory stops = tt
-    by (stop.Fault first) stops =
-        (none ∙ sym (ap (λ of_words. names_behind of_words (job_of words)) stops), subst (HasFile names) (sym (words_fault-placed words first stops)) tt)
+    by (stop.Fault first) stops = (
+      none ∙ sym (ap (λ of_words. names_behind of_words (options_for words) seen) stops),
+      subst (HasFile names) (sym (words_fault-placed words first stops)) tt,
+    )
 
 -- so do the words of a job
-pub Cites-job : {T : Type 0} (words names : List (List ℕ)) (ended : Result T Halt) → words_fault words ≡ None → IfErr ended (Cites (names_of (job_of words)) names)
-    → IfErr ended (Cites (file_names words) names)
-Cites-job words names ended none cites = subst (λ cited. IfErr ended (Cites cited names)) (sym (ap (λ of_words. names_behind of_words (job_of words)) none)) cites
+pub Cites-job : {T : Type 0} (words names : List (List ℕ)) (seen : List HeldFile) (options : Options) (ended : Result T Halt) → words_fault words ≡ None
+    → options ≡ options_for words → IfErr ended (Cites (names_of options options.job seen) names) → IfErr ended (Cites (file_names words seen) names)
+Cites-job words names seen options ended none same cites =
+    subst (λ cited. IfErr ended (Cites cited names)) (sym (ap (λ of_words. names_behind of_words (options_for words) seen) none))
+    (subst (λ (options : Options). IfErr ended (Cites (names_of options options.job seen) names)) same cites)
 
 -- words that are read end as their job
-pub JobEnds-words : (words : List (List ℕ)) (seen : List HeldFile) (options : Options) (files files' : FilesView) (out out' : SinkView) {T : Type 0} (ended : Result T Halt)
-    → words_fault words ≡ None → options ≡ options_for words → JobEnds (IsJobFault options seen) (target_of options.job) (IsTextOf options seen) files files' out out' ended
-    → JobEnds (IsFirstFault words seen) (target_of (job_of words)) (IsTextOf (options_for words) seen) files files' out out' ended
-JobEnds-words words seen options files files' out out' ended none same ends =
-    JobEnds-among (IsJobFault (options_for words) seen) (target_of (job_of words)) (IsTextOf (options_for words) seen) files files' out out' (IsFirstFault words seen) (IsTextOf (options_for words) seen)
-    (λ fault is. IsFirstFault-job words seen fault none is) (λ text right. right) ended
-    (subst (λ (options : Options). JobEnds (IsJobFault options seen) (target_of options.job) (IsTextOf options seen) files files' out out' ended) same ends)
+pub JobEnds-words : (words : List (List ℕ)) (seen : List HeldFile) (made : List Made) (options : Options) (files files' : FilesView) (out out' : SinkView)
+    {T : Type 0} (ended : Result T Halt) → words_fault words ≡ None → options ≡ options_for words
+    → JobEnds (IsJobFault options seen made) (target_of options.job) (IsRightOf options seen made) files files' out out' ended
+    → JobEnds (IsFirstFault words seen made) (target_of (job_of words)) (IsRightOf (options_for words) seen made) files files' out out' ended
+JobEnds-words words seen made options files files' out out' ended none same ends =
+    JobEnds-among (IsJobFault (options_for words) seen made) (target_of (job_of words)) (IsRightOf (options_for words) seen made) files files' out out'
+    (IsFirstFault words seen made) (IsRightOf (options_for words) seen made)
+    (λ fault is. IsFirstFault-job words seen made fault none is) (λ bytes text right. right) ended
+    (subst (λ (options : Options). JobEnds (IsJobFault options seen made) (target_of options.job) (IsRightOf options seen made) files files' out out' ended) same ends)
 
--- ---- views of files
-
-pub files_view-same : {held held' : Option (List HeldFile)} {faults faults' writes writes' : ℕ} → held' ≡ held → faults' ≡ faults → writes' ≡ writes
-    → files_view held' faults' writes' ≡ files_view held faults writes
-files_view-same held_is faults_is writes_is = rw (held_is, faults_is, writes_is) refl
+-- words ask for leftmost greedy trees
+pub IsGreedy-words : (words : List (List ℕ)) → IsGreedy (options_for words)
+unfolding options_of
+IsGreedy-words words = refl
 
 -- ---- steps that broke off
 

@@ -2,7 +2,12 @@ pub mod CompileLemmas
 pub mod EmittedLemmas
 pub mod EndingLemmas
 pub mod FaultLemmas
+pub mod FoundScanners
+pub mod GeneratedEnds
+pub mod GeneratedLemmas
 pub mod JobLemmas
 pub mod ReportLemmas
-pub mod WordLemmas
+pub mod SeenFiles
 pub mod SomeFault
+pub mod SourceLemmas
+pub mod SummaryLemmas

@@ -1,4 +1,4 @@
--- How the text of a job is given: to the standard output, or to a file in the place of what stood there.
+-- How a job gives: bytes to a file, in the place of what stood there, and then a text to the standard output.
 use Rattle.std.specs.Prelude.{◌≡◌, ◌⊎◌, ℕ, List, Option, Some, None}
 use Rattle.lx_base.specs.declared.faults.Fault.{Fault}
 use Rattle.lx_files.specs.Counts.{Rose}
@@ -7,64 +7,77 @@ use Rattle.lx_files.specs.declared.files.HeldFile.{HeldFile}
 use Rattle.lx_files.specs.Taking.{GivesFront, given_then}
 use Rattle.lx_top.specs.Outside.{FilesView, SinkView}
 
--- In the definitions that follow `target` is the file that gets the text, where it is not the standard output that does;
--- `IsFault` says which fault is the first one, if there is one; and `IsRight` says which texts are right.
+-- In the definitions that follow `target` is the file that gets the bytes, if a job has one; `IsFault` says which fault is the first one, if
+-- there is one; and `IsRight` says which bytes and which text are right.
 
--- the standard output, or the file of this name, was given the text, and nothing else changed
-abbrev pub Delivers : (target : Option (List ℕ)) → (text : List ℕ) → (files files' : FilesView) → (out out' : SinkView) → Type 0
-Delivers None text files files' out out' = (out'.given ≡ given_then out.given text) × (files'.held ≡ files.held)
-Delivers (Some name) text files files' out out' =
-    (out'.given ≡ out.given) × WhereTold files.held files'.held (λ before after. Binds before after name text)
+-- the file of this name, if there is one, has these bytes, and nothing else changed
+abbrev pub Bound : (target : Option (List ℕ)) → (bytes : List ℕ) → FilesView → FilesView → Type 0
+Bound None bytes files files' = files'.held ≡ files.held
+Bound (Some name) bytes files files' = WhereTold files.held files'.held (λ before after. Binds before after name bytes)
 
--- the same of a front of the text; a file may also be as before
-abbrev pub DeliversFront : (target : Option (List ℕ)) → (text : List ℕ) → (files files' : FilesView) → (out out' : SinkView) → Type 0
-DeliversFront None text files files' out out' = GivesFront out.given out'.given text × (files'.held ≡ files.held)
-DeliversFront (Some name) text files files' out out' =
-    (out'.given ≡ out.given) × WhereTold files.held files'.held (λ before after. MayBindFront before after name text)
-
--- afterwards all is as before, or the name has these bytes and every other name what it had
+-- all is as before, or the name has these bytes and every other name what it had
 abbrev pub MayBind : List HeldFile → List HeldFile → (name bytes : List ℕ) → Type 0
 MayBind before after name bytes = (after ≡ before) ⊎ Binds before after name bytes
 
--- the same where memory ran out: the standard output was given a front of the text, but a file is as before or has the whole of it
-abbrev pub DeliversOrStays : (target : Option (List ℕ)) → (text : List ℕ) → (files files' : FilesView) → (out out' : SinkView) → Type 0
-DeliversOrStays None text files files' out out' = GivesFront out.given out'.given text × (files'.held ≡ files.held)
-DeliversOrStays (Some name) text files files' out out' =
-    (out'.given ≡ out.given) × WhereTold files.held files'.held (λ before after. MayBind before after name text)
+-- the same of the file, if there is one
+abbrev pub MayBeBound : (target : Option (List ℕ)) → (bytes : List ℕ) → FilesView → FilesView → Type 0
+MayBeBound None bytes files files' = files'.held ≡ files.held
+MayBeBound (Some name) bytes files files' = WhereTold files.held files'.held (λ before after. MayBind before after name bytes)
+
+-- the write of the file failed: it is as before or has a front of the bytes
+abbrev pub FailsToBind : (target : Option (List ℕ)) → (bytes : List ℕ) → FilesView → FilesView → Type 0
+FailsToBind None bytes files files' = ⊥
+FailsToBind (Some name) bytes files files' =
+    WhereTold files.held files'.held (λ before after. MayBindFront before after name bytes) × Rose files.write_faults files'.write_faults
+
+-- the file was given the bytes, and then the standard output the text
+pub record Delivers (target : Option (List ℕ)) (bytes text : List ℕ) (files files' : FilesView) (out out' : SinkView) : Type 0 where
+  pub bound : Bound target bytes files files'
+  pub given : out'.given ≡ given_then out.given text
+
+-- the write failed, and nothing was put; or the file was given the bytes, and the put failed behind a front of the text
+abbrev pub FailsToGive : (target : Option (List ℕ)) (bytes text : List ℕ) (files files' : FilesView) (out out' : SinkView) → Type 0
+FailsToGive target bytes text files files' out out' =
+    (FailsToBind target bytes files files' × (out'.given ≡ out.given))
+    ⊎ (Bound target bytes files files' × GivesFront out.given out'.given text × Rose out.faults out'.faults)
+
+-- memory ran out: the file is as before or was given the bytes, and nothing was put; or it was given the bytes, and a front of the text was put
+abbrev pub GivesInPart : (target : Option (List ℕ)) (bytes text : List ℕ) (files files' : FilesView) (out out' : SinkView) → Type 0
+GivesInPart target bytes text files files' out out' =
+    (MayBeBound target bytes files files' × (out'.given ≡ out.given))
+    ⊎ (Bound target bytes files files' × GivesFront out.given out'.given text)
 
 -- nothing was given
 abbrev pub DeliversNothing : (files files' : FilesView) → (out out' : SinkView) → Type 0
 DeliversNothing files files' out out' = (out'.given ≡ out.given) × (files'.held ≡ files.held)
 
--- the count of the puts, or of the writes, that failed rose
-abbrev pub DeliveryRose : (target : Option (List ℕ)) → (files files' : FilesView) → (out out' : SinkView) → Type 0
-DeliveryRose None files files' out out' = Rose out.faults out'.faults
-DeliveryRose (Some name) files files' out out' = Rose files.write_faults files'.write_faults
-
--- there is no fault, and a right text was given
-pub record Completes (IsFault : Option Fault → Type 0) (target : Option (List ℕ)) (IsRight : List ℕ → Type 0) (files files' : FilesView) (out out' : SinkView) : Type 0 where
+-- there is no fault, and what is right was given
+pub record Completes (IsFault : Option Fault → Type 0) (target : Option (List ℕ)) (IsRight : (bytes text : List ℕ) → Type 0) (files files' : FilesView) (out out' : SinkView) : Type 0 where
   pub no_fault : IsFault None
+  pub bytes : List ℕ
   pub text : List ℕ
-  pub right : IsRight text
-  pub delivers : Delivers target text files files' out out'
+  pub right : IsRight bytes text
+  pub delivers : Delivers target bytes text files files' out out'
   pub puts_calm : out'.faults ≡ out.faults
   pub writes_calm : files'.write_faults ≡ files.write_faults
 
--- there is no fault, and a front of a right text was given
-pub record GivesOut (IsFault : Option Fault → Type 0) (target : Option (List ℕ)) (IsRight : List ℕ → Type 0) (files files' : FilesView) (out out' : SinkView) : Type 0 where
+-- there is no fault, and a write or a put failed while what is right was given
+pub record GivesOut (IsFault : Option Fault → Type 0) (target : Option (List ℕ)) (IsRight : (bytes text : List ℕ) → Type 0) (files files' : FilesView) (out out' : SinkView) : Type 0 where
   pub no_fault : IsFault None
+  pub bytes : List ℕ
   pub text : List ℕ
-  pub right : IsRight text
-  pub delivers : DeliversFront target text files files' out out'
+  pub right : IsRight bytes text
+  pub fails : FailsToGive target bytes text files files' out out'
 
--- there is no fault, and memory ran out while a right text was given
-pub record GivesUp (IsFault : Option Fault → Type 0) (target : Option (List ℕ)) (IsRight : List ℕ → Type 0) (files files' : FilesView) (out out' : SinkView) : Type 0 where
+-- there is no fault, and memory ran out while what is right was given
+pub record GivesUp (IsFault : Option Fault → Type 0) (target : Option (List ℕ)) (IsRight : (bytes text : List ℕ) → Type 0) (files files' : FilesView) (out out' : SinkView) : Type 0 where
   pub no_fault : IsFault None
+  pub bytes : List ℕ
   pub text : List ℕ
-  pub right : IsRight text
-  pub delivers : DeliversOrStays target text files files' out out'
+  pub right : IsRight bytes text
+  pub gives : GivesInPart target bytes text files files' out out'
 
--- nothing was given; or there is no fault, and memory ran out while a right text was given
-abbrev pub BreaksOff : (IsFault : Option Fault → Type 0) (target : Option (List ℕ)) (IsRight : List ℕ → Type 0) (files files' : FilesView) (out out' : SinkView) → Type 0
+-- nothing was given; or there is no fault, and memory ran out while what is right was given
+abbrev pub BreaksOff : (IsFault : Option Fault → Type 0) (target : Option (List ℕ)) (IsRight : (bytes text : List ℕ) → Type 0) (files files' : FilesView) (out out' : SinkView) → Type 0
 BreaksOff IsFault target IsRight files files' out out' =
     DeliversNothing files files' out out' ⊎ GivesUp IsFault target IsRight files files' out out'

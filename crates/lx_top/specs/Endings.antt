@@ -7,11 +7,12 @@ use Rattle.lx_files.specs.Counts.{Rose}
 use Rattle.lx_files.specs.Held.{IsFront, Sees}
 use Rattle.lx_files.specs.Taking.{GivesFront, given_then}
 use Rattle.lx_files.specs.declared.files.HeldFile.{HeldFile}
-use Rattle.lx_top.specs.Delivery.{Completes, GivesOut, BreaksOff, DeliversNothing, DeliveryRose}
+use Rattle.lx_compile.specs.declared.made.Made.{Made}
+use Rattle.lx_top.specs.Delivery.{Completes, GivesOut, BreaksOff, DeliversNothing}
 use Rattle.lx_top.specs.FirstFault.{IsFirstFault}
 use Rattle.lx_top.specs.Jobs.{file_names, job_of, options_for, target_of}
 use Rattle.lx_top.specs.Outside.{SinkView, Outside, NoCountRose}
-use Rattle.lx_top.specs.Output.{IsTextOf}
+use Rattle.lx_top.specs.Output.{IsRightOf}
 use Rattle.lx_top.specs.declared.endings.Ending.{Ending}
 use Rattle.lx_top.specs.declared.endings.Ending.TheVariants.{Done, Refused, ReadFailed, PutFailed, OutOfMemory}
 
@@ -49,7 +50,7 @@ abbrev pub RefusesWords : SinkView → SinkView → (status : ℕ) → Type 0
 RefusesWords err err' status =
     (ending : Ending) × (status ≡ status_of ending) × TellsMessage (message_text [] Usage) err err' ending
 
-module _ (IsFault : Option Fault → Type 0) (names : List (List ℕ)) (target : Option (List ℕ)) (IsRight : List ℕ → Type 0) (before after : Outside) where
+module _ (IsFault : Option Fault → Type 0) (names : List (List ℕ)) (target : Option (List ℕ)) (IsRight : (bytes text : List ℕ) → Type 0) (before after : Outside) where
   abbrev GivesNothing : Type 0
   GivesNothing = DeliversNothing before.files after.files before.out after.out
 
@@ -82,11 +83,11 @@ module _ (IsFault : Option Fault → Type 0) (names : List (List ℕ)) (target :
     pub nothing : GivesNothing
     pub told : TellsEnding ReadFailed
 
-  -- a put or a write failed: there is no fault and a front of a right text was given, or it was the put of a fault's message
+  -- a put or a write failed: there is no fault, and it failed while what is right was given; or it was the put of a fault's message
   abbrev pub IsPutFailed : Type 0
   IsPutFailed =
       (GivesOut IsFault target IsRight before.files after.files before.out after.out
-      × DeliveryRose target before.files after.files before.out after.out × TellsEnding PutFailed)
+      × TellsEnding PutFailed)
       ⊎ (BreaksMessage PutFailed × Rose before.err.faults after.err.faults)
 
   -- memory ran out
@@ -107,13 +108,14 @@ abbrev pub IsExpected : Option Fault → Ending → Type 0
 IsExpected fault ending =
     MatchOption fault ((ending ≡ Done) ⊎ (ending ≡ OutOfMemory)) (λ first. (ending ≡ Refused) ⊎ (ending ≡ OutOfMemory))
 
--- A run of the program on these words ended so, over the files as the run saw them: those that are held, where that
--- is told.
+-- A run of the program on these words ended so, over the files as the run saw them: those that are held, where that is told. This is made of
+-- the source, if it compiled one.
 pub record EndsSo (words : List (List ℕ)) (before after : Outside) (ending : Ending) : Type 0 where
   pub seen : List HeldFile
+  pub made : List Made
   pub sees : Sees before.files.held seen
-  pub ends : EndsAs (IsFirstFault words seen) (file_names words) (target_of (job_of words)) (IsTextOf (options_for words) seen) before after ending
-  pub expected : NoCountRose before after → (fault : Option Fault) → IsFirstFault words seen fault → IsExpected fault ending
+  pub ends : EndsAs (IsFirstFault words seen made) (file_names words seen) (target_of (job_of words)) (IsRightOf (options_for words) seen made) before after ending
+  pub expected : NoCountRose before after → (fault : Option Fault) → IsFirstFault words seen made fault → IsExpected fault ending
 
 -- a run has this exit status, which stands for one of the five endings
 abbrev pub Ends : List (List ℕ) → Outside → Outside → (status : ℕ) → Type 0

@@ -4,7 +4,9 @@ use Rattle.lx_base.specs.declared.faults.Fault.{Fault}
 use Rattle.lx_base.specs.declared.settings.Job.{Job}
 use Rattle.lx_base.specs.declared.settings.Job.TheVariants.{Compile, Run, Source}
 use Rattle.lx_base.specs.declared.settings.Options.{Options}
-use Rattle.lx_compile.specs.Options.{ArePlain}
+use Rattle.lx_files.specs.declared.files.HeldFile.{HeldFile}
+use Rattle.lx_split.specs.Includes.{expansion}
+use Rattle.lx_top.specs.Sources.{source_files, source_name, source_options}
 use Rattle.lx_words.specs.Line.{line_of}
 use Rattle.lx_words.specs.Options.{options_of, words_fault}
 
@@ -15,29 +17,24 @@ options_for words = options_of (line_of words)
 abbrev pub job_of : (words : List (List ℕ)) → Job
 job_of words = (options_for words).job
 
--- where a source is to be compiled, the options are such as are compiled so far
-abbrev pub IsPlainWhere : Job → Options → Type 0
-IsPlainWhere (Compile file to) options = ArePlain options
-IsPlainWhere (Run input emitted block window piece) options = Unit {0}
-IsPlainWhere (Source rules to) options = Unit {0}
-
--- the file that gets the text of a job, where it is not the standard output that does
+-- the file that gets the bytes of a job, if one does
 abbrev pub target_of : Job → Option (List ℕ)
 target_of (Compile file to) = to
 target_of (Run input emitted block window piece) = None
-target_of (Source rules to) = None
+target_of (Source rules to) = Some to
 
--- the names of the files that a job reads, which the message of a fault cites
-abbrev pub names_of : Job → List (List ℕ)
-names_of (Compile file to) = file ∷ []
-names_of (Run input emitted block window piece) = emitted ∷ input ∷ []
-names_of (Source rules to) = []
+-- The names of the files that a job reads, which the message of a fault cites: a source and those that it includes, in the order in which they
+-- are met; an emitted file and an input; or a generated source.
+abbrev pub names_of : Options → Job → (seen : List HeldFile) → List (List ℕ)
+names_of options (Compile file to) seen = (expansion options seen file).met.names
+names_of options (Run input emitted block window piece) seen = emitted ∷ input ∷ []
+names_of options (Source rules to) seen = (expansion source_options (source_files rules) source_name).met.names
 
 -- the same where the words have this fault, or none
-abbrev pub names_behind : (of_words : Option Fault) → Job → List (List ℕ)
-names_behind None job = names_of job
-names_behind (Some first) job = []
+abbrev pub names_behind : (of_words : Option Fault) → Options → (seen : List HeldFile) → List (List ℕ)
+names_behind None options seen = names_of options options.job seen
+names_behind (Some first) options seen = []
 
--- the same of a command line: where the words have a fault, nothing is read
-abbrev pub file_names : (words : List (List ℕ)) → List (List ℕ)
-file_names words = names_behind (words_fault words) (job_of words)
+-- the same of a command line over the files: where the words have a fault, nothing is read
+abbrev pub file_names : (words : List (List ℕ)) → (seen : List HeldFile) → List (List ℕ)
+file_names words seen = names_behind (words_fault words) (options_for words) seen

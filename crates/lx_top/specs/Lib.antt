@@ -6,4 +6,5 @@ pub mod Jobs
 pub mod Outside
 pub mod Output
 pub mod Puts
+pub mod Sources
 pub mod Steps

@@ -7,7 +7,12 @@ use Rattle.lx_files.specs.Counts.{Rose}
 use Rattle.lx_files.specs.Held.{bytes_of}
 use Rattle.lx_files.specs.declared.files.HeldFile.{HeldFile}
 use Rattle.lx_base.specs.Places.{file_start}
-use Rattle.lx_top.specs.Delivery.{Completes, GivesOut, BreaksOff, DeliversNothing, DeliveryRose}
+use Rattle.std.specs.Global.{Vec}
+use Rattle.lx_compile.specs.FirstFault as source
+use Rattle.lx_compile.specs.declared.made.Made.{Made}
+use Rattle.lx_split.specs.Includes.{expansion}
+use Rattle.lx_top.specs.Sources.{IsSourceOutput, source_files, source_name, source_options}
+use Rattle.lx_top.specs.Delivery.{Bound, Completes, GivesOut, BreaksOff, DeliversNothing, FailsToBind, MayBeBound}
 use Rattle.lx_top.specs.Emitted.{IsUnread, place_in}
 use Rattle.lx_top.specs.Endings.{TellsMessage, failure_text}
 use Rattle.lx_files.specs.Taking.{GivesFront}
@@ -26,17 +31,28 @@ HaltsRead seen CountRose file name halt.PutFailed = ⊥
 HaltsRead seen CountRose file name halt.OutOfMemory = Unit {0}
 
 -- why a job broke off, and what it had given
-abbrev pub Halts : (IsFault : Option Fault → Type 0) (target : Option (List ℕ)) (IsRight : List ℕ → Type 0) (files files' : FilesView) (out out' : SinkView) → Halt → Type 0
+abbrev pub Halts : (IsFault : Option Fault → Type 0) (target : Option (List ℕ)) (IsRight : (bytes text : List ℕ) → Type 0) (files files' : FilesView) (out out' : SinkView) → Halt → Type 0
 Halts IsFault target IsRight files files' out out' (halt.Fault first) = IsFault (Some first) × DeliversNothing files files' out out'
 Halts IsFault target IsRight files files' out out' halt.ReadFailed = Rose files.faults files'.faults × DeliversNothing files files' out out'
-Halts IsFault target IsRight files files' out out' halt.PutFailed =
-    GivesOut IsFault target IsRight files files' out out' × DeliveryRose target files files' out out'
+Halts IsFault target IsRight files files' out out' halt.PutFailed = GivesOut IsFault target IsRight files files' out out'
 Halts IsFault target IsRight files files' out out' halt.OutOfMemory = BreaksOff IsFault target IsRight files files' out out'
 
 -- how a job ended
-abbrev pub JobEnds : (IsFault : Option Fault → Type 0) (target : Option (List ℕ)) (IsRight : List ℕ → Type 0) (files files' : FilesView) (out out' : SinkView) → {T : Type 0} → Result T Halt → Type 0
+abbrev pub JobEnds : (IsFault : Option Fault → Type 0) (target : Option (List ℕ)) (IsRight : (bytes text : List ℕ) → Type 0) (files files' : FilesView) (out out' : SinkView) → {T : Type 0} → Result T Halt → Type 0
 JobEnds IsFault target IsRight files files' out out' ended =
     MatchResult ended (λ _. Completes IsFault target IsRight files files' out out') (Halts IsFault target IsRight files files' out out')
+
+-- why the file of a job, if it has one, was not given these bytes, and what it has
+abbrev pub HaltsWrite : (target : Option (List ℕ)) → (bytes : List ℕ) → FilesView → FilesView → Halt → Type 0
+HaltsWrite target bytes files files' (halt.Fault fault) = ⊥
+HaltsWrite target bytes files files' halt.ReadFailed = ⊥
+HaltsWrite target bytes files files' halt.PutFailed = FailsToBind target bytes files files'
+HaltsWrite target bytes files files' halt.OutOfMemory = MayBeBound target bytes files files'
+
+-- how the writing of a job's file ended
+abbrev pub WriteEnds : (target : Option (List ℕ)) → (bytes : List ℕ) → FilesView → FilesView → {T : Type 0} → Result T Halt → Type 0
+WriteEnds target bytes files files' ended =
+    MatchResult ended (λ _. Bound target bytes files files' × (files'.write_faults ≡ files.write_faults)) (HaltsWrite target bytes files files')
 
 -- why the scanner of an emitted file was not read
 abbrev pub HaltsScan : (bytes : List ℕ) → (block : Option ℕ) → Halt → Type 0
@@ -77,3 +93,21 @@ Reports names err err' (halt.Fault first) ending = TellsMessage (message_text na
 Reports names err err' halt.ReadFailed ending = TellsHalt ReadFailed err err' ending
 Reports names err err' halt.PutFailed ending = TellsHalt PutFailed err err' ending
 Reports names err err' halt.OutOfMemory ending = TellsHalt OutOfMemory err err' ending
+
+-- why a generated source was not compiled: a call that reads no file but that stops with its first fault, whose file is one of the names, or where
+-- memory runs out
+abbrev pub HaltsSource : (rules : ℕ) → (names : List (List ℕ)) → Halt → Type 0
+HaltsSource rules names (halt.Fault fault) =
+    ((made : List Made) × source.IsFirstFault source_options (source_files rules) source_name made (Some fault))
+    × (names ≡ (expansion source_options (source_files rules) source_name).met.names) × IsPlaced names fault
+HaltsSource rules names halt.ReadFailed = ⊥
+HaltsSource rules names halt.PutFailed = ⊥
+HaltsSource rules names halt.OutOfMemory = Unit {0}
+
+-- the compilation of a generated source ended so
+abbrev pub CompilesSource : (rules : ℕ) → (names : List (List ℕ)) → Result (Vec ℕ) Halt → Type 0
+CompilesSource rules names ended =
+    MatchResult ended
+    (λ output. ((made : List Made) × source.IsFirstFault source_options (source_files rules) source_name made None × IsSourceOutput rules made output.items)
+    × (names ≡ (expansion source_options (source_files rules) source_name).met.names))
+    (HaltsSource rules names)

@@ -19,11 +19,11 @@ use lx_run::run_whole;
 use std::alloc::Global;
 
 /// The most bytes that an emitted file may have, so that each place in it has a line and a column of 32 bits.
-const MOST_BYTES: usize = 4_294_967_294;
+pub(crate) const MOST_BYTES: usize = 4_294_967_294;
 
 /// Runs a scanner of an emitted file over an input, and gives the lines to the standard output: the scanner of the block with
 /// this number, or the first one. The emitted file is the first that is met, and the input the second.
-pub fn run_emitted<F: Files, O: Sink>(
+pub(crate) fn run_emitted<F: Files, O: Sink>(
     alloc: Global,
     emitted: &str,
     input: &str,
@@ -36,7 +36,7 @@ pub fn run_emitted<F: Files, O: Sink>(
         let before = sink_view (O.given out.old) (O.faults out.old) in
         let after = sink_view (O.given out.new) (O.faults out.new) in
         (seen : List HeldFile) × Sees (F.held files.old) seen
-        × JobEnds (IsRunFault block input.now (bytes_of seen input.now) emitted.now (bytes_of seen emitted.now)) None (IsRunText block (bytes_of seen emitted.now) (bytes_of seen input.now)) files_before files_after before after result }
+        × JobEnds (IsRunFault block input.now (bytes_of seen input.now) emitted.now (bytes_of seen emitted.now)) None (λ bytes text. (bytes ≡ []) × IsRunText block (bytes_of seen emitted.now) (bytes_of seen input.now) text) files_before files_after before after result }
     ensures placed { IfErr result (IsPlacedHalt (emitted.now ∷ input.now ∷ [])) }
 {
     let text = read_file(alloc, files, 0, emitted)?;
@@ -59,7 +59,7 @@ fn is_same(name: &str, other: &str) -> bool
 }
 
 /// The scanner of the block with this number, or the first one.
-fn read_scanner(alloc: Global, bytes: &[u8], block: Option<u32>) -> Result<Piece, Halt>
+pub(crate) fn read_scanner(alloc: Global, bytes: &[u8], block: Option<u32>) -> Result<Piece, Halt>
     requires { length bytes.now + 1 < 2 ^ 32 }
     ensures scans { MatchResult result (Scans bytes.now block) (HaltsScan bytes.now block) }
     ensures placed { (name : List ℕ) (names : List (List ℕ)) → IfErr result (IsPlacedHalt (name ∷ names)) }
@@ -91,7 +91,7 @@ fn run_over<O: Sink>(alloc: Global, piece: &Piece, input: &[u8], out: &mut O) ->
     requires { IsValid piece.now }
     ensures ends { let before = sink_view (O.given out.old) (O.faults out.old) in
         let after = sink_view (O.given out.new) (O.faults out.new) in
-        (files : FilesView) → JobEnds (λ fault. fault ≡ input_fault [] piece.now.unit (Some input.now)) None (λ text. text ≡ run_text piece.now input.now) files files before after result }
+        (files : FilesView) → JobEnds (λ fault. fault ≡ input_fault [] piece.now.unit (Some input.now)) None (λ bytes text. (bytes ≡ []) × (text ≡ run_text piece.now input.now)) files files before after result }
     ensures placed { (emitted name : List ℕ) → IfErr result (IsPlacedHalt (emitted ∷ name ∷ [])) }
 {
     if input.len() % piece.unit as usize != 0 {

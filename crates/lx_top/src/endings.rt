@@ -4,6 +4,7 @@ ghost use Rattle.lx_top.specs.Endings.{status_of};
 
 use lx_base::{Fault, Memory, Stop};
 use lx_files::PutAnswer;
+use lx_split::ExpandStop;
 
 /// How a run ends, each with its exit status.
 #[derive(Clone, Copy, PartialEq, Eq)]
@@ -69,6 +70,21 @@ impl From<Stop> for Halt {
         match stop {
             Stop::Memory => Halt::OutOfMemory,
             Stop::Fault(fault) => Halt::Fault(fault),
+        }
+    }
+}
+
+impl From<ExpandStop> for Halt {
+    ghost use Rattle.std.specs.Prelude.{◌≡◌};
+    ghost use Rattle.lx_top.specs.Puts.{halt_of_expand};
+
+    ghost from_gives = { λ stop given. given ≡ halt_of_expand stop };
+
+    fn from(stop: ExpandStop) -> Halt {
+        match stop {
+            ExpandStop::Memory => Halt::OutOfMemory,
+            ExpandStop::Fault(fault) => Halt::Fault(fault),
+            ExpandStop::ReadFailed => Halt::ReadFailed,
         }
     }
 }

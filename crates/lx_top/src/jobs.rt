@@ -1,17 +1,20 @@
 //! What the words ask for, and its doing.
 ghost use Rattle.std.specs.Prelude.{◌≡◌, [], List, map, option_map, string_bytes, IfErr};
+ghost use Rattle.lx_compile.specs.Options.{IsGreedy};
+ghost use Rattle.lx_compile.specs.declared.made.Made.{Made};
 ghost use Rattle.lx_files.specs.Held.{Sees};
 ghost use Rattle.lx_files.specs.declared.files.HeldFile.{HeldFile};
 ghost use Rattle.lx_top.specs.FirstFault.{IsFirstFault, IsJobFault};
-ghost use Rattle.lx_top.specs.Jobs.{IsPlainWhere, file_names, job_of, names_of, options_for, target_of};
+ghost use Rattle.lx_top.specs.Jobs.{file_names, job_of, names_of, options_for, target_of};
 ghost use Rattle.lx_top.specs.Outside.{files_view, sink_view};
-ghost use Rattle.lx_top.specs.Output.{IsTextOf};
+ghost use Rattle.lx_top.specs.Output.{IsRightOf};
 ghost use Rattle.lx_top.specs.Steps.{Cites, JobEnds};
 
 use crate::compile::compile;
 use crate::emitted::run_emitted;
 use crate::endings::Halt;
-use lx_base::{Fault, FileName, FileNames, Job, Options};
+use crate::source::run_source;
+use lx_base::{FileName, FileNames, Job, Options};
 use lx_files::{Files, Sink};
 use lx_words::read_words;
 use std::alloc::Global;
@@ -30,9 +33,9 @@ pub fn perform<F: Files, O: Sink>(
         let files_after = files_view (F.held files.new) (F.faults files.new) (F.write_faults files.new) in
         let before = sink_view (O.given out.old) (O.faults out.old) in
         let after = sink_view (O.given out.new) (O.faults out.new) in
-        (seen : List HeldFile) × Sees (F.held files.old) seen
-        × JobEnds (IsFirstFault texts seen) (target_of (job_of texts)) (IsTextOf (options_for texts) seen) files_before files_after before after result }
-    ensures cites { IfErr result (Cites (file_names (map string_bytes words.now)) names.new) }
+        (seen : List HeldFile) × (made : List Made) × Sees (F.held files.old) seen
+        × JobEnds (IsFirstFault texts seen made) (target_of (job_of texts)) (IsRightOf (options_for texts) seen made) files_before files_after before after result
+        × IfErr result (Cites (file_names texts seen) names.new) }
 {
     let options = read_words(alloc, words)?;
     perform_job(alloc, &options, files, out, names)
@@ -47,19 +50,19 @@ fn perform_job<F: Files, O: Sink>(
     names: &mut FileNames,
 ) -> Result<(), Halt>
     requires names { names.old ≡ [] }
-    requires plain { IsPlainWhere options.now.job options.now }
+    requires greedy { IsGreedy options.now }
     ensures ends { let files_before = files_view (F.held files.old) (F.faults files.old) (F.write_faults files.old) in
         let files_after = files_view (F.held files.new) (F.faults files.new) (F.write_faults files.new) in
         let before = sink_view (O.given out.old) (O.faults out.old) in
         let after = sink_view (O.given out.new) (O.faults out.new) in
-        (seen : List HeldFile) × Sees (F.held files.old) seen
-        × JobEnds (IsJobFault options.now seen) (target_of options.now.job) (IsTextOf options.now seen) files_before files_after before after result }
-    ensures cites { IfErr result (Cites (names_of options.now.job) names.new) }
+        (seen : List HeldFile) × (made : List Made) × Sees (F.held files.old) seen
+        × JobEnds (IsJobFault options.now seen made) (target_of options.now.job) (IsRightOf options.now seen made) files_before files_after before after result
+        × IfErr result (Cites (names_of options.now options.now.job seen) names.new) }
 {
     match &options.job {
         Job::Compile { file, to } => {
-            names.add(file.as_str())?;
-            compile(alloc, file.as_str(), name_in(to), options, files, out)
+            let (file, to) = (file.as_str(), name_in(to));
+            compile(alloc, file, to, options, files, out, names)
         }
         Job::Run {
             input,
@@ -71,7 +74,7 @@ fn perform_job<F: Files, O: Sink>(
             names.add(input.as_str())?;
             run_emitted(alloc, emitted.as_str(), input.as_str(), *block, files, out)
         }
-        Job::Source { .. } => Err(Halt::Fault(Fault::Unsupported { at: None })),
+        Job::Source { n, to } => run_source(alloc, *n, to.as_str(), files, out, names),
     }
 }
 

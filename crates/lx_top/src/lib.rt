@@ -10,6 +10,8 @@ mod jobs;
 pub mod laws;
 mod report;
 pub mod run;
+mod source;
+mod summary;
 
 pub use endings::{Ending, Halt};
 pub use lx_files::put_all;

@@ -164,11 +164,5 @@ pub fn is_wrong(line: &ArgMatches<'_>) -> bool
 pub fn waits(line: &ArgMatches<'_>) -> bool
     ensures { result ≡ waits (rows_of (found_of line.now)) }
 {
-    let compiles = !has_value(line, "x-run") && !has_value(line, "x-source");
-    has_flag(line, "reusable")
-        || has_value(line, "include")
-        || has_value(line, "x-source")
-        || has_value(line, "x-window")
-        || has_value(line, "x-piece")
-        || (compiles && !has_flag(line, "no-debug-info"))
+    has_value(line, "x-window") || has_value(line, "x-piece")
 }

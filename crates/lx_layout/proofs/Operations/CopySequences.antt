@@ -197,7 +197,7 @@ targets-read_from : (t sp : ℕ) (l : Copies) → targets (read_from sp t l) ≡
 targets-read_from t sp [] = refl
 targets-read_from t sp (c ∷ l) = ap (λ z. c.0 ∷ z) (targets-read_from t sp l)
 
-length-read_from : (t sp : ℕ) (l : Copies) → length (read_from sp t l) ≡ length l
+pub length-read_from : (t sp : ℕ) (l : Copies) → length (read_from sp t l) ≡ length l
 length-read_from t sp [] = refl
 length-read_from t sp (c ∷ l) = ap suc (length-read_from t sp l)
 

@@ -47,7 +47,7 @@ Fresh-copies t (MHere x ∷ os) e = Fresh-copies t os e
 Fresh-copies t (MNull x ∷ os) e = Fresh-copies t os e
 Fresh-copies t (MCopy x s ∷ os) e = Fresh-copies t os e
 
-AllApart-copies : (os : List Op) → AllApart (targets (copies os))
+pub AllApart-copies : (os : List Op) → AllApart (targets (copies os))
 AllApart-copies [] = tt
 AllApart-copies (Copy x s ∷ os) = by (nat_eq x s) (writes x os) refl (AllApart-copies os)
   where
@@ -77,7 +77,7 @@ Fresh-mcopies t (MCopy x s ∷ os) e = by (nat_eq t x) refl (nat_eq x s || copie
     by false q false h again = (λ z. true≢false (sym (eq-eqb t x z) ∙ q), again h)
 Fresh-mcopies t (_ ∷ os) e = Fresh-mcopies t os e
 
-AllApart-mcopies : (os : List Op) → AllApart (targets (mcopies os))
+pub AllApart-mcopies : (os : List Op) → AllApart (targets (mcopies os))
 AllApart-mcopies [] = tt
 AllApart-mcopies (MCopy x s ∷ os) = by (nat_eq x s) (copies_into x os) refl (AllApart-mcopies os)
   where

@@ -1,219 +1,486 @@
--- Copies that wait, and what is known of them.
-use Rattle.std.proofs.Common.{◌≡◌, ℕ, zero, suc, ◌+◌, ◌<◌, arith, Bool, true, false, not, ◌&&◌, ◌||◌, nat_eq, if◌then◌else◌, List, [], ◌∷◌, ◌++◌, length, drop, take, set, get_or, map, Some, refl, sym, ap, ◌∙◌, true≢false}
-use Rattle.std.proofs.lemmas.Bool.{eqb-true}
-use Rattle.std.proofs.lemmas.List.{drop-map, drop_more, get_or_default, map-append, take-map, take-append-drop, take_more}
-use Rattle.lx_layout.specs.CopyOps.{AreReadByOthers, IsReadByOthers, copy_between, forgotten, new_waiting, renamed, seen_copies, seen_copy, waiting_copies}
-use Rattle.lx_layout.specs.ParallelCopies.{Copies, is_in, read_from, sources, unread_target}
-use Rattle.lx_layout.specs.declared.parallel_copies.CopyOp.{CopyOp}
-use Rattle.lx_layout.specs.declared.parallel_copies.Waiting.{Waiting}
+-- Copies that wait, and what is kept of them.
+use Rattle.std.proofs.Common.{◌≡◌, ℕ, zero, suc, ◌+◌, ◌<◌, ◌≤◌, arith, Bool, true, false, ◌&&◌, nat_eq, nat_lt, nat_cmp, if◌then◌else◌, List, [], ◌∷◌, ◌++◌, length, take, get_or, slice_index_or, Some, None, inl, inr, ◌⊎◌, ⊎_elim, refl, sym, ap, ◌∙◌, true≢false, append_assoc, eqb-true, eq-eqb, ne_eqb, lt-ltb, ltb-true, add-zero, BTreeMap, BTreeSet}
+use Rattle.std.proofs.lemmas.Bool.{and_parts, cases_eq}
+use Rattle.std.proofs.lemmas.Bool.Decides.{nat_tests}
+use Rattle.std.proofs.lemmas.List.{get_or-map, length-map, length-take-le, map-append, take_all, take_more}
+use Rattle.std.proofs.lemmas.Map.Keys.{apart_from_distinct}
+use Rattle.std.specs.BTreeMap as map
+use Rattle.std.specs.BTreeSet.{contains}
+use Rattle.std.specs.List.{AllByRecursion, IsDistinct}
+use Rattle.lx_layout.specs.CopyOps.{IsNoted, seen_copies, seen_copy}
+use Rattle.lx_layout.specs.ParallelCopies.{Copies, in_sequence, next_copies, read_from, sources, targets, unread_target}
+use Rattle.lx_layout.specs.WaitingCopies.{AreKept, AreNoted, ArePlaces, IsFirst, IsReadyNoted, copy_at, copy_of, count, is_unread, other_copies, reader_count, waiting_copies, waits, without}
+use Rattle.lx_layout.specs.declared.copy_sequences.CopyOp.{CopyOp}
+use Rattle.lx_layout.specs.declared.copy_sequences.WaitingCopies.{WaitingCopies}
+use Rattle.lx_layout.proofs.Operations.CopySequences.{AllApart, Fresh, length-read_from}
+use Rattle.lx_layout.proofs.Operations.CopiesBelow.{copies_below-first, copies_below-none, copies_below-same, copies_below-take, count-le, count-read_from, count-sources-append, count-without, length-copies_below, length-sources, read_from-below, unread_target-none, unread_target-ready}
 
-is_in-append : (number : ℕ) (front back : Copies) → is_in number (sources (front ++ back)) ≡ (is_in number (sources front) || is_in number (sources back))
-is_in-append number [] back = refl
-is_in-append number (copy ∷ front) back = at (nat_eq number copy.1) (is_in-append number front back)
+-- how many copies that wait read a register
+abbrev reads : (spare : ℕ) → WaitingCopies → (reg : ℕ) → ℕ
+reads spare list reg = count reg (sources (waiting_copies spare list))
+
+module _ (spare : ℕ) (list : WaitingCopies) (noted : AreNoted spare list) where
+  -- the copy into a register is at the place that is kept for it
+  get-place : (reg place : ℕ) → waits list place ≡ true → nat_eq (copy_at spare list place).0 reg ≡ true
+      → map.get nat_cmp list.places reg ≡ Some place
+  get-place reg place waiting same =
+      ap (λ r. map.get nat_cmp list.places r) (sym (eqb-true (copy_at spare list place).0 reg same))
+      ∙ noted.places.placed place (noted.within place waiting)
+
+  -- whether the copy at a place is ready, by the counts that are kept
+  pub is_unread-counted : (place : ℕ) (copy : ℕ × ℕ) → copy ≡ copy_at spare list place
+      → nat_eq (reader_count list.readers copy.0) (if nat_eq copy.0 copy.1 then 1 else 0)
+      ≡ is_unread (waiting_copies spare list) (copy_at spare list place)
+  is_unread-counted place copy is =
+      ap (λ c. nat_eq (reader_count list.readers c.0) (if nat_eq c.0 c.1 then 1 else 0)) is
+      ∙ ap (λ n. nat_eq n (if nat_eq (copy_at spare list place).0 (copy_at spare list place).1 then 1 else 0))
+      (noted.readers (copy_at spare list place).0)
+
+  both_hold : (reg place : ℕ) (b d : Bool) → waits list place ≡ b → nat_eq (copy_at spare list place).0 reg ≡ d
+      → ((waits list place && nat_eq (copy_at spare list place).0 reg) ≡ false) ⊎ (map.get nat_cmp list.places reg ≡ Some place)
+  both_hold reg place true true p q = inr (get-place reg place p q)
+  both_hold reg place true false p q = inl (ap (λ b. b && nat_eq (copy_at spare list place).0 reg) p ∙ q)
+  both_hold reg place false d p q = inl (ap (λ b. b && nat_eq (copy_at spare list place).0 reg) p)
+
+  cases_place : (reg place : ℕ)
+      → ((waits list place && nat_eq (copy_at spare list place).0 reg) ≡ false) ⊎ (map.get nat_cmp list.places reg ≡ Some place)
+  cases_place reg place = both_hold reg place (waits list place) (nat_eq (copy_at spare list place).0 reg) refl refl
+
+  module _ (reg : ℕ)
+      (others : (place : ℕ) → (waits list place && nat_eq (copy_at spare list place).0 reg) ≡ false → IsReadyNoted spare list place) where
+    pub AreKept-unknown : map.get nat_cmp list.places reg ≡ None → AreKept spare list
+    AreKept-unknown none =
+        record {
+          noted = noted;
+          ready = λ place. ⊎_elim (λ e. others place e) (λ e. absurd (cc (e, none))) (cases_place reg place);
+        }
+
+    pub AreKept-put : (place : ℕ) (ready : BTreeSet ℕ) (free : Bool) → map.get nat_cmp list.places reg ≡ Some place
+        → free ≡ is_unread (waiting_copies spare list) (copy_at spare list place)
+        → ((other : ℕ) → contains nat_cmp ready other
+        ≡ (if nat_eq other place then waits list place && free else contains nat_cmp list.ready other))
+        → AreKept spare (record list { ready = ready })
+    AreKept-put place ready free known is put =
+        record {
+          noted = record { places = noted.places; within = noted.within; readers = noted.readers };
+          ready = λ other. put other ∙ at other (nat_eq other place) refl;
+        }
+      where
+        at : (other : ℕ) (b : Bool) → nat_eq other place ≡ b
+            → (if b then waits list place && free else contains nat_cmp list.ready other)
+            ≡ (waits list other && is_unread (waiting_copies spare list) (copy_at spare list other))
+        at other true e =
+            ap (λ b. waits list place && b) is
+            ∙ ap (λ p. waits list p && is_unread (waiting_copies spare list) (copy_at spare list p)) (sym (eqb-true other place e))
+        at other false e =
+            ⊎_elim (λ h. others other h)
+            (λ h.
+            let one : Some other ≡ Some place = sym h ∙ known in
+            let same : other ≡ place = cc in
+            absurd (true≢false (sym (eq-eqb other place same) ∙ e)))
+            (cases_place reg other)
+
+-- ---- the copy at a place is taken
+
+module _ (spare : ℕ) (list : WaitingCopies) (noted : AreNoted spare list) (place : ℕ) (waiting : waits list place ≡ true) where
+  abbrev now : ℕ × ℕ
+  now = copy_at spare list place
+
+  pub lt-count-taken : 0 < reads spare list now.1
+  lt-count-taken =
+      let within = noted.within place waiting in
+      let whole = count-without (waits list) (copy_at spare list) place waiting (length list.copies.items) within now.1 in
+      let own = ap {B = ℕ} (λ b. if b then 1 else 0) (eq-eqb now.1 now.1 refl) in
+      omega (arith, whole, own)
+
+  module _ (left ready : BTreeSet ℕ) (readers : BTreeMap ℕ ℕ) (copy : ℕ × ℕ) (is : copy ≡ now)
+      (fewer : (other : ℕ) → contains nat_cmp left other ≡ (if nat_eq other place then false else waits list other))
+      (counted : (reg : ℕ) → reader_count readers reg + (if nat_eq reg copy.1 then 1 else 0) ≡ reader_count list.readers reg) where
+    abbrev rest : WaitingCopies
+    rest = record list { waiting = left; ready = ready; readers = readers }
+
+    pub waiting_copies-taken : waiting_copies spare rest ≡ other_copies spare list place
+    waiting_copies-taken =
+        copies_below-same (contains nat_cmp left) (without place (waits list)) (copy_at spare list) (copy_at spare list)
+        (length list.copies.items)
+        (λ other. λ lt. fewer other) (λ other. λ lt. refl)
+
+    count-taken : (reg : ℕ) → reads spare rest reg + (if nat_eq reg copy.1 then 1 else 0) ≡ reads spare list reg
+    count-taken reg =
+        ap (λ l. count reg (sources l) + (if nat_eq reg copy.1 then 1 else 0)) waiting_copies-taken
+        ∙ ap (λ c. count reg (sources (other_copies spare list place)) + (if nat_eq reg c.1 then 1 else 0)) is
+        ∙ count-without (waits list) (copy_at spare list) place waiting (length list.copies.items) (noted.within place waiting) reg
+
+    waits-taken : (other : ℕ) → contains nat_cmp left other ≡ true → waits list other ≡ true
+    waits-taken other e = at (nat_eq other place) (sym (fewer other) ∙ e)
+      where
+        at : (b : Bool) → (if b then false else waits list other) ≡ true → waits list other ≡ true
+        at true h = absurd (true≢false (sym h))
+        at false h = h
+
+    pub AreNoted-taken : AreNoted spare rest
+    AreNoted-taken =
+        record {
+          places = noted.places;
+          within = λ other. λ e. noted.within other (waits-taken other e);
+          readers = λ reg.
+              let one = counted reg in
+              let two = count-taken reg in
+              let three = noted.readers reg in
+              omega (arith, one, two, three);
+        }
+
+    -- no other copy is into the same register
+    pub targets-taken : (other : ℕ) → contains nat_cmp left other ≡ true → nat_eq (copy_at spare list other).0 copy.0 ≡ false
+    targets-taken other e = at (nat_eq (copy_at spare list other).0 copy.0) refl
+      where
+        gone : other ≡ place → ⊥
+        gone same = true≢false (sym e ∙ fewer other ∙ ap (λ b. if b then false else waits list other) (eq-eqb other place same))
+
+        at : (b : Bool) → nat_eq (copy_at spare list other).0 copy.0 ≡ b → nat_eq (copy_at spare list other).0 copy.0 ≡ false
+        at true h =
+            let first = get-place spare list noted copy.0 other (waits-taken other e) h in
+            let second = ap (λ c. map.get nat_cmp list.places c.0) is ∙ noted.places.placed place (noted.within place waiting) in
+            let both : Some other ≡ Some place = sym first ∙ second in
+            let same : other ≡ place = cc in
+            absurd (gone same)
+        at false h = h
+
+    pub IsReadyNoted-taken : ((other : ℕ) → IsReadyNoted spare list other)
+        → ((other : ℕ) → contains nat_cmp ready other ≡ (if nat_eq other place then false else contains nat_cmp list.ready other))
+        → (other : ℕ) → (contains nat_cmp left other && nat_eq (copy_at spare list other).0 copy.1) ≡ false → IsReadyNoted spare rest other
+    IsReadyNoted-taken known less other none =
+        less other ∙ at (nat_eq other place) (contains nat_cmp left other) (nat_eq (copy_at spare list other).0 copy.1) refl none
+        (fewer other)
+        (count-taken (copy_at spare list other).0)
+      where
+        at : (a b d : Bool) → nat_eq (copy_at spare list other).0 copy.1 ≡ d → (b && d) ≡ false
+            → b ≡ (if a then false else waits list other)
+            → count (copy_at spare list other).0 (sources (waiting_copies spare rest)) + (if d then 1 else 0)
+            ≡ count (copy_at spare list other).0 (sources (waiting_copies spare list))
+            → (if a then false else contains nat_cmp list.ready other)
+            ≡ (b && is_unread (waiting_copies spare rest) (copy_at spare list other))
+        at true b d q h g e = ap (λ x. x && is_unread (waiting_copies spare rest) (copy_at spare list other)) (sym g)
+        at false true true q h g e = absurd (true≢false h)
+        at false true false q h g e =
+            known other ∙ ap (λ b. b && is_unread (waiting_copies spare list) (copy_at spare list other)) (sym g)
+            ∙ ap (λ n. nat_eq n (if nat_eq (copy_at spare list other).0 (copy_at spare list other).1 then 1 else 0))
+            (sym e ∙ add-zero (reads spare rest (copy_at spare list other).0))
+        at false false d q h g e =
+            known other ∙ ap (λ b. b && is_unread (waiting_copies spare list) (copy_at spare list other)) (sym g)
+
+-- ---- the spare holds what a register held
+
+module _ (spare : ℕ) (list : WaitingCopies) (noted : AreNoted spare list) (reg : ℕ) where
+  pub count-le-moved : (if nat_eq spare reg then 0 else reader_count list.readers spare) + reader_count list.readers reg
+      ≤ length list.copies.items
+  count-le-moved =
+      let copies = waiting_copies spare list in
+      let counted = count-read_from spare reg copies spare in
+      let most = count-le spare (sources (read_from spare reg copies)) in
+      let long = length-sources (read_from spare reg copies) ∙ length-read_from reg spare copies in
+      let few = length-copies_below (waits list) (copy_at spare list) (length list.copies.items) in
+      let own = ap {B = ℕ} (λ b. if b then count reg (sources copies) else 0) (eq-eqb spare spare refl) in
+      let one = noted.readers reg in
+      let two = ap (λ n. if nat_eq spare reg then 0 else n) (noted.readers spare) in
+      omega (arith, counted, most, long, few, own, one, two)
+
+  module _ (readers : BTreeMap ℕ ℕ) (moved : BTreeSet ℕ) (more : IsNoted list.moved moved reg)
+      (counted : (any : ℕ) → reader_count readers any
+      ≡ (if nat_eq any reg then 0 else reader_count list.readers any)
+      + (if nat_eq any spare then reader_count list.readers reg else 0)) where
+    abbrev onward : WaitingCopies
+    onward = record list { readers = readers; moved = moved }
+
+    abbrev original : ℕ → ℕ × ℕ
+    original place = copy_of (seen_copies list.copies.items) place
+
+    copy_at-moved : (place : ℕ)
+        → ((copy_at spare list place).0, if nat_eq (copy_at spare list place).1 reg then spare else (copy_at spare list place).1)
+        ≡ copy_at spare onward place
+    copy_at-moved place =
+        ap (λ s. ((original place).0, s))
+        (at (contains nat_cmp list.moved (original place).1) (nat_eq (original place).1 reg) refl (more (original place).1))
+      where
+        either : (a : Bool) → spare ≡ (if (if a then true else true) then spare else (original place).1)
+        either true = refl
+        either false = refl
+
+        same : (a : Bool) → (if a then spare else spare) ≡ spare
+        same true = refl
+        same false = refl
+
+        at : (a b : Bool) → nat_eq (original place).1 reg ≡ b → contains nat_cmp moved (original place).1 ≡ (if b then true else a)
+            → (if nat_eq (if a then spare else (original place).1) reg then spare else (if a then spare else (original place).1))
+            ≡ (if contains nat_cmp moved (original place).1 then spare else (original place).1)
+        at true b q h = same (nat_eq spare reg) ∙ either b ∙ ap (λ x. if x then spare else (original place).1) (sym h)
+        at false true q h = ap (λ x. if x then spare else (original place).1) q ∙ ap (λ x. if x then spare else (original place).1) (sym h)
+        at false false q h = ap (λ x. if x then spare else (original place).1) q ∙ ap (λ x. if x then spare else (original place).1) (sym h)
+
+    pub waiting_copies-moved : waiting_copies spare onward ≡ read_from spare reg (waiting_copies spare list)
+    waiting_copies-moved =
+        sym (read_from-below spare reg (waits list) (copy_at spare list) (copy_at spare onward) (length list.copies.items) copy_at-moved)
+
+    count-moved : (any : ℕ) → reads spare onward any
+        ≡ (if nat_eq any reg then 0 else reads spare list any) + (if nat_eq any spare then reads spare list reg else 0)
+    count-moved any = ap (λ l. count any (sources l)) waiting_copies-moved ∙ count-read_from spare reg (waiting_copies spare list) any
+
+    pub AreNoted-moved : AreNoted spare onward
+    AreNoted-moved =
+        record {
+          places = noted.places;
+          within = noted.within;
+          readers = λ any.
+              counted any
+              ∙ ap (λ n. (if nat_eq any reg then 0 else n) + (if nat_eq any spare then reader_count list.readers reg else 0))
+              (noted.readers any)
+              ∙ ap (λ n. (if nat_eq any reg then 0 else reads spare list any) + (if nat_eq any spare then n else 0)) (noted.readers reg)
+              ∙ sym (count-moved any);
+        }
+
+    abbrev target : ℕ → ℕ
+    target place = (copy_at spare list place).0
+
+    abbrev source : ℕ → ℕ
+    source place = (copy_at spare list place).1
+
+    pub IsReadyNoted-moved : ((place : ℕ) → IsReadyNoted spare list place)
+        → ((place : ℕ) → waits list place ≡ true → nat_eq (copy_at spare list place).0 reg ≡ false)
+        → (place : ℕ) → (waits list place && nat_eq (copy_at spare list place).0 spare) ≡ false → IsReadyNoted spare onward place
+    IsReadyNoted-moved known free place none =
+        known place ∙ at (waits list place) (nat_eq (target place) spare) refl refl none
+      where
+        counts : nat_eq (target place) reg ≡ false → nat_eq (target place) spare ≡ false
+            → reads spare onward (target place) ≡ reads spare list (target place)
+        counts a b =
+            count-moved (target place)
+            ∙ ap (λ x. (if x then 0 else reads spare list (target place)) + (if nat_eq (target place) spare then reads spare list reg else 0))
+            a
+            ∙ ap (λ x. reads spare list (target place) + (if x then reads spare list reg else 0)) b
+            ∙ add-zero (reads spare list (target place))
+
+        tests : nat_eq (target place) reg ≡ false → nat_eq (target place) spare ≡ false → (b : Bool) → nat_eq (source place) reg ≡ b
+            → nat_eq (target place) (if b then spare else (source place)) ≡ nat_eq (target place) (source place)
+        tests a d true e = d ∙ sym a ∙ ap (λ r. nat_eq (target place) r) (sym (eqb-true (source place) reg e))
+        tests a d false e = refl
+
+        at : (w d : Bool) → waits list place ≡ w → nat_eq (target place) spare ≡ d → (w && d) ≡ false
+            → (w && is_unread (waiting_copies spare list) (copy_at spare list place))
+            ≡ (w && is_unread (waiting_copies spare onward) (copy_at spare onward place))
+        at false d p q h = refl
+        at true true p q h = absurd (true≢false h)
+        at true false p q h =
+            let a = free place p in
+            ap (λ n. nat_eq n (if nat_eq (target place) (source place) then 1 else 0)) (sym (counts a q))
+            ∙ ap (λ b. nat_eq (reads spare onward (target place)) (if b then 1 else 0)) (sym (tests a q (nat_eq (source place) reg) refl))
+            ∙ ap (λ copy. is_unread (waiting_copies spare onward) copy) (copy_at-moved place)
+
+-- ---- all copies wait
+
+-- the copies at the first places, one more
+pub copy_of-target : (copies : Copies) (place : ℕ) → (copy_of copies place).0 ≡ slice_index_or (targets copies) place 0
+copy_of-target [] place = refl
+copy_of-target (copy ∷ copies) zero = refl
+copy_of-target (copy ∷ copies) (suc place) = copy_of-target copies place
+
+module _ (copies : Copies) (distinct : IsDistinct nat_eq (targets copies)) (places after : BTreeMap ℕ ℕ) (place : ℕ)
+    (within : place < length copies)
+    (known : ArePlaces places copies place)
+    (more : (other : ℕ) → map.get nat_cmp after other
+    ≡ (if nat_eq other (copy_of copies place).0 then Some place else map.get nat_cmp places other)) where
+  length-targets : (list : Copies) → length (targets list) ≡ length list
+  length-targets [] = refl
+  length-targets (copy ∷ list) = ap (λ n. suc n) (length-targets list)
+
+  apart : (other : ℕ) → other < place → nat_eq (copy_of copies other).0 (copy_of copies place).0 ≡ false
+  apart other lt =
+      let long = length-targets copies in
+      ap (λ n. nat_eq n (copy_of copies place).0) (copy_of-target copies other)
+      ∙ ap (λ n. nat_eq (slice_index_or (targets copies) other 0) n) (copy_of-target copies place)
+      ∙ apart_from_distinct nat_eq (targets copies) other place 0 distinct lt (omega (arith, long, within))
+
+  pub ArePlaces-more : ArePlaces after copies (place + 1)
+  ArePlaces-more =
+      record {
+        placed = λ other. λ lt. more (copy_of copies other).0
+            ∙ ⊎_elim (here other) (λ ne. before other (omega (arith, lt, ne))) (cases_eq other place);
+        known = λ reg. λ other. λ e. found reg other (nat_eq reg (copy_of copies place).0) refl (sym (more reg) ∙ e);
+      }
+    where
+      here : (other : ℕ) → other ≡ place
+          → (if nat_eq (copy_of copies other).0 (copy_of copies place).0 then Some place else map.get nat_cmp places (copy_of copies other).0)
+          ≡ Some other
+      here other e =
+          ap (λ b. if b then Some place else map.get nat_cmp places (copy_of copies other).0)
+          (eq-eqb (copy_of copies other).0 (copy_of copies place).0 (ap (λ p. (copy_of copies p).0) e)) ∙ ap (λ p. Some p) (sym e)
+
+      before : (other : ℕ) → other < place
+          → (if nat_eq (copy_of copies other).0 (copy_of copies place).0 then Some place else map.get nat_cmp places (copy_of copies other).0)
+          ≡ Some other
+      before other lt =
+          ap (λ b. if b then Some place else map.get nat_cmp places (copy_of copies other).0) (apart other lt) ∙ known.placed other lt
+
+      found : (reg other : ℕ) (b : Bool) → nat_eq reg (copy_of copies place).0 ≡ b
+          → (if b then Some place else map.get nat_cmp places reg) ≡ Some other
+          → (other < place + 1) × ((copy_of copies other).0 ≡ reg)
+      found reg other true q e =
+          let same : place ≡ other = cc in
+          (omega (arith, same), ap (λ p. (copy_of copies p).0) (sym same) ∙ sym (eqb-true reg (copy_of copies place).0 q))
+      found reg other false q e =
+          let h = known.known reg other e in
+          (omega (arith, h.0), h.1)
+
+pub count-more : (copies : List CopyOp) (index : ℕ) (d : CopyOp) → index < length copies → (reg : ℕ)
+    → count reg (sources (seen_copies (take (index + 1) copies)))
+    ≡ count reg (sources (seen_copies (take index copies))) + (if nat_eq reg (get_or copies index d).source then 1 else 0)
+count-more copies index d lt reg =
+    ap (λ l. count reg (sources (seen_copies l))) (take_more copies index d lt)
+    ∙ ap (λ l. count reg (sources l)) (map-append seen_copy (take index copies) (get_or copies index d ∷ []))
+    ∙ count-sources-append reg (seen_copies (take index copies)) (seen_copy (get_or copies index d) ∷ [])
+    ∙ omega arith
+
+pub count-le-index : (copies : List CopyOp) (index reg : ℕ) → index ≤ length copies
+    → count reg (sources (seen_copies (take index copies))) ≤ index
+count-le-index copies index reg le =
+    let most = count-le reg (sources (seen_copies (take index copies))) in
+    let long =
+    length-sources (seen_copies (take index copies)) ∙ length-map (take index copies) seen_copy ∙ length-take-le index copies le in
+    omega (arith, most, long)
+
+pub seen_copy-at : (copies : List CopyOp) (index : ℕ) (d : CopyOp) → index < length copies
+    → seen_copy (get_or copies index d) ≡ copy_of (seen_copies copies) index
+seen_copy-at copies index d lt = sym (get_or-map seen_copy copies index d (0, 0) lt)
+
+pub ready_places-more : (ready after : BTreeSet ℕ) (free : ℕ → Bool) (place : ℕ) (here : Bool) → here ≡ free place
+    → ((other : ℕ) → contains nat_cmp ready other ≡ (nat_lt other place && free other))
+    → ((other : ℕ) → contains nat_cmp after other ≡ (if nat_eq other place then here else contains nat_cmp ready other))
+    → (other : ℕ) → contains nat_cmp after other ≡ (nat_lt other (place + 1) && free other)
+ready_places-more ready after free place here is known put other =
+    put other ∙ ⊎_elim at_place elsewhere (cases_eq other place)
   where
-    at : (b : Bool) → is_in number (sources (front ++ back)) ≡ (is_in number (sources front) || is_in number (sources back))
-        → (if b then true else is_in number (sources (front ++ back))) ≡ ((if b then true else is_in number (sources front)) || is_in number (sources back))
-    at true same = refl
-    at false same = same
+    at_place : other ≡ place
+        → (if nat_eq other place then here else contains nat_cmp ready other) ≡ (nat_lt other (place + 1) && free other)
+    at_place e =
+        ap (λ b. if b then here else contains nat_cmp ready other) (eq-eqb other place e) ∙ is ∙ ap free (sym e)
+        ∙ ap (λ b. b && free other) (sym (lt-ltb other (place + 1) (omega (arith, e))))
 
-either_turn : (a b : Bool) → (a || b) ≡ (b || a)
-either_turn true true = refl
-either_turn true false = refl
-either_turn false true = refl
-either_turn false false = refl
+    elsewhere : (other ≡ place → ⊥)
+        → (if nat_eq other place then here else contains nat_cmp ready other) ≡ (nat_lt other (place + 1) && free other)
+    elsewhere ne =
+        ap (λ b. if b then here else contains nat_cmp ready other) (ne_eqb other place ne) ∙ known other
+        ∙ ap (λ b. b && free other) (let same : nat_lt other place ≡ nat_lt other (place + 1) = grind (arith, nat_tests) in same)
 
-both : (a b : Bool) → (a && b) ≡ true → (a ≡ true) × (b ≡ true)
-both true true e = (refl, refl)
-both true false e = absurd (true≢false (sym e))
-both false b e = absurd (true≢false (sym e))
+module _ (spare : ℕ) (list : WaitingCopies) (none : list.moved.keys ≡ [])
+    (all : (place : ℕ) → contains nat_cmp list.waiting place ≡ nat_lt place (length list.copies.items)) where
+  copy_at-new : (place : ℕ) → copy_at spare list place ≡ copy_of (seen_copies list.copies.items) place
+  copy_at-new place =
+      let copy = copy_of (seen_copies list.copies.items) place in
+      ap (λ keys. (copy.0, if contains nat_cmp (record { keys = keys }) copy.1 then spare else copy.1)) none
 
-not_true : (b : Bool) → not b ≡ true → b ≡ false
-not_true true e = absurd (true≢false (sym e))
-not_true false e = refl
+  pub waiting_copies-new : waiting_copies spare list ≡ seen_copies list.copies.items
+  waiting_copies-new =
+      let long = length-map list.copies.items seen_copy in
+      copies_below-take (waits list) (copy_at spare list) (seen_copies list.copies.items) (length list.copies.items) (omega (arith, long))
+      (λ place. λ lt. all place ∙ lt-ltb place (length list.copies.items) lt) (λ place. λ lt. copy_at-new place)
+      ∙ take_all (length list.copies.items) (seen_copies list.copies.items) (omega (arith, long))
 
--- a copy that does not read a register may be left out
-is_in-without : (number : ℕ) (front : Copies) (copy : ℕ × ℕ) (back : Copies) → nat_eq number copy.1 ≡ false
-    → is_in number (sources (front ++ copy ∷ back)) ≡ (is_in number (sources front) || is_in number (sources back))
-is_in-without number front copy back ne =
-    is_in-append number front (copy ∷ back)
-    ∙ ap (λ b. is_in number (sources front) || (if b then true else is_in number (sources back))) ne
+  pub AreKept-new : ArePlaces list.places (seen_copies list.copies.items) (length list.copies.items)
+      → ((reg : ℕ) → reader_count list.readers reg ≡ count reg (sources (seen_copies list.copies.items)))
+      → ((place : ℕ) → contains nat_cmp list.ready place
+      ≡ (nat_lt place (length list.copies.items)
+      && is_unread (seen_copies list.copies.items) (copy_of (seen_copies list.copies.items) place)))
+      → AreKept spare list
+  AreKept-new places readers ready =
+      record {
+        noted = record {
+          places = places;
+          within = λ place. λ e. ltb-true place (length list.copies.items) (sym (all place) ∙ e);
+          readers = λ reg. readers reg ∙ ap (λ l. count reg (sources l)) (sym waiting_copies-new);
+        };
+        ready = λ place.
+            ready place
+            ∙ ap (λ b. b && is_unread (seen_copies list.copies.items) (copy_of (seen_copies list.copies.items) place)) (sym (all place))
+            ∙ ap (λ l. waits list place && is_unread l (copy_of (seen_copies list.copies.items) place)) (sym waiting_copies-new)
+            ∙ ap (λ copy. waits list place && is_unread (waiting_copies spare list) copy) (sym (copy_at-new place));
+      }
 
-pub drop-here : (list : List Waiting) (index : ℕ) (waiting : Waiting) → index < length list → waiting ≡ get_or list index waiting
-    → drop index (waiting_copies list) ≡ seen_copy waiting.copy ∷ drop (index + 1) (waiting_copies list)
-drop-here list index waiting within is =
-    drop-map (λ w. seen_copy w.copy) index list
-    ∙ ap (λ l. waiting_copies l) (drop_more list index waiting within ∙ ap (λ w. w ∷ drop (index + 1) list) (sym is))
-    ∙ ap (λ l. seen_copy waiting.copy ∷ l) (sym (drop-map (λ w. seen_copy w.copy) (index + 1) list))
+-- ---- the next copy
 
-module _ (copies : Copies) (index : ℕ) (copy : ℕ × ℕ) (here : drop index copies ≡ copy ∷ drop (index + 1) copies)
-    (more : take (index + 1) copies ≡ take index copies ++ copy ∷ []) where
-  abbrev front : Copies
-  front = take index copies
+module _ (spare : ℕ) (list : WaitingCopies) (kept : AreKept spare list) where
+  not_ready : (place : ℕ) → waits list place ≡ true → contains nat_cmp list.ready place ≡ false
+      → is_unread (waiting_copies spare list) (copy_at spare list place) ≡ false
+  not_ready place waiting e =
+      ap (λ b. b && is_unread (waiting_copies spare list) (copy_at spare list place)) (sym waiting) ∙ sym (kept.ready place) ∙ e
 
-  abbrev back : Copies
-  back = drop (index + 1) copies
+  ready-parts : (place : ℕ) → contains nat_cmp list.ready place ≡ true
+      → (waits list place ≡ true) × (is_unread (waiting_copies spare list) (copy_at spare list place) ≡ true)
+  ready-parts place e =
+      and_parts (waits list place) (is_unread (waiting_copies spare list) (copy_at spare list place)) (sym (kept.ready place) ∙ e)
 
-  split : front ++ copy ∷ back ≡ copies
-  split = ap (λ l. front ++ l) (sym here) ∙ take-append-drop index copies
+  pub waits-ready : (place : ℕ) → contains nat_cmp list.ready place ≡ true → waits list place ≡ true
+  waits-ready place e = (ready-parts place e).0
 
-  test : unread_target front (drop index copies)
-      ≡ (if is_in copy.0 (sources front) || is_in copy.0 (sources back) then unread_target (take (index + 1) copies) back
-      else copy_between front (drop index copies))
-  test =
-      ap (λ l. unread_target front l) here
-      ∙ ap (λ b. if b then unread_target (front ++ copy ∷ []) back else Some (copy, front ++ back)) (is_in-append copy.0 front back)
-      ∙ ap (λ l. if is_in copy.0 (sources front) || is_in copy.0 (sources back) then unread_target l back else copy_between front (copy ∷ back)) (sym more)
-      ∙ ap (λ l. if is_in copy.0 (sources front) || is_in copy.0 (sources back) then unread_target (take (index + 1) copies) back else copy_between front l) (sym here)
+  pub unread_target-first : (place : ℕ) → IsFirst (contains nat_cmp list.ready) place
+      → unread_target [] (waiting_copies spare list) ≡ Some (copy_at spare list place, other_copies spare list place)
+  unread_target-first place first =
+      let here = ready-parts place first.0 in
+      unread_target-ready (waits list) (copy_at spare list) place here.0 (length list.copies.items) (kept.noted.within place here.0) here.1
+      (λ other. λ lt. λ waiting. not_ready other waiting (first.1 other lt))
 
-  pub unread_target-tested : (read : Bool) → read ≡ (is_in copy.0 (sources back) || is_in copy.0 (sources front))
-      → unread_target front (drop index copies)
-      ≡ (if read then unread_target (take (index + 1) copies) back else copy_between front (drop index copies))
-  unread_target-tested read is =
-      test ∙ ap (λ b. if b then unread_target (take (index + 1) copies) back else copy_between front (drop index copies))
-      (sym (is ∙ either_turn (is_in copy.0 (sources back)) (is_in copy.0 (sources front))))
+  pub unread_target-no_place : ((place : ℕ) → contains nat_cmp list.ready place ≡ false)
+      → unread_target [] (waiting_copies spare list) ≡ None
+  unread_target-no_place none =
+      unread_target-none (waits list) (copy_at spare list) (length list.copies.items)
+      (λ place. λ lt. λ waiting. not_ready place waiting (none place))
 
-  pub unread_target-known : (nat_eq copy.0 copy.1 ≡ false) × (is_in copy.0 (sources copies) ≡ true)
-      → unread_target front (drop index copies) ≡ unread_target (take (index + 1) copies) back
-  unread_target-known known =
-      test ∙ ap (λ b. if b then unread_target (take (index + 1) copies) back else copy_between front (drop index copies))
-      (sym (is_in-without copy.0 front copy back known.0) ∙ ap (λ l. is_in copy.0 (sources l)) split ∙ known.1)
+  pub waiting_copies-first : (place : ℕ) → IsFirst (waits list) place
+      → waiting_copies spare list ≡ copy_at spare list place ∷ other_copies spare list place
+  waiting_copies-first place first =
+      copies_below-first (waits list) (copy_at spare list) place first.0 (length list.copies.items) (kept.noted.within place first.0)
+      first.1
 
-  pub is_in-known : (read : Bool) → read ≡ (is_in copy.0 (sources back) || is_in copy.0 (sources front))
-      → (read && not (nat_eq copy.0 copy.1)) ≡ true → (nat_eq copy.0 copy.1 ≡ false) × (is_in copy.0 (sources copies) ≡ true)
-  is_in-known read is e =
-      let two = both read (not (nat_eq copy.0 copy.1)) e in
-      let ne = not_true (nat_eq copy.0 copy.1) two.1 in (
-        ne,
-        ap (λ l. is_in copy.0 (sources l)) (sym split) ∙ is_in-without copy.0 front copy back ne
-            ∙ sym (is ∙ either_turn (is_in copy.0 (sources back)) (is_in copy.0 (sources front))) ∙ two.0,
-      )
+  pub waiting_copies-none : ((place : ℕ) → waits list place ≡ false) → waiting_copies spare list ≡ []
+  waiting_copies-none none = copies_below-none (waits list) (copy_at spare list) (length list.copies.items) none
 
-  pub is_in-left : (number : ℕ) → nat_eq number copy.1 ≡ false → is_in number (sources copies) ≡ true → is_in number (sources (front ++ back)) ≡ true
-  is_in-left number ne e =
-      is_in-append number front back ∙ sym (is_in-without number front copy back ne) ∙ ap (λ l. is_in number (sources l)) split ∙ e
+seen_copies-push : (done : List CopyOp) (copy : CopyOp) (behind : Copies)
+    → seen_copies (done ++ copy ∷ []) ++ behind ≡ seen_copies done ++ seen_copy copy ∷ behind
+seen_copies-push done copy behind =
+    ap (λ l. l ++ behind) (map-append seen_copy done (copy ∷ [])) ∙ append_assoc (seen_copies done) (seen_copy copy ∷ []) behind
 
-module _ (all : Copies) where
-  AreKnown-append : (list other : List Waiting) → AreReadByOthers all list → AreReadByOthers all other → AreReadByOthers all (list ++ other)
-  AreKnown-append [] other h g = g
-  AreKnown-append (w ∷ list) other h g = (h.0, AreKnown-append list other h.1 g)
+pub next_copies-found : (spare : ℕ) (done after : List CopyOp) (copy : CopyOp) (all others : Copies) → after ≡ done ++ copy ∷ []
+    → unread_target [] all ≡ Some (seen_copy copy, others) → (onward : Copies → Copies)
+    → seen_copies after ++ onward others ≡ seen_copies done ++ next_copies spare (unread_target [] all) all onward
+next_copies-found spare done after copy all others put found onward =
+    ap (λ l. seen_copies l ++ onward others) put ∙ seen_copies-push done copy (onward others)
+    ∙ ap (λ o. seen_copies done ++ next_copies spare o all onward) (sym found)
 
-  AreKnown-take : (n : ℕ) (list : List Waiting) → AreReadByOthers all list → AreReadByOthers all (take n list)
-  AreKnown-take zero list h = tt
-  AreKnown-take (suc n) [] h = tt
-  AreKnown-take (suc n) (w ∷ list) h = (h.0, AreKnown-take n list h.1)
+pub next_copies-cycle : (spare : ℕ) (done middle after : List CopyOp) (copy : CopyOp) (all others left : Copies)
+    → middle ≡ done ++ record { target = spare; source = copy.target } ∷ [] → after ≡ middle ++ copy ∷ []
+    → all ≡ seen_copy copy ∷ others → left ≡ read_from spare copy.target others → (onward : Copies → Copies)
+    → seen_copies after ++ onward left ≡ seen_copies done ++ next_copies spare None all onward
+next_copies-cycle spare done middle after copy all others left saved put whole rest onward =
+    ap (λ l. seen_copies l ++ onward left) put ∙ seen_copies-push middle copy (onward left)
+    ∙ ap (λ l. seen_copies l ++ seen_copy copy ∷ onward left) saved
+    ∙ seen_copies-push done (record { target = spare; source = copy.target }) (seen_copy copy ∷ onward left)
+    ∙ ap (λ l. seen_copies done ++ (spare, copy.target) ∷ seen_copy copy ∷ onward l) rest
+    ∙ ap (λ l. seen_copies done ++ next_copies spare None l onward) (sym whole)
 
-  AreKnown-drop : (n : ℕ) (list : List Waiting) → AreReadByOthers all list → AreReadByOthers all (drop n list)
-  AreKnown-drop zero list h = h
-  AreKnown-drop (suc n) [] h = tt
-  AreKnown-drop (suc n) (w ∷ list) h = AreKnown-drop n list h.1
+pub next_copies-none : (spare : ℕ) (done all : Copies) → all ≡ [] → (onward : Copies → Copies) → onward [] ≡ []
+    → done ++ onward all ≡ done ++ next_copies spare (unread_target [] all) all onward
+next_copies-none spare done all none onward last =
+    ap (λ l. done ++ onward l) none ∙ ap (λ l. done ++ l) last
+    ∙ ap (λ l. done ++ next_copies spare (unread_target [] l) l onward) (sym none)
 
-  pub AreKnown-left : (n : ℕ) (list : List Waiting) → AreReadByOthers all list → AreReadByOthers all (take n list ++ drop (n + 1) list)
-  AreKnown-left n list h = AreKnown-append (take n list) (drop (n + 1) list) (AreKnown-take n list h) (AreKnown-drop (n + 1) list h)
+pub in_sequence-none : (count spare : ℕ) → in_sequence count spare [] ≡ []
+in_sequence-none zero spare = refl
+in_sequence-none (suc count) spare = refl
 
-  pub AreKnown-at : (n : ℕ) (list : List Waiting) (w : Waiting) → n < length list → AreReadByOthers all list → IsReadByOthers all (get_or list n w)
-  AreKnown-at n [] w lt h = absurd (omega (arith, lt))
-  AreKnown-at zero (v ∷ list) w lt h = h.0
-  AreKnown-at (suc n) (v ∷ list) w lt h = AreKnown-at n list w (omega (arith, lt)) h.1
-
-  pub AreKnown-set : (n : ℕ) (list : List Waiting) (w : Waiting) → IsReadByOthers all w → AreReadByOthers all list → AreReadByOthers all (set list n w)
-  AreKnown-set n [] w k h = tt
-  AreKnown-set zero (v ∷ list) w k h = (k, h.1)
-  AreKnown-set (suc n) (v ∷ list) w k h = (h.0, AreKnown-set n list w k h.1)
-
-  pub AreKnown-forgotten : (others : Copies) (reg : ℕ)
-      → ((number : ℕ) → nat_eq number reg ≡ false → is_in number (sources all) ≡ true → is_in number (sources others) ≡ true)
-      → (list : List Waiting) → AreReadByOthers all list → AreReadByOthers others (map (forgotten reg) list)
-  AreKnown-forgotten others reg on [] h = tt
-  AreKnown-forgotten others reg on (w ∷ list) h = (
-    (λ e.
-        let two = both w.is_read (not (nat_eq w.copy.target reg)) e in
-        let k = h.0 two.0 in
-        (k.0, on w.copy.target (not_true (nat_eq w.copy.target reg) two.1) k.1)),
-    AreKnown-forgotten others reg on list h.1,
-  )
-
-  pub AreKnown-renamed : (others : Copies) (other old : ℕ)
-      → ((number : ℕ) → nat_eq number old ≡ false → is_in number (sources all) ≡ true → is_in number (sources others) ≡ true)
-      → (list : List Waiting) → AreReadByOthers all list → AreReadByOthers others (map (renamed other old) list)
-  AreKnown-renamed others other old on [] h = tt
-  AreKnown-renamed others other old on (w ∷ list) h = (
-    (λ e.
-        let s = if nat_eq w.copy.source old then other else w.copy.source in
-        let two = both (w.is_read && not (nat_eq w.copy.target old)) (not (nat_eq w.copy.target s)) e in
-        let one = both w.is_read (not (nat_eq w.copy.target old)) two.0 in
-        let k = h.0 one.0 in
-        (not_true (nat_eq w.copy.target s) two.1, on w.copy.target (not_true (nat_eq w.copy.target old) one.1) k.1)),
-    AreKnown-renamed others other old on list h.1,
-  )
-
-pub waiting_copies-set : (n : ℕ) (list : List Waiting) (w v : Waiting) → n < length list → w.copy ≡ (get_or list n v).copy
-    → waiting_copies (set list n w) ≡ waiting_copies list
-waiting_copies-set n [] w v lt e = refl
-waiting_copies-set zero (u ∷ list) w v lt e = ap (λ c. seen_copy c ∷ waiting_copies list) e
-waiting_copies-set (suc n) (u ∷ list) w v lt e = ap (λ l. seen_copy u.copy ∷ l) (waiting_copies-set n list w v (omega (arith, lt)) e)
-
-pub waiting_copies-forgotten : (reg : ℕ) (list : List Waiting) → waiting_copies (map (forgotten reg) list) ≡ waiting_copies list
-waiting_copies-forgotten reg [] = refl
-waiting_copies-forgotten reg (w ∷ list) = ap (λ l. seen_copy w.copy ∷ l) (waiting_copies-forgotten reg list)
-
-pub waiting_copies-renamed : (other old : ℕ) (list : List Waiting)
-    → waiting_copies (map (renamed other old) list) ≡ read_from other old (waiting_copies list)
-waiting_copies-renamed other old [] = refl
-waiting_copies-renamed other old (w ∷ list) =
-    ap (λ l. (w.copy.target, if nat_eq w.copy.source old then other else w.copy.source) ∷ l) (waiting_copies-renamed other old list)
-
-pub is_in-read_from : (other old : ℕ) (copies : Copies) (number : ℕ) → nat_eq number old ≡ false → is_in number (sources copies) ≡ true
-    → is_in number (sources (read_from other old copies)) ≡ true
-is_in-read_from other old [] number ne e = e
-is_in-read_from other old (copy ∷ copies) number ne e =
-    at (nat_eq copy.1 old) refl (nat_eq number copy.1) refl e (λ h. is_in-read_from other old copies number ne h)
+-- the targets of the copies that count are different
+pub IsDistinct-from_apart : (list : List ℕ) → AllApart list → IsDistinct nat_eq list
+unfolding IsDistinct
+IsDistinct-from_apart [] apart = tt
+IsDistinct-from_apart (number ∷ list) apart = (at list apart.0, IsDistinct-from_apart list apart.1)
   where
-    any : (b c : Bool) → c ≡ true → (if b then true else c) ≡ true
-    any true c h = refl
-    any false c h = h
-
-    at : (b : Bool) → nat_eq copy.1 old ≡ b → (a : Bool) → nat_eq number copy.1 ≡ a → (if a then true else is_in number (sources copies)) ≡ true
-        → (is_in number (sources copies) ≡ true → is_in number (sources (read_from other old copies)) ≡ true)
-        → (if nat_eq number (if b then other else copy.1) then true else is_in number (sources (read_from other old copies))) ≡ true
-    at true p true q h again = absurd (true≢false (sym q ∙ ap (λ z. nat_eq number z) (eqb-true copy.1 old p) ∙ ne))
-    at true p false q h again = any (nat_eq number other) (is_in number (sources (read_from other old copies))) (again h)
-    at false p true q h again = ap (λ z. if z then true else is_in number (sources (read_from other old copies))) q
-    at false p false q h again = any (nat_eq number copy.1) (is_in number (sources (read_from other old copies))) (again h)
-
-module _ (list : List Waiting) (index : ℕ) where
-  pub take-here : (waiting : Waiting) → index < length list → waiting ≡ get_or list index waiting
-      → take (index + 1) (waiting_copies list) ≡ take index (waiting_copies list) ++ seen_copy waiting.copy ∷ []
-  take-here waiting within is =
-      take-map (λ w. seen_copy w.copy) (index + 1) list
-      ∙ ap (λ l. waiting_copies l) (take_more list index waiting within ∙ ap (λ v. take index list ++ v ∷ []) (sym is))
-      ∙ map-append (λ w. seen_copy w.copy) (take index list) (waiting ∷ [])
-      ∙ ap (λ l. l ++ seen_copy waiting.copy ∷ []) (sym (take-map (λ w. seen_copy w.copy) index list))
-
-  pub waiting_copies-around : (number : ℕ) → (is_in number (sources (waiting_copies (drop (index + 1) list))) || is_in number (sources (waiting_copies (take index list))))
-      ≡ (is_in number (sources (drop (index + 1) (waiting_copies list))) || is_in number (sources (take index (waiting_copies list))))
-  waiting_copies-around number =
-      ap (λ l. is_in number (sources l) || is_in number (sources (waiting_copies (take index list)))) (sym (drop-map (λ w. seen_copy w.copy) (index + 1) list))
-      ∙ ap (λ l. is_in number (sources (drop (index + 1) (waiting_copies list))) || is_in number (sources l)) (sym (take-map (λ w. seen_copy w.copy) index list))
-
-  pub waiting_copies-left : waiting_copies (take index list ++ drop (index + 1) list) ≡ take index (waiting_copies list) ++ drop (index + 1) (waiting_copies list)
-  waiting_copies-left =
-      map-append (λ w. seen_copy w.copy) (take index list) (drop (index + 1) list)
-      ∙ ap (λ l. l ++ waiting_copies (drop (index + 1) list)) (sym (take-map (λ w. seen_copy w.copy) index list))
-      ∙ ap (λ l. take index (waiting_copies list) ++ l) (sym (drop-map (λ w. seen_copy w.copy) (index + 1) list))
-
-pub same_waiting : (list : List Waiting) (index : ℕ) (one other : Waiting) → index < length list
-    → one ≡ get_or list index one → other ≡ get_or list index other → one ≡ other
-same_waiting list index one other within first second = first ∙ get_or_default list index one other within ∙ sym second
-
--- nothing is known at first
-pub waiting_copies-new : (copies : List CopyOp) → waiting_copies (map new_waiting copies) ≡ seen_copies copies
-waiting_copies-new [] = refl
-waiting_copies-new (copy ∷ copies) = ap (λ l. seen_copy copy ∷ l) (waiting_copies-new copies)
-
-pub AreKnown-new : (all : Copies) (copies : List CopyOp) → AreReadByOthers all (map new_waiting copies)
-AreKnown-new all [] = tt
-AreKnown-new all (copy ∷ copies) = ((λ e. absurd (true≢false (sym e))), AreKnown-new all copies)
-
-pub length-read_from : (other old : ℕ) (copies : Copies) → length (read_from other old copies) ≡ length copies
-length-read_from other old [] = refl
-length-read_from other old (copy ∷ copies) = ap (λ n. suc n) (length-read_from other old copies)
+    at : (others : List ℕ) → Fresh number others → AllByRecursion (λ other. nat_eq number other ≡ false) others
+    at [] fresh = tt
+    at (other ∷ others) fresh = (ne_eqb number other fresh.0, at others fresh.1)

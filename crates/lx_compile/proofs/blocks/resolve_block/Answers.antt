@@ -1,48 +1,37 @@
-use Rattle.std.proofs.Common.{refl}
-use Rattle.std.proofs.lemmas.Result.{MatchResult-weaker, err_from_is_err_and}
-use Rattle.lx_rules.specs.Blocks.{of_scanners}
-use Rattle.lx_compile.specs.Blocks.{IsRead, other_kind}
-use Rattle.lx_compile.proofs.BlockStops.{StopsAt-items, StopsAt-rules, StopsAt-tokens}
+use Rattle.std.proofs.Common.{refl, ap}
+use Rattle.std.proofs.lemmas.Result.{err_from_is_err_and}
+use Rattle.lx_compile.specs.Blocks.{asks, gives_nothing}
+use Rattle.lx_compile.specs.declared.parts.Content.TheVariants.{Asks}
+use Rattle.lx_compile.proofs.BlockStops.{HasRules-kind, has_tokens-none, is_directive-other}
 use Rattle.lx_compile.proofs.blocks.resolve_block.Goals as goal
 
-pub resolve-requires-clause-kind : goal.resolve-requires-clause-kind
-resolve-requires-clause-kind c = of_scanners
+pub resolve_rules-requires-clause-kind : goal.resolve_rules-requires-clause-kind
+resolve_rules-requires-clause-kind c = HasRules-kind c.args.kind c.in-Code.is
 
-pub returns-in_err-check_kind-clause-block : goal.returns-in_err-check_kind-clause-block
-returns-in_err-check_kind-clause-block c = λ environment represents.
+pub read_directive-requires-clause-kind : goal.read_directive-requires-clause-kind
+read_directive-requires-clause-kind c =
+    let other = c.in_default in
+    is_directive-other c.args.kind other.not-Code other.not-Rules other.not-Use other.not-Ignore other.not-Include other.not-Enter other.not-Leave
+
+pub returns-in-Code-clause-block : goal.returns-in-Code-clause-block
+returns-in-Code-clause-block c = c.resolve_rules.ensures.block
+
+pub returns-in-Ignore-clause-block : goal.returns-in-Ignore-clause-block
+returns-in-Ignore-clause-block c = λ environment represents.
+    (environment, represents, gives_nothing (has_tokens-none c.args.kind c.in-Ignore.is) refl refl)
+
+pub returns-in_err-directive-in_default-clause-block : goal.returns-in_err-directive-in_default-clause-block
+returns-in_err-directive-in_default-clause-block c = λ environment represents.
     let p = err_from_is_err_and c.from_residual.result c.from_residual.ensures.1 in
-    let refused = c.in_err-check_kind.ensures in
-    rw (p.1, p.2, refused.1) (other_kind refused.0 refl)
+    rw (p.1, p.2) (c.in_err-directive-in_default.ensures c.args.options.now environment c.args.at)
 
-pub returns-in_err-tokens-clause-block : goal.returns-in_err-tokens-clause-block
-returns-in_err-tokens-clause-block c = λ environment represents.
-    let p = err_from_is_err_and c.from_residual-in_err-tokens.result c.from_residual-in_err-tokens.ensures.1 in
-    rw (p.1, p.2)
-    (StopsAt-tokens c.args.options.now environment c.args.kind c.args.body.now c.args.at c.args.start c.in_ok-check_kind.ensures c.in_err-tokens.field-0.0 c.in_err-tokens.ensures)
-
-pub returns-in_err-tree-clause-block : goal.returns-in_err-tree-clause-block
-returns-in_err-tree-clause-block c = λ environment represents.
-    let p = err_from_is_err_and c.from_residual-in_err-tree.result c.from_residual-in_err-tree.ensures.1 in
-    rw (p.1, p.2)
-    (StopsAt-items c.args.options.now environment c.args.kind c.args.body.now c.args.at c.args.start c.in_ok-check_kind.ensures
-    c.in_ok-tokens.tokens c.in_err-tree.field-0.0 c.in_ok-tokens.ensures c.in_err-tree.ensures)
-
-pub returns-clause-formed : goal.returns-clause-formed
-returns-clause-formed c = c.resolve.ensures.well_formed (λ same. cc)
-
-pub returns-clause-block : goal.returns-clause-block
-returns-clause-block c = λ environment represents.
-    let read : IsRead c.args.body.now c.args.start c.in_ok-tokens.tokens c.in_ok-tree.tree.items =
-    record { tokens_are = c.in_ok-tokens.ensures; items_are = c.in_ok-tree.ensures } in
-    MatchResult-weaker c.resolve.result (c.resolve.ensures.resolves environment represents)
-    (λ answer resolves. (
-      resolves.0,
-      resolves.1,
-      record {
-        kind_is = c.in_ok-check_kind.ensures;
-        resolves = record { tokens = c.in_ok-tokens.tokens; items = c.in_ok-tree.tree.items; read = read; resolves = resolves.2 };
-      },
-    ))
-    (λ stopped stops.
-    StopsAt-rules c.args.options.now environment c.args.kind c.args.body.now c.args.at c.args.start c.in_ok-check_kind.ensures
-    c.in_ok-tokens.tokens c.in_ok-tree.tree.items stopped read stops)
+pub returns-in_ok-directive-in_default-clause-block : goal.returns-in_ok-directive-in_default-clause-block
+returns-in_ok-directive-in_default-clause-block c = λ environment represents.
+    let read = c.in_ok-directive-in_default.ensures in
+    let other = c.in_default in (
+      environment,
+      represents,
+      asks read.0 read.1
+          (is_directive-other c.args.kind other.not-Code other.not-Rules other.not-Use other.not-Ignore other.not-Include other.not-Enter other.not-Leave)
+          read.2 refl (ap Asks read.3),
+    )

@@ -1,19 +1,39 @@
-use Rattle.std.proofs.Common.{ap, length, arith}
-use Rattle.lx_split.proofs.Cutting.{pieces_of-cut}
-use Rattle.lx_compile.proofs.PiecePlaces.{length-cut, near-cut}
+use Rattle.std.proofs.lemmas.Result.{MatchResult-weaker, err_from_is_err_and}
+use Rattle.lx_compile.specs.FirstFault.{setting_of}
+use Rattle.lx_compile.proofs.Compilations.{IsOutputOf-parts, StopsBehind-blocks, StopsBehind-directives, StopsBehind-kernels}
+use Rattle.lx_compile.proofs.MadeRuns.{IsPrintable-made}
 use Rattle.lx_compile.proofs.compiling.output_of.Goals as goal
 
-pub resolve_blocks-requires-clause-near : goal.resolve_blocks-requires-clause-near
-resolve_blocks-requires-clause-near c =
-    let source = c.args.source.now in
-    near-cut source c.in_ok-pieces.pieces (pieces_of-cut c.args.options.now 0 source c.in_ok-pieces.pieces c.in_ok-pieces.ensures) (omega arith)
+pub returns-in_err-resolution : goal.returns-in_err-resolution
+returns-in_err-resolution c =
+    let p = err_from_is_err_and c.from_residual.result c.from_residual.ensures.1 in
+    rw (p.1, p.2) (StopsBehind-blocks c.args.options.now c.args.names.now c.args.pieces c.in_err-resolution.field-0.0 c.in_err-resolution.ensures.parts)
 
-pub emit-requires-clause-few : goal.emit-requires-clause-few
-emit-requires-clause-few c =
-    let source = c.args.source.now in
-    omega (
-      arith,
-      ap length c.as_slice.ensures,
-      c.in_ok-parts.ensures.few,
-      length-cut source c.in_ok-pieces.pieces (pieces_of-cut c.args.options.now 0 source c.in_ok-pieces.pieces c.in_ok-pieces.ensures),
-    )
+pub returns-in_err-made : goal.returns-in_err-made
+returns-in_err-made c =
+    let parts = c.in_ok-resolution.ensures.parts in
+    let p = err_from_is_err_and c.from_residual-in_err-made.result c.from_residual-in_err-made.ensures.1 in
+    rw (p.1, p.2)
+    (StopsBehind-kernels c.args.options.now c.args.names.now c.args.pieces c.in_ok-resolution.resolution.parts parts.0 parts.1
+    c.in_err-made.field-0.0 c.in_err-made.ensures)
+
+pub write-requires-clause-valid : goal.write-requires-clause-valid
+write-requires-clause-valid c =
+    let parts = c.in_ok-resolution.resolution.parts in
+    let is = rw (c.switch_themselves-own_switch.ensures, c.as_slice.ensures) at c.in_ok-made.ensures in
+    rw c.as_slice-2.ensures (IsPrintable-made (setting_of c.args.options.now c.args.names.now parts) 1 0 parts c.in_ok-made.made is.0)
+
+pub returns : goal.returns
+returns c =
+    let options = c.args.options.now in
+    let names = c.args.names.now in
+    let parts = c.in_ok-resolution.resolution.parts in
+    let made = c.in_ok-made.made in
+    let are = c.in_ok-resolution.ensures.parts in
+    let is = rw (c.switch_themselves-own_switch.ensures, c.as_slice.ensures) at c.in_ok-made.ensures in
+    let wrote = rw (c.as_slice-2.ensures, are.2) at c.write.ensures in
+    MatchResult-weaker c.write.result wrote
+    (λ output holds.
+    let output_of = IsOutputOf-parts options names c.args.pieces parts are.0 are.1 is.1 made is.0 output.items holds.0 holds.1 in
+    (made, output_of.0, output_of.1))
+    (λ stopped stops. StopsBehind-directives options names c.args.pieces parts are.0 are.1 is.1 made is.0 stopped stops)

@@ -58,8 +58,8 @@ loop-piece-preserved c =
         block.1,
         rw c.in_ok-push-in-Block.ensures.pushed
             (IsWalked-block c.args.options.now c.args.pieces rest before.0 at.parts c.in-Block.kind c.in-Block.body c.in-Block.at
-            c.in-Block.body_at c.in-Block.end_line block.0 answer.resolved walked (rw c.as_slice.ensures at block.2)
-            (answer.ensures.formed before.0 before.1 walked.stands)),
+            c.in-Block.body_at c.in-Block.end_line block.0 answer.content walked (rw c.as_slice.ensures at block.2)
+            (answer.ensures.makeable before.0 before.1 walked.stands)),
       );
       count = let was = at.invariant.count in let gone = c.in-Some.ensures.steps.1 in let short = ap length steps in omega arith;
     }
@@ -67,7 +67,10 @@ loop-piece-preserved c =
 pub returns-clause-parts : goal.returns-clause-parts
 returns-clause-parts c =
     let at = c.loop-piece in
-    let before = at.invariant.walked in
+    let last = at.invariant.walked in
     let none = c.in-None.ensures.steps in
-    let empty : into_iter_items at.piece-iterator ≡ [] = nil_from_length (into_iter_items at.piece-iterator) (sym at.invariant.count ∙ none.0) in
-    IsWalked-end c.args.options.now c.args.pieces before.0 at.parts (rw empty at before.2)
+    let empty : into_iter_items at.piece-iterator ≡ [] = nil_from_length (into_iter_items at.piece-iterator) (sym at.invariant.count ∙ none.0) in (
+      last.0,
+      IsWalked-end c.args.options.now c.args.pieces last.0 at.parts (rw empty at last.2),
+      c.in_ok-names.ensures last.0 last.1,
+    )

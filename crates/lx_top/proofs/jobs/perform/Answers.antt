@@ -1,31 +1,27 @@
-use Rattle.std.proofs.Common.{refl, sym, subst, map, string_bytes}
+use Rattle.std.proofs.Common.{[], map, refl, string_bytes, subst, sym}
 use Rattle.lx_base.specs.declared.settings.Options.{Options}
-use Rattle.lx_top.specs.Jobs.{IsPlainWhere}
+use Rattle.lx_compile.specs.Options.{IsGreedy}
 use Rattle.lx_top.proofs.CompileLemmas.{sees_any}
-use Rattle.lx_top.proofs.JobLemmas.{Cites-words, JobEnds-reason, JobEnds-words, Reason-words}
-use Rattle.lx_top.proofs.WordLemmas.{IsPlainWhere-words}
+use Rattle.lx_top.proofs.JobLemmas.{Cites-job, Cites-words, IsGreedy-words, JobEnds-reason, JobEnds-words, Reason-words}
 use Rattle.lx_top.proofs.jobs.perform.Goals as goal
 
-pub returns-in_err-options-clause-ends : goal.returns-in_err-options-clause-ends
-returns-in_err-options-clause-ends g c =
-    let any = sees_any (g.F.Files.held c.args.files.now) in (
-      any.0,
-      any.1,
-      JobEnds-reason _ _ _ _ _ _ _ c.from_residual.result _ c.from_residual.ensures.1
-          (Reason-words (map string_bytes c.args.words.now) any.0 _ _ c.in_err-options.ensures) (refl, refl),
-    )
-
-pub returns-in_err-options-clause-cites : goal.returns-in_err-options-clause-cites
-returns-in_err-options-clause-cites g c =
-    Cites-words (map string_bytes c.args.words.now) c.args.names.now c.from_residual.result _ c.from_residual.ensures.1 c.in_err-options.ensures c.requires
-
-pub perform_job-requires-clause-plain : goal.perform_job-requires-clause-plain
-perform_job-requires-clause-plain g c =
+pub returns-in_err-options : goal.returns-in_err-options
+returns-in_err-options g c =
     let words = map string_bytes c.args.words.now in
-    subst (λ (options : Options). IsPlainWhere options.job options) (sym c.in_ok-options.ensures.1) (IsPlainWhere-words words c.in_ok-options.ensures.0)
+    let any = sees_any (g.F.Files.held c.args.files.now) in
+    let ends = JobEnds-reason _ _ _ _ _ _ _ c.from_residual.result _ c.from_residual.ensures.1 (Reason-words words any.0 [] _ _ c.in_err-options.ensures) (refl, refl) in
+    record { ends = (any.0, [], any.1, ends, Cites-words words c.args.names.now any.0 c.from_residual.result _ c.from_residual.ensures.1 c.in_err-options.ensures c.requires) }
 
-pub returns-clause-ends : goal.returns-clause-ends
-returns-clause-ends g c =
+pub perform_job-requires-clause-greedy : goal.perform_job-requires-clause-greedy
+perform_job-requires-clause-greedy g c =
     let words = map string_bytes c.args.words.now in
-    let ends = c.perform_job.ensures.ends in
-    (ends.0, ends.1, JobEnds-words words ends.0 c.in_ok-options.options _ _ _ _ c.perform_job.result c.in_ok-options.ensures.0 c.in_ok-options.ensures.1 ends.2)
+    subst (λ (options : Options). IsGreedy options) (sym c.in_ok-options.ensures.1) (IsGreedy-words words)
+
+pub returns : goal.returns
+returns g c =
+    let words = map string_bytes c.args.words.now in
+    let ended = c.perform_job.ensures.ends in
+    let none = c.in_ok-options.ensures.0 in
+    let same = c.in_ok-options.ensures.1 in
+    let ends = JobEnds-words words ended.0 ended.1 c.in_ok-options.options _ _ _ _ c.perform_job.result none same ended.3 in
+    record { ends = (ended.0, ended.1, ended.2, ends, Cites-job words _ ended.0 c.in_ok-options.options c.perform_job.result none same ended.4) }

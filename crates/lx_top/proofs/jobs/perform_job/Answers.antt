@@ -1,32 +1,49 @@
-use Rattle.std.proofs.Common.{refl, sym, subst, Some, None}
-use Rattle.lx_base.specs.declared.faults.Fault.TheVariants.{Unsupported}
-use Rattle.lx_top.specs.FirstFault.{IsFaultOf}
+use Rattle.std.proofs.Common.{[], refl}
+use Rattle.lx_top.specs.Jobs.{names_of}
+use Rattle.lx_top.specs.Steps.{Cites}
+use Rattle.lx_top.specs.declared.endings.Halt.TheVariants as halt
 use Rattle.lx_top.proofs.CompileLemmas.{sees_any}
-use Rattle.lx_top.proofs.EmittedLemmas.{JobEnds-asked}
-use Rattle.lx_top.proofs.JobLemmas.{JobEnds-reason}
+use Rattle.lx_top.proofs.EmittedLemmas.{Cites-asked, JobEnds-asked, names-two}
+use Rattle.lx_top.proofs.GeneratedEnds.{Cites-generated, JobEnds-generated}
+use Rattle.lx_top.proofs.JobLemmas.{IfErr-residual, JobEnds-reason}
 use Rattle.lx_top.proofs.jobs.perform_job.Goals as goal
 
-pub returns-in_err-add-in-Compile-clause-ends : goal.returns-in_err-add-in-Compile-clause-ends
-returns-in_err-add-in-Compile-clause-ends g c =
+pub returns-in_err-add-in-Run : goal.returns-in_err-add-in-Run
+returns-in_err-add-in-Run g c =
     let any = sees_any (g.F.Files.held c.args.files.now) in
-    (any.0, any.1, JobEnds-reason _ _ _ _ _ _ _ c.from_residual.result _ c.from_residual.ensures.1 tt (refl, refl))
+    let ends = JobEnds-reason _ _ _ _ _ _ _ c.from_residual.result halt.OutOfMemory c.from_residual.ensures.1 tt (refl, refl) in
+    record { ends = (any.0, [], any.1, ends, IfErr-residual c.from_residual.result halt.OutOfMemory (Cites (names_of c.args.options.now c.args.options.now.job any.0) c.add.new.self) c.from_residual.ensures.1 tt) }
 
-pub returns-in-Source-clause-ends : goal.returns-in-Source-clause-ends
-returns-in-Source-clause-ends g c =
+pub returns-in_err-add-in-Run-2 : goal.returns-in_err-add-in-Run-2
+returns-in_err-add-in-Run-2 g c =
     let any = sees_any (g.F.Files.held c.args.files.now) in
-    (any.0, any.1, (subst (λ job. IsFaultOf c.args.options.now job any.0 (Some (Unsupported None))) (sym c.in-Source.is) refl, (refl, refl)))
+    let stopped = c.from_residual-in_err-add-in-Run-2.result in
+    let is = c.from_residual-in_err-add-in-Run-2.ensures.1 in
+    let ends = JobEnds-reason _ _ _ _ _ _ _ stopped halt.OutOfMemory is tt (refl, refl) in
+    record { ends = (any.0, [], any.1, ends, IfErr-residual stopped halt.OutOfMemory (Cites (names_of c.args.options.now c.args.options.now.job any.0) c.add-in-Run.new.self) is tt) }
 
-pub returns-in_err-add-in-Run-clause-ends : goal.returns-in_err-add-in-Run-clause-ends
-returns-in_err-add-in-Run-clause-ends g c =
+pub returns-in_ok-add-in-Run-2 : goal.returns-in_ok-add-in-Run-2
+returns-in_ok-add-in-Run-2 g c =
+    let ran = c.run_emitted.ensures.ends in
+    let job = c.args.options.now.job in
+    let ends = JobEnds-asked c.args.options.now job _ _ _ _ _ _ _ ran.0 [] _ _ _ _ c.run_emitted.result c.in-Run.is c.as_str-in-Run-2.ensures c.as_str-in-Run-3.ensures ran.2 in
+    let names = names-two c.args.names.now c.add.new.self c.add-in-Run.new.self _ _ c.in-Run.emitted c.in-Run.input c.requires.names
+    c.in_ok-add-in-Run.ensures.added.1 c.in_ok-add-in-Run-2.ensures.added.1 c.as_str.ensures c.as_str-in-Run.ensures in
+    record {
+      ends = (
+        ran.0,
+        [],
+        ran.1,
+        ends,
+        Cites-asked c.args.options.now job _ _ _ _ _ _ _ ran.0 c.add-in-Run.new.self c.run_emitted.result c.in-Run.is c.as_str-in-Run-2.ensures c.as_str-in-Run-3.ensures names
+            c.run_emitted.ensures.placed,
+      );
+    }
+
+pub returns-in-Source : goal.returns-in-Source
+returns-in-Source g c =
     let any = sees_any (g.F.Files.held c.args.files.now) in
-    (any.0, any.1, JobEnds-reason _ _ _ _ _ _ _ c.from_residual-in_err-add-in-Run.result _ c.from_residual-in_err-add-in-Run.ensures.1 tt (refl, refl))
-
-pub returns-in_err-add-in-Run-2-clause-ends : goal.returns-in_err-add-in-Run-2-clause-ends
-returns-in_err-add-in-Run-2-clause-ends g c =
-    let any = sees_any (g.F.Files.held c.args.files.now) in
-    (any.0, any.1, JobEnds-reason _ _ _ _ _ _ _ c.from_residual-in_err-add-in-Run-2.result _ c.from_residual-in_err-add-in-Run-2.ensures.1 tt (refl, refl))
-
-pub returns-in_ok-add-in-Run-2-clause-ends : goal.returns-in_ok-add-in-Run-2-clause-ends
-returns-in_ok-add-in-Run-2-clause-ends g c =
-    let ends = c.run_emitted.ensures.ends in
-    (ends.0, ends.1, JobEnds-asked c.args.options.now c.args.options.now.job _ _ _ _ _ _ _ ends.0 _ _ _ _ c.run_emitted.result c.in-Run.is c.as_str-in-Run-3.ensures c.as_str-in-Run-4.ensures ends.2)
+    let ran = c.run_source.ensures.ends in
+    let job = c.args.options.now.job in
+    let ends = JobEnds-generated c.args.options.now job _ _ _ any.0 ran.0 _ _ _ _ c.run_source.result c.in-Source.is c.as_str-in-Source.ensures ran.1 in
+    record { ends = (any.0, ran.0, any.1, ends, Cites-generated c.args.options.now job _ _ any.0 c.run_source.new.names c.run_source.result c.in-Source.is ran.2) }

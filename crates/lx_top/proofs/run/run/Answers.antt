@@ -5,9 +5,9 @@ use Rattle.lx_top.proofs.run.run.Goals as goal
 pub returns : goal.returns
 returns g c =
     let ended = c.in-Err.ensures.ends in
-    record { ends = EndsSo-broken (map string_bytes c.args.words.now) ended.0 _ _ c.perform.new.names c.in-Err.halt c.report.result ended.1 ended.2 c.in-Err.ensures.cites c.report.ensures }
+    record { ends = EndsSo-broken (map string_bytes c.args.words.now) ended.0 ended.1 _ _ c.perform.new.names c.in-Err.halt c.report.result ended.2 ended.3 ended.4 c.report.ensures }
 
 pub returns-in-Ok : goal.returns-in-Ok
 returns-in-Ok g c =
     let ended = c.in-Ok.ensures.ends in
-    record { ends = EndsSo-done (map string_bytes c.args.words.now) ended.0 _ _ ended.1 ended.2 refl }
+    record { ends = EndsSo-done (map string_bytes c.args.words.now) ended.0 ended.1 _ _ ended.2 ended.3 refl }

@@ -1,0 +1,8 @@
+use Rattle.std.proofs.Common.{◌≡◌, drop}
+use Rattle.std.specs.List.{list_any}
+use Rattle.lx_compile.specs.Facts.{spells_first}
+use Rattle.lx_compile.specs.Making.{seen_pieces}
+use Rattle.lx_compile.proofs.facts.has_first.Given as goal
+
+abbrev pub invariant-loop-piece : goal.invariant-loop-piece
+invariant-loop-piece l = list_any spells_first (seen_pieces (drop l.piece-index l.pieces)) ≡ list_any spells_first (seen_pieces l.pieces)

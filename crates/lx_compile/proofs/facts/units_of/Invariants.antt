@@ -1,0 +1,6 @@
+use Rattle.std.proofs.Common.{◌≡◌, ◌≤◌, drop, max}
+use Rattle.lx_compile.specs.Facts.{units_of}
+use Rattle.lx_compile.proofs.facts.units_of.Given as goal
+
+abbrev pub invariant-loop-one : goal.invariant-loop-one
+invariant-loop-one l = record { most : max l.most (units_of (drop l.one-index l.made)) ≡ units_of l.made; positive : 1 ≤ l.most }

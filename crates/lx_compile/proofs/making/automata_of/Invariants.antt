@@ -1,0 +1,6 @@
+use Rattle.std.proofs.Common.{drop}
+use Rattle.lx_compile.proofs.ScannerRuns.{HaveAutos}
+use Rattle.lx_compile.proofs.making.automata_of.Given as goal
+
+abbrev pub invariant-loop-scanner : goal.invariant-loop-scanner
+invariant-loop-scanner l = HaveAutos l.enc l.scanners (drop l.scanner-index l.scanners) l.autos

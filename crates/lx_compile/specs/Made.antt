@@ -1,0 +1,54 @@
+-- What is made of the parts of a source: the pieces of scanners, before the text of any directive.
+use Rattle.std.specs.Prelude.{◌≡◌, ℕ, suc, ◌+◌, Bool, List, [], ◌∷◌, Option, Some, None, slice_index_or, if◌then◌else◌}
+use Rattle.lx_auto.specs.declared.automaton.Auto.{Auto}
+use Rattle.lx_base.specs.declared.places.Pos.{Pos}
+use Rattle.lx_base.specs.declared.settings.Options.{Options}
+use Rattle.lx_ccode.specs.Counts.{state_count}
+use Rattle.lx_ccode.specs.declared.piece.LineMark.{LineMark}
+use Rattle.lx_ccode.specs.declared.piece.Piece.{Piece}
+use Rattle.lx_gen.specs.Generated.{AreAutomataUnder, AreRightUnder, IsGenerated, marks_of}
+use Rattle.lx_regex.specs.Order.{greedy}
+use Rattle.lx_rules.specs.declared.resolved.Resolved.{Resolved}
+use Rattle.lx_compile.specs.declared.made.Made.{Made}
+use Rattle.lx_compile.specs.declared.made.Made.TheVariants as made
+use Rattle.lx_compile.specs.declared.parts.Content.{Content}
+use Rattle.lx_compile.specs.declared.parts.Content.TheVariants.{Asks, Scanners}
+use Rattle.lx_compile.specs.declared.parts.Part.{Part}
+use Rattle.lx_compile.specs.declared.parts.Part.TheVariants.{Outside, Block}
+
+-- what holds for all pieces of an output: the options, the names of the files met, and whether pieces switch over their states themselves
+pub record Setting : Type 0 where
+  pub options : Options
+  pub names : List (List ℕ)
+  pub own_switch : Bool
+
+-- the line of a place's file that is told behind a piece, where lines are told
+abbrev pub line_mark : Setting → Pos → (line : ℕ) → Option LineMark
+line_mark setting at line =
+    if setting.options.lines then Some (record { line = line; file = slice_index_or setting.names at.file [] }) else None
+
+-- The piece with this number of a block's scanners, whose states are numbered from a first one on, and the checks of its automata: it
+-- carries these automata, and each scanner is right, by the leftmost greedy trees.
+pub record IsScannerPiece (setting : Setting) (number first_state : ℕ) (line : Option LineMark) (resolved : Resolved) (piece : Piece) (checks : List (List ℕ)) : Type 0 where
+  pub autos : List Auto
+  pub automata : AreAutomataUnder greedy setting.options.enc resolved.scanners autos checks
+  pub generated : IsGenerated setting.options resolved autos checks setting.names number first_state setting.own_switch line piece
+  pub right : AreRightUnder greedy setting.options (marks_of line setting.names) resolved piece
+
+-- This is made of what a block gives, whose opener stands at a place and whose end in a line, where the piece has this number and its states are
+-- numbered from a first one on; behind it they are from `next` on.
+abbrev pub IsMadeOf : Setting → (number first_state next : ℕ) → Pos → (line : ℕ) → Content → Made → Type 0
+IsMadeOf setting number first_state next at line (Scanners resolved) (made.Scanners piece checks) =
+    IsScannerPiece setting number first_state (line_mark setting at line) resolved piece checks × (next ≡ first_state + state_count piece.blocks)
+IsMadeOf setting number first_state next at line (Asks directive) (made.Bare place mark other) =
+    (place ≡ at) × (mark ≡ line_mark setting at line) × (other ≡ directive) × (next ≡ first_state)
+IsMadeOf setting number first_state next at line content one = ⊥
+
+-- of the parts of a source this is made, where the pieces in the places of the blocks are numbered from here on, and so are the states
+abbrev pub AreMade : Setting → (number first_state : ℕ) → List Part → List Made → Type 0
+AreMade setting number first_state [] [] = Unit {0}
+AreMade setting number first_state (Outside text ∷ parts) (made.Outside other ∷ all) =
+    (other ≡ text) × AreMade setting number first_state parts all
+AreMade setting number first_state (Block at line content ∷ parts) (one ∷ all) =
+    (next : ℕ) × IsMadeOf setting number first_state next at line content one × AreMade setting (suc number) next parts all
+AreMade setting number first_state parts all = ⊥

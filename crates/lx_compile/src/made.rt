@@ -1,0 +1,26 @@
+//! What is made of the parts of a source, before the text of any directive.
+use crate::parts::Directive;
+use lx_base::{ByteText, Pos, Sequence};
+use lx_ccode::{LineMark, Piece};
+use lx_fill::CheckList;
+
+/// What is made of a part of a source.
+#[derive(Drop)]
+pub enum Made {
+    /// Text outside of blocks.
+    Outside(ByteText),
+    /// The piece of a block's scanners.
+    Scanners {
+        piece: Piece,
+        /// The checks of the automaton of each scanner.
+        checks: Sequence<CheckList>,
+    },
+    /// A block without scanners.
+    Bare {
+        /// The place of its opener.
+        at: Pos,
+        /// The line behind it, where lines are told.
+        line: Option<LineMark>,
+        directive: Directive,
+    },
+}

@@ -1,0 +1,139 @@
+//! Generated sources: their text, their compilation, and a run of their scanner.
+ghost use Rattle.std.specs.Prelude.{◌≡◌, ℕ, ◌%◌, [], ◌∷◌, List, Some, None, IfErr, IfOk, MatchResult, length};
+ghost use Rattle.lx_compile.specs.declared.made.Made.{Made};
+ghost use Rattle.lx_run.specs.Texts.{run_text};
+ghost use Rattle.lx_split.specs.Includes.{expansion};
+ghost use Rattle.lx_top.specs.Outside.{files_view, sink_view};
+ghost use Rattle.lx_top.specs.Sources.{IsSourceFault, IsSourceOutput, IsSourceText, source_files, source_name, source_options, source_text, words_of};
+ghost use Rattle.lx_top.specs.Steps.{Cites, CompilesSource, HaltsScan, IsPlacedHalt, JobEnds};
+ghost use Rattle.lx_top.specs.Emitted.{Scans};
+ghost use Rattle.lx_ccode.specs.Validity.{IsValid};
+
+use crate::delivery::deliver;
+use crate::emitted::{MOST_BYTES, read_scanner};
+use crate::endings::Halt;
+use crate::summary::summary;
+use lx_base::{
+    EmptyPolicy, Enc, FileName, FileNames, Job, Memory, Options, SurPolicy, append_parts,
+};
+use lx_ccode::Piece;
+use lx_files::{Files, QuietFiles, QuietSink, Sink};
+use lx_run::run_whole;
+use std::alloc::Global;
+
+/// The name under which a generated source is compiled.
+const SOURCE_NAME: &str = "source.re";
+
+/// The source of so many rules: a word and its number, once to three times, and a numeral each.
+fn source_text(alloc: Global, rules: u32) -> Result<Vec<u8>, Memory>
+    ensures { IfOk result (λ text. text.items ≡ source_text rules) }
+{
+    let mut text = Vec::new(alloc);
+    text.extend_from_slice(b"/*!re2c\nre2c:yyfill:enable = 0;\n")?;
+    for number in 1..u64::from(rules) + 1 {
+        let number = format!(in alloc; "{number}")?;
+        append_parts(
+            &mut text,
+            &[b"\"w", number.as_bytes(), b"x\"{1,3} [0-9]+ { }\n"],
+        )?;
+    }
+    text.extend_from_slice(b"* { }\n*/\n")?;
+    Ok(text)
+}
+
+/// The words that its scanner is run over, one of each rule.
+fn words_of(alloc: Global, rules: u32) -> Result<Vec<u8>, Memory>
+    ensures { IfOk result (λ text. text.items ≡ words_of rules) }
+{
+    let mut text = Vec::new(alloc);
+    for number in 1..u64::from(rules) + 1 {
+        let number = format!(in alloc; "{number}")?;
+        append_parts(&mut text, &[b"w", number.as_bytes(), b"x7"])?;
+    }
+    Ok(text)
+}
+
+/// What a generated source is compiled with: no line marks, and else what a command line asks for that names it alone.
+fn source_options(alloc: Global) -> Result<Options, Memory>
+    ensures { IfOk result (λ options. options ≡ source_options) }
+{
+    let file = FileName::from_string(String::from_str(alloc, SOURCE_NAME)?);
+    Ok(Options {
+        job: Job::Compile { file, to: None },
+        lines: false,
+        conds: false,
+        states: false,
+        tags: false,
+        captures: false,
+        posix: false,
+        custom: false,
+        enc: Enc::Byte,
+        surrogates: SurPolicy::Ignore,
+        empty: EmptyPolicy::MatchEmpty,
+        dir: None,
+    })
+}
+
+/// The output of a generated source.
+fn source_output(alloc: Global, source: &[u8], names: &mut FileNames) -> Result<Vec<u8>, Halt>
+    requires names { names.old ≡ [] }
+    ensures compiles { (rules : ℕ) → source.now ≡ source_text rules → CompilesSource rules names.new result }
+{
+    let mut files = QuietFiles::new(alloc);
+    files.add(SOURCE_NAME, source)?;
+    let options = source_options(alloc)?;
+    let output = lx_compile::compile(alloc, &mut files, names, &options, SOURCE_NAME)?;
+    Ok(output)
+}
+
+/// The first scanner of an output.
+fn scanner_of(alloc: Global, output: &[u8]) -> Result<Piece, Halt>
+    ensures scans { MatchResult result (Scans output.now None) (HaltsScan output.now None) }
+    ensures units { (made : List Made) (rules : ℕ) → IsSourceOutput rules made output.now → IfOk result (λ piece. piece.unit ≡ 1) }
+    ensures placed { (name : List ℕ) (names : List (List ℕ)) → IfErr result (IsPlacedHalt (name ∷ names)) }
+{
+    if output.len() > MOST_BYTES {
+        return Err(Halt::OutOfMemory);
+    }
+    read_scanner(alloc, output, None)
+}
+
+/// The lines of a run of a scanner over an input.
+fn run_of(alloc: Global, piece: &Piece, input: &[u8]) -> Result<Vec<u8>, Memory>
+    requires valid { IsValid piece.now }
+    requires whole { length input.now % piece.now.unit ≡ 0 }
+    ensures { IfOk result (λ text. text.items ≡ run_text piece.now input.now) }
+{
+    let mut sink = QuietSink::new(alloc);
+    match run_whole(alloc, piece, input, &mut sink) {
+        Ok(()) => Ok(Vec::from_slice(alloc, sink.bytes())?),
+        Err(_) => Err(Memory),
+    }
+}
+
+/// Generates the source of so many rules, compiles it, and runs its scanner over a word of each rule. Its output is given to the file, and what
+/// is told of the run to the standard output.
+pub(crate) fn run_source<F: Files, O: Sink>(
+    alloc: Global,
+    rules: u32,
+    target: &str,
+    files: &mut F,
+    out: &mut O,
+    names: &mut FileNames,
+) -> Result<(), Halt>
+    requires names { names.old ≡ [] }
+    ensures ends { let files_before = files_view (F.held files.old) (F.faults files.old) (F.write_faults files.old) in
+        let files_after = files_view (F.held files.new) (F.faults files.new) (F.write_faults files.new) in
+        let before = sink_view (O.given out.old) (O.faults out.old) in
+        let after = sink_view (O.given out.new) (O.faults out.new) in
+        (made : List Made)
+        × JobEnds (IsSourceFault rules made) (Some target.now) (λ bytes text. IsSourceOutput rules made bytes × IsSourceText rules bytes text) files_before files_after before after result
+        × IfErr result (Cites (expansion source_options (source_files rules) source_name).met.names names.new) }
+{
+    let source = source_text(alloc, rules)?;
+    let output = source_output(alloc, &source, names)?;
+    let piece = scanner_of(alloc, &output)?;
+    let run = run_of(alloc, &piece, &words_of(alloc, rules)?)?;
+    let text = summary(alloc, source.len(), &run)?;
+    deliver(files, out, Some(target), &output, &text)
+}
