@@ -9,3 +9,4 @@ mod parsing;
 mod splitting;
 mod tokens;
 mod units;
+mod windows;
