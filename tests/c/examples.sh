@@ -39,3 +39,11 @@ prints numbers "decimal:0-1 comma:1-3 hexadecimal:3-7 comma:7-8 octal:8-11 comma
 name:0-2 sign:2-3 fraction:3-6 sign:6-7 hexadecimal:7-11 sign:11-12 octal:12-13 decimal:13-14 end:14-15"
 prints names_in_utf_8 "0-9 14-19 20-24 33-37" -8
 prints without_buffer "word:0-4 fraction:5-8 word:9-11 number:12-14 other:14-15 end:15-15" --input custom
+prints log_lines "address:0-9 identity:10-11 user:12-15 day:17-19 month:20-23 year:24-28 time:29-37 zone:38-43 method:46-49 path:50-56 \
+query:- version:62-65 status:67-70 size:71-75 referrer:- agent:- address:76-79 identity:80-81 user:82-83 day:85-87 month:88-91 \
+year:92-96 time:97-105 zone:106-111 method:114-117 path:118-123 query:124-135 version:141-144 status:146-149 size:- referrer:153-172 \
+agent:175-185 fault:187-229" -T
+prints uris "scheme:0-3 authority:6-22 name:6-17 port:18-22 path:22-33 query:34-45 fragment:46-50 scheme:51-55 authority:58-71 \
+literal:58-71 path:71-76 query:77-84 scheme:85-91 authority:94-112 userinfo:94-100 ipv4:101-111 port:112-112 path:112-113 \
+scheme:114-117 authority:120-131 name:120-131 path:131-131 scheme:132-136 absolute:137-147 fragment:148-148 scheme:149-152 \
+rootless:153-166 scheme:167-172 query:174-174 fault:175-191" -T

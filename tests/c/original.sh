@@ -72,3 +72,5 @@ compare pushed -f -f 's/^#define YYSETSTATE.*/#define YYSETSTATE(number) lexer->
 compare numbers '' -r
 compare names_in_utf_8 -8 -8
 compare without_buffer '--input custom' '--input custom'
+compare log_lines -T -T
+compare uris -T -T
