@@ -10,10 +10,10 @@
 # - eight tags before 1,446 letters, with 1,047,629 of the 1,048,576 places that a scanner may have: under 60 s and 2 GiB of memory.
 #
 # The operations and registers of the original are counted as ours are: each `yytN = ` is one, also where several stand in a line. Its
-# tags at a fixed distance from others take no register. Seconds are those of the processor, and memory is the peak that is resident.
-# The bytes under a compiler's name are those that `size` calls text. A compiler has 60 s and 4 GiB, and the original 120 s; `-` stands
-# where that is not enough. Scanning is measured five times, in turns, and the best counts; what all scanners of a source give has to be
-# the same.
+# tags at a fixed distance from others take no register; a row tells what it has without that. Seconds are those of the processor, and
+# memory is the peak that is resident. The bytes under a compiler's name are those that `size` calls text. A compiler has 60 s and 4 GiB,
+# and the original 120 s; `-` stands where that is not enough. Scanning is measured five times, in turns, and the best counts; what all
+# scanners of a source give has to be the same.
 #
 # Usage: bench/tags.sh, from anywhere; RE2C names the program (that of bin/re2c where it is unset), and ORIGINAL the original (re2c where
 # it is unset).
@@ -140,7 +140,8 @@ TURNS = 5
 EXAMPLES = ('dates', 'log_lines', 'uris')
 OPERATION = re.compile(rb'\b(yytm?[0-9]+) = |\bYYMTAG[PN] ?\((yytm[0-9]+)\)')
 BLOCK = re.compile(rb'/\*![a-z]*:?re2c\b.*?\*/', re.DOTALL)
-OURS, THEIRS, PLAIN = 'this re2c', 'the original', 'the same with --no-optimize-tags'
+OURS, THEIRS = 'this re2c', 'the original'
+PLAIN, LOOSE = 'the same with --no-optimize-tags', 'the same with --fixed-tags none'
 
 
 def sources():
@@ -362,7 +363,7 @@ def main():
         version = subprocess.run([original, '--version'], stdout=subprocess.PIPE, check=True, text=True).stdout.strip()
         print(f'the original is {version}\n')
         words = [original, '-i', '-T', '--no-version', '--no-generation-date']
-        makers |= {THEIRS: (120, words), PLAIN: (120, words + ['--no-optimize-tags'])}
+        makers |= {THEIRS: (120, words), PLAIN: (120, words + ['--no-optimize-tags']), LOOSE: (120, words + ['--fixed-tags', 'none'])}
     else:
         print('the original is not installed: nothing is compared with it\n')
     for name, source in sources().items():

@@ -1,9 +1,12 @@
--- Examples of runs.
-use Rattle.std.specs.Prelude.{◌≡◌, ℕ, [], ◌∷◌, List, Option, Some, None, option_map}
+-- Examples of runs, of lists, and of what is live.
+use Rattle.std.specs.Prelude.{◌≡◌, ℕ, [], ◌∷◌, List, Option, Some, None, true, false, option_map}
 use Rattle.lx_auto.specs.declared.automaton.Auto.{Auto}
-use Rattle.lx_auto.specs.declared.automaton.Held.TheVariants.{Reg}
+use Rattle.lx_auto.specs.declared.automaton.Held.TheVariants.{Reg, MReg}
 use Rattle.lx_auto.specs.declared.ops.Op.TheVariants.{Here, MHere, MNull, MCopy, Copy}
 use Rattle.lx_auto.specs.Bank.{Bank, bank_after, single}
+use Rattle.lx_auto.specs.Effects.{here, history_of, effect_of, effect_of_both, is_overwritten}
+use Rattle.lx_auto.specs.Live.{IsLive}
+use Rattle.lx_auto.specs.Points.{first_point}
 use Rattle.lx_auto.specs.Run.{Found, at_start, found_behind, run}
 
 -- an automaton of the rule `[a-cx-z] ("." [a-cx-z])* @t` with the number 1, for bytes; register 0 holds t
@@ -44,3 +47,18 @@ pub record ListsActAtOnce : Type 0 where
   pub read_before : (bank_after 9 (Here 1 ∷ Copy 2 1 ∷ []) worked_bank).regs 2 ≡ Some 4
   pub last_counts : (bank_after 9 (Here 1 ∷ Copy 1 2 ∷ []) worked_bank).regs 1 ≡ None
   pub marks_follow : (bank_after 9 (MHere 2 ∷ MCopy 2 1 ∷ MNull 2 ∷ []) worked_bank).mregs 2 ≡ Some 3 ∷ Some 9 ∷ None ∷ []
+
+-- what lists do, whatever registers hold: the last write counts, marks follow a copy, and of two lists the second reads what the
+-- first left; what an operation did is taken away by a later write, and marks by none
+pub record ListsHaveEffects : Type 0 where
+  pub last_counts : effect_of (Copy 1 0 ∷ Here 1 ∷ []) (Reg 1) ≡ here
+  pub marks_follow : effect_of (MHere 2 ∷ MCopy 2 1 ∷ MNull 2 ∷ []) (MReg 2) ≡ history_of 1 (true ∷ false ∷ [])
+  pub upon_another : effect_of_both (Here 0 ∷ []) (Copy 1 0 ∷ []) (Reg 1) ≡ here
+  pub taken_away : is_overwritten (Copy 1 0) (Here 1 ∷ []) ≡ true
+  pub marks_stay : is_overwritten (MHere 2) (MCopy 2 1 ∷ []) ≡ false
+
+-- In the automaton above a fallback from state 0 reads register 0 where state 1 was left. Where a match begins no state was left, and
+-- register 0 is written before any walk reads it.
+pub record LiveInDotted : Type 0 where
+  pub after_dot : IsLive dotted (record { state = 0; left = Some 1 }) (Reg 0)
+  pub at_first : IsLive dotted first_point (Reg 0) → ⊥

@@ -1,5 +1,12 @@
 pub mod Automaton
 pub mod Bank
+pub mod Effects
 pub mod Examples
+pub mod Live
+pub mod MetStates
+pub mod Points
 pub mod Run
 pub mod SameRun
+pub mod Shapes
+pub mod ToldApart
+pub mod Translations

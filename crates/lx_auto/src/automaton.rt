@@ -19,7 +19,7 @@ pub struct Edge {
 }
 
 /// What holds the value of a tag.
-#[derive(Clone, Copy, PartialEq, Eq)]
+#[derive(Clone, Copy, PartialEq, Eq, Hash)]
 pub enum Held {
     /// The register with this number.
     Reg(u32),

@@ -11,13 +11,12 @@ use Rattle.lx_base.specs.declared.settings.Enc.{Enc}
 use Rattle.lx_gen.specs.Generated.{AreAutomata, AreAutomataUnder}
 use Rattle.lx_fill.specs.Checks.{AreChecks}
 use Rattle.lx_regex.specs.Order.{greedy}
-use Rattle.lx_regex.specs.Pattern.{patterns_of}
 use Rattle.lx_rules.specs.Within.{IsScannerWithin}
 use Rattle.lx_rules.specs.declared.resolved.Scanner.{Scanner}
 use Rattle.lx_tdfa.specs.Making.{StopsBy}
-use Rattle.lx_tdfa.specs.Promise.{IsAutoOf}
-use Rattle.lx_compile.specs.Emittable.{AreAutosOf, AreChecksOf}
+use Rattle.lx_compile.specs.Emittable.{AreAutosOf, AreChecksOf, IsMadeFor}
 use Rattle.lx_compile.specs.Parts.{HasTooLarge, IsTooLarge}
+use Rattle.lx_compile.specs.Reduced.{IsReduced}
 
 -- the element at a place is the first one of those from there on
 pub elements_from : {A : Type 0} (elements : List A) (i : ℕ) (element : A) → i < length elements → element ≡ get_or elements i element
@@ -38,7 +37,7 @@ pub HaveAutos-start : (enc : Enc) (scanners : List Scanner) → AllByRecursion (
 HaveAutos-start enc scanners within = record { within = within; continues = λ more are. are; small = λ small. small; large = λ large. large }
 
 pub HaveAutos-next : (enc : Enc) (scanners : List Scanner) (scanner : Scanner) (rest : List Scanner) (autos : List Auto) (auto : Auto)
-    → HaveAutos enc scanners (scanner ∷ rest) autos → IsAutoOf enc (patterns_of scanner.set.rules) auto → (IsTooLarge enc scanner → ⊥)
+    → HaveAutos enc scanners (scanner ∷ rest) autos → IsMadeFor enc scanner auto → (IsTooLarge enc scanner → ⊥)
     → HaveAutos enc scanners rest (autos ++ auto ∷ [])
 HaveAutos-next enc scanners scanner rest autos auto have is small = record {
   within = have.within.1;
@@ -65,7 +64,13 @@ pub are_autos : (enc : Enc) (scanners : List Scanner) (autos : List Auto) → Ar
 are_autos enc [] [] are = tt
 are_autos enc [] (auto ∷ autos) are = absurd are
 are_autos enc (scanner ∷ scanners) [] are = absurd are
-are_autos enc (scanner ∷ scanners) (auto ∷ autos) are = (are.0.fits.formed, are_autos enc scanners autos are.1)
+are_autos enc (scanner ∷ scanners) (auto ∷ autos) are = (are.0.0.fits.formed, are_autos enc scanners autos are.1)
+
+pub are_reduced : (enc : Enc) (scanners : List Scanner) (autos : List Auto) → AreAutosOf enc scanners autos → AllByRecursion IsReduced autos
+are_reduced enc [] [] are = tt
+are_reduced enc [] (auto ∷ autos) are = absurd are
+are_reduced enc (scanner ∷ scanners) [] are = absurd are
+are_reduced enc (scanner ∷ scanners) (auto ∷ autos) are = (are.0.1, are_reduced enc scanners autos are.1)
 
 -- ---- checks
 
@@ -97,7 +102,7 @@ AreAutomataUnder-of enc [] (auto ∷ autos) checks are have = absurd are
 AreAutomataUnder-of enc (scanner ∷ scanners) [] checks are have = absurd are
 AreAutomataUnder-of enc (scanner ∷ scanners) (auto ∷ autos) [] are have = absurd have
 AreAutomataUnder-of enc (scanner ∷ scanners) (auto ∷ autos) (list ∷ checks) are have =
-    (are.0, have.0, AreAutomataUnder-of enc scanners autos checks are.1 have.1)
+    (are.0.0, have.0, AreAutomataUnder-of enc scanners autos checks are.1 have.1)
 
 -- automata of rules fit them
 pub AreAutomata-of : (enc : Enc) (scanners : List Scanner) (autos : List Auto) (checks : List (List ℕ)) → AreAutomataUnder greedy enc scanners autos checks

@@ -13,6 +13,7 @@ use Rattle.lx_rules.specs.declared.resolved.Scanner.{Scanner}
 use Rattle.lx_split.specs.declared.pieces.SourcePiece.{SourcePiece}
 use Rattle.lx_split.specs.declared.pieces.SourcePiece.TheVariants as piece
 use Rattle.lx_tdfa.specs.Promise.{IsAutoOf}
+use Rattle.lx_compile.specs.Reduced.{IsReduced}
 use Rattle.lx_compile.specs.declared.parts.Content.{Content}
 use Rattle.lx_compile.specs.declared.parts.Content.TheVariants.{Asks, Scanners}
 use Rattle.lx_compile.specs.declared.parts.Part.{Part}
@@ -42,10 +43,14 @@ abbrev pub IsMakeable : Options → Part → Type 0
 IsMakeable options (Outside text) = Unit {0}
 IsMakeable options (Block at line content) = HasMakeable options content
 
--- each scanner has the automaton of its rules
+-- it is the automaton of the scanner's rules, with no more in it than has to be
+abbrev pub IsMadeFor : Enc → Scanner → Auto → Type 0
+IsMadeFor enc scanner auto = IsAutoOf enc (patterns_of scanner.set.rules) auto × IsReduced auto
+
+-- each scanner has such an automaton
 abbrev pub AreAutosOf : Enc → List Scanner → List Auto → Type 0
 AreAutosOf enc [] [] = Unit {0}
-AreAutosOf enc (scanner ∷ scanners) (auto ∷ autos) = IsAutoOf enc (patterns_of scanner.set.rules) auto × AreAutosOf enc scanners autos
+AreAutosOf enc (scanner ∷ scanners) (auto ∷ autos) = IsMadeFor enc scanner auto × AreAutosOf enc scanners autos
 AreAutosOf enc scanners autos = ⊥
 
 -- each automaton has its checks

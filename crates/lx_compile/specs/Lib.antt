@@ -9,4 +9,5 @@ pub mod Making
 pub mod Options
 pub mod Output
 pub mod Parts
+pub mod Reduced
 pub mod Writing

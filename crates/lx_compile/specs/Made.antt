@@ -1,5 +1,6 @@
 -- What is made of the parts of a source: the pieces of scanners, before the text of any directive.
 use Rattle.std.specs.Prelude.{◌≡◌, ℕ, suc, ◌+◌, Bool, List, [], ◌∷◌, Option, Some, None, slice_index_or, if◌then◌else◌}
+use Rattle.std.specs.List.{AllByRecursion}
 use Rattle.lx_auto.specs.declared.automaton.Auto.{Auto}
 use Rattle.lx_base.specs.declared.places.Pos.{Pos}
 use Rattle.lx_base.specs.declared.settings.Options.{Options}
@@ -9,6 +10,7 @@ use Rattle.lx_ccode.specs.declared.piece.Piece.{Piece}
 use Rattle.lx_gen.specs.Generated.{AreAutomataUnder, AreRightUnder, IsGenerated, marks_of}
 use Rattle.lx_regex.specs.Order.{greedy}
 use Rattle.lx_rules.specs.declared.resolved.Resolved.{Resolved}
+use Rattle.lx_compile.specs.Reduced.{IsReduced}
 use Rattle.lx_compile.specs.declared.made.Made.{Made}
 use Rattle.lx_compile.specs.declared.made.Made.TheVariants as made
 use Rattle.lx_compile.specs.declared.parts.Content.{Content}
@@ -28,10 +30,11 @@ line_mark setting at line =
     if setting.options.lines then Some (record { line = line; file = slice_index_or setting.names at.file [] }) else None
 
 -- The piece with this number of a block's scanners, whose states are numbered from a first one on, and the checks of its automata: it
--- carries these automata, and each scanner is right, by the leftmost greedy trees.
+-- carries these automata, in which nothing is left that need not be there, and each scanner is right, by the leftmost greedy trees.
 pub record IsScannerPiece (setting : Setting) (number first_state : ℕ) (line : Option LineMark) (resolved : Resolved) (piece : Piece) (checks : List (List ℕ)) : Type 0 where
   pub autos : List Auto
   pub automata : AreAutomataUnder greedy setting.options.enc resolved.scanners autos checks
+  pub reduced : AllByRecursion IsReduced autos
   pub generated : IsGenerated setting.options resolved autos checks setting.names number first_state setting.own_switch line piece
   pub right : AreRightUnder greedy setting.options (marks_of line setting.names) resolved piece
 

@@ -10,6 +10,7 @@ pub mod laws;
 mod made;
 mod making;
 mod parts;
+mod reduction;
 mod walk;
 mod writing;
 

@@ -5,17 +5,16 @@ ghost use Rattle.lx_auto.specs.Automaton.{IsAuto};
 ghost use Rattle.lx_base.specs.declared.limits.TheConstants.{SOURCE_LIMIT};
 ghost use Rattle.lx_ccode.specs.Counts.{state_count};
 ghost use Rattle.lx_ccode.specs.Validity.{IsLine};
-ghost use Rattle.lx_regex.specs.Pattern.{patterns_of};
 ghost use Rattle.lx_rules.specs.Within.{IsScannerWithin};
 ghost use Rattle.lx_tdfa.specs.Making.{StopsBy};
-ghost use Rattle.lx_tdfa.specs.Promise.{IsAutoOf};
-ghost use Rattle.lx_compile.specs.Emittable.{AreAutosOf, AreChecksOf, CanBeMade, HasMakeable, IsMakeable};
+ghost use Rattle.lx_compile.specs.Emittable.{AreAutosOf, AreChecksOf, CanBeMade, HasMakeable, IsMadeFor, IsMakeable};
 ghost use Rattle.lx_compile.specs.Made.{AreMade, IsMadeOf, IsScannerPiece, line_mark};
 ghost use Rattle.lx_compile.specs.Making.{seen_frame};
 ghost use Rattle.lx_compile.specs.Parts.{HasTooLarge, HasTooLargeContent, IsKernelFault, IsTooLarge, StopsByKernels};
 
 use crate::made::Made;
 use crate::parts::{Content, Part};
+use crate::reduction::reduced;
 use lx_auto::Auto;
 use lx_base::{ByteText, Enc, FileNames, Memory, Options, Pos, Sequence, Stop};
 use lx_ccode::{LineMark, Piece};
@@ -73,15 +72,17 @@ fn line_mark(
     Ok(Some(LineMark { line, file }))
 }
 
-/// The automaton of a scanner whose block opens at `at`, or the fault of too many kernels.
+/// The automaton of a scanner whose block opens at `at`, with few states, registers and operations, or the fault of too many kernels.
 fn automaton_of(alloc: Global, enc: Enc, at: Pos, scanner: &Scanner) -> Result<Auto, Stop>
     requires { IsScannerWithin enc scanner.now }
     ensures { MatchResult result
-        (λ auto. IsAutoOf enc (patterns_of scanner.now.set.rules) auto × ¬ IsTooLarge enc scanner.now)
+        (λ auto. IsMadeFor enc scanner.now auto × ¬ IsTooLarge enc scanner.now)
         (StopsBy at (IsTooLarge enc scanner.now)) }
 {
     let automaton = Tnfa::of(alloc, &scanner.set, enc)?;
-    determinize(alloc, &automaton, at)
+    let found = determinize(alloc, &automaton, at)?;
+    let few = reduced(alloc, found)?;
+    Ok(few)
 }
 
 /// The automata of scanners whose block opens at `at`, or the fault of too many kernels.

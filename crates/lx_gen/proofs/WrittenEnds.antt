@@ -18,7 +18,8 @@ use Rattle.lx_regex.specs.declared.rules.Rule.{Rule}
 use Rattle.lx_regex.specs.declared.rules.Tag.{Tag}
 use Rattle.lx_rules.specs.WellFormed.{HaveNames, HaveTagNames}
 use Rattle.lx_rules.specs.declared.resolved.Act.{Act}
-use Rattle.lx_tdfa.specs.Promise.{IsByRule, is_history}
+use Rattle.lx_auto.specs.Shapes.{is_history}
+use Rattle.lx_tdfa.specs.Promise.{IsByRule}
 use Rattle.lx_layout.specs.Endings.{Ending}
 use Rattle.lx_layout.specs.Pieces.{FitsAccept}
 use Rattle.lx_layout.specs.Rules.{names_of}

@@ -1,10 +1,4 @@
--- Lists of operations, at once and one by one.
-pub mod Agreeing
-pub mod CopiesBelow
-pub mod CopySequences
-pub mod Sequentialized
+-- Lists of operations that act one by one.
 pub mod OpBounds
-pub mod OpParts
 pub mod OpsAlike
 pub mod SequenceBounds
-pub mod WaitingCopies

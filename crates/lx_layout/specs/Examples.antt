@@ -1,8 +1,7 @@
--- Examples of layouts, of sequences, and of runs.
+-- Examples of layouts, and of runs.
 use Rattle.std.specs.Prelude.{◌≡◌, ℕ, zero, suc, nat_eq, List, [], ◌∷◌, Option, Some, None, false, true, length, map}
 use Rattle.lx_auto.specs.Examples.{dotted}
 use Rattle.lx_auto.specs.declared.automaton.Auto.{Auto}
-use Rattle.lx_auto.specs.declared.ops.Op.TheVariants as act
 use Rattle.lx_base.specs.Names.{Spellings}
 use Rattle.lx_ccode.specs.declared.piece.Piece.{Piece}
 use Rattle.lx_ccode.specs.declared.piece.Stmt.{Stmt}
@@ -12,7 +11,6 @@ use Rattle.lx_ccode.specs.Runs.{Ended}
 use Rattle.lx_layout.specs.Endings.{Ending}
 use Rattle.lx_layout.specs.Halting.{Halting}
 use Rattle.lx_layout.specs.Layout.{class_block}
-use Rattle.lx_layout.specs.ParallelCopies.{sequentialized}
 use Rattle.lx_layout.specs.Starts.{run_with}
 use Rattle.lx_layout.specs.SuppliedLayout.{EachReader, reader_blocks, supplied_layout, with_blocks}
 use Rattle.lx_layout.specs.Supplies.{Reader, entry, plain_supply, state}
@@ -142,14 +140,6 @@ pub record TestsAreFew : Type 0 where
       ∷ (IfUnit 57 4 ∷ Goto 5 ∷ [])
       ∷ (IfUnit 95 4 ∷ Goto 5 ∷ [])
       ∷ []
-
--- two registers are swapped by the spare 3, and one of two writes and a copy of a register to itself are left out
-pub record SequencesAreShort : Type 0 where
-  pub swap : sequentialized 3 1 (act.Copy 0 1 ∷ act.Copy 1 0 ∷ []) ≡ act.Copy 3 0 ∷ act.Copy 0 1 ∷ act.Copy 1 3 ∷ []
-  pub chain : sequentialized 3 1 (act.Copy 0 1 ∷ act.Copy 1 2 ∷ []) ≡ act.Copy 0 1 ∷ act.Copy 1 2 ∷ []
-  pub turned : sequentialized 3 1 (act.Copy 1 2 ∷ act.Copy 0 1 ∷ []) ≡ act.Copy 0 1 ∷ act.Copy 1 2 ∷ []
-  pub last_counts : sequentialized 3 1 (act.Here 1 ∷ act.Copy 0 1 ∷ act.Null 1 ∷ []) ≡ act.Copy 0 1 ∷ act.Null 1 ∷ []
-  pub to_itself : sequentialized 3 1 (act.Here 0 ∷ act.Copy 1 2 ∷ act.Copy 0 0 ∷ []) ≡ act.Copy 1 2 ∷ []
 
 -- a piece of these blocks, with the usual spellings
 abbrev pub bytes_piece : Spellings → List (List Stmt) → Piece

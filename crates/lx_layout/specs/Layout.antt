@@ -112,13 +112,6 @@ ending_blocks endings (accept ∷ accepts) = ending_code endings accept.rule acc
 
 -- ---- the trees
 
--- accepts of one rule hold the values of its tags in the same places
-abbrev pub AreAgreed : List State → Type 0
-AreAgreed states =
-    (number other : ℕ) (first second : State) (accept same : Accept) → slice_get states number ≡ Some first
-    → slice_get states other ≡ Some second → first.accept ≡ Some accept → second.accept ≡ Some same → accept.rule ≡ same.rule
-    → accept.values ≡ same.values
-
 -- these codes stand in blocks from a number on
 abbrev pub StandsFrom : (blocks : List (List Stmt)) → (from : ℕ) → List (List Stmt) → Type 0
 StandsFrom blocks from [] = Unit {0}

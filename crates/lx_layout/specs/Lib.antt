@@ -3,7 +3,6 @@ pub mod CarriedExamples
 pub mod Carries
 pub mod CheckedStates
 pub mod Codes
-pub mod CopyOps
 pub mod EndedRules
 pub mod Endings
 pub mod Examples
@@ -16,7 +15,6 @@ pub mod Layout
 pub mod Marks
 pub mod NumberIndexes
 pub mod Numbers
-pub mod ParallelCopies
 pub mod PartModes
 pub mod PartPieces
 pub mod Parts
@@ -38,10 +36,8 @@ pub mod TestRuns
 pub mod TestTrees
 pub mod Told
 pub mod TransitionClasses
-pub mod Turns
 pub mod UnitApart
 pub mod Views
-pub mod WaitingCopies
 pub mod Ways
 pub mod Writable
 pub mod Written

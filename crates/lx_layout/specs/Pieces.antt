@@ -32,7 +32,7 @@ use Rattle.lx_layout.specs.CheckedStates.{ChecksAs, ChecksByWalks}
 use Rattle.lx_layout.specs.Endings.{Ending}
 use Rattle.lx_layout.specs.EndedRules.{EndsRules}
 use Rattle.lx_layout.specs.FewTests.{HasFewTests}
-use Rattle.lx_layout.specs.Layout.{AreAgreed}
+use Rattle.lx_auto.specs.Shapes.{AreAgreed}
 use Rattle.lx_layout.specs.Parts.{Demand, Given, IsPartOf, Part, checked, checked_by}
 use Rattle.lx_layout.specs.RightInMode.{HaveEndings, IsRightInMode}
 use Rattle.lx_layout.specs.Writable.{CanBeWritten}

@@ -1,13 +1,12 @@
-//! Worked examples of layouts, of tests of a unit, of sequences of operations, and of automata that pieces carry.
+//! Worked examples of layouts, of tests of a unit, and of automata that pieces carry.
 ghost use Rattle.lx_base.specs.Names.{Spellings};
 ghost use Rattle.lx_layout.specs.CarriedExamples.{PiecesCarry};
-ghost use Rattle.lx_layout.specs.Examples.{LayoutsStand, RunsOfDotted, SequencesAreShort, TestsAreFew};
+ghost use Rattle.lx_layout.specs.Examples.{LayoutsStand, RunsOfDotted, TestsAreFew};
 
 /// The examples of `specs/Examples.antt` are right.
 pub fn examples_hold()
     ensures layouts { LayoutsStand }
     ensures runs { RunsOfDotted }
-    ensures sequences { SequencesAreShort }
     ensures tests { TestsAreFew }
 {}
 

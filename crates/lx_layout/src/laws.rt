@@ -1,13 +1,11 @@
 //! What holds of laid-out pieces. Each law is the contract of a function that does nothing.
 ghost use Rattle.std.specs.Prelude.{◌≡◌, ◌⊎◌, ℕ, suc, ◌+◌, ◌*◌, ◌^◌, ◌<◌, ◌≤◌, Bool, List, [], ◌∷◌, ◌++◌, All, Option, Some, None, length, drop, map, nat_eq, false, true, slice_get, IsSome};
 ghost use Rattle.std.specs.List.{AllByRecursion, IsDistinct, list_any};
-ghost use Rattle.lx_auto.specs.Automaton.{AreOps, IsAuto};
-ghost use Rattle.lx_auto.specs.Bank.{Bank, bank_after};
+ghost use Rattle.lx_auto.specs.Automaton.{IsAuto};
 ghost use Rattle.lx_auto.specs.Run.{Standing, found_behind, run};
 ghost use Rattle.lx_auto.specs.declared.automaton.Auto.{Auto};
 ghost use Rattle.lx_auto.specs.declared.automaton.Edge.{Edge};
 ghost use Rattle.lx_auto.specs.declared.automaton.State.{State};
-ghost use Rattle.lx_auto.specs.declared.ops.Op.{Op};
 ghost use Rattle.lx_base.specs.Spelling.{greatest_unit};
 ghost use Rattle.lx_base.specs.declared.settings.Enc.{Enc};
 ghost use Rattle.lx_ccode.specs.Machine.{Answer, Machine, code_at, looped, unit_at};
@@ -29,11 +27,11 @@ ghost use Rattle.lx_tdfa.specs.Promise.{IsAutoUnder};
 ghost use Rattle.lx_layout.specs.Carries.{Carries, EndsAs, HasEdge, IsReached, IsUnitOf, LeadsTo, NamesItsOwn, StandsAs, StopsBehind};
 ghost use Rattle.lx_layout.specs.Endings.{Ending};
 ghost use Rattle.lx_layout.specs.Halting.{AreHalting, Halting};
-ghost use Rattle.lx_layout.specs.Layout.{AreAgreed, StandsFrom, class_block, numbered};
+ghost use Rattle.lx_auto.specs.Shapes.{AreAgreed};
+ghost use Rattle.lx_layout.specs.Layout.{StandsFrom, class_block, numbered};
 ghost use Rattle.lx_layout.specs.Right.{AreEndsOf, IsSetBy};
 ghost use Rattle.lx_layout.specs.RightInMode.{HaveEndings, IsRightInMode, IsSupplied};
 ghost use Rattle.lx_layout.specs.Rules.{AreSimple, endings_of};
-ghost use Rattle.lx_layout.specs.ParallelCopies.{sequentialized};
 ghost use Rattle.lx_layout.specs.Starts.{machine_with, run_with};
 ghost use Rattle.lx_layout.specs.Supplied as supplied;
 ghost use Rattle.lx_layout.specs.SuppliedLayout as layouts;
@@ -44,7 +42,6 @@ ghost use Rattle.lx_layout.specs.Stops.{bank_from, told_found};
 ghost use Rattle.lx_layout.specs.TestRuns.{ComesTo};
 ghost use Rattle.lx_layout.specs.TestTrees.{IsTreeOf, PicksAs, TestTree, TestsWithin, depth, inner_blocks, picked, split_class, tree_code};
 ghost use Rattle.lx_layout.specs.TransitionClasses.{Split};
-ghost use Rattle.lx_layout.specs.Turns.{after_ops};
 
 /// A piece whose blocks serve the automaton of its rules is right in the mode of its supply, if a rule stands at the end of the stream
 /// only where a unit does.
@@ -155,14 +152,6 @@ pub fn tests_of_a_unit_are_few()
     ensures ways { (first end : ℕ) (split : Split) (tree : TestTree (Option ℕ)) → IsTreeOf split tree
         → (depth (numbered first end tree) ≡ depth tree)
         × ((unit : ℕ) → picked (numbered first end tree) unit ≡ class_block first end (split_class split unit)) }
-{}
-
-/// Operations one by one do to all registers but the spares what the list does at once.
-pub fn sequences_act_at_once()
-    ensures registers { (regs mregs offset : ℕ) (ops : List Op) (bank : Bank) (reg : ℕ) → AreOps regs mregs ops → reg < regs
-        → (after_ops offset (sequentialized regs mregs ops) bank).regs reg ≡ (bank_after offset ops bank).regs reg }
-    ensures histories { (regs mregs offset : ℕ) (ops : List Op) (bank : Bank) (mreg : ℕ) → AreOps regs mregs ops → mreg < mregs
-        → (after_ops offset (sequentialized regs mregs ops) bank).mregs mreg ≡ (bank_after offset ops bank).mregs mreg }
 {}
 
 /// Rules of which none is `$` have the ends that the law of layouts asks for, whatever their actions are: where they are within the

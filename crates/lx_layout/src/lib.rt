@@ -3,13 +3,11 @@
 
 mod accepts;
 mod blocks;
-mod copy_sequences;
 mod demands;
 pub mod examples;
 mod halting;
 pub mod laws;
 mod number_index;
-mod parallel_copies;
 mod part_ends;
 mod part_entries;
 mod part_fallback;

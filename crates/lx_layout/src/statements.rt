@@ -5,10 +5,10 @@ ghost use Rattle.lx_auto.specs.Automaton.{AreOps};
 ghost use Rattle.lx_layout.specs.Codes.{list_code, op_code, ops_code};
 ghost use Rattle.lx_layout.specs.Numbers.{AreBelow, IsBelow};
 
-use crate::parallel_copies::sequentialized;
 use lx_auto::{Auto, Op};
 use lx_base::Memory;
 use lx_ccode::Stmt;
+use lx_regs::sequence;
 use std::alloc::Global;
 
 /// The statement of an operation. Statements count registers from 1 and histories from 0.
@@ -48,6 +48,6 @@ pub(crate) fn append_list(
     requires there { AreOps auto.now.regs auto.now.mregs ops.now }
     ensures { OnOk result (stmts.new.items ≡ stmts.old.items ++ list_code auto.now ops.now []) }
 {
-    let list = sequentialized(alloc, ops, auto.regs, auto.mregs)?;
+    let list = sequence(alloc, ops, auto.regs, auto.mregs)?;
     append_ops(stmts, &list)
 }

@@ -1,5 +1,6 @@
 -- The automaton of a table of lists of places is that of the rules.
 pub mod Determined
+pub mod KeptRules
 pub mod SameAutomata
 pub mod TableAutomata
 pub mod TableBegins

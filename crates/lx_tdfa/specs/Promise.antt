@@ -1,16 +1,15 @@
 -- What is promised of the automaton of a rule list.
-use Rattle.std.specs.Prelude.{◌≡◌, ℕ, ◌+◌, ◌<◌, ◌≤◌, ◌↔◌, List, [], map, length, Option, Some, None, Bool, true, false, All, Contains, IsSome, slice_get}
+use Rattle.std.specs.Prelude.{◌≡◌, ℕ, ◌+◌, ◌<◌, ◌≤◌, ◌↔◌, List, [], map, length, Option, Some, None, All, Contains, IsSome, slice_get}
 use Rattle.lx_base.specs.Spelling.{greatest_unit}
 use Rattle.lx_base.specs.declared.settings.Enc.{Enc}
 use Rattle.lx_auto.specs.Automaton.{IsAuto}
 use Rattle.lx_auto.specs.Bank as bank
 use Rattle.lx_auto.specs.Bank.{Bank}
 use Rattle.lx_auto.specs.Run.{Found, Standing, found_at, found_behind, or_else, run, start_with, step}
+use Rattle.lx_auto.specs.Shapes.{AreAgreed, is_history}
 use Rattle.lx_auto.specs.declared.automaton.Accept.{Accept}
 use Rattle.lx_auto.specs.declared.automaton.Auto.{Auto}
 use Rattle.lx_auto.specs.declared.automaton.Edge.{Edge}
-use Rattle.lx_auto.specs.declared.automaton.Held.{Held}
-use Rattle.lx_auto.specs.declared.automaton.Held.TheVariants.{MReg, Reg}
 use Rattle.lx_auto.specs.declared.automaton.State.{State}
 use Rattle.lx_regex.specs.Cut.{BeginsMatch}
 use Rattle.lx_regex.specs.Kernel.{IsWord}
@@ -26,11 +25,6 @@ use Rattle.lx_regex.specs.Values.{Value, history, single, values_of}
 abbrev pub tag_value : bank.Value → Value
 tag_value (bank.single offset) = single offset
 tag_value (bank.history offsets) = history offsets
-
--- whether what is held is a history
-abbrev pub is_history : Held → Bool
-is_history (Reg number) = false
-is_history (MReg number) = true
 
 module _ (enc : Enc) (patterns : List Pattern) where
   -- a state accepts by a rule of the list, with a value of its kind for each tag
@@ -48,9 +42,7 @@ module _ (enc : Enc) (patterns : List Pattern) where
     -- what is accepted is a rule of the list
     pub rules : All (λ (state : State). IsByRule state.accept) auto.states
     -- accepts of one rule hold the values of its tags in the same places
-    pub agreed : (number other : ℕ) (first second : State) (accept same : Accept) → slice_get auto.states number ≡ Some first
-        → slice_get auto.states other ≡ Some second → first.accept ≡ Some accept → second.accept ≡ Some same → accept.rule ≡ same.rule
-        → accept.values ≡ same.values
+    pub agreed : AreAgreed auto.states
 
 -- the trees that are meant are those of a policy
 module _ (policy : Policy) (enc : Enc) (patterns : List Pattern) where

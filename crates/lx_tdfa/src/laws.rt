@@ -2,7 +2,9 @@
 //! function that does nothing.
 ghost use Rattle.std.specs.Prelude.{◌≡◌, ◌≢◌, ◌++◌, ◌↔◌, ℕ, List, [], ◌∷◌, None, length, map};
 ghost use Rattle.lx_regex.specs.ClassLimits.{AllClassesFit};
+ghost use Rattle.lx_auto.specs.Automaton.{IsAuto};
 ghost use Rattle.lx_auto.specs.SameRun.{HasSameRun};
+ghost use Rattle.lx_auto.specs.Shapes.{StaysWithin};
 ghost use Rattle.lx_auto.specs.declared.automaton.Auto.{Auto};
 ghost use Rattle.lx_base.specs.declared.settings.Enc.{Enc};
 ghost use Rattle.lx_regex.specs.Automaton.{automaton};
@@ -86,4 +88,10 @@ pub fn all_values_are_kept()
 pub fn same_runs_are_of_one_list()
     ensures { (policy : Policy) (enc : Enc) (patterns : List Pattern) (auto given : Auto) → IsAutoUnder policy enc patterns given
         → HasSameRun auto given → FitsRules enc patterns auto → IsAutoUnder policy enc patterns auto }
+{}
+
+/// So is one that runs as it and stays within it: with no unit on an edge and no accept that the other has not.
+pub fn what_stays_within_is_of_one_list()
+    ensures { (policy : Policy) (enc : Enc) (patterns : List Pattern) (auto given : Auto) → IsAutoUnder policy enc patterns given
+        → IsAuto auto → HasSameRun auto given → StaysWithin given auto → IsAutoUnder policy enc patterns auto }
 {}

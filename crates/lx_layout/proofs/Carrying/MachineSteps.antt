@@ -14,15 +14,15 @@ use Rattle.lx_ccode.specs.Runs.{ended}
 use Rattle.lx_ccode.specs.Statements.{code_of}
 use Rattle.lx_ccode.specs.Traces.{is_peek, is_skip}
 use Rattle.lx_ccode.proofs.TraceSteps.{EndsSo, ends_at, ends_quiet, goto_step, saved_fails, saved_holds, test_fails, test_holds}
+use Rattle.lx_regs.specs.ParallelCopies.{sequentialized}
+use Rattle.lx_regs.specs.Turns.{after_op, after_ops}
 use Rattle.lx_layout.specs.Carries.{HasUnits}
 use Rattle.lx_layout.specs.Codes.{Choice, list_code, op_code, ops_code}
 use Rattle.lx_layout.specs.Fallback.{chosen, fallback_code}
 use Rattle.lx_layout.specs.Layout.{StandsFrom}
-use Rattle.lx_layout.specs.ParallelCopies.{sequentialized}
 use Rattle.lx_layout.specs.Stops.{bank_from}
 use Rattle.lx_layout.specs.Supplies.{Reader, need_code}
 use Rattle.lx_layout.specs.TestTrees.{TestTree, fork, inner_blocks, inner_size, leaf, picked, test, tree_code}
-use Rattle.lx_layout.specs.Turns.{after_op, after_ops}
 use Rattle.lx_layout.proofs.BlockLayouts.StandingCodes.{StandsFrom-back, StandsFrom-front}
 use Rattle.lx_layout.proofs.BlockLayouts.TreeCodes.{length-inner_blocks}
 use Rattle.lx_layout.proofs.Operations.OpBounds.{ArePositive-sequentialized}

@@ -13,6 +13,7 @@ use Rattle.lx_ccode.specs.declared.piece.Stmt.{Stmt}
 use Rattle.lx_ccode.specs.declared.piece.Stmt.TheVariants.{Accept as SaveAccept, Backup, Goto, Skip}
 use Rattle.lx_ccode.specs.Machine.{Answer, Machine, code_at}
 use Rattle.lx_ccode.proofs.TraceSteps.{LeadsSo, goto_step, leads_at, leads_skip}
+use Rattle.lx_regs.proofs.Operations.Agreeing.{Agrees-after}
 use Rattle.lx_layout.specs.Codes.{list_code, save_code}
 use Rattle.lx_layout.specs.Endings.{Ending}
 use Rattle.lx_layout.specs.Fallback.{edge_code}
@@ -20,7 +21,6 @@ use Rattle.lx_layout.specs.Halting.{Halting, saves_on}
 use Rattle.lx_layout.proofs.Carrying.MachineSteps.{acted, bank_of, list_walk}
 use Rattle.lx_layout.proofs.Carrying.StandingMachines.{Stands, kept, registers_agree, stands_behind}
 use Rattle.lx_layout.proofs.Carrying.Stretches.{Walks, stays, walk_leads, walk_on, walk_step}
-use Rattle.lx_layout.proofs.Operations.Agreeing.{Agrees-after}
 
 module _ (piece : Piece) (endings : ℕ → Ending) (auto : Auto) (place saved : ℕ → ℕ) (halting : Halting) (formed : IsAuto auto) (stream : List ℕ) (answers : List Answer) where
   save_walk : (saves : Bool) (number : ℕ) (rest : List Stmt) (machine : Machine)

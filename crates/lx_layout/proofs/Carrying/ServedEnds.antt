@@ -15,23 +15,23 @@ use Rattle.lx_ccode.specs.Machine.{Answer, Machine, Value, no_rule}
 use Rattle.lx_ccode.specs.Runs.{Ended}
 use Rattle.lx_ccode.specs.Statements.{code_of}
 use Rattle.lx_ccode.proofs.TraceSteps.{EndsSo, ends_quiet, ends_telling, goto_step}
+use Rattle.lx_regs.specs.ParallelCopies.{sequentialized}
+use Rattle.lx_regs.specs.Turns.{after_ops}
+use Rattle.lx_regs.proofs.Operations.Agreeing.{Agrees, Agrees-after, read_all-agrees}
 use Rattle.lx_tdfa.specs.Promise.{tag_value}
 use Rattle.lx_layout.specs.Carries.{HasSaved}
 use Rattle.lx_layout.specs.Codes.{accept_code, restore_code}
 use Rattle.lx_layout.specs.Endings.{Ending, ending_code}
 use Rattle.lx_layout.specs.Fallback.{chosen, fallback_code}
 use Rattle.lx_layout.specs.Halting.{Halting, is_saved}
-use Rattle.lx_layout.specs.ParallelCopies.{sequentialized}
 use Rattle.lx_layout.specs.Stops.{told_found}
 use Rattle.lx_layout.specs.Supplied.{EndsBy, HasCode, IsEnd, Serves}
 use Rattle.lx_layout.specs.Supplies.{Supply}
 use Rattle.lx_layout.specs.Told.{told_at}
-use Rattle.lx_layout.specs.Turns.{after_ops}
 use Rattle.lx_layout.proofs.Carrying.GivenValues.{ending_ends}
 use Rattle.lx_layout.proofs.Carrying.MachineSteps.{acted, bank_of, fallback_ends, fallback_walk, list_walk}
 use Rattle.lx_layout.proofs.Carrying.StandingMachines.{Stands, registers_agree}
 use Rattle.lx_layout.proofs.Carrying.Stretches.{walk_ends}
-use Rattle.lx_layout.proofs.Operations.Agreeing.{Agrees, Agrees-after, read_all-agrees}
 use Rattle.lx_layout.proofs.Supplied.Standings.{IsFresh}
 use Rattle.lx_layout.proofs.Supplied.StateRuns.{IsFoundAgain}
 

@@ -1,22 +1,11 @@
--- Operations on registers that are there, and the ones that do the same one by one: the spares are free, and m-register 0 is not written.
+-- Operations on registers that are there, and the ones that do the same one by one: m-register 0 is not written.
 use Rattle.std.specs.Prelude.{◌≡◌, ℕ, zero, suc, List, [], ◌∷◌, ◌++◌, length, Option, Some, None, Bool, true, false, ◌||◌, nat_eq, refl, if◌then◌else◌}
 use Rattle.std.proofs.Common.{subst, arith}
 use Rattle.lx_auto.specs.Automaton.{AreOps, IsWritable}
 use Rattle.lx_auto.specs.declared.ops.Op.{Op}
-use Rattle.lx_auto.specs.declared.ops.Op.TheVariants.{Here, Null, Copy, MHere, MNull, MCopy}
-use Rattle.lx_layout.specs.ParallelCopies.{Copies, sources, is_in, read_from, unread_target, next_copies, in_sequence, writes, copies_into, unless_later, copies, marks, mcopies, added_marks, copy_ops, mcopy_ops, sequentialized}
+use Rattle.lx_auto.specs.declared.ops.Op.TheVariants.{Here, Null, MHere, MNull, MCopy}
+use Rattle.lx_regs.specs.ParallelCopies.{Copies, sources, is_in, read_from, unread_target, next_copies, in_sequence, writes, copies_into, unless_later, copies, marks, mcopies, added_marks, copy_ops, mcopy_ops, sequentialized}
 use Rattle.lx_layout.proofs.Runs.RunMachines.{ArePositive}
-use Rattle.lx_layout.proofs.Operations.Sequentialized.{AllClear}
-
--- the spares are behind the registers that are there
-pub AllClear-ops : (regs mregs : ℕ) (ops : List Op) → AreOps regs mregs ops → AllClear regs mregs ops
-AllClear-ops regs mregs [] are = tt
-AllClear-ops regs mregs (Here t ∷ ops) are = ((λ e. omega (arith, are.0)), AllClear-ops regs mregs ops are.1)
-AllClear-ops regs mregs (Null t ∷ ops) are = ((λ e. omega (arith, are.0)), AllClear-ops regs mregs ops are.1)
-AllClear-ops regs mregs (Copy t s ∷ ops) are = (((λ e. omega (arith, are.0.0)), (λ e. omega (arith, are.0.1))), AllClear-ops regs mregs ops are.1)
-AllClear-ops regs mregs (MHere t ∷ ops) are = ((λ e. omega (arith, are.0.1)), AllClear-ops regs mregs ops are.1)
-AllClear-ops regs mregs (MNull t ∷ ops) are = ((λ e. omega (arith, are.0.1)), AllClear-ops regs mregs ops are.1)
-AllClear-ops regs mregs (MCopy t s ∷ ops) are = (((λ e. omega (arith, are.0.0.1)), (λ e. omega (arith, are.0.1))), AllClear-ops regs mregs ops are.1)
 
 pub ArePositive-append : (a b : List Op) → ArePositive a → ArePositive b → ArePositive (a ++ b)
 ArePositive-append [] b h g = g

@@ -13,12 +13,12 @@ use Rattle.lx_ccode.specs.Statements.{code_of}
 use Rattle.lx_ccode.specs.declared.piece.Piece.{Piece}
 use Rattle.lx_ccode.specs.declared.piece.Stmt.{Stmt}
 use Rattle.lx_ccode.specs.declared.piece.Stmt.TheVariants.{Accept as SaveAccept, Backup, Goto, IfAccept, IfEnd, IfUnit, Leave, Need, Peek, Restore, Skip, State as Store, Try}
+use Rattle.lx_regs.specs.ParallelCopies.{sequentialized}
 use Rattle.lx_layout.specs.Codes.{Choice, accept_code, list_code, op_code, ops_code, restore_code, save_code}
 use Rattle.lx_layout.specs.Endings.{Ending, ending_code}
 use Rattle.lx_layout.specs.Fallback.{edge_code, fallback_code}
 use Rattle.lx_layout.specs.Halting.{Halting, saves_on}
 use Rattle.lx_layout.specs.Layout.{StandsFrom, choices_from, restore_blocks}
-use Rattle.lx_layout.specs.ParallelCopies.{sequentialized}
 use Rattle.lx_layout.specs.SuppliedLayout.{JumpsTo}
 use Rattle.lx_layout.specs.Supplies.{Reader, back_code, end_test, need_code, store_code, try_code}
 use Rattle.lx_layout.proofs.ScannerLaws.FewSteps.{Backs, Calm, CalmAt, checks, fewer, goto, if_accept, if_end, is_simple, simple, stores, tries}

@@ -16,18 +16,18 @@ use Rattle.lx_ccode.specs.declared.piece.Stmt.{Stmt}
 use Rattle.lx_ccode.specs.declared.piece.Stmt.TheVariants.{Goto, Restore, Skip}
 use Rattle.lx_ccode.specs.Machine.{Answer, Machine, jump, skip}
 use Rattle.lx_ccode.specs.Statements.{code_of, statement_count}
+use Rattle.lx_regs.specs.ParallelCopies.{sequentialized}
+use Rattle.lx_regs.specs.Turns.{after_ops}
+use Rattle.lx_regs.proofs.Operations.Agreeing.{Agrees, Agrees-after, read_all-agrees}
 use Rattle.lx_tdfa.specs.Promise.{tag_value}
 use Rattle.lx_layout.specs.Codes.{accept_code, save_code, list_code, restore_code}
 use Rattle.lx_layout.specs.Endings.{Ending, ending_code}
-use Rattle.lx_layout.specs.ParallelCopies.{sequentialized}
 use Rattle.lx_layout.specs.Fallback.{edge_code, fallback_code}
 use Rattle.lx_layout.specs.Halting.{Halting, is_saved, saves_on}
 use Rattle.lx_layout.specs.Stops.{told_found}
 use Rattle.lx_layout.specs.Supplied.{EndsBy, HasCode, IsTarget, Serves}
 use Rattle.lx_layout.specs.Supplies.{Supply}
 use Rattle.lx_layout.specs.Told.{told_at}
-use Rattle.lx_layout.specs.Turns.{after_ops}
-use Rattle.lx_layout.proofs.Operations.Agreeing.{Agrees, Agrees-after, read_all-agrees}
 use Rattle.lx_layout.proofs.Runs.RunMachines.{save_size, length-save_code, length-ops_code, machine_at, ops_run}
 use Rattle.lx_layout.proofs.Operations.OpBounds.{ArePositive-sequentialized}
 use Rattle.lx_layout.proofs.Rules.RuleEnds.{ending_run, goto_run}

@@ -16,7 +16,8 @@ use Rattle.lx_ccode.specs.declared.piece.Stmt.{Stmt}
 use Rattle.lx_ccode.specs.declared.piece.Stmt.TheVariants.{Peek}
 use Rattle.lx_layout.specs.Carries.{Carries, HasEdge, IsUnitOf, NamesItsOwn}
 use Rattle.lx_layout.specs.Endings.{Ending}
-use Rattle.lx_layout.specs.Layout.{AreAgreed, StandsFrom}
+use Rattle.lx_auto.specs.Shapes.{AreAgreed}
+use Rattle.lx_layout.specs.Layout.{StandsFrom}
 use Rattle.lx_layout.specs.SuppliedLayout.{EachReader, EachState, entry_by, entry_of, fall_block, number_in, place_of, rule_block, supplied_layout}
 use Rattle.lx_layout.specs.Halting.{AreHalting, Halting}
 use Rattle.lx_layout.specs.Supplies.{Reader, Supply}

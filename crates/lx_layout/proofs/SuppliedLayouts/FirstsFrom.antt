@@ -9,7 +9,8 @@ use Rattle.lx_auto.specs.declared.automaton.State.{State}
 use Rattle.lx_layout.specs.Endings.{Ending, ending_code}
 use Rattle.lx_layout.specs.Fallback.{chosen}
 use Rattle.lx_layout.specs.Halting.{Halting, ended_accept, ended_accepts, firsts_from, is_saved, saved_accept, saved_accepts}
-use Rattle.lx_layout.specs.Layout.{AreAgreed, choices_from, ending_blocks, has_rule, rule_place, with_accept}
+use Rattle.lx_auto.specs.Shapes.{AreAgreed}
+use Rattle.lx_layout.specs.Layout.{choices_from, ending_blocks, has_rule, rule_place, with_accept}
 use Rattle.lx_layout.proofs.BlockLayouts.FirstAccepts.{Chosen, each-with_accept, has_rule-own, has_rule-with_accept}
 use Rattle.lx_layout.proofs.Rules.RuleBlocks.{rule_found, slice_get-ending_blocks, slice_get-state_of}
 

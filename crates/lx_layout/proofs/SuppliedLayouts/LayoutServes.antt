@@ -12,7 +12,8 @@ use Rattle.lx_ccode.specs.declared.piece.Stmt.{Stmt}
 use Rattle.lx_layout.specs.Codes.{Choice, restore_code}
 use Rattle.lx_layout.specs.Endings.{Ending, ending_code}
 use Rattle.lx_layout.specs.Fallback.{chosen, fallback_code}
-use Rattle.lx_layout.specs.Layout.{AreAgreed, StandsFrom, choices_from, ending_blocks, restore_blocks, rule_place, saved_number}
+use Rattle.lx_auto.specs.Shapes.{AreAgreed}
+use Rattle.lx_layout.specs.Layout.{StandsFrom, choices_from, ending_blocks, restore_blocks, rule_place, saved_number}
 use Rattle.lx_layout.specs.Supplied.{Restores, Serves, ServesEntry, ServesState}
 use Rattle.lx_layout.specs.Halting.{AreHalting, Falls, Halting, any_falls, at_end, bare, ended_accepts, here, is_entered, is_saved, lone, onward, saved_accepts}
 use Rattle.lx_layout.specs.SuppliedLayout.{EachReader, at_end_blocks, end_rule_block, end_rule_part, entry_by, entry_part, entry_tests_size, entry_way, fall_block, fallback_part, first_restore, first_rule, kept, number_in, place_by, place_of, reader_blocks, rule_block, state_blocks, state_to, states_begin, states_part, supplied_layout, with_blocks}

@@ -6,7 +6,8 @@ use Rattle.lx_auto.specs.Run.{Left, found_left}
 use Rattle.lx_regex.specs.Script.{Symbol}
 use Rattle.lx_regex.specs.Values.{Value, all_events, history, last_event, single, values_of}
 use Rattle.lx_tnfa.specs.Tnfa.{Tnfa}
-use Rattle.lx_tdfa.specs.Promise.{is_history, tag_value}
+use Rattle.lx_auto.specs.Shapes.{is_history}
+use Rattle.lx_tdfa.specs.Promise.{tag_value}
 use Rattle.lx_tdfa.specs.Registers.{held_from, widest}
 use Rattle.lx_tdfa.proofs.Tables.TableRuns.{IsLeft}
 

@@ -1,6 +1,6 @@
 use Rattle.lx_gen.specs.Generated.{AreAutomataUnder}
 use Rattle.lx_regex.specs.Order.{greedy}
-use Rattle.lx_compile.proofs.ScannerRuns.{AreAutomata-of, AreAutomataUnder-of, are_autos}
+use Rattle.lx_compile.proofs.ScannerRuns.{AreAutomata-of, AreAutomataUnder-of, are_autos, are_reduced}
 use Rattle.lx_compile.proofs.making.scanner_piece.Goals as goal
 
 pub checks_of-requires : goal.checks_of-requires
@@ -28,6 +28,7 @@ returns c =
       record {
         autos = c.in_ok-autos.autos;
         automata = automata;
+        reduced = are_reduced enc scanners c.in_ok-autos.autos made.0;
         generated = rw (c.as_slice-3.ensures, c.as_slice-4.ensures) at c.in_ok-piece.ensures.piece;
         right = (rw (c.as_slice-3.ensures, c.as_slice-4.ensures) at c.in_ok-piece.ensures.right) greedy automata;
       },

@@ -15,8 +15,5 @@ pub returns-clause-runs : goal.returns-clause-runs
 unfolding run_with
 returns-clause-runs c = record { whole = λ names. refl; falls_back = λ names. refl; at_once = λ names. refl; none = λ names. refl }
 
-pub returns-clause-sequences : goal.returns-clause-sequences
-returns-clause-sequences c = record { swap = refl; chain = refl; turned = refl; last_counts = refl; to_itself = refl }
-
 pub returns-clause-tests : goal.returns-clause-tests
 returns-clause-tests c = record { seven_is = seven_is_tree; seven_stands = refl; letters_is = letters_is_tree; letters_stand = refl }

@@ -1,0 +1,9 @@
+pub mod Canonical
+pub mod Joined
+pub mod Looks
+pub mod Merges
+pub mod Numberings
+pub mod Numbers
+pub mod Partitions
+pub mod Rounds
+pub mod Signatures

@@ -1,0 +1,17 @@
+//! Minimization of automata with registers: states that no word tells apart become one.
+#![tactic(auto)]
+
+mod accept_numbers;
+mod canonical;
+mod joined;
+pub mod laws;
+mod list_numbers;
+mod looks;
+mod merging;
+mod minimization;
+mod numbering;
+mod partitions;
+mod rounds;
+mod signatures;
+
+pub use minimization::minimize;

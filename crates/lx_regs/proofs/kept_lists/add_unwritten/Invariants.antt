@@ -1,0 +1,9 @@
+use Rattle.std.proofs.Common.{◌≡◌, ◌||◌, ◌&&◌, not, take}
+use Rattle.std.specs.List.{list_any}
+use Rattle.lx_auto.specs.declared.automaton.Held.{Held}
+use Rattle.lx_regs.specs.HeldSets.{has, is_same}
+use Rattle.lx_regs.proofs.kept_lists.add_unwritten.Given as goal
+
+abbrev pub invariant-loop-held : goal.invariant-loop-held
+invariant-loop-held l = (other : Held) → has l.sources other ≡ (has l.initial.sources other
+    || (has l.asked other && (list_any (is_same other) (take l.held-index l.wanted) && not (has l.written other))))

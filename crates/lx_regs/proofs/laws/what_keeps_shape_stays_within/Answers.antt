@@ -1,0 +1,5 @@
+use Rattle.lx_regs.proofs.Shapes.{StaysWithin-shape}
+use Rattle.lx_regs.proofs.laws.what_keeps_shape_stays_within.Goals as goal
+
+pub returns : goal.returns
+returns c = StaysWithin-shape

@@ -1,0 +1,68 @@
+use Rattle.std.proofs.Common.{◌≡◌, subst, sym}
+use Rattle.std.proofs.lemmas.Result.{IfOk-weaker}
+use Rattle.lx_auto.specs.declared.automaton.Auto.{Auto}
+use Rattle.lx_auto.specs.Automaton.{IsAuto}
+use Rattle.lx_auto.specs.Live.{EachTargetIsRead}
+use Rattle.lx_auto.specs.SameRun.{HasSameRun}
+use Rattle.lx_auto.proofs.Translations.{translation-same_run}
+use Rattle.lx_auto.specs.Live.{AllInterfere}
+use Rattle.lx_regs.specs.Shapes.{KeepsShape}
+use Rattle.lx_regs.specs.SharedNames.{names_of, renamed_auto}
+use Rattle.lx_regs.proofs.RenamedAutomata.{IsAuto-renamed, KeepsShape-renamed}
+use Rattle.lx_regs.proofs.RenamedReads.{EachTargetIsRead-renamed}
+use Rattle.lx_regs.proofs.RenamedWalks.{renamed-translation}
+use Rattle.lx_regs.proofs.TightNames.{shared-interfere}
+use Rattle.lx_regs.proofs.sharing.share_registers.Goals as goal
+
+pub returns-clause-kept : goal.returns-clause-kept
+returns-clause-kept c =
+    let auto = c.args.auto in
+    let names = names_of c.in_ok-names.names in
+    let answer = renamed_auto names c.counts_of-counts.result.regs c.counts_of-counts.result.mregs auto in
+    IfOk-weaker c.renamed_auto.result (λ given. given ≡ answer) (λ given. KeepsShape auto given)
+    (λ given is. subst (KeepsShape auto) (sym is) (KeepsShape-renamed auto names c.counts_of-counts.result.regs c.counts_of-counts.result.mregs))
+    c.renamed_auto.ensures
+
+pub returns-clause-formed : goal.returns-clause-formed
+returns-clause-formed c =
+    let auto = c.args.auto in
+    let names = names_of c.in_ok-names.names in
+    let counts = c.counts_of-counts.result in
+    let shared = c.counts_of-counts.ensures.shared in
+    IfOk-weaker c.renamed_auto.result (λ given. given ≡ renamed_auto names counts.regs counts.mregs auto) IsAuto
+    (λ given is. subst IsAuto (sym is)
+    (IsAuto-renamed auto names counts.most_regs counts.most_mregs counts.regs counts.mregs shared.fit c.counts_of-counts.ensures.states shared.few
+    shared.mfew c.requires))
+    c.renamed_auto.ensures
+
+pub returns-clause-run : goal.returns-clause-run
+returns-clause-run c =
+    let auto = c.args.auto in
+    let names = names_of c.in_ok-names.names in
+    let counts = c.counts_of-counts.result in
+    let shared = c.counts_of-counts.ensures.shared in
+    let translation = renamed-translation auto names counts.regs counts.mregs shared.apart shared.fit.zero in
+    IfOk-weaker c.renamed_auto.result (λ given. given ≡ renamed_auto names counts.regs counts.mregs auto) (λ given. HasSameRun given auto)
+    (λ given is. subst (λ (a : Auto). HasSameRun a auto) (sym is)
+    (translation-same_run auto (renamed_auto names counts.regs counts.mregs auto) (λ state. names) translation))
+    c.renamed_auto.ensures
+
+pub returns-clause-apart : goal.returns-clause-apart
+returns-clause-apart c =
+    let auto = c.args.auto in
+    let names = names_of c.in_ok-names.names in
+    let counts = c.counts_of-counts.result in
+    let shared = c.counts_of-counts.ensures.shared in
+    IfOk-weaker c.renamed_auto.result (λ given. given ≡ renamed_auto names counts.regs counts.mregs auto) AllInterfere
+    (λ given is. subst AllInterfere (sym is)
+    (shared-interfere auto names counts.most_regs counts.most_mregs counts.regs counts.mregs shared)) c.renamed_auto.ensures
+
+pub returns-clause-read : goal.returns-clause-read
+returns-clause-read c = λ read.
+    let auto = c.args.auto in
+    let names = names_of c.in_ok-names.names in
+    let counts = c.counts_of-counts.result in
+    let shared = c.counts_of-counts.ensures.shared in
+    IfOk-weaker c.renamed_auto.result (λ given. given ≡ renamed_auto names counts.regs counts.mregs auto) EachTargetIsRead
+    (λ given is. subst EachTargetIsRead (sym is) (EachTargetIsRead-renamed auto names counts.regs counts.mregs shared.apart shared.fit.zero read))
+    c.renamed_auto.ensures

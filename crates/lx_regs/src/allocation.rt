@@ -1,0 +1,31 @@
+//! Few registers.
+ghost use Rattle.std.specs.Prelude.{IfOk};
+ghost use Rattle.lx_auto.specs.Automaton.{IsAuto};
+ghost use Rattle.lx_auto.specs.Live.{EachTargetIsRead};
+ghost use Rattle.lx_auto.specs.SameRun.{HasSameRun};
+ghost use Rattle.lx_auto.specs.Live.{AllInterfere};
+ghost use Rattle.lx_regs.specs.Shapes.{KeepsShape};
+
+use crate::dead::drop_dead;
+use crate::renaming::choose_by_state;
+use crate::sharing::share_registers;
+use lx_auto::Auto;
+use lx_base::Memory;
+use std::alloc::Global;
+
+/// The automaton with few registers and few operations: registers are chosen by state, what no walk reads is dropped, and registers that do
+/// not interfere are one (liveness and interference: Trofimovich 2017; Chaitin and others 1981).
+///
+/// Any two registers of one sort that are left interfere. `Memory` may be answered, and no clause ties it to a cause.
+pub fn allocate(alloc: Global, auto: Auto) -> Result<Auto, Memory>
+    requires { IsAuto auto }
+    ensures formed { IfOk result IsAuto }
+    ensures run { IfOk result (λ answer. HasSameRun answer auto) }
+    ensures apart { IfOk result AllInterfere }
+    ensures read { IfOk result EachTargetIsRead }
+    ensures kept { IfOk result (λ answer. KeepsShape auto answer) }
+{
+    let chosen = choose_by_state(alloc, auto)?;
+    let live = drop_dead(alloc, chosen)?;
+    share_registers(alloc, live)
+}

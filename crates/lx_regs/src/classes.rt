@@ -1,0 +1,192 @@
+//! Which registers hold the same at a state, on whatever way it was reached.
+//!
+//! At first all registers of one sort at a state that go to one value are in one class; then classes are split where different
+//! values come to their members along some edge, until none is split any more.
+use crate::flows::{Flow, Flows, Move, Source, code_of};
+use crate::hints::Hints;
+use crate::order::Met;
+use indexmap::IndexSet;
+use lx_auto::Held;
+use lx_base::Memory;
+use std::alloc::Global;
+
+/// What is known of a register from its class and what came to it along the edges so far.
+#[derive(Clone, Copy, PartialEq, Eq, Hash)]
+struct Sign {
+    class: usize,
+    flow: usize,
+    source: Source,
+    marks: usize,
+}
+
+/// The classes of slots, by their places.
+#[derive(Drop)]
+pub(crate) struct Classes {
+    pub(crate) of: Vec<usize>,
+    pub(crate) count: usize,
+}
+
+/// The number at a place, or 0 behind the end.
+pub(crate) fn at(numbers: &[usize], place: usize) -> usize {
+    match numbers.get(place) {
+        Some(number) => *number,
+        None => 0,
+    }
+}
+
+/// The classes with numbers from 0, without gaps.
+fn numbered(alloc: Global, keys: &[usize]) -> Result<Classes, Memory> {
+    let mut seen: IndexSet<usize> = IndexSet::new(alloc);
+    let mut of = Vec::new(alloc);
+    for key in keys {
+        let (class, _) = seen.insert_full(*key)?;
+        of.push(class)?;
+    }
+    Ok(Classes {
+        of,
+        count: seen.len(),
+    })
+}
+
+/// What the registers of a class have in common at first: the state, whether they are m-registers, and the value to which they go.
+#[derive(Clone, Copy, PartialEq, Eq, Hash)]
+struct Common {
+    state: u32,
+    is_history: bool,
+    value: Option<u32>,
+}
+
+/// One class for the registers of one sort at a state that go to one value.
+fn first_classes(alloc: Global, flows: &Flows, hints: &Hints) -> Result<Classes, Memory> {
+    let mut seen: IndexSet<Common> = IndexSet::new(alloc);
+    let mut of = Vec::new(alloc);
+    for (place, slot) in flows.slots.iter().enumerate() {
+        let value = match hints.hint(flows, place) {
+            Some(name) => Some(code_of(name)),
+            None => None,
+        };
+        let common = Common {
+            state: slot.state,
+            is_history: matches!(slot.held, Held::MReg(_)),
+            value,
+        };
+        let (class, _) = seen.insert_full(common)?;
+        of.push(class)?;
+    }
+    Ok(Classes {
+        of,
+        count: seen.len(),
+    })
+}
+
+/// A class of its own for each slot.
+fn own_classes(alloc: Global, flows: &Flows) -> Result<Classes, Memory> {
+    let mut of = Vec::new(alloc);
+    for (place, _) in flows.slots.iter().enumerate() {
+        of.push(place)?;
+    }
+    let count = flows.slots.len();
+    Ok(Classes { of, count })
+}
+
+/// What is known of slots, while it is gathered.
+#[derive(Drop)]
+struct Signs {
+    seen: IndexSet<Sign>,
+    /// The sign of each slot, or its class before anything came to it.
+    keys: Vec<usize>,
+}
+
+impl Signs {
+    /// From where a value comes, by what is known of the slot.
+    fn source(&self, source: Source) -> Source {
+        match source {
+            Source::Slot(slot) => Source::Slot(at(self.keys.as_slice(), slot)),
+            other => other,
+        }
+    }
+
+    /// From where values come that go along an edge.
+    fn sources(&self, alloc: Global, moves: &[Move]) -> Result<Vec<Source>, Memory> {
+        let mut sources = Vec::new(alloc);
+        for step in moves {
+            sources.push(self.source(step.source))?;
+        }
+        Ok(sources)
+    }
+
+    /// Notes what comes to a slot along the flow with this number.
+    fn note(&mut self, flow: usize, step: Move, source: Source) -> Result<(), Memory> {
+        let sign = Sign {
+            class: at(self.keys.as_slice(), step.target),
+            flow,
+            source,
+            marks: step.marks,
+        };
+        let (place, _) = self.seen.insert_full(sign)?;
+        let key = place.saturating_add(self.keys.len());
+        if let Some(kept) = self.keys.get_mut(step.target) {
+            *kept = key;
+        }
+        Ok(())
+    }
+
+    /// The same of all that come along it. What is known of the slots from which they come is read before any of it is noted.
+    fn note_all(&mut self, alloc: Global, flow: usize, moves: &[Move]) -> Result<(), Memory> {
+        let sources = self.sources(alloc, moves)?;
+        for (place, step) in moves.iter().enumerate() {
+            if let Some(source) = sources.get(place) {
+                self.note(flow, *step, *source)?;
+            }
+        }
+        Ok(())
+    }
+
+    /// The same of the edges out of a state, of which the first has this number; and the number behind the last one's.
+    fn note_edges(&mut self, alloc: Global, first: usize, edges: &[Flow]) -> Result<usize, Memory> {
+        let mut number = first;
+        for flow in edges {
+            self.note_all(alloc, number, flow.moves.as_slice())?;
+            number = number.saturating_add(1);
+        }
+        Ok(number)
+    }
+}
+
+/// The classes, split where different values come to their members.
+fn split(
+    alloc: Global,
+    flows: &Flows,
+    order: &[Met],
+    classes: &[usize],
+) -> Result<Classes, Memory> {
+    let mut signs = Signs {
+        seen: IndexSet::new(alloc),
+        keys: Vec::from_slice(alloc, classes)?,
+    };
+    let mut number = 0usize;
+    for met in order {
+        if let Some(edges) = flows.edges.get(met.state) {
+            number = signs.note_edges(alloc, number, edges.as_slice())?;
+        }
+    }
+    numbered(alloc, signs.keys.as_slice())
+}
+
+/// The classes of registers that hold the same, as far as a hundred rounds tell; else each has a class of its own.
+pub(crate) fn classes_of(
+    alloc: Global,
+    flows: &Flows,
+    order: &[Met],
+    hints: &Hints,
+) -> Result<Classes, Memory> {
+    let mut classes = first_classes(alloc, flows, hints)?;
+    for _ in 0..100 {
+        let next = split(alloc, flows, order, classes.of.as_slice())?;
+        if next.count == classes.count {
+            return Ok(next);
+        }
+        classes = next;
+    }
+    own_classes(alloc, flows)
+}

@@ -1,0 +1,210 @@
+//! How values go along the edges of an automaton, from the registers at one state to those at the next.
+//!
+//! Nothing is proved of it but safety, since what is made from it is tested.
+ghost use Rattle.std.specs.Prelude.{◌≡◌, ◌<◌, Contains, length};
+ghost use Rattle.lx_auto.specs.Automaton.{IsAuto, state_of};
+ghost use Rattle.lx_regs.specs.LiveSets.{IsLivenessOf};
+
+use crate::live::Liveness;
+use crate::outcomes::{Outcome, outcome_of, outcome_of_one};
+use indexmap::IndexSet;
+use lx_auto::{Accept, Auto, Edge, Held, Op, State};
+use lx_base::Memory;
+use std::alloc::Global;
+
+/// A number that no state has.
+const NO_STATE: u32 = 4294967295;
+
+/// A register at a state.
+#[derive(Clone, Copy)]
+pub(crate) struct Slot {
+    pub(crate) state: u32,
+    pub(crate) held: Held,
+}
+
+/// From where a value comes.
+#[derive(Clone, Copy, PartialEq, Eq, Hash)]
+pub(crate) enum Source {
+    /// It is the offset.
+    Offset,
+    /// It is nothing.
+    Nothing,
+    /// It is what the register with this place among the slots held.
+    Slot(usize),
+}
+
+/// A value that comes to a register.
+#[derive(Clone, Copy)]
+pub(crate) struct Move {
+    /// The place of the register among the slots.
+    pub(crate) target: usize,
+    pub(crate) source: Source,
+    /// The place of the marks behind a history among the lists of marks.
+    pub(crate) marks: usize,
+}
+
+/// The values that go along an edge.
+#[derive(Drop)]
+pub(crate) struct Flow {
+    pub(crate) to: u32,
+    pub(crate) moves: Vec<Move>,
+}
+
+/// The values that go along all edges, and to what is accepted.
+#[derive(Drop)]
+pub(crate) struct Flows {
+    alloc: Global,
+    keys: IndexSet<u64>,
+    pub(crate) slots: Vec<Slot>,
+    marks: IndexSet<Vec<bool>>,
+    /// Those of the edges of each state, state by state.
+    pub(crate) edges: Vec<Vec<Flow>>,
+    /// Those to the values of what each state accepts, which are slots of no state.
+    pub(crate) accepts: Vec<Vec<Move>>,
+}
+
+/// A number for a register or an m-register: that of a register is even.
+pub(crate) fn code_of(held: Held) -> u32 {
+    match held {
+        Held::Reg(reg) => reg.wrapping_mul(2),
+        Held::MReg(mreg) => mreg.wrapping_mul(2).wrapping_add(1),
+    }
+}
+
+/// The number of a register or an m-register.
+pub(crate) fn number_of(held: Held) -> u32 {
+    match held {
+        Held::Reg(reg) => reg,
+        Held::MReg(mreg) => mreg,
+    }
+}
+
+/// A register of the same sort with another number.
+pub(crate) fn with_number(held: Held, number: u32) -> Held {
+    match held {
+        Held::Reg(_) => Held::Reg(number),
+        Held::MReg(_) => Held::MReg(number),
+    }
+}
+
+impl Flows {
+    fn new(alloc: Global) -> Flows {
+        Flows {
+            alloc,
+            keys: IndexSet::new(alloc),
+            slots: Vec::new(alloc),
+            marks: IndexSet::new(alloc),
+            edges: Vec::new(alloc),
+            accepts: Vec::new(alloc),
+        }
+    }
+
+    /// The marks at a place among the lists of marks.
+    pub(crate) fn marks_at(&self, place: usize) -> &[bool] {
+        match self.marks.get_index(place) {
+            Some(marks) => marks.as_slice(),
+            None => &[],
+        }
+    }
+
+    /// The place of a register at a state among the slots.
+    fn slot(&mut self, state: u32, held: Held) -> Result<usize, Memory> {
+        let key = state as u64 * 4294967296 + code_of(held) as u64;
+        let (place, is_new) = self.keys.insert_full(key)?;
+        if is_new {
+            self.slots.push(Slot { state, held })?;
+        }
+        Ok(place)
+    }
+
+    /// What comes to a slot by an outcome at a state.
+    fn step(&mut self, state: u32, target: usize, outcome: Outcome) -> Result<Move, Memory> {
+        let alloc = self.alloc;
+        let (source, marks) = match outcome {
+            Outcome::Offset => (Source::Offset, Vec::new(alloc)),
+            Outcome::Unset => (Source::Nothing, Vec::new(alloc)),
+            Outcome::Register(reg) => (
+                Source::Slot(self.slot(state, Held::Reg(reg))?),
+                Vec::new(alloc),
+            ),
+            Outcome::History(mreg, marks) => (
+                Source::Slot(self.slot(state, Held::MReg(mreg))?),
+                marks.into_vec(),
+            ),
+        };
+        let (marks, _) = self.marks.insert_full(marks)?;
+        Ok(Move {
+            target,
+            source,
+            marks,
+        })
+    }
+
+    /// The values that go along an edge out of a state to the registers that are live behind it.
+    fn along(
+        &mut self,
+        state: u32,
+        leave: &[Op],
+        edge: &Edge,
+        registers: &[Held],
+    ) -> Result<Flow, Memory> {
+        let mut moves = Vec::new(self.alloc);
+        for held in registers {
+            let outcome = outcome_of(self.alloc, leave, edge.ops.as_slice(), *held)?;
+            let target = self.slot(edge.to, *held)?;
+            let step = self.step(state, target, outcome)?;
+            moves.push(step)?;
+        }
+        Ok(Flow { to: edge.to, moves })
+    }
+
+    /// The values that go to those of what a state accepts.
+    fn to_values(&mut self, state: u32, accept: &Option<Accept>) -> Result<Vec<Move>, Memory> {
+        let mut moves = Vec::new(self.alloc);
+        if let Some(accept) = accept {
+            for value in accept.values.as_slice() {
+                let outcome = outcome_of_one(self.alloc, accept.ops.as_slice(), *value)?;
+                let target = self.slot(NO_STATE, *value)?;
+                let step = self.step(state, target, outcome)?;
+                moves.push(step)?;
+            }
+        }
+        Ok(moves)
+    }
+
+    /// Adds a state with its edges.
+    fn add(
+        &mut self,
+        given: &Auto,
+        live: &Liveness,
+        number: u32,
+        state: &State,
+    ) -> Result<(), Memory>
+        requires live { IsLivenessOf given.now live.now }
+        requires within { number < length given.now.states }
+        requires state { state.now ≡ state_of given.now.states number }
+    {
+        let mut flows = Vec::new(self.alloc);
+        for edge in state.edges.as_slice() {
+            let registers = live.behind(self.alloc, given, number, edge)?;
+            let flow = self.along(number, state.leave.as_slice(), edge, registers.as_slice())?;
+            flows.push(flow)?;
+        }
+        self.edges.push(flows)?;
+        let moves = self.to_values(number, &state.accept)?;
+        self.accepts.push(moves)?;
+        Ok(())
+    }
+}
+
+/// The values that go along the edges of an automaton.
+pub(crate) fn flows_of(alloc: Global, given: &Auto, live: &Liveness) -> Result<Flows, Memory>
+    requires formed { IsAuto given.now }
+    requires live { IsLivenessOf given.now live.now }
+{
+    let mut flows = Flows::new(alloc);
+    for (number, state) in given.states.as_slice().iter().enumerate() {
+        flows.add(given, live, number as u32, state)?;
+    }
+    Ok(flows)
+}

@@ -1,0 +1,155 @@
+//! The values to which registers go: each value of what is accepted somewhere has one name at all states, and what goes to such a
+//! value later on does best to be there already.
+use crate::flows::{Flow, Flows, Move, Source};
+use crate::name_tables::NameTable;
+use crate::order::Met;
+use lx_auto::{Auto, Held};
+use lx_base::Memory;
+use std::alloc::Global;
+
+/// The names of values at all states, and for slots the names of values to which they go.
+#[derive(Drop)]
+pub(crate) struct Hints {
+    /// The names of values.
+    pub(crate) table: NameTable,
+    /// From where on registers and m-registers have no name for all states.
+    pub(crate) free_regs: u32,
+    pub(crate) free_mregs: u32,
+    /// The value to which each slot goes, by its name, if it is known.
+    pub(crate) of: Vec<Option<Held>>,
+    /// Of how many slots it is known.
+    known: usize,
+}
+
+/// What is kept at a place, if something is.
+pub(crate) fn held_at(helds: &[Option<Held>], place: usize) -> Option<Held> {
+    match helds.get(place) {
+        Some(held) => *held,
+        None => None,
+    }
+}
+
+impl Hints {
+    /// Gives a register its name for all states, if it has none yet.
+    fn fix(&mut self, held: Held) -> Result<(), Memory> {
+        if self.table.fixed(held).is_some() {
+            return Ok(());
+        }
+        match held {
+            Held::Reg(_) => {
+                self.table.fix(held, self.free_regs)?;
+                self.free_regs = self.free_regs.saturating_add(1);
+            }
+            Held::MReg(_) => {
+                self.table.fix(held, self.free_mregs)?;
+                self.free_mregs = self.free_mregs.saturating_add(1);
+            }
+        }
+        Ok(())
+    }
+
+    /// Gives the values of what is accepted somewhere their names for all states.
+    fn fix_values(&mut self, given: &Auto) -> Result<(), Memory> {
+        self.fix(Held::MReg(0))?;
+        for state in given.states.as_slice() {
+            if let Some(accept) = &state.accept {
+                self.fix_all(accept.values.as_slice())?;
+            }
+        }
+        Ok(())
+    }
+
+    /// The same of a list.
+    fn fix_all(&mut self, values: &[Held]) -> Result<(), Memory> {
+        for value in values {
+            self.fix(*value)?;
+        }
+        Ok(())
+    }
+
+    /// The value to which a slot goes, or that is held there, by its name.
+    pub(crate) fn hint(&self, flows: &Flows, place: usize) -> Option<Held> {
+        let fixed = match flows.slots.get(place) {
+            Some(slot) => self.table.fixed(slot.held),
+            None => None,
+        };
+        match fixed {
+            Some(name) => Some(name),
+            None => held_at(self.of.as_slice(), place),
+        }
+    }
+
+    /// What comes to a slot with a hint gives one to the slot from which it comes.
+    fn hint_back(&mut self, flows: &Flows, step: Move) {
+        if let Source::Slot(source) = step.source {
+            let hint = self.hint(flows, step.target);
+            if let Some(kept) = self.of.get_mut(source)
+                && kept.is_none()
+                && hint.is_some()
+            {
+                *kept = hint;
+                self.known = self.known.saturating_add(1);
+            }
+        }
+    }
+
+    /// The same of a list.
+    fn hint_back_all(&mut self, flows: &Flows, moves: &[Move]) {
+        for step in moves {
+            self.hint_back(flows, *step);
+        }
+    }
+
+    /// The same of all edges out of a state.
+    fn hint_back_edges(&mut self, flows: &Flows, edges: &[Flow]) {
+        for flow in edges {
+            self.hint_back_all(flows, flow.moves.as_slice());
+        }
+    }
+
+    /// The hints, as far as a round over all states in the opposite order brings them.
+    fn hint_round(&mut self, flows: &Flows, order: &[Met]) {
+        for met in order.iter().rev() {
+            if let Some(moves) = flows.accepts.get(met.state) {
+                self.hint_back_all(flows, moves.as_slice());
+            }
+            if let Some(edges) = flows.edges.get(met.state) {
+                self.hint_back_edges(flows, edges.as_slice());
+            }
+        }
+    }
+}
+
+/// As many places as there are, with nothing kept.
+pub(crate) fn none_kept(alloc: Global, count: usize) -> Result<Vec<Option<Held>>, Memory> {
+    let mut kept = Vec::new(alloc);
+    for _ in 0..count {
+        kept.push(None)?;
+    }
+    Ok(kept)
+}
+
+/// The values to which slots go, as far as a hundred rounds tell.
+pub(crate) fn hints_of(
+    alloc: Global,
+    given: &Auto,
+    flows: &Flows,
+    order: &[Met],
+) -> Result<Hints, Memory> {
+    let mut hints = Hints {
+        table: NameTable::new(alloc),
+        free_regs: 0,
+        free_mregs: 0,
+        of: none_kept(alloc, flows.slots.len())?,
+        known: 0,
+    };
+    hints.fix_values(given)?;
+    for _ in 0..100 {
+        let known = hints.known;
+        hints.hint_round(flows, order);
+        if hints.known == known {
+            break;
+        }
+    }
+    Ok(hints)
+}

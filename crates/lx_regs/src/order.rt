@@ -1,0 +1,60 @@
+//! The states of an automaton as a breadth-first search meets them.
+use crate::flows::{Flow, Flows};
+use indexmap::IndexSet;
+use lx_base::Memory;
+use std::alloc::Global;
+
+/// A state as the search meets it: its number, and the edge by which it is met, by the number of the state that it leaves and its place
+/// there.
+#[derive(Clone, Copy)]
+pub(crate) struct Met {
+    pub(crate) state: usize,
+    pub(crate) by: Option<(usize, usize)>,
+}
+
+/// The states as a search meets them.
+#[derive(Drop)]
+pub(crate) struct Order {
+    pub(crate) met: Vec<Met>,
+    seen: IndexSet<usize>,
+}
+
+impl Order {
+    /// Meets a state, unless it was met before.
+    fn meet(&mut self, state: usize, by: Option<(usize, usize)>) -> Result<(), Memory> {
+        let is_new = self.seen.insert(state)?;
+        if is_new {
+            self.met.push(Met { state, by })?;
+        }
+        Ok(())
+    }
+
+    /// Meets the states to which edges out of a state lead.
+    fn meet_next(&mut self, state: usize, edges: &[Flow]) -> Result<(), Memory> {
+        for (place, flow) in edges.iter().enumerate() {
+            self.meet(flow.to as usize, Some((state, place)))?;
+        }
+        Ok(())
+    }
+}
+
+/// All states: those that a breadth-first search from the first one meets, then the others.
+pub(crate) fn order_of(alloc: Global, flows: &Flows) -> Result<Order, Memory> {
+    let mut order = Order {
+        met: Vec::new(alloc),
+        seen: IndexSet::new(alloc),
+    };
+    order.meet(0, None)?;
+    for index in 0..flows.edges.len() {
+        if let Some(met) = order.met.get(index) {
+            let state = met.state;
+            if let Some(edges) = flows.edges.get(state) {
+                order.meet_next(state, edges.as_slice())?;
+            }
+        }
+    }
+    for state in 0..flows.edges.len() {
+        order.meet(state, None)?;
+    }
+    Ok(order)
+}

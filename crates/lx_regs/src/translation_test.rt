@@ -1,0 +1,325 @@
+//! Whether a proposed automaton, with names for registers, is a translation of the given one.
+ghost use Rattle.std.specs.Prelude.{◌≡◌, ◌<◌, All, Contains, IfOk, IsTrue, length};
+ghost use Rattle.lx_auto.specs.Automaton.{AreOps, IsAuto, IsHeld, IsOp, IsWritable, state_of};
+ghost use Rattle.lx_auto.specs.Effects.{renamed_effect};
+ghost use Rattle.lx_regs.specs.LiveSets.{IsLivenessOf};
+ghost use Rattle.lx_regs.specs.NameTables.{names_at};
+ghost use Rattle.lx_regs.specs.Outcomes.{effect_seen};
+ghost use Rattle.lx_regs.specs.Pairs.{AllPairs};
+ghost use Rattle.lx_regs.specs.Tested.{IsTested, KeepsAccept, KeepsEdge, KeepsEffect, KeepsState, KeepsValue, KeptAccept};
+
+use crate::live::Liveness;
+use crate::name_tables::NameTable;
+use crate::outcomes::{Outcome, outcome_of, outcome_of_one};
+use lx_auto::{Accept, Auto, Edge, Held, Op, State};
+use lx_base::Memory;
+use std::alloc::Global;
+
+/// How many registers there are.
+#[derive(Clone, Copy)]
+struct Counts {
+    regs: u32,
+    mregs: u32,
+}
+
+impl Counts {
+    /// Whether a value may be held there.
+    fn have(&self, held: Held) -> bool
+        ensures { IsTrue result → IsHeld self.now.regs self.now.mregs held }
+    {
+        match held {
+            Held::Reg(reg) => reg < self.regs,
+            Held::MReg(mreg) => mreg < self.mregs,
+        }
+    }
+
+    /// Whether an m-register may be written.
+    fn can_write(&self, mreg: u32) -> bool
+        ensures { IsTrue result → IsWritable self.now.regs self.now.mregs mreg }
+    {
+        0 < mreg && mreg < self.mregs
+    }
+
+    /// Whether an operation names registers that are there, and does not write m-register 0.
+    fn allow(&self, op: Op) -> bool
+        ensures { IsTrue result → IsOp self.now.regs self.now.mregs op }
+    {
+        match op {
+            Op::Here(reg) | Op::Null(reg) => reg < self.regs,
+            Op::Copy(reg, source) => reg < self.regs && source < self.regs,
+            Op::MHere(mreg) | Op::MNull(mreg) => self.can_write(mreg),
+            Op::MCopy(mreg, source) => self.can_write(mreg) && source < self.mregs,
+        }
+    }
+
+    /// The same of a list.
+    fn allow_all(&self, ops: &[Op]) -> bool
+        ensures { IsTrue result → AreOps self.now.regs self.now.mregs ops.now }
+    {
+        for op in ops {
+            if !self.allow(*op) {
+                return false;
+            }
+        }
+        true
+    }
+}
+
+/// Whether two lists of marks are one.
+fn are_same(marks: &[bool], others: &[bool]) -> bool
+    ensures { IsTrue result → marks.now ≡ others.now }
+{
+    if marks.len() != others.len() {
+        return false;
+    }
+    for (index, mark) in marks.iter().enumerate() {
+        if *mark != others[index] {
+            return false;
+        }
+    }
+    true
+}
+
+/// Whether two outcomes are one, where registers at a state have other names in the first.
+fn are_alike(table: &NameTable, state: u32, ours: &Outcome, given: &Outcome) -> bool
+    ensures { IsTrue result → effect_seen ours.now ≡ renamed_effect (names_at table.now state) (effect_seen given.now) }
+{
+    match (ours, given) {
+        (Outcome::Offset, Outcome::Offset) => true,
+        (Outcome::Unset, Outcome::Unset) => true,
+        (Outcome::Register(name), Outcome::Register(reg)) => *name == table.reg(state, *reg),
+        (Outcome::History(name, marks), Outcome::History(mreg, others)) => {
+            *name == table.mreg(state, *mreg) && are_same(marks.as_slice(), others.as_slice())
+        }
+        _ => false,
+    }
+}
+
+/// Two lists, one behind the other at one offset.
+#[derive(Clone, Copy)]
+struct Lists<'a> {
+    first: &'a [Op],
+    second: &'a [Op],
+}
+
+/// The lists of an edge out of a state.
+fn lists_of<'a>(state: &'a State, edge: &'a Edge) -> Lists<'a>
+    ensures first { result.first.now ≡ state.now.leave }
+    ensures second { result.second.now ≡ edge.now.ops }
+{
+    Lists {
+        first: state.leave.as_slice(),
+        second: edge.ops.as_slice(),
+    }
+}
+
+/// A state of both automata.
+#[derive(Clone, Copy)]
+struct Pair<'a> {
+    given: &'a State,
+    answer: &'a State,
+}
+
+/// What a test goes by.
+#[derive(Clone, Copy)]
+struct Test<'a> {
+    alloc: Global,
+    given: &'a Auto,
+    live: &'a Liveness,
+    table: &'a NameTable,
+    counts: Counts,
+}
+
+impl<'a> Test<'a> {
+    /// Whether along an edge the same happens to a register.
+    fn keeps_effect(
+        &self,
+        state: u32,
+        to: u32,
+        lists: Lists<'_>,
+        new: Lists<'_>,
+        held: Held,
+    ) -> Result<bool, Memory>
+        ensures { IfOk result (λ kept. IsTrue kept → KeepsEffect self.now.table.now state to lists.entry.first.now
+            lists.entry.second.now new.entry.first.now new.entry.second.now held) }
+    {
+        let given = outcome_of(self.alloc, lists.first, lists.second, held)?;
+        let name = self.table.name(to, held);
+        let ours = outcome_of(self.alloc, new.first, new.second, name)?;
+        Ok(are_alike(self.table, state, &ours, &given))
+    }
+
+    /// The same of some registers.
+    fn keeps_effects(
+        &self,
+        state: u32,
+        to: u32,
+        lists: Lists<'_>,
+        new: Lists<'_>,
+        registers: &[Held],
+    ) -> Result<bool, Memory>
+        ensures { IfOk result (λ kept. IsTrue kept → All (KeepsEffect self.now.table.now state to lists.entry.first.now
+            lists.entry.second.now new.entry.first.now new.entry.second.now) registers.now) }
+    {
+        for held in registers {
+            if !self.keeps_effect(state, to, lists, new, *held)? {
+                return Ok(false);
+            }
+        }
+        Ok(true)
+    }
+
+    /// Whether an edge out of a state is kept.
+    fn keeps_edge(
+        &self,
+        number: u32,
+        states: Pair<'_>,
+        edge: &Edge,
+        other: &Edge,
+    ) -> Result<bool, Memory>
+        requires live { IsLivenessOf self.now.given.now self.now.live.now }
+        requires within { number < length self.now.given.now.states }
+        requires state { states.given.now ≡ state_of self.now.given.now.states number }
+        requires edge { Contains states.given.now.edges edge.now }
+        ensures { IfOk result (λ kept. IsTrue kept → KeepsEdge self.now.table.now self.now.given.now self.now.counts.regs
+            self.now.counts.mregs number states.entry.given.now.leave states.entry.answer.now.leave edge.now other.now) }
+    {
+        if edge.lo != other.lo || edge.hi != other.hi || edge.to != other.to {
+            return Ok(false);
+        }
+        if !self.counts.allow_all(other.ops.as_slice()) {
+            return Ok(false);
+        }
+        let registers = self.live.behind(self.alloc, self.given, number, edge)?;
+        let lists = lists_of(states.given, edge);
+        let new = lists_of(states.answer, other);
+        self.keeps_effects(number, edge.to, lists, new, registers.as_slice())
+    }
+
+    /// Whether the edges out of a state are kept.
+    fn keeps_edges(&self, number: u32, states: Pair<'_>) -> Result<bool, Memory>
+        requires live { IsLivenessOf self.now.given.now self.now.live.now }
+        requires within { number < length self.now.given.now.states }
+        requires state { states.given.now ≡ state_of self.now.given.now.states number }
+        ensures { IfOk result (λ kept. IsTrue kept → AllPairs (KeepsEdge self.now.table.now self.now.given.now self.now.counts.regs
+            self.now.counts.mregs number states.entry.given.now.leave states.entry.answer.now.leave)
+            states.entry.given.now.edges states.entry.answer.now.edges) }
+    {
+        let edges = states.given.edges.as_slice();
+        let others = states.answer.edges.as_slice();
+        if edges.len() != others.len() {
+            return Ok(false);
+        }
+        for (index, edge) in edges.iter().enumerate() {
+            if !self.keeps_edge(number, states, edge, &others[index])? {
+                return Ok(false);
+            }
+        }
+        Ok(true)
+    }
+
+    /// Whether a value of what is accepted at a state is kept.
+    fn keeps_value(
+        &self,
+        state: u32,
+        ops: &[Op],
+        new: &[Op],
+        value: Held,
+        other: Held,
+    ) -> Result<bool, Memory>
+        ensures { IfOk result (λ kept. IsTrue kept → KeepsValue self.now.table.now self.now.counts.regs self.now.counts.mregs state
+            ops.now new.now value other) }
+    {
+        if !self.counts.have(other) || self.table.fixed(value) != Some(other) {
+            return Ok(false);
+        }
+        let given = outcome_of_one(self.alloc, ops, value)?;
+        let ours = outcome_of_one(self.alloc, new, other)?;
+        Ok(are_alike(self.table, state, &ours, &given))
+    }
+
+    /// Whether what is accepted at a state is kept.
+    fn keeps_accept(&self, state: u32, accept: &Accept, other: &Accept) -> Result<bool, Memory>
+        ensures { IfOk result (λ kept. IsTrue kept → KeptAccept self.now.table.now self.now.counts.regs self.now.counts.mregs state
+            accept.now other.now) }
+    {
+        let values = accept.values.as_slice();
+        let others = other.values.as_slice();
+        let (ops, new) = (accept.ops.as_slice(), other.ops.as_slice());
+        if accept.rule != other.rule
+            || values.len() != others.len()
+            || !self.counts.allow_all(new)
+        {
+            return Ok(false);
+        }
+        for (index, value) in values.iter().enumerate() {
+            if !self.keeps_value(state, ops, new, *value, others[index])? {
+                return Ok(false);
+            }
+        }
+        Ok(true)
+    }
+
+    /// Whether a state is kept.
+    fn keeps_state(&self, number: u32, states: Pair<'_>) -> Result<bool, Memory>
+        requires live { IsLivenessOf self.now.given.now self.now.live.now }
+        requires within { number < length self.now.given.now.states }
+        requires state { states.given.now ≡ state_of self.now.given.now.states number }
+        ensures { IfOk result (λ kept. IsTrue kept → KeepsState self.now.table.now self.now.given.now self.now.counts.regs
+            self.now.counts.mregs number states.entry.given.now states.entry.answer.now) }
+    {
+        if !self.counts.allow_all(states.answer.leave.as_slice())
+            || !self.keeps_edges(number, states)?
+        {
+            return Ok(false);
+        }
+        match (&states.given.accept, &states.answer.accept) {
+            (None, None) => Ok(true),
+            (Some(accept), Some(other)) => self.keeps_accept(number, accept, other),
+            (None, Some(_)) | (Some(_), None) => Ok(false),
+        }
+    }
+}
+
+/// Whether the answer is a translation of the given automaton by the names of the table, and well formed.
+pub(crate) fn is_translation(
+    alloc: Global,
+    given: &Auto,
+    live: &Liveness,
+    table: &NameTable,
+    answer: &Auto,
+) -> Result<bool, Memory>
+    requires formed { IsAuto given.now }
+    requires live { IsLivenessOf given.now live.now }
+    ensures { IfOk result (λ is. IsTrue is → IsTested given.now answer.now table.now) }
+{
+    let (states, others) = (given.states.as_slice(), answer.states.as_slice());
+    if states.len() != others.len()
+        || answer.regs > 1073741824
+        || answer.mregs > 1073741824
+        || table.mreg(0, 0) != 0
+    {
+        return Ok(false);
+    }
+    let counts = Counts {
+        regs: answer.regs,
+        mregs: answer.mregs,
+    };
+    let test = Test {
+        alloc,
+        given,
+        live,
+        table,
+        counts,
+    };
+    for (number, state) in states.iter().enumerate() {
+        let pair = Pair {
+            given: state,
+            answer: &others[number],
+        };
+        if !test.keeps_state(number as u32, pair)? {
+            return Ok(false);
+        }
+    }
+    Ok(true)
+}
