@@ -8,7 +8,7 @@ ghost use Rattle.lx_compile.specs.Reduced.{IsReduced};
 use lx_auto::Auto;
 use lx_base::Memory;
 use lx_min::minimize;
-use lx_regs::{allocate, drop_dead};
+use lx_regs::allocate;
 use std::alloc::Global;
 
 /// The automaton with few operations, registers and states that runs as the given one.
@@ -19,7 +19,6 @@ pub(crate) fn reduced(alloc: Global, auto: Auto) -> Result<Auto, Memory>
     ensures within { IfOk result (λ answer. StaysWithin auto answer) }
     ensures reduced { IfOk result IsReduced }
 {
-    let read = drop_dead(alloc, auto)?;
-    let few = allocate(alloc, read)?;
+    let few = allocate(alloc, auto)?;
     minimize(alloc, few)
 }

@@ -2,14 +2,6 @@
 use Rattle.lx_auto.specs.Effects.{Effect, here, nothing, held_by, history_of}
 use Rattle.lx_regs.specs.declared.outcomes.Outcome.{Outcome}
 use Rattle.lx_regs.specs.declared.outcomes.Outcome.TheVariants.{Offset, Unset, Register, History}
-use Rattle.lx_regs.specs.declared.outcomes.Single.{Single}
-use Rattle.lx_regs.specs.declared.outcomes.Single.TheVariants.{Now, Never, From}
-
--- the effect on a register
-abbrev pub single_effect : Single → Effect
-single_effect Now = here
-single_effect Never = nothing
-single_effect (From reg) = held_by reg
 
 -- the effect on a register or an m-register
 abbrev pub effect_seen : Outcome → Effect

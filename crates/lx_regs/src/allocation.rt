@@ -7,14 +7,15 @@ ghost use Rattle.lx_auto.specs.Live.{AllInterfere};
 ghost use Rattle.lx_regs.specs.Shapes.{KeepsShape};
 
 use crate::dead::drop_dead;
+use crate::merging::merge_equal;
 use crate::renaming::choose_by_state;
 use crate::sharing::share_registers;
 use lx_auto::Auto;
 use lx_base::Memory;
 use std::alloc::Global;
 
-/// The automaton with few registers and few operations: registers are chosen by state, what no walk reads is dropped, and registers that do
-/// not interfere are one (liveness and interference: Trofimovich 2017; Chaitin and others 1981).
+/// The automaton with few registers and few operations: registers that hold the same are one, what no walk reads is dropped, registers are
+/// chosen by state, and registers that do not interfere are one (liveness and interference: Trofimovich 2017; Chaitin and others 1981).
 ///
 /// Any two registers of one sort that are left interfere. `Memory` may be answered, and no clause ties it to a cause.
 pub fn allocate(alloc: Global, auto: Auto) -> Result<Auto, Memory>
@@ -25,7 +26,9 @@ pub fn allocate(alloc: Global, auto: Auto) -> Result<Auto, Memory>
     ensures read { IfOk result EachTargetIsRead }
     ensures kept { IfOk result (λ answer. KeepsShape auto answer) }
 {
-    let chosen = choose_by_state(alloc, auto)?;
+    let merged = merge_equal(alloc, auto)?;
+    let read = drop_dead(alloc, merged)?;
+    let chosen = choose_by_state(alloc, read)?;
     let live = drop_dead(alloc, chosen)?;
     share_registers(alloc, live)
 }

@@ -1,7 +1,7 @@
 //! Which registers hold the same at a state, on whatever way it was reached.
 //!
-//! At first all registers of one sort at a state that go to one value are in one class; then classes are split where different
-//! values come to their members along some edge, until none is split any more.
+//! At first all registers of one sort at a state are in one class; then classes are split where different values come to their members
+//! along some edge, until none is split any more. So it goes again where those that go to different values have been split.
 use crate::flows::{Flow, Flows, Move, Source, code_of};
 use crate::hints::Hints;
 use crate::order::Met;
@@ -48,30 +48,57 @@ fn numbered(alloc: Global, keys: &[usize]) -> Result<Classes, Memory> {
     })
 }
 
-/// What the registers of a class have in common at first: the state, whether they are m-registers, and the value to which they go.
+/// What the registers of a class have in common at first: the state, and whether they are m-registers.
 #[derive(Clone, Copy, PartialEq, Eq, Hash)]
 struct Common {
     state: u32,
     is_history: bool,
-    value: Option<u32>,
 }
 
-/// One class for the registers of one sort at a state that go to one value.
-fn first_classes(alloc: Global, flows: &Flows, hints: &Hints) -> Result<Classes, Memory> {
+/// One class for the registers of one sort at a state.
+fn first_classes(alloc: Global, flows: &Flows) -> Result<Classes, Memory> {
     let mut seen: IndexSet<Common> = IndexSet::new(alloc);
     let mut of = Vec::new(alloc);
-    for (place, slot) in flows.slots.iter().enumerate() {
-        let value = match hints.hint(flows, place) {
-            Some(name) => Some(code_of(name)),
-            None => None,
-        };
+    for slot in flows.slots.as_slice() {
         let common = Common {
             state: slot.state,
             is_history: matches!(slot.held, Held::MReg(_)),
-            value,
         };
         let (class, _) = seen.insert_full(common)?;
         of.push(class)?;
+    }
+    Ok(Classes {
+        of,
+        count: seen.len(),
+    })
+}
+
+/// A class, and the value to which some of its registers go.
+#[derive(Clone, Copy, PartialEq, Eq, Hash)]
+struct Part {
+    class: usize,
+    value: Option<u32>,
+}
+
+/// The classes, split where their members go to different values.
+fn parts_by_value(
+    alloc: Global,
+    flows: &Flows,
+    hints: &Hints,
+    classes: &[usize],
+) -> Result<Classes, Memory> {
+    let mut seen: IndexSet<Part> = IndexSet::new(alloc);
+    let mut of = Vec::new(alloc);
+    for (place, class) in classes.iter().enumerate() {
+        let part = Part {
+            class: *class,
+            value: match hints.hint(flows, place) {
+                Some(name) => Some(code_of(name)),
+                None => None,
+            },
+        };
+        let (number, _) = seen.insert_full(part)?;
+        of.push(number)?;
     }
     Ok(Classes {
         of,
@@ -169,18 +196,22 @@ fn split(
         if let Some(edges) = flows.edges.get(met.state) {
             number = signs.note_edges(alloc, number, edges.as_slice())?;
         }
+        if let Some(moves) = flows.accepts.get(met.state) {
+            signs.note_all(alloc, number, moves.as_slice())?;
+            number = number.saturating_add(1);
+        }
     }
     numbered(alloc, signs.keys.as_slice())
 }
 
-/// The classes of registers that hold the same, as far as a hundred rounds tell; else each has a class of its own.
-pub(crate) fn classes_of(
+/// The classes, split until none is split any more, as far as a hundred rounds tell; else each slot has a class of its own.
+fn split_all(
     alloc: Global,
     flows: &Flows,
     order: &[Met],
-    hints: &Hints,
+    first: Classes,
 ) -> Result<Classes, Memory> {
-    let mut classes = first_classes(alloc, flows, hints)?;
+    let mut classes = first;
     for _ in 0..100 {
         let next = split(alloc, flows, order, classes.of.as_slice())?;
         if next.count == classes.count {
@@ -189,4 +220,22 @@ pub(crate) fn classes_of(
         classes = next;
     }
     own_classes(alloc, flows)
+}
+
+/// The classes of registers that hold the same.
+pub(crate) fn classes_of(alloc: Global, flows: &Flows, order: &[Met]) -> Result<Classes, Memory> {
+    let first = first_classes(alloc, flows)?;
+    split_all(alloc, flows, order, first)
+}
+
+/// The classes of registers that hold the same and go to one value.
+pub(crate) fn classes_by_value(
+    alloc: Global,
+    flows: &Flows,
+    order: &[Met],
+    hints: &Hints,
+    classes: &Classes,
+) -> Result<Classes, Memory> {
+    let first = parts_by_value(alloc, flows, hints, classes.of.as_slice())?;
+    split_all(alloc, flows, order, first)
 }

@@ -5,10 +5,11 @@ ghost use Rattle.std.specs.Prelude.{◌≡◌, ◌<◌, Contains, length};
 ghost use Rattle.lx_auto.specs.Automaton.{IsAuto, state_of};
 ghost use Rattle.lx_regs.specs.LiveSets.{IsLivenessOf};
 
+use crate::effects::Effects;
 use crate::live::Liveness;
-use crate::outcomes::{Outcome, outcome_of, outcome_of_one};
+use crate::outcomes::{Outcome, outcome_of};
 use indexmap::IndexSet;
-use lx_auto::{Accept, Auto, Edge, Held, Op, State};
+use lx_auto::{Accept, Auto, Edge, Held, State};
 use lx_base::Memory;
 use std::alloc::Global;
 
@@ -140,36 +141,69 @@ impl Flows {
         })
     }
 
+    /// What comes to some registers at a state by two lists, of which one is that of the state before.
+    fn moves(
+        &mut self,
+        state: u32,
+        to: u32,
+        lists: (&Effects<'_>, &Effects<'_>),
+        registers: &[Held],
+    ) -> Result<Vec<Move>, Memory> {
+        let mut moves = Vec::new(self.alloc);
+        for held in registers {
+            let outcome = outcome_of(self.alloc, lists.0, lists.1, *held)?;
+            let target = self.slot(to, *held)?;
+            let step = self.step(state, target, outcome)?;
+            moves.push(step)?;
+        }
+        Ok(moves)
+    }
+
     /// The values that go along an edge out of a state to the registers that are live behind it.
     fn along(
         &mut self,
         state: u32,
-        leave: &[Op],
+        leave: &Effects<'_>,
         edge: &Edge,
         registers: &[Held],
     ) -> Result<Flow, Memory> {
-        let mut moves = Vec::new(self.alloc);
-        for held in registers {
-            let outcome = outcome_of(self.alloc, leave, edge.ops.as_slice(), *held)?;
-            let target = self.slot(edge.to, *held)?;
-            let step = self.step(state, target, outcome)?;
-            moves.push(step)?;
-        }
+        let effects = Effects::of(self.alloc, edge.ops.as_slice())?;
+        let moves = self.moves(state, edge.to, (leave, &effects), registers)?;
         Ok(Flow { to: edge.to, moves })
     }
 
     /// The values that go to those of what a state accepts.
     fn to_values(&mut self, state: u32, accept: &Option<Accept>) -> Result<Vec<Move>, Memory> {
-        let mut moves = Vec::new(self.alloc);
-        if let Some(accept) = accept {
-            for value in accept.values.as_slice() {
-                let outcome = outcome_of_one(self.alloc, accept.ops.as_slice(), *value)?;
-                let target = self.slot(NO_STATE, *value)?;
-                let step = self.step(state, target, outcome)?;
-                moves.push(step)?;
-            }
+        let accept = match accept {
+            Some(accept) => accept,
+            None => return Ok(Vec::new(self.alloc)),
+        };
+        let none = Effects::of(self.alloc, &[])?;
+        let effects = Effects::of(self.alloc, accept.ops.as_slice())?;
+        let values = accept.values.as_slice();
+        self.moves(state, NO_STATE, (&none, &effects), values)
+    }
+
+    /// The values that go along the edges out of a state.
+    fn out_of(
+        &mut self,
+        given: &Auto,
+        live: &Liveness,
+        number: u32,
+        state: &State,
+        leave: &Effects<'_>,
+    ) -> Result<Vec<Flow>, Memory>
+        requires live { IsLivenessOf given.now live.now }
+        requires within { number < length given.now.states }
+        requires state { state.now ≡ state_of given.now.states number }
+    {
+        let mut flows = Vec::new(self.alloc);
+        for edge in state.edges.as_slice() {
+            let registers = live.behind(self.alloc, given, number, edge)?;
+            let flow = self.along(number, leave, edge, registers.as_slice())?;
+            flows.push(flow)?;
         }
-        Ok(moves)
+        Ok(flows)
     }
 
     /// Adds a state with its edges.
@@ -184,12 +218,8 @@ impl Flows {
         requires within { number < length given.now.states }
         requires state { state.now ≡ state_of given.now.states number }
     {
-        let mut flows = Vec::new(self.alloc);
-        for edge in state.edges.as_slice() {
-            let registers = live.behind(self.alloc, given, number, edge)?;
-            let flow = self.along(number, state.leave.as_slice(), edge, registers.as_slice())?;
-            flows.push(flow)?;
-        }
+        let leave = Effects::of(self.alloc, state.leave.as_slice())?;
+        let flows = self.out_of(given, live, number, state, &leave)?;
         self.edges.push(flows)?;
         let moves = self.to_values(number, &state.accept)?;
         self.accepts.push(moves)?;

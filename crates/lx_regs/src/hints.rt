@@ -1,8 +1,10 @@
 //! The values to which registers go: each value of what is accepted somewhere has one name at all states, and what goes to such a
 //! value later on does best to be there already.
+use crate::alike::Alike;
 use crate::flows::{Flow, Flows, Move, Source};
 use crate::name_tables::NameTable;
 use crate::order::Met;
+use indexmap::IndexMap;
 use lx_auto::{Auto, Held};
 use lx_base::Memory;
 use std::alloc::Global;
@@ -12,6 +14,8 @@ use std::alloc::Global;
 pub(crate) struct Hints {
     /// The names of values.
     pub(crate) table: NameTable,
+    /// The names of values that are alike, by the number of these.
+    named: IndexMap<usize, u32>,
     /// From where on registers and m-registers have no name for all states.
     pub(crate) free_regs: u32,
     pub(crate) free_mregs: u32,
@@ -30,39 +34,54 @@ pub(crate) fn held_at(helds: &[Option<Held>], place: usize) -> Option<Held> {
 }
 
 impl Hints {
-    /// Gives a register its name for all states, if it has none yet.
-    fn fix(&mut self, held: Held) -> Result<(), Memory> {
+    /// A new name for a register at all states.
+    fn new_name(&mut self, held: Held) -> u32 {
+        match held {
+            Held::Reg(_) => {
+                let name = self.free_regs;
+                self.free_regs = name.saturating_add(1);
+                name
+            }
+            Held::MReg(_) => {
+                let name = self.free_mregs;
+                self.free_mregs = name.saturating_add(1);
+                name
+            }
+        }
+    }
+
+    /// Gives a register its name for all states, if it has none yet: that of one that is alike, or a new one.
+    fn fix(&mut self, held: Held, alike: &Alike) -> Result<(), Memory> {
         if self.table.fixed(held).is_some() {
             return Ok(());
         }
-        match held {
-            Held::Reg(_) => {
-                self.table.fix(held, self.free_regs)?;
-                self.free_regs = self.free_regs.saturating_add(1);
-            }
-            Held::MReg(_) => {
-                self.table.fix(held, self.free_mregs)?;
-                self.free_mregs = self.free_mregs.saturating_add(1);
-            }
+        let number = alike.number(held);
+        if let Some(name) = self.named.get(&number) {
+            return self.table.fix(held, *name);
         }
-        Ok(())
+        let name = self.new_name(held);
+        self.named.insert(number, name)?;
+        self.table.fix(held, name)
     }
 
-    /// Gives the values of what is accepted somewhere their names for all states.
-    fn fix_values(&mut self, given: &Auto) -> Result<(), Memory> {
-        self.fix(Held::MReg(0))?;
+    /// Gives the values of what is accepted somewhere their names for all states. M-register 0, which is never written, has a name of its
+    /// own.
+    fn fix_values(&mut self, given: &Auto, alike: &Alike) -> Result<(), Memory> {
+        let empty = Held::MReg(0);
+        let name = self.new_name(empty);
+        self.table.fix(empty, name)?;
         for state in given.states.as_slice() {
             if let Some(accept) = &state.accept {
-                self.fix_all(accept.values.as_slice())?;
+                self.fix_all(accept.values.as_slice(), alike)?;
             }
         }
         Ok(())
     }
 
     /// The same of a list.
-    fn fix_all(&mut self, values: &[Held]) -> Result<(), Memory> {
+    fn fix_all(&mut self, values: &[Held], alike: &Alike) -> Result<(), Memory> {
         for value in values {
-            self.fix(*value)?;
+            self.fix(*value, alike)?;
         }
         Ok(())
     }
@@ -135,15 +154,17 @@ pub(crate) fn hints_of(
     given: &Auto,
     flows: &Flows,
     order: &[Met],
+    alike: &Alike,
 ) -> Result<Hints, Memory> {
     let mut hints = Hints {
         table: NameTable::new(alloc),
+        named: IndexMap::new(alloc),
         free_regs: 0,
         free_mregs: 0,
         of: none_kept(alloc, flows.slots.len())?,
         known: 0,
     };
-    hints.fix_values(given)?;
+    hints.fix_values(given, alike)?;
     for _ in 0..100 {
         let known = hints.known;
         hints.hint_round(flows, order);

@@ -86,7 +86,7 @@ pub(crate) fn kept_by(alloc: Global, ops: &[Op], wanted: &HeldSet) -> Result<Ops
 }
 
 /// What an operation writes.
-fn target_of(op: Op) -> Held
+pub(crate) fn target_of(op: Op) -> Held
     ensures { result ≡ target_of op }
 {
     match op {

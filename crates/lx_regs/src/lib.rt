@@ -1,6 +1,7 @@
 //! Passes over automata with registers, which leave few registers and few operations.
 #![tactic(auto)]
 
+mod alike;
 mod allocation;
 mod arrows;
 mod classes;
@@ -8,6 +9,7 @@ mod colours;
 mod copies;
 mod copy_sequences;
 mod dead;
+mod effects;
 pub mod examples;
 mod fitting;
 mod flows;
@@ -23,10 +25,12 @@ mod keys;
 pub mod laws;
 mod left_groups;
 mod live;
+mod merging;
 mod name_tables;
 mod naming;
 mod order;
 mod outcomes;
+mod partitions;
 mod proposed;
 mod reached;
 mod readers;
@@ -37,6 +41,7 @@ mod shared_names;
 mod shares;
 mod sharing;
 mod translation_test;
+mod webs;
 mod written;
 
 pub use allocation::allocate;

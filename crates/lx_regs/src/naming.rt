@@ -1,13 +1,15 @@
 //! Names for the classes of registers at each state, so that few values have to be moved.
 //!
-//! States are named as a breadth-first search meets them. A class takes over the name of what comes to it along the edge by which
-//! its state was met; else it gets the name of the value to which it goes later on; else one that is free.
+//! A class gets the name of the value to which it goes later on; of several such classes at a state one gets it, by their webs. States are
+//! named as a breadth-first search meets them. A class that is left takes over the name of what comes to it along the edge by which its
+//! state was met; else it gets one that is free.
 use crate::classes::{Classes, at};
 use crate::flows::{Flow, Flows, Move, Source, code_of, number_of, with_number};
 use crate::hints::{Hints, held_at, none_kept};
 use crate::name_tables::NameTable;
 use crate::order::Met;
-use indexmap::IndexSet;
+use crate::webs::Webs;
+use indexmap::{IndexMap, IndexSet};
 use lx_auto::Held;
 use lx_base::Memory;
 use std::alloc::Global;
@@ -24,7 +26,7 @@ fn flow_at(flows: &Flows, by: Option<(usize, usize)>) -> Option<&Flow> {
 }
 
 /// The slots of each state.
-fn slots_by_state(alloc: Global, flows: &Flows) -> Result<Vec<Vec<usize>>, Memory> {
+pub(crate) fn slots_by_state(alloc: Global, flows: &Flows) -> Result<Vec<Vec<usize>>, Memory> {
     let mut lists: Vec<Vec<usize>> = Vec::new(alloc);
     for _ in flows.edges.as_slice() {
         lists.push(Vec::new(alloc))?;
@@ -43,8 +45,12 @@ struct Namer {
     hints: Hints,
     /// The name of each class, if it has one.
     names: Vec<Option<Held>>,
+    /// The webs of the classes.
+    webs: Webs,
     /// The names that are taken at a state, by their codes.
     taken: IndexSet<u32>,
+    /// The class at a state that gets the name of a value, by the code of this.
+    first: IndexMap<u32, usize>,
 }
 
 impl Namer {
@@ -107,11 +113,33 @@ impl Namer {
         Ok(())
     }
 
+    /// Notes a class that goes to a value, if it is before the others so far.
+    fn note_first(&mut self, class: usize, value: Held) -> Result<(), Memory> {
+        let code = code_of(value);
+        let is_first = match self.first.get(&code) {
+            Some(other) => self.webs.is_before(class, *other),
+            None => true,
+        };
+        if is_first {
+            self.first.insert(code, class)?;
+        }
+        Ok(())
+    }
+
     /// Gives classes the names of values to which they go.
     fn claim_hints(&mut self, classes: &[usize], places: &[usize]) -> Result<(), Memory> {
+        self.first.clear();
         for place in places {
-            if let Some(name) = held_at(self.hints.of.as_slice(), *place) {
-                self.claim(at(classes, *place), name)?;
+            if let Some(value) = held_at(self.hints.of.as_slice(), *place) {
+                self.note_first(at(classes, *place), value)?;
+            }
+        }
+        for place in places {
+            let class = at(classes, *place);
+            if let Some(value) = held_at(self.hints.of.as_slice(), *place)
+                && self.first.get(&code_of(value)) == Some(&class)
+            {
+                self.claim(class, value)?;
             }
         }
         Ok(())
@@ -181,10 +209,10 @@ impl Namer {
     ) -> Result<(), Memory> {
         self.taken.clear();
         self.claim_fixed(flows, classes, places)?;
+        self.claim_hints(classes, places)?;
         if let Some(flow) = flow_at(flows, met.by) {
             self.claim_along(flows, classes, flow.moves.as_slice())?;
         }
-        self.claim_hints(classes, places)?;
         self.claim_free(flows, classes, places)?;
         self.note(flows, classes, places)
     }
@@ -195,6 +223,7 @@ pub(crate) fn names_of(
     alloc: Global,
     flows: &Flows,
     classes: &Classes,
+    webs: Webs,
     order: &[Met],
     hints: Hints,
 ) -> Result<NameTable, Memory> {
@@ -202,7 +231,9 @@ pub(crate) fn names_of(
     let mut namer = Namer {
         hints,
         names: none_kept(alloc, classes.count)?,
+        webs,
         taken: IndexSet::new(alloc),
+        first: IndexMap::new(alloc),
     };
     for met in order {
         if let Some(places) = lists.get(met.state) {

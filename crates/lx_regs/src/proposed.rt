@@ -4,13 +4,16 @@
 ghost use Rattle.lx_auto.specs.Automaton.{IsAuto};
 ghost use Rattle.lx_regs.specs.LiveSets.{IsLivenessOf};
 
-use crate::classes::classes_of;
-use crate::flows::flows_of;
-use crate::hints::hints_of;
+use crate::alike::alike_of;
+use crate::classes::{Classes, classes_by_value, classes_of};
+use crate::flows::{Flows, flows_of};
+use crate::hints::{Hints, hints_of};
 use crate::live::Liveness;
+use crate::name_tables::NameTable;
 use crate::naming::names_of;
-use crate::order::order_of;
+use crate::order::{Met, order_of};
 use crate::renaming::Proposal;
+use crate::webs::webs_of;
 use crate::written::Writer;
 use indexmap::IndexMap;
 use lx_auto::Auto;
@@ -39,6 +42,63 @@ fn past_chosen(names: &IndexMap<u64, u32>, count: u32) -> u32 {
     past
 }
 
+/// The hints for names, where registers that hold the same are known.
+fn hints_by(
+    alloc: Global,
+    given: &Auto,
+    flows: &Flows,
+    order: &[Met],
+    equal: &Classes,
+) -> Result<Hints, Memory> {
+    let alike = alike_of(alloc, flows, equal)?;
+    hints_of(alloc, given, flows, order, &alike)
+}
+
+/// The names of registers at all states by these hints, where registers that hold the same are known.
+fn names_by(
+    alloc: Global,
+    flows: &Flows,
+    order: &[Met],
+    equal: &Classes,
+    hints: Hints,
+) -> Result<NameTable, Memory> {
+    let classes = classes_by_value(alloc, flows, order, &hints, equal)?;
+    let webs = webs_of(alloc, flows, &classes, &hints)?;
+    names_of(alloc, flows, &classes, webs, order, hints)
+}
+
+/// The names of registers at all states.
+fn names_for(
+    alloc: Global,
+    given: &Auto,
+    flows: &Flows,
+    order: &[Met],
+) -> Result<NameTable, Memory> {
+    let equal = classes_of(alloc, flows, order)?;
+    let hints = hints_by(alloc, given, flows, order, &equal)?;
+    names_by(alloc, flows, order, &equal, hints)
+}
+
+/// The automaton by these names.
+fn answer_by(
+    alloc: Global,
+    given: &Auto,
+    flows: &Flows,
+    names: &NameTable,
+) -> Result<Auto, Memory> {
+    let writer = Writer {
+        alloc,
+        flows,
+        table: names,
+    };
+    let states = writer.states(given.states.as_slice())?;
+    Ok(Auto {
+        states,
+        regs: past_chosen(&names.regs, past_fixed(&names.fixed_regs, 0)),
+        mregs: past_chosen(&names.mregs, past_fixed(&names.fixed_mregs, 1)),
+    })
+}
+
 /// An automaton in which registers that always hold the same are one, and values stay where they are as far as they can.
 pub(crate) fn propose(alloc: Global, given: &Auto, live: &Liveness) -> Result<Proposal, Memory>
     requires formed { IsAuto given.now }
@@ -46,19 +106,7 @@ pub(crate) fn propose(alloc: Global, given: &Auto, live: &Liveness) -> Result<Pr
 {
     let flows = flows_of(alloc, given, live)?;
     let order = order_of(alloc, &flows)?;
-    let hints = hints_of(alloc, given, &flows, order.met.as_slice())?;
-    let classes = classes_of(alloc, &flows, order.met.as_slice(), &hints)?;
-    let names = names_of(alloc, &flows, &classes, order.met.as_slice(), hints)?;
-    let writer = Writer {
-        alloc,
-        flows: &flows,
-        table: &names,
-    };
-    let states = writer.states(given.states.as_slice())?;
-    let answer = Auto {
-        states,
-        regs: past_chosen(&names.regs, past_fixed(&names.fixed_regs, 0)),
-        mregs: past_chosen(&names.mregs, past_fixed(&names.fixed_mregs, 1)),
-    };
+    let names = names_for(alloc, given, &flows, order.met.as_slice())?;
+    let answer = answer_by(alloc, given, &flows, &names)?;
     Ok(Proposal { answer, names })
 }

@@ -21,7 +21,7 @@ pub(crate) struct Proposal {
 }
 
 /// Whether the proposal may stand for the given automaton.
-fn may_stand(
+pub(crate) fn may_stand(
     alloc: Global,
     given: &Auto,
     live: &Liveness,

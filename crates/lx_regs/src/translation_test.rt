@@ -8,6 +8,7 @@ ghost use Rattle.lx_regs.specs.Outcomes.{effect_seen};
 ghost use Rattle.lx_regs.specs.Pairs.{AllPairs};
 ghost use Rattle.lx_regs.specs.Tested.{IsTested, KeepsAccept, KeepsEdge, KeepsEffect, KeepsState, KeepsValue, KeptAccept};
 
+use crate::effects::Effects;
 use crate::live::Liveness;
 use crate::name_tables::NameTable;
 use crate::outcomes::{Outcome, outcome_of, outcome_of_one};
@@ -98,19 +99,8 @@ fn are_alike(table: &NameTable, state: u32, ours: &Outcome, given: &Outcome) -> 
 /// Two lists, one behind the other at one offset.
 #[derive(Clone, Copy)]
 struct Lists<'a> {
-    first: &'a [Op],
-    second: &'a [Op],
-}
-
-/// The lists of an edge out of a state.
-fn lists_of<'a>(state: &'a State, edge: &'a Edge) -> Lists<'a>
-    ensures first { result.first.now ≡ state.now.leave }
-    ensures second { result.second.now ≡ edge.now.ops }
-{
-    Lists {
-        first: state.leave.as_slice(),
-        second: edge.ops.as_slice(),
-    }
+    first: &'a Effects<'a>,
+    second: &'a Effects<'a>,
 }
 
 /// A state of both automata.
@@ -118,6 +108,13 @@ fn lists_of<'a>(state: &'a State, edge: &'a Edge) -> Lists<'a>
 struct Pair<'a> {
     given: &'a State,
     answer: &'a State,
+}
+
+/// What is done on leaving a state of both automata.
+#[derive(Clone, Copy)]
+struct Leaves<'a> {
+    given: &'a Effects<'a>,
+    answer: &'a Effects<'a>,
 }
 
 /// What a test goes by.
@@ -173,16 +170,15 @@ impl<'a> Test<'a> {
     fn keeps_edge(
         &self,
         number: u32,
-        states: Pair<'_>,
+        leaves: Leaves<'_>,
         edge: &Edge,
         other: &Edge,
     ) -> Result<bool, Memory>
         requires live { IsLivenessOf self.now.given.now self.now.live.now }
         requires within { number < length self.now.given.now.states }
-        requires state { states.given.now ≡ state_of self.now.given.now.states number }
-        requires edge { Contains states.given.now.edges edge.now }
+        requires edge { Contains (state_of self.now.given.now.states number).edges edge.now }
         ensures { IfOk result (λ kept. IsTrue kept → KeepsEdge self.now.table.now self.now.given.now self.now.counts.regs
-            self.now.counts.mregs number states.entry.given.now.leave states.entry.answer.now.leave edge.now other.now) }
+            self.now.counts.mregs number leaves.entry.given.now leaves.entry.answer.now edge.now other.now) }
     {
         if edge.lo != other.lo || edge.hi != other.hi || edge.to != other.to {
             return Ok(false);
@@ -191,9 +187,42 @@ impl<'a> Test<'a> {
             return Ok(false);
         }
         let registers = self.live.behind(self.alloc, self.given, number, edge)?;
-        let lists = lists_of(states.given, edge);
-        let new = lists_of(states.answer, other);
+        let effects = Effects::of(self.alloc, edge.ops.as_slice())?;
+        let new_effects = Effects::of(self.alloc, other.ops.as_slice())?;
+        let lists = Lists {
+            first: leaves.given,
+            second: &effects,
+        };
+        let new = Lists {
+            first: leaves.answer,
+            second: &new_effects,
+        };
         self.keeps_effects(number, edge.to, lists, new, registers.as_slice())
+    }
+
+    /// Whether the edges out of a state are kept, each by the one at its place.
+    fn keeps_each_edge(
+        &self,
+        number: u32,
+        leaves: Leaves<'_>,
+        edges: &[Edge],
+        others: &[Edge],
+    ) -> Result<bool, Memory>
+        requires live { IsLivenessOf self.now.given.now self.now.live.now }
+        requires within { number < length self.now.given.now.states }
+        requires edges { edges.now ≡ (state_of self.now.given.now.states number).edges }
+        ensures { IfOk result (λ kept. IsTrue kept → AllPairs (KeepsEdge self.now.table.now self.now.given.now self.now.counts.regs
+            self.now.counts.mregs number leaves.entry.given.now leaves.entry.answer.now) edges.now others.now) }
+    {
+        if edges.len() != others.len() {
+            return Ok(false);
+        }
+        for (index, edge) in edges.iter().enumerate() {
+            if !self.keeps_edge(number, leaves, edge, &others[index])? {
+                return Ok(false);
+            }
+        }
+        Ok(true)
     }
 
     /// Whether the edges out of a state are kept.
@@ -205,37 +234,57 @@ impl<'a> Test<'a> {
             self.now.counts.mregs number states.entry.given.now.leave states.entry.answer.now.leave)
             states.entry.given.now.edges states.entry.answer.now.edges) }
     {
-        let edges = states.given.edges.as_slice();
+        let leave = Effects::of(self.alloc, states.given.leave.as_slice())?;
+        let new_leave = Effects::of(self.alloc, states.answer.leave.as_slice())?;
+        let leaves = Leaves {
+            given: &leave,
+            answer: &new_leave,
+        };
         let others = states.answer.edges.as_slice();
-        if edges.len() != others.len() {
-            return Ok(false);
-        }
-        for (index, edge) in edges.iter().enumerate() {
-            if !self.keeps_edge(number, states, edge, &others[index])? {
-                return Ok(false);
-            }
-        }
-        Ok(true)
+        self.keeps_each_edge(number, leaves, states.given.edges.as_slice(), others)
     }
 
     /// Whether a value of what is accepted at a state is kept.
     fn keeps_value(
         &self,
         state: u32,
-        ops: &[Op],
-        new: &[Op],
+        effects: &Effects<'_>,
+        new: &Effects<'_>,
         value: Held,
         other: Held,
     ) -> Result<bool, Memory>
         ensures { IfOk result (λ kept. IsTrue kept → KeepsValue self.now.table.now self.now.counts.regs self.now.counts.mregs state
-            ops.now new.now value other) }
+            effects.now new.now value other) }
     {
         if !self.counts.have(other) || self.table.fixed(value) != Some(other) {
             return Ok(false);
         }
-        let given = outcome_of_one(self.alloc, ops, value)?;
+        let given = outcome_of_one(self.alloc, effects, value)?;
         let ours = outcome_of_one(self.alloc, new, other)?;
         Ok(are_alike(self.table, state, &ours, &given))
+    }
+
+    /// The same of all values.
+    fn keeps_values(
+        &self,
+        state: u32,
+        effects: &Effects<'_>,
+        new: &Effects<'_>,
+        values: &[Held],
+        others: &[Held],
+    ) -> Result<bool, Memory>
+        ensures { IfOk result (λ kept. IsTrue kept → AllPairs (KeepsValue self.now.table.now self.now.counts.regs self.now.counts.mregs
+            state effects.now new.now) values.now others.now) }
+    {
+        if values.len() != others.len() {
+            return Ok(false);
+        }
+        for (index, value) in values.iter().enumerate() {
+            if !self.keeps_value(state, effects, new, *value, others[index])? {
+                return Ok(false);
+            }
+        }
+        Ok(true)
     }
 
     /// Whether what is accepted at a state is kept.
@@ -243,21 +292,13 @@ impl<'a> Test<'a> {
         ensures { IfOk result (λ kept. IsTrue kept → KeptAccept self.now.table.now self.now.counts.regs self.now.counts.mregs state
             accept.now other.now) }
     {
-        let values = accept.values.as_slice();
-        let others = other.values.as_slice();
-        let (ops, new) = (accept.ops.as_slice(), other.ops.as_slice());
-        if accept.rule != other.rule
-            || values.len() != others.len()
-            || !self.counts.allow_all(new)
-        {
+        if accept.rule != other.rule || !self.counts.allow_all(other.ops.as_slice()) {
             return Ok(false);
         }
-        for (index, value) in values.iter().enumerate() {
-            if !self.keeps_value(state, ops, new, *value, others[index])? {
-                return Ok(false);
-            }
-        }
-        Ok(true)
+        let effects = Effects::of(self.alloc, accept.ops.as_slice())?;
+        let new = Effects::of(self.alloc, other.ops.as_slice())?;
+        let others = other.values.as_slice();
+        self.keeps_values(state, &effects, &new, accept.values.as_slice(), others)
     }
 
     /// Whether a state is kept.

@@ -1,16 +1,16 @@
 //! The lists of operations that bring values to the registers that are chosen for them.
 //!
-//! What comes to a register along several edges out of a state, and is the same on each of them, is brought where the state is left, if
-//! no edge reads the register.
+//! All of it is done on edges, and nothing where a state is left: that would be done on each way out of the state, also on those behind
+//! which nothing reads it.
 use crate::flows::{Flow, Flows, Move, Source, code_of};
 use crate::name_tables::NameTable;
-use indexmap::{IndexMap, IndexSet};
+use indexmap::IndexMap;
 use lx_auto::{Accept, Edge, Held, Op, Ops, State};
 use lx_base::{Memory, Sequence};
 use std::alloc::Global;
 
 /// What a register gets, by names of the answer.
-#[derive(Clone, Copy, PartialEq, Eq)]
+#[derive(Clone, Copy)]
 enum Gets {
     Offset,
     Nothing,
@@ -27,77 +27,6 @@ struct Setting {
 
 /// What registers of the answer get along an edge, by their codes.
 type Settings = IndexMap<u32, Setting>;
-
-/// Whether both are the same.
-fn are_equal(setting: Setting, other: Setting) -> bool {
-    setting.target == other.target && setting.gets == other.gets && setting.marks == other.marks
-}
-
-/// What is done on leaving a state, while it is found.
-#[derive(Drop)]
-struct Common {
-    /// The codes of registers that some edge reads.
-    reads: IndexSet<u32>,
-    /// What registers that are not read get, if it is the same along all edges.
-    settings: Settings,
-    /// Along how many edges they get it.
-    times: IndexMap<u32, u32>,
-    /// The codes of registers that get different things.
-    apart: IndexSet<u32>,
-}
-
-impl Common {
-    /// Notes what an edge reads.
-    fn read_all(&mut self, list: &Settings) -> Result<(), Memory> {
-        for index in 0..list.len() {
-            if let Some((_, setting)) = list.get_index(index)
-                && let Gets::What(held) = setting.gets
-            {
-                self.reads.insert(code_of(held))?;
-            }
-        }
-        Ok(())
-    }
-
-    /// Notes what a register gets along an edge.
-    fn add(&mut self, code: u32, setting: Setting) -> Result<(), Memory> {
-        if self.reads.contains(&code) {
-            return Ok(());
-        }
-        if let Some(other) = self.settings.get(&code) {
-            if !are_equal(setting, *other) {
-                self.apart.insert(code)?;
-            }
-        } else {
-            self.settings.insert(code, setting)?;
-        }
-        let times = match self.times.get(&code) {
-            Some(times) => *times,
-            None => 0,
-        };
-        self.times.insert(code, times.saturating_add(1))?;
-        Ok(())
-    }
-
-    /// The same of a list.
-    fn add_all(&mut self, list: &Settings) -> Result<(), Memory> {
-        for index in 0..list.len() {
-            if let Some((code, setting)) = list.get_index(index) {
-                self.add(*code, *setting)?;
-            }
-        }
-        Ok(())
-    }
-
-    /// Whether what a register gets is brought where the state is left.
-    fn has(&self, code: u32) -> bool {
-        let times = match self.times.get(&code) {
-            Some(times) => *times,
-            None => 0,
-        };
-        1 < times && !self.apart.contains(&code)
-    }
-}
 
 /// What lists are written from.
 #[derive(Clone, Copy)]
@@ -178,62 +107,24 @@ impl<'a> Writer<'a> {
         }
     }
 
-    /// The operations of settings: those that are done on leaving the state, or the others.
-    fn ops(&self, settings: &Settings, common: &Common, on_leaving: bool) -> Result<Ops, Memory> {
+    /// The operations by which registers of the answer get what they get by moves.
+    fn ops(&self, moves: &[Move]) -> Result<Ops, Memory> {
+        let settings = self.settings(moves)?;
         let mut ops = Ops::new(self.alloc);
         for index in 0..settings.len() {
-            if let Some((code, setting)) = settings.get_index(index)
-                && common.has(*code) == on_leaving
-            {
+            if let Some((_, setting)) = settings.get_index(index) {
                 self.push(&mut ops, *setting)?;
             }
         }
         Ok(ops)
     }
 
-    /// Nothing that is done on leaving a state.
-    fn nothing_common(&self) -> Common {
-        Common {
-            reads: IndexSet::new(self.alloc),
-            settings: IndexMap::new(self.alloc),
-            times: IndexMap::new(self.alloc),
-            apart: IndexSet::new(self.alloc),
-        }
-    }
-
-    /// What is done on leaving a state with these edges.
-    fn common(&self, lists: &[Settings]) -> Result<Common, Memory> {
-        let mut common = self.nothing_common();
-        for list in lists {
-            common.read_all(list)?;
-        }
-        for list in lists {
-            common.add_all(list)?;
-        }
-        Ok(common)
-    }
-
-    /// The settings of some flows.
-    fn lists(&self, flows: &[Flow]) -> Result<Vec<Settings>, Memory> {
-        let mut lists = Vec::new(self.alloc);
-        for flow in flows {
-            let list = self.settings(flow.moves.as_slice())?;
-            lists.push(list)?;
-        }
-        Ok(lists)
-    }
-
     /// The edges of a state of the answer.
-    fn edges(
-        &self,
-        edges: &[Edge],
-        lists: &[Settings],
-        common: &Common,
-    ) -> Result<Sequence<Edge>, Memory> {
+    fn edges(&self, edges: &[Edge], flows: &[Flow]) -> Result<Sequence<Edge>, Memory> {
         let mut others = Sequence::new(self.alloc);
         for (place, edge) in edges.iter().enumerate() {
-            let ops = match lists.get(place) {
-                Some(list) => self.ops(list, common, false)?,
+            let ops = match flows.get(place) {
+                Some(flow) => self.ops(flow.moves.as_slice())?,
                 None => Ops::new(self.alloc),
             };
             others.push(Edge {
@@ -257,25 +148,22 @@ impl<'a> Writer<'a> {
 
     /// What a state of the answer accepts.
     fn accept(&self, accept: &Accept, moves: &[Move]) -> Result<Accept, Memory> {
-        let settings = self.settings(moves)?;
         Ok(Accept {
             rule: accept.rule,
-            ops: self.ops(&settings, &self.nothing_common(), false)?,
+            ops: self.ops(moves)?,
             values: self.values(accept.values.as_slice())?,
         })
     }
 
     /// A state of the answer.
     fn state(&self, state: &State, flows: &[Flow], moves: &[Move]) -> Result<State, Memory> {
-        let lists = self.lists(flows)?;
-        let common = self.common(lists.as_slice())?;
         Ok(State {
-            edges: self.edges(state.edges.as_slice(), lists.as_slice(), &common)?,
+            edges: self.edges(state.edges.as_slice(), flows)?,
             accept: match &state.accept {
                 Some(accept) => Some(self.accept(accept, moves)?),
                 None => None,
             },
-            leave: self.ops(&common.settings, &common, true)?,
+            leave: Ops::new(self.alloc),
         })
     }
 

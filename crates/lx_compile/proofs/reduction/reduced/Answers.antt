@@ -9,18 +9,15 @@ use Rattle.lx_compile.proofs.reduction.reduced.Goals as goal
 pub returns-clause-run : goal.returns-clause-run
 returns-clause-run c =
     let given = c.args.auto in
-    let read = c.in_ok-read.read in
     let few = c.in_ok-few.few in
     IfOk-weaker c.minimize.result (λ answer. HasSameRun answer few) (λ answer. HasSameRun answer given)
-    (λ answer runs. same_run-through answer read given (same_run-through answer few read runs c.in_ok-few.ensures.run) c.in_ok-read.ensures.run)
+    (λ answer runs. same_run-through answer few given runs c.in_ok-few.ensures.run)
     c.minimize.ensures.run
 
 pub returns-clause-within : goal.returns-clause-within
 returns-clause-within c =
     let given = c.args.auto in
-    let read = c.in_ok-read.read in
     let few = c.in_ok-few.few in
-    let first = StaysWithin-through given read few (StaysWithin-shape given read c.in_ok-read.ensures.kept)
-    (StaysWithin-shape read few c.in_ok-few.ensures.kept) in
+    let first = StaysWithin-shape given few c.in_ok-few.ensures.kept in
     IfOk-weaker c.minimize.result (λ answer. StaysWithin few answer) (λ answer. StaysWithin given answer)
     (λ answer within. StaysWithin-through given few answer first within) c.minimize.ensures.within

@@ -1,0 +1,275 @@
+//! Which registers hold the same wherever a walk stands.
+//!
+//! At first all registers of one sort are in one class; then, round by round, classes are split where some list does other things to
+//! their members, until a round splits none. Nothing is proved of it but safety, since what is made from it is tested.
+use crate::classes::at;
+use crate::flows::number_of;
+use crate::kept_lists::target_of;
+use indexmap::IndexSet;
+use lx_auto::{Auto, Held, Op, State};
+use lx_base::Memory;
+use std::alloc::Global;
+
+/// The most rounds.
+const ROUNDS: usize = 20;
+
+/// What an operation does to the register that it writes, where those that it reads are told by their classes.
+#[derive(Clone, Copy, PartialEq, Eq, Hash)]
+enum Deed {
+    Offset,
+    Nothing,
+    Copy(usize),
+    Mark(bool),
+    History(usize),
+}
+
+/// What a register was told by before an operation, and what that does to it.
+#[derive(Clone, Copy, PartialEq, Eq, Hash)]
+struct Step {
+    sign: usize,
+    deed: Deed,
+}
+
+/// The registers of one sort in classes.
+#[derive(Drop)]
+pub(crate) struct Partition {
+    /// The class of each register, by its number.
+    pub(crate) of: Vec<usize>,
+    /// The first register of each class.
+    pub(crate) firsts: Vec<u32>,
+    /// How many registers are written by some list.
+    written: usize,
+    /// How many classes these have.
+    kept: usize,
+}
+
+impl Partition {
+    /// Counts a register that is written, which may be the first of its class.
+    fn note_written(&mut self, is_first: bool) {
+        self.written = self.written.saturating_add(1);
+        if is_first {
+            self.kept = self.kept.saturating_add(1);
+        }
+    }
+}
+
+/// Registers and m-registers in classes.
+#[derive(Drop)]
+pub(crate) struct Partitions {
+    pub(crate) regs: Partition,
+    pub(crate) mregs: Partition,
+}
+
+/// A number as one of 32 bits, or the greatest of these.
+pub(crate) fn narrow(number: usize) -> u32 {
+    if number < 4294967295 {
+        number as u32
+    } else {
+        4294967295
+    }
+}
+
+/// As many registers as there are, in one class.
+fn one_class(alloc: Global, count: u32) -> Result<Vec<usize>, Memory> {
+    let mut of = Vec::new(alloc);
+    for _ in 0..count {
+        of.push(0)?;
+    }
+    Ok(of)
+}
+
+/// One class for each sign, by first occurrence. Signs from a number on are those of registers that are written.
+fn partition_of(alloc: Global, signs: &[usize], from: usize) -> Result<Partition, Memory> {
+    let mut seen: IndexSet<usize> = IndexSet::new(alloc);
+    let mut partition = Partition {
+        of: Vec::new(alloc),
+        firsts: Vec::new(alloc),
+        written: 0,
+        kept: 0,
+    };
+    for (number, sign) in signs.iter().enumerate() {
+        let (class, is_new) = seen.insert_full(*sign)?;
+        partition.of.push(class)?;
+        if is_new {
+            partition.firsts.push(narrow(number))?;
+        }
+        if from <= *sign {
+            partition.note_written(is_new);
+        }
+    }
+    Ok(partition)
+}
+
+impl Partitions {
+    /// How many classes there are.
+    fn count(&self) -> usize {
+        self.regs
+            .firsts
+            .len()
+            .saturating_add(self.mregs.firsts.len())
+    }
+
+    /// Whether of the registers that are written at most half are left where those of a class are one.
+    fn is_half(&self) -> bool {
+        let written = self.regs.written.saturating_add(self.mregs.written);
+        let kept = self.regs.kept.saturating_add(self.mregs.kept);
+        0 < kept && kept <= written / 2
+    }
+
+    /// The class of a register.
+    pub(crate) fn class(&self, held: Held) -> usize {
+        match held {
+            Held::Reg(reg) => at(self.regs.of.as_slice(), reg as usize),
+            Held::MReg(mreg) => at(self.mregs.of.as_slice(), mreg as usize),
+        }
+    }
+
+    /// Whether a register is the first of its class.
+    pub(crate) fn is_first(&self, held: Held) -> bool {
+        let class = self.class(held);
+        let first = match held {
+            Held::Reg(_) => self.regs.firsts.get(class),
+            Held::MReg(_) => self.mregs.firsts.get(class),
+        };
+        match first {
+            Some(first) => *first == number_of(held),
+            None => false,
+        }
+    }
+
+    /// What an operation does.
+    fn deed(&self, op: Op) -> Deed {
+        match op {
+            Op::Here(_) => Deed::Offset,
+            Op::Null(_) => Deed::Nothing,
+            Op::Copy(_, source) => Deed::Copy(self.class(Held::Reg(source))),
+            Op::MHere(_) => Deed::Mark(true),
+            Op::MNull(_) => Deed::Mark(false),
+            Op::MCopy(_, source) => Deed::History(self.class(Held::MReg(source))),
+        }
+    }
+}
+
+/// Puts a sign at a place, if it is there.
+fn put(signs: &mut Vec<usize>, place: usize, sign: usize) {
+    if let Some(kept) = signs.get_mut(place) {
+        *kept = sign;
+    }
+}
+
+/// A round over the lists of an automaton.
+#[derive(Drop)]
+struct Round<'a> {
+    alloc: Global,
+    /// The classes before the round.
+    partitions: &'a Partitions,
+    /// What registers are told by so far.
+    regs: Vec<usize>,
+    mregs: Vec<usize>,
+    /// More than all signs that were given before the current list.
+    next: usize,
+}
+
+impl<'a> Round<'a> {
+    /// What a register is told by.
+    fn sign(&self, held: Held) -> usize {
+        match held {
+            Held::Reg(reg) => at(self.regs.as_slice(), reg as usize),
+            Held::MReg(mreg) => at(self.mregs.as_slice(), mreg as usize),
+        }
+    }
+
+    /// Gives a register another sign.
+    fn set(&mut self, held: Held, sign: usize) {
+        match held {
+            Held::Reg(reg) => put(&mut self.regs, reg as usize, sign),
+            Held::MReg(mreg) => put(&mut self.mregs, mreg as usize, sign),
+        }
+    }
+
+    /// Tells registers apart by a list.
+    fn split(&mut self, ops: &[Op]) -> Result<(), Memory> {
+        let mut steps = IndexSet::new(self.alloc);
+        for op in ops {
+            let target = target_of(*op);
+            let step = Step {
+                sign: self.sign(target),
+                deed: self.partitions.deed(*op),
+            };
+            let (place, _) = steps.insert_full(step)?;
+            self.set(target, self.next.saturating_add(place));
+        }
+        self.next = self.next.saturating_add(steps.len());
+        Ok(())
+    }
+
+    /// The same by the lists of a state.
+    fn split_by_state(&mut self, state: &State) -> Result<(), Memory> {
+        self.split(state.leave.as_slice())?;
+        for edge in state.edges.as_slice() {
+            self.split(edge.ops.as_slice())?;
+        }
+        match &state.accept {
+            Some(accept) => self.split(accept.ops.as_slice()),
+            None => Ok(()),
+        }
+    }
+}
+
+/// The classes behind a round.
+fn classes_behind(
+    alloc: Global,
+    auto: &Auto,
+    partitions: &Partitions,
+) -> Result<Partitions, Memory> {
+    let from = partitions.count();
+    let mut round = Round {
+        alloc,
+        partitions,
+        regs: Vec::from_slice(alloc, partitions.regs.of.as_slice())?,
+        mregs: Vec::from_slice(alloc, partitions.mregs.of.as_slice())?,
+        next: from,
+    };
+    for state in auto.states.as_slice() {
+        round.split_by_state(state)?;
+    }
+    Ok(Partitions {
+        regs: partition_of(alloc, round.regs.as_slice(), from)?,
+        mregs: partition_of(alloc, round.mregs.as_slice(), from)?,
+    })
+}
+
+/// Splits classes until they are told. The answer is whether that is so soon, and at most half of what is written is left.
+fn settle(alloc: Global, auto: &Auto, partitions: &mut Partitions) -> Result<bool, Memory> {
+    for _ in 0..ROUNDS {
+        let count = partitions.count();
+        let next = classes_behind(alloc, auto, partitions)?;
+        *partitions = next;
+        if !partitions.is_half() {
+            return Ok(false);
+        }
+        if partitions.count() == count {
+            return Ok(true);
+        }
+    }
+    Ok(false)
+}
+
+/// All registers of a sort in one class.
+fn one_class_each(alloc: Global, auto: &Auto) -> Result<Partitions, Memory> {
+    let regs = one_class(alloc, auto.regs)?;
+    let mregs = one_class(alloc, auto.mregs)?;
+    Ok(Partitions {
+        regs: partition_of(alloc, regs.as_slice(), 1)?,
+        mregs: partition_of(alloc, mregs.as_slice(), 1)?,
+    })
+}
+
+/// The registers in classes of which the members hold the same, if rounds tell them soon and at most half of what is written is left.
+pub(crate) fn partitions_of(alloc: Global, auto: &Auto) -> Result<Option<Partitions>, Memory> {
+    let mut partitions = one_class_each(alloc, auto)?;
+    if settle(alloc, auto, &mut partitions)? {
+        return Ok(Some(partitions));
+    }
+    Ok(None)
+}
