@@ -6,7 +6,7 @@ here=$(cd "$(dirname "$0")" && pwd)
 copy=$(mktemp -d) || exit 1
 trap 'rm -rf "$copy"' EXIT
 . "$here/copy_crates.sh"
-copy_crates "$copy" lx_base lx_ccode lx_creader lx_step code_samples
+copy_crates "$copy" lx_base lx_class lx_encode lx_ccode lx_files lx_creader lx_window lx_step lx_run code_samples
 cd "$copy/crates/code_samples" || exit 1
 sed -i 's/^const COPIES: usize = .*/const COPIES: usize = 14_300_000;/' src/tests/stepper.rt
 rt test > "$copy/log" 2>&1 || { tail -5 "$copy/log" >&2; exit 1; }

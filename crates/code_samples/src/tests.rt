@@ -1,2 +1,3 @@
 mod reader;
 mod stepper;
+mod windows;

@@ -1,15 +1,18 @@
 -- Lists that are gone through item by item.
-use Rattle.std.proofs.Common.{◌≡◌, ℕ, suc, ◌+◌, ◌<◌, ◌||◌, Bool, true, false, List, [], ◌∷◌, ◌++◌, length, take, drop, get_or, refl, ap, ap₂, sym, ◌∙◌, max, arith, append_assoc}
-use Rattle.std.specs.Prelude.{if◌then◌else◌}
+use Rattle.std.proofs.Common.{◌≡◌, ℕ, suc, ◌+◌, ◌<◌, ◌||◌, Bool, true, false, List, [], ◌∷◌, ◌++◌, length, take, drop, get_or, refl, ap, ap₂, sym, ◌∙◌, max, arith, Option, Some, None, append-nil}
 use Rattle.std.specs.List.{list_any}
 use Rattle.std.proofs.lemmas.List.Folds.{list_any-append}
 use Rattle.std.proofs.Math.Seq.{drop-cons, take-suc}
 use Rattle.lx_ccode.specs.declared.piece.Stmt.{Stmt}
 use Rattle.lx_ccode.specs.declared.piece.CodeBlock.{CodeBlock}
+use Rattle.lx_ccode.specs.declared.piece.Piece.{Piece}
 use Rattle.lx_ccode.specs.Statements.{all_statements}
+use Rattle.lx_step.specs.declared.answers.StmtAt.{StmtAt}
 use Rattle.lx_step.specs.Held.{Held}
+use Rattle.lx_run.proofs.PutTexts.{drop-next}
 use Rattle.lx_run.specs.Streams.{most_needed}
-use Rattle.lx_run.specs.Values.{gives_same, tag_text, tags_text}
+use Rattle.lx_run.specs.Tags.{new_tag_text}
+use Rattle.lx_run.specs.Values.{onto, statement_at, statements_at, tags_text}
 
 -- ---- what statements ask for
 
@@ -29,6 +32,20 @@ or_assoc : (first second third : Bool) → ((first || second) || third) ≡ (fir
 or_assoc true second third = refl
 or_assoc false second third = refl
 
+-- a test of one statement behind others
+pub list_any-one : (test : Stmt → Bool) (before : Bool) (statement : Stmt) → (before || test statement) ≡ (before || list_any test (statement ∷ []))
+list_any-one test before statement = ap (λ found. before || found) (by (test statement)) where
+  by : (found : Bool) → found ≡ (found || false)
+  by true = refl
+  by false = refl
+
+-- the statements from a place on
+pub drop-item : (statements : List Stmt) (index : ℕ) (statement : Stmt) → index < length statements → statement ≡ get_or statements index statement
+    → drop index statements ≡ statement ∷ drop (index + 1) statements
+drop-item statements index statement below is =
+    let after : suc index ≡ index + 1 = omega arith in
+    drop-cons statements index statement below ∙ ap₂ (λ (first : Stmt) (place : ℕ). first ∷ drop place statements) (sym is) after
+
 pub list_any-behind : (test : Stmt → Bool) (before result whole : Bool) (front back all : List Stmt) → all ≡ front ++ back
     → result ≡ (before || list_any test front) → (before || list_any test all) ≡ whole → (result || list_any test back) ≡ whole
 list_any-behind test before result whole front back all splits result_is whole_is =
@@ -42,22 +59,32 @@ most_needed-behind before result whole front back all splits result_is whole_is 
 
 -- ---- tags
 
--- a tag more was told
-pub tags_text-next : (held : Held) (statements before : List Stmt) (place : ℕ) (statement : Stmt) (text text' whole : List ℕ) → place < length statements
-    → statement ≡ get_or statements place statement → before ≡ take place statements
-    → text' ≡ text ++ (if list_any (gives_same statement) before then [] else tag_text held statement)
-    → text ++ tags_text held (take place statements) (drop place statements) ≡ whole
-    → text' ++ tags_text held (take (place + 1) statements) (drop (place + 1) statements) ≡ whole
-tags_text-next held statements before place statement text text' whole below is before_is text_is whole_is =
-    let after : place + 1 ≡ suc place = omega arith in
-    let taken : take (place + 1) statements ≡ before ++ statement ∷ [] =
-    ap (λ (count : ℕ). take count statements) after ∙ take-suc statements place statement below
-    ∙ ap₂ (λ (front : List Stmt) (last : Stmt). front ++ last ∷ []) (sym before_is) (sym is) in
-    let left : drop place statements ≡ statement ∷ drop (place + 1) statements =
-    drop-cons statements place statement below ∙ ap₂ (λ (first : Stmt) (count : ℕ). first ∷ drop count statements) (sym is) (sym after) in
-    let told : List ℕ = if list_any (gives_same statement) before then [] else tag_text held statement in
-    let others : List ℕ = tags_text held (before ++ statement ∷ []) (drop (place + 1) statements) in
-    ap₂ (λ (front : List ℕ) (taken : List Stmt). front ++ tags_text held taken (drop (place + 1) statements)) text_is taken
-    ∙ append_assoc text told others
-    ∙ ap (λ (rest : List Stmt). text ++ tags_text held before rest) (sym left)
-    ∙ ap (λ (taken : List Stmt). text ++ tags_text held taken (drop place statements)) before_is ∙ whole_is
+onto-append : (statement : Option Stmt) (whole front back : List Stmt) → whole ≡ front ++ back → onto statement whole ≡ onto statement front ++ back
+onto-append None whole front back is = is
+onto-append (Some statement) whole front back is = ap (λ (rest : List Stmt). statement ∷ rest) is
+
+statements_at-append : (piece : Piece) (front back : List StmtAt) → statements_at piece (front ++ back) ≡ statements_at piece front ++ statements_at piece back
+statements_at-append piece [] back = refl
+statements_at-append piece (place ∷ front) back =
+    onto-append (statement_at piece place) (statements_at piece (front ++ back)) (statements_at piece front) (statements_at piece back) (statements_at-append piece front back)
+
+-- the tag of the first statement, where there is one, and those of others
+tags_text-onto : (held : Held) (before rest : List Stmt) (statement : Option Stmt)
+    → tags_text held before (onto statement rest) ≡ new_tag_text held before statement ++ tags_text held (before ++ onto statement []) rest
+tags_text-onto held before rest None = ap (λ (front : List Stmt). tags_text held front rest) (sym (append-nil before))
+tags_text-onto held before rest (Some statement) = refl
+
+-- the tag of the statement at a place, and those behind
+pub tags_text-at : (held : Held) (piece : Piece) (places : List StmtAt) (at : ℕ) (other : StmtAt) → at < length places
+    → tags_text held (statements_at piece (take at places)) (statements_at piece (drop at places))
+    ≡ new_tag_text held (statements_at piece (take at places)) (statement_at piece (get_or places at other)) ++ tags_text held (statements_at piece (take (at + 1) places)) (statements_at piece (drop (at + 1) places))
+tags_text-at held piece places at other below =
+    let place : StmtAt = get_or places at other in
+    let before : List Stmt = statements_at piece (take at places) in
+    let rest : List Stmt = statements_at piece (drop (at + 1) places) in
+    let after : at + 1 ≡ suc at = omega arith in
+    let taken : take (at + 1) places ≡ take at places ++ place ∷ [] = ap (λ (count : ℕ). take count places) after ∙ take-suc places at other below in
+    let made : statements_at piece (take (at + 1) places) ≡ before ++ onto (statement_at piece place) [] = ap (statements_at piece) taken ∙ statements_at-append piece (take at places) (place ∷ []) in
+    let left : drop at places ≡ place ∷ drop (at + 1) places = drop-next places at other below in
+    ap (λ (list : List StmtAt). tags_text held before (statements_at piece list)) left ∙ tags_text-onto held before rest (statement_at piece place)
+    ∙ ap (λ (front : List Stmt). new_tag_text held before (statement_at piece place) ++ tags_text held front rest) (sym made)

@@ -1,3 +1,14 @@
-mod Appending
-mod RunLemmas
-mod GivenTags
+pub mod Appending
+pub mod Beginnings
+pub mod Filling
+pub mod GivenAnswers
+pub mod Inputs
+pub mod MatchBounds
+pub mod MatchLemmas
+pub mod MatchLoops
+pub mod PutTexts
+pub mod RefilledWindows
+pub mod WindowEnds
+pub mod WindowMatches
+pub mod WindowRuns
+pub mod WindowSteps

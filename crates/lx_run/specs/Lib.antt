@@ -1,6 +1,10 @@
-pub mod Streams
-pub mod Values
-pub mod Tags
+pub mod Ends
 pub mod Lines
+pub mod Matches
+pub mod Puts
+pub mod Readings
+pub mod Streams
+pub mod Tags
 pub mod Texts
-pub mod Steps
+pub mod Values
+pub mod Windows

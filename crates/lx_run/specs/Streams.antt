@@ -8,7 +8,7 @@ use Rattle.lx_ccode.specs.declared.piece.Mode.{Mode}
 use Rattle.lx_ccode.specs.declared.piece.Mode.TheVariants.{Plain, Count, EofFixed, Eof}
 use Rattle.lx_ccode.specs.declared.piece.Piece.{Piece}
 use Rattle.lx_ccode.specs.Statements.{all_statements, is_need, is_try}
-use Rattle.lx_step.specs.Streams.{stream_units}
+use Rattle.lx_window.specs.Units.{stream_units}
 
 -- the units that the statement asks for
 abbrev pub units_needed : Stmt → ℕ
@@ -58,6 +58,17 @@ stops_in Eof = false
 -- whether a run ends before a match that would start behind the input
 abbrev pub stops_at_end : Piece → Bool
 stops_at_end piece = stops_in (mode_of piece)
+
+-- in this mode no statement asks for units, and the whole stream stands in the buffer
+abbrev pub holds_all_in : Mode → Bool
+holds_all_in Plain = true
+holds_all_in Count = false
+holds_all_in EofFixed = true
+holds_all_in Eof = false
+
+-- whether the whole stream stands in the buffer
+abbrev pub holds_all : Piece → Bool
+holds_all piece = holds_all_in (mode_of piece)
 
 -- the input and the padding, in bytes
 abbrev pub padded : Piece → (input : List ℕ) → List ℕ

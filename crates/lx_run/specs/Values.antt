@@ -10,8 +10,7 @@ use Rattle.lx_ccode.specs.declared.piece.Piece.{Piece}
 use Rattle.lx_ccode.specs.Machine.{code_at}
 use Rattle.lx_step.specs.declared.answers.Group.{Group}
 use Rattle.lx_step.specs.declared.answers.StmtAt.{StmtAt}
-use Rattle.lx_step.specs.Given.{offset_in, history_in}
-use Rattle.lx_step.specs.Held.{Held, cond_of}
+use Rattle.lx_step.specs.Held.{Held, cond_of, history_of, offset_of}
 
 -- an offset, or `-` for none
 abbrev pub offset_text : Option ℕ → List ℕ
@@ -33,9 +32,9 @@ history_text (entry ∷ entries) = offset_text entry ++ entries_text entries
 -- what a statement gave a tag
 abbrev pub tag_text : Held → Stmt → List ℕ
 tag_text held (Tag name false register) =
-    joined (codes " " ∷ name ∷ codes "=" ∷ offset_text (unwrap_or (offset_in held.given.offsets name) None) ∷ []) []
+    joined (codes " " ∷ name ∷ codes "=" ∷ offset_text (unwrap_or (offset_of held name) None) ∷ []) []
 tag_text held (Tag name true history) =
-    joined (codes " " ∷ name ∷ codes "=[" ∷ history_text (unwrap_or (history_in held.given.histories name) []) ∷ codes "]" ∷ []) []
+    joined (codes " " ∷ name ∷ codes "=[" ∷ history_text (unwrap_or (history_of held name) []) ∷ codes "]" ∷ []) []
 tag_text held _ = []
 
 -- both statements give the same tag a value of the same sort

@@ -1,16 +1,16 @@
 //! The statements by which a match gave values, and how these are printed.
-ghost use Rattle.std.specs.Prelude.{◌≡◌, ◌++◌, if◌then◌else◌, List, [], ◌∷◌, map, option_map, IfOk, OnOk};
+ghost use Rattle.std.specs.Prelude.{◌≡◌, ◌++◌, if◌then◌else◌, [], codes, option_map, take, unwrap_or};
 ghost use Rattle.std.specs.List.{list_any};
-ghost use Rattle.lx_ccode.specs.declared.piece.Stmt.{Stmt};
-ghost use Rattle.lx_run.specs.Tags.{AreTagsOf};
-ghost use Rattle.lx_run.specs.Values.{assignments, gives_same, is_cond, is_count, statement_at, tag_text, tags_text, values_text};
+ghost use Rattle.lx_step.specs.Held.{cond_of};
+ghost use Rattle.lx_run.specs.Puts.{IsPut};
+ghost use Rattle.lx_run.specs.Tags.{new_tag_text};
+ghost use Rattle.lx_run.specs.Values.{assignments, gives_same, groups_text, is_cond, is_count, statement_at, statements_at, tags_text, values_text};
 
-use crate::tags::GivenTags;
-use crate::values::{append_groups, append_tag};
-use lx_base::{Memory, append_parts};
+use crate::puts::put_parts;
+use crate::values::{put_groups, put_tag};
 use lx_ccode::{Piece, Stmt};
+use lx_files::{PutAnswer, Sink};
 use lx_step::{Lexer, StmtAt};
-use std::alloc::Global;
 
 /// The statement at a place.
 fn statement_at<'p>(piece: &'p Piece, place: StmtAt) -> Option<&'p Stmt>
@@ -20,98 +20,120 @@ fn statement_at<'p>(piece: &'p Piece, place: StmtAt) -> Option<&'p Stmt>
     block.stmts.as_slice().get(place.stmt as usize)
 }
 
-/// The statements by which the last match gave values, in the order in which they were first made.
-fn assignments<'p>(
-    alloc: Global,
-    piece: &'p Piece,
-    lexer: &Lexer<'_>,
-) -> Result<Vec<&'p Stmt>, Memory>
-    requires { lexer.now.piece ≡ piece.now }
-    ensures { IfOk result (λ statements. map (λ statement. statement.now) statements.items ≡ assignments lexer.now) }
+/// Whether both statements give the same tag a value of the same sort.
+fn gives_same(statement: &Stmt, other: &Stmt) -> bool
+    ensures { result ≡ gives_same statement.now other.now }
 {
-    let mut statements = Vec::new(alloc);
-    for place in lexer.assigned() {
-        if let Some(statement) = statement_at(piece, *place) {
-            statements.push(statement)?;
+    match (statement, other) {
+        (Stmt::Tag(name, sort, _), Stmt::Tag(other_name, other_sort, _)) => {
+            name.as_slice() == other_name.as_slice() && *sort == *other_sort
         }
+        _ => false,
     }
-    Ok(statements)
 }
 
-/// Appends the value that a statement gave a tag, unless a statement before it gave the tag a value of the same kind.
-fn append_new_tag(
-    alloc: Global,
-    text: &mut Vec<u8>,
-    lexer: &Lexer<'_>,
-    before: &mut GivenTags,
-    statement: &Stmt,
-) -> Result<(), Memory>
-    ensures { (others : List Stmt) → AreTagsOf others before.old.offsets before.old.histories
-        → OnOk result ((text.new.items ≡ text.old.items ++ (if list_any (gives_same statement.now) others then [] else tag_text lexer.now statement.now))
-        × AreTagsOf (others ++ statement.now ∷ []) before.new.offsets before.new.histories) }
+/// Whether a statement at the places gives the tag of the statement a value of the same sort.
+fn is_given(piece: &Piece, places: &[StmtAt], statement: &Stmt) -> bool
+    ensures { result ≡ list_any (gives_same statement.now) (statements_at piece.now places.now) }
 {
-    let new = before.add(alloc, statement)?;
-    if !new {
-        return Ok(());
-    }
-    append_tag(alloc, text, lexer, statement)
-}
-
-/// Appends the tags that the statements give values, each once.
-fn append_tags(
-    alloc: Global,
-    text: &mut Vec<u8>,
-    lexer: &Lexer<'_>,
-    statements: &[&Stmt],
-) -> Result<(), Memory>
-    ensures { OnOk result (text.new.items ≡ text.old.items ++ tags_text lexer.now [] (map (λ statement. statement.now) statements.now)) }
-{
-    let mut before = GivenTags::new(alloc);
-    for place in 0..statements.len() {
-        append_new_tag(alloc, text, lexer, &mut before, statements[place])?;
-    }
-    Ok(())
-}
-
-fn has_count(statements: &[&Stmt]) -> bool
-    ensures { result ≡ list_any is_count (map (λ statement. statement.now) statements.now) }
-{
-    for statement in statements {
-        if let Stmt::Count(_) = statement {
-            return true;
+    for place in places {
+        if let Some(other) = statement_at(piece, *place) {
+            if gives_same(statement, other) {
+                return true;
+            }
         }
     }
     false
 }
 
-fn has_cond(statements: &[&Stmt]) -> bool
-    ensures { result ≡ list_any is_cond (map (λ statement. statement.now) statements.now) }
-{
-    for statement in statements {
-        if let Stmt::Cond(_) = statement {
-            return true;
-        }
-    }
-    false
-}
-
-/// Appends the values of the last match to the text.
-pub fn append_values(
-    alloc: Global,
-    text: &mut Vec<u8>,
+/// Puts the value that the statement at a place gave a tag, unless one at the places before gave the tag a value of the same
+/// sort.
+fn put_new_tag<O: Sink>(
+    out: &mut O,
     piece: &Piece,
     lexer: &Lexer<'_>,
-) -> Result<(), Memory>
-    requires { lexer.now.piece ≡ piece.now }
-    ensures { OnOk result (text.new.items ≡ text.old.items ++ values_text lexer.now) }
+    before: &[StmtAt],
+    place: StmtAt,
+) -> Result<(), PutAnswer>
+    ensures { IsPut (O.given out.old) (O.given out.new) (O.faults out.old) (O.faults out.new)
+        (new_tag_text lexer.now (statements_at piece.now before.now) (statement_at piece.now place)) result }
 {
-    let statements = assignments(alloc, piece, lexer)?;
-    append_tags(alloc, text, lexer, &statements)?;
-    if has_count(&statements) {
-        append_groups(alloc, text, lexer.groups())?;
+    let Some(statement) = statement_at(piece, place) else {
+        return Ok(());
+    };
+    if is_given(piece, before, statement) {
+        return Ok(());
     }
-    if has_cond(&statements) {
-        append_parts(text, &[b" => ", lexer.cond().unwrap_or(b"")])?;
+    put_tag(out, lexer, statement)
+}
+
+/// Puts the tags that the last match gave values, each once.
+fn put_tags<O: Sink>(out: &mut O, piece: &Piece, lexer: &Lexer<'_>) -> Result<(), PutAnswer>
+    requires { lexer.now.piece ≡ piece.now }
+    ensures { IsPut (O.given out.old) (O.given out.new) (O.faults out.old) (O.faults out.new)
+        (tags_text lexer.now [] (assignments lexer.now)) result }
+{
+    let places = lexer.assigned();
+    for at in 0..places.len() {
+        put_new_tag(out, piece, lexer, &places[..at], places[at])?;
     }
     Ok(())
+}
+
+/// Whether a statement at the places counts groups.
+fn has_count(piece: &Piece, places: &[StmtAt]) -> bool
+    ensures { result ≡ list_any is_count (statements_at piece.now places.now) }
+{
+    for place in places {
+        if let Some(Stmt::Count(_)) = statement_at(piece, *place) {
+            return true;
+        }
+    }
+    false
+}
+
+/// Whether a statement at the places sets the condition.
+fn has_cond(piece: &Piece, places: &[StmtAt]) -> bool
+    ensures { result ≡ list_any is_cond (statements_at piece.now places.now) }
+{
+    for place in places {
+        if let Some(Stmt::Cond(_)) = statement_at(piece, *place) {
+            return true;
+        }
+    }
+    false
+}
+
+/// Puts the groups, where the last match counted them.
+fn put_counted<O: Sink>(out: &mut O, piece: &Piece, lexer: &Lexer<'_>) -> Result<(), PutAnswer>
+    requires { lexer.now.piece ≡ piece.now }
+    ensures { IsPut (O.given out.old) (O.given out.new) (O.faults out.old) (O.faults out.new)
+        (if list_any is_count (assignments lexer.now) then groups_text (take lexer.now.given.groups lexer.now.given.entries) else []) result }
+{
+    if !has_count(piece, lexer.assigned()) {
+        return Ok(());
+    }
+    put_groups(out, lexer.groups())
+}
+
+/// Puts the condition, where the last match set it.
+fn put_cond<O: Sink>(out: &mut O, piece: &Piece, lexer: &Lexer<'_>) -> Result<(), PutAnswer>
+    requires { lexer.now.piece ≡ piece.now }
+    ensures { IsPut (O.given out.old) (O.given out.new) (O.faults out.old) (O.faults out.new)
+        (if list_any is_cond (assignments lexer.now) then codes " => " ++ unwrap_or (cond_of lexer.now) [] else []) result }
+{
+    if !has_cond(piece, lexer.assigned()) {
+        return Ok(());
+    }
+    put_parts(out, &[b" => ", lexer.cond().unwrap_or(b"")])
+}
+
+/// Puts the values of the last match.
+pub fn put_values<O: Sink>(out: &mut O, piece: &Piece, lexer: &Lexer<'_>) -> Result<(), PutAnswer>
+    requires { lexer.now.piece ≡ piece.now }
+    ensures { IsPut (O.given out.old) (O.given out.new) (O.faults out.old) (O.faults out.new) (values_text lexer.now) result }
+{
+    put_tags(out, piece, lexer)?;
+    put_counted(out, piece, lexer)?;
+    put_cond(out, piece, lexer)
 }

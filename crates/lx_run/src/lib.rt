@@ -3,11 +3,16 @@
 
 mod asks;
 mod assignments;
+mod ends;
+mod line_sinks;
 mod lines;
 mod matches;
+mod puts;
 mod runs;
 mod streams;
-mod tags;
 mod values;
+mod windows;
 
-pub use runs::run_whole;
+pub use ends::RunEnd;
+pub use runs::run_over;
+pub use windows::run_window;

@@ -1,105 +1,62 @@
-//! The matches of a run, one by one.
-ghost use Rattle.std.specs.Prelude.{◌≡◌, ◌++◌, ◌%◌, ◌≤◌, IfOk, IsSome, None, length, false};
-ghost use Rattle.lx_step.specs.Streams.{stream_units};
+//! The lines of a match.
+ghost use Rattle.std.specs.Prelude.{◌≡◌, ◌++◌, not, ◌==◌, false, IfOk};
 ghost use Rattle.lx_run.specs.Lines.{end_line, match_line};
-ghost use Rattle.lx_run.specs.Steps.{Leads};
-ghost use Rattle.lx_run.specs.Streams.{stops_at_end};
-ghost use Rattle.lx_run.specs.Texts.{behind_match, held_after, lines_at, lines_from, match_at};
+ghost use Rattle.lx_run.specs.Puts.{IsPut};
+ghost use Rattle.lx_run.specs.Texts.{is_followed, match_lines, stop_behind};
 
-use crate::lines::{append_stop, end_line, match_line};
-use crate::streams::InputEnd;
-use lx_base::Memory;
+use crate::lines::{put_end_line, put_match_line, put_stop_line};
 use lx_ccode::Piece;
+use lx_files::{PutAnswer, Sink};
 use lx_step::{Lexer, Outcome};
-use std::alloc::Global;
 
-/// The lines of a match, and where the next one starts, if the run goes on.
-#[derive(Drop)]
-pub struct MatchLines {
-    pub text: Vec<u8>,
-    pub next: Option<u64>,
-}
-
-/// The lines of a match that ended by a rule.
-fn rule_lines(
-    alloc: Global,
+/// Puts the lines of a match that ended by a rule, and says whether another match follows.
+fn put_rule<O: Sink>(
+    out: &mut O,
     word: &[u8],
     rule: u32,
     piece: &Piece,
     lexer: &Lexer<'_>,
-) -> Result<MatchLines, Memory>
+) -> Result<bool, PutAnswer>
     requires { lexer.now.piece ≡ piece.now }
-    ensures { IfOk result (λ lines. Leads (λ going. match_line word.now rule lexer.now ++ behind_match going lexer.now) lexer.now lines.text.items lines.next) }
+    ensures put { IsPut (O.given out.old) (O.given out.new) (O.faults out.old) (O.faults out.new) (match_line word.now rule lexer.now ++ stop_behind lexer.now) result }
+    ensures followed { IfOk result (λ followed. followed ≡ not (lexer.now.cursor == lexer.now.start)) }
 {
-    let mut text = match_line(alloc, word, rule, piece, lexer)?;
+    put_match_line(out, word, rule, piece, lexer)?;
     if lexer.cursor() == lexer.start() {
-        append_stop(alloc, &mut text, lexer.cursor())?;
-        return Ok(MatchLines { text, next: None });
+        put_stop_line(out, lexer.cursor())?;
+        return Ok(false);
     }
-    Ok(MatchLines {
-        text,
-        next: Some(lexer.cursor()),
-    })
+    Ok(true)
 }
 
-/// The lines of a match by which the run ends.
-fn last_lines(alloc: Global, word: &[u8], lexer: &Lexer<'_>) -> Result<MatchLines, Memory>
-    ensures text { IfOk result (λ lines. lines.text.items ≡ end_line word.now lexer.now.start lexer.now.cursor) }
-    ensures last { IfOk result (λ lines. lines.next ≡ None) }
+/// Puts the line of a match by which the run ends.
+fn put_end<O: Sink>(out: &mut O, word: &[u8], lexer: &Lexer<'_>) -> Result<bool, PutAnswer>
+    ensures put { IsPut (O.given out.old) (O.given out.new) (O.faults out.old) (O.faults out.new) (end_line word.now lexer.now.start lexer.now.cursor) result }
+    ensures last { IfOk result (λ followed. followed ≡ false) }
 {
-    let text = end_line(alloc, word, lexer.start(), lexer.cursor())?;
-    Ok(MatchLines { text, next: None })
+    put_end_line(out, word, lexer.start(), lexer.cursor())?;
+    Ok(false)
 }
 
-/// Makes a match on a stream from a start on, which counts units, and gives its lines.
-fn match_lines(
-    alloc: Global,
+/// Puts the lines of the last match, which ended with this outcome, and says whether another one follows. A match that has not ended
+/// by itself has no lines.
+pub fn put_lines<O: Sink>(
+    out: &mut O,
     piece: &Piece,
-    lexer: &mut Lexer<'_>,
-    stream: &[u8],
-    start: u64,
-) -> Result<MatchLines, Memory>
-    requires piece { lexer.old.piece ≡ piece.now }
-    requires fit { lexer.old.spent ≡ false }
-    requires whole { length stream.now % piece.now.unit ≡ 0 }
-    requires start { start ≤ length (stream_units piece.now.unit stream.now) }
-    ensures leads { let units = stream_units piece.now.unit stream.now in
-        IfOk result (λ lines. Leads (λ going. lines_from going (match_at lexer.old units start).outcome (held_after lexer.old units start)) (held_after lexer.old units start) lines.text.items lines.next) }
-    ensures held { IfOk result (λ lines. IsSome lines.next → lexer.new ≡ held_after lexer.old (stream_units piece.now.unit stream.now) start) }
+    lexer: &Lexer<'_>,
+    outcome: Outcome,
+) -> Result<bool, PutAnswer>
+    requires { lexer.now.piece ≡ piece.now }
+    ensures put { IsPut (O.given out.old) (O.given out.new) (O.faults out.old) (O.faults out.new) (match_lines outcome lexer.now) result }
+    ensures followed { IfOk result (λ followed. followed ≡ is_followed outcome lexer.now) }
 {
-    match lexer.advance_whole(stream, start) {
-        Outcome::Rule { number } => rule_lines(alloc, b"rule ", number, piece, lexer),
-        Outcome::Jump { number } => rule_lines(alloc, b"jump ", number, piece, lexer),
-        Outcome::NoRule => last_lines(alloc, b"none ", lexer),
-        Outcome::End => last_lines(alloc, b"end ", lexer),
-        Outcome::Stuck => last_lines(alloc, b"stuck ", lexer),
-        Outcome::Loop => last_lines(alloc, b"loop ", lexer),
-        Outcome::Spent | Outcome::Memory => Err(Memory),
+    match outcome {
+        Outcome::Rule { number } => put_rule(out, b"rule ", number, piece, lexer),
+        Outcome::Jump { number } => put_rule(out, b"jump ", number, piece, lexer),
+        Outcome::NoRule => put_end(out, b"none ", lexer),
+        Outcome::End => put_end(out, b"end ", lexer),
+        Outcome::Stuck => put_end(out, b"stuck ", lexer),
+        Outcome::Loop => put_end(out, b"loop ", lexer),
+        _ => Ok(false),
     }
-}
-
-/// The lines from a start on: those of the match that is made there, or where the run stops behind so many units of input and the
-/// start stands there, the line by which it ends.
-pub fn next_lines(
-    alloc: Global,
-    piece: &Piece,
-    lexer: &mut Lexer<'_>,
-    stream: &[u8],
-    start: u64,
-    input: InputEnd,
-) -> Result<MatchLines, Memory>
-    requires piece { lexer.old.piece ≡ piece.now }
-    requires fit { lexer.old.spent ≡ false }
-    requires stops { input.stops ≡ stops_at_end piece.now }
-    requires whole { length stream.now % piece.now.unit ≡ 0 }
-    requires start { start ≤ length (stream_units piece.now.unit stream.now) }
-    ensures leads { let units = stream_units piece.now.unit stream.now in
-        IfOk result (λ lines. Leads (λ going. lines_at going units input.units lexer.old start) (held_after lexer.old units start) lines.text.items lines.next) }
-    ensures held { IfOk result (λ lines. IsSome lines.next → lexer.new ≡ held_after lexer.old (stream_units piece.now.unit stream.now) start) }
-{
-    if input.stops && input.units <= start {
-        let text = end_line(alloc, b"end ", start, start)?;
-        return Ok(MatchLines { text, next: None });
-    }
-    match_lines(alloc, piece, lexer, stream, start)
 }

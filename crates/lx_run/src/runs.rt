@@ -1,70 +1,87 @@
 //! A run of a scanner over an input.
-ghost use Rattle.std.specs.Prelude.{◌≡◌, ◌≤◌, ◌%◌, length, OnOk, OnErr, IfErr};
+ghost use Rattle.std.specs.Prelude.{◌≡◌, ◌≤◌, ◌<◌, ◌*◌, ◌%◌, length, if◌then◌else◌, IfOk, OnErr};
 ghost use Rattle.lx_ccode.specs.Validity.{IsValid};
-ghost use Rattle.lx_files.specs.Taking.{GivesFront, RefusesPut, given_then};
-ghost use Rattle.lx_step.specs.Held.{fresh};
+ghost use Rattle.lx_run.specs.Ends.{EndsAs};
 ghost use Rattle.lx_run.specs.Texts.{run_text};
 
-use crate::matches::next_lines;
-use crate::streams::{InputEnd, ending_of, padded};
+use crate::ends::RunEnd;
+use crate::streams::{ending_of, padded, zeros};
+use crate::windows::run_window;
+use lx_base::Memory;
 use lx_ccode::Piece;
-use lx_files::{PutAnswer, Sink, put_all};
+use lx_files::Sink;
 use lx_step::Lexer;
+use lx_window::{MemRefill, Window};
 use std::alloc::Global;
 
-/// Runs a scanner over an input whose units have the bytes that the piece says, the least byte first, and gives the sink
-/// a line for each match, as soon as it is made, and one for the end of the run.
+/// The most units that a stream may have.
+const MOST_UNITS: u64 = 0x4000_0000_0000_0000;
+
+/// Runs a scanner over an input whose units have the bytes that the piece says, the least byte first, and gives the sink a line for each
+/// match, as soon as it is made, and one for the end of the run.
 ///
-/// `Failed` comes only with a fault of the sink, and `Memory` also where the scanner finds no memory for a history. On a
-/// refusal a front of the text was given.
-pub fn run_whole<O: Sink>(
+/// The window has so many units, and a refill brings at most `step` of them; a scanner that asks for no units has the whole input in its
+/// window. The input is not copied. `Memory` is answered too where the input has more than 2^62 units.
+pub fn run_over<O: Sink>(
     alloc: Global,
     piece: &Piece,
-    input: &[u8],
+    input: Vec<u8>,
+    window: u32,
+    step: u32,
     out: &mut O,
-) -> Result<(), PutAnswer>
+) -> RunEnd
     requires valid { IsValid piece.now }
-    requires whole { length input.now % piece.now.unit ≡ 0 }
-    ensures given { OnOk result (O.given out.new ≡ given_then (O.given out.old) (run_text piece.now input.now)) }
-    ensures calm { OnOk result (O.faults out.new ≡ O.faults out.old) }
-    ensures refuses { IfErr result (RefusesPut (O.faults out.old) (O.faults out.new)) }
-    ensures front { OnErr result (GivesFront (O.given out.old) (O.given out.new) (run_text piece.now input.now)) }
+    requires whole { length input.items % piece.now.unit ≡ 0 }
+    requires window { 0 < window }
+    requires step { 0 < step }
+    ensures ends { EndsAs (run_text piece.now input.items window step) (O.given out.old) (O.given out.new) (O.faults out.old) (O.faults out.new) result }
     ensures never_falls { O.faults out.old ≤ O.faults out.new }
 {
-    let mut lexer = Lexer::load(alloc, piece)?;
-    run_lexer(alloc, piece, &mut lexer, input, out)
+    match run_in(alloc, piece, input, window, step, out) {
+        Ok(end) => end,
+        Err(Memory) => RunEnd::Memory,
+    }
 }
 
-/// Runs a fresh lexer of the scanner over the input, as `run_whole` does.
-fn run_lexer<O: Sink>(
+/// How many bytes a window has that holds the whole stream, or so many units of it.
+fn buffer_size(holds_all: bool, stream: u64, window: u32, unit: u32) -> u64
+    ensures { result ≡ (if holds_all then stream else window * unit) }
+{
+    if holds_all {
+        stream
+    } else {
+        u64::from(window) * u64::from(unit)
+    }
+}
+
+/// Runs a scanner over an input in a window that is made for it. Where memory for it is not found, nothing is put.
+fn run_in<O: Sink>(
     alloc: Global,
     piece: &Piece,
-    lexer: &mut Lexer<'_>,
-    input: &[u8],
+    input: Vec<u8>,
+    window: u32,
+    step: u32,
     out: &mut O,
-) -> Result<(), PutAnswer>
+) -> Result<RunEnd, Memory>
     requires valid { IsValid piece.now }
-    requires fresh { lexer.old ≡ fresh piece.now }
-    requires whole { length input.now % piece.now.unit ≡ 0 }
-    ensures given { OnOk result (O.given out.new ≡ given_then (O.given out.old) (run_text piece.now input.now)) }
-    ensures calm { OnOk result (O.faults out.new ≡ O.faults out.old) }
-    ensures refuses { IfErr result (RefusesPut (O.faults out.old) (O.faults out.new)) }
-    ensures front { OnErr result (GivesFront (O.given out.old) (O.given out.new) (run_text piece.now input.now)) }
+    requires whole { length input.items % piece.now.unit ≡ 0 }
+    requires window { 0 < window }
+    requires step { 0 < step }
+    ensures ends { IfOk result (EndsAs (run_text piece.now input.items window step) (O.given out.old) (O.given out.new) (O.faults out.old) (O.faults out.new)) }
+    ensures still { OnErr result ((O.given out.new ≡ O.given out.old) × (O.faults out.new ≡ O.faults out.old)) }
     ensures never_falls { O.faults out.old ≤ O.faults out.new }
 {
     let ending = ending_of(piece);
-    let stream = padded(alloc, piece, ending.padding, input)?;
-    let end = InputEnd {
-        units: input.len() as u64 / u64::from(piece.unit),
-        stops: ending.stops,
-    };
-    let mut start = 0;
-    loop {
-        let lines = next_lines(alloc, piece, lexer, &stream, start, end)?;
-        put_all(out, &lines.text)?;
-        match lines.next {
-            None => return Ok(()),
-            Some(next) => start = next,
-        }
+    let unit = u64::from(piece.unit);
+    let units = input.len() as u64 / unit;
+    let stream = padded(piece, ending.padding, input)?;
+    if stream.len() as u64 / unit > MOST_UNITS {
+        return Err(Memory);
     }
+    let size = buffer_size(ending.holds_all, stream.len() as u64, window, piece.unit);
+    let mut buffer = zeros(alloc, size)?;
+    let lexer = Lexer::load(alloc, piece)?;
+    let mut over = Window::over(&mut buffer, piece.unit, 0);
+    let mut source = MemRefill::over(&stream, piece.unit, step, ending.states);
+    Ok(run_window(piece, lexer, &mut over, &mut source, units, out))
 }

@@ -1,5 +1,7 @@
 //! The stream that a scanner is run over.
 ghost use Rattle.std.specs.Prelude.{◌≡◌, ◌*◌, ◌++◌, IfOk, OnOk, replicate};
+ghost use Rattle.std.specs.List.{list_any};
+ghost use Rattle.lx_ccode.specs.Statements.{all_statements, is_state};
 ghost use Rattle.lx_run.specs.Streams as spec;
 
 use crate::asks::asks_of;
@@ -14,6 +16,10 @@ pub struct Ending {
     pub padding: u32,
     /// Whether a run ends before a match that would start behind the input.
     pub stops: bool,
+    /// Whether the whole stream stands in the buffer.
+    pub holds_all: bool,
+    /// Whether the piece stores states.
+    pub states: bool,
 }
 
 /// How a piece without a head finds the end of its input, by what it has.
@@ -57,10 +63,21 @@ fn stops_in(mode: Mode) -> bool
     }
 }
 
+fn holds_all_in(mode: Mode) -> bool
+    ensures { result ≡ spec.holds_all_in mode }
+{
+    match mode {
+        Mode::Plain | Mode::EofFixed => true,
+        Mode::Count | Mode::Eof => false,
+    }
+}
+
 /// How a piece deals with the end of its input.
 pub fn ending_of(piece: &Piece) -> Ending
     ensures padding { result.padding ≡ spec.padding piece.now }
     ensures stops { result.stops ≡ spec.stops_at_end piece.now }
+    ensures holds_all { result.holds_all ≡ spec.holds_all piece.now }
+    ensures states { result.states ≡ list_any is_state (all_statements piece.now.blocks) }
 {
     let asks = asks_of(piece.blocks.as_slice());
     let guessed = guessed_mode(asks.need, asks.tries, piece.eof.is_some());
@@ -68,6 +85,8 @@ pub fn ending_of(piece: &Piece) -> Ending
     Ending {
         padding: padding_in(mode, asks.most),
         stops: stops_in(mode),
+        holds_all: holds_all_in(mode),
+        states: asks.states,
     }
 }
 
@@ -92,12 +111,21 @@ fn append_zeros(text: &mut Vec<u8>, count: u64) -> Result<(), Memory>
     Ok(())
 }
 
-/// The input and the padding behind it.
-pub fn padded(alloc: Global, piece: &Piece, padding: u32, input: &[u8]) -> Result<Vec<u8>, Memory>
-    requires { padding ≡ spec.padding piece.now }
-    ensures { IfOk result (λ stream. stream.items ≡ spec.padded piece.now input.now) }
+/// So many bytes 0.
+pub fn zeros(alloc: Global, count: u64) -> Result<Vec<u8>, Memory>
+    ensures { IfOk result (λ zeros. zeros.items ≡ replicate count 0) }
 {
-    let mut stream = Vec::from_slice(alloc, input)?;
+    let mut zeros = Vec::new(alloc);
+    append_zeros(&mut zeros, count)?;
+    Ok(zeros)
+}
+
+/// The input and the padding behind it, in the place of the input.
+pub fn padded(piece: &Piece, padding: u32, input: Vec<u8>) -> Result<Vec<u8>, Memory>
+    requires { padding ≡ spec.padding piece.now }
+    ensures { IfOk result (λ stream. stream.items ≡ spec.padded piece.now input.items) }
+{
+    let mut stream = input;
     append_zeros(&mut stream, u64::from(padding) * u64::from(piece.unit))?;
     Ok(stream)
 }

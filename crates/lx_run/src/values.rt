@@ -1,91 +1,118 @@
 //! How values are printed.
-ghost use Rattle.std.specs.Prelude.{◌≡◌, ◌++◌, OnOk};
+ghost use Rattle.std.specs.Prelude.{◌≡◌, [], ◌∷◌, ◌++◌, codes};
+ghost use Rattle.lx_base.specs.Text.{joined};
+ghost use Rattle.lx_run.specs.Puts.{IsPut};
 ghost use Rattle.lx_run.specs.Values.{entries_text, groups_text, group_text, history_text, offset_text, tag_text};
 
-use lx_base::{Memory, append_parts};
+use crate::puts::{put, put_parts};
+use itoa::Buffer;
 use lx_ccode::Stmt;
+use lx_files::{PutAnswer, Sink};
 use lx_step::{Group, Lexer};
-use std::alloc::Global;
 
-/// Appends an offset to the text, or `-` for none.
-fn append_offset(alloc: Global, text: &mut Vec<u8>, offset: Option<u64>) -> Result<(), Memory>
-    ensures { OnOk result (text.new.items ≡ text.old.items ++ offset_text offset) }
+/// The digits of an offset, or `-` for none.
+fn offset_text(buffer: &mut Buffer, offset: Option<u64>) -> &[u8]
+    ensures { result.now ≡ offset_text offset }
 {
     match offset {
-        None => append_parts(text, &[b"-"]),
-        Some(offset) => {
-            let digits = format!(in alloc; "{offset}")?;
-            append_parts(text, &[digits.as_bytes()])
-        }
+        None => b"-",
+        Some(offset) => buffer.format(offset).as_bytes(),
     }
 }
 
-/// Appends entries of a history to the text, each behind a comma.
-fn append_entries(alloc: Global, text: &mut Vec<u8>, entries: &[Option<u64>]) -> Result<(), Memory>
-    ensures { OnOk result (text.new.items ≡ text.old.items ++ entries_text entries.now) }
+/// Puts an offset, or `-` for none.
+fn put_offset<O: Sink>(out: &mut O, offset: Option<u64>) -> Result<(), PutAnswer>
+    ensures { IsPut (O.given out.old) (O.given out.new) (O.faults out.old) (O.faults out.new) (offset_text offset) result }
+{
+    let mut buffer = Buffer::new();
+    put(out, offset_text(&mut buffer, offset))
+}
+
+/// Puts an entry of a history, behind a comma.
+fn put_entry<O: Sink>(out: &mut O, entry: Option<u64>) -> Result<(), PutAnswer>
+    ensures { IsPut (O.given out.old) (O.given out.new) (O.faults out.old) (O.faults out.new) (codes "," ++ offset_text entry) result }
+{
+    let mut buffer = Buffer::new();
+    put_parts(out, &[b",", offset_text(&mut buffer, entry)])
+}
+
+/// Puts entries of a history, each behind a comma.
+fn put_entries<O: Sink>(out: &mut O, entries: &[Option<u64>]) -> Result<(), PutAnswer>
+    ensures { IsPut (O.given out.old) (O.given out.new) (O.faults out.old) (O.faults out.new) (entries_text entries.now) result }
 {
     for entry in entries {
-        append_parts(text, &[b","])?;
-        append_offset(alloc, text, *entry)?;
+        put_entry(out, *entry)?;
     }
     Ok(())
 }
 
-/// Appends a history to the text, with commas between its entries.
-fn append_history(alloc: Global, text: &mut Vec<u8>, entries: &[Option<u64>]) -> Result<(), Memory>
-    ensures { OnOk result (text.new.items ≡ text.old.items ++ history_text entries.now) }
+/// Puts a history, with commas between its entries.
+fn put_history<O: Sink>(out: &mut O, entries: &[Option<u64>]) -> Result<(), PutAnswer>
+    ensures { IsPut (O.given out.old) (O.given out.new) (O.faults out.old) (O.faults out.new) (history_text entries.now) result }
 {
-    match entries.split_first() {
-        None => Ok(()),
-        Some((first, others)) => {
-            append_offset(alloc, text, *first)?;
-            append_entries(alloc, text, others)
-        }
-    }
+    let Some((first, others)) = entries.split_first() else {
+        return Ok(());
+    };
+    put_offset(out, *first)?;
+    put_entries(out, others)
 }
 
-/// Appends the value that a statement gave a tag.
-pub fn append_tag(
-    alloc: Global,
-    text: &mut Vec<u8>,
-    lexer: &Lexer<'_>,
-    statement: &Stmt,
-) -> Result<(), Memory>
-    ensures { OnOk result (text.new.items ≡ text.old.items ++ tag_text lexer.now statement.now) }
+/// Puts the history that a statement gave a tag.
+fn put_tag_history<O: Sink>(
+    out: &mut O,
+    name: &[u8],
+    entries: &[Option<u64>],
+) -> Result<(), PutAnswer>
+    ensures { IsPut (O.given out.old) (O.given out.new) (O.faults out.old) (O.faults out.new)
+        (joined (codes " " ∷ name.now ∷ codes "=[" ∷ history_text entries.now ∷ codes "]" ∷ []) []) result }
+{
+    put_parts(out, &[b" ", name, b"=["])?;
+    put_history(out, entries)?;
+    put(out, b"]")
+}
+
+/// Puts the value that a statement gave a tag.
+pub fn put_tag<O: Sink>(out: &mut O, lexer: &Lexer<'_>, statement: &Stmt) -> Result<(), PutAnswer>
+    ensures { IsPut (O.given out.old) (O.given out.new) (O.faults out.old) (O.faults out.new) (tag_text lexer.now statement.now) result }
 {
     match statement {
         Stmt::Tag(name, false, _) => {
-            append_parts(text, &[b" ", name.as_slice(), b"="])?;
-            append_offset(alloc, text, lexer.value(name.as_slice()).unwrap_or(None))
+            let mut buffer = Buffer::new();
+            let offset = offset_text(&mut buffer, lexer.value(name.as_slice()).unwrap_or(None));
+            put_parts(out, &[b" ", name.as_slice(), b"=", offset])
         }
         Stmt::Tag(name, true, _) => {
-            append_parts(text, &[b" ", name.as_slice(), b"=["])?;
-            if let Some(entries) = lexer.history(name.as_slice()) {
-                append_history(alloc, text, entries)?;
-            }
-            append_parts(text, &[b"]"])
+            let entries = lexer.history(name.as_slice()).unwrap_or(&[]);
+            put_tag_history(out, name.as_slice(), entries)
         }
         _ => Ok(()),
     }
 }
 
-/// Appends the ends of a group to the text.
-fn append_group(alloc: Global, text: &mut Vec<u8>, group: Group) -> Result<(), Memory>
-    ensures { OnOk result (text.new.items ≡ text.old.items ++ group_text group) }
+/// Puts the ends of a group.
+fn put_group<O: Sink>(out: &mut O, group: Group) -> Result<(), PutAnswer>
+    ensures { IsPut (O.given out.old) (O.given out.new) (O.faults out.old) (O.faults out.new) (group_text group) result }
 {
-    append_parts(text, &[b" ("])?;
-    append_offset(alloc, text, group.from)?;
-    append_parts(text, &[b","])?;
-    append_offset(alloc, text, group.to)?;
-    append_parts(text, &[b")"])
+    let mut from = Buffer::new();
+    let mut to = Buffer::new();
+    put_parts(
+        out,
+        &[
+            b" (",
+            offset_text(&mut from, group.from),
+            b",",
+            offset_text(&mut to, group.to),
+            b")",
+        ],
+    )
 }
 
-/// Appends the ends of groups to the text.
-pub fn append_groups(alloc: Global, text: &mut Vec<u8>, groups: &[Group]) -> Result<(), Memory>
-    ensures { OnOk result (text.new.items ≡ text.old.items ++ groups_text groups.now) }
+/// Puts the ends of groups.
+pub fn put_groups<O: Sink>(out: &mut O, groups: &[Group]) -> Result<(), PutAnswer>
+    ensures { IsPut (O.given out.old) (O.given out.new) (O.faults out.old) (O.faults out.new) (groups_text groups.now) result }
 {
     for group in groups {
-        append_group(alloc, text, *group)?;
+        put_group(out, *group)?;
     }
     Ok(())
 }

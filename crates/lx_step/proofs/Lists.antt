@@ -18,3 +18,9 @@ drop-slice_get_none [] zero e = refl
 drop-slice_get_none [] (suc place) e = refl
 drop-slice_get_none (first ∷ items) zero e = absurd cc
 drop-slice_get_none (first ∷ items) (suc place) e = drop-slice_get_none items place e
+
+-- a place that has an item is one of the list
+pub slice_get-within : {A : Type 0} (items : List A) (place : ℕ) (item : A) → slice_get items place ≡ Some item → place < length items
+slice_get-within [] place item h = absurd cc
+slice_get-within (first ∷ items) zero item h = omega arith
+slice_get-within (first ∷ items) (suc place) item h = omega (arith, slice_get-within items place item h)

@@ -9,18 +9,12 @@ use Rattle.lx_ccode.specs.Statements.{code_of, all_statements, statement_count}
 use Rattle.lx_step.specs.declared.answers.StmtAt.{StmtAt}
 use Rattle.lx_step.specs.declared.matches.Position.{Position}
 use Rattle.lx_step.specs.Assigned.{is_assignment, same_place}
-use Rattle.lx_step.specs.declared.scanner.Scanner.{Scanner}
-use Rattle.lx_step.specs.Given.{Given}
-use Rattle.lx_step.specs.Numbers.{Numbering}
-use Rattle.lx_step.specs.Sizes.{sizes_of, sizes_of_all, AreWithin}
-use Rattle.lx_step.specs.Steps.{HasRoom, KeepsTables}
-use Rattle.lx_step.proofs.GreaterSizes.{AreWithin-all}
 use Rattle.lx_step.specs.Places.{place_of, StandsAt, places_in, places_from, AreRoomy, StaysIn}
 
 eqb-self : (n : ℕ) → (n == n) ≡ true
 eqb-self n = eq-eqb n n refl
 
-same_place-self : (place : StmtAt) → same_place place place ≡ true
+pub same_place-self : (place : StmtAt) → same_place place place ≡ true
 same_place-self place = rw (eqb-self place.block, eqb-self place.stmt) refl
 
 both : (a b : Bool) → (a && b) ≡ true → (a ≡ true) × (b ≡ true)
@@ -28,7 +22,7 @@ both true true e = (refl, refl)
 both true false e = absurd cc
 both false b e = absurd cc
 
-same_place-true : (place other : StmtAt) → same_place place other ≡ true → place ≡ other
+pub same_place-true : (place other : StmtAt) → same_place place other ≡ true → place ≡ other
 same_place-true place other e =
     let tests : ((place.block == other.block) ≡ true) × ((place.stmt == other.stmt) ≡ true) = both (place.block == other.block) (place.stmt == other.stmt) e in
     let make : ℕ → ℕ → StmtAt = λ block stmt. record { block = block; stmt = stmt } in
@@ -50,7 +44,7 @@ same_place-laws = record {
 
 -- ---- one more
 
-either : (a b : Bool) → (a || b) ≡ true → (a ≡ true) ⊎ (b ≡ true)
+pub either : (a b : Bool) → (a || b) ≡ true → (a ≡ true) ⊎ (b ≡ true)
 either true b e = inl refl
 either false b e = inr e
 
@@ -82,7 +76,7 @@ distinct-append (first ∷ places) place h e =
 
 -- ---- the place of a statement is one of the piece's
 
-or-true : (a b : Bool) → b ≡ true → (a || b) ≡ true
+pub or-true : (a b : Bool) → b ≡ true → (a || b) ≡ true
 or-true true b e = refl
 or-true false b e = e
 
@@ -110,7 +104,7 @@ any-places_in-here block stmt (suc at) (first ∷ statements) statement others e
     any-onto (record { block = block; stmt = stmt + suc at }) (is_assignment first) (record { block = block; stmt = stmt }) (places_in block (suc stmt) statements others)
     (subst (λ n. list_any (same_place (record { block = block; stmt = n })) (places_in block (suc stmt) statements others) ≡ true) next (any-places_in-here block (suc stmt) at statements statement others e t))
 
-any-places_from : (block at stmt : ℕ) (blocks : List CodeBlock) (code : List Stmt) (statement : Stmt) → slice_get (code_of blocks) at ≡ Some code → slice_get code stmt ≡ Some statement → is_assignment statement ≡ true
+pub any-places_from : (block at stmt : ℕ) (blocks : List CodeBlock) (code : List Stmt) (statement : Stmt) → slice_get (code_of blocks) at ≡ Some code → slice_get code stmt ≡ Some statement → is_assignment statement ≡ true
     → list_any (same_place (record { block = block + at; stmt = stmt })) (places_from block blocks) ≡ true
 any-places_from block at stmt [] code statement e s t = absurd cc
 any-places_from block zero stmt (first ∷ blocks) code statement e s t =
@@ -175,15 +169,15 @@ pub length-places_from : (block : ℕ) (blocks : List CodeBlock) → length (pla
 length-places_from block [] = omega arith
 length-places_from block (first ∷ blocks) = omega (arith, length-places_in block 0 first.stmts (places_from (suc block) blocks), length-places_from (suc block) blocks)
 
--- ---- what holds of all statements holds of one
+-- ---- what holds of all holds of some
 
-all-left : (P : Stmt → Type 0) (statements others : List Stmt) → AllByRecursion P (statements ++ others) → AllByRecursion P statements
+pub all-left : {A : Type 0} (P : A → Type 0) (items others : List A) → AllByRecursion P (items ++ others) → AllByRecursion P items
 all-left P [] others h = tt
-all-left P (statement ∷ statements) others h = (h.0, all-left P statements others h.1)
+all-left P (item ∷ items) others h = (h.0, all-left P items others h.1)
 
-all-right : (P : Stmt → Type 0) (statements others : List Stmt) → AllByRecursion P (statements ++ others) → AllByRecursion P others
+pub all-right : {A : Type 0} (P : A → Type 0) (items others : List A) → AllByRecursion P (items ++ others) → AllByRecursion P others
 all-right P [] others h = h
-all-right P (statement ∷ statements) others h = all-right P statements others h.1
+all-right P (item ∷ items) others h = all-right P items others h.1
 
 all-at : (P : Stmt → Type 0) (statements : List Stmt) (place : ℕ) (statement : Stmt) → AllByRecursion P statements → slice_get statements place ≡ Some statement → P statement
 all-at P [] place statement h e = absurd cc
@@ -209,18 +203,3 @@ pub any-stands : (test : Stmt → Bool) (blocks : List CodeBlock) (block stmt : 
     → slice_get (code_of blocks) block ≡ Some code → slice_get code stmt ≡ Some statement → test statement ≡ true → list_any test (all_statements blocks) ≡ true
 any-stands test blocks block stmt code statement b s e =
     all-stands (λ one. test one ≡ true → list_any test (all_statements blocks) ≡ true) blocks block stmt code statement (any-all test (all_statements blocks)) b s e
-
--- ---- room
-
-pub HasRoom-statement : (blocks : List CodeBlock) (at : Position) (statement : Stmt) (scanner : Scanner) (given : Given) → HasRoom (sizes_of_all scanner.numbering (all_statements blocks)) scanner given
-    → StandsAt blocks at statement → HasRoom (sizes_of scanner.numbering statement) scanner given
-HasRoom-statement blocks at statement scanner given room stands =
-    let within : AreWithin (sizes_of scanner.numbering statement) (sizes_of_all scanner.numbering (all_statements blocks)) =
-    all-stands (λ one. AreWithin (sizes_of scanner.numbering one) (sizes_of_all scanner.numbering (all_statements blocks))) blocks at.block at.stmt at.code.now statement (AreWithin-all scanner.numbering (all_statements blocks)) stands.block stands.stmt in
-    record { registers = omega (arith, within.registers, room.registers); histories = omega (arith, within.histories, room.histories); groups = omega (arith, within.groups, room.groups) }
-
-pub HasRoom-kept : (statements : List Stmt) (old new : Scanner) (given more : Given) → HasRoom (sizes_of_all old.numbering statements) old given → KeepsTables old new
-    → length more.entries ≡ length given.entries → HasRoom (sizes_of_all new.numbering statements) new more
-HasRoom-kept statements old new given more room kept entries =
-    subst (λ (numbering : Numbering). HasRoom (sizes_of_all numbering statements) new more) (sym kept.numbering)
-    (record { registers = omega (arith, room.registers, kept.registers); histories = omega (arith, room.histories, kept.histories); groups = omega (arith, room.groups, entries) })

@@ -1,103 +1,121 @@
--- What holds of lexers, at first and after each match.
-use Rattle.std.proofs.Common.{◌≡◌, ◌∙◌, sym, ap, subst, refl, ℕ, ◌≤◌, ◌⊎◌, Bool, true, List, [], length, is_some, Result, Ok, Err, IfOk, OnErr, arith}
-use Rattle.std.proofs.lemmas.List.{length-replicate}
-use Rattle.lx_base.specs.declared.limits.TheConstants.{STATEMENT_LIMIT}
-use Rattle.lx_base.specs.declared.lists.Memory.{Memory}
+-- What holds of lexers at first, and what they hold by their parts.
+use Rattle.std.proofs.Common.{◌≡◌, ◌∙◌, sym, ap, subst, refl, ℕ, ◌<◌, ◌≤◌, Bool, false, List, [], ◌∷◌, length, Option, None, IfSome, arith}
+use Rattle.std.specs.List.{AllByRecursion}
+use Rattle.std.proofs.lemmas.List.{length-map, length-replicate}
+use Rattle.lx_ccode.specs.declared.piece.CodeBlock.{CodeBlock}
+use Rattle.lx_ccode.specs.declared.piece.CondCase.{CondCase}
 use Rattle.lx_ccode.specs.declared.piece.Piece.{Piece}
-use Rattle.lx_ccode.specs.Runs.{Ended}
 use Rattle.lx_ccode.specs.Statements.{all_statements, statement_count}
-use Rattle.lx_step.specs.declared.answers.Outcome.{Outcome}
-use Rattle.lx_step.specs.declared.answers.Outcome.TheVariants as outcome
+use Rattle.lx_ccode.specs.Validity.{EachBlockHasSpelling, IsValid, NamesOneOf}
 use Rattle.lx_step.specs.declared.answers.StmtAt.{StmtAt}
 use Rattle.lx_step.specs.declared.matches.Program.{Program}
+use Rattle.lx_step.specs.declared.numbers.Numbering.{Numbering}
 use Rattle.lx_step.specs.declared.scanner.Scanner.{Scanner}
-use Rattle.lx_step.specs.declared.sizes.Sizes.{Sizes}
-use Rattle.lx_step.specs.Assigned.{assigned_of}
-use Rattle.lx_step.specs.Given.{Given, after_values, nothing_given, offset_in, history_in}
-use Rattle.lx_step.specs.Held.{Held, IsMatch, after_match, Tells, is_last, is_on_histories}
-use Rattle.lx_step.specs.Matches.{HasEnded, IsAfterValues}
-use Rattle.lx_step.specs.Numbers.{Numbering}
-use Rattle.lx_step.specs.Places.{AreRoomy}
-use Rattle.lx_step.specs.Reached.{reaches}
-use Rattle.lx_step.specs.Sizes.{sizes_of_all}
-use Rattle.lx_step.specs.LexerParts.{IsLexerOf, told}
-use Rattle.lx_step.specs.Steps.{HasRoom}
-use Rattle.lx_step.specs.Streams.{stream_units}
-use Rattle.lx_step.specs.WholeRuns.{whole_run}
-use Rattle.lx_step.proofs.Places.{length-places_from}
-use Rattle.lx_step.proofs.SlotLists.{offset_slots-in, history_slots-in, after_values-offset_in, after_values-history_in}
+use Rattle.lx_step.specs.declared.tags.TagName.{TagName}
+use Rattle.lx_step.specs.Conds.{IsCond, cond_name}
+use Rattle.lx_step.specs.Given.{Given, nothing_given}
+use Rattle.lx_step.specs.Held.{Held, first_cond, fresh}
+use Rattle.lx_step.specs.Left.{IsFrom, IsStored, Left, left_of}
+use Rattle.lx_step.specs.LexerParts.{IsLexerOf, IsProgram}
+use Rattle.lx_step.specs.Matches.{condition_of}
+use Rattle.lx_step.specs.Numbers.{IsNumberingOf}
+use Rattle.lx_step.specs.Places.{places_from}
+use Rattle.lx_step.specs.Sizes.{groups_of_all}
+use Rattle.lx_step.specs.Steps.{HasTables}
+use Rattle.lx_step.specs.Tags.{AreTags, tag_names, told_name}
+use Rattle.lx_step.proofs.CondNumbers.{IsCond-zero}
+use Rattle.lx_step.proofs.Places.{StaysIn-none, length-places_from}
 
-pub IsSound-fresh : (program : Program) (scanner : Scanner) (given : Given) (room : ℕ) (sizes : Sizes) (numbering : Numbering) → program.statements ≡ statement_count program.piece.now.blocks
-    → statement_count program.piece.now.blocks ≤ STATEMENT_LIMIT → (program.piece.now.unit ≡ 1) ⊎ ((program.piece.now.unit ≡ 2) ⊎ (program.piece.now.unit ≡ 4))
-    → sizes ≡ sizes_of_all numbering (all_statements program.piece.now.blocks) → scanner.numbering ≡ numbering → length scanner.registers.items ≡ sizes.registers → length scanner.histories ≡ sizes.histories
-    → given ≡ nothing_given (all_statements program.piece.now.blocks) sizes.groups → program.statements ≤ room → IsLexerOf program scanner given room
-IsSound-fresh program scanner given room sizes numbering count few unit s same registers histories g r =
-    let entries : length given.entries ≡ sizes.groups = ap (λ (one : Given). length one.entries) g ∙ length-replicate sizes.groups _ in
+-- ---- a program
+
+statements-some : (names : _) (blocks : List CodeBlock) → 0 < length blocks → EachBlockHasSpelling names blocks → 0 < statement_count blocks
+statements-some names [] some spelled = absurd (omega (arith, some))
+statements-some names (block ∷ blocks) some spelled = let first = spelled.0.0 in omega (arith, first)
+
+pub IsProgram-valid : (program : Program) → IsValid program.piece.now → program.statements ≡ statement_count program.piece.now.blocks
+    → program.assignments ≡ length (places_from 0 program.piece.now.blocks) → IsProgram program
+IsProgram-valid program valid count assignments =
+    let piece : Piece = program.piece.now in
+    let some : 0 < statement_count piece.blocks = statements-some piece.names piece.blocks valid.blocks valid.spelled in
     record {
       statements = count;
-      few = omega (arith, count, few);
-      unit = unit;
-      tables = subst (λ (one : Sizes). HasRoom one scanner given) (s ∙ ap (λ (one : Numbering). sizes_of_all one (all_statements program.piece.now.blocks)) (sym same)) (record { registers = omega (arith, registers); histories = omega (arith, histories); groups = omega (arith, entries) });
-      places = omega (arith, length-places_from 0 program.piece.now.blocks, count, r);
-      offsets = λ tag. ap (λ (one : Given). is_some (offset_in one.offsets tag)) g ∙ offset_slots-in (all_statements program.piece.now.blocks) [] tag;
-      histories = λ tag. ap (λ (one : Given). is_some (history_in one.histories tag)) g ∙ history_slots-in (all_statements program.piece.now.blocks) [] tag;
+      some = omega (arith, count, some);
+      few = omega (arith, count, valid.statements);
+      unit = valid.unit;
+      conds = subst (λ (conds : List (List ℕ)). AllByRecursion (NamesOneOf conds) (all_statements piece.blocks)) (sym valid.conds) valid.conds_named;
+      assignments = assignments;
     }
 
-pub IsSound-kept : (program : Program) (old new : Scanner) (given more : Given) (room other : ℕ) → IsLexerOf program old given room
-    → HasRoom (sizes_of_all new.numbering (all_statements program.piece.now.blocks)) new more → AreRoomy program.piece.now.blocks other → IsAfterValues given more → IsLexerOf program new more other
-IsSound-kept program old new given more room other sound tables places after = record {
-  statements = sound.statements;
-  few = sound.few;
-  unit = sound.unit;
+-- ---- a fresh lexer
+
+-- what was given is nothing, and the tables are those of the blocks
+pub record FreshTables (blocks : List CodeBlock) (scanner : Scanner) (given : Given) : Type 0 where
+  pub nothing : given ≡ nothing_given (tag_names blocks) (groups_of_all (all_statements blocks))
+  pub tables : HasTables blocks scanner given
+
+pub HasTables-fresh : (blocks : List CodeBlock) (scanner : Scanner) (given : Given) (numbering : Numbering) (names : List TagName) (count groups : ℕ) → IsNumberingOf blocks numbering → scanner.numbering ≡ numbering
+    → length scanner.registers.items ≡ length numbering.registers.keys → length scanner.histories ≡ length numbering.histories.keys
+    → AreTags blocks names → count ≡ length names → groups ≡ groups_of_all (all_statements blocks)
+    → ((names : List (List ℕ)) → length names ≡ count → given ≡ nothing_given names groups) → FreshTables blocks scanner given
+HasTables-fresh blocks scanner given numbering names count groups numbers same registers histories tags many most nothing =
+    let tagged : length (tag_names blocks) ≡ count = ap length (sym tags.names) ∙ length-map names (told_name blocks) ∙ sym many in
+    let is : given ≡ nothing_given (tag_names blocks) groups = nothing (tag_names blocks) tagged in
+    record {
+      nothing = is ∙ ap (nothing_given (tag_names blocks)) most;
+      tables = record {
+        numbering = record {
+          registers = ap (λ (one : Numbering). one.registers.keys) same ∙ numbers.registers;
+          histories = ap (λ (one : Numbering). one.histories.keys) same ∙ numbers.histories;
+        };
+        registers = registers ∙ ap length numbers.registers;
+        histories = histories ∙ ap length numbers.histories;
+        offsets = ap (λ (one : Given). length one.offsets) is ∙ length-replicate (length (tag_names blocks)) _;
+        tag_histories = ap (λ (one : Given). length one.histories) is ∙ length-replicate (length (tag_names blocks)) _;
+        entries = ap (λ (one : Given). length one.entries) is ∙ length-replicate groups _ ∙ most;
+      };
+    }
+
+pub IsLexerOf-fresh : (program : Program) (start : ℕ) (scanner : Scanner) (given : Given) (names : List TagName) (assigned : List StmtAt) (room : ℕ) → IsProgram program → HasTables program.piece.now.blocks scanner given
+    → scanner.cond ≡ 0 → scanner.state ≡ None → AreTags program.piece.now.blocks names → assigned ≡ [] → program.statements ≤ room → IsLexerOf program start scanner given names assigned room
+IsLexerOf-fresh program start scanner given names assigned room runs tables cond state tags none roomy = record {
+  runs = runs;
   tables = tables;
-  places = places;
-  offsets = λ tag. ap (λ (one : Given). is_some (offset_in one.offsets tag)) after.1 ∙ after_values-offset_in after.0 given tag ∙ sound.offsets tag;
-  histories = λ tag. ap (λ (one : Given). is_some (history_in one.histories tag)) after.1 ∙ after_values-history_in after.0 given tag ∙ sound.histories tag;
+  cond = subst (IsCond program.piece.now.conds) (sym cond) (IsCond-zero program.piece.now.conds);
+  tags = tags;
+  places = let statements = runs.statements in omega (arith, length-places_from 0 program.piece.now.blocks, statements, roomy);
+  within = StaysIn-none program.piece.now.blocks assigned none;
+  state = subst (IsStored program.piece.now.blocks) (sym state) tt;
+  left = subst (λ (state : Option ℕ). IfSome state (λ one. IsFrom start scanner)) (sym state) tt;
 }
 
 -- what is held of the parts
-abbrev pub held_of : Piece → Bool → (start : ℕ) → Scanner → Given → List StmtAt → Held
-held_of piece spent start scanner given assigned =
-    record { piece = piece; spent = spent; start = start; cursor = scanner.cursor; cond = scanner.cond.now; given = given; assigned = assigned }
+abbrev pub held_of : Piece → Bool → (start steps : ℕ) → Scanner → Given → List StmtAt → Held
+held_of piece spent start steps scanner given assigned = record {
+  piece = piece;
+  spent = spent;
+  start = start;
+  cursor = scanner.cursor;
+  cond = condition_of piece scanner;
+  given = given;
+  assigned = assigned;
+  left = left_of scanner steps;
+}
 
--- a match that has ended, by what the lexer held before and holds now
-ended_match : (old : Held) (stream : List ℕ) (start : ℕ) (first scanner : Scanner) (told : Outcome) (given : Given) (assigned : List StmtAt)
-    → first.cursor ≡ start → first.cond.now ≡ old.cond → HasEnded old.piece stream first old.given told scanner given assigned
-    → Tells told (whole_run old.piece stream start old.cond).outcome
-    × (held_of old.piece (is_last told) start scanner given assigned ≡ after_match old start (is_last told) (whole_run old.piece stream start old.cond) (assigned_of old.piece stream start old.cond))
-ended_match old stream start first scanner told given assigned c d ended =
-    let run : Ended = whole_run old.piece stream start old.cond in
-    let same : whole_run old.piece stream first.cursor first.cond.now ≡ run = ap (λ s. whole_run old.piece stream s first.cond.now) c ∙ ap (whole_run old.piece stream start) d in
-    let places : assigned ≡ assigned_of old.piece stream start old.cond = ended.places ∙ ap (λ s. assigned_of old.piece stream s first.cond.now) c ∙ ap (assigned_of old.piece stream start) d in
-    let held : ℕ → List ℕ → Given → List StmtAt → Held = λ cursor cond given assigned.
-    record { piece = old.piece; spent = is_last told; start = start; cursor = cursor; cond = cond; given = given; assigned = assigned } in (
-      subst (λ (end : Ended). Tells told end.outcome) same ended.told,
-      ap (λ cursor. held cursor scanner.cond.now given assigned) (ended.cursor ∙ ap (λ (end : Ended). end.cursor) same)
-          ∙ ap (λ cond. held run.cursor cond given assigned) (ended.cond ∙ ap (λ (end : Ended). end.cond) same)
-          ∙ ap (λ given. held run.cursor run.cond given assigned) (ended.kept ∙ ap (λ (end : Ended). after_values end.values old.given) same)
-          ∙ ap (held run.cursor run.cond (after_values run.values old.given)) places,
-    )
+first_cond-name : (conds : List CondCase) → cond_name conds 0 ≡ first_cond conds
+first_cond-name [] = refl
+first_cond-name (case ∷ cases) = refl
 
-IsMatch-told : (old : Held) (stream : List ℕ) (start : ℕ) (told : Outcome) (new : Held)
-    → Tells told (whole_run old.piece stream start old.cond).outcome
-    × (new ≡ after_match old start (is_last told) (whole_run old.piece stream start old.cond) (assigned_of old.piece stream start old.cond))
-    → IsMatch old stream start told new
-IsMatch-told old stream start outcome.Memory new h = absurd h.0
-IsMatch-told old stream start _ new h = h
+none_left : (scanner : Scanner) → scanner.state ≡ None → left_of scanner 0 ≡ None
+none_left scanner state = rw state refl
 
-pub IsMatch-run : (old : Held) (width : ℕ) (bytes : List ℕ) (start : ℕ) (first scanner : Scanner) (run : Result Outcome Memory) (given : Given) (assigned : List StmtAt)
-    → width ≡ old.piece.unit → first.cursor ≡ start → first.cond.now ≡ old.cond
-    → IfOk run (λ outcome. HasEnded old.piece (stream_units width bytes) first old.given outcome scanner given assigned)
-    → OnErr run (reaches old.piece (stream_units width bytes) is_on_histories first.cursor first.cond.now ≡ true)
-    → IsMatch old (stream_units old.piece.unit bytes) start (told run) (held_of old.piece (is_last (told run)) start scanner given assigned)
-IsMatch-run old width bytes start first scanner (Ok outcome) given assigned w c d ended memory =
-    IsMatch-told old (stream_units old.piece.unit bytes) start outcome (held_of old.piece (is_last outcome) start scanner given assigned)
-    (ended_match old (stream_units old.piece.unit bytes) start first scanner outcome given assigned c d
-    (subst (λ n. HasEnded old.piece (stream_units n bytes) first old.given outcome scanner given assigned) w ended))
-IsMatch-run old width bytes start first scanner (Err error) given assigned w c d ended memory = (
-  subst (λ n. reaches old.piece (stream_units n bytes) is_on_histories start old.cond ≡ true) w
-      (subst (λ at. reaches old.piece (stream_units width bytes) is_on_histories at old.cond ≡ true) c
-      (subst (λ cond. reaches old.piece (stream_units width bytes) is_on_histories first.cursor cond ≡ true) d memory)),
-  refl,
-  refl,
-)
+-- the fresh lexer of these parts
+pub fresh-is : (piece : Piece) (scanner : Scanner) (given : Given) (assigned : List StmtAt) → scanner.cursor ≡ 0 → scanner.cond ≡ 0 → scanner.state ≡ None → assigned ≡ [] → FreshTables piece.blocks scanner given
+    → held_of piece false 0 0 scanner given assigned ≡ fresh piece
+fresh-is piece scanner given assigned cursor cond state none tables =
+    let held : Option Left → ℕ → List ℕ → Given → List StmtAt → Held = λ left cursor cond given assigned.
+    record { piece = piece; spent = false; start = 0; cursor = cursor; cond = cond; given = given; assigned = assigned; left = left } in
+    ap (λ left. held left scanner.cursor (condition_of piece scanner) given assigned) (none_left scanner state)
+    ∙ ap (λ cursor. held None cursor (condition_of piece scanner) given assigned) cursor
+    ∙ ap (λ cond. held None 0 cond given assigned) (ap (cond_name piece.conds) cond ∙ first_cond-name piece.conds)
+    ∙ ap (λ given. held None 0 (first_cond piece.conds) given assigned) tables.nothing
+    ∙ ap (held None 0 (first_cond piece.conds) (nothing_given (tag_names piece.blocks) (groups_of_all (all_statements piece.blocks)))) none

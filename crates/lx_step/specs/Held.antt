@@ -1,5 +1,6 @@
 -- What a lexer holds, and what a match does to it.
-use Rattle.std.specs.Prelude.{◌≡◌, ℕ, Bool, true, false, List, [], ◌∷◌, Option, Some, None}
+use Rattle.std.specs.Prelude.{◌≡◌, ℕ, Bool, true, false, List, [], ◌∷◌, Option, Some, None, if◌then◌else◌}
+use Rattle.std.specs.List.{list_any}
 use Rattle.lx_ccode.specs.declared.piece.Stmt.{Stmt}
 use Rattle.lx_ccode.specs.declared.piece.Stmt.TheVariants.{MSet, MUnset, MCopy, Tag}
 use Rattle.lx_ccode.specs.declared.piece.CondCase.{CondCase}
@@ -8,13 +9,12 @@ use Rattle.lx_ccode.specs.Machine as machine
 use Rattle.lx_ccode.specs.Runs.{Ended}
 use Rattle.lx_ccode.specs.Statements.{all_statements}
 use Rattle.lx_step.specs.declared.answers.Outcome.{Outcome}
-use Rattle.lx_step.specs.declared.answers.Outcome.TheVariants.{Rule, Jump, NoRule, End, Stuck, Loop, Spent, Memory}
+use Rattle.lx_step.specs.declared.answers.Outcome.TheVariants.{Rule, Jump, NoRule, End, WindowFull, ReadFailed, Stuck, Loop, Memory}
 use Rattle.lx_step.specs.declared.answers.StmtAt.{StmtAt}
-use Rattle.lx_step.specs.Assigned.{assigned_of}
-use Rattle.lx_step.specs.Given.{Given, after_values, nothing_given}
-use Rattle.lx_step.specs.Reached.{reaches}
+use Rattle.lx_step.specs.Given.{Given, after_values, history_in, nothing_given, offset_in}
+use Rattle.lx_step.specs.Left.{Left}
 use Rattle.lx_step.specs.Sizes.{groups_of_all}
-use Rattle.lx_step.specs.WholeRuns.{whole_run}
+use Rattle.lx_step.specs.Tags.{gives_history, gives_offset, tag_names}
 
 pub record Held : Type 0 where
   pub piece : Piece
@@ -29,6 +29,8 @@ pub record Held : Type 0 where
   pub given : Given
   -- the places of the Tag, Count and Cond statements that the last match made
   pub assigned : List StmtAt
+  -- the match that was left, where one is under way
+  pub left : Option Left
 
 abbrev pub first_cond : List CondCase → List ℕ
 first_cond [] = []
@@ -42,13 +44,24 @@ fresh piece = record {
   start = 0;
   cursor = 0;
   cond = first_cond piece.conds;
-  given = nothing_given (all_statements piece.blocks) (groups_of_all (all_statements piece.blocks));
+  given = nothing_given (tag_names piece.blocks) (groups_of_all (all_statements piece.blocks));
   assigned = [];
+  left = None;
 }
 
 -- the present condition, where the piece has conditions
 abbrev pub cond_of : Held → Option (List ℕ)
 cond_of held = elim held.piece.conds [ [] ↦ None | case ∷ cases ↦ Some held.cond ]
+
+-- the offset that a tag has, where a statement of the piece gives it one
+unfoldable pub offset_of : Held → (tag : List ℕ) → Option (Option ℕ)
+offset_of held tag =
+    if list_any (gives_offset tag) (all_statements held.piece.blocks) then offset_in (tag_names held.piece.blocks) held.given tag else None
+
+-- the history that a tag has, where a statement of the piece gives it one
+unfoldable pub history_of : Held → (tag : List ℕ) → Option (List (Option ℕ))
+history_of held tag =
+    if list_any (gives_history tag) (all_statements held.piece.blocks) then history_in (tag_names held.piece.blocks) held.given tag else None
 
 -- the run of a match ended with this outcome
 abbrev pub Tells : Outcome → machine.Outcome → Type 0
@@ -58,11 +71,12 @@ Tells NoRule end = end ≡ machine.no_rule
 Tells End end = end ≡ machine.at_end
 Tells Stuck end = end ≡ machine.stuck
 Tells Loop end = end ≡ machine.looped
-Tells Spent end = ⊥
-Tells Memory end = ⊥
+Tells _ end = ⊥
 
 -- the outcomes behind which no further match may be made
 abbrev pub is_last : Outcome → Bool
+is_last (WindowFull kept need size) = true
+is_last ReadFailed = true
 is_last Stuck = true
 is_last Loop = true
 is_last Memory = true
@@ -83,14 +97,7 @@ after_match held start spent end assigned = record held {
   start = start;
   cursor = end.cursor;
   cond = end.cond;
-  given = after_values end.values held.given;
+  given = after_values (tag_names held.piece.blocks) end.values held.given;
   assigned = assigned;
+  left = None;
 }
-
--- a match from a start on: it is the run from there, or memory ran out at a statement on histories that the run makes
-abbrev pub IsMatch : Held → (stream : List ℕ) → (start : ℕ) → Outcome → Held → Type 0
-IsMatch old stream start Memory new =
-    (reaches old.piece stream is_on_histories start old.cond ≡ true) × (new.spent ≡ true) × (new.piece ≡ old.piece)
-IsMatch old stream start outcome new =
-    Tells outcome (whole_run old.piece stream start old.cond).outcome
-    × (new ≡ after_match old start (is_last outcome) (whole_run old.piece stream start old.cond) (assigned_of old.piece stream start old.cond))

@@ -1,32 +1,59 @@
 -- What holds of the parts of each lexer.
-use Rattle.std.specs.Prelude.{◌≡◌, ◌≤◌, ◌⊎◌, ℕ, List, is_some}
+use Rattle.std.specs.Prelude.{◌≡◌, ◌<◌, ◌≤◌, ◌⊎◌, ℕ, List, length, max}
 use Rattle.std.specs.Prelude.{Result, Ok, Err}
 use Rattle.lx_base.specs.declared.limits.TheConstants.{STATEMENT_LIMIT}
 use Rattle.lx_base.specs.declared.lists.Memory.{Memory}
+use Rattle.std.specs.List.{IsDistinct}
+use Rattle.lx_ccode.specs.Statements.{statement_count}
 use Rattle.lx_step.specs.declared.answers.Outcome.{Outcome}
 use Rattle.lx_step.specs.declared.answers.Outcome.TheVariants as outcome
-use Rattle.std.specs.List.{list_any}
-use Rattle.lx_ccode.specs.Statements.{all_statements, statement_count}
+use Rattle.lx_step.specs.declared.answers.StmtAt.{StmtAt}
 use Rattle.lx_step.specs.declared.matches.Program.{Program}
 use Rattle.lx_step.specs.declared.scanner.Scanner.{Scanner}
-use Rattle.lx_step.specs.Given.{Given, gives_offset, gives_history, offset_in, history_in}
-use Rattle.lx_step.specs.Places.{AreRoomy}
-use Rattle.lx_step.specs.Sizes.{sizes_of_all}
-use Rattle.lx_step.specs.Steps.{HasRoom}
+use Rattle.lx_step.specs.declared.tags.TagName.{TagName}
+use Rattle.lx_step.specs.Assigned.{same_place}
+use Rattle.lx_step.specs.Conds.{IsCond, NamesItsConds}
+use Rattle.lx_step.specs.Given.{Given}
+use Rattle.lx_step.specs.Left.{IsLeftFrom, IsStored}
+use Rattle.lx_step.specs.Places.{AreRoomy, StaysIn, places_from, room_of}
+use Rattle.lx_step.specs.Steps.{HasTables}
+use Rattle.lx_step.specs.Tags.{AreTags}
 
-pub record IsLexerOf (program : Program) (scanner : Scanner) (given : Given) (room : ℕ) : Type 0 where
+-- what a lexer needs of its piece
+pub record IsProgram (program : Program) : Type 0 where
   pub statements : program.statements ≡ statement_count program.piece.now.blocks
+  pub some : 0 < program.statements
   pub few : program.statements ≤ STATEMENT_LIMIT
   pub unit : (program.piece.now.unit ≡ 1) ⊎ ((program.piece.now.unit ≡ 2) ⊎ (program.piece.now.unit ≡ 4))
-  -- the tables have room for what the statements name
-  pub tables : HasRoom (sizes_of_all scanner.numbering (all_statements program.piece.now.blocks)) scanner given
+  pub conds : NamesItsConds program.piece.now
+  pub assignments : program.assignments ≡ length (places_from 0 program.piece.now.blocks)
+
+pub record IsLexerOf (program : Program) (start : ℕ) (scanner : Scanner) (given : Given) (names : List TagName) (assigned : List StmtAt) (room : ℕ) : Type 0 where
+  pub runs : IsProgram program
+  pub tables : HasTables program.piece.now.blocks scanner given
+  pub cond : IsCond program.piece.now.conds scanner.cond
+  pub tags : AreTags program.piece.now.blocks names
   -- there is room for the places of all statements that assign something
   pub places : AreRoomy program.piece.now.blocks room
-  -- exactly the tags that get an offset, or a history, have one
-  pub offsets : (tag : List ℕ) → is_some (offset_in given.offsets tag) ≡ list_any (gives_offset tag) (all_statements program.piece.now.blocks)
-  pub histories : (tag : List ℕ) → is_some (history_in given.histories tag) ≡ list_any (gives_history tag) (all_statements program.piece.now.blocks)
+  -- those that were noted are some of these, each once
+  pub within : StaysIn program.piece.now.blocks assigned
+  -- where a match was left, its state is one of the piece's, and it stands behind the start
+  pub state : IsStored program.piece.now.blocks scanner.state
+  pub left : IsLeftFrom start scanner
 
 -- what a run tells, or that memory ran out
 abbrev pub told : Result Outcome Memory → Outcome
 told (Ok outcome) = outcome
 told (Err memory) = outcome.Memory
+
+-- what holds of what is saved
+pub record IsSaved (conds assignments start capacity : ℕ) (scanner : Scanner) (given : Given) (assigned : List StmtAt) (room : ℕ) : Type 0 where
+  -- there is room for as many registers, histories, tags and places again
+  pub registers : length scanner.registers.items ≤ room_of scanner.numbering.registers
+  pub histories : length scanner.histories ≤ room_of scanner.numbering.histories
+  pub tags : length given.offsets ≤ capacity
+  pub tag_histories : length given.histories ≡ length given.offsets
+  pub places : assignments ≤ room
+  pub distinct : IsDistinct same_place assigned
+  pub cond : scanner.cond < max conds 1
+  pub left : IsLeftFrom start scanner

@@ -1,5 +1,5 @@
 -- The places of a piece's statements that assign something of the user's.
-use Rattle.std.specs.Prelude.{◌≡◌, ℕ, suc, ◌+◌, ◌≤◌, true, List, [], ◌∷◌, length, Some, slice_get, if◌then◌else◌}
+use Rattle.std.specs.Prelude.{◌≡◌, ℕ, suc, ◌+◌, ◌≤◌, true, List, [], ◌∷◌, length, Option, Some, None, slice_get, if◌then◌else◌}
 use Rattle.std.specs.List.{list_any, IsDistinct}
 use Rattle.indexmap.specs.IndexSet.{IndexSet, index_set_len, spare}
 use Rattle.lx_ccode.specs.declared.piece.Stmt.{Stmt}
@@ -11,6 +11,10 @@ use Rattle.lx_step.specs.Assigned.{is_assignment, same_place}
 
 abbrev pub place_of : Position → StmtAt
 place_of at = record { block = at.block; stmt = at.stmt }
+
+-- the statement at a place of the blocks
+abbrev pub statement_at : List CodeBlock → StmtAt → Option Stmt
+statement_at blocks place = elim (code_at blocks (Some place.block)) [ None ↦ None | Some code ↦ slice_get code place.stmt ]
 
 -- the statement stands at this place of the blocks
 pub record StandsAt (blocks : List CodeBlock) (at : Position) (statement : Stmt) : Type 0 where
@@ -29,9 +33,9 @@ abbrev pub places_from : (block : ℕ) → List CodeBlock → List StmtAt
 places_from block [] = []
 places_from block (code ∷ blocks) = places_in block 0 code.stmts (places_from (suc block) blocks)
 
--- for how many places there is room, those that are noted among them
-abbrev pub room_of : {S : Type 0} → IndexSet StmtAt S → ℕ
-room_of noted = index_set_len noted + spare noted
+-- for how many keys there is room, those that are there among them
+abbrev pub room_of : {K S : Type 0} → IndexSet K S → ℕ
+room_of set = index_set_len set + spare set
 
 -- there is room for all of them
 abbrev pub AreRoomy : List CodeBlock → (room : ℕ) → Type 0

@@ -13,6 +13,12 @@ pub enum Outcome {
     NoRule,
     /// Fewer units were left than a check asked for.
     End,
+    /// The source asked to leave the scanner where it wanted units: the match goes on in the next call.
+    NeedFill,
+    /// The window has not so many units as are to be kept and are needed beside them: the lexer is spent.
+    WindowFull { kept: u64, need: u64, size: u64 },
+    /// The source failed: the lexer is spent.
+    ReadFailed,
     /// A statement could not do what it is for: the lexer is spent.
     Stuck,
     /// There were `2 * (u + 2) * n` steps, for u units from the start on and n statements of the piece, and
@@ -29,7 +35,14 @@ impl Outcome {
     pub(crate) fn is_last(self) -> bool
         ensures { result ≡ is_last self }
     {
-        matches!(self, Outcome::Stuck | Outcome::Loop | Outcome::Memory)
+        matches!(
+            self,
+            Outcome::WindowFull { .. }
+                | Outcome::ReadFailed
+                | Outcome::Stuck
+                | Outcome::Loop
+                | Outcome::Memory
+        )
     }
 }
 

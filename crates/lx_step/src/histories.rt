@@ -44,6 +44,13 @@ impl Histories {
         })
     }
 
+    /// How many there are.
+    pub(crate) fn len(&self) -> usize
+        ensures { result ≡ length self.now }
+    {
+        self.lasts.len()
+    }
+
     /// Empties all histories.
     pub(crate) fn clear(&mut self)
         ensures { self.new ≡ replicate (length self.old) [] }

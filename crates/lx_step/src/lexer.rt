@@ -1,39 +1,50 @@
 //! A lexer: a piece, and what it holds from match to match.
-ghost use Rattle.std.specs.Prelude.{◌≡◌, ◌%◌, ◌≤◌, ◌⊎◌, length, take, option_map, IfOk, is_some, true, false};
+ghost use Rattle.std.specs.Prelude.{◌≡◌, ◌<◌, length, take, option_map, IfOk, IfSome, is_some, true, false};
 ghost use Rattle.std.specs.List.{list_any};
-ghost use Rattle.lx_base.specs.declared.limits.TheConstants.{STATEMENT_LIMIT};
-ghost use Rattle.lx_ccode.specs.Statements.{all_statements, statement_count};
+ghost use Rattle.lx_ccode.specs.Statements.{all_statements};
 ghost use Rattle.lx_ccode.specs.Validity.{IsValid};
-ghost use Rattle.lx_step.specs.Given.{gives_history, gives_offset, history_in, offset_in};
-ghost use Rattle.lx_step.specs.Held.{IsMatch, cond_of, first_cond, fresh};
-ghost use Rattle.lx_step.specs.LexerParts.{told};
-ghost use Rattle.lx_step.specs.Streams.{stream_units};
+ghost use Rattle.lx_window.specs.Counts.{Rose};
+ghost use Rattle.lx_window.specs.Windows.{KeepsStart};
+ghost use Rattle.lx_step.specs.Advances.{IsAdvance};
+ghost use Rattle.lx_step.specs.Asking.{KeepsSource};
+ghost use Rattle.lx_step.specs.Feeds.{feed_of};
+ghost use Rattle.lx_step.specs.Held.{cond_of, fresh, history_of, is_on_histories, offset_of};
+ghost use Rattle.lx_step.specs.LexerParts.{IsProgram, told};
+ghost use Rattle.lx_step.specs.Saved.{Fits, kept_of, resumed};
+ghost use Rattle.lx_step.specs.Tags.{gives_history, gives_offset};
 
 use crate::answers::{Group, Outcome, StmtAt};
+use crate::assignments::count_of_assignments;
+use crate::calls::{enter, leave};
+use crate::conds::cond_name;
 use crate::matches::Program;
 use crate::numbers::Numbering;
+use crate::saved::Saved;
 use crate::scanner::Scanner;
-use crate::sizes::sizes_of_blocks;
+use crate::sizes::groups_of_blocks;
 use crate::slots::Slots;
-use crate::units::{WholeStream, Width};
+use crate::tags::{TagName, list_tags, number_of_tag};
 use indexmap::IndexSet;
 use lx_base::Memory;
-use lx_ccode::{CondCase, Piece, statements};
+use lx_ccode::{Piece, statements};
+use lx_window::{Refill, Window};
 use std::alloc::Global;
 use std::marker::Model;
 
 /// A piece at work: what it holds from match to match, which contracts see as a `Held` of
 /// `specs/Held.antt`.
 ///
-/// A match is the run that `specs/Runs.antt` of lx_ccode says, on a stream that lies whole in the buffer, so
-/// that each refill is answered by "no more".
+/// A match is made over a window, call by call: the steps of the machine that `specs/Machine.antt` of lx_ccode defines,
+/// where each refill that they ask is answered by a source.
 #[derive(Drop)]
 pub struct Lexer<'p> {
     program: Program<'p>,
     spent: bool,
     start: u64,
-    scanner: Scanner<'p>,
+    steps: u128,
+    scanner: Scanner,
     slots: Slots,
+    tags: Vec<TagName>,
     assigned: IndexSet<StmtAt>,
 }
 
@@ -43,6 +54,8 @@ impl<'p> Model for Lexer<'p> {
 
     ghost Value = { Held };
 
+    ghost use Rattle.lx_step.specs.Conds.{cond_name};
+    ghost use Rattle.lx_step.specs.Left.{left_of};
     ghost use Rattle.lx_step.specs.LexerParts.{IsLexerOf};
 
     ghost view = { λ lexer. record {
@@ -50,12 +63,13 @@ impl<'p> Model for Lexer<'p> {
       spent = lexer.spent;
       start = lexer.start;
       cursor = lexer.scanner.cursor;
-      cond = lexer.scanner.cond.now;
+      cond = cond_name lexer.program.piece.now.conds lexer.scanner.cond;
       given = lexer.slots;
       assigned = lexer.assigned.keys;
+      left = left_of lexer.scanner lexer.steps;
     } };
 
-    ghost invariant = { λ lexer. IsLexerOf lexer.program lexer.scanner lexer.slots (room_of lexer.assigned) };
+    ghost invariant = { λ lexer. IsLexerOf lexer.program lexer.start lexer.scanner lexer.slots lexer.tags.items lexer.assigned.keys (room_of lexer.assigned) };
 }
 
 impl<'p> Lexer<'p> {
@@ -65,67 +79,103 @@ impl<'p> Lexer<'p> {
         requires { IsValid piece.now }
         ensures { IfOk result (λ lexer. lexer ≡ fresh piece.now) }
     {
-        Lexer::of(alloc, piece, statements(piece))
-    }
-
-    /// A fresh lexer of a piece with so many statements.
-    pub(crate) fn of(alloc: Global, piece: &'p Piece, statements: u64) -> Result<Lexer<'p>, Memory>
-        requires unit { (piece.now.unit ≡ 1) ⊎ ((piece.now.unit ≡ 2) ⊎ (piece.now.unit ≡ 4)) }
-        requires statements { statements ≡ statement_count piece.now.blocks }
-        requires few { statements ≤ STATEMENT_LIMIT }
-        ensures { IfOk result (λ lexer. lexer ≡ fresh piece.now) }
-    {
-        let blocks = piece.blocks.as_slice();
-        let numbering = Numbering::of_blocks(alloc, blocks)?;
-        let sizes = sizes_of_blocks(&numbering, blocks);
         let program = Program {
             alloc,
             piece,
-            statements,
+            statements: statements(piece),
+            assignments: count_of_assignments(piece.blocks.as_slice()),
         };
+        Lexer::of(program)
+    }
+
+    /// A fresh lexer of a program.
+    fn of(program: Program<'p>) -> Result<Lexer<'p>, Memory>
+        requires { IsProgram program }
+        ensures { IfOk result (λ lexer. lexer ≡ fresh program.entry.piece.now) }
+    {
+        let alloc = program.alloc;
+        let blocks = program.piece.blocks.as_slice();
+        let mut tags = Vec::new(alloc);
+        list_tags(&mut tags, blocks)?;
         Ok(Lexer {
             program,
             spent: false,
             start: 0,
-            scanner: Scanner::new(alloc, sizes, numbering, first_cond(piece.conds.as_slice()))?,
-            slots: Slots::new(alloc, blocks, sizes.groups)?,
+            steps: 0,
+            scanner: Scanner::new(alloc, Numbering::of_blocks(alloc, blocks)?)?,
+            slots: Slots::new(alloc, tags.len(), groups_of_blocks(blocks))?,
+            tags,
             assigned: IndexSet::with_capacity(alloc, program.statements as usize)?,
         })
     }
 
-    /// One match on a stream that lies whole in one buffer, from a start on, which counts units. Units have the
-    /// bytes that the piece says, the least byte first.
+    /// Goes on with a match over a window: with the one that was left, or with a fresh one from the window's start
+    /// on. A source fills the window where a statement asks for units.
     ///
-    /// It is the run of the piece from there, with every refill that is asked answered by "no more". After
-    /// `Stuck`, `Loop` or `Memory` the lexer is spent, and each further call answers `Spent` and changes
-    /// nothing. `Memory` comes only where that run makes a statement on a history.
-    pub fn advance_whole(&mut self, stream: &[u8], start: u64) -> Outcome
-        requires whole { length stream.now % self.old.piece.unit ≡ 0 }
-        requires start { start ≤ length (stream_units self.old.piece.unit stream.now) }
-        ensures piece { self.new.piece ≡ self.old.piece }
-        ensures spent { self.old.spent ≡ true → (result ≡ Outcome.Spent) × (self.new ≡ self.old) }
-        ensures run { self.old.spent ≡ false → IsMatch self.old (stream_units self.old.piece.unit stream.now) start result self.new }
+    /// The call ends with the match, or where the source asks to leave the scanner, with `NeedFill`. Where a state was
+    /// stored by then, the next call comes back to it, on the same or on another window that holds the units from the
+    /// match's start on; else the match begins afresh. After `WindowFull`, `ReadFailed`, `Stuck`, `Loop` or `Memory`
+    /// the lexer is spent, and each further call answers `Spent` and changes nothing. `Memory` comes only where a
+    /// statement of the piece is on histories.
+    pub fn advance<S: Refill>(&mut self, w: &mut Window<'_>, src: &mut S) -> Outcome
+        requires unit { w.old.unit ≡ self.old.piece.unit }
+        requires source_unit { S.unit src.old ≡ self.old.piece.unit }
+        requires start { IfSome self.old.left (λ left. w.old.start ≡ self.old.start) }
+        ensures spent { self.old.spent ≡ true → (result ≡ Outcome.Spent) × (self.new ≡ self.old) × (w.new ≡ w.old) × (src.new ≡ src.old) }
+        ensures advance { self.old.spent ≡ false → IsAdvance self.old self.new (feed_of (S.ahead src.old) w.old) (feed_of (S.ahead src.new) w.new) result }
+        ensures start_kept { KeepsStart w.old w.new }
+        ensures leaves { result ≡ Outcome.NeedFill → Rose (S.pauses src.old) (S.pauses src.new) }
+        ensures fails { result ≡ Outcome.ReadFailed → Rose (S.faults src.old) (S.faults src.new) }
+        ensures source { KeepsSource (S.unit src.old) (S.unit src.new) (S.faults src.old) (S.faults src.new) (S.pauses src.old) (S.pauses src.new) }
+        ensures memory { result ≡ Outcome.Memory → list_any is_on_histories (all_statements self.old.piece.blocks) ≡ true }
     {
         if self.spent {
             return Outcome::Spent;
         }
-        let units = WholeStream {
-            bytes: stream,
-            width: Width::of(self.program.piece.unit),
-        };
-        self.start = start;
-        self.scanner.begin(start, units.len());
-        self.assigned.truncate(0);
+        self.start = w.start();
+        let at = enter(
+            self.program.piece,
+            &mut self.scanner,
+            &mut self.assigned,
+            &mut self.steps,
+            w.start(),
+            w.limit(),
+        );
         let outcome = told(
-            self.program.run(
-                &units,
+            self.program.advance(
+                at,
+                w,
+                src,
+                self.tags.as_slice(),
                 &mut self.scanner,
                 &mut self.slots,
                 &mut self.assigned,
+                &mut self.steps,
             ),
         );
         self.spent = outcome.is_last();
+        leave(&mut self.scanner, outcome);
         outcome
+    }
+
+    /// Gives up the piece, and keeps all else. It takes no memory.
+    pub fn save(self) -> Saved
+        ensures kept { result ≡ kept_of self.entry }
+        ensures fits { Fits self.entry.piece result }
+        ensures back { resumed self.entry.piece result ≡ self.entry }
+    {
+        Saved {
+            alloc: self.program.alloc,
+            conds: self.program.piece.conds.as_slice().len() as u64,
+            assignments: self.program.assignments,
+            spent: self.spent,
+            start: self.start,
+            steps: self.steps,
+            scanner: self.scanner,
+            slots: self.slots,
+            tags: self.tags,
+            assigned: self.assigned,
+        }
     }
 
     /// The start of the last match, in units; 0 before the first.
@@ -145,19 +195,35 @@ impl<'p> Lexer<'p> {
     /// The offset that was given last to a tag, in this match or in an earlier one; `Some(None)` before the
     /// first. `None` exactly where no statement of the piece gives the tag an offset.
     pub fn value(&self, name: &[u8]) -> Option<Option<u64>>
-        ensures value { result ≡ offset_in self.now.given.offsets name.now }
+        ensures value { result ≡ offset_of self.now name.now }
         ensures known { is_some result ≡ list_any (gives_offset name.now) (all_statements self.now.piece.blocks) }
     {
-        self.slots.offset(name)
+        let number = number_of_tag(
+            self.program.piece.blocks.as_slice(),
+            self.tags.as_slice(),
+            name,
+        )?;
+        if !self.tags[number].has_offset {
+            return None;
+        }
+        self.slots.offset(number)
     }
 
     /// The history that was given last to a tag, in this match or in an earlier one; the empty one before the
     /// first. `None` exactly where no statement of the piece gives the tag a history.
     pub fn history(&self, name: &[u8]) -> Option<&[Option<u64>]>
-        ensures history { option_map (λ entries. entries.now) result ≡ history_in self.now.given.histories name.now }
+        ensures history { option_map (λ entries. entries.now) result ≡ history_of self.now name.now }
         ensures known { is_some result ≡ list_any (gives_history name.now) (all_statements self.now.piece.blocks) }
     {
-        self.slots.history(name)
+        let number = number_of_tag(
+            self.program.piece.blocks.as_slice(),
+            self.tags.as_slice(),
+            name,
+        )?;
+        if !self.tags[number].has_history {
+            return None;
+        }
+        self.slots.history(number)
     }
 
     /// The groups of the rule that was matched last, as many as the last Count said; none before the first. An
@@ -173,10 +239,11 @@ impl<'p> Lexer<'p> {
     pub fn cond(&self) -> Option<&[u8]>
         ensures { option_map (λ cond. cond.now) result ≡ cond_of self.now }
     {
-        if self.program.piece.conds.as_slice().is_empty() {
+        let conds = self.program.piece.conds.as_slice();
+        if conds.is_empty() {
             return None;
         }
-        Some(self.scanner.cond)
+        Some(cond_name(conds, self.scanner.cond))
     }
 
     /// The places of the Tag, Count and Cond statements that the last match made, each once, in the order in
@@ -188,13 +255,33 @@ impl<'p> Lexer<'p> {
     }
 }
 
-/// The name of the first condition, or no name.
-fn first_cond(conds: &[CondCase]) -> &[u8]
-    ensures { result.now ≡ first_cond conds.now }
+/// The lexer that was saved, on a valid piece that it fits. It takes no memory.
+pub fn resume<'p>(piece: &'p Piece, saved: Saved) -> Lexer<'p>
+    requires valid { IsValid piece.now }
+    requires fits { Fits piece.now saved }
+    ensures { result ≡ resumed piece.now saved }
 {
-    match conds {
-        [] => b"",
-        [first, ..] => first.cond.as_slice(),
+    let blocks = piece.blocks.as_slice();
+    let program = Program {
+        alloc: saved.alloc,
+        piece,
+        statements: statements(piece),
+        assignments: saved.assignments,
+    };
+    let mut scanner = saved.scanner;
+    scanner.numbering.renew(blocks);
+    let mut tags = saved.tags;
+    tags.clear();
+    list_tags(&mut tags, blocks).unwrap();
+    Lexer {
+        program,
+        spent: saved.spent,
+        start: saved.start,
+        steps: saved.steps,
+        scanner,
+        slots: saved.slots,
+        tags,
+        assigned: saved.assigned,
     }
 }
 

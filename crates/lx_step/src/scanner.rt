@@ -1,16 +1,20 @@
 //! The machine that runs a piece, statement by statement.
-ghost use Rattle.std.specs.Prelude.{◌≡◌, ℕ, ◌+◌, ◌<◌, ◌≤◌, List, [], Option, length, IfOk, if◌then◌else◌};
+ghost use Rattle.std.specs.Prelude.{◌≡◌, ℕ, ◌+◌, ◌<◌, ◌≤◌, List, [], Option, None, length, IfOk, if◌then◌else◌};
+ghost use Rattle.lx_ccode.specs.declared.piece.CondCase.{CondCase};
 ghost use Rattle.lx_ccode.specs.declared.piece.Stmt.TheVariants as stmt;
 ghost use Rattle.lx_ccode.specs.Runs.{fresh_machine};
+ghost use Rattle.lx_window.specs.Windows.{IsFormed, IsWindowOf, slid};
+ghost use Rattle.lx_step.specs.Conds.{cond_name};
+ghost use Rattle.lx_step.specs.Left.{IsFrom};
 ghost use Rattle.lx_step.specs.Numbers.{place_of};
-ghost use Rattle.lx_step.specs.Steps.{IsStep, KeepsTables, SetsRegister, content_of, machine_of};
+ghost use Rattle.lx_step.specs.Steps.{IsStep, KeepsTables, Moves, SetsRegister, content_of, machine_of};
 
 use crate::answers::Outcome;
 use crate::histories::Histories;
-use crate::numbers::Numbering;
-use crate::sizes::Sizes;
-use crate::units::Units;
+use crate::numbers::{Numbering, place_of};
+use crate::units::unit_at;
 use lx_base::Memory;
+use lx_window::Window;
 use std::alloc::Global;
 
 /// Where a step goes: to the next statement, to a block, or nowhere.
@@ -21,10 +25,10 @@ pub(crate) enum Going {
     Ends(Outcome),
 }
 
-/// What the machine holds, the registers and histories by their places. Offsets count units from the stream's
-/// beginning.
+/// What the machine holds: the registers and histories by their places, and the condition by its number. Offsets
+/// count units from the stream's beginning.
 #[derive(Drop)]
-pub(crate) struct Scanner<'p> {
+pub(crate) struct Scanner {
     pub(crate) cursor: u64,
     pub(crate) marker: u64,
     pub(crate) limit: u64,
@@ -33,23 +37,19 @@ pub(crate) struct Scanner<'p> {
     pub(crate) numbering: Numbering,
     pub(crate) registers: Vec<Option<u64>>,
     pub(crate) histories: Histories,
-    pub(crate) cond: &'p [u8],
+    pub(crate) cond: u64,
     pub(crate) state: Option<u64>,
 }
 
-impl<'p> Scanner<'p> {
-    /// One with room for these sizes, by a numbering, in a condition.
-    pub(crate) fn new(
-        alloc: Global,
-        sizes: Sizes,
-        numbering: Numbering,
-        cond: &'p [u8],
-    ) -> Result<Scanner<'p>, Memory>
+impl Scanner {
+    /// One for the registers and histories of a numbering, in the first condition.
+    pub(crate) fn new(alloc: Global, numbering: Numbering) -> Result<Scanner, Memory>
         ensures numbering { IfOk result (λ scanner. scanner.numbering ≡ numbering) }
-        ensures registers { IfOk result (λ scanner. length scanner.registers.items ≡ sizes.registers) }
-        ensures histories { IfOk result (λ scanner. length scanner.histories ≡ sizes.histories) }
-        ensures cond { IfOk result (λ scanner. scanner.cond.now ≡ cond.now) }
+        ensures registers { IfOk result (λ scanner. length scanner.registers.items ≡ length numbering.registers.keys) }
+        ensures histories { IfOk result (λ scanner. length scanner.histories ≡ length numbering.histories.keys) }
+        ensures cond { IfOk result (λ scanner. scanner.cond ≡ 0) }
         ensures cursor { IfOk result (λ scanner. scanner.cursor ≡ 0) }
+        ensures state { IfOk result (λ scanner. scanner.state ≡ None) }
     {
         Ok(Scanner {
             cursor: 0,
@@ -57,18 +57,20 @@ impl<'p> Scanner<'p> {
             limit: 0,
             unit: None,
             accept: 0,
+            registers: vec![in alloc; None; numbering.registers.len()]?,
+            histories: Histories::new(alloc, numbering.histories.len())?,
             numbering,
-            registers: vec![in alloc; None; sizes.registers as usize]?,
-            histories: Histories::new(alloc, sizes.histories as usize)?,
-            cond,
+            cond: 0,
             state: None,
         })
     }
 
     /// Begins a match.
     pub(crate) fn begin(&mut self, start: u64, limit: u64)
-        ensures fresh { machine_of self.new [] ≡ fresh_machine start limit self.old.cond.now }
+        ensures fresh { (conds : List CondCase) → machine_of conds self.new [] ≡ fresh_machine start limit (cond_name conds self.old.cond) }
         ensures tables { KeepsTables self.old self.new }
+        ensures cond { self.new.cond ≡ self.old.cond }
+        ensures from { IsFrom start self.new }
     {
         self.cursor = start;
         self.marker = start;
@@ -80,13 +82,23 @@ impl<'p> Scanner<'p> {
         self.state = None;
     }
 
+    /// Comes back to a match that was left: the unit is forgotten, and the limit may have moved.
+    pub(crate) fn come_back(&mut self, limit: u64)
+        ensures { self.new ≡ record self.old { limit = limit; unit = None } }
+    {
+        self.limit = limit;
+        self.unit = None;
+    }
+
     /// Reads the unit at the cursor.
-    pub(crate) fn peek<U: Units>(&mut self, units: &U, eof: Option<u32>) -> Going
-        requires { self.old.limit ≤ length (U.stream units.now) }
-        ensures { IsStep (U.stream units.now) eof stmt.Peek self.old self.new result }
+    pub(crate) fn peek(&mut self, w: &Window<'_>, eof: Option<u32>) -> Going
+        requires from { w.now.start ≤ self.old.cursor }
+        requires to { self.old.limit ≡ w.now.limit }
+        ensures step { (stream : List ℕ) (conds : List CondCase) → IsFormed w.now × IsWindowOf stream (slid w.now) → IsStep stream eof conds stmt.Peek self.old self.new result }
+        ensures moves { (conds : List CondCase) → Moves conds stmt.Peek self.old self.new result }
     {
         if self.cursor < self.limit {
-            self.unit = Some(units.unit_at(self.cursor));
+            self.unit = Some(unit_at(w, self.cursor));
             return Going::Next;
         }
         if self.cursor == self.limit && eof.is_some() {
@@ -98,7 +110,7 @@ impl<'p> Scanner<'p> {
 
     /// Moves the cursor on by one unit.
     pub(crate) fn skip(&mut self) -> Going
-        ensures { (stream : List ℕ) (eof : Option ℕ) → IsStep stream eof stmt.Skip self.old self.new result }
+        ensures { (stream : List ℕ) (eof : Option ℕ) (conds : List CondCase) → IsStep stream eof conds stmt.Skip self.old self.new result }
     {
         if self.cursor >= self.limit {
             return Going::Ends(Outcome::Stuck);
@@ -109,7 +121,7 @@ impl<'p> Scanner<'p> {
 
     /// Keeps the cursor in the marker.
     pub(crate) fn backup(&mut self) -> Going
-        ensures { (stream : List ℕ) (eof : Option ℕ) → IsStep stream eof stmt.Backup self.old self.new result }
+        ensures { (stream : List ℕ) (eof : Option ℕ) (conds : List CondCase) → IsStep stream eof conds stmt.Backup self.old self.new result }
     {
         self.marker = self.cursor;
         Going::Next
@@ -117,7 +129,7 @@ impl<'p> Scanner<'p> {
 
     /// Moves the cursor to the marker.
     pub(crate) fn restore(&mut self) -> Going
-        ensures { (stream : List ℕ) (eof : Option ℕ) → IsStep stream eof stmt.Restore self.old self.new result }
+        ensures { (stream : List ℕ) (eof : Option ℕ) (conds : List CondCase) → IsStep stream eof conds stmt.Restore self.old self.new result }
     {
         self.cursor = self.marker;
         Going::Next
@@ -125,7 +137,7 @@ impl<'p> Scanner<'p> {
 
     /// Keeps an accepting state.
     pub(crate) fn accept(&mut self, accept: u32) -> Going
-        ensures { (stream : List ℕ) (eof : Option ℕ) → IsStep stream eof (stmt.Accept accept) self.old self.new result }
+        ensures { (stream : List ℕ) (eof : Option ℕ) (conds : List CondCase) → IsStep stream eof conds (stmt.Accept accept) self.old self.new result }
     {
         self.accept = accept;
         Going::Next
@@ -133,7 +145,7 @@ impl<'p> Scanner<'p> {
 
     /// Keeps a state.
     pub(crate) fn state(&mut self, state: u64) -> Going
-        ensures { (stream : List ℕ) (eof : Option ℕ) → IsStep stream eof (stmt.State state) self.old self.new result }
+        ensures { (stream : List ℕ) (eof : Option ℕ) (conds : List CondCase) → IsStep stream eof conds (stmt.State state) self.old self.new result }
     {
         self.state = Some(state);
         Going::Next
@@ -141,7 +153,7 @@ impl<'p> Scanner<'p> {
 
     /// Puts an offset, or nothing, into a register.
     fn set_register(&mut self, register: u32, value: Option<u64>)
-        requires { place_of self.old.numbering.registers register < length self.old.registers.items }
+        requires { place_of self.old.numbering.registers.keys register < length self.old.registers.items }
         ensures { SetsRegister self.old self.new register value }
     {
         let place = self.place_of_register(register);
@@ -150,7 +162,7 @@ impl<'p> Scanner<'p> {
 
     /// The content of a register.
     pub(crate) fn content(&self, register: u32) -> Option<u64>
-        requires { place_of self.now.numbering.registers register < length self.now.registers.items }
+        requires { place_of self.now.numbering.registers.keys register < length self.now.registers.items }
         ensures { result ≡ content_of self.now register }
     {
         self.registers[self.place_of_register(register)]
@@ -158,22 +170,22 @@ impl<'p> Scanner<'p> {
 
     /// The place of a register.
     fn place_of_register(&self, register: u32) -> usize
-        ensures { result ≡ place_of self.now.numbering.registers register }
+        ensures { result ≡ place_of self.now.numbering.registers.keys register }
     {
-        self.numbering.registers.place_of(register) as usize
+        place_of(&self.numbering.registers, register) as usize
     }
 
     /// The place of a history.
     pub(crate) fn place_of_history(&self, history: u32) -> usize
-        ensures { result ≡ place_of self.now.numbering.histories history }
+        ensures { result ≡ place_of self.now.numbering.histories.keys history }
     {
-        self.numbering.histories.place_of(history) as usize
+        place_of(&self.numbering.histories, history) as usize
     }
 
     /// Puts the cursor into a register.
     pub(crate) fn set(&mut self, register: u32) -> Going
-        requires { place_of self.old.numbering.registers register < length self.old.registers.items }
-        ensures { (stream : List ℕ) (eof : Option ℕ) → IsStep stream eof (stmt.Set register) self.old self.new result }
+        requires { place_of self.old.numbering.registers.keys register < length self.old.registers.items }
+        ensures { (stream : List ℕ) (eof : Option ℕ) (conds : List CondCase) → IsStep stream eof conds (stmt.Set register) self.old self.new result }
     {
         self.set_register(register, Some(self.cursor));
         Going::Next
@@ -181,8 +193,8 @@ impl<'p> Scanner<'p> {
 
     /// Empties a register.
     pub(crate) fn unset(&mut self, register: u32) -> Going
-        requires { place_of self.old.numbering.registers register < length self.old.registers.items }
-        ensures { (stream : List ℕ) (eof : Option ℕ) → IsStep stream eof (stmt.Unset register) self.old self.new result }
+        requires { place_of self.old.numbering.registers.keys register < length self.old.registers.items }
+        ensures { (stream : List ℕ) (eof : Option ℕ) (conds : List CondCase) → IsStep stream eof conds (stmt.Unset register) self.old self.new result }
     {
         self.set_register(register, None);
         Going::Next
@@ -190,9 +202,9 @@ impl<'p> Scanner<'p> {
 
     /// Puts one register's content into another.
     pub(crate) fn copy(&mut self, register: u32, source: u32) -> Going
-        requires register { place_of self.old.numbering.registers register < length self.old.registers.items }
-        requires source { place_of self.old.numbering.registers source < length self.old.registers.items }
-        ensures { (stream : List ℕ) (eof : Option ℕ) → IsStep stream eof (stmt.Copy register source) self.old self.new result }
+        requires register { place_of self.old.numbering.registers.keys register < length self.old.registers.items }
+        requires source { place_of self.old.numbering.registers.keys source < length self.old.registers.items }
+        ensures { (stream : List ℕ) (eof : Option ℕ) (conds : List CondCase) → IsStep stream eof conds (stmt.Copy register source) self.old self.new result }
     {
         let value = self.content(source);
         self.set_register(register, value);
@@ -201,8 +213,8 @@ impl<'p> Scanner<'p> {
 
     /// Moves the cursor back to a register.
     pub(crate) fn back(&mut self, register: u32) -> Going
-        requires { place_of self.old.numbering.registers register < length self.old.registers.items }
-        ensures { (stream : List ℕ) (eof : Option ℕ) → IsStep stream eof (stmt.Back register) self.old self.new result }
+        requires { place_of self.old.numbering.registers.keys register < length self.old.registers.items }
+        ensures { (stream : List ℕ) (eof : Option ℕ) (conds : List CondCase) → IsStep stream eof conds (stmt.Back register) self.old self.new result }
     {
         match self.content(register) {
             None => Going::Ends(Outcome::Stuck),
@@ -215,9 +227,10 @@ impl<'p> Scanner<'p> {
 
     /// Appends the cursor to a history.
     pub(crate) fn append(&mut self, history: u32) -> Result<Going, Memory>
-        requires { place_of self.old.numbering.histories history < length self.old.histories }
-        ensures step { IfOk result (λ going. (stream : List ℕ) (eof : Option ℕ) → IsStep stream eof (stmt.MSet history) self.old self.new going) }
+        requires { place_of self.old.numbering.histories.keys history < length self.old.histories }
+        ensures step { IfOk result (λ going. (stream : List ℕ) (eof : Option ℕ) (conds : List CondCase) → IsStep stream eof conds (stmt.MSet history) self.old self.new going) }
         ensures tables { KeepsTables self.old self.new }
+        ensures cond { self.new.cond ≡ self.old.cond }
     {
         if history == 0 {
             return Ok(Going::Ends(Outcome::Stuck));
@@ -229,9 +242,10 @@ impl<'p> Scanner<'p> {
 
     /// Appends a negative event to a history.
     pub(crate) fn append_none(&mut self, history: u32) -> Result<Going, Memory>
-        requires { place_of self.old.numbering.histories history < length self.old.histories }
-        ensures step { IfOk result (λ going. (stream : List ℕ) (eof : Option ℕ) → IsStep stream eof (stmt.MUnset history) self.old self.new going) }
+        requires { place_of self.old.numbering.histories.keys history < length self.old.histories }
+        ensures step { IfOk result (λ going. (stream : List ℕ) (eof : Option ℕ) (conds : List CondCase) → IsStep stream eof conds (stmt.MUnset history) self.old self.new going) }
         ensures tables { KeepsTables self.old self.new }
+        ensures cond { self.new.cond ≡ self.old.cond }
     {
         if history == 0 {
             return Ok(Going::Ends(Outcome::Stuck));
@@ -243,9 +257,9 @@ impl<'p> Scanner<'p> {
 
     /// Puts one history into another.
     pub(crate) fn copy_history(&mut self, history: u32, source: u32) -> Going
-        requires history { place_of self.old.numbering.histories history < length self.old.histories }
-        requires source { place_of self.old.numbering.histories source < length self.old.histories }
-        ensures { (stream : List ℕ) (eof : Option ℕ) → IsStep stream eof (stmt.MCopy history source) self.old self.new result }
+        requires history { place_of self.old.numbering.histories.keys history < length self.old.histories }
+        requires source { place_of self.old.numbering.histories.keys source < length self.old.histories }
+        ensures { (stream : List ℕ) (eof : Option ℕ) (conds : List CondCase) → IsStep stream eof conds (stmt.MCopy history source) self.old self.new result }
     {
         if history == 0 {
             return Going::Ends(Outcome::Stuck);
@@ -258,7 +272,7 @@ impl<'p> Scanner<'p> {
 
     /// Tests the unit that was read last.
     pub(crate) fn if_unit(&self, greatest: u32, block: u64) -> Going
-        ensures { (stream : List ℕ) (eof : Option ℕ) → IsStep stream eof (stmt.IfUnit greatest block) self.now self.now result }
+        ensures { (stream : List ℕ) (eof : Option ℕ) (conds : List CondCase) → IsStep stream eof conds (stmt.IfUnit greatest block) self.now self.now result }
     {
         match self.unit {
             None => Going::Ends(Outcome::Stuck),
@@ -268,26 +282,16 @@ impl<'p> Scanner<'p> {
 
     /// Tests the accepting state that was kept last.
     pub(crate) fn if_accept(&self, accept: u32, block: u64) -> Going
-        ensures { (stream : List ℕ) (eof : Option ℕ) → IsStep stream eof (stmt.IfAccept accept block) self.now self.now result }
+        ensures { (stream : List ℕ) (eof : Option ℕ) (conds : List CondCase) → IsStep stream eof conds (stmt.IfAccept accept block) self.now self.now result }
     {
         jump_where(self.accept == accept, block)
     }
 
     /// Tests whether no unit is left.
     pub(crate) fn if_end(&self, block: u64) -> Going
-        ensures { (stream : List ℕ) (eof : Option ℕ) → IsStep stream eof (stmt.IfEnd block) self.now self.now result }
+        ensures { (stream : List ℕ) (eof : Option ℕ) (conds : List CondCase) → IsStep stream eof conds (stmt.IfEnd block) self.now self.now result }
     {
         jump_where(self.limit <= self.cursor, block)
-    }
-
-    /// Asks for a refill until so many units are left: there are no more than those of the buffer.
-    pub(crate) fn need(&self, units: u32) -> Going
-        ensures { (stream : List ℕ) (eof : Option ℕ) → IsStep stream eof (stmt.Need units) self.now self.now result }
-    {
-        if self.limit.saturating_sub(self.cursor) < u64::from(units) {
-            return Going::Ends(Outcome::End);
-        }
-        Going::Next
     }
 }
 

@@ -1,34 +1,17 @@
 //! What was given to tags and groups.
-ghost use Rattle.std.specs.Prelude.{◌≡◌, ℕ, ◌+◌, ◌/◌, ◌<◌, ◌≤◌, ◌^◌, List, Option, Some, length, take, map, option_map, option_copied, IfOk, OnOk, []};
-ghost use Rattle.lx_ccode.specs.Statements.{all_statements};
-ghost use Rattle.lx_base.specs.Letters.{equal_words};
-ghost use Rattle.lx_step.specs.Given.{Given, with_offset, with_history, with_end, offset_in, history_in, onto_offsets, onto_histories, offset_slots, history_slots, nothing_given};
+ghost use Rattle.std.specs.Prelude.{◌≡◌, ℕ, ◌/◌, ◌<◌, ◌≤◌, List, [], Option, length, option_map, replicate, slice_get, take, IfOk};
+ghost use Rattle.lx_step.specs.Given.{Given, nothing_given, with_end, with_item};
 
 use crate::answers::Group;
-use lx_base::{ByteText, Memory, Sequence};
-use lx_ccode::{CodeBlock, NameSet, Stmt};
+use lx_base::{Memory, Sequence};
 use std::alloc::Global;
 use std::marker::Model;
 
-/// A tag that gets an offset, and the last one.
-#[derive(Drop)]
-pub struct OffsetSlot {
-    pub(crate) name: ByteText,
-    pub(crate) value: Option<u64>,
-}
-
-/// A tag that gets a history, and the last one.
-#[derive(Drop)]
-pub struct HistorySlot {
-    pub(crate) name: ByteText,
-    pub(crate) value: Sequence<Option<u64>>,
-}
-
-/// What is kept of the values that were given.
+/// What is kept of the values that were given: those of tags by the tags' numbers.
 #[derive(Drop)]
 pub(crate) struct Slots {
-    offsets: OffsetSlots,
-    histories: HistorySlots,
+    offsets: Vec<Option<u64>>,
+    histories: Vec<Sequence<Option<u64>>>,
     entries: Vec<Group>,
     groups: u64,
 }
@@ -40,8 +23,8 @@ impl Model for Slots {
     ghost Value = { Given };
 
     ghost view = { λ slots. record {
-      offsets = slots.offsets;
-      histories = slots.histories;
+      offsets = slots.offsets.items;
+      histories = slots.histories.items;
       entries = slots.entries.items;
       groups = slots.groups;
     } };
@@ -50,13 +33,13 @@ impl Model for Slots {
 }
 
 impl Slots {
-    /// Those of a piece's blocks, with room for so many groups.
-    pub(crate) fn new(alloc: Global, blocks: &[CodeBlock], groups: u64) -> Result<Slots, Memory>
-        ensures { IfOk result (λ slots. slots ≡ nothing_given (all_statements blocks.now) groups) }
+    /// Those of so many tags, with room for so many groups.
+    pub(crate) fn new(alloc: Global, tags: usize, groups: u64) -> Result<Slots, Memory>
+        ensures { (names : List (List ℕ)) → length names ≡ tags → IfOk result (λ slots. slots ≡ nothing_given names groups) }
     {
         Ok(Slots {
-            offsets: slots_of_offsets(alloc, blocks)?,
-            histories: slots_of_histories(alloc, blocks)?,
+            offsets: vec![in alloc; None; tags]?,
+            histories: empty_histories(alloc, tags)?,
             entries: vec![in alloc; Group {
                 from: None,
                 to: None
@@ -65,18 +48,33 @@ impl Slots {
         })
     }
 
-    /// The last offset of a tag, if it gets one.
-    pub(crate) fn offset(&self, name: &[u8]) -> Option<Option<u64>>
-        ensures { result ≡ offset_in self.now.offsets name.now }
+    /// How many tags there are.
+    pub(crate) fn tags(&self) -> u64
+        ensures { result ≡ length self.now.offsets }
     {
-        self.offsets.get(name)
+        self.offsets.len() as u64
     }
 
-    /// The last history of a tag, if it gets one.
-    pub(crate) fn history(&self, name: &[u8]) -> Option<&[Option<u64>]>
-        ensures { option_map (λ entries. entries.now) result ≡ history_in self.now.histories name.now }
+    /// For how many groups there is room.
+    pub(crate) fn room(&self) -> u64
+        ensures { result ≡ length self.now.entries }
     {
-        self.histories.get(name)
+        self.entries.len() as u64
+    }
+
+    /// The last offset of a tag, by its number.
+    pub(crate) fn offset(&self, number: usize) -> Option<Option<u64>>
+        ensures { result ≡ slice_get self.now.offsets number }
+    {
+        self.offsets.get(number).copied()
+    }
+
+    /// The last history of a tag, by its number.
+    pub(crate) fn history(&self, number: usize) -> Option<&[Option<u64>]>
+        ensures { option_map (λ entries. entries.now) result ≡ slice_get self.now.histories number }
+    {
+        let history = self.histories.get(number)?;
+        Some(history.as_slice())
     }
 
     /// The groups of the rule that was matched last.
@@ -87,18 +85,26 @@ impl Slots {
         &self.entries[..self.groups as usize]
     }
 
-    /// Gives a tag an offset.
-    pub(crate) fn give_offset(&mut self, name: &[u8], value: Option<u64>)
-        ensures { self.new ≡ record self.old { offsets = with_offset name.now value self.old.offsets } }
+    /// Gives a tag an offset, by its number.
+    pub(crate) fn give_offset(&mut self, number: Option<usize>, value: Option<u64>)
+        ensures { self.new ≡ record self.old { offsets = with_item number value self.old.offsets } }
     {
-        self.offsets.put(name, value);
+        if let Some(number) = number
+            && number < self.offsets.len()
+        {
+            self.offsets[number] = value;
+        }
     }
 
-    /// Gives a tag a history.
-    pub(crate) fn give_history(&mut self, name: &[u8], value: Sequence<Option<u64>>)
-        ensures { self.new ≡ record self.old { histories = with_history name.now value self.old.histories } }
+    /// Gives a tag a history, by its number.
+    pub(crate) fn give_history(&mut self, number: Option<usize>, value: Sequence<Option<u64>>)
+        ensures { self.new ≡ record self.old { histories = with_item number value self.old.histories } }
     {
-        self.histories.put(name, value);
+        if let Some(number) = number
+            && number < self.histories.len()
+        {
+            self.histories[number] = value;
+        }
     }
 
     /// Sets the count of groups.
@@ -123,180 +129,13 @@ impl Slots {
     }
 }
 
-/// The slots of tags that get an offset, each found without a look at all others. Contracts see them as a list.
-#[derive(Drop)]
-pub(crate) struct OffsetSlots {
-    names: NameSet,
-    slots: Vec<OffsetSlot>,
-}
-
-impl Model for OffsetSlots {
-    ghost use Rattle.std.specs.Prelude.{◌≡◌, List, map};
-    ghost use Rattle.lx_step.specs.declared.slots.OffsetSlot.{OffsetSlot};
-
-    ghost Value = { List OffsetSlot };
-
-    ghost view = { λ slots. slots.slots.items };
-
-    ghost invariant = { λ slots. slots.names ≡ map (λ slot. slot.name) slots.slots.items };
-}
-
-impl OffsetSlots {
-    /// No slots. It takes no memory.
-    fn new(alloc: Global) -> OffsetSlots
-        ensures { result ≡ [] }
-    {
-        OffsetSlots {
-            names: NameSet::new(alloc),
-            slots: Vec::new(alloc),
-        }
-    }
-
-    /// The last offset of a tag, if it gets one.
-    fn get(&self, name: &[u8]) -> Option<Option<u64>>
-        ensures { result ≡ offset_in self.now name.now }
-    {
-        let place = self.names.place_of(name)?;
-        Some(self.slots[place].value)
-    }
-
-    /// Gives a tag an offset, if it gets one.
-    fn put(&mut self, name: &[u8], value: Option<u64>)
-        ensures { self.new ≡ with_offset name.now value self.old }
-    {
-        if let Some(place) = self.names.place_of(name) {
-            self.slots[place].value = value;
-        }
-    }
-
-    /// Appends a slot for a tag to the others, unless it has one.
-    fn add(&mut self, alloc: Global, name: &[u8]) -> Result<(), Memory>
-        ensures { OnOk result (self.new ≡ onto_offsets name.now self.old) }
-    {
-        if self.names.place_of(name).is_some() {
-            return Ok(());
-        }
-        let word = ByteText::copy_of(alloc, name)?;
-        self.slots.reserve(1)?;
-        self.names.add(alloc, name)?;
-        self.slots.push_reserved(OffsetSlot {
-            name: word,
-            value: None,
-        });
-        Ok(())
-    }
-}
-
-fn slots_of_offsets(alloc: Global, blocks: &[CodeBlock]) -> Result<OffsetSlots, Memory>
-    ensures { IfOk result (λ slots. slots ≡ offset_slots (all_statements blocks.now) []) }
+/// So many empty histories.
+fn empty_histories(alloc: Global, count: usize) -> Result<Vec<Sequence<Option<u64>>>, Memory>
+    ensures { IfOk result (λ histories. histories.items ≡ replicate count []) }
 {
-    let mut slots = OffsetSlots::new(alloc);
-    for block in blocks {
-        append_offset_slots(alloc, &mut slots, block.stmts.as_slice())?;
+    let mut histories = Vec::with_capacity(alloc, count)?;
+    for _ in 0..count {
+        histories.push(Sequence::new(alloc))?;
     }
-    Ok(slots)
-}
-
-fn append_offset_slots(
-    alloc: Global,
-    slots: &mut OffsetSlots,
-    statements: &[Stmt],
-) -> Result<(), Memory>
-    ensures { OnOk result (slots.new ≡ offset_slots statements.now slots.old) }
-{
-    for statement in statements {
-        if let Stmt::Tag(name, false, _) = statement {
-            slots.add(alloc, name.as_slice())?;
-        }
-    }
-    Ok(())
-}
-
-/// The slots of tags that get a history, each found without a look at all others. Contracts see them as a list.
-#[derive(Drop)]
-pub(crate) struct HistorySlots {
-    names: NameSet,
-    slots: Vec<HistorySlot>,
-}
-
-impl Model for HistorySlots {
-    ghost use Rattle.std.specs.Prelude.{◌≡◌, List, map};
-    ghost use Rattle.lx_step.specs.declared.slots.HistorySlot.{HistorySlot};
-
-    ghost Value = { List HistorySlot };
-
-    ghost view = { λ slots. slots.slots.items };
-
-    ghost invariant = { λ slots. slots.names ≡ map (λ slot. slot.name) slots.slots.items };
-}
-
-impl HistorySlots {
-    /// No slots. It takes no memory.
-    fn new(alloc: Global) -> HistorySlots
-        ensures { result ≡ [] }
-    {
-        HistorySlots {
-            names: NameSet::new(alloc),
-            slots: Vec::new(alloc),
-        }
-    }
-
-    /// The last history of a tag, if it gets one.
-    fn get(&self, name: &[u8]) -> Option<&[Option<u64>]>
-        ensures { option_map (λ entries. entries.now) result ≡ history_in self.now name.now }
-    {
-        let place = self.names.place_of(name)?;
-        Some(self.slots[place].value.as_slice())
-    }
-
-    /// Gives a tag a history, if it gets one.
-    fn put(&mut self, name: &[u8], value: Sequence<Option<u64>>)
-        ensures { self.new ≡ with_history name.now value self.old }
-    {
-        if let Some(place) = self.names.place_of(name) {
-            self.slots[place].value = value;
-        }
-    }
-
-    /// Appends a slot for a tag to the others, unless it has one.
-    fn add(&mut self, alloc: Global, name: &[u8]) -> Result<(), Memory>
-        ensures { OnOk result (self.new ≡ onto_histories name.now self.old) }
-    {
-        if self.names.place_of(name).is_some() {
-            return Ok(());
-        }
-        let word = ByteText::copy_of(alloc, name)?;
-        self.slots.reserve(1)?;
-        self.names.add(alloc, name)?;
-        self.slots.push_reserved(HistorySlot {
-            name: word,
-            value: Sequence::new(alloc),
-        });
-        Ok(())
-    }
-}
-
-fn slots_of_histories(alloc: Global, blocks: &[CodeBlock]) -> Result<HistorySlots, Memory>
-    ensures { IfOk result (λ slots. slots ≡ history_slots (all_statements blocks.now) []) }
-{
-    let mut slots = HistorySlots::new(alloc);
-    for block in blocks {
-        append_history_slots(alloc, &mut slots, block.stmts.as_slice())?;
-    }
-    Ok(slots)
-}
-
-fn append_history_slots(
-    alloc: Global,
-    slots: &mut HistorySlots,
-    statements: &[Stmt],
-) -> Result<(), Memory>
-    ensures { OnOk result (slots.new ≡ history_slots statements.now slots.old) }
-{
-    for statement in statements {
-        if let Stmt::Tag(name, true, _) = statement {
-            slots.add(alloc, name.as_slice())?;
-        }
-    }
-    Ok(())
+    Ok(histories)
 }

@@ -1,37 +1,55 @@
 //! One step: a statement, and where it goes.
-ghost use Rattle.std.specs.Prelude.{◌≡◌, ◌≤◌, ℕ, [], length, true, IfOk, OnErr};
+ghost use Rattle.std.specs.Prelude.{◌≡◌, ◌≤◌, ℕ, List, [], false, map, true, IfOk, OnErr};
+ghost use Rattle.lx_ccode.specs.Statements.{is_refill};
+ghost use Rattle.lx_ccode.specs.Validity.{NamesOneOf};
+ghost use Rattle.lx_window.specs.Windows.{IsFormed, IsWindowOf, slid};
+ghost use Rattle.lx_step.specs.Conds.{IsCond};
 ghost use Rattle.lx_step.specs.Held.{is_on_histories};
-ghost use Rattle.lx_step.specs.Sizes.{sizes_of};
-ghost use Rattle.lx_step.specs.Steps.{HasRoom, IsStep, KeepsTables, given_after, machine_of};
+ghost use Rattle.lx_step.specs.Steps.{HasRoomFor, IsStep, KeepsLengths, KeepsTables, Moves, given_after, machine_of};
+ghost use Rattle.lx_step.specs.Tags.{tag_names, told_name};
 
 use crate::answers::Outcome;
 use crate::scanner::{Going, Scanner};
 use crate::slots::Slots;
-use crate::units::Units;
+use crate::tags::{TagName, number_of_tag};
 use lx_base::Memory;
-use lx_ccode::Stmt;
+use lx_ccode::{Piece, Stmt};
+use lx_window::Window;
 use std::alloc::Global;
 
-/// Does a statement.
-pub(crate) fn step<'p, U: Units>(
+/// A piece, and the tags that it names.
+#[derive(Clone, Copy)]
+pub(crate) struct Names<'n> {
+    pub(crate) piece: &'n Piece,
+    pub(crate) tags: &'n [TagName],
+}
+
+/// Does a statement that asks for no refill.
+pub(crate) fn step(
     alloc: Global,
-    stmt: &'p Stmt,
-    units: &U,
-    eof: Option<u32>,
-    scanner: &mut Scanner<'p>,
+    names: Names<'_>,
+    stmt: &Stmt,
+    w: &Window<'_>,
+    scanner: &mut Scanner,
     slots: &mut Slots,
 ) -> Result<Going, Memory>
-    requires room { HasRoom (sizes_of scanner.old.numbering stmt.now) scanner.old slots.old }
-    requires limit { scanner.old.limit ≤ length (U.stream units.now) }
-    ensures step { IfOk result (λ going. IsStep (U.stream units.now) eof stmt.now scanner.old scanner.new going) }
-    ensures given { IfOk result (λ going. slots.new ≡ given_after stmt.now (machine_of scanner.old []) slots.old) }
+    requires asks { is_refill stmt.now ≡ false }
+    requires room { HasRoomFor stmt.now scanner.old slots.old }
+    requires named { NamesOneOf (map (λ case. case.cond) names.piece.now.conds) stmt.now }
+    requires tags { map (told_name names.piece.now.blocks) names.tags.now ≡ tag_names names.piece.now.blocks }
+    requires from { w.now.start ≤ scanner.old.cursor }
+    requires to { scanner.old.limit ≡ w.now.limit }
+    ensures step { IfOk result (λ going. (stream : List ℕ) → IsFormed w.now × IsWindowOf stream (slid w.now) → IsStep stream names.entry.piece.now.eof names.entry.piece.now.conds stmt.now scanner.old scanner.new going) }
+    ensures moves { IfOk result (λ going. Moves names.entry.piece.now.conds stmt.now scanner.old scanner.new going) }
+    ensures given { IfOk result (λ going. slots.new ≡ given_after (tag_names names.entry.piece.now.blocks) stmt.now (machine_of names.entry.piece.now.conds scanner.old []) slots.old) }
     ensures tables { KeepsTables scanner.old scanner.new }
-    ensures entries { length slots.new.entries ≡ length slots.old.entries }
+    ensures cond { IsCond names.entry.piece.now.conds scanner.old.cond → IsCond names.entry.piece.now.conds scanner.new.cond }
+    ensures lengths { KeepsLengths slots.old slots.new }
     ensures kept { OnErr result (slots.new ≡ slots.old) }
     ensures memory { OnErr result (is_on_histories stmt.now ≡ true) }
 {
     match stmt {
-        Stmt::Peek => Ok(scanner.peek(units, eof)),
+        Stmt::Peek => Ok(scanner.peek(w, names.piece.eof)),
         Stmt::Skip => Ok(scanner.skip()),
         Stmt::Backup => Ok(scanner.backup()),
         Stmt::Restore => Ok(scanner.restore()),
@@ -46,14 +64,15 @@ pub(crate) fn step<'p, U: Units>(
         Stmt::IfAccept(accept, block) => Ok(scanner.if_accept(*accept, *block)),
         Stmt::IfEnd(block) => Ok(scanner.if_end(*block)),
         Stmt::State(state) => Ok(scanner.state(*state)),
-        Stmt::Need(units) => Ok(scanner.need(*units)),
-        Stmt::Try(_) => Ok(Going::Next),
-        Stmt::Cond(cond) => Ok(scanner.set_cond(cond)),
+        Stmt::Need(_) | Stmt::Try(_) => unreachable!(),
+        Stmt::Cond(cond) => Ok(scanner.set_cond(names.piece.conds.as_slice(), cond)),
         Stmt::Tag(name, is_history, place) => {
+            let blocks = names.piece.blocks.as_slice();
+            let number = number_of_tag(blocks, names.tags, name.as_slice());
             if *is_history {
-                scanner.give_history(alloc, slots, name, *place)
+                scanner.give_history(alloc, slots, number, *place)
             } else {
-                Ok(scanner.give_offset(slots, name, *place))
+                Ok(scanner.give_offset(slots, number, *place))
             }
         }
         Stmt::Count(groups) => Ok(scanner.count(slots, *groups)),

@@ -1,6 +1,8 @@
 -- What is read before a text is made.
-use Rattle.std.proofs.Common.{◌≡◌, ◌≤◌, ℕ, List, [], ◌∷◌, Option, Some, None, MatchOption, Result, IfErr, IsErrAnd, refl, subst, sym}
+use Rattle.std.proofs.Common.{◌≡◌, ◌≤◌, ℕ, false, List, [], ◌∷◌, Option, Some, None, MatchOption, Result, IfErr, IsErrAnd, refl, subst, sym}
 use Rattle.std.proofs.lemmas.Slice.Eq.{bytes_eq-Decides}
+use Rattle.lx_base.specs.declared.settings.Job.{Job}
+use Rattle.lx_base.specs.declared.settings.Job.TheVariants.{Compile}
 use Rattle.lx_base.specs.declared.settings.Options.{Options}
 use Rattle.lx_compile.specs.FirstFault.{IsFirstFault, StopsWith}
 use Rattle.lx_compile.specs.Output.{IsOutput}
@@ -12,7 +14,9 @@ use Rattle.lx_files.specs.Reading.{Gives}
 use Rattle.lx_split.specs.Includes.{expansion}
 use Rattle.lx_split.specs.declared.expanding.ExpandStop.{ExpandStop}
 use Rattle.lx_split.specs.declared.expanding.ExpandStop.TheVariants as stop
-use Rattle.lx_top.specs.Output.{GoesTo}
+use Rattle.lx_top.specs.FirstFault.{IsFaultOf}
+use Rattle.lx_top.specs.Jobs.{is_run, names_of, target_of}
+use Rattle.lx_top.specs.Output.{GoesTo, IsJobRight}
 use Rattle.lx_top.specs.Outside.{FilesView, SinkView}
 use Rattle.lx_top.specs.Puts.{halt_of_expand}
 use Rattle.lx_top.specs.Steps.{Cites, HaltsRead, IsNoFile, JobEnds}
@@ -57,21 +61,21 @@ HaltsRead-missing seen CountRose file name halt.OutOfMemory missing is = tt
 pub Ends-stopped : (options : Options) (seen : List HeldFile) (main : List ℕ) (target : Option (List ℕ)) (files files' : FilesView) (out : SinkView) (names : List (List ℕ))
     (stopped : ExpandStop) {T : Type 0} (ended : Result T Halt) → IsErrAnd ended (λ given. given ≡ halt_of_expand stopped)
     → StopsWith options seen main (Rose files.faults files'.faults) names stopped → files'.held ≡ files.held
-    → (made : List Made) × JobEnds (IsFirstFault options seen main made) target (GoesTo target (IsOutput options seen main made)) files files' out out ended
+    → (made : List Made) × JobEnds false (IsFirstFault options seen main made) target (GoesTo target (IsOutput options seen main made)) files files' out out ended
     × IfErr ended (Cites (expansion options seen main).met.names names)
 Ends-stopped options seen main target files files' out names stop.Memory ended is stops held = (
   [],
-  JobEnds-reason _ _ _ _ _ _ _ ended halt.OutOfMemory is tt (refl, held),
+  JobEnds-reason false _ _ _ _ _ _ _ ended halt.OutOfMemory is tt (refl, held),
   IfErr-residual ended halt.OutOfMemory (Cites (expansion options seen main).met.names names) is tt,
 )
 Ends-stopped options seen main target files files' out names (stop.Fault fault) ended is stops held = (
   stops.0.0,
-  JobEnds-reason _ _ _ _ _ _ _ ended (halt.Fault fault) is stops.0.1 (refl, held),
+  JobEnds-reason false _ _ _ _ _ _ _ ended (halt.Fault fault) is (stops.0.1, refl) (refl, held),
   IfErr-residual ended (halt.Fault fault) (Cites (expansion options seen main).met.names names) is (stops.1, stops.2),
 )
 Ends-stopped options seen main target files files' out names stop.ReadFailed ended is stops held = (
   [],
-  JobEnds-reason _ _ _ _ _ _ _ ended halt.ReadFailed is stops.0 (refl, held),
+  JobEnds-reason false _ _ _ _ _ _ _ ended halt.ReadFailed is stops.0 (refl, held),
   IfErr-residual ended halt.ReadFailed (Cites (expansion options seen main).met.names names) is tt,
 )
 
@@ -80,16 +84,16 @@ module _ (options : Options) (seen : List HeldFile) (main : List ℕ) (made : Li
     (out out' : SinkView) where
   -- the job is to compile the source to the file, or without one to the standard output
   abbrev Compiles : (target : Option (List ℕ)) → {T : Type 0} → Result T Halt → Type 0
-  Compiles target ended = JobEnds (IsFirstFault options seen main made) target (GoesTo target (IsOutput options seen main made)) files files' out out' ended
+  Compiles target ended = JobEnds false (IsFirstFault options seen main made) target (GoesTo target (IsOutput options seen main made)) files files' out out' ended
 
   -- so many bytes were given to the file and the text to the standard output
   abbrev Delivered : (target : Option (List ℕ)) (bytes text : List ℕ) → {T : Type 0} → Result T Halt → Type 0
-  Delivered target bytes text ended = JobEnds (λ fault. fault ≡ None) target (λ given put. (given ≡ bytes) × (put ≡ text)) middle files' out out' ended
+  Delivered target bytes text ended = JobEnds false (λ fault. fault ≡ None) target (λ given put. (given ≡ bytes) × (put ≡ text)) middle files' out out' ended
 
   Compiles-given : (target : Option (List ℕ)) (bytes text : List ℕ) {T : Type 0} (ended : Result T Halt)
       → GoesTo target (IsOutput options seen main made) bytes text → Delivered target bytes text ended → Compiles target ended
   Compiles-given target bytes text ended right ends =
-      JobEnds-delivered (IsFirstFault options seen main made) target (GoesTo target (IsOutput options seen main made)) bytes text files middle files' out out' ended
+      JobEnds-delivered false (IsFirstFault options seen main made) target (GoesTo target (IsOutput options seen main made)) bytes text files middle files' out out' ended
       held fewer writes none right ends
 
   -- the output was given to the standard output
@@ -105,3 +109,24 @@ module _ (options : Options) (seen : List HeldFile) (main : List ℕ) (made : Li
   Compiles-file target name output bytes ended is same right ends =
       Compiles-given target bytes [] ended
       (subst (λ target. GoesTo target (IsOutput options seen main made) bytes []) (sym is) (subst (IsOutput options seen main made) (sym same) right, refl)) ends
+
+-- ---- the job
+
+-- the job was a compilation
+pub JobEnds-compiled : (options : Options) (job : Job) (file name : List ℕ) (to target : Option (List ℕ)) (seen : List HeldFile) (made : List Made)
+    (files files' : FilesView) (out out' : SinkView) {T : Type 0} (ended : Result T Halt) → job ≡ Compile file to → name ≡ file → target ≡ to
+    → JobEnds false (IsFirstFault options seen name made) target (GoesTo target (IsOutput options seen name made)) files files' out out' ended
+    → JobEnds (is_run job) (IsFaultOf options job seen made) (target_of job) (IsJobRight options job seen made) files files' out out' ended
+JobEnds-compiled options job file name to target seen made files files' out out' ended is name_is target_is ends =
+    subst (λ job. JobEnds (is_run job) (IsFaultOf options job seen made) (target_of job) (IsJobRight options job seen made) files files' out out' ended) (sym is)
+    (subst (λ to. JobEnds false (IsFirstFault options seen file made) to (GoesTo to (IsOutput options seen file made)) files files' out out' ended) target_is
+    (subst (λ (file : List ℕ). JobEnds false (IsFirstFault options seen file made) target (GoesTo target (IsOutput options seen file made)) files files' out out' ended)
+    name_is ends))
+
+-- its message cites the files that were met
+pub Cites-compiled : (options : Options) (job : Job) (file name : List ℕ) (to : Option (List ℕ)) (seen : List HeldFile) (names : List (List ℕ)) {T : Type 0}
+    (ended : Result T Halt) → job ≡ Compile file to → name ≡ file → IfErr ended (Cites (expansion options seen name).met.names names)
+    → IfErr ended (Cites (names_of options job seen) names)
+Cites-compiled options job file name to seen names ended is name_is cites =
+    subst (λ job. IfErr ended (Cites (names_of options job seen) names)) (sym is)
+    (subst (λ (file : List ℕ). IfErr ended (Cites (expansion options seen file).met.names names)) name_is cites)

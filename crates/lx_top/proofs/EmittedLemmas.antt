@@ -1,9 +1,9 @@
 -- Runs of emitted files: their faults, and how they end.
-use Rattle.std.proofs.Common.{◌≡◌, ℕ, Bool, true, false, List, [], ◌∷◌, ◌++◌, take, drop, Option, Some, None, Result, Ok, Err, IfErr, refl, sym, ap, subst, ◌∙◌, inl, inr, arith}
+use Rattle.std.proofs.Common.{◌≡◌, ℕ, Bool, true, false, List, [], ◌∷◌, ◌++◌, length, take, drop, Option, Some, None, Result, Ok, Err, IfErr, refl, sym, ap, subst, ◌∙◌, inl, inr, arith}
 use Rattle.std.proofs.lemmas.Bool.{cases_lt}
 use Rattle.std.proofs.Math.Nat.{le_antisymm}
 use Rattle.std.proofs.lemmas.Slice.Eq.{bytes_eq-Decides}
-use Rattle.std.specs.Prelude.{◌+◌, ◌==◌, if◌then◌else◌}
+use Rattle.std.specs.Prelude.{◌+◌, ◌%◌, ◌==◌, IfSome, if◌then◌else◌}
 use Rattle.std.specs.Str.{bytes_eq}
 use Rattle.lx_base.specs.declared.places.Pos.{Pos}
 use Rattle.lx_base.specs.declared.settings.Job.{Job}
@@ -19,10 +19,14 @@ use Rattle.lx_ccode.specs.declared.piece.Piece.{Piece}
 use Rattle.lx_ccode.specs.Front.{BeginsWithPiece}
 use Rattle.lx_ccode.proofs.RoundTrip.{piece_at-front}
 use Rattle.lx_creader.specs.Marks.{IsFirstBegin}
-use Rattle.lx_run.specs.Texts.{run_text}
-use Rattle.lx_top.specs.Emitted.{IsEmittedFault, IsRunFault, IsRunText, IsUnread, Scans, input_fault, place_in}
+use Rattle.lx_run.specs.Ends.{EndsAs}
+use Rattle.lx_run.specs.Texts.{Full, RunText, run_text}
+use Rattle.lx_run.specs.declared.ends.RunEnd.{RunEnd}
+use Rattle.lx_run.specs.declared.ends.RunEnd.TheVariants.{Memory, PutFailed}
+use Rattle.lx_top.specs.Emitted.{IsEmittedFault, IsRunFault, IsRunText, IsUnread, Scans, full_fault, input_fault, place_in, scan_fault}
+use Rattle.lx_top.specs.Delivery.{BreaksOff, GivesOut, MayGive, gives_before, is_full}
 use Rattle.lx_top.specs.FirstFault.{IsFaultOf}
-use Rattle.lx_top.specs.Jobs.{names_of, target_of}
+use Rattle.lx_top.specs.Jobs.{is_run, names_of, target_of}
 use Rattle.lx_top.specs.Output.{IsJobRight}
 use Rattle.lx_top.specs.Outside.{FilesView, SinkView}
 use Rattle.lx_top.specs.Steps.{Cites, HaltsRead, HaltsScan, IsPlacedHalt, JobEnds}
@@ -81,31 +85,31 @@ Scans-unique bytes block piece other first second =
     BeginsWithPiece-unique (drop second.offset bytes) piece other
     (subst (λ at. BeginsWithPiece (drop at bytes) piece) (IsFirstBegin-unique block bytes first.offset second.offset first.first second.first) first.begins) second.begins
 
-IsEmittedFault-unique : (block : Option ℕ) (name : List ℕ) (given : Option (List ℕ)) (bytes : List ℕ) (fault other : Option Fault)
-    → IsEmittedFault block name given bytes fault → IsEmittedFault block name given bytes other → fault ≡ other
-IsEmittedFault-unique block name given bytes fault other (inl first) (inl second) =
+IsEmittedFault-unique : (block : Option ℕ) (window step : ℕ) (name : List ℕ) (given : Option (List ℕ)) (bytes : List ℕ) (fault other : Option Fault)
+    → IsEmittedFault block window step name given bytes fault → IsEmittedFault block window step name given bytes other → fault ≡ other
+IsEmittedFault-unique block window step name given bytes fault other (inl first) (inl second) =
     first.2 ∙ ap (λ (offset : ℕ). Some (NotEmitted (place_in bytes offset) offset)) (IsUnread-unique bytes block first.0 second.0 first.1 second.1) ∙ sym second.2
-IsEmittedFault-unique block name given bytes fault other (inl first) (inr second) = absurd (read-or_not bytes block first.0 second.0 first.1 second.1)
-IsEmittedFault-unique block name given bytes fault other (inr first) (inl second) = absurd (read-or_not bytes block second.0 first.0 second.1 first.1)
-IsEmittedFault-unique block name given bytes fault other (inr first) (inr second) =
-    first.2 ∙ ap (λ (piece : Piece). input_fault name piece.unit given) (Scans-unique bytes block first.0 second.0 first.1 second.1) ∙ sym second.2
+IsEmittedFault-unique block window step name given bytes fault other (inl first) (inr second) = absurd (read-or_not bytes block first.0 second.0 first.1 second.1)
+IsEmittedFault-unique block window step name given bytes fault other (inr first) (inl second) = absurd (read-or_not bytes block second.0 first.0 second.1 first.1)
+IsEmittedFault-unique block window step name given bytes fault other (inr first) (inr second) =
+    first.2 ∙ ap (λ (piece : Piece). input_fault name piece window step given) (Scans-unique bytes block first.0 second.0 first.1 second.1) ∙ sym second.2
 
 -- a run has one first fault, or none
-pub IsRunFault-unique : (block : Option ℕ) (name : List ℕ) (given : Option (List ℕ)) (emitted : List ℕ) (scanned : Option (List ℕ)) (fault other : Option Fault)
-    → IsRunFault block name given emitted scanned fault → IsRunFault block name given emitted scanned other → fault ≡ other
-IsRunFault-unique block name given emitted None fault other is is_other = is ∙ sym is_other
-IsRunFault-unique block name given emitted (Some bytes) fault other is is_other = IsEmittedFault-unique block name given bytes fault other is is_other
+pub IsRunFault-unique : (block : Option ℕ) (window step : ℕ) (name : List ℕ) (given : Option (List ℕ)) (emitted : List ℕ) (scanned : Option (List ℕ)) (fault other : Option Fault)
+    → IsRunFault block window step name given emitted scanned fault → IsRunFault block window step name given emitted scanned other → fault ≡ other
+IsRunFault-unique block window step name given emitted None fault other is is_other = is ∙ sym is_other
+IsRunFault-unique block window step name given emitted (Some bytes) fault other is is_other = IsEmittedFault-unique block window step name given bytes fault other is is_other
 
 -- ---- how a run ends
 
 -- no scanner was read
-pub Reason-scan : (block : Option ℕ) (name : List ℕ) (given : Option (List ℕ)) (emitted bytes : List ℕ) (scanned : Option (List ℕ)) (CountRose : Type 0) (halted : Halt)
-    → scanned ≡ Some bytes → HaltsScan bytes block halted → Reason (IsRunFault block name given emitted scanned) CountRose halted
-Reason-scan block name given emitted bytes scanned CountRose halted is halts =
-    subst (λ scanned. Reason (IsRunFault block name given emitted scanned) CountRose halted) (sym is) (by halted halts)
+pub Reason-scan : (block : Option ℕ) (window step : ℕ) (name : List ℕ) (given : Option (List ℕ)) (emitted bytes : List ℕ) (scanned : Option (List ℕ)) (CountRose : Type 0) (halted : Halt)
+    → scanned ≡ Some bytes → HaltsScan bytes block halted → Reason true (IsRunFault block window step name given emitted scanned) CountRose halted
+Reason-scan block window step name given emitted bytes scanned CountRose halted is halts =
+    subst (λ scanned. Reason true (IsRunFault block window step name given emitted scanned) CountRose halted) (sym is) (by halted halts)
   where
-    by : (halted : Halt) → HaltsScan bytes block halted → Reason (IsRunFault block name given emitted (Some bytes)) CountRose halted
-    by (halt.Fault first) halts = inl (halts.0, halts.1, ap Some halts.2)
+    by : (halted : Halt) → HaltsScan bytes block halted → Reason true (IsRunFault block window step name given emitted (Some bytes)) CountRose halted
+    by (halt.Fault first) halts = (inl (halts.0, halts.1, ap Some halts.2), ap is_full halts.2)
     by halt.ReadFailed halts = absurd halts
     by halt.PutFailed halts = absurd halts
     by halt.OutOfMemory halts = tt
@@ -116,28 +120,60 @@ pub HaltsScan-not_emitted : (bytes : List ℕ) (block : Option ℕ) (offset : �
 HaltsScan-not_emitted bytes block offset halted is unread = subst (HaltsScan bytes block) (sym is) (offset, unread, refl)
 
 -- the input is not there
-pub IsRunFault-input : (block : Option ℕ) (name : List ℕ) (given : Option (List ℕ)) (emitted bytes : List ℕ) (scanned : Option (List ℕ)) (piece : Piece) (fault : Option Fault)
-    → scanned ≡ Some bytes → Scans bytes block piece → fault ≡ input_fault name piece.unit given → IsRunFault block name given emitted scanned fault
-IsRunFault-input block name given emitted bytes scanned piece fault is scans fault_is =
-    subst (λ scanned. IsRunFault block name given emitted scanned fault) (sym is) (inr (piece, scans, fault_is))
+pub IsRunFault-input : (block : Option ℕ) (window step : ℕ) (name : List ℕ) (given : Option (List ℕ)) (emitted bytes : List ℕ) (scanned : Option (List ℕ)) (piece : Piece) (fault : Option Fault)
+    → scanned ≡ Some bytes → Scans bytes block piece → fault ≡ input_fault name piece window step given → IsRunFault block window step name given emitted scanned fault
+IsRunFault-input block window step name given emitted bytes scanned piece fault is scans fault_is =
+    subst (λ scanned. IsRunFault block window step name given emitted scanned fault) (sym is) (inr (piece, scans, fault_is))
+
+-- what a run gives before its fault, if it has one
+module _ (run : RunText) (fault : Option Fault) (fault_is : fault ≡ full_fault run.full) (files : FilesView) (out out' : SinkView) where
+  abbrev IsRunsFault : Option Fault → Type 0
+  IsRunsFault given = given ≡ fault
+
+  abbrev IsRunsText : (bytes text : List ℕ) → Type 0
+  IsRunsText bytes text = (bytes ≡ []) × (text ≡ run.text)
+
+  -- its sink and its end
+  abbrev Ran : RunEnd → Type 0
+  Ran ended = EndsAs run out.given out'.given out.faults out'.faults ended
+
+  gives-full_fault : (full : Option Full) → IfSome (full_fault full) (λ first. gives_before true first ≡ true)
+  gives-full_fault None = tt
+  gives-full_fault (Some full) = refl
+
+  MayGive-run : MayGive true IsRunsFault
+  MayGive-run =
+      (fault, refl, subst (λ given. IfSome given (λ first. gives_before true first ≡ true)) (sym fault_is) (gives-full_fault run.full))
+
+  pub GivesOut-run : Ran PutFailed → GivesOut true IsRunsFault None IsRunsText files files out out'
+  GivesOut-run ran = record { may_give = MayGive-run; bytes = []; text = run.text; right = (refl, refl); fails = inr (refl, ran.1, ran.0) }
+
+  pub BreaksOff-run : Ran Memory → BreaksOff true IsRunsFault None IsRunsText files files out out'
+  BreaksOff-run ran =
+      inr (record { may_give = MayGive-run; bytes = []; text = run.text; right = (refl, refl); gives = inr (refl, ran) })
+
+-- the fault of a scanner over whole units
+pub scan_fault-whole : (piece : Piece) (window step : ℕ) (input : List ℕ) → length input % piece.unit ≡ 0
+    → scan_fault piece window step input ≡ full_fault (run_text piece input window step).full
+scan_fault-whole piece window step input whole = rw whole refl
 
 -- nothing goes to a file, and the text is right
 abbrev IsTextAlone : (IsText : List ℕ → Type 0) → (bytes text : List ℕ) → Type 0
 IsTextAlone IsText bytes text = (bytes ≡ []) × IsText text
 
 -- the scanner was run over the input
-pub JobEnds-run : (block : Option ℕ) (name emitted bytes input ran : List ℕ) (scanned given : Option (List ℕ)) (piece : Piece) (files files' : FilesView) (out out' : SinkView)
+pub JobEnds-run : (block : Option ℕ) (window step : ℕ) (name emitted bytes input ran : List ℕ) (scanned given : Option (List ℕ)) (piece : Piece) (files files' : FilesView) (out out' : SinkView)
     {T : Type 0} (ended : Result T Halt) → files' ≡ files → scanned ≡ Some bytes → given ≡ Some input → Scans bytes block piece → ran ≡ input
-    → ((view : FilesView) → JobEnds (λ fault. fault ≡ input_fault [] piece.unit (Some ran)) None (λ bytes text. (bytes ≡ []) × (text ≡ run_text piece ran)) view view out out' ended)
-    → JobEnds (IsRunFault block name given emitted scanned) None (λ bytes text. (bytes ≡ []) × IsRunText block scanned given text) files files' out out' ended
-JobEnds-run block name emitted bytes input ran scanned given piece files files' out out' ended same scanned_is given_is scans ran_is ends =
-    let over : JobEnds (λ fault. fault ≡ input_fault [] piece.unit (Some input)) None (IsTextAlone (λ text. text ≡ run_text piece input)) files files out out' ended =
-    subst (λ ran. JobEnds (λ fault. fault ≡ input_fault [] piece.unit (Some ran)) None (IsTextAlone (λ text. text ≡ run_text piece ran)) files files out out' ended) ran_is (ends files) in
-    subst (λ after. JobEnds (IsRunFault block name given emitted scanned) None (IsTextAlone (IsRunText block scanned given)) files after out out' ended) (sym same)
-    (subst (λ scanned. JobEnds (IsRunFault block name given emitted scanned) None (IsTextAlone (IsRunText block scanned given)) files files out out' ended) (sym scanned_is)
-    (subst (λ given. JobEnds (IsRunFault block name given emitted (Some bytes)) None (IsTextAlone (IsRunText block (Some bytes) given)) files files out out' ended) (sym given_is)
-    (JobEnds-among (λ fault. fault ≡ input_fault [] piece.unit (Some input)) None (IsTextAlone (λ text. text ≡ run_text piece input)) files files out out'
-    (IsRunFault block name (Some input) emitted (Some bytes)) (IsTextAlone (IsRunText block (Some bytes) (Some input)))
+    → ((view : FilesView) → JobEnds true (λ fault. fault ≡ scan_fault piece window step ran) None (λ bytes text. (bytes ≡ []) × (text ≡ (run_text piece ran window step).text)) view view out out' ended)
+    → JobEnds true (IsRunFault block window step name given emitted scanned) None (λ bytes text. (bytes ≡ []) × IsRunText block window step scanned given text) files files' out out' ended
+JobEnds-run block window step name emitted bytes input ran scanned given piece files files' out out' ended same scanned_is given_is scans ran_is ends =
+    let over : JobEnds true (λ fault. fault ≡ scan_fault piece window step input) None (IsTextAlone (λ text. text ≡ (run_text piece input window step).text)) files files out out' ended =
+    subst (λ ran. JobEnds true (λ fault. fault ≡ scan_fault piece window step ran) None (IsTextAlone (λ text. text ≡ (run_text piece ran window step).text)) files files out out' ended) ran_is (ends files) in
+    subst (λ after. JobEnds true (IsRunFault block window step name given emitted scanned) None (IsTextAlone (IsRunText block window step scanned given)) files after out out' ended) (sym same)
+    (subst (λ scanned. JobEnds true (IsRunFault block window step name given emitted scanned) None (IsTextAlone (IsRunText block window step scanned given)) files files out out' ended) (sym scanned_is)
+    (subst (λ given. JobEnds true (IsRunFault block window step name given emitted (Some bytes)) None (IsTextAlone (IsRunText block window step (Some bytes) given)) files files out out' ended) (sym given_is)
+    (JobEnds-among true (λ fault. fault ≡ scan_fault piece window step input) None (IsTextAlone (λ text. text ≡ (run_text piece input window step).text)) files files out out'
+    (IsRunFault block window step name (Some input) emitted (Some bytes)) (IsTextAlone (IsRunText block window step (Some bytes) (Some input)))
     (λ fault is. inr (piece, scans, is)) (λ bytes text is. (is.0, (piece, scans, is.1))) ended over)))
 
 -- ---- two files that were read
@@ -159,26 +195,26 @@ pub bytes_of-same : (seen : List HeldFile) (name other : List ℕ) (given : Opti
 bytes_of-same seen name other given same is = ap (bytes_of seen) (sym ((bytes_eq-Decides name other).0 same)) ∙ is
 
 -- the second file was not read
-pub Reason-second : (block : Option ℕ) (name emitted bytes : List ℕ) (seen second : List HeldFile) (piece : Piece) (CountRose : Type 0) (halted : Halt)
+pub Reason-second : (block : Option ℕ) (window step : ℕ) (name emitted bytes : List ℕ) (seen second : List HeldFile) (piece : Piece) (CountRose : Type 0) (halted : Halt)
     → bytes_of seen emitted ≡ Some bytes → bytes_of seen name ≡ bytes_of second name → Scans bytes block piece → HaltsRead second CountRose 1 name halted
-    → Reason (IsRunFault block name (bytes_of seen name) emitted (bytes_of seen emitted)) CountRose halted
-Reason-second block name emitted bytes seen second piece CountRose halted is same scans halts =
-    Reason-read (IsRunFault block name (bytes_of seen name) emitted (bytes_of seen emitted)) CountRose second 1 name halted
-    (λ missing. IsRunFault-input block name (bytes_of seen name) emitted bytes (bytes_of seen emitted) piece _ is scans
-    (sym (ap (input_fault name piece.unit) (same ∙ missing)))) halts
+    → Reason true (IsRunFault block window step name (bytes_of seen name) emitted (bytes_of seen emitted)) CountRose halted
+Reason-second block window step name emitted bytes seen second piece CountRose halted is same scans halts =
+    Reason-read true (IsRunFault block window step name (bytes_of seen name) emitted (bytes_of seen emitted)) CountRose second 1 name halted
+    (λ missing. IsRunFault-input block window step name (bytes_of seen name) emitted bytes (bytes_of seen emitted) piece _ is scans
+    (sym (ap (input_fault name piece window step) (same ∙ missing)))) halts
 
 -- the job was a run
 pub JobEnds-asked : (options : Options) (job : Job) (input emitted : List ℕ) (block : Option ℕ) (window piece : ℕ) (name other : List ℕ) (seen : List HeldFile) (made : List Made)
     (files files' : FilesView) (out out' : SinkView) {T : Type 0} (ended : Result T Halt) → job ≡ Run input emitted block window piece → name ≡ emitted → other ≡ input
-    → JobEnds (IsRunFault block other (bytes_of seen other) name (bytes_of seen name)) None (λ bytes text. (bytes ≡ []) × IsRunText block (bytes_of seen name) (bytes_of seen other) text)
+    → JobEnds true (IsRunFault block window piece other (bytes_of seen other) name (bytes_of seen name)) None (λ bytes text. (bytes ≡ []) × IsRunText block window piece (bytes_of seen name) (bytes_of seen other) text)
     files files' out out' ended
-    → JobEnds (IsFaultOf options job seen made) (target_of job) (IsJobRight options job seen made) files files' out out' ended
+    → JobEnds (is_run job) (IsFaultOf options job seen made) (target_of job) (IsJobRight options job seen made) files files' out out' ended
 JobEnds-asked options job input emitted block window piece name other seen made files files' out out' ended is name_is other_is ends =
-    subst (λ job. JobEnds (IsFaultOf options job seen made) (target_of job) (IsJobRight options job seen made) files files' out out' ended) (sym is)
-    (subst (λ emitted. JobEnds (IsRunFault block input (bytes_of seen input) emitted (bytes_of seen emitted)) None
-    (IsTextAlone (IsRunText block (bytes_of seen emitted) (bytes_of seen input))) files files' out out' ended) name_is
-    (subst (λ input. JobEnds (IsRunFault block input (bytes_of seen input) name (bytes_of seen name)) None
-    (IsTextAlone (IsRunText block (bytes_of seen name) (bytes_of seen input))) files files' out out' ended) other_is ends))
+    subst (λ job. JobEnds (is_run job) (IsFaultOf options job seen made) (target_of job) (IsJobRight options job seen made) files files' out out' ended) (sym is)
+    (subst (λ emitted. JobEnds true (IsRunFault block window piece input (bytes_of seen input) emitted (bytes_of seen emitted)) None
+    (IsTextAlone (IsRunText block window piece (bytes_of seen emitted) (bytes_of seen input))) files files' out out' ended) name_is
+    (subst (λ input. JobEnds true (IsRunFault block window piece input (bytes_of seen input) name (bytes_of seen name)) None
+    (IsTextAlone (IsRunText block window piece (bytes_of seen name) (bytes_of seen input))) files files' out out' ended) other_is ends))
 
 -- the names of a run
 pub names-two : (names first both : List (List ℕ)) (name other emitted input : List ℕ) → names ≡ [] → first ≡ names ++ name ∷ [] → both ≡ first ++ other ∷ []

@@ -10,7 +10,7 @@ use Rattle.lx_top.specs.Outside.{Outside, NoCountRose}
 use Rattle.lx_top.specs.Delivery.{Completes, FailsToGive}
 use Rattle.lx_top.specs.Endings.{EndsAs, EndsSo, IsExpected, TellsMessage}
 use Rattle.lx_top.specs.FirstFault.{IsFirstFault}
-use Rattle.lx_top.specs.Jobs.{file_names, job_of, options_for, target_of}
+use Rattle.lx_top.specs.Jobs.{file_names, is_run, job_of, options_for, target_of}
 use Rattle.lx_top.specs.Output.{IsRightOf}
 use Rattle.lx_top.specs.Steps.{Cites, Halts, Reports}
 use Rattle.lx_top.specs.declared.endings.Ending.{Ending}
@@ -28,7 +28,7 @@ module _ (words : List (List ℕ)) (seen : List HeldFile) (made : List Made) (be
   IsFault = IsFirstFault words seen made
 
   abbrev EndsIn : Ending → Type 0
-  EndsIn = EndsAs IsFault (file_names words seen) (target_of (job_of words)) (IsRightOf (options_for words) seen made) before after
+  EndsIn = EndsAs (is_run (job_of words)) IsFault (file_names words seen) (target_of (job_of words)) (IsRightOf (options_for words) seen made) before after
 
   -- where no count rose, nothing failed while bytes and a text were given
   gives_calm : (target : Option (List ℕ)) (bytes text : List ℕ) → FailsToGive target bytes text before.files after.files before.out after.out
@@ -56,13 +56,13 @@ module _ (words : List (List ℕ)) (seen : List HeldFile) (made : List Made) (be
 
   -- a job that broke off and was told
   Halts-told : (halt : Halt) (ending : Ending) →
-      Halts IsFault (target_of (job_of words)) (IsRightOf (options_for words) seen made) before.files after.files before.out after.out halt →
+      Halts (is_run (job_of words)) IsFault (target_of (job_of words)) (IsRightOf (options_for words) seen made) before.files after.files before.out after.out halt →
       Reports (file_names words seen) before.err after.err halt ending → EndsIn ending
   Halts-told (halt.Fault first) Done halts told = absurd told
-  Halts-told (halt.Fault first) Refused halts told = record { first = first; is_first = halts.0; told = told; nothing = halts.1 }
+  Halts-told (halt.Fault first) Refused halts told = record { first = first; is_first = halts.0; gave = halts.1; told = told }
   Halts-told (halt.Fault first) ReadFailed halts told = absurd told
-  Halts-told (halt.Fault first) PutFailed halts told = inr (record { first = first; is_first = halts.0; nothing = halts.1; told = told.1 }, told.0)
-  Halts-told (halt.Fault first) OutOfMemory halts told = inr (record { first = first; is_first = halts.0; nothing = halts.1; told = told })
+  Halts-told (halt.Fault first) PutFailed halts told = inr (record { first = first; is_first = halts.0; gave = halts.1; told = told.1 }, told.0)
+  Halts-told (halt.Fault first) OutOfMemory halts told = inr (record { first = first; is_first = halts.0; gave = halts.1; told = told })
   Halts-told halt.ReadFailed ending halts told =
       subst EndsIn (sym told.ending_is) (record { rose = halts.0; nothing = halts.1; told = told.told })
   Halts-told halt.PutFailed ending halts told = subst EndsIn (sym told.ending_is) (inl (halts, told.told))
@@ -78,7 +78,7 @@ module _ (words : List (List ℕ)) (seen : List HeldFile) (made : List Made) (be
 
   -- a run whose job broke off
   pub EndsSo-broken : (names : List (List ℕ)) (halt : Halt) (ending : Ending) → Sees before.files.held seen →
-      Halts IsFault (target_of (job_of words)) (IsRightOf (options_for words) seen made) before.files after.files before.out after.out halt →
+      Halts (is_run (job_of words)) IsFault (target_of (job_of words)) (IsRightOf (options_for words) seen made) before.files after.files before.out after.out halt →
       Cites (file_names words seen) names halt → Reports names before.err after.err halt ending → EndsSo words before after ending
   EndsSo-broken names halt ending sees halts cites told =
       let ends : EndsIn ending = Halts-told halt ending halts (Reports-names names halt ending cites told) in

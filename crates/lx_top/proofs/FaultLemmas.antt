@@ -50,7 +50,7 @@ IsFaultOf-unique : (options : Options) (job : Job) (files : List HeldFile) (made
     → IsFaultOf options job files made fault → IsFaultOf options job files made other → fault ≡ other
 IsFaultOf-unique options (Compile file to) files made fault other is is_other = IsFirstFault-one options files file made fault other is is_other
 IsFaultOf-unique options (Run input emitted block window piece) files made fault other is is_other =
-    IsRunFault-unique block input (bytes_of files input) emitted (bytes_of files emitted) fault other is is_other
+    IsRunFault-unique block window piece input (bytes_of files input) emitted (bytes_of files emitted) fault other is is_other
 IsFaultOf-unique options (Source rules to) files made fault other is is_other = IsSourceFault-unique rules made fault other is is_other
 
 IsFaultBehind-unique : (of_words : Option Fault) (options : Options) (files : List HeldFile) (made : List Made) (fault other : Option Fault)

@@ -1,12 +1,9 @@
 -- The scanner that is read from an output is one that was made for it.
-use Rattle.std.proofs.Common.{◌≡◌, ◌∙◌, ℕ, zero, suc, ◌+◌, ◌-◌, ◌<◌, ◌≤◌, Bool, true, false, List, [], ◌∷◌, ◌++◌, length, drop, codes, Option, Some, None, Result, Ok, Err, IfOk, MatchResult, refl, sym, ap, subst, inl, inr, arith}
+use Rattle.std.proofs.Common.{◌≡◌, ◌∙◌, ℕ, zero, suc, ◌-◌, ◌<◌, ◌≤◌, Bool, true, false, List, [], ◌∷◌, ◌++◌, length, drop, codes, Option, Some, None, Result, Ok, Err, IfOk, MatchResult, refl, sym, ap, subst, inl, inr, arith}
 use Rattle.std.proofs.lemmas.Bool.{cases_lt, false≢true}
-use Rattle.std.proofs.lemmas.List.{length-append}
 use Rattle.std.specs.Fmt.{decimal}
-use Rattle.std.specs.Prelude.{IfSome}
 use Rattle.lx_base.specs.Letters.{after_letters, begins_with, is_digit}
 use Rattle.lx_base.specs.Names.{Spellings}
-use Rattle.lx_base.specs.declared.settings.Options.{Options}
 use Rattle.lx_ccode.specs.Front.{BeginsWithPiece}
 use Rattle.lx_ccode.specs.Heads.{head_then}
 use Rattle.lx_ccode.specs.Marks.{begins_piece}
@@ -18,7 +15,7 @@ use Rattle.lx_ccode.proofs.Tails.{piece_text-append}
 use Rattle.lx_ccode.proofs.Words.{behind-stop, decimal_digits}
 use Rattle.lx_compile.specs.Cut.{output_parts}
 use Rattle.lx_compile.specs.Made.{AreMade, Setting}
-use Rattle.lx_compile.specs.Output.{IsOutput, last_names}
+use Rattle.lx_compile.specs.Output.{last_names}
 use Rattle.lx_compile.specs.Parts.{switch_themselves}
 use Rattle.lx_compile.specs.declared.made.Made.{Made}
 use Rattle.lx_compile.specs.declared.made.Made.TheVariants as made
@@ -29,7 +26,6 @@ use Rattle.lx_compile.proofs.OutputCuts.{cut-output}
 use Rattle.lx_creader.specs.Cut.{AreCut, HasNoOpener, OutputPart, bare, outside, part_text, parts_text, scanner}
 use Rattle.lx_creader.proofs.BareParts.{HasNoOpener-places, OpensNowhere, OpensNowhere-text, bare-then, opens-stop}
 use Rattle.lx_creader.proofs.Cuts.{HasNoBegin-at}
-use Rattle.lx_files.specs.declared.files.HeldFile.{HeldFile}
 use Rattle.lx_top.specs.Emitted.{Scans}
 use Rattle.lx_split.specs.Includes.{expansion}
 use Rattle.lx_top.specs.Sources.{IsSourceOutput, source_files, source_name, source_options}

@@ -1,10 +1,8 @@
 -- How the compilation of a generated source ends.
-use Rattle.std.proofs.Common.{◌≡◌, ◌≤◌, ◌∙◌, ℕ, List, [], Option, Some, None, Result, Ok, Err, IsErrAnd, refl, sym, ap, subst, arith}
+use Rattle.std.proofs.Common.{◌≡◌, ◌≤◌, ◌∙◌, ℕ, List, [], Some, None, Result, Ok, Err, IsErrAnd, sym, ap, subst, arith}
 use Rattle.std.specs.Prelude.{if◌then◌else◌}
 use Rattle.std.specs.Global.{Vec}
 use Rattle.std.specs.Str.{bytes_eq}
-use Rattle.lx_base.specs.Message.{IsPlaced}
-use Rattle.lx_base.specs.declared.settings.Options.{Options}
 use Rattle.lx_compile.specs.FirstFault as source
 use Rattle.lx_compile.specs.Output.{IsOutput}
 use Rattle.lx_compile.specs.declared.made.Made.{Made}
@@ -15,10 +13,9 @@ use Rattle.lx_split.specs.Includes.{Expansion, expansion}
 use Rattle.lx_split.specs.declared.expanding.ExpandStop.{ExpandStop}
 use Rattle.lx_split.specs.declared.expanding.ExpandStop.TheVariants as stop
 use Rattle.lx_top.specs.Puts.{halt_of_expand}
-use Rattle.lx_top.specs.Sources.{IsSourceOutput, source_files, source_name, source_options, source_text}
+use Rattle.lx_top.specs.Sources.{source_files, source_name, source_options, source_text}
 use Rattle.lx_top.specs.Steps.{CompilesSource, HaltsSource}
 use Rattle.lx_top.specs.declared.endings.Halt.{Halt}
-use Rattle.lx_top.specs.declared.endings.Halt.TheVariants as halt
 use Rattle.lx_top.proofs.SeenFiles.{IsFirstFault-same, IsOutput-same, expansion-same}
 
 module _ (rules : ℕ) (files seen : List HeldFile) (text : List ℕ) (text_is : text ≡ source_text rules) (bound : Binds [] files source_name text)

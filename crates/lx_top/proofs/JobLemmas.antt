@@ -1,24 +1,25 @@
 -- How a job ends, from how its steps ended.
 use Rattle.std.proofs.Common.{◌≡◌, ◌≤◌, ℕ, Bool, true, false, List, [], Option, Some, None, Result, Ok, Err, IsErrAnd, IfErr, refl, sym, ap, subst, ◌∙◌, inl, inr, arith}
-use Rattle.std.specs.Prelude.{◌||◌, if◌then◌else◌}
+use Rattle.std.proofs.lemmas.Bool.{cases_lt, lt-leb}
+use Rattle.std.specs.Prelude.{◌<◌, ◌&&◌, ◌||◌, codes, nat_le, option_and_then, unwrap_or, if◌then◌else◌}
+use Rattle.std.specs.Str.Parse.{digits_value}
 use Rattle.lx_base.specs.declared.faults.Fault.{Fault}
 use Rattle.lx_base.specs.Message.{HasFile, place_of}
-use Rattle.lx_base.specs.declared.faults.Fault.TheVariants.{NoFile, Unsupported, Usage}
+use Rattle.lx_base.specs.declared.faults.Fault.TheVariants.{NoFile, Usage}
 use Rattle.lx_base.specs.declared.settings.Options.{Options}
 use Rattle.lx_base.specs.declared.faults.Stop.{Stop}
 use Rattle.lx_base.specs.declared.faults.Stop.TheVariants as stop
 use Rattle.lx_files.specs.Counts.{Rose}
 use Rattle.lx_files.specs.Held.{bytes_of}
 use Rattle.lx_files.specs.declared.files.HeldFile.{HeldFile}
-use Rattle.lx_words.specs.Line.{is_refused, line_of}
-use Rattle.lx_words.specs.Options.{StopsBy, options_of, words_fault}
-use Rattle.lx_words.specs.Points.{is_wrong}
-use Rattle.lx_words.specs.Waiting.{waits}
+use Rattle.lx_words.specs.Line.{Line, is_refused, line_of, value}
+use Rattle.lx_words.specs.Options.{StopsBy, job_by, number_of, options_of, words_fault}
+use Rattle.lx_words.specs.Points.{is_number, is_wrong, number_within}
 use Rattle.lx_compile.specs.Options.{IsGreedy}
 use Rattle.lx_compile.specs.declared.made.Made.{Made}
-use Rattle.lx_top.specs.Delivery.{Bound, BreaksOff, Completes, DeliversNothing, FailsToBind, FailsToGive, GivesInPart, GivesOut, GivesUp, MayBeBound}
+use Rattle.lx_top.specs.Delivery.{Bound, BreaksOff, Completes, DeliversIf, DeliversNothing, FailsToBind, FailsToGive, GivesInPart, GivesOut, GivesUp, MayBeBound, gives_before, is_full}
 use Rattle.lx_top.specs.FirstFault.{IsFaultBehind, IsFirstFault, IsJobFault}
-use Rattle.lx_top.specs.Jobs.{file_names, job_of, names_behind, names_of, options_for, target_of}
+use Rattle.lx_top.specs.Jobs.{HasWindow, file_names, is_run, job_of, names_behind, names_of, options_for, target_of}
 use Rattle.lx_top.specs.Outside.{FilesView, SinkView, files_view}
 use Rattle.lx_top.specs.Output.{IsRightOf}
 use Rattle.lx_base.specs.Places.{file_start}
@@ -27,64 +28,77 @@ use Rattle.lx_top.specs.Steps.{Cites, Halts, HaltsRead, JobEnds}
 use Rattle.lx_top.specs.declared.endings.Halt.{Halt}
 use Rattle.lx_top.specs.declared.endings.Halt.TheVariants as halt
 
--- why a job broke off that had given nothing: a first fault, a read that failed, or want of memory
-abbrev pub Reason : (IsFault : Option Fault → Type 0) → (CountRose : Type 0) → Halt → Type 0
-Reason IsFault CountRose (halt.Fault first) = IsFault (Some first)
-Reason IsFault CountRose halt.ReadFailed = CountRose
-Reason IsFault CountRose halt.PutFailed = ⊥
-Reason IsFault CountRose halt.OutOfMemory = Unit {0}
+-- why a job broke off that had given nothing: a first fault before which nothing is given, a read that failed, or want of memory
+abbrev pub Reason : (runs : Bool) → (IsFault : Option Fault → Type 0) → (CountRose : Type 0) → Halt → Type 0
+Reason runs IsFault CountRose (halt.Fault first) = IsFault (Some first) × (gives_before runs first ≡ false)
+Reason runs IsFault CountRose halt.ReadFailed = CountRose
+Reason runs IsFault CountRose halt.PutFailed = ⊥
+Reason runs IsFault CountRose halt.OutOfMemory = Unit {0}
 
-pub Reason-read : (IsFault : Option Fault → Type 0) (CountRose : Type 0) (seen : List HeldFile) (file : ℕ) (name : List ℕ) (halted : Halt)
-    → (bytes_of seen name ≡ None → IsFault (Some (NoFile (file_start file) name))) → HaltsRead seen CountRose file name halted → Reason IsFault CountRose halted
-Reason-read IsFault CountRose seen file name (halt.Fault first) known halts = subst (λ fault. IsFault (Some fault)) (sym halts.0) (known halts.1)
-Reason-read IsFault CountRose seen file name halt.ReadFailed known halts = halts
-Reason-read IsFault CountRose seen file name halt.PutFailed known halts = halts
-Reason-read IsFault CountRose seen file name halt.OutOfMemory known halts = tt
+-- before a fault that is no full window nothing is given
+gives_before-other : (runs : Bool) (first : Fault) → is_full first ≡ false → gives_before runs first ≡ false
+gives_before-other true first other = other
+gives_before-other false first other = refl
 
-module _ (IsFault : Option Fault → Type 0) (target : Option (List ℕ)) (IsRight : (bytes text : List ℕ) → Type 0) (files files' : FilesView) (out out' : SinkView) where
+pub Reason-read : (runs : Bool) (IsFault : Option Fault → Type 0) (CountRose : Type 0) (seen : List HeldFile) (file : ℕ) (name : List ℕ) (halted : Halt)
+    → (bytes_of seen name ≡ None → IsFault (Some (NoFile (file_start file) name))) → HaltsRead seen CountRose file name halted
+    → Reason runs IsFault CountRose halted
+Reason-read runs IsFault CountRose seen file name (halt.Fault first) known halts = (
+  subst (λ fault. IsFault (Some fault)) (sym halts.0) (known halts.1),
+  gives_before-other runs first (ap is_full halts.0),
+)
+Reason-read runs IsFault CountRose seen file name halt.ReadFailed known halts = halts
+Reason-read runs IsFault CountRose seen file name halt.PutFailed known halts = halts
+Reason-read runs IsFault CountRose seen file name halt.OutOfMemory known halts = tt
+
+module _ (runs : Bool) (IsFault : Option Fault → Type 0) (target : Option (List ℕ)) (IsRight : (bytes text : List ℕ) → Type 0) (files files' : FilesView) (out out' : SinkView) where
   -- a job broke off that had given nothing
-  Halts-reason : (halted : Halt) → Reason IsFault (Rose files.faults files'.faults) halted → DeliversNothing files files' out out'
-      → Halts IsFault target IsRight files files' out out' halted
-  Halts-reason (halt.Fault first) reason nothing = (reason, nothing)
+  Halts-reason : (halted : Halt) → Reason runs IsFault (Rose files.faults files'.faults) halted → DeliversNothing files files' out out'
+      → Halts runs IsFault target IsRight files files' out out' halted
+  Halts-reason (halt.Fault first) reason nothing = (reason.0, subst (λ gives. DeliversIf gives target IsRight files files' out out') (sym reason.1) nothing)
   Halts-reason halt.ReadFailed reason nothing = (reason, nothing)
   Halts-reason halt.PutFailed reason nothing = absurd reason
   Halts-reason halt.OutOfMemory reason nothing = inl nothing
 
   -- a step broke off
   pub JobEnds-reason : {T : Type 0} (ended : Result T Halt) (halted : Halt) → IsErrAnd ended (λ given. given ≡ halted)
-      → Reason IsFault (Rose files.faults files'.faults) halted → DeliversNothing files files' out out'
-      → JobEnds IsFault target IsRight files files' out out' ended
+      → Reason runs IsFault (Rose files.faults files'.faults) halted → DeliversNothing files files' out out'
+      → JobEnds runs IsFault target IsRight files files' out out' ended
   JobEnds-reason (Ok value) halted is reason nothing = absurd is
   JobEnds-reason (Err given) halted is reason nothing =
-      subst (Halts IsFault target IsRight files files' out out') (sym is) (Halts-reason halted reason nothing)
+      subst (Halts runs IsFault target IsRight files files' out out') (sym is) (Halts-reason halted reason nothing)
 
   -- the same of other faults and other right texts, where these are among them
   module _ (IsFault' : Option Fault → Type 0) (IsRight' : (bytes text : List ℕ) → Type 0)
       (faults : (fault : Option Fault) → IsFault fault → IsFault' fault) (rights : (bytes text : List ℕ) → IsRight bytes text → IsRight' bytes text) where
-    GivesOut-among : GivesOut IsFault target IsRight files files' out out' → GivesOut IsFault' target IsRight' files files' out out'
+    GivesOut-among : GivesOut runs IsFault target IsRight files files' out out' → GivesOut runs IsFault' target IsRight' files files' out out'
     GivesOut-among gives = record {
-      no_fault = faults None gives.no_fault;
+      may_give = (gives.may_give.0, faults gives.may_give.0 gives.may_give.1, gives.may_give.2);
       bytes = gives.bytes;
       text = gives.text;
       right = rights gives.bytes gives.text gives.right;
       fails = gives.fails;
     }
 
-    GivesUp-among : GivesUp IsFault target IsRight files files' out out' → GivesUp IsFault' target IsRight' files files' out out'
+    GivesUp-among : GivesUp runs IsFault target IsRight files files' out out' → GivesUp runs IsFault' target IsRight' files files' out out'
     GivesUp-among gives = record {
-      no_fault = faults None gives.no_fault;
+      may_give = (gives.may_give.0, faults gives.may_give.0 gives.may_give.1, gives.may_give.2);
       bytes = gives.bytes;
       text = gives.text;
       right = rights gives.bytes gives.text gives.right;
       gives = gives.gives;
     }
 
-    BreaksOff-among : BreaksOff IsFault target IsRight files files' out out' → BreaksOff IsFault' target IsRight' files files' out out'
+    BreaksOff-among : BreaksOff runs IsFault target IsRight files files' out out' → BreaksOff runs IsFault' target IsRight' files files' out out'
     BreaksOff-among (inl nothing) = inl nothing
     BreaksOff-among (inr gives) = inr (GivesUp-among gives)
 
-    pub JobEnds-among : {T : Type 0} (ended : Result T Halt) → JobEnds IsFault target IsRight files files' out out' ended
-        → JobEnds IsFault' target IsRight' files files' out out' ended
+    DeliversIf-among : (gives : Bool) → DeliversIf gives target IsRight files files' out out' → DeliversIf gives target IsRight' files files' out out'
+    DeliversIf-among true given = (given.0, given.1, rights given.0 given.1 given.2, given.3)
+    DeliversIf-among false given = given
+
+    pub JobEnds-among : {T : Type 0} (ended : Result T Halt) → JobEnds runs IsFault target IsRight files files' out out' ended
+        → JobEnds runs IsFault' target IsRight' files files' out out' ended
     JobEnds-among (Ok value) ends = record {
       no_fault = faults None ends.no_fault;
       bytes = ends.bytes;
@@ -94,7 +108,7 @@ module _ (IsFault : Option Fault → Type 0) (target : Option (List ℕ)) (IsRig
       puts_calm = ends.puts_calm;
       writes_calm = ends.writes_calm;
     }
-    JobEnds-among (Err (halt.Fault first)) ends = (faults (Some first) ends.0, ends.1)
+    JobEnds-among (Err (halt.Fault first)) ends = (faults (Some first) ends.0, DeliversIf-among (gives_before runs first) ends.1)
     JobEnds-among (Err halt.ReadFailed) ends = ends
     JobEnds-among (Err halt.PutFailed) ends = GivesOut-among ends
     JobEnds-among (Err halt.OutOfMemory) ends = BreaksOff-among ends
@@ -136,7 +150,7 @@ module _ (files files' : FilesView) (faults : ℕ) (fewer : faults ≤ files.fau
     GivesInPart-earlier (inl gives) = inl (MayBeBound-earlier target bytes gives.0, gives.1)
     GivesInPart-earlier (inr gives) = inr (Bound-earlier target bytes gives.0, gives.1)
 
-  module _ (IsFault : Option Fault → Type 0) (target : Option (List ℕ)) (IsRight : (bytes text : List ℕ) → Type 0) (out out' : SinkView) where
+  module _ (runs : Bool) (IsFault : Option Fault → Type 0) (target : Option (List ℕ)) (IsRight : (bytes text : List ℕ) → Type 0) (out out' : SinkView) where
     Completes-earlier : Completes IsFault target IsRight files files' out out' → Completes IsFault target IsRight (earlier files faults) files' out out'
     Completes-earlier ends = record {
       no_fault = ends.no_fault;
@@ -148,55 +162,60 @@ module _ (files files' : FilesView) (faults : ℕ) (fewer : faults ≤ files.fau
       writes_calm = ends.writes_calm;
     }
 
-    GivesOut-earlier : GivesOut IsFault target IsRight files files' out out' → GivesOut IsFault target IsRight (earlier files faults) files' out out'
+    GivesOut-earlier : GivesOut runs IsFault target IsRight files files' out out' → GivesOut runs IsFault target IsRight (earlier files faults) files' out out'
     GivesOut-earlier gives = record {
-      no_fault = gives.no_fault;
+      may_give = gives.may_give;
       bytes = gives.bytes;
       text = gives.text;
       right = gives.right;
       fails = FailsToGive-earlier target gives.bytes gives.text out out' gives.fails;
     }
 
-    BreaksOff-earlier : BreaksOff IsFault target IsRight files files' out out' → BreaksOff IsFault target IsRight (earlier files faults) files' out out'
+    BreaksOff-earlier : BreaksOff runs IsFault target IsRight files files' out out' → BreaksOff runs IsFault target IsRight (earlier files faults) files' out out'
     BreaksOff-earlier (inl nothing) = inl nothing
     BreaksOff-earlier (inr gives) = inr (record {
-      no_fault = gives.no_fault;
+      may_give = gives.may_give;
       bytes = gives.bytes;
       text = gives.text;
       right = gives.right;
       gives = GivesInPart-earlier target gives.bytes gives.text out out' gives.gives;
     })
 
-    JobEnds-earlier : {T : Type 0} (ended : Result T Halt) → JobEnds IsFault target IsRight files files' out out' ended
-        → JobEnds IsFault target IsRight (earlier files faults) files' out out' ended
+    DeliversIf-earlier : (gives : Bool) → DeliversIf gives target IsRight files files' out out' → DeliversIf gives target IsRight (earlier files faults) files' out out'
+    DeliversIf-earlier true given =
+        (given.0, given.1, given.2, record { bound = Bound-earlier target given.0 given.3.bound; given = given.3.given })
+    DeliversIf-earlier false given = given
+
+    JobEnds-earlier : {T : Type 0} (ended : Result T Halt) → JobEnds runs IsFault target IsRight files files' out out' ended
+        → JobEnds runs IsFault target IsRight (earlier files faults) files' out out' ended
     JobEnds-earlier (Ok value) ends = Completes-earlier ends
-    JobEnds-earlier (Err (halt.Fault first)) ends = ends
+    JobEnds-earlier (Err (halt.Fault first)) ends = (ends.0, DeliversIf-earlier (gives_before runs first) ends.1)
     JobEnds-earlier (Err halt.ReadFailed) ends = (Rose-earlier ends.0, ends.1)
     JobEnds-earlier (Err halt.PutFailed) ends = GivesOut-earlier ends
     JobEnds-earlier (Err halt.OutOfMemory) ends = BreaksOff-earlier ends
 
 -- A job whose bytes and text were made and are right ends as its delivery; before it files were read, which changed nothing of theirs but the
 -- count of reads that failed.
-pub JobEnds-delivered : (IsFault : Option Fault → Type 0) (target : Option (List ℕ)) (IsRight : (bytes text : List ℕ) → Type 0) (bytes text : List ℕ)
+pub JobEnds-delivered : (runs : Bool) (IsFault : Option Fault → Type 0) (target : Option (List ℕ)) (IsRight : (bytes text : List ℕ) → Type 0) (bytes text : List ℕ)
     (files middle files' : FilesView) (out out' : SinkView) {T : Type 0} (ended : Result T Halt)
     → middle.held ≡ files.held → files.faults ≤ middle.faults → middle.write_faults ≡ files.write_faults → IsFault None → IsRight bytes text
-    → JobEnds (λ fault. fault ≡ None) target (λ given put. (given ≡ bytes) × (put ≡ text)) middle files' out out' ended
-    → JobEnds IsFault target IsRight files files' out out' ended
-JobEnds-delivered IsFault target IsRight bytes text files middle files' out out' ended held fewer writes none right ends =
-    subst (λ (before : FilesView). JobEnds IsFault target IsRight before files' out out' ended) (files_view-same held refl writes)
-    (JobEnds-earlier middle files' files.faults fewer IsFault target IsRight out out' ended
-    (JobEnds-among (λ fault. fault ≡ None) target (λ given put. (given ≡ bytes) × (put ≡ text)) middle files' out out' IsFault IsRight
+    → JobEnds runs (λ fault. fault ≡ None) target (λ given put. (given ≡ bytes) × (put ≡ text)) middle files' out out' ended
+    → JobEnds runs IsFault target IsRight files files' out out' ended
+JobEnds-delivered runs IsFault target IsRight bytes text files middle files' out out' ended held fewer writes none right ends =
+    subst (λ (before : FilesView). JobEnds runs IsFault target IsRight before files' out out' ended) (files_view-same held refl writes)
+    (JobEnds-earlier middle files' files.faults fewer runs IsFault target IsRight out out' ended
+    (JobEnds-among runs (λ fault. fault ≡ None) target (λ given put. (given ≡ bytes) × (put ≡ text)) middle files' out out' IsFault IsRight
     (λ fault is. subst IsFault (sym is) none)
     (λ given put is. subst (λ (given : List ℕ). IsRight given put) (sym is.0) (subst (IsRight bytes) (sym is.1) right)) ended ends))
 
 -- a delivery breaks off with no fault, so its message cites none
-pub Cites-delivered : (target : Option (List ℕ)) (IsRight : (bytes text : List ℕ) → Type 0) (files files' : FilesView) (out out' : SinkView) (cited names : List (List ℕ))
-    {T : Type 0} (ended : Result T Halt) → JobEnds (λ fault. fault ≡ None) target IsRight files files' out out' ended → IfErr ended (Cites cited names)
-Cites-delivered target IsRight files files' out out' cited names (Ok value) ends = tt
-Cites-delivered target IsRight files files' out out' cited names (Err (halt.Fault first)) ends = absurd (let h = ends.0 in cc)
-Cites-delivered target IsRight files files' out out' cited names (Err halt.ReadFailed) ends = tt
-Cites-delivered target IsRight files files' out out' cited names (Err halt.PutFailed) ends = tt
-Cites-delivered target IsRight files files' out out' cited names (Err halt.OutOfMemory) ends = tt
+pub Cites-delivered : (runs : Bool) (target : Option (List ℕ)) (IsRight : (bytes text : List ℕ) → Type 0) (files files' : FilesView) (out out' : SinkView) (cited names : List (List ℕ))
+    {T : Type 0} (ended : Result T Halt) → JobEnds runs (λ fault. fault ≡ None) target IsRight files files' out out' ended → IfErr ended (Cites cited names)
+Cites-delivered runs target IsRight files files' out out' cited names (Ok value) ends = tt
+Cites-delivered runs target IsRight files files' out out' cited names (Err (halt.Fault first)) ends = absurd (let h = ends.0 in cc)
+Cites-delivered runs target IsRight files files' out out' cited names (Err halt.ReadFailed) ends = tt
+Cites-delivered runs target IsRight files files' out out' cited names (Err halt.PutFailed) ends = tt
+Cites-delivered runs target IsRight files files' out out' cited names (Err halt.OutOfMemory) ends = tt
 
 -- ---- the words
 
@@ -205,22 +224,23 @@ pub IsFirstFault-job : (words : List (List ℕ)) (files : List HeldFile) (made :
     → IsJobFault (options_for words) files made fault → IsFirstFault words files made fault
 IsFirstFault-job words files made fault none is = subst (λ of_words. IsFaultBehind of_words (options_for words) files made fault) (sym none) is
 
--- words that are not read have a fault, or memory ran out
-pub Reason-words : (words : List (List ℕ)) (files : List HeldFile) (made : List Made) (CountRose : Type 0) (stopped : Stop)
-    → StopsBy (words_fault words) stopped → Reason (IsFirstFault words files made) CountRose (halt_of_stop stopped)
-Reason-words words files made CountRose stop.Memory stops = tt
-Reason-words words files made CountRose (stop.Fault first) stops =
-    subst (λ of_words. IsFaultBehind of_words (options_for words) files made (Some first)) (sym stops) refl
-
--- a fault of the words stands in no file
-words_fault-placed : (words : List (List ℕ)) (first : Fault) → words_fault words ≡ Some first → place_of first ≡ None
+-- the words have no other fault
+words_fault-usage : (words : List (List ℕ)) (first : Fault) → words_fault words ≡ Some first → first ≡ Usage
 unfolding words_fault
-words_fault-placed words first = by (is_refused words || is_wrong (line_of words)) (waits (line_of words))
+words_fault-usage words first = by (is_refused words || is_wrong (line_of words))
   where
-    by : (refused later : Bool) → (if refused then Some Usage else (if later then Some (Unsupported None) else None)) ≡ Some first → place_of first ≡ None
-    by true later is = let same : first ≡ Usage = (let h = is in cc) in ap place_of same
-    by false true is = let same : first ≡ Unsupported None = (let h = is in cc) in ap place_of same
-    by false false is = absurd (let h = is in cc)
+    by : (refused : Bool) → (if refused then Some Usage else None) ≡ Some first → first ≡ Usage
+    by true is = let h = is in cc
+    by false is = absurd (let h = is in cc)
+
+-- words that are not read have a fault, or memory ran out
+pub Reason-words : (runs : Bool) (words : List (List ℕ)) (files : List HeldFile) (made : List Made) (CountRose : Type 0) (stopped : Stop)
+    → StopsBy (words_fault words) stopped → Reason runs (IsFirstFault words files made) CountRose (halt_of_stop stopped)
+Reason-words runs words files made CountRose stop.Memory stops = tt
+Reason-words runs words files made CountRose (stop.Fault first) stops = (
+  subst (λ of_words. IsFaultBehind of_words (options_for words) files made (Some first)) (sym stops) refl,
+  gives_before-other runs first (ap is_full (words_fault-usage words first stops)),
+)
 
 -- the message of a fault of the words cites no file
 pub Cites-words : {T : Type 0} (words names : List (List ℕ)) (seen : List HeldFile) (ended : Result T Halt) (stopped : Stop)
@@ -233,7 +253,7 @@ Cites-words words names seen (Err given) stopped is stops none = subst (Cites (f
     by stop.Memory stops = tt
     by (stop.Fault first) stops = (
       none ∙ sym (ap (λ of_words. names_behind of_words (options_for words) seen) stops),
-      subst (HasFile names) (sym (words_fault-placed words first stops)) tt,
+      subst (HasFile names) (sym (ap place_of (words_fault-usage words first stops))) tt,
     )
 
 -- so do the words of a job
@@ -246,13 +266,41 @@ Cites-job words names seen options ended none same cites =
 -- words that are read end as their job
 pub JobEnds-words : (words : List (List ℕ)) (seen : List HeldFile) (made : List Made) (options : Options) (files files' : FilesView) (out out' : SinkView)
     {T : Type 0} (ended : Result T Halt) → words_fault words ≡ None → options ≡ options_for words
-    → JobEnds (IsJobFault options seen made) (target_of options.job) (IsRightOf options seen made) files files' out out' ended
-    → JobEnds (IsFirstFault words seen made) (target_of (job_of words)) (IsRightOf (options_for words) seen made) files files' out out' ended
+    → JobEnds (is_run options.job) (IsJobFault options seen made) (target_of options.job) (IsRightOf options seen made) files files' out out' ended
+    → JobEnds (is_run (job_of words)) (IsFirstFault words seen made) (target_of (job_of words)) (IsRightOf (options_for words) seen made) files files' out out' ended
 JobEnds-words words seen made options files files' out out' ended none same ends =
-    JobEnds-among (IsJobFault (options_for words) seen made) (target_of (job_of words)) (IsRightOf (options_for words) seen made) files files' out out'
+    JobEnds-among (is_run (job_of words)) (IsJobFault (options_for words) seen made) (target_of (job_of words)) (IsRightOf (options_for words) seen made) files files' out out'
     (IsFirstFault words seen made) (IsRightOf (options_for words) seen made)
     (λ fault is. IsFirstFault-job words seen made fault none is) (λ bytes text right. right) ended
-    (subst (λ (options : Options). JobEnds (IsJobFault options seen made) (target_of options.job) (IsRightOf options seen made) files files' out out' ended) same ends)
+    (subst (λ (options : Options). JobEnds (is_run options.job) (IsJobFault options seen made) (target_of options.job) (IsRightOf options seen made) files files' out out' ended) same ends)
+
+-- a number within limits from one up is at least one
+least-number : (most : ℕ) (text : Option (List ℕ)) → 0 < unwrap_or (option_and_then (number_within 1 most) text) 4096
+least-number most None = omega arith
+least-number most (Some text) = by (is_number text) (digits_value 10 text)
+  where
+    within : (number : ℕ) (inside : Bool) → 0 < number → 0 < unwrap_or (if inside then Some number else None) 4096
+    within number true some = some
+    within number false some = omega arith
+
+    by : (is : Bool) (number : ℕ) → 0 < unwrap_or (if is && (nat_le 1 number && nat_le number most) then Some number else None) 4096
+    by false number = omega arith
+    by true number = elim (cases_lt 0 number) [
+      | inl some ↦ within number (nat_le 1 number && nat_le number most) some
+      | inr none ↦ let outside : nat_le 1 number ≡ false = lt-leb 1 number (omega arith) in rw outside (omega arith)
+    ]
+
+-- words ask for windows and refills of at least one unit
+HasWindow-by : (rules : Option ℕ) (input : Option (List ℕ)) (line : Line) → HasWindow (job_by rules input line)
+HasWindow-by (Some rules) input line = tt
+HasWindow-by None (Some input) line =
+    (least-number 1_048_576 (value line (codes "x-window")), least-number 1_048_576 (value line (codes "x-piece")))
+HasWindow-by None None line = tt
+
+pub HasWindow-words : (words : List (List ℕ)) → HasWindow (job_of words)
+unfolding options_of
+HasWindow-words words =
+    let line = line_of words in HasWindow-by (number_of line (codes "x-source") 1 200) (value line (codes "x-run")) line
 
 -- words ask for leftmost greedy trees
 pub IsGreedy-words : (words : List (List ℕ)) → IsGreedy (options_for words)

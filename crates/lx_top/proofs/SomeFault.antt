@@ -23,14 +23,14 @@ use Rattle.lx_base.specs.Places.{file_start}
 
 -- ---- runs
 
-module _ (block : Option ℕ) (name : List ℕ) (given : Option (List ℕ)) (bytes : List ℕ)
-    (none : (fault : Option Fault) → IsEmittedFault block name given bytes fault → ⊥) where
+module _ (block : Option ℕ) (window step : ℕ) (name : List ℕ) (given : Option (List ℕ)) (bytes : List ℕ)
+    (none : (fault : Option Fault) → IsEmittedFault block window step name given bytes fault → ⊥) where
   -- a first begin mark that is asked for: a piece stands there, or none does
   no_first : (offset : ℕ) → IsFirstBegin block bytes offset → ⊥
   no_first offset first = none (Some (NotEmitted (place_in bytes offset) offset)) (inl (offset, inr (first, no_piece), refl))
     where
       no_piece : (piece : Piece) → BeginsWithPiece (drop offset bytes) piece → ⊥
-      no_piece piece begins = none (input_fault name piece.unit given) (inr (piece, record { offset = offset; first = first; begins = begins }, refl))
+      no_piece piece begins = none (input_fault name piece window step given) (inr (piece, record { offset = offset; first = first; begins = begins }, refl))
 
   -- so there is no such mark: one of them would be the first
   no_begin_below : (count place : ℕ) → place < count → BeginsBlock block (drop place bytes) → ⊥
@@ -45,18 +45,18 @@ module _ (block : Option ℕ) (name : List ℕ) (given : Option (List ℕ)) (byt
   emitted_fault = none (Some (NotEmitted (place_in bytes 0) 0)) (inl (0, inl (no_begin, refl), refl))
 
 -- a run has a first fault, or none
-run_fault : (block : Option ℕ) (name : List ℕ) (given : Option (List ℕ)) (emitted : List ℕ) (scanned : Option (List ℕ))
-    → ((fault : Option Fault) → IsRunFault block name given emitted scanned fault → ⊥) → ⊥
-run_fault block name given emitted None none = none (Some (NoFile (file_start 0) emitted)) refl
-run_fault block name given emitted (Some bytes) none = emitted_fault block name given bytes none
+run_fault : (block : Option ℕ) (window step : ℕ) (name : List ℕ) (given : Option (List ℕ)) (emitted : List ℕ) (scanned : Option (List ℕ))
+    → ((fault : Option Fault) → IsRunFault block window step name given emitted scanned fault → ⊥) → ⊥
+run_fault block window step name given emitted None none = none (Some (NoFile (file_start 0) emitted)) refl
+run_fault block window step name given emitted (Some bytes) none = emitted_fault block window step name given bytes none
 
 -- ---- generated sources
 
 -- an output has a fault of its scanner, or none
 scan_fault : (output : List ℕ) → ((fault : Option Fault) → IsScanFault output fault → ⊥) → ⊥
-scan_fault output none = emitted_fault None [] (Some []) output known
+scan_fault output none = emitted_fault None 0 0 [] (Some []) output known
   where
-    known : (fault : Option Fault) → IsEmittedFault None [] (Some []) output fault → ⊥
+    known : (fault : Option Fault) → IsEmittedFault None 0 0 [] (Some []) output fault → ⊥
     known fault (inl unread) = none fault (inl unread)
     known fault (inr scans) = none None (inr (scans.0, scans.1, refl))
 
@@ -76,7 +76,7 @@ source_fault rules made are none = IsSourceFault-some source_options (source_fil
 job_fault : (options : Options) (job : Job) (files : List HeldFile) (made : List Made) → AreMadeFor options job files made
     → ((fault : Option Fault) → IsFaultOf options job files made fault → ⊥) → ⊥
 job_fault options (Compile file to) files made are none = IsSourceFault-some options files file made are none
-job_fault options (Run input emitted block window piece) files made are none = run_fault block input (bytes_of files input) emitted (bytes_of files emitted) none
+job_fault options (Run input emitted block window piece) files made are none = run_fault block window piece input (bytes_of files input) emitted (bytes_of files emitted) none
 job_fault options (Source rules to) files made are none = source_fault rules made are none
 
 fault_behind : (of_words : Option Fault) (options : Options) (files : List HeldFile) (made : List Made) → AreMadeFor options options.job files made

@@ -1,14 +1,15 @@
 -- How a job gives: bytes to a file, in the place of what stood there, and then a text to the standard output.
-use Rattle.std.specs.Prelude.{◌≡◌, ◌⊎◌, ℕ, List, Option, Some, None}
+use Rattle.std.specs.Prelude.{◌≡◌, ◌⊎◌, ◌&&◌, ℕ, Bool, true, false, List, Option, Some, None, IfSome}
 use Rattle.lx_base.specs.declared.faults.Fault.{Fault}
+use Rattle.lx_base.specs.declared.faults.Fault.TheVariants.{WindowFull}
 use Rattle.lx_files.specs.Counts.{Rose}
 use Rattle.lx_files.specs.Held.{Binds, MayBindFront, WhereTold}
 use Rattle.lx_files.specs.declared.files.HeldFile.{HeldFile}
 use Rattle.lx_files.specs.Taking.{GivesFront, given_then}
 use Rattle.lx_top.specs.Outside.{FilesView, SinkView}
 
--- In the definitions that follow `target` is the file that gets the bytes, if a job has one; `IsFault` says which fault is the first one, if
--- there is one; and `IsRight` says which bytes and which text are right.
+-- In the definitions that follow `runs` says whether a job runs a scanner; `target` is the file that gets the bytes, if the job has one; `IsFault`
+-- says which fault is the first one, if there is one; and `IsRight` says which bytes and which text are right.
 
 -- the file of this name, if there is one, has these bytes, and nothing else changed
 abbrev pub Bound : (target : Option (List ℕ)) → (bytes : List ℕ) → FilesView → FilesView → Type 0
@@ -51,6 +52,29 @@ GivesInPart target bytes text files files' out out' =
 abbrev pub DeliversNothing : (files files' : FilesView) → (out out' : SinkView) → Type 0
 DeliversNothing files files' out out' = (out'.given ≡ out.given) × (files'.held ≡ files.held)
 
+-- the fault is that the window was full
+abbrev pub is_full : Fault → Bool
+is_full (WindowFull at kept need size) = true
+is_full _ = false
+
+-- something is given before this fault: it is that of a run whose window was full, which ends it behind the lines that it gave
+abbrev pub gives_before : (runs : Bool) → Fault → Bool
+gives_before runs first = runs && is_full first
+
+-- something is given: there is no fault, or it is one before which something is given
+abbrev pub MayGive : (runs : Bool) → (IsFault : Option Fault → Type 0) → Type 0
+MayGive runs IsFault = (fault : Option Fault) × IsFault fault × IfSome fault (λ first. gives_before runs first ≡ true)
+
+-- what is right was given, or nothing was
+abbrev pub DeliversIf : (gives : Bool) (target : Option (List ℕ)) (IsRight : (bytes text : List ℕ) → Type 0) (files files' : FilesView) (out out' : SinkView) → Type 0
+DeliversIf true target IsRight files files' out out' =
+    (bytes : List ℕ) × (text : List ℕ) × IsRight bytes text × Delivers target bytes text files files' out out'
+DeliversIf false target IsRight files files' out out' = DeliversNothing files files' out out'
+
+-- what was given before a fault: what is right, where a run's window was full, and else nothing
+abbrev pub DeliversBefore : (runs : Bool) (target : Option (List ℕ)) (IsRight : (bytes text : List ℕ) → Type 0) (files files' : FilesView) (out out' : SinkView) → Fault → Type 0
+DeliversBefore runs target IsRight files files' out out' first = DeliversIf (gives_before runs first) target IsRight files files' out out'
+
 -- there is no fault, and what is right was given
 pub record Completes (IsFault : Option Fault → Type 0) (target : Option (List ℕ)) (IsRight : (bytes text : List ℕ) → Type 0) (files files' : FilesView) (out out' : SinkView) : Type 0 where
   pub no_fault : IsFault None
@@ -61,23 +85,23 @@ pub record Completes (IsFault : Option Fault → Type 0) (target : Option (List 
   pub puts_calm : out'.faults ≡ out.faults
   pub writes_calm : files'.write_faults ≡ files.write_faults
 
--- there is no fault, and a write or a put failed while what is right was given
-pub record GivesOut (IsFault : Option Fault → Type 0) (target : Option (List ℕ)) (IsRight : (bytes text : List ℕ) → Type 0) (files files' : FilesView) (out out' : SinkView) : Type 0 where
-  pub no_fault : IsFault None
+-- a write or a put failed while what is right was given
+pub record GivesOut (runs : Bool) (IsFault : Option Fault → Type 0) (target : Option (List ℕ)) (IsRight : (bytes text : List ℕ) → Type 0) (files files' : FilesView) (out out' : SinkView) : Type 0 where
+  pub may_give : MayGive runs IsFault
   pub bytes : List ℕ
   pub text : List ℕ
   pub right : IsRight bytes text
   pub fails : FailsToGive target bytes text files files' out out'
 
--- there is no fault, and memory ran out while what is right was given
-pub record GivesUp (IsFault : Option Fault → Type 0) (target : Option (List ℕ)) (IsRight : (bytes text : List ℕ) → Type 0) (files files' : FilesView) (out out' : SinkView) : Type 0 where
-  pub no_fault : IsFault None
+-- memory ran out while what is right was given
+pub record GivesUp (runs : Bool) (IsFault : Option Fault → Type 0) (target : Option (List ℕ)) (IsRight : (bytes text : List ℕ) → Type 0) (files files' : FilesView) (out out' : SinkView) : Type 0 where
+  pub may_give : MayGive runs IsFault
   pub bytes : List ℕ
   pub text : List ℕ
   pub right : IsRight bytes text
   pub gives : GivesInPart target bytes text files files' out out'
 
--- nothing was given; or there is no fault, and memory ran out while what is right was given
-abbrev pub BreaksOff : (IsFault : Option Fault → Type 0) (target : Option (List ℕ)) (IsRight : (bytes text : List ℕ) → Type 0) (files files' : FilesView) (out out' : SinkView) → Type 0
-BreaksOff IsFault target IsRight files files' out out' =
-    DeliversNothing files files' out out' ⊎ GivesUp IsFault target IsRight files files' out out'
+-- nothing was given; or memory ran out while what is right was given
+abbrev pub BreaksOff : (runs : Bool) (IsFault : Option Fault → Type 0) (target : Option (List ℕ)) (IsRight : (bytes text : List ℕ) → Type 0) (files files' : FilesView) (out out' : SinkView) → Type 0
+BreaksOff runs IsFault target IsRight files files' out out' =
+    DeliversNothing files files' out out' ⊎ GivesUp runs IsFault target IsRight files files' out out'

@@ -1,5 +1,5 @@
 -- How a run of the program ends.
-use Rattle.std.specs.Prelude.{◌≡◌, ◌⊎◌, ℕ, List, [], codes, Option, Some, MatchOption}
+use Rattle.std.specs.Prelude.{◌≡◌, ◌⊎◌, ℕ, Bool, List, [], codes, Option, Some, MatchOption}
 use Rattle.lx_base.specs.Message.{message_text}
 use Rattle.lx_base.specs.declared.faults.Fault.{Fault}
 use Rattle.lx_base.specs.declared.faults.Fault.TheVariants.{Usage}
@@ -8,9 +8,9 @@ use Rattle.lx_files.specs.Held.{IsFront, Sees}
 use Rattle.lx_files.specs.Taking.{GivesFront, given_then}
 use Rattle.lx_files.specs.declared.files.HeldFile.{HeldFile}
 use Rattle.lx_compile.specs.declared.made.Made.{Made}
-use Rattle.lx_top.specs.Delivery.{Completes, GivesOut, BreaksOff, DeliversNothing}
+use Rattle.lx_top.specs.Delivery.{Completes, GivesOut, BreaksOff, DeliversBefore, DeliversNothing}
 use Rattle.lx_top.specs.FirstFault.{IsFirstFault}
-use Rattle.lx_top.specs.Jobs.{file_names, job_of, options_for, target_of}
+use Rattle.lx_top.specs.Jobs.{file_names, is_run, job_of, options_for, target_of}
 use Rattle.lx_top.specs.Outside.{SinkView, Outside, NoCountRose}
 use Rattle.lx_top.specs.Output.{IsRightOf}
 use Rattle.lx_top.specs.declared.endings.Ending.{Ending}
@@ -50,15 +50,18 @@ abbrev pub RefusesWords : SinkView → SinkView → (status : ℕ) → Type 0
 RefusesWords err err' status =
     (ending : Ending) × (status ≡ status_of ending) × TellsMessage (message_text [] Usage) err err' ending
 
-module _ (IsFault : Option Fault → Type 0) (names : List (List ℕ)) (target : Option (List ℕ)) (IsRight : (bytes text : List ℕ) → Type 0) (before after : Outside) where
+module _ (runs : Bool) (IsFault : Option Fault → Type 0) (names : List (List ℕ)) (target : Option (List ℕ)) (IsRight : (bytes text : List ℕ) → Type 0) (before after : Outside) where
   abbrev GivesNothing : Type 0
   GivesNothing = DeliversNothing before.files after.files before.out after.out
 
-  -- there is a first fault, nothing was given, and a front of its message was told, and then a front of the ending's own text
+  abbrev GivesBefore : Fault → Type 0
+  GivesBefore first = DeliversBefore runs target IsRight before.files after.files before.out after.out first
+
+  -- there is a first fault, what comes before it was given, and a front of its message was told, and then a front of the ending's own text
   pub record BreaksMessage (ending : Ending) : Type 0 where
     pub first : Fault
     pub is_first : IsFault (Some first)
-    pub nothing : GivesNothing
+    pub gave : GivesBefore first
     pub told : TellsFront (message_text names first) ending before.err after.err
 
   -- the ending's own text was told, or a front of it
@@ -70,12 +73,12 @@ module _ (IsFault : Option Fault → Type 0) (names : List (List ℕ)) (target :
     pub completes : Completes IsFault target IsRight before.files after.files before.out after.out
     pub err_stays : after.err.given ≡ before.err.given
 
-  -- there is a first fault, whose message is told, and nothing was given
+  -- there is a first fault, what comes before it was given, and then its message was told
   pub record IsRefused : Type 0 where
     pub first : Fault
     pub is_first : IsFault (Some first)
+    pub gave : GivesBefore first
     pub told : after.err.given ≡ given_then before.err.given (message_text names first)
-    pub nothing : GivesNothing
 
   -- a read failed, and nothing was given
   pub record IsReadFailed : Type 0 where
@@ -83,17 +86,17 @@ module _ (IsFault : Option Fault → Type 0) (names : List (List ℕ)) (target :
     pub nothing : GivesNothing
     pub told : TellsEnding ReadFailed
 
-  -- a put or a write failed: there is no fault, and it failed while what is right was given; or it was the put of a fault's message
+  -- a put or a write failed while what is right was given, or the put of a fault's message failed
   abbrev pub IsPutFailed : Type 0
   IsPutFailed =
-      (GivesOut IsFault target IsRight before.files after.files before.out after.out
+      (GivesOut runs IsFault target IsRight before.files after.files before.out after.out
       × TellsEnding PutFailed)
       ⊎ (BreaksMessage PutFailed × Rose before.err.faults after.err.faults)
 
   -- memory ran out
   abbrev pub IsOutOfMemory : Type 0
   IsOutOfMemory =
-      (BreaksOff IsFault target IsRight before.files after.files before.out after.out × TellsEnding OutOfMemory) ⊎ BreaksMessage OutOfMemory
+      (BreaksOff runs IsFault target IsRight before.files after.files before.out after.out × TellsEnding OutOfMemory) ⊎ BreaksMessage OutOfMemory
 
   -- a run ended so
   abbrev pub EndsAs : Ending → Type 0
@@ -114,7 +117,7 @@ pub record EndsSo (words : List (List ℕ)) (before after : Outside) (ending : E
   pub seen : List HeldFile
   pub made : List Made
   pub sees : Sees before.files.held seen
-  pub ends : EndsAs (IsFirstFault words seen made) (file_names words seen) (target_of (job_of words)) (IsRightOf (options_for words) seen made) before after ending
+  pub ends : EndsAs (is_run (job_of words)) (IsFirstFault words seen made) (file_names words seen) (target_of (job_of words)) (IsRightOf (options_for words) seen made) before after ending
   pub expected : NoCountRose before after → (fault : Option Fault) → IsFirstFault words seen made fault → IsExpected fault ending
 
 -- a run has this exit status, which stands for one of the five endings

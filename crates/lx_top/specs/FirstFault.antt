@@ -17,7 +17,7 @@ use Rattle.lx_top.specs.Sources.{IsSourceFault, source_files, source_name, sourc
 abbrev pub IsFaultOf : Options → Job → List HeldFile → List Made → Option Fault → Type 0
 IsFaultOf options (Compile file to) files made fault = source.IsFirstFault options files file made fault
 IsFaultOf options (Run input emitted block window piece) files made fault =
-    IsRunFault block input (bytes_of files input) emitted (bytes_of files emitted) fault
+    IsRunFault block window piece input (bytes_of files input) emitted (bytes_of files emitted) fault
 IsFaultOf options (Source rules to) files made fault = IsSourceFault rules made fault
 
 -- the first fault of the options' job over the files, or none

@@ -1,5 +1,5 @@
 -- What a command line asks the program to do.
-use Rattle.std.specs.Prelude.{ℕ, List, [], ◌∷◌, Option, Some, None}
+use Rattle.std.specs.Prelude.{◌<◌, ℕ, Bool, true, false, List, [], ◌∷◌, Option, Some, None}
 use Rattle.lx_base.specs.declared.faults.Fault.{Fault}
 use Rattle.lx_base.specs.declared.settings.Job.{Job}
 use Rattle.lx_base.specs.declared.settings.Job.TheVariants.{Compile, Run, Source}
@@ -16,6 +16,18 @@ options_for words = options_of (line_of words)
 
 abbrev pub job_of : (words : List (List ℕ)) → Job
 job_of words = (options_for words).job
+
+-- the window of a run and its refills have at least one unit
+abbrev pub HasWindow : Job → Type 0
+HasWindow (Compile file to) = Unit {0}
+HasWindow (Run input emitted block window piece) = (0 < window) × (0 < piece)
+HasWindow (Source rules to) = Unit {0}
+
+-- the job runs a scanner
+abbrev pub is_run : Job → Bool
+is_run (Compile file to) = false
+is_run (Run input emitted block window piece) = true
+is_run (Source rules to) = false
 
 -- the file that gets the bytes of a job, if one does
 abbrev pub target_of : Job → Option (List ℕ)

@@ -19,7 +19,7 @@ GoesTo (Some name) IsOutput bytes text = IsOutput bytes × (text ≡ [])
 abbrev pub IsJobRight : Options → Job → List HeldFile → List Made → (bytes text : List ℕ) → Type 0
 IsJobRight options (Compile file to) files made bytes text = GoesTo to (IsOutput options files file made) bytes text
 IsJobRight options (Run input emitted block window piece) files made bytes text =
-    (bytes ≡ []) × IsRunText block (bytes_of files emitted) (bytes_of files input) text
+    (bytes ≡ []) × IsRunText block window piece (bytes_of files emitted) (bytes_of files input) text
 IsJobRight options (Source rules to) files made bytes text = IsSourceOutput rules made bytes × IsSourceText rules bytes text
 
 -- the bytes and the text that the options' job gives, over the files

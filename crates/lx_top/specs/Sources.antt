@@ -1,5 +1,5 @@
 -- Generated sources: their text, their compilation, and what is told of a run of their scanner.
-use Rattle.std.specs.Prelude.{◌≡◌, ◌⊎◌, ℕ, zero, suc, ◌+◌, false, List, [], ◌∷◌, ◌++◌, length, codes, Option, Some, None, IsSome, ◌==◌, if◌then◌else◌}
+use Rattle.std.specs.Prelude.{◌≡◌, ◌⊎◌, ℕ, zero, suc, false, List, [], ◌∷◌, ◌++◌, length, codes, Option, Some, None, IsSome, ◌==◌, if◌then◌else◌}
 use Rattle.std.specs.Fmt.{decimal}
 use Rattle.std.specs.List.{filter}
 use Rattle.lx_base.specs.Letters.{begins_with}
@@ -112,7 +112,11 @@ summary size run =
     (codes "source " ∷ decimal size ∷ codes "\nmatches " ∷ decimal (length (rule_lines run)) ∷ codes "\n" ∷ last_of (rule_lines run)
     ∷ last_of (lines_of run) ∷ []) []
 
+-- how many units a window has, and how many a refill brings at most, where nothing else is asked for
+abbrev pub usual_units : ℕ
+usual_units = 4096
+
 -- the text that is told of a run of the scanner of this output, the first one, over the words
 abbrev pub IsSourceText : (rules : ℕ) → (output text : List ℕ) → Type 0
 IsSourceText rules output text =
-    (piece : Piece) × Scans output None piece × (text ≡ summary (length (source_text rules)) (run_text piece (words_of rules)))
+    (piece : Piece) × Scans output None piece × (text ≡ summary (length (source_text rules)) (run_text piece (words_of rules) usual_units usual_units).text)

@@ -1,5 +1,5 @@
 -- Where a job breaks off, step by step.
-use Rattle.std.specs.Prelude.{◌≡◌, ℕ, List, Option, Some, None, Result, MatchResult}
+use Rattle.std.specs.Prelude.{◌≡◌, ℕ, Bool, List, Option, Some, None, Result, MatchResult}
 use Rattle.lx_base.specs.Message.{IsPlaced, message_text}
 use Rattle.lx_base.specs.declared.faults.Fault.{Fault}
 use Rattle.lx_base.specs.declared.faults.Fault.TheVariants.{NoFile, NotEmitted}
@@ -12,7 +12,7 @@ use Rattle.lx_compile.specs.FirstFault as source
 use Rattle.lx_compile.specs.declared.made.Made.{Made}
 use Rattle.lx_split.specs.Includes.{expansion}
 use Rattle.lx_top.specs.Sources.{IsSourceOutput, source_files, source_name, source_options}
-use Rattle.lx_top.specs.Delivery.{Bound, Completes, GivesOut, BreaksOff, DeliversNothing, FailsToBind, MayBeBound}
+use Rattle.lx_top.specs.Delivery.{Bound, Completes, GivesOut, BreaksOff, DeliversBefore, DeliversNothing, FailsToBind, MayBeBound}
 use Rattle.lx_top.specs.Emitted.{IsUnread, place_in}
 use Rattle.lx_top.specs.Endings.{TellsMessage, failure_text}
 use Rattle.lx_files.specs.Taking.{GivesFront}
@@ -31,16 +31,16 @@ HaltsRead seen CountRose file name halt.PutFailed = ⊥
 HaltsRead seen CountRose file name halt.OutOfMemory = Unit {0}
 
 -- why a job broke off, and what it had given
-abbrev pub Halts : (IsFault : Option Fault → Type 0) (target : Option (List ℕ)) (IsRight : (bytes text : List ℕ) → Type 0) (files files' : FilesView) (out out' : SinkView) → Halt → Type 0
-Halts IsFault target IsRight files files' out out' (halt.Fault first) = IsFault (Some first) × DeliversNothing files files' out out'
-Halts IsFault target IsRight files files' out out' halt.ReadFailed = Rose files.faults files'.faults × DeliversNothing files files' out out'
-Halts IsFault target IsRight files files' out out' halt.PutFailed = GivesOut IsFault target IsRight files files' out out'
-Halts IsFault target IsRight files files' out out' halt.OutOfMemory = BreaksOff IsFault target IsRight files files' out out'
+abbrev pub Halts : (runs : Bool) (IsFault : Option Fault → Type 0) (target : Option (List ℕ)) (IsRight : (bytes text : List ℕ) → Type 0) (files files' : FilesView) (out out' : SinkView) → Halt → Type 0
+Halts runs IsFault target IsRight files files' out out' (halt.Fault first) = IsFault (Some first) × DeliversBefore runs target IsRight files files' out out' first
+Halts runs IsFault target IsRight files files' out out' halt.ReadFailed = Rose files.faults files'.faults × DeliversNothing files files' out out'
+Halts runs IsFault target IsRight files files' out out' halt.PutFailed = GivesOut runs IsFault target IsRight files files' out out'
+Halts runs IsFault target IsRight files files' out out' halt.OutOfMemory = BreaksOff runs IsFault target IsRight files files' out out'
 
 -- how a job ended
-abbrev pub JobEnds : (IsFault : Option Fault → Type 0) (target : Option (List ℕ)) (IsRight : (bytes text : List ℕ) → Type 0) (files files' : FilesView) (out out' : SinkView) → {T : Type 0} → Result T Halt → Type 0
-JobEnds IsFault target IsRight files files' out out' ended =
-    MatchResult ended (λ _. Completes IsFault target IsRight files files' out out') (Halts IsFault target IsRight files files' out out')
+abbrev pub JobEnds : (runs : Bool) (IsFault : Option Fault → Type 0) (target : Option (List ℕ)) (IsRight : (bytes text : List ℕ) → Type 0) (files files' : FilesView) (out out' : SinkView) → {T : Type 0} → Result T Halt → Type 0
+JobEnds runs IsFault target IsRight files files' out out' ended =
+    MatchResult ended (λ _. Completes IsFault target IsRight files files' out out') (Halts runs IsFault target IsRight files files' out out')
 
 -- why the file of a job, if it has one, was not given these bytes, and what it has
 abbrev pub HaltsWrite : (target : Option (List ℕ)) → (bytes : List ℕ) → FilesView → FilesView → Halt → Type 0

@@ -1,5 +1,5 @@
 //! The compilation of the source in a file.
-ghost use Rattle.std.specs.Prelude.{◌≡◌, ℕ, [], List, option_map, IfErr};
+ghost use Rattle.std.specs.Prelude.{◌≡◌, ℕ, false, [], List, option_map, IfErr};
 ghost use Rattle.lx_compile.specs.FirstFault.{IsFirstFault};
 ghost use Rattle.lx_compile.specs.Options.{IsGreedy};
 ghost use Rattle.lx_compile.specs.Output.{IsOutput};
@@ -36,7 +36,7 @@ pub(crate) fn compile<F: Files, O: Sink>(
         let after = sink_view (O.given out.new) (O.faults out.new) in
         let target = option_map (λ name. name.now) target.entry in
         (seen : List HeldFile) × (made : List Made) × Sees (F.held files.old) seen
-        × JobEnds (IsFirstFault options.now seen name.now made) target (GoesTo target (IsOutput options.now seen name.now made)) files_before files_after before after result
+        × JobEnds false (IsFirstFault options.now seen name.now made) target (GoesTo target (IsOutput options.now seen name.now made)) files_before files_after before after result
         × IfErr result (Cites (expansion options.now seen name.now).met.names names.new) }
 {
     let output = lx_compile::compile(alloc, files, names, options, name)?;

@@ -1,5 +1,5 @@
 //! How a job gives.
-ghost use Rattle.std.specs.Prelude.{◌≡◌, option_map, None};
+ghost use Rattle.std.specs.Prelude.{◌≡◌, false, option_map, None};
 ghost use Rattle.lx_top.specs.Outside.{files_view, sink_view};
 ghost use Rattle.lx_top.specs.Steps.{JobEnds, WriteEnds};
 
@@ -34,7 +34,7 @@ pub(crate) fn deliver<F: Files, O: Sink>(
         let files_after = files_view (F.held files.new) (F.faults files.new) (F.write_faults files.new) in
         let before = sink_view (O.given out.old) (O.faults out.old) in
         let after = sink_view (O.given out.new) (O.faults out.new) in
-        JobEnds (λ fault. fault ≡ None) (option_map (λ name. name.now) target.entry) (λ given put. (given ≡ bytes.now) × (put ≡ text.now)) files_before files_after before after result }
+        JobEnds false (λ fault. fault ≡ None) (option_map (λ name. name.now) target.entry) (λ given put. (given ≡ bytes.now) × (put ≡ text.now)) files_before files_after before after result }
 {
     write_to(files, target, bytes)?;
     put_all(out, text)?;

@@ -5,13 +5,13 @@ ghost use Rattle.lx_compile.specs.declared.made.Made.{Made};
 ghost use Rattle.lx_files.specs.Held.{Sees};
 ghost use Rattle.lx_files.specs.declared.files.HeldFile.{HeldFile};
 ghost use Rattle.lx_top.specs.FirstFault.{IsFirstFault, IsJobFault};
-ghost use Rattle.lx_top.specs.Jobs.{file_names, job_of, names_of, options_for, target_of};
+ghost use Rattle.lx_top.specs.Jobs.{HasWindow, file_names, is_run, job_of, names_of, options_for, target_of};
 ghost use Rattle.lx_top.specs.Outside.{files_view, sink_view};
 ghost use Rattle.lx_top.specs.Output.{IsRightOf};
 ghost use Rattle.lx_top.specs.Steps.{Cites, JobEnds};
 
 use crate::compile::compile;
-use crate::emitted::run_emitted;
+use crate::emitted::{WindowUnits, run_emitted};
 use crate::endings::Halt;
 use crate::source::run_source;
 use lx_base::{FileName, FileNames, Job, Options};
@@ -34,7 +34,7 @@ pub fn perform<F: Files, O: Sink>(
         let before = sink_view (O.given out.old) (O.faults out.old) in
         let after = sink_view (O.given out.new) (O.faults out.new) in
         (seen : List HeldFile) × (made : List Made) × Sees (F.held files.old) seen
-        × JobEnds (IsFirstFault texts seen made) (target_of (job_of texts)) (IsRightOf (options_for texts) seen made) files_before files_after before after result
+        × JobEnds (is_run (job_of texts)) (IsFirstFault texts seen made) (target_of (job_of texts)) (IsRightOf (options_for texts) seen made) files_before files_after before after result
         × IfErr result (Cites (file_names texts seen) names.new) }
 {
     let options = read_words(alloc, words)?;
@@ -51,12 +51,13 @@ fn perform_job<F: Files, O: Sink>(
 ) -> Result<(), Halt>
     requires names { names.old ≡ [] }
     requires greedy { IsGreedy options.now }
+    requires windows { HasWindow options.now.job }
     ensures ends { let files_before = files_view (F.held files.old) (F.faults files.old) (F.write_faults files.old) in
         let files_after = files_view (F.held files.new) (F.faults files.new) (F.write_faults files.new) in
         let before = sink_view (O.given out.old) (O.faults out.old) in
         let after = sink_view (O.given out.new) (O.faults out.new) in
         (seen : List HeldFile) × (made : List Made) × Sees (F.held files.old) seen
-        × JobEnds (IsJobFault options.now seen made) (target_of options.now.job) (IsRightOf options.now seen made) files_before files_after before after result
+        × JobEnds (is_run options.now.job) (IsJobFault options.now seen made) (target_of options.now.job) (IsRightOf options.now seen made) files_before files_after before after result
         × IfErr result (Cites (names_of options.now options.now.job seen) names.new) }
 {
     match &options.job {
@@ -68,11 +69,17 @@ fn perform_job<F: Files, O: Sink>(
             input,
             emitted,
             block,
-            ..
+            window,
+            piece,
         } => {
+            let units = WindowUnits {
+                window: *window,
+                step: *piece,
+            };
             names.add(emitted.as_str())?;
             names.add(input.as_str())?;
-            run_emitted(alloc, emitted.as_str(), input.as_str(), *block, files, out)
+            let (emitted, input) = (emitted.as_str(), input.as_str());
+            run_emitted(alloc, emitted, input, *block, units, files, out)
         }
         Job::Source { n, to } => run_source(alloc, *n, to.as_str(), files, out, names),
     }

@@ -15,4 +15,5 @@ mod summary;
 
 pub use endings::{Ending, Halt};
 pub use lx_files::put_all;
+pub use lx_run::{RunEnd, run_window};
 pub use run::{re2c, refuse_words};

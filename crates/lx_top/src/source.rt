@@ -1,10 +1,10 @@
 //! Generated sources: their text, their compilation, and a run of their scanner.
-ghost use Rattle.std.specs.Prelude.{◌≡◌, ℕ, ◌%◌, [], ◌∷◌, List, Some, None, IfErr, IfOk, MatchResult, length};
+ghost use Rattle.std.specs.Prelude.{◌≡◌, ℕ, ◌%◌, false, [], ◌∷◌, List, Some, None, IfErr, IfOk, MatchResult, length};
 ghost use Rattle.lx_compile.specs.declared.made.Made.{Made};
 ghost use Rattle.lx_run.specs.Texts.{run_text};
 ghost use Rattle.lx_split.specs.Includes.{expansion};
 ghost use Rattle.lx_top.specs.Outside.{files_view, sink_view};
-ghost use Rattle.lx_top.specs.Sources.{IsSourceFault, IsSourceOutput, IsSourceText, source_files, source_name, source_options, source_text, words_of};
+ghost use Rattle.lx_top.specs.Sources.{IsSourceFault, IsSourceOutput, IsSourceText, source_files, source_name, source_options, source_text, usual_units, words_of};
 ghost use Rattle.lx_top.specs.Steps.{Cites, CompilesSource, HaltsScan, IsPlacedHalt, JobEnds};
 ghost use Rattle.lx_top.specs.Emitted.{Scans};
 ghost use Rattle.lx_ccode.specs.Validity.{IsValid};
@@ -18,11 +18,14 @@ use lx_base::{
 };
 use lx_ccode::Piece;
 use lx_files::{Files, QuietFiles, QuietSink, Sink};
-use lx_run::run_whole;
+use lx_run::{RunEnd, run_over};
 use std::alloc::Global;
 
 /// The name under which a generated source is compiled.
 const SOURCE_NAME: &str = "source.re";
+
+/// How many units a window has, and how many a refill brings at most, where nothing else is asked for.
+const USUAL_UNITS: u32 = 4096;
 
 /// The source of so many rules: a word and its number, once to three times, and a numeral each.
 fn source_text(alloc: Global, rules: u32) -> Result<Vec<u8>, Memory>
@@ -99,15 +102,15 @@ fn scanner_of(alloc: Global, output: &[u8]) -> Result<Piece, Halt>
 }
 
 /// The lines of a run of a scanner over an input.
-fn run_of(alloc: Global, piece: &Piece, input: &[u8]) -> Result<Vec<u8>, Memory>
+fn run_of(alloc: Global, piece: &Piece, input: Vec<u8>) -> Result<Vec<u8>, Memory>
     requires valid { IsValid piece.now }
-    requires whole { length input.now % piece.now.unit ≡ 0 }
-    ensures { IfOk result (λ text. text.items ≡ run_text piece.now input.now) }
+    requires whole { length input.items % piece.now.unit ≡ 0 }
+    ensures { IfOk result (λ text. text.items ≡ (run_text piece.now input.items usual_units usual_units).text) }
 {
     let mut sink = QuietSink::new(alloc);
-    match run_whole(alloc, piece, input, &mut sink) {
-        Ok(()) => Ok(Vec::from_slice(alloc, sink.bytes())?),
-        Err(_) => Err(Memory),
+    match run_over(alloc, piece, input, USUAL_UNITS, USUAL_UNITS, &mut sink) {
+        RunEnd::Done | RunEnd::WindowFull { .. } => Ok(Vec::from_slice(alloc, sink.bytes())?),
+        RunEnd::PutFailed | RunEnd::Memory => Err(Memory),
     }
 }
 
@@ -127,13 +130,14 @@ pub(crate) fn run_source<F: Files, O: Sink>(
         let before = sink_view (O.given out.old) (O.faults out.old) in
         let after = sink_view (O.given out.new) (O.faults out.new) in
         (made : List Made)
-        × JobEnds (IsSourceFault rules made) (Some target.now) (λ bytes text. IsSourceOutput rules made bytes × IsSourceText rules bytes text) files_before files_after before after result
+        × JobEnds false (IsSourceFault rules made) (Some target.now) (λ bytes text. IsSourceOutput rules made bytes × IsSourceText rules bytes text) files_before files_after before after result
         × IfErr result (Cites (expansion source_options (source_files rules) source_name).met.names names.new) }
 {
     let source = source_text(alloc, rules)?;
     let output = source_output(alloc, &source, names)?;
     let piece = scanner_of(alloc, &output)?;
-    let run = run_of(alloc, &piece, &words_of(alloc, rules)?)?;
+    let words = words_of(alloc, rules)?;
+    let run = run_of(alloc, &piece, words)?;
     let text = summary(alloc, source.len(), &run)?;
     deliver(files, out, Some(target), &output, &text)
 }

@@ -6,11 +6,12 @@ use Rattle.std.proofs.lemmas.List.Edits.{take-paste}
 use Rattle.std.proofs.Math.Nat.{mul-div_cancel_left, mul-le-mul_left, mul-sub}
 use Rattle.std.proofs.Math.Seq.{take-append-add}
 use Rattle.std.specs.List.{copy_within}
-use Rattle.lx_window.specs.Units.{number_of, units_from, stream_units}
-use Rattle.lx_window.specs.Refilling.{Gives, Adds}
+use Rattle.lx_window.specs.Units.{IsWhole, number_of, units_from, stream_units}
+use Rattle.lx_window.specs.Ahead.{Ahead}
+use Rattle.lx_window.specs.Refilling.{Gives, IsPart, Adds}
 use Rattle.lx_window.specs.WindowView.{WindowView}
-use Rattle.lx_window.specs.Windows.{Grows, grown, slid}
-use Rattle.lx_window.proofs.StreamUnits.{get_or-units_from}
+use Rattle.lx_window.specs.Windows.{Grows, grown, slid, free_bytes}
+use Rattle.lx_window.proofs.StreamUnits.{IsWhole-is, get_or-units_from}
 
 -- a unit of the first units of a buffer
 pub get_or-front_units : (unit count place : ℕ) (buffer : List ℕ) → 0 < unit → unit * count ≤ length buffer → place < count
@@ -72,14 +73,23 @@ take-put_mid held count buffer room inside fits =
     ∙ take-append-add (take held buffer) (room ++ rest) count
     ∙ ap (λ bytes. take held buffer ++ bytes) (take-append-le count room rest fits)
 
+-- the bytes behind the units of a buffer are those that are free
+free_bytes-view_at : (unit base start limit held : ℕ) (buffer : List ℕ) → 0 < unit → IsWhole unit buffer → unit * (limit - base) ≤ length buffer → held ≡ unit * (limit - base)
+    → length (take (length buffer - held) (drop held buffer)) ≡ free_bytes (view_at unit base start limit buffer)
+free_bytes-view_at unit base start limit held buffer some whole fits held-is =
+    let behind : length (drop held buffer) ≡ length buffer - held = length-drop held buffer in
+    length-take-le (length buffer - held) (drop held buffer) (omega (arith, behind))
+    ∙ rw held-is (ap (λ n. n - unit * (limit - base)) (IsWhole-is unit buffer some whole))
+    ∙ sym (mul-sub unit (length buffer / unit) (limit - base))
+
 -- a window is longer by what its source wrote behind its limit
-pub Grows-view_at : (unit base start limit held count divisor of_source : ℕ) (buffer room : List ℕ) (ahead ahead' : Option (List ℕ)) (window : WindowView)
-    → 0 < unit → base ≤ limit → unit * (limit - base) ≤ length buffer → held ≡ unit * (limit - base) → divisor ≡ unit → of_source ≡ unit
+pub Grows-view_at : (unit base start limit held count divisor of_source : ℕ) (buffer room : List ℕ) (ahead ahead' : Option Ahead) (window : WindowView)
+    → 0 < unit → IsWhole unit buffer → base ≤ limit → unit * (limit - base) ≤ length buffer → held ≡ unit * (limit - base) → divisor ≡ unit → of_source ≡ unit
     → length room ≡ length (take (length buffer - held) (drop held buffer))
     → Adds of_source ahead ahead' (take (length buffer - held) (drop held buffer)) room count
     → view_at unit base start limit buffer ≡ window
     → Grows ahead ahead' window (view_at unit base start (limit + count / divisor) (put_mid held (length buffer - held) buffer room)) count
-Grows-view_at unit base start limit held count divisor of_source buffer room ahead ahead' window some order fits held-is divisor-is source-is same adds window-is =
+Grows-view_at unit base start limit held count divisor of_source buffer room ahead ahead' window some whole_buffer order fits held-is divisor-is source-is same adds window-is =
     let within : count ≤ length room = omega (arith, adds.within, same) in
     let long : length (take count room) ≡ count = length-take-le count room within in
     let gives : Gives unit ahead ahead' (take count room) = subst (λ n. Gives n ahead ahead' (take count room)) source-is adds.gives in
@@ -94,6 +104,9 @@ Grows-view_at unit base start limit held count divisor of_source buffer room ahe
     let bytes : take (unit * (limit + count / divisor - base)) (put_mid held (length buffer - held) buffer room) ≡ take (unit * (limit - base)) buffer ++ take count room =
     ap (λ n. take n (put_mid held (length buffer - held) buffer room)) sum ∙ take-put_mid held count buffer room (omega (arith, fits, held-is)) within
     ∙ ap (λ n. take n buffer ++ take count room) held-is in
+    let part : IsPart unit (free_bytes (view_at unit base start limit buffer)) ahead ahead' count =
+    subst (λ n. IsPart n (free_bytes (view_at unit base start limit buffer)) ahead ahead' count) source-is
+    (subst (λ n. IsPart of_source n ahead ahead' count) (free_bytes-view_at unit base start limit held buffer some whole_buffer fits held-is) adds.part) in
     let same_view : view_at unit base start (limit + count / divisor) (put_mid held (length buffer - held) buffer room) ≡ grown (view_at unit base start limit buffer) (take count room) = cc in
     subst (λ w. Grows ahead ahead' w (view_at unit base start (limit + count / divisor) (put_mid held (length buffer - held) buffer room)) count) window-is
-    (record { bytes = take count room; length_bytes = long; gives = gives; window_grown = same_view })
+    (record { bytes = take count room; length_bytes = long; gives = gives; part = part; window_grown = same_view })

@@ -4,6 +4,8 @@ use Rattle.std.proofs.Math.Nat.{mul-le-mul_left, mul-mod_right, mul-sub}
 use Rattle.std.proofs.Math.Seq.{take-add}
 use Rattle.std.proofs.lemmas.List.{drop-take, take-take, take_at, drop_at, get_or-take, get_or-drop}
 use Rattle.std.proofs.lemmas.Option.{slice_get-get_or}
+use Rattle.std.specs.Option.{option_map}
+use Rattle.lx_window.specs.Ahead.{Ahead, bytes_of, after_leave}
 use Rattle.lx_window.specs.Refilling.{IsSpent, bytes_then}
 use Rattle.lx_window.specs.Units.{IsWhole, stream_units}
 use Rattle.lx_window.specs.WindowView.{WindowView}
@@ -99,36 +101,45 @@ drop-grown stream window bytes rest some whole_bytes goes_on =
     ∙ ap (drop (length bytes / window.unit)) (goes_on ∙ stream_units-append window.unit bytes rest some whole_bytes)
     ∙ drop_at (stream_units window.unit bytes) (stream_units window.unit rest) (length bytes / window.unit) (length-stream_units window.unit bytes)
 
-IsFedBy-grown : (stream : List ℕ) (window : WindowView) (bytes : List ℕ) (rest : Option (List ℕ)) → 0 < window.unit → IsWhole window.unit window.bytes → IsWhole window.unit bytes
-    → IsFedBy stream window (bytes_then bytes rest) → IsFedBy stream (grown window bytes) rest
-IsFedBy-grown stream window bytes None some whole whole_bytes h = absurd h.goes_on
-IsFedBy-grown stream window bytes (Some rest) some whole whole_bytes h = record {
-  holds = IsWindowOf-grown stream window bytes rest some whole whole_bytes h.holds h.goes_on;
-  goes_on = drop-grown stream window bytes rest some whole_bytes h.goes_on;
-}
+IsFedBy-grown : (stream : List ℕ) (window : WindowView) (bytes : List ℕ) (ahead rest : Option Ahead) → 0 < window.unit → IsWhole window.unit window.bytes → IsWhole window.unit bytes
+    → bytes_of ahead ≡ bytes_then bytes rest → IsFedBy stream window ahead → IsFedBy stream (grown window bytes) rest
+IsFedBy-grown stream window bytes None rest some whole whole_bytes given h = absurd h.goes_on
+IsFedBy-grown stream window bytes (Some told) None some whole whole_bytes given h = absurd cc
+IsFedBy-grown stream window bytes (Some told) (Some rest) some whole whole_bytes given h =
+    let same : told.bytes ≡ bytes ++ rest.bytes = cc in
+    let goes_on : drop window.limit stream ≡ stream_units window.unit (bytes ++ rest.bytes) = h.goes_on ∙ ap (stream_units window.unit) same in
+    record {
+      holds = IsWindowOf-grown stream window bytes rest.bytes some whole whole_bytes h.holds goes_on;
+      goes_on = drop-grown stream window bytes rest.bytes some whole_bytes goes_on;
+    }
 
-pub IsFedBy-begun : (stream : List ℕ) (window : WindowView) (at : ℕ) (ahead : Option (List ℕ)) → IsFedBy stream window ahead → window.start ≤ at → at ≤ window.limit
+IsFedBy-after_leave : (stream : List ℕ) (window : WindowView) (ahead : Option Ahead) → IsFedBy stream window ahead → IsFedBy stream window (option_map after_leave ahead)
+IsFedBy-after_leave stream window None h = absurd h.goes_on
+IsFedBy-after_leave stream window (Some told) h = record { holds = h.holds; goes_on = h.goes_on }
+
+pub IsFedBy-begun : (stream : List ℕ) (window : WindowView) (at : ℕ) (ahead : Option Ahead) → IsFedBy stream window ahead → window.start ≤ at → at ≤ window.limit
     → IsFedBy stream (begun window at) ahead
 IsFedBy-begun stream window at ahead h from to = record { holds = IsWindowOf-begun stream window at h.holds from to; goes_on = h.goes_on }
 
-pub IsFedBy-slid : (stream : List ℕ) (window : WindowView) (ahead : Option (List ℕ)) → IsFormed window → IsFedBy stream window ahead → IsFedBy stream (slid window) ahead
+pub IsFedBy-slid : (stream : List ℕ) (window : WindowView) (ahead : Option Ahead) → IsFormed window → IsFedBy stream window ahead → IsFedBy stream (slid window) ahead
 IsFedBy-slid stream window ahead formed h = record { holds = IsWindowOf-slid stream window formed h.holds; goes_on = h.goes_on }
 
-pub IsFedBy-Refills : (stream : List ℕ) (window after : WindowView) (ahead rest : Option (List ℕ)) (fill : Fill)
+pub IsFedBy-Refills : (stream : List ℕ) (window after : WindowView) (ahead rest : Option Ahead) (fill : Fill)
     → IsFormed window → IsFedBy stream window ahead → Refills ahead rest window after fill → IsFedBy stream after rest
 IsFedBy-Refills stream window after ahead rest (More count) formed fed grows =
     let some : 0 < window.unit = IsUnit-positive window.unit formed.unit in
     subst (λ w. IsFedBy stream w rest) (sym grows.window_grown)
-    (IsFedBy-grown stream (slid window) grows.bytes rest some (IsFormed-whole (slid window) (IsFormed-slid window formed)) grows.gives.whole
-    (subst (λ bytes. IsFedBy stream (slid window) bytes) grows.gives.given (IsFedBy-slid stream window ahead formed fed)))
+    (IsFedBy-grown stream (slid window) grows.bytes ahead rest some (IsFormed-whole (slid window) (IsFormed-slid window formed)) grows.gives.whole grows.gives.given
+    (IsFedBy-slid stream window ahead formed fed))
 IsFedBy-Refills stream window after ahead rest NoMore formed fed h =
-    subst (λ w. IsFedBy stream w rest) (sym h.2) (subst (λ bytes. IsFedBy stream (slid window) bytes) (sym h.1) (IsFedBy-slid stream window ahead formed fed))
+    subst (λ w. IsFedBy stream w rest) (sym h.2) (subst (λ told. IsFedBy stream (slid window) told) (sym h.1) (IsFedBy-slid stream window ahead formed fed))
 IsFedBy-Refills stream window after ahead rest Leave formed fed h =
-    subst (λ w. IsFedBy stream w rest) (sym h.1) (subst (λ bytes. IsFedBy stream (slid window) bytes) (sym h.0) (IsFedBy-slid stream window ahead formed fed))
+    subst (λ w. IsFedBy stream w rest) (sym h.1)
+    (subst (λ told. IsFedBy stream (slid window) told) (sym h.0.after) (IsFedBy-after_leave stream (slid window) ahead (IsFedBy-slid stream window ahead formed fed)))
 
-pub IsSpent-limit : (stream : List ℕ) (window : WindowView) (ahead : Option (List ℕ)) → IsFedBy stream window ahead → IsSpent ahead → window.limit ≡ length stream
+pub IsSpent-limit : (stream : List ℕ) (window : WindowView) (ahead : Option Ahead) → IsFedBy stream window ahead → IsSpent ahead → window.limit ≡ length stream
 IsSpent-limit stream window None fed spent = absurd fed.goes_on
-IsSpent-limit stream window (Some bytes) fed spent =
+IsSpent-limit stream window (Some told) fed spent =
     let none : length stream - window.limit ≡ 0 =
     sym (length-drop window.limit stream) ∙ ap length (fed.goes_on ∙ ap (stream_units window.unit) spent ∙ stream_units-nil window.unit) in
     omega (arith, none, fed.holds.within)

@@ -1,3 +1,4 @@
+pub mod Ahead
 pub mod Buffers
 pub mod Counts
 pub mod MemorySource

@@ -1,5 +1,6 @@
 -- A source in memory, as contracts see it.
-use Rattle.std.specs.Prelude.{ℕ, ◌+◌, ◌*◌, ◌==◌, min, Bool, false, List, length, drop, if◌then◌else◌}
+use Rattle.std.specs.Prelude.{ℕ, ◌+◌, ◌*◌, ◌==◌, min, Bool, false, List, length, drop, Option, Some, if◌then◌else◌}
+use Rattle.lx_window.specs.Ahead.{Ahead, Parts}
 use Rattle.lx_window.specs.declared.refills.Fill.{Fill}
 use Rattle.lx_window.specs.declared.refills.Fill.TheVariants.{More, NoMore, Leave}
 
@@ -12,6 +13,14 @@ pub record MemorySource : Type 0 where
   pub leaves : Bool
   pub leaves_next : Bool
   pub pauses : ℕ
+
+-- the parts in which a source in memory gives its bytes
+abbrev pub source_parts : MemorySource → Parts
+source_parts source = record { step = source.step; leaves = source.leaves; leaves_next = source.leaves_next }
+
+-- its bytes, and their parts, which are both told
+abbrev pub ahead_of : MemorySource → Option Ahead
+ahead_of source = Some (record { bytes = source.bytes; parts = Some (source_parts source) })
 
 -- how often a source in memory failed: never
 abbrev pub faults_of : MemorySource → ℕ

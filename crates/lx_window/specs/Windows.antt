@@ -1,7 +1,8 @@
 -- What a window has, and what each call leaves of it.
-use Rattle.std.specs.Prelude.{◌≡◌, ℕ, ◌+◌, ◌-◌, ◌*◌, ◌/◌, ◌≤◌, List, [], ◌++◌, length, take, drop, Option, IsSomeAnd}
+use Rattle.std.specs.Prelude.{◌≡◌, ℕ, ◌+◌, ◌-◌, ◌*◌, ◌/◌, ◌≤◌, false, List, [], ◌++◌, length, take, drop, Option, IsSomeAnd}
+use Rattle.lx_window.specs.Ahead.{Ahead}
 use Rattle.lx_window.specs.Units.{IsUnit, stream_units}
-use Rattle.lx_window.specs.Refilling.{IsSpent, Gives}
+use Rattle.lx_window.specs.Refilling.{IsSpent, LeavesNext, Gives, IsPart, Pauses}
 use Rattle.lx_window.specs.WindowView.{WindowView}
 use Rattle.lx_window.specs.declared.refills.Fill.{Fill}
 use Rattle.lx_window.specs.declared.refills.Fill.TheVariants.{More, NoMore, Leave}
@@ -27,6 +28,10 @@ window_units window = stream_units window.unit window.bytes
 abbrev pub bytes_before : WindowView → ℕ → ℕ
 bytes_before window at = window.unit * (at - window.base)
 
+-- how many bytes are free behind the limit
+abbrev pub free_bytes : WindowView → ℕ
+free_bytes window = window.unit * (window.size - (window.limit - window.base))
+
 -- the bytes of a window from one offset to another
 abbrev pub bytes_between : WindowView → (from to : ℕ) → List ℕ
 bytes_between window from to = take (window.unit * (to - from)) (drop (bytes_before window from) window.bytes)
@@ -50,17 +55,18 @@ pub record KeepsStart (window window' : WindowView) : Type 0 where
   pub same_size : window'.size ≡ window.size
 
 -- so many bytes that were ahead were added behind the limit
-pub record Grows (ahead ahead' : Option (List ℕ)) (window window' : WindowView) (count : ℕ) : Type 0 where
+pub record Grows (ahead ahead' : Option Ahead) (window window' : WindowView) (count : ℕ) : Type 0 where
   pub bytes : List ℕ
   pub length_bytes : length bytes ≡ count
   pub gives : Gives window.unit ahead ahead' bytes
+  pub part : IsPart window.unit (free_bytes window) ahead ahead' count
   pub window_grown : window' ≡ grown window bytes
 
 -- what each answer to a refill says of the window, and of what is ahead
-abbrev pub Refills : (ahead ahead' : Option (List ℕ)) (window window' : WindowView) → Fill → Type 0
+abbrev pub Refills : (ahead ahead' : Option Ahead) (window window' : WindowView) → Fill → Type 0
 Refills ahead ahead' window window' (More count) = Grows ahead ahead' (slid window) window' count
-Refills ahead ahead' window window' NoMore = IsSpent ahead × (ahead' ≡ ahead) × (window' ≡ slid window)
-Refills ahead ahead' window window' Leave = (ahead' ≡ ahead) × (window' ≡ slid window)
+Refills ahead ahead' window window' NoMore = IsSpent ahead × (ahead' ≡ ahead) × (window' ≡ slid window) × LeavesNext ahead false
+Refills ahead ahead' window window' Leave = Pauses ahead ahead' × (window' ≡ slid window)
 
 -- each unit of the window is the stream's at its offset
 pub record IsWindowOf (stream : List ℕ) (window : WindowView) : Type 0 where
@@ -70,6 +76,6 @@ pub record IsWindowOf (stream : List ℕ) (window : WindowView) : Type 0 where
   pub units : window_units window ≡ take (window.limit - window.base) (drop window.base stream)
 
 -- the stream is what the window has up to its limit, and then what is ahead of its source
-pub record IsFedBy (stream : List ℕ) (window : WindowView) (ahead : Option (List ℕ)) : Type 0 where
+pub record IsFedBy (stream : List ℕ) (window : WindowView) (ahead : Option Ahead) : Type 0 where
   pub holds : IsWindowOf stream window
-  pub goes_on : IsSomeAnd ahead (λ bytes. drop window.limit stream ≡ stream_units window.unit bytes)
+  pub goes_on : IsSomeAnd ahead (λ told. drop window.limit stream ≡ stream_units window.unit told.bytes)

@@ -1,5 +1,6 @@
 //! What a refill means.
-ghost use Rattle.std.specs.Prelude.{◌≡◌, ℕ, ◌≤◌, List, length, Option, IfOk, OnOk, OnErr};
+ghost use Rattle.std.specs.Prelude.{◌≡◌, ℕ, ◌≤◌, length, Option, IfOk, OnOk, OnErr};
+ghost use Rattle.lx_window.specs.Ahead.{Ahead};
 ghost use Rattle.lx_window.specs.Counts.{Rose};
 ghost use Rattle.lx_window.specs.Refilling.{Fills, IsRoom};
 
@@ -20,12 +21,12 @@ pub struct FillFailed;
 
 /// What gives the bytes of an input, a part at a time.
 ///
-/// `unit` is the number of bytes that a unit has: 1, 2 or 4. `ahead` is what was not given yet, where that is told. `faults` counts the
-/// refills that failed and `pauses` those that left the scanner, and neither ever falls.
+/// `unit` is the number of bytes that a unit has: 1, 2 or 4. `ahead` is what was not given yet and the parts in which it is given, where
+/// these are told. `faults` counts the refills that failed and `pauses` those that left the scanner, and neither ever falls.
 pub trait Refill {
     ghost unit: { Self → ℕ };
 
-    ghost ahead: { Self → Option (List ℕ) };
+    ghost ahead: { Self → Option Ahead };
 
     ghost faults: { Self → ℕ };
 

@@ -2,7 +2,7 @@
 ghost use Rattle.std.specs.Prelude.{◌≡◌, ℕ, ◌+◌, ◌*◌, ◌<◌, ◌≤◌, ◌++◌, List, length, take, drop, min, Ok, Some, true, false, IsTrue, IfOk, OnOk, OnErr};
 ghost use Rattle.lx_window.specs.Counts.{Rose};
 ghost use Rattle.lx_window.specs.Refilling.{Fills, IsRoom};
-ghost use Rattle.lx_window.specs.MemorySource.{faults_of, answer_of, source_after};
+ghost use Rattle.lx_window.specs.MemorySource.{ahead_of, faults_of, answer_of, source_after};
 ghost use Rattle.lx_window.specs.Units.{IsUnit, IsWhole};
 
 use crate::refills::{Fill, FillFailed, Refill};
@@ -69,7 +69,7 @@ impl MemRefill<'_> {
 impl Refill for MemRefill<'_> {
     ghost unit = { λ source. source.unit };
 
-    ghost ahead = { λ source. Some source.bytes };
+    ghost ahead = { ahead_of };
 
     ghost faults = { faults_of };
 
@@ -77,11 +77,11 @@ impl Refill for MemRefill<'_> {
 
     fn refill(&mut self, room: &mut [u8]) -> Result<Fill, FillFailed>
         requires { IsRoom self.old.unit room.old }
-        ensures fills { IfOk result (Fills self.old.unit (Some self.old.bytes) (Some self.new.bytes) room.old room.new) }
+        ensures fills { IfOk result (Fills self.old.unit (ahead_of self.old) (ahead_of self.new) room.old room.new) }
         ensures leaves { result ≡ Ok Fill.Leave → Rose self.old.pauses self.new.pauses }
         ensures fails { OnErr result (Rose (faults_of self.old) (faults_of self.new)) }
         ensures calm { OnOk result (faults_of self.new ≡ faults_of self.old) }
-        ensures kept { OnErr result (Some self.new.bytes ≡ Some self.old.bytes) }
+        ensures kept { OnErr result (ahead_of self.new ≡ ahead_of self.old) }
         ensures same_unit { self.new.unit ≡ self.old.unit }
         ensures faults_never_fall { faults_of self.old ≤ faults_of self.new }
         ensures pauses_never_fall { self.old.pauses ≤ self.new.pauses }

@@ -2,4 +2,3 @@ pub mod Command
 pub mod Line
 pub mod Points
 pub mod Options
-pub mod Waiting

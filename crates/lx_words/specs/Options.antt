@@ -12,14 +12,13 @@ use Rattle.lx_base.specs.declared.settings.SurPolicy.TheVariants.{Ignore, Substi
 use Rattle.lx_base.specs.declared.settings.EmptyPolicy.{EmptyPolicy}
 use Rattle.lx_base.specs.declared.settings.EmptyPolicy.TheVariants.{MatchEmpty, MatchNone, Error}
 use Rattle.lx_base.specs.declared.faults.Fault.{Fault}
-use Rattle.lx_base.specs.declared.faults.Fault.TheVariants.{Unsupported, Usage}
+use Rattle.lx_base.specs.declared.faults.Fault.TheVariants.{Usage}
 use Rattle.lx_base.specs.declared.faults.Stop.{Stop}
 use Rattle.lx_base.specs.declared.faults.Stop.TheVariants as stop
 use Rattle.clap.specs.declared.error.kind.ErrorKind.{ErrorKind}
 use Rattle.clap.specs.declared.error.kind.ErrorKind.TheVariants.{OutOfMemory}
 use Rattle.lx_words.specs.Line.{Line, line_of, is_refused, value, has_flag, has_value}
 use Rattle.lx_words.specs.Points.{number_within, is_wrong}
-use Rattle.lx_words.specs.Waiting.{waits}
 
 -- the encoding: a unit is a byte where no other is asked for
 abbrev pub encoding_of : Line → Enc
@@ -73,11 +72,9 @@ options_of line = record {
 abbrev pub refusal_of : (words : List (List ℕ)) → Option Fault
 refusal_of words = if is_refused words then Some Usage else None
 
--- the fault of the words, if they have one: they are no line of the command or a wrong one, or ask for what is not supported yet
+-- the fault of the words, if they have one: they are no line of the command, or a wrong one
 unfoldable pub words_fault : (words : List (List ℕ)) → Option Fault
-words_fault words =
-    if is_refused words || is_wrong (line_of words) then Some Usage
-    else (if waits (line_of words) then Some (Unsupported None) else None)
+words_fault words = if is_refused words || is_wrong (line_of words) then Some Usage else None
 
 -- memory ran out, or the words have this fault
 abbrev pub StopsBy : Option Fault → Stop → Type 0

@@ -2,7 +2,6 @@
 ghost use Rattle.std.specs.Prelude.{◌≡◌};
 ghost use Rattle.clap.specs.Words.{found_of, rows_of};
 ghost use Rattle.lx_words.specs.Points as point;
-ghost use Rattle.lx_words.specs.Waiting.{waits};
 
 use crate::line::{has_flag, has_value, value};
 use crate::numbers::number_within;
@@ -158,11 +157,4 @@ pub fn is_wrong(line: &ArgMatches<'_>) -> bool
         || has_odd_name(line, "file")
         || has_odd_name(line, "x-run")
         || has_odd_name(line, "include")
-}
-
-/// Whether a line asks for what is not supported yet.
-pub fn waits(line: &ArgMatches<'_>) -> bool
-    ensures { result ≡ waits (rows_of (found_of line.now)) }
-{
-    has_value(line, "x-window") || has_value(line, "x-piece")
 }

@@ -6,7 +6,7 @@ ghost use Rattle.lx_words.specs.Options.{IsRefusal, StopsBy, options_of, refusal
 
 use crate::command::words_command;
 use crate::options::options_of;
-use crate::points::{is_wrong, waits};
+use crate::points::is_wrong;
 use clap::ArgMatches;
 use clap::error::ErrorKind;
 use lx_base::{Fault, Options, Stop};
@@ -39,8 +39,7 @@ fn refused(kind: ErrorKind) -> Stop
 /// `Usage` comes exactly where the words are no line of the command (an option that there is not, one without its value
 /// or with one too many, one with a value that stands twice, a second file), or a wrong one: a file is missing or too much,
 /// two encodings are asked for, a number or a policy is none or out of its limits, options of a run, of a compilation and of
-/// a generated source are mixed, or a name would end a line or open a block where it is printed. `Unsupported` comes exactly
-/// where the words are neither and ask for what is not supported yet.
+/// a generated source are mixed, or a name would end a line or open a block where it is printed.
 #[tactic(auto, unfolding(crate::specs::Options::words_fault))]
 pub fn read_words(alloc: Global, words: &[String]) -> Result<Options, Stop>
     ensures { let texts = map string_bytes words.now in
@@ -49,9 +48,6 @@ pub fn read_words(alloc: Global, words: &[String]) -> Result<Options, Stop>
     let line = read_line(alloc, words)?;
     if is_wrong(&line) {
         return Err(Stop::Fault(Fault::Usage));
-    }
-    if waits(&line) {
-        return Err(Stop::Fault(Fault::Unsupported { at: None }));
     }
     Ok(options_of(alloc, &line)?)
 }

@@ -1,5 +1,5 @@
 use Rattle.std.proofs.Common.{◌+◌, drop}
-use Rattle.lx_ccode.specs.Statements.{all_statements, is_need, is_try}
+use Rattle.lx_ccode.specs.Statements.{all_statements, is_need, is_state, is_try}
 use Rattle.lx_run.proofs.Appending.{all_statements-drop, list_any-behind, most_needed-behind}
 use Rattle.lx_run.proofs.asks.asks_of.Goals as goal
 
@@ -12,4 +12,5 @@ loop-block-preserved c =
       need = list_any-behind is_need _ _ _ front back _ splits c.asks_behind-asks.ensures.need c.loop-block.invariant.need;
       most = most_needed-behind _ _ _ front back _ splits c.asks_behind-asks.ensures.most c.loop-block.invariant.most;
       tries = list_any-behind is_try _ _ _ front back _ splits c.asks_behind-asks.ensures.tries c.loop-block.invariant.tries;
+      states = list_any-behind is_state _ _ _ front back _ splits c.asks_behind-asks.ensures.states c.loop-block.invariant.states;
     }

@@ -1,8 +1,8 @@
-use Rattle.std.proofs.Common.{◌≡◌, drop, map}
+use Rattle.std.proofs.Common.{◌≡◌, drop}
 use Rattle.std.specs.List.{list_any}
-use Rattle.lx_run.specs.Values.{is_cond}
+use Rattle.lx_run.specs.Values.{is_cond, statements_at}
 use Rattle.lx_run.proofs.assignments.has_cond.Given as goal
 
-abbrev pub invariant-loop-statement : goal.invariant-loop-statement
-invariant-loop-statement l =
-    list_any is_cond (map (λ statement. statement.now) (drop l.statement-index l.statements)) ≡ list_any is_cond (map (λ statement. statement.now) l.statements)
+abbrev pub invariant-loop-place : goal.invariant-loop-place
+invariant-loop-place l =
+    list_any is_cond (statements_at l.piece (drop l.place-index l.places)) ≡ list_any is_cond (statements_at l.piece l.places)

@@ -1,4 +1,4 @@
-use Rattle.std.proofs.Common.{ap, option_map}
+use Rattle.std.proofs.Common.{ap, false, option_map}
 use Rattle.lx_top.proofs.CompileLemmas.{Compiles-file, Compiles-out, Ends-stopped}
 use Rattle.lx_top.proofs.JobLemmas.{Cites-delivered}
 use Rattle.lx_top.proofs.compile.compile.Goals as goal
@@ -15,7 +15,7 @@ returns-in-None g c =
     let given = c.deliver.ensures.ends in
     let ends = Compiles-out c.args.options.now made.0 c.args.name.now made.2.0 made.2.1 _ _ _ c.in_ok-output.ensures.held_stays c.in_ok-output.ensures.never_falls
     c.in_ok-output.ensures.write_faults_stay _ _ _ c.in_ok-output.output.items _ c.deliver.result (ap (option_map (λ name. name.now)) c.in-None.is) c.deref.ensures.value made.2.2 given in
-    record { ends = (made.0, made.2.0, made.1, ends, Cites-delivered _ _ _ _ _ _ _ _ c.deliver.result given) }
+    record { ends = (made.0, made.2.0, made.1, ends, Cites-delivered false _ _ _ _ _ _ _ _ c.deliver.result given) }
 
 pub returns : goal.returns
 returns g c =
@@ -24,4 +24,4 @@ returns g c =
     let ends = Compiles-file c.args.options.now made.0 c.args.name.now made.2.0 made.2.1 _ _ _ c.in_ok-output.ensures.held_stays c.in_ok-output.ensures.never_falls
     c.in_ok-output.ensures.write_faults_stay _ _ _ _ c.in_ok-output.output.items _ c.deliver-in-Some.result (ap (option_map (λ name. name.now)) c.in-Some.is)
     c.deref-in-Some.ensures.value made.2.2 given in
-    record { ends = (made.0, made.2.0, made.1, ends, Cites-delivered _ _ _ _ _ _ _ _ c.deliver-in-Some.result given) }
+    record { ends = (made.0, made.2.0, made.1, ends, Cites-delivered false _ _ _ _ _ _ _ _ c.deliver-in-Some.result given) }

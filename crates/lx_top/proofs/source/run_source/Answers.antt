@@ -53,8 +53,8 @@ returns g c =
     let compiled = c.in_ok-output.ensures.compiles c.args.rules (c.deref.ensures.value ∙ c.in_ok-source.ensures) in
     let scans = subst (λ (output : List ℕ). Scans output None c.in_ok-piece.piece) c.deref-2.ensures.value c.in_ok-piece.ensures.scans in
     let text = summary-run c.args.rules c.in_ok-piece.piece c.in_ok-text.text.items c.in_ok-source.source.items _ _ _ c.in_ok-text.ensures (c.len.ensures ∙ c.in_ok-source.source.ok.0)
-    c.in_ok-source.ensures (c.deref-4.ensures.value ∙ c.in_ok-run.ensures) (c.deref-3.ensures.value ∙ c.in_ok-words_of.ensures) in
+    c.in_ok-source.ensures (c.deref-3.ensures.value ∙ c.in_ok-run.ensures) c.in_ok-words.ensures in
     record {
       ends = EndsSource-given c.args.rules c.args.target.now c.source_output.new.names files compiled.0.0 c.in_ok-output.output.items compiled.0.1 compiled.0.2 compiled.1
-          c.in_ok-piece.piece _ c.in_ok-text.text.items _ _ _ _ c.deliver.result scans text c.deref-5.ensures.value c.deref-6.ensures.value c.deliver.ensures.ends;
+          c.in_ok-piece.piece _ c.in_ok-text.text.items _ _ _ _ c.deliver.result scans text c.deref-4.ensures.value c.deref-5.ensures.value c.deliver.ensures.ends;
     }

@@ -1,14 +1,19 @@
-use Rattle.std.proofs.Common.{◌∙◌, ap, arith}
-use Rattle.lx_ccode.specs.Statements.{all_statements}
-use Rattle.lx_step.specs.Given.{nothing_given}
-use Rattle.lx_step.specs.Sizes.{sizes_of_all}
-use Rattle.lx_step.proofs.Soundness.{IsSound-fresh}
+use Rattle.std.proofs.Common.{◌∙◌, subst, List, arith, rules}
+use Rattle.lx_ccode.specs.declared.piece.CodeBlock.{CodeBlock}
+use Rattle.lx_step.specs.Tags.{AreTags}
+use Rattle.lx_step.proofs.Soundness.{FreshTables, HasTables-fresh, IsLexerOf-fresh, fresh-is}
 use Rattle.lx_step.proofs.lexer.Lexer.of.Goals as goal
+
+tables : (c : goal.In_ok-with_capacity) → FreshTables c.args.program.piece.now.blocks c.in_ok-new.field-0 c.in_ok-new-2.field-0
+tables c =
+    subst (λ (blocks : List CodeBlock). FreshTables blocks c.in_ok-new.field-0 c.in_ok-new-2.field-0) c.as_slice-blocks.ensures
+    (HasTables-fresh _ _ _ _ c.list_tags.new.tags.items _ _ c.in_ok-of_blocks.ensures c.in_ok-new.ensures.numbering c.in_ok-new.ensures.registers c.in_ok-new.ensures.histories
+    c.in_ok-list_tags.ensures.tags (c.len.ensures ∙ search rules) c.groups_of_blocks.ensures c.in_ok-new-2.ensures)
 
 pub invariant_of-result : goal.invariant_of-result
 invariant_of-result c =
-    IsSound-fresh _ _ _ _ c.sizes_of_blocks-sizes.result c.in_ok-numbering.numbering c.requires.statements (omega (arith, c.requires.statements, c.requires.few)) c.requires.unit
-    (c.sizes_of_blocks-sizes.ensures.sizes ∙ ap (λ blocks. sizes_of_all c.in_ok-numbering.numbering (all_statements blocks)) c.as_slice-blocks.ensures) c.in_ok-new.ensures.numbering
-    c.in_ok-new.ensures.registers c.in_ok-new.ensures.histories
-    (c.in_ok-new-2.ensures ∙ ap (λ blocks. nothing_given (all_statements blocks) c.sizes_of_blocks-sizes.result.groups) c.as_slice-blocks.ensures)
-    (omega (arith, c.in_ok-with_capacity.ensures.spare))
+    IsLexerOf-fresh _ _ _ _ _ _ _ c.requires (tables c).tables c.in_ok-new.ensures.cond c.in_ok-new.ensures.state (subst (λ (blocks : List CodeBlock). AreTags blocks c.list_tags.new.tags.items) c.as_slice-blocks.ensures c.in_ok-list_tags.ensures.tags)
+    c.in_ok-with_capacity.ensures.empty (omega (arith, c.in_ok-with_capacity.ensures.spare))
+
+pub returns : goal.returns
+returns c = fresh-is c.args.program.piece.now c.in_ok-new.field-0 c.in_ok-new-2.field-0 _ c.in_ok-new.ensures.cursor c.in_ok-new.ensures.cond c.in_ok-new.ensures.state c.in_ok-with_capacity.ensures.empty (tables c)
