@@ -23,6 +23,8 @@ pub enum Order {
     Given(String),
     /// A call of the next run fails, counted from 0.
     Fail(Outside, u64),
+    /// A file is altered for the next run.
+    Alter(String, Alteration),
     /// The program runs with these words.
     Run(Vec<String>),
     /// The last run ended with this status.
@@ -37,6 +39,13 @@ pub enum Outside {
     Files,
     Out,
     Err,
+}
+
+/// What a file has for one run in the place of its bytes: so many of its first bytes alone, or another byte at a place, counted from 0.
+#[derive(Clone, Copy)]
+pub enum Alteration {
+    Cut(usize),
+    Set(usize, u8),
 }
 
 /// A sink, or the file of a name.

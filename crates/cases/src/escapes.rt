@@ -1,7 +1,7 @@
 //! Content as lines of printable characters.
 ghost use Rattle.std.specs.Prelude.{◌<◌, IfSome};
 
-use anyhow::{Result, bail};
+use anyhow::{Context, Result, bail};
 use std::alloc::{AllocError, Global};
 
 /// Puts the bytes that a text spells behind others: `%` and two digits of base 16 are a byte, and other printable characters and tabs
@@ -30,15 +30,25 @@ fn push_plain(bytes: &mut Vec<u8>, part: &[u8]) -> Result<()> {
 /// What stands behind a sign `%`.
 fn push_escaped(bytes: &mut Vec<u8>, part: &[u8]) -> Result<()> {
     match part {
-        [high, low, rest @ ..] => match (digit(*high), digit(*low)) {
-            (Some(high), Some(low)) => {
-                bytes.push(high * 16 + low)?;
-                push_plain(bytes, rest)
-            }
-            _ => bail!("no digits behind %"),
-        },
+        [high, low, rest @ ..] => {
+            bytes.push(byte(*high, *low).context("no digits behind %")?)?;
+            push_plain(bytes, rest)
+        }
         _ => bail!("no digits behind %"),
     }
+}
+
+/// The byte that a text of two digits of base 16 spells.
+pub fn spelled_byte(text: &str) -> Option<u8> {
+    match text.as_bytes() {
+        [high, low] => byte(*high, *low),
+        _ => None,
+    }
+}
+
+/// The byte of two digits of base 16.
+fn byte(high: u8, low: u8) -> Option<u8> {
+    Some(digit(high)? * 16 + digit(low)?)
 }
 
 fn is_plain(byte: u8) -> bool {

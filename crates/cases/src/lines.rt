@@ -1,7 +1,7 @@
 //! The lines of a case.
 
-use crate::cases::{Extent, Order, Outside, Place};
-use crate::escapes::push_spelled;
+use crate::cases::{Alteration, Extent, Order, Outside, Place};
+use crate::escapes::{push_spelled, spelled_byte};
 use anyhow::{Context, Result, bail};
 use std::alloc::Global;
 
@@ -41,6 +41,8 @@ pub fn order(alloc: Global, line: &str) -> Result<Order> {
     match verb {
         "given" => Ok(Order::Given(name(alloc, rest)?)),
         "fail" => failing_call(rest),
+        "cut" => cut_file(alloc, rest),
+        "set" => set_byte(alloc, rest),
         "run" => Ok(Order::Run(words(alloc, rest)?)),
         "status" => Ok(Order::Status(rest.parse().context("which status")?)),
         "out" => Ok(Order::Want(Place::Out, extent(rest)?)),
@@ -67,6 +69,20 @@ fn failing_call(text: &str) -> Result<Order> {
         "err" => Ok(Order::Fail(Outside::Err, call)),
         _ => bail!("whose call"),
     }
+}
+
+fn cut_file(alloc: Global, text: &str) -> Result<Order> {
+    let (file, length) = text.split_once(' ').context("how many bytes")?;
+    let length = length.parse().context("how many bytes")?;
+    Ok(Order::Alter(name(alloc, file)?, Alteration::Cut(length)))
+}
+
+fn set_byte(alloc: Global, text: &str) -> Result<Order> {
+    let (file, rest) = text.split_once(' ').context("which byte")?;
+    let (place, digits) = rest.split_once(' ').context("which byte")?;
+    let place = place.parse().context("which byte")?;
+    let byte = spelled_byte(digits).context("no two digits of base 16")?;
+    Ok(Order::Alter(name(alloc, file)?, Alteration::Set(place, byte)))
 }
 
 fn words(alloc: Global, text: &str) -> Result<Vec<String>> {

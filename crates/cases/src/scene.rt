@@ -1,6 +1,6 @@
 //! The state of a case between two orders.
 
-use crate::cases::{Case, Extent, Item, Order, Outside, Place};
+use crate::cases::{Alteration, Case, Extent, Item, Order, Outside, Place};
 use crate::outcome::{Difference, difference};
 use crate::seen::Seen;
 use crate::stage::{Failing, NONE, Stage};
@@ -58,7 +58,7 @@ impl Scene {
                 *extent,
                 item.content.as_slice(),
             ),
-            Order::Given(_) | Order::Fail(_, _) | Order::Run(_) => {
+            Order::Given(_) | Order::Fail(_, _) | Order::Alter(_, _) | Order::Run(_) => {
                 let difference = self.close(alloc)?;
                 self.prepare(alloc, item)?;
                 Ok(difference)
@@ -70,6 +70,7 @@ impl Scene {
         match &item.order {
             Order::Given(name) => self.give(alloc, name.as_str(), item.content.as_slice())?,
             Order::Fail(outside, call) => self.fail(*outside, *call),
+            Order::Alter(name, alteration) => self.alter(alloc, name.as_str(), *alteration)?,
             Order::Run(words) => {
                 self.run(alloc, words.as_slice())?;
                 self.line = item.line;
@@ -98,6 +99,15 @@ impl Scene {
             Outside::Out => self.failing.out = Some(call),
             Outside::Err => self.failing.err = Some(call),
         }
+    }
+
+    fn alter(&mut self, alloc: Global, name: &str, alteration: Alteration) -> Result<()> {
+        for seen in self.files.iter_mut() {
+            if seen.name.as_str() == name {
+                return seen.alter(alloc, alteration);
+            }
+        }
+        bail!("no file {name} is there")
     }
 
     fn run(&mut self, alloc: Global, words: &[String]) -> Result<()> {
@@ -135,8 +145,8 @@ impl Scene {
     fn stage(&self, alloc: Global) -> Result<Stage> {
         let mut stage = Stage::new(alloc, self.failing)?;
         for seen in self.files.iter() {
-            if let Some(bytes) = &seen.bytes {
-                stage.files.add(seen.name.as_str(), bytes.as_slice())?;
+            if let Some(bytes) = seen.found() {
+                stage.files.add(seen.name.as_str(), bytes)?;
             }
         }
         Ok(stage)

@@ -1,16 +1,19 @@
 //! What stands at a place before and after a run.
 
-use crate::cases::Extent;
+use crate::cases::{Alteration, Extent};
 use crate::outcome::{Difference, difference};
+use anyhow::{Result as Try, bail};
 use std::alloc::{AllocError, Global};
 use std::mem;
 
-/// A sink or a file: its name, what stood there before the last run, what that run left there, and whether this was compared.
+/// A sink or a file: its name, what stood there before the last run, what that run left there, what the next run finds in the place of
+/// this, and whether what was left was compared.
 #[derive(Drop)]
 pub struct Seen {
     pub name: String,
     before: Option<Vec<u8>>,
-    pub bytes: Option<Vec<u8>>,
+    bytes: Option<Vec<u8>>,
+    altered: Option<Vec<u8>>,
     compared: bool,
 }
 
@@ -21,6 +24,7 @@ impl Seen {
             name: String::from_str(alloc, name)?,
             before: None,
             bytes,
+            altered: None,
             compared: true,
         })
     }
@@ -28,10 +32,34 @@ impl Seen {
     /// Puts these bytes there before a run.
     pub fn give(&mut self, bytes: Vec<u8>) {
         self.bytes = Some(bytes);
+        self.altered = None;
     }
 
-    /// Takes note of what a run left there.
+    /// Alters what the next run finds there, which is a file that reaches to the place of this.
+    pub fn alter(&mut self, alloc: Global, alteration: Alteration) -> Try<()> {
+        let mut bytes = match self.found() {
+            Some(bytes) => Vec::from_slice(alloc, bytes)?,
+            None => bail!("no file {} is there", self.name),
+        };
+        alter(&mut bytes, alteration)?;
+        self.altered = Some(bytes);
+        Ok(())
+    }
+
+    /// What the next run finds there.
+    pub fn found(&self) -> Option<&[u8]> {
+        match &self.altered {
+            Some(bytes) => Some(bytes.as_slice()),
+            None => as_bytes(&self.bytes),
+        }
+    }
+
+    /// Takes note of what a run left there. What it left as it was altered is again as it was before.
     pub fn leave(&mut self, bytes: Option<Vec<u8>>) {
+        let altered = self.altered.take();
+        if altered.is_some() && altered == bytes {
+            return;
+        }
         self.before = mem::replace(&mut self.bytes, bytes);
         self.compared = false;
     }
@@ -59,6 +87,20 @@ impl Seen {
             None => difference(alloc, name, Extent::Absent, b"", got),
             Some(wanted) => difference(alloc, name, Extent::Whole, wanted.as_slice(), got),
         }
+    }
+}
+
+fn alter(bytes: &mut Vec<u8>, alteration: Alteration) -> Try<()> {
+    match alteration {
+        Alteration::Cut(length) if length <= bytes.len() => {
+            bytes.truncate(length);
+            Ok(())
+        }
+        Alteration::Set(place, byte) if place < bytes.len() => {
+            bytes[place] = byte;
+            Ok(())
+        }
+        _ => bail!("the file ends before this place"),
     }
 }
 
