@@ -49,7 +49,7 @@ TEXTS = re.compile(
     rb"no such file|includes nested too deeply|source too long|emitted mark in source|unknown directive or option missing|"
     rb"block not closed|no token here|syntax error|unknown name '\w+'|defined twice|code point too large|surrogate|empty class|"
     rb"not a class|wrong bounds|tags need an option|tag '\w+' used twice|wrong use of conditions|no rules block to use|"
-    rb"unknown configuration '[\w:]+'|wrong value|no rules|end rule and re2c:eof go together|scanner too large|too many states"
+    rb"unknown configuration '[^'\n]+'|wrong value|no rules|end rule and re2c:eof go together|scanner too large|too many states"
 )
 
 OFFSET = rb"(?:-|\d+)"
@@ -69,34 +69,39 @@ NUMBERS += [(1 << 31) - 1, 1 << 31, (1 << 32) - 2, (1 << 32) - 1, 1 << 32, 99999
 NUMBERS += [(1 << 64) - 1, 1 << 64, 10**30]
 
 # tokens that the examples do not have, for sources and for emitted text
-SOURCE_TOKENS = rb"""/*!re2c */ /*!rules:re2c /*!use:re2c /*!ignore:re2c /*!max:re2c*/ /*!maxnmatch:re2c*/ /*!types:re2c*/ /*!getstate:re2c*/
-/*!stags:re2c*/ /*!include:re2c "b.re" */ /*!include:re2c "a.re" */ /*!begin:re2c /*!local:re2c /*!re2c:x /* // " ' [ ] ( ) { } | \ / ; = *
-+ ? . , $ ^ - < > => :=> := <*> <> <!a> <a,b> {0} {1} {2,} {1,3} {3,1} {0,0} {64} {200} {4096} {4097} {,} { } {x} [] [^] [^a-z] [z-a] [-] [a-]
-[\x00-\xff] [\u0100-\U0010FFFF] "" '' "a" 'a' "\x00" "\377" "\400" "\u0100" "\uD800" "\uDFFF" "\uFFFD" "\U0010FFFF" "\U00110000" "\" @t #t @ #
-@yych #yyt1 re2c:eof re2c:eof=0; re2c:eof=-1; re2c:eof=255; re2c:eof=256; re2c:yyfill:enable=0; re2c:yyfill:enable=1; re2c:define:YYFILL
-re2c:define:YYCURSOR="p"; re2c:tags:prefix="yyt1"; re2c:condprefix re2c:indent:top re2c:x re2c: NULL yyt1 yych yynmatch yypmatch""".split()
-EMITTED_TOKENS = rb"""/*!begin:re2c /*!end:re2c*/ /*!head:re2c /*!names:re2c /*!code:re2c #line "x" byte ucs2 utf8 utf16 utf32 plain count eof eoffixed
-custom ++YYCURSOR; yych=*YYCURSOR; YYMARKER=YYCURSOR; YYCURSOR=YYMARKER; YYCURSOR=yyt1; yyt1=YYCURSOR; yyt1=NULL; yyt2=yyt1; YYMTAGP(yytm1);
-YYMTAGN(yytm0); yytm1=yytm0; goto yy1_0; goto yy1_1; goto yy1_none; yyaccept=1; YYSETSTATE(0); YYSETCONDITION(yycx); yynmatch=1;
-yypmatch[0]=yyt1; YYFILL(1); YYPEEK() YYSKIP(); 0x00 0xFF 0x100 yyt4294967295 yyt1000000 yyt0 yytm1000000 { } */""".split()
+SOURCE_TOKENS = rb"""/*!re2c */ /*!rules:re2c /*!use:re2c /*!ignore:re2c /*!max:re2c*/ /*!maxnmatch:re2c*/ /*!types:re2c*/
+/*!getstate:re2c*/ /*!stags:re2c*/ /*!include:re2c "b.re" */ /*!include:re2c "a.re" */ /*!begin:re2c /*!local:re2c /*!re2c:x
+/* // " ' [ ] ( ) { } | \ / ; = * + ? . , $ ^ - < > => :=> := <*> <> <!a> <a,b> {0} {1} {2,} {1,3} {3,1} {0,0} {64} {200}
+{4096} {4097} {,} { } {x} [] [^] [^a-z] [z-a] [-] [a-] [\x00-\xff] [\u0100-\U0010FFFF] "" '' "a" 'a' "\x00" "\377" "\400"
+"\u0100" "\uD800" "\uDFFF" "\uFFFD" "\U0010FFFF" "\U00110000" "\" @t #t @ # @yych #yyt1 re2c:eof re2c:eof=0; re2c:eof=-1;
+re2c:eof=255; re2c:eof=256; re2c:yyfill:enable=0; re2c:yyfill:enable=1; re2c:define:YYFILL re2c:define:YYCURSOR="p";
+re2c:tags:prefix="yyt1"; re2c:condprefix re2c:indent:top re2c:x re2c: NULL yyt1 yych yynmatch yypmatch""".split()
+EMITTED_TOKENS = rb"""/*!begin:re2c /*!end:re2c*/ /*!head:re2c /*!names:re2c /*!code:re2c #line "x" byte ucs2 utf8 utf16 utf32
+plain count eof eoffixed custom ++YYCURSOR; yych=*YYCURSOR; YYMARKER=YYCURSOR; YYCURSOR=YYMARKER; YYCURSOR=yyt1;
+yyt1=YYCURSOR; yyt1=NULL; yyt2=yyt1; YYMTAGP(yytm1); YYMTAGN(yytm0); yytm1=yytm0; goto yy1_0; goto yy1_1; goto yy1_none;
+yyaccept=1; YYSETSTATE(0); YYSETCONDITION(yycx); yynmatch=1; yypmatch[0]=yyt1; YYFILL(1); YYPEEK() YYSKIP(); 0x00 0xFF 0x100
+yyt4294967295 yyt1000000 yyt0 yytm1000000 { } */""".split()
 STATEMENTS = [
     b"\tyych = *YYCURSOR;\n", b"\t++YYCURSOR;\n", b"\tYYMARKER = YYCURSOR;\n", b"\tYYCURSOR = YYMARKER;\n", b"\tyyaccept = 1;\n",
-    b"\tyyt1 = YYCURSOR;\n", b"\tyyt1 = NULL;\n", b"\tyyt2 = yyt1;\n", b"\tYYMTAGP(yytm1);\n", b"\tYYMTAGN(yytm1);\n", b"\tyytm1 = yytm0;\n",
-    b"\tif (yych <= 0x61) goto yy1_1;\n", b"\tif (yyaccept == 1) goto yy1_0;\n", b"\tif (YYCURSOR >= YYLIMIT) goto yy1_0;\n",
-    b"\tYYSETSTATE(0);\n", b"\tif ((YYLIMIT - YYCURSOR) < 1) YYFILL(1);\n", b"\tif (YYFILL() == 0) goto yy1_0;\n", b"\tt = yyt1;\n",
-    b"\tyynmatch = 1;\n", b"\typmatch[0] = yyt1;\n", b"\tYYCURSOR = yyt1;\n", b"\tgoto yy1_0;\n", b"\tgoto yy1_none;\n",
-    b"\t/*!code:re2c 1 3*/{ }\n", b"yy1_1:\n", b"#line 1 \"a.re\"\n", b"/*!end:re2c*/\n", b"yyc_a:\n",
+    b"\tyyt1 = YYCURSOR;\n", b"\tyyt1 = NULL;\n", b"\tyyt2 = yyt1;\n", b"\tYYMTAGP(yytm1);\n", b"\tYYMTAGN(yytm1);\n",
+    b"\tyytm1 = yytm0;\n", b"\tif (yych <= 0x61) goto yy1_1;\n", b"\tif (yyaccept == 1) goto yy1_0;\n",
+    b"\tif (YYCURSOR >= YYLIMIT) goto yy1_0;\n", b"\tYYSETSTATE(0);\n", b"\tif ((YYLIMIT - YYCURSOR) < 1) YYFILL(1);\n",
+    b"\tif (YYFILL() == 0) goto yy1_0;\n", b"\tt = yyt1;\n", b"\tyynmatch = 1;\n", b"\typmatch[0] = yyt1;\n",
+    b"\tYYCURSOR = yyt1;\n", b"\tgoto yy1_0;\n", b"\tgoto yy1_none;\n", b"\t/*!code:re2c 1 3*/{ }\n", b"yy1_1:\n",
+    b"#line 1 \"a.re\"\n", b"/*!end:re2c*/\n", b"yyc_a:\n",
 ]  # fmt: skip
 LINES = [
-    b"re2c:yyfill:enable = 0;\n", b"re2c:yyfill:enable = 1;\n", b"re2c:eof = 0;\n", b"$ { }\n", b"* { }\n", b"[^] { }\n", b"\"\" { }\n",
-    b"d = \"ab\" | [x-z]{1,3};\n", b"d+ / \"a\" { }\n", b"<*> * { }\n", b"<a> \"b\" => b { }\n", b"<a, b> [a-z] :=> b\n", b"*/\n", b"/*!re2c\n",
-    b"@x \"a\" (#y \"b\")* { }\n", b"(\"a\" | (\"b\")?){2,5} \"c\" { }\n", b"c = [^a] \\ [x];\n", b"/*!use:re2c */\n", b"/*!rules:re2c\n",
-    b"/*!include:re2c \"b.re\" */\n", b"/*!stags:re2c format = '@@'; separator = ','; */\n", b"/*!mtags:re2c format = \"@@;\"; */\n",
-    b"/*!types:re2c*/\n", b"/*!getstate:re2c*/\n", b"/*!max:re2c*/\n", b"/*!maxnmatch:re2c*/\n",
+    b"re2c:yyfill:enable = 0;\n", b"re2c:yyfill:enable = 1;\n", b"re2c:eof = 0;\n", b"$ { }\n", b"* { }\n", b"[^] { }\n",
+    b"\"\" { }\n", b"d = \"ab\" | [x-z]{1,3};\n", b"d+ / \"a\" { }\n", b"<*> * { }\n", b"<a> \"b\" => b { }\n",
+    b"<a, b> [a-z] :=> b\n", b"*/\n", b"/*!re2c\n", b"@x \"a\" (#y \"b\")* { }\n", b"(\"a\" | (\"b\")?){2,5} \"c\" { }\n",
+    b"c = [^a] \\ [x];\n", b"/*!use:re2c */\n", b"/*!rules:re2c\n", b"/*!include:re2c \"b.re\" */\n",
+    b"/*!stags:re2c format = '@@'; separator = ','; */\n", b"/*!mtags:re2c format = \"@@;\"; */\n", b"/*!types:re2c*/\n",
+    b"/*!getstate:re2c*/\n", b"/*!max:re2c*/\n", b"/*!maxnmatch:re2c*/\n",
 ]  # fmt: skip
 OPENERS = {b"code": b"/*!re2c", b"rules": b"/*!rules:re2c", b"use": b"/*!use:re2c"}
-OPTIONS = ["-i", "-s", "-8", "-x", "-u", "-w", "-T", "--captures", "-c", "-f", "-r", "--utf-8", "--input=custom", "--empty-class=match-none"]
-OPTIONS += ["--empty-class=error", "--empty-class=match-empty", "--encoding-policy=fail", "--encoding-policy=substitute"]
+OPTIONS = ["-i", "-s", "-8", "-x", "-u", "-w", "-T", "--captures", "-c", "-f", "-r", "--utf-8", "--input=custom"]
+OPTIONS += ["--empty-class=match-none", "--empty-class=error", "--empty-class=match-empty"]
+OPTIONS += ["--encoding-policy=fail", "--encoding-policy=substitute"]
 OPTIONS += ["--encoding-policy=ignore", "-I.", "-Isub", "--tags", "--conditions", "--storable-state", "--nested-ifs", "--no-debug-info"]
 OPTIONS += ["--x-block=1", "--x-window=3", "--", "-", "", "--help", "-V", "-o", "-isT", "--x-source=2", "--x-run=in.txt"]
 WINDOWS = [1, 2, 3, 4, 5, 6, 7, 8, 10, 13, 16, 24, 32, 64, 4096]
@@ -462,7 +467,7 @@ class Fuzzer:
         """Compiles a source, or does what else the words say."""
         self.give(files)
         it = self.run(words)
-        check_message(it, files, TEXTS)
+        check_message(it, files, RUN_TEXTS if any(word.startswith("--x-run") for word in words) else TEXTS)
         if it.status == 3 and not {"", ".", "-o."} & set(words):
             raise Finding("a write failed")
         if it.status != 0:
@@ -578,7 +583,8 @@ class Fuzzer:
         words = " ".join(shlex.quote(os.fsdecode(word)) for word in self.last.words)
         for name, data in self.files.items():
             write(f"{folder}/{name}", data)
-        for name, data in [("words", os.fsencode(words + "\n")), ("out", self.last.out), ("err", self.last.err), ("why", why.encode() + b"\n")]:
+        told = {"words": os.fsencode(words + "\n"), "out": self.last.out, "err": self.last.err, "why": why.encode() + b"\n"}
+        for name, data in told.items():
             write(f"{folder}/{name}", data)
         print(f"fuzz: {why}: {folder}", flush=True)
 
@@ -601,7 +607,8 @@ def main(words):
         fuzzer.step()
     os.chdir(ROOT)
     statuses = ", ".join(f"{number} of status {status}" for status, number in sorted(fuzzer.program.statuses.items()))
-    print(f"fuzz: {fuzzer.case} cases with the seed {seed}, {fuzzer.found} findings; {sum(fuzzer.program.statuses.values())} processes: {statuses}")
+    processes = sum(fuzzer.program.statuses.values())
+    print(f"fuzz: {fuzzer.case} cases with the seed {seed}, {fuzzer.found} findings; {processes} processes: {statuses}")
     if not fuzzer.found:
         shutil.rmtree(work)
     return fuzzer.found > 0

@@ -120,6 +120,9 @@ impl Window<'_> {
         ensures slid { self.new ≡ slid self.old }
         ensures formed { IsFormed self.new }
     {
+        if self.start == self.base {
+            return;
+        }
         let from = byte_count(self.unit, self.start - self.base);
         let end = byte_count(self.unit, self.limit - self.base);
         let buffer = &mut *self.buffer;
