@@ -1,35 +1,155 @@
 #!/bin/sh
-# Measures whole compilations by the program, and fails where they take too long: 200 blocks with 10,000 rules of strings
-# (2 s), 16 MiB of outside text with one block (0.5 s), and a scanner of 4,096 kernels (1 s).
+# Measures whole compilations by the program, beside the original re2c where that is installed, in three tables. It fails where a limit
+# or a goal is not met.
+#
+# The first table has sources with limits on the seconds: 200 blocks with 9,800 rules of strings (2 s), 16 MiB of outside text with one
+# block (0.5 s), and a scanner of 4,096 kernels (1 s).
+#
+# The second has sources that a user could write, and one at each limit of a scanner: names of all letters of Unicode in UTF-8, UTF-16 and
+# UTF-32, 10,000 keywords in 200 blocks, the lexer of 40 rules, 4,096 kernels, 1,048,576 places, 4,096 rules, 128 tags, 64 groups and 256
+# parentheses in one another. For each it has the seconds of the processor (the best of five runs), the peak of memory, the instructions
+# that valgrind counts where it is there, and the bytes of the output. Goals: at most as long as the original, and at most 0.7 times as
+# many instructions. The original has 60 s and 4 GiB; `-` stands where that is not enough, or where it refuses the source.
+#
+# The third has the seconds that `clang -O1` takes for the scanners of names. Goal: in UTF-32 at most as long as the original's.
+#
+# Usage: bench/compiling.sh, from anywhere; RE2C names the program (that of bin/re2c where it is unset), and ORIGINAL the original (re2c
+# where it is unset).
 cd "$(dirname "$0")/.." || exit 1
 work=$(mktemp -d) || exit 1
 trap 'rm -rf "$work"' EXIT
-bin/re2c -i examples/quoted.re > /dev/null || { echo "compiling: no program" >&2; exit 1; }
-python3 - "$work" "$(find crates/re2c/out -maxdepth 1 -type f -name re2c | head -1)" <<'PYTHON'
-import os, subprocess, sys, time
-work, program = sys.argv[1:]
-plain = 're2c:yyfill:enable = 0;\n'
+program=${RE2C:-}
+if [ -z "$program" ]; then
+    bin/re2c -i examples/quoted.re > /dev/null || { echo "compiling: no program" >&2; exit 1; }
+    program=$(find crates/re2c/out -maxdepth 1 -type f -name re2c | head -1)
+fi
+python3 - "$work" "$(realpath "$program")" "${ORIGINAL:-re2c}" <<'PYTHON'
+import os, re, resource, shutil, subprocess, sys
+work, program, original = sys.argv[1:]
+SECONDS, MEMORY, RUNS = 60, 4 << 30, 5
+PLAIN = 're2c:yyfill:enable = 0;\n'
+LETTERS = open('examples/unicode_letters.re').read()
+OURS, THEIRS = 'this re2c', 'the original'
+
 
 def block(lines):
-    return '/*!re2c\n' + plain + lines + '*/\n'
+    return '/*!re2c\n' + PLAIN + lines + '*/\n'
 
-def keywords(number):
-    return ''.join(f'"word{number}x{k}y{k * 7919 % 1000}" {{ return {k}; }}\n' for k in range(49)) + '* { }\n'
 
-sources = {
-    'blocks': (''.join('int f(void) {\n' + block(keywords(n)) + '}\n' for n in range(200)), 2.0),
-    'outside': ('// a line of outside text\n' * (16 * 1024 * 1024 // 26 - 100) + block('"a" { }\n* { }\n'), 0.5),
-    'kernels': (block('"' + 'a' * 4095 + '" { }\n'), 1.0),
+def keywords(number, count):
+    return ''.join(f'"word{number}x{k}y{k * 7919 % 1000}" {{ return {k}; }}\n' for k in range(count)) + '* { }\n'
+
+
+def blocks(count):
+    return ''.join('int f(void) {\n' + block(keywords(number, count)) + '}\n' for number in range(200))
+
+
+def names():
+    rules = '(xid_start | "_") xid_continue* { return 1; }\n[^] { return 0; }\n* { return 0; }\n'
+    return LETTERS + '\nint name(const YYCTYPE *YYCURSOR)\n{\n\tconst YYCTYPE *YYMARKER;\n' + block(rules) + '}\n'
+
+
+def lexer():
+    return block(open('tests/c/lexer.rules').read())
+
+
+LIMITED = {
+    '9,800 rules in 200 blocks': (blocks(49), 2.0),
+    '16 MiB of outside text': ('// a line of outside text\n' * (16 * 1024 * 1024 // 26 - 100) + block('"a" { }\n* { }\n'), 0.5),
+    '4,096 kernels': (block('"' + 'a' * 4095 + '" { }\n'), 1.0),
 }
-status = 0
-for name, (text, limit) in sources.items():
-    source = os.path.join(work, name + '.re')
-    with open(source, 'w') as file:
+# the source, our options, and the original's
+COMPARED = {
+    'names in UTF-8': (names(), ['-8'], ['-8']),
+    'names in UTF-16': (names(), ['-x'], ['-x']),
+    'names in UTF-32': (names(), ['-u'], ['-u']),
+    '10,000 keywords': (blocks(50), [], []),
+    '40 rules': (lexer(), ['-T'], ['-T']),
+    '4,096 kernels': (block('"' + 'a' * 4095 + '" { }\n'), [], []),
+    '1,048,576 places': (block('("a" | "aa"){1,835} { }\n'), [], []),
+    '4,096 rules': (block('[^] { }\n' * 4096), [], []),
+    '128 tags': (block(''.join(f'("a" @t{k})? ' for k in range(128)) + '{ }\n'), ['-T'], ['-T']),
+    '64 groups': (block('("a" | "aa")' * 64 + ' { }\n'), ['--captures'], ['-P']),
+    '256 parentheses': (block('(' * 256 + '"a"' + ')' * 256 + ' { }\n'), [], []),
+}
+failed = []
+
+
+def limit():
+    resource.setrlimit(resource.RLIMIT_CORE, (0, 0))
+    resource.setrlimit(resource.RLIMIT_CPU, (SECONDS, SECONDS))
+    resource.setrlimit(resource.RLIMIT_AS, (MEMORY, MEMORY))
+
+
+def measured(words):
+    """The seconds of the processor and the bytes of memory that a command takes, or None where it fails."""
+    child = subprocess.Popen(words, stdout=subprocess.DEVNULL, stderr=subprocess.DEVNULL, preexec_fn=limit)
+    _, status, usage = os.wait4(child.pid, 0)
+    child.returncode = status
+    return None if status else (usage.ru_utime + usage.ru_stime, 1024 * usage.ru_maxrss)
+
+
+def instructions(words):
+    """How many instructions a command takes, by valgrind, or None where that cannot count them."""
+    if not shutil.which('valgrind'):
+        return None
+    counted = subprocess.run(['valgrind', '--tool=callgrind', f'--callgrind-out-file={work}/counts', *words], stdout=subprocess.DEVNULL,
+                             stderr=subprocess.PIPE, text=True)
+    found = re.search(r'Collected : (\d+)', counted.stderr)
+    return int(found[1]) if found and counted.returncode == 0 else None
+
+
+def missed(name, what, got, most):
+    if got is not None and most is not None and got > most:
+        failed.append(f'{name}: {what} {got:.2f}, at most {most:.2f}')
+
+
+def shown(value, form):
+    return '-' if value is None else form.format(value)
+
+
+print(f'{"source":28}{"bytes":>12}{"seconds":>10}{"limit":>8}')
+for name, (text, most) in LIMITED.items():
+    with open(f'{work}/a.re', 'w') as file:
         file.write(text)
-    begun = time.monotonic()
-    subprocess.run([program, '-i', '-o', os.path.join(work, name + '.c'), source], check=True)
-    seconds = time.monotonic() - begun
-    print(f'{name}: {len(text)} bytes in {seconds:.2f} s (limit {limit} s)')
-    status |= seconds >= limit
-sys.exit(status)
+    took = measured([program, '-i', '-o', f'{work}/made.c', f'{work}/a.re'])
+    print(f'{name:28}{len(text):>12,}{shown(took and took[0], "{:.2f}"):>10}{most:>8}', flush=True)
+    missed(name, 'seconds', took[0] if took else 1e9, most)
+
+makers = {OURS: program}
+if shutil.which(original):
+    makers[THEIRS] = original
+print(f'\n{"source":20}{"by":16}{"seconds":>10}{"memory MB":>12}{"instructions":>18}{"bytes":>12}')
+objects = {}
+for name, (text, ours, theirs) in COMPARED.items():
+    with open(f'{work}/a.re', 'w') as file:
+        file.write(text)
+    rows = {}
+    for maker, command in makers.items():
+        made = f'{work}/{name.replace(" ", "_")}_{len(rows)}.c'
+        words = [command, '-i', *(ours if maker == OURS else theirs), '-o', made, f'{work}/a.re']
+        runs = [took for took in (measured(words) for _ in range(RUNS)) if took]
+        best = min(runs) if runs else (None, None)
+        rows[maker] = best[0], best[1], instructions(words) if runs and best[0] < 3 else None
+        size = os.path.getsize(made) if runs else None
+        if runs and name.startswith('names'):
+            objects[name, maker] = made
+        print(f'{name:20}{maker:16}{shown(best[0], "{:.3f}"):>10}{shown(best[1] and best[1] / 1e6, "{:.1f}"):>12}'
+              f'{shown(rows[maker][2], "{:,}"):>18}{shown(size, "{:,}"):>12}', flush=True)
+    if THEIRS in rows:
+        missed(name, 'seconds', rows[OURS][0], rows[THEIRS][0])
+        missed(name, 'instructions', rows[OURS][2], rows[THEIRS][2] and 0.7 * rows[THEIRS][2])
+
+if shutil.which('clang'):
+    print(f'\n{"source":20}' + ''.join(f'{maker:>16}' for maker in makers))
+    units = {'names in UTF-8': 'unsigned char', 'names in UTF-16': 'unsigned short', 'names in UTF-32': 'unsigned int'}
+    for name, unit in units.items():
+        took = {maker: measured(['clang', '-O1', '-w', f'-DYYCTYPE={unit}', '-c', '-o', f'{work}/made.o', made])
+                for (given, maker), made in objects.items() if given == name}
+        print(f'{name:20}' + ''.join(f'{shown(took.get(maker) and took[maker][0], "{:.2f}"):>16}' for maker in makers), flush=True)
+        if name == 'names in UTF-32' and took.get(OURS) and took.get(THEIRS):
+            missed(name, 'seconds of clang -O1', took[OURS][0], took[THEIRS][0])
+
+print(f'\ncompiling: {len(failed)} not met' + ''.join(f'\n- {line}' for line in failed))
+sys.exit(bool(failed))
 PYTHON

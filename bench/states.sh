@@ -91,7 +91,7 @@ RE
 for name in quoted keywords two_scanners signs ranges words_of_file padded; do
 	compare "$root/examples/$name.re" '' ''
 done
-for name in dates options settings log_lines uris; do
+for name in dates options settings log_lines http_messages uris; do
 	compare "$root/examples/$name.re" -T -T
 done
 compare "$work/lexer.re" -T -T

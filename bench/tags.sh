@@ -1,6 +1,6 @@
 #!/bin/sh
 # Measures what tags cost, beside the original re2c where that is installed, and fails where one of these limits is not met.
-# For each of the examples dates, log_lines and uris, beside the original as it works without options but `-i -T`:
+# For each of the examples dates, log_lines, http_messages and uris, beside the original as it works without options but `-i -T`:
 # - registers: at most as many;
 # - operations, which are statements that set, empty or copy a register or a history: at most 1.3 times as many;
 # - bytes of all that stands in the places of the blocks: at most 1.5 times as many;
@@ -137,7 +137,7 @@ import os, random, re, shutil, subprocess, sys
 work, program, original = sys.argv[1:]
 SIZE = 16 << 20
 TURNS = 5
-EXAMPLES = ('dates', 'log_lines', 'uris')
+EXAMPLES = ('dates', 'log_lines', 'http_messages', 'uris')
 OPERATION = re.compile(rb'\b(yytm?[0-9]+) = |\bYYMTAG[PN] ?\((yytm[0-9]+)\)')
 BLOCK = re.compile(rb'/\*![a-z]*:?re2c\b.*?\*/', re.DOTALL)
 OURS, THEIRS = 'this re2c', 'the original'
@@ -197,6 +197,20 @@ def log_lines(rng):
         agent = ' '.join(word(rng) for _ in range(rng.randrange(1, 12)))
         line += f' "{"https://" + word(rng) + path(rng) if rng.random() < 0.6 else "-"}" "{agent} ({word(rng)}; \\"{word(rng)}\\")"'
     return line + '\n'
+
+
+def field(rng):
+    blanks = ' ' * (rng.random() < 0.9)
+    return f'{word(rng, 3, 16).title()}:{blanks}{" ".join(word(rng) for _ in range(rng.randrange(8)))}\r\n'
+
+
+def http_messages(rng):
+    if rng.random() < 0.5:
+        target = (path(rng) or '/') + ('?' + query(rng) if rng.random() < 0.3 else '')
+        line = f'{rng.choice(("GET", "GET", "POST", "HEAD"))} {target} HTTP/1.1\r\n'
+    else:
+        line = f'HTTP/1.1 {rng.choice(("200 OK", "304 Not Modified", "404 Not Found"))}\r\n'
+    return line + ''.join(field(rng) for _ in range(rng.randrange(2, 16))) + '\r\n'
 
 
 def uris(rng):
@@ -267,7 +281,7 @@ def macros(name, made):
     """Returns what an example is compiled with to be measured."""
     if name == 'dates':
         return [f'-DPIECE="{made}"', '-DDATES']
-    scanner = {'log_lines': 'line', 'uris': 'uri'}[name]
+    scanner = 'uri' if name == 'uris' else 'line'
     text = open(f'examples/{name}.re').read()
     tags = dict.fromkeys(re.findall(r'@([a-z]\w*)', text))
     return [f'-DPIECE="{made}"', f'-DSCANNER={scanner}', '-DTAGS=' + ','.join(tags)]

@@ -43,6 +43,8 @@ prints log_lines "address:0-9 identity:10-11 user:12-15 day:17-19 month:20-23 ye
 query:- version:62-65 status:67-70 size:71-75 referrer:- agent:- address:76-79 identity:80-81 user:82-83 day:85-87 month:88-91 \
 year:92-96 time:97-105 zone:106-111 method:114-117 path:118-123 query:124-135 version:141-144 status:146-149 size:- referrer:153-172 \
 agent:175-185 fault:187-229" -T
+prints http_messages "method:0-3 target:4-10 version:16-19 name:21-25 value:27-38 name:40-46 value:47-62 name:66-72 value:75-75 \
+head:77-79 version:84-87 status:88-91 reason:92-101 version:107-110 status:111-114 reason:115-115 fault:116-129 head:129-130" -T
 prints uris "scheme:0-3 authority:6-22 name:6-17 port:18-22 path:22-33 query:34-45 fragment:46-50 scheme:51-55 authority:58-71 \
 literal:58-71 path:71-76 query:77-84 scheme:85-91 authority:94-112 userinfo:94-100 ipv4:101-111 port:112-112 path:112-113 \
 scheme:114-117 authority:120-131 name:120-131 path:131-131 scheme:132-136 absolute:137-147 fragment:148-148 scheme:149-152 \

@@ -73,4 +73,5 @@ compare numbers '' -r
 compare names_in_utf_8 -8 -8
 compare without_buffer '--input custom' '--input custom'
 compare log_lines -T -T
+compare http_messages -T -T
 compare uris -T -T

@@ -4,11 +4,10 @@ use Rattle.std.specs.Fmt.{decimal}
 use Rattle.lx_base.specs.Text.{joined}
 use Rattle.lx_base.specs.declared.places.Pos.{Pos}
 use Rattle.lx_base.specs.declared.faults.Fault.{Fault}
-use Rattle.lx_base.specs.declared.faults.Fault.TheVariants.{Unsupported, Usage, NoFile, IncludeDepth, Unclosed, MarkInSource, BadToken, Syntax, UnknownName, Redefined, NotClass, CodePoint, Surrogate, Bounds, EmptyClass, NoRules, EofPair, Condition, TagsOff, DuplicateTag, UnknownConfig, BadValue, NoRulesToUse, TooLong, TooManyParts, TooManyStates, NotEmitted, WindowFull, Directive, BadInput}
+use Rattle.lx_base.specs.declared.faults.Fault.TheVariants.{Usage, NoFile, IncludeDepth, Unclosed, MarkInSource, BadToken, Syntax, UnknownName, Redefined, NotClass, CodePoint, Surrogate, Bounds, EmptyClass, NoRules, EofPair, Condition, TagsOff, DuplicateTag, UnknownConfig, BadValue, NoRulesToUse, TooLong, TooManyParts, TooManyStates, NotEmitted, WindowFull, Directive, BadInput}
 
 -- where a fault stands
 abbrev pub place_of : Fault → Option Pos
-place_of (Unsupported place) = place
 place_of Usage = None
 place_of (NoFile place name) = Some place
 place_of (IncludeDepth place depth) = Some place
@@ -59,7 +58,6 @@ window_text kept need size =
 
 -- what a fault says, its place aside
 abbrev pub text_of : Fault → List ℕ
-text_of (Unsupported place) = codes "not supported yet"
 text_of Usage = codes "usage"
 text_of (NoFile place name) = codes "no such file"
 text_of (IncludeDepth place depth) = codes "includes nested too deeply"

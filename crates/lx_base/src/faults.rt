@@ -11,10 +11,6 @@ use std::alloc::AllocError;
 /// `message` gives the text of each.
 #[derive(Drop)]
 pub enum Fault {
-    /// A form that is not supported yet; without a place where it is one of the command line.
-    Unsupported {
-        at: Option<Pos>,
-    },
     /// The words of the command line are none that the program takes.
     Usage,
     /// There is no such file.
@@ -158,7 +154,6 @@ impl Fault {
         ensures { result ≡ place_of self.now }
     {
         match self {
-            Fault::Unsupported { at } => *at,
             Fault::Usage => None,
             Fault::NoFile { at, .. } => Some(*at),
             Fault::IncludeDepth { at, .. } => Some(*at),

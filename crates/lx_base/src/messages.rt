@@ -55,7 +55,6 @@ fn append_text(alloc: Global, text: &mut Vec<u8>, fault: &Fault) -> Result<(), M
     ensures { OnOk result (text.new.items ≡ text.old.items ++ text_of fault.now) }
 {
     match fault {
-        Fault::Unsupported { .. } => append_parts(text, &[b"not supported yet"]),
         Fault::Usage => append_parts(text, &[b"usage"]),
         Fault::NoFile { .. } => append_parts(text, &[b"no such file"]),
         Fault::IncludeDepth { .. } => append_parts(text, &[b"includes nested too deeply"]),

@@ -1,5 +1,6 @@
 -- Forms of expressions: their steps, their checks, and what they mean.
 pub mod ClassForms
+pub mod Differences
 pub mod ExpressionRanges
 pub mod ExpressionSteps
 pub mod FaultPlaces

@@ -3,6 +3,7 @@ pub mod Defined
 pub mod Expressions
 pub mod FaultPlaces
 pub mod Meanings
+pub mod Operands
 pub mod Points
 pub mod Reading
 pub mod Seen

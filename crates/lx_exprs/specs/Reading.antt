@@ -6,6 +6,7 @@ use Rattle.lx_base.specs.declared.faults.Stop.{Stop}
 use Rattle.lx_base.specs.declared.faults.Stop.TheVariants as stop
 use Rattle.lx_base.specs.declared.settings.Options.{Options}
 use Rattle.lx_exprs.specs.declared.expressions.Operands.{Operands as Held}
+use Rattle.lx_exprs.specs.declared.operands.Operand.{Operand}
 use Rattle.lx_exprs.specs.declared.expressions.Pairing.{Pairing}
 use Rattle.lx_exprs.specs.declared.expressions.Pairing.TheVariants.{Alternation, Sequence}
 use Rattle.lx_exprs.specs.declared.values.Room.{Room}
@@ -16,7 +17,8 @@ use Rattle.lx_exprs.specs.Defined.{Before, Definition, Meaning, and_more, kept, 
 use Rattle.lx_exprs.specs.Meanings.{IsClassMeaning, IsLeafMeaning, alternated, enclosed, followed, grouped, in_group, repeated_by}
 use Rattle.lx_exprs.specs.Checks.{Check, Then, Finds, IsFilled, IsIn, LeafChecks, StopsAt, are_groups, bounds_fault, bounds_of}
 use Rattle.lx_forms.specs.Steps.{Step, reads, opens, closes, repeats, joins, subtracts, chooses}
-use Rattle.lx_exprs.specs.Values.{IsBounded, IsValue}
+use Rattle.lx_exprs.specs.Operands.{IsBoundedOperand, IsOperand}
+use Rattle.lx_exprs.specs.Values.{IsValue}
 
 -- What is read before a step: meanings that are not yet put together, the last one first, all tags and groups so far, and how many
 -- groups there are before each one that is open, the innermost first.
@@ -167,17 +169,17 @@ abbrev pub AreInOrder : (depth : ℕ) → List Step → Type 0
 AreInOrder depth [] = depth ≡ 1
 AreInOrder depth (step ∷ steps) = Needs step depth × AreInOrder (depth_behind step depth) steps
 
--- values stand for meanings one by one
-abbrev pub AreValues : Room → List Meaning → List Value → Type 0
+-- operands stand for meanings one by one
+abbrev pub AreValues : Room → List Meaning → List Operand → Type 0
 AreValues room [] [] = Unit {0}
 AreValues room [] (value ∷ values) = ⊥
 AreValues room (meaning ∷ meanings) [] = ⊥
-AreValues room (meaning ∷ meanings) (value ∷ values) = IsValue room meaning value × AreValues room meanings values
+AreValues room (meaning ∷ meanings) (value ∷ values) = IsOperand room meaning value × AreValues room meanings values
 
--- each value is bounded
-abbrev pub AreBounded : List Value → Type 0
+-- each operand is bounded
+abbrev pub AreBounded : List Operand → Type 0
 AreBounded [] = Unit {0}
-AreBounded (value ∷ values) = IsBounded value × AreBounded values
+AreBounded (value ∷ values) = IsBoundedOperand value × AreBounded values
 
 -- what is held stands for what is read
 pub record AreOperands (room : Room) (operands : Operands) (held : Held) : Type 0 where

@@ -15,9 +15,11 @@ ghost use Rattle.lx_exprs.specs.Seen.{scope_view};
 ghost use Rattle.lx_forms.specs.Seen.{lexeme_view, lexemes_view};
 ghost use Rattle.lx_exprs.specs.FitDefinitions.{ScopeFits};
 ghost use Rattle.lx_forms.specs.StepViews.{step_view};
+ghost use Rattle.lx_exprs.specs.Operands.{IsBoundedOperand, IsOperand};
 ghost use Rattle.lx_exprs.specs.Values.{IsBounded, IsRoom, IsValue};
 
 use crate::leaves::{Reader, read_leaf, read_set};
+use crate::operands::Operand;
 use crate::tags::{SeenTags, SharedTags};
 use crate::values::{Room, Value, sum};
 use lx_base::limits::BOUND_LIMIT;
@@ -28,10 +30,10 @@ use lx_parse::Sort;
 use lx_token::{Repeat, repeat_of};
 use std::alloc::Global;
 
-/// What is read of an expression so far: values that are not yet put together, in order, and all tags.
+/// What is read of an expression so far: operands that are not yet put together, in order, and all tags.
 #[derive(Drop)]
 pub struct Operands {
-    values: Vec<Value>,
+    values: Vec<Operand>,
     seen: SeenTags,
     /// How many groups there are; 2^40 stands for itself and for more.
     groups: u64,
@@ -106,35 +108,37 @@ pub fn are_groups(options: &Options) -> bool
     options.captures || options.posix
 }
 
-/// The difference of two values, whose sign stands at a place.
+/// The difference of two operands, whose sign stands at a place. One that is an operand of another is put off.
 fn difference(
     alloc: Global,
     reader: Reader<'_, '_>,
-    left: Value,
+    left: Operand,
     right: Value,
     is_operand: bool,
     at: Pos,
-) -> Result<Value, Stop>
+) -> Result<Operand, Stop>
     requires { IsRoom reader.room }
     ensures read { let definitions = scope_view reader.entry.scope in
-        (first second : Meaning) (sign : lexical.Lexeme) → sign.at ≡ at → IsValue reader.entry.room first left → IsValue reader.entry.room second right
+        (first second : Meaning) (sign : lexical.Lexeme) → sign.at ≡ at → IsOperand reader.entry.room first left → IsValue reader.entry.room second right
         → MatchResult result
-        (λ value. DifferenceChecks reader.entry.options.now definitions is_operand first second sign None
-        × ((meaning : Meaning) × IsDifference reader.entry.options.now definitions is_operand first second meaning × IsValue reader.entry.room meaning value))
+        (λ operand. DifferenceChecks reader.entry.options.now definitions is_operand first second sign None
+        × ((meaning : Meaning) × IsDifference reader.entry.options.now definitions is_operand first second meaning × IsOperand reader.entry.room meaning operand))
         (StopsAt (DifferenceChecks reader.entry.options.now definitions is_operand first second sign)) }
-    ensures bounded { IfOk result IsBounded }
+    ensures bounded { IfOk result IsBoundedOperand }
 {
-    let nesting = left.nesting.max(right.nesting);
-    let groups = sum(left.groups, right.groups);
-    let tags = left.tags.max(right.tags);
-    let Some(whole) = left.into_class(alloc)? else {
+    let Some(whole) = left.into_holed(alloc)? else {
         return Err(Stop::Fault(Fault::NotClass { at }));
     };
-    let Some(holes) = right.into_class(alloc)? else {
+    let Some(holed) = whole.without(alloc, right)? else {
         return Err(Stop::Fault(Fault::NotClass { at }));
     };
-    let set = whole.minus(alloc, &holes)?;
-    read_set(alloc, reader, tags, set, is_operand, nesting, groups, at)
+    if is_operand {
+        return Ok(Operand::Holed(holed));
+    }
+    let (nesting, groups, tags) = (holed.nesting, holed.groups, holed.tags);
+    let set = holed.into_set(alloc)?;
+    let value = read_set(alloc, reader, tags, set, is_operand, nesting, groups, at)?;
+    Ok(Operand::Whole(value))
 }
 
 /// The sequence or the alternation of two values.
@@ -185,19 +189,19 @@ impl Operands {
         }
     }
 
-    /// Appends a value.
-    fn push(&mut self, value: Value) -> Result<(), Memory>
-        ensures values { OnOk result (self.new.values.items ≡ self.old.values.items ++ value ∷ []) }
+    /// Appends an operand.
+    fn push(&mut self, operand: Operand) -> Result<(), Memory>
+        ensures values { OnOk result (self.new.values.items ≡ self.old.values.items ++ operand ∷ []) }
         ensures seen { self.new.seen ≡ self.old.seen }
         ensures groups { self.new.groups ≡ self.old.groups }
         ensures open_groups { self.new.open_groups ≡ self.old.open_groups }
     {
-        self.values.push(value)?;
+        self.values.push(operand)?;
         Ok(())
     }
 
-    /// The value that was read last, which is taken away.
-    fn pop(&mut self) -> Value
+    /// The operand that was read last, which is taken away.
+    fn pop(&mut self) -> Operand
         requires { 0 < length self.old.values.items }
         ensures values { self.old.values.items ≡ self.new.values.items ++ result ∷ [] }
         ensures seen { self.new.seen ≡ self.old.seen }
@@ -205,7 +209,7 @@ impl Operands {
         ensures open_groups { self.new.open_groups ≡ self.old.open_groups }
     {
         match self.values.pop() {
-            Some(value) => value,
+            Some(operand) => operand,
             None => unreachable!(),
         }
     }
@@ -236,7 +240,7 @@ impl Operands {
             is_operand,
         )?;
         self.groups = sum(self.groups, value.groups);
-        self.push(value)?;
+        self.push(Operand::Whole(value))?;
         Ok(())
     }
 
@@ -260,8 +264,9 @@ impl Operands {
         ensures bounded { AreBounded self.old.values.items → OnOk result (AreBounded self.new.values.items) }
         ensures depth { OnOk result (length self.new.values.items ≡ length self.old.values.items) }
     {
-        let value = self.pop().enclosed(alloc, room)?;
-        self.push(value)?;
+        let inner = self.pop().settled(alloc, room)?;
+        let value = inner.enclosed(alloc, room)?;
+        self.push(Operand::Whole(value))?;
         Ok(())
     }
 
@@ -276,9 +281,10 @@ impl Operands {
         let Some(before) = self.open_groups.pop() else {
             return Ok(());
         };
-        let inner = self.pop();
+        let last = self.pop();
+        let inner = last.settled(alloc, room)?;
         let value = inner.grouped(alloc, room, before)?;
-        self.push(value)?;
+        self.push(Operand::Whole(value))?;
         Ok(())
     }
 
@@ -311,12 +317,13 @@ impl Operands {
             Ok(bounds) => bounds,
             Err(fault) => return Err(Stop::Fault(fault)),
         };
-        let value = self.pop().repeated(alloc, room, bounds)?;
-        self.push(value)?;
+        let body = self.pop().settled(alloc, room)?;
+        let value = body.repeated(alloc, room, bounds)?;
+        self.push(Operand::Whole(value))?;
         Ok(())
     }
 
-    /// Replaces the last two values by a sequence or an alternation of them.
+    /// Replaces the last two operands by a sequence or an alternation of them.
     fn combine(&mut self, alloc: Global, room: Room, pairing: Pairing) -> Result<(), Memory>
         requires room { IsRoom room }
         requires depth { 2 ≤ length self.old.values.items }
@@ -325,14 +332,16 @@ impl Operands {
         ensures bounded { AreBounded self.old.values.items → OnOk result (AreBounded self.new.values.items) }
         ensures depth { OnOk result (suc (length self.new.values.items) ≡ length self.old.values.items) }
     {
-        let right = self.pop();
-        let left = self.pop();
+        let last = self.pop();
+        let right = last.settled(alloc, room)?;
+        let other = self.pop();
+        let left = other.settled(alloc, room)?;
         let value = paired(alloc, room, pairing, left, right)?;
-        self.push(value)?;
+        self.push(Operand::Whole(value))?;
         Ok(())
     }
 
-    /// Replaces the last two values by their difference.
+    /// Replaces the last two operands by their difference.
     fn subtract(
         &mut self,
         alloc: Global,
@@ -349,10 +358,11 @@ impl Operands {
         ensures bounded { AreBounded self.old.values.items → OnOk result (AreBounded self.new.values.items) }
         ensures depth { OnOk result (suc (length self.new.values.items) ≡ length self.old.values.items) }
     {
-        let right = self.pop();
+        let last = self.pop();
+        let right = last.settled(alloc, reader.room)?;
         let left = self.pop();
-        let value = difference(alloc, reader, left, right, is_operand, sign.at)?;
-        self.push(value)?;
+        let operand = difference(alloc, reader, left, right, is_operand, sign.at)?;
+        self.push(operand)?;
         Ok(())
     }
 
@@ -435,7 +445,7 @@ pub fn read_behind(
 {
     let steps = expression_steps(alloc, lexemes, from, until, are_groups(reader.options))?;
     let mut operands = take_steps(alloc, reader, lexemes, seen, groups, &steps)?;
-    let value = operands.pop();
+    let value = operands.pop().settled(alloc, reader.room)?;
     let tags = operands.seen.into_shared(alloc)?;
     Ok(Reading { value, tags })
 }

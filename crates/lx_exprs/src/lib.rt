@@ -6,6 +6,7 @@ pub mod definitions;
 pub mod expressions;
 pub mod laws;
 pub mod leaves;
+pub mod operands;
 pub mod points;
 pub mod sets;
 pub mod tags;

@@ -335,7 +335,7 @@ impl Value {
     ghost use Rattle.lx_regex.specs.Expr.{size_of, term_of};
     ghost use Rattle.lx_exprs.specs.Defined.{HasClass, IsTermKept, Meaning, is_built, kept, meant_class, term_of_meaning, whole_room};
     ghost use Rattle.lx_exprs.specs.Meanings.{alternated, enclosed, followed, grouped, repeated_by};
-    ghost use Rattle.lx_exprs.specs.Values.{AreTagsBelow, IsContent, IsCounted, IsBounded, IsRoom, IsValue, content_size};
+    ghost use Rattle.lx_exprs.specs.Values.{AreTagsBelow, HasPoints, IsContent, IsCounted, IsBounded, IsRoom, IsValue, content_size};
     ghost use Rattle.lx_exprs.specs.FitDefinitions.{FitsKept};
 
     /// What is read, where these are its numbers: past a limit only its class is kept.
@@ -442,6 +442,13 @@ impl Value {
         let tags = self.tags.max(right.tags);
         let content = self.content.beside(alloc, right.content)?;
         Value::limited(alloc, room, content, size, nesting, groups, tags)
+    }
+
+    /// The ranges of the class that it is, if it is one.
+    pub fn into_ranges(self, alloc: Global) -> Result<Option<Collected>, Memory>
+        ensures { (room : Room) (meaning : Meaning) → IsValue room meaning self → IfOk result (λ ranges. HasPoints ranges (meant_class meaning)) }
+    {
+        self.content.into_class(alloc)
     }
 
     /// The class that it is, if it is one.

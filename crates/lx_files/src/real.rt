@@ -63,8 +63,16 @@ impl<'r, R: rt::Files> Files for RealFiles<'r, R> {
 
 fn read_file<R: rt::Files>(system: &R, alloc: Global, name: &str) -> Result<Vec<u8>, ReadAnswer> {
     match fs::open(system, name) {
-        Ok(mut file) => read_to_end(alloc, &mut file),
+        Ok(mut file) => read_to_end(alloc, &mut file, told_length(system, name)),
         Err(error) => Err(answer_of(&error)),
+    }
+}
+
+/// The length in bytes that the system tells of a file; 0 where it tells none, or one past which a file is not read.
+fn told_length<R: rt::Files>(system: &R, name: &str) -> usize {
+    match fs::metadata(system, name) {
+        Ok(told) if told.len() <= LONGEST_FILE as u64 => told.len() as usize,
+        _ => 0,
     }
 }
 
@@ -76,13 +84,25 @@ fn answer_of(error: &io::Error) -> ReadAnswer {
     }
 }
 
+/// How many bytes may be put behind those of a file before they are copied.
+const SPARE_ROOM: usize = 4096;
+
 /// All bytes of a file, read piece by piece. Each turn gets a byte or was interrupted, so there are no more
 /// turns than bytes that a file may have, and then one.
 ///
+/// Room for `expected` bytes is taken first, and for some that a caller may put behind them, so that a file of that length is not copied
+/// while it is read.
+///
 /// It refuses with `Failed` where the file has more than 268,435,456 bytes or a read fails, with `Missing` where a read says
 /// that there is no file, and with `Memory` where memory is wanting.
-pub fn read_to_end<F: Read>(alloc: Global, file: &mut F) -> Result<Vec<u8>, ReadAnswer> {
-    let mut bytes = Vec::new(alloc);
+pub fn read_to_end<F: Read>(
+    alloc: Global,
+    file: &mut F,
+    expected: usize,
+) -> Result<Vec<u8>, ReadAnswer> {
+    let Ok(mut bytes) = Vec::with_capacity(alloc, expected.min(LONGEST_FILE) + SPARE_ROOM) else {
+        return Err(ReadAnswer::Memory);
+    };
     let mut buffer = [0u8; 16384];
     for _ in 0..=LONGEST_FILE {
         match file.read(&mut buffer) {

@@ -1,12 +1,19 @@
--- Places in a list by numbers, as a table holds them.
-use Rattle.std.specs.Prelude.{ℕ, Option, Some, None, nat_eq, slice_index_or, if◌then◌else◌}
+-- Places in a list by numbers, as a map holds them.
+use Rattle.std.specs.Prelude.{ℕ, suc, List, [], ◌∷◌, Option, Some, None, nat_eq, option_map, if◌then◌else◌}
+use Rattle.indexmap.specs.IndexMap.{get}
 use Rattle.lx_layout.specs.declared.number_index.NumberIndex.{NumberIndex}
 
 -- the place of a number
 abbrev pub noted_place : NumberIndex → (number : ℕ) → Option ℕ
-noted_place index number = slice_index_or index.places.items number None
+noted_place index number = get nat_eq index.places number
 
 -- the place of a number once a place has been noted for one; a place that it had before stays
 abbrev pub with_place : (before : Option ℕ) → (noted place number : ℕ) → Option ℕ
 with_place (Some before) noted place number = Some before
 with_place None noted place number = if nat_eq number noted then Some place else None
+
+-- the place of the first item that has a number
+abbrev pub first_place : {A : Type 0} → (number_of : A → ℕ) → List A → (number : ℕ) → Option ℕ
+first_place number_of [] number = None
+first_place number_of (item ∷ items) number =
+    if nat_eq number (number_of item) then Some 0 else option_map suc (first_place number_of items number)

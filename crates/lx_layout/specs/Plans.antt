@@ -1,11 +1,12 @@
 -- What is known before blocks are made: the transition classes and the tests of each state, the rules by which states accept, and where blocks stand.
-use Rattle.std.specs.Prelude.{◌≡◌, ℕ, suc, List, [], ◌∷◌, map, Option, Some, None, nat_eq, option_map, slice_index_or, if◌then◌else◌}
+use Rattle.std.specs.Prelude.{◌≡◌, ℕ, List, map, Option, None}
 use Rattle.std.specs.List.{AllByRecursion}
 use Rattle.lx_auto.specs.Automaton.{AreApart}
 use Rattle.lx_auto.specs.declared.automaton.Accept.{Accept}
 use Rattle.lx_auto.specs.declared.automaton.State.{State}
 use Rattle.lx_ccode.specs.declared.piece.CodeBlock.{CodeBlock}
 use Rattle.lx_ccode.specs.declared.piece.Stmt.{Stmt}
+use Rattle.lx_layout.specs.NumberIndexes.{first_place, noted_place}
 use Rattle.lx_layout.specs.declared.accepts.First.{First}
 use Rattle.lx_layout.specs.declared.accepts.Firsts.{Firsts}
 
@@ -14,12 +15,11 @@ seen_accepts firsts = map (λ first. first.accept.now) firsts
 
 -- the place of a rule among those of accepts, if it is there
 abbrev pub rule_index : List Accept → (rule : ℕ) → Option ℕ
-rule_index [] rule = None
-rule_index (accept ∷ accepts) rule = if nat_eq rule accept.rule then Some 0 else option_map suc (rule_index accepts rule)
+rule_index accepts rule = first_place (λ (accept : Accept). accept.rule) accepts rule
 
--- the table has the places of the rules
+-- the index has the places of the rules
 abbrev pub AreIndexed : Firsts → Type 0
-AreIndexed firsts = (rule : ℕ) → slice_index_or firsts.places.items rule None ≡ rule_index (seen_accepts firsts.list.items) rule
+AreIndexed firsts = (rule : ℕ) → noted_place firsts.places rule ≡ rule_index (seen_accepts firsts.list.items) rule
 
 -- blocks of these statements, of which none begins a condition's scanner
 abbrev pub unlabelled : List (List Stmt) → List CodeBlock

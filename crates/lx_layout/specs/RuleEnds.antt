@@ -1,8 +1,8 @@
 -- What the rules of a scanner do at their ends, as the code has it.
-use Rattle.std.specs.Prelude.{◌≡◌, ℕ, suc, ◌+◌, ◌*◌, ◌≤◌, List, [], ◌∷◌, length, Option, Some, None, IsSome, nat_eq, option_map, if◌then◌else◌}
+use Rattle.std.specs.Prelude.{◌≡◌, ℕ, ◌+◌, ◌*◌, ◌≤◌, List, [], ◌∷◌, length, Option, None, IsSome, nat_eq, if◌then◌else◌}
 use Rattle.lx_auto.specs.declared.automaton.Accept.{Accept}
 use Rattle.lx_layout.specs.Endings.{Ending}
-use Rattle.lx_layout.specs.NumberIndexes.{noted_place}
+use Rattle.lx_layout.specs.NumberIndexes.{first_place, noted_place}
 use Rattle.lx_layout.specs.Rules.{names_of}
 use Rattle.lx_layout.specs.declared.rule_ends.EndIndex.{EndIndex}
 use Rattle.lx_layout.specs.declared.rule_ends.RuleEnd.{RuleEnd}
@@ -28,14 +28,13 @@ endings_of (end ∷ ends) number = if nat_eq number end.rule.now.number then end
 
 -- its place
 abbrev pub end_place : List RuleEnd → (number : ℕ) → Option ℕ
-end_place [] number = None
-end_place (end ∷ ends) number = if nat_eq number end.rule.now.number then Some 0 else option_map suc (end_place ends number)
+end_place ends number = first_place (λ (end : RuleEnd). end.rule.now.number) ends number
 
 -- some rule has this number
 abbrev pub HasEnd : List RuleEnd → (number : ℕ) → Type 0
 HasEnd ends number = IsSome (end_place ends number)
 
--- the table has the places of the rules
+-- the index has the places of the rules
 abbrev pub AreEndsIndexed : EndIndex → Type 0
 AreEndsIndexed index = (number : ℕ) → noted_place index.places number ≡ end_place index.ends.now number
 

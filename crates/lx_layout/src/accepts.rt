@@ -1,5 +1,5 @@
 //! The rules by which states accept, and by which a match can fall back to a state.
-ghost use Rattle.std.specs.Prelude.{◌≡◌, ℕ, ◌<◌, ◌∷◌, [], ◌++◌, None, IfOk, OnOk, length, slice_index_or};
+ghost use Rattle.std.specs.Prelude.{◌≡◌, ◌∷◌, [], ◌++◌, IfOk, OnOk};
 ghost use Rattle.lx_layout.specs.Layout.{rule_place, with_accept};
 ghost use Rattle.lx_layout.specs.Halting.{ended_accept, ended_accepts, saved_accepts};
 ghost use Rattle.lx_layout.specs.Halting as halting;
@@ -7,6 +7,7 @@ ghost use Rattle.lx_layout.specs.Marks.{seen_marks};
 ghost use Rattle.lx_layout.specs.Plans.{AreIndexed, rule_index, seen_accepts};
 
 use crate::halting::Marks;
+use crate::number_index::NumberIndex;
 use lx_auto::{Accept, State};
 use lx_base::Memory;
 use std::alloc::Global;
@@ -22,18 +23,7 @@ pub(crate) struct First<'a> {
 pub(crate) struct Firsts<'a> {
     pub list: Vec<First<'a>>,
     /// The places of rules in the list, by their numbers.
-    pub places: Vec<Option<usize>>,
-}
-
-/// Makes a table so long that it has a place for a rule.
-pub(crate) fn grow(places: &mut Vec<Option<usize>>, rule: u32) -> Result<(), Memory>
-    ensures same { OnOk result ((other : ℕ) → slice_index_or places.new.items other None ≡ slice_index_or places.old.items other None) }
-    ensures long { OnOk result (rule < length places.new.items) }
-{
-    while places.len() <= rule as usize {
-        places.push(None)?;
-    }
-    Ok(())
+    pub places: NumberIndex,
 }
 
 impl<'a> Firsts<'a> {
@@ -44,7 +34,7 @@ impl<'a> Firsts<'a> {
     {
         Firsts {
             list: Vec::new(alloc),
-            places: Vec::new(alloc),
+            places: NumberIndex::new(alloc),
         }
     }
 
@@ -53,10 +43,7 @@ impl<'a> Firsts<'a> {
         requires { AreIndexed self.now }
         ensures { result ≡ rule_index (seen_accepts self.now.list.items) rule }
     {
-        match self.places.get(rule as usize) {
-            Some(place) => *place,
-            None => None,
-        }
+        self.places.find(rule)
     }
 
     /// The place of a rule among those of the accepts, counted from 0, or how many accepts there are.
@@ -72,15 +59,13 @@ impl<'a> Firsts<'a> {
 
     /// Appends the first accept by a rule.
     fn push(&mut self, accept: &'a Accept) -> Result<(), Memory>
-        requires indexed { AreIndexed self.old }
-        requires first { rule_index (seen_accepts self.old.list.items) accept.now.rule ≡ None }
+        requires { AreIndexed self.old }
         ensures pushed { OnOk result (seen_accepts self.new.list.items ≡ seen_accepts self.old.list.items ++ accept.now ∷ []) }
         ensures indexed { OnOk result (AreIndexed self.new) }
     {
         let place = self.list.len();
-        grow(&mut self.places, accept.rule)?;
         self.list.push(First { accept })?;
-        self.places[accept.rule as usize] = Some(place);
+        self.places.note(accept.rule, place)?;
         Ok(())
     }
 

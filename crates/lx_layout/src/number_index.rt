@@ -1,15 +1,16 @@
-//! A table of places by numbers.
-ghost use Rattle.std.specs.Prelude.{◌≡◌, ℕ, ◌<◌, None, OnOk, length};
+//! Places by numbers.
+ghost use Rattle.std.specs.Prelude.{◌≡◌, ℕ, None, OnOk};
 ghost use Rattle.lx_layout.specs.NumberIndexes.{noted_place, with_place};
 
+use indexmap::IndexMap;
 use lx_base::Memory;
 use std::alloc::Global;
 
 /// Places in a list by numbers.
 #[derive(Drop)]
 pub(crate) struct NumberIndex {
-    /// The place of each number, or none.
-    pub places: Vec<Option<usize>>,
+    /// The places of the numbers that have one.
+    pub places: IndexMap<u32, usize>,
 }
 
 impl NumberIndex {
@@ -18,7 +19,7 @@ impl NumberIndex {
         ensures { (number : ℕ) → noted_place result number ≡ None }
     {
         NumberIndex {
-            places: Vec::new(alloc),
+            places: IndexMap::new(alloc),
         }
     }
 
@@ -26,30 +27,15 @@ impl NumberIndex {
     pub fn find(&self, number: u32) -> Option<usize>
         ensures { result ≡ noted_place self.now number }
     {
-        match self.places.get(number as usize) {
-            Some(place) => *place,
-            None => None,
-        }
-    }
-
-    /// Makes the table so long that it has a place for a number.
-    fn grow(&mut self, number: u32) -> Result<(), Memory>
-        ensures same { OnOk result ((other : ℕ) → noted_place self.new other ≡ noted_place self.old other) }
-        ensures long { OnOk result (number < length self.new.places.items) }
-    {
-        while self.places.len() <= number as usize {
-            self.places.push(None)?;
-        }
-        Ok(())
+        self.places.get(&number).copied()
     }
 
     /// Notes the place of a number, unless it has one.
     pub fn note(&mut self, number: u32, place: usize) -> Result<(), Memory>
         ensures { OnOk result ((other : ℕ) → noted_place self.new other ≡ with_place (noted_place self.old other) number place other) }
     {
-        self.grow(number)?;
-        if self.places[number as usize].is_none() {
-            self.places[number as usize] = Some(place);
+        if self.places.get(&number).is_none() {
+            self.places.insert(number, place)?;
         }
         Ok(())
     }

@@ -8,7 +8,7 @@ ghost use Rattle.lx_layout.specs.Numbers.{AreBelow, IsBelow};
 use lx_auto::{Auto, Op};
 use lx_base::Memory;
 use lx_ccode::Stmt;
-use lx_regs::sequence;
+use lx_sequence::sequence;
 use std::alloc::Global;
 
 /// The statement of an operation. Statements count registers from 1 and histories from 0.

@@ -1,7 +1,6 @@
 pub mod Arrows
 pub mod Bounds
 pub mod Colours
-pub mod CopyOps
 pub mod Dead
 pub mod EffectIndexes
 pub mod Graphs
@@ -19,13 +18,9 @@ pub mod Liveness
 pub mod NameTables
 pub mod Outcomes
 pub mod Pairs
-pub mod ParallelCopies
 pub mod Reached
 pub mod Readers
 pub mod Reads
-pub mod SequenceExamples
 pub mod Shapes
 pub mod SharedNames
 pub mod Tested
-pub mod Turns
-pub mod WaitingCopies

@@ -2,10 +2,11 @@
 use Rattle.std.proofs.Common.{◌≡◌, ◌∙◌, sym, ap, ap₂, subst, ℕ, suc, ◌+◌, ◌*◌, ◌/◌, ◌%◌, ◌<◌, ◌≤◌, Bool, true, false, List, Option, length, replicate, arith}
 use Rattle.std.specs.Prelude.{if◌then◌else◌}
 use Rattle.std.specs.List.{list_any}
-use Rattle.std.proofs.Math.Nat.{add-mul-mod_self_right, mul-div_left, mul-mod_left}
-use Rattle.std.proofs.lemmas.List.{length-append, length-replicate}
+use Rattle.std.proofs.Math.Nat.{mul-div_left, mul-mod_left}
+use Rattle.std.proofs.lemmas.List.{length-replicate}
 use Rattle.lx_ccode.specs.declared.piece.Piece.{Piece}
 use Rattle.lx_ccode.specs.Statements.{all_statements, is_state}
+use Rattle.lx_window.proofs.PaddedBytes.{length-padded}
 use Rattle.lx_window.proofs.StreamUnits.{length-stream_units}
 use Rattle.lx_window.specs.MemorySource.{MemorySource}
 use Rattle.lx_window.specs.Units.{IsWhole, stream_units}
@@ -13,19 +14,17 @@ use Rattle.lx_window.specs.WindowView.{WindowView}
 use Rattle.lx_window.specs.Windows.{IsFormed, empty_window}
 use Rattle.lx_run.specs.Ends.{EndsAs}
 use Rattle.lx_run.specs.Readings.{Reading}
-use Rattle.lx_run.specs.Streams.{holds_all, input_units, padded, padding}
+use Rattle.lx_run.specs.Streams.{holds_all, input_units, padded, padding, stream_of}
 use Rattle.lx_run.specs.Texts.{beginning, reading_of, run_from, run_text}
 use Rattle.lx_run.specs.Windows.{MayBegin, reading_by}
 use Rattle.lx_run.specs.declared.ends.RunEnd.{RunEnd}
 
--- an input of whole units and the padding are whole units
-pub padded-whole : (piece : Piece) (input stream : List ℕ) → stream ≡ padded piece input → length input % piece.unit ≡ 0
-    → IsWhole piece.unit stream
-padded-whole piece input stream is whole =
-    ap (λ (text : List ℕ). length text % piece.unit) is
-    ∙ ap (λ (count : ℕ). count % piece.unit) (length-append input (replicate (padding piece * piece.unit) 0)
-    ∙ ap (λ (count : ℕ). length input + count) (length-replicate (padding piece * piece.unit) 0))
-    ∙ add-mul-mod_self_right (length input) (padding piece) piece.unit ∙ whole
+-- so many bytes have the input and the padding
+pub padded-long : (piece : Piece) (input : List ℕ) (stream bytes units : ℕ) → stream ≡ bytes + units * piece.unit → bytes ≡ length input
+    → units ≡ padding piece → stream ≡ length (padded piece input)
+padded-long piece input stream bytes units stream_is bytes_is units_is =
+    stream_is ∙ ap₂ (λ (front count : ℕ). front + count * piece.unit) bytes_is units_is
+    ∙ sym (length-padded input (padding piece * piece.unit))
 
 -- the buffer is as long as was asked
 pub buffer-long : (piece : Piece) (window size count : ℕ) (stream buffer zeros : List ℕ) (holds : Bool) → buffer ≡ zeros
@@ -46,35 +45,35 @@ units-early piece stream count unit most count_is unit_is early = subst (λ (uni
 abbrev pub source_of : (unit step : ℕ) → (leaves : Bool) → List ℕ → MemorySource
 source_of unit step leaves bytes = record { unit = unit; bytes = bytes; step = step; leaves = leaves; leaves_next = leaves; pauses = 0 }
 
-module _ (piece : Piece) (window : ℕ) (stream buffer : List ℕ)
-    (long : length buffer ≡ (if holds_all piece then length stream else window * piece.unit)) where
+module _ (piece : Piece) (window : ℕ) (input buffer : List ℕ)
+    (long : length buffer ≡ (if holds_all piece then length (padded piece input) else window * piece.unit)) where
   -- the window has room for whole units
-  pub buffer-whole : IsWhole piece.unit stream → IsWhole piece.unit buffer
+  pub buffer-whole : IsWhole piece.unit (padded piece input) → IsWhole piece.unit buffer
   buffer-whole whole = ap (λ (count : ℕ). count % piece.unit) long ∙ by (holds_all piece) where
-    by : (test : Bool) → (if test then length stream else window * piece.unit) % piece.unit ≡ 0
+    by : (test : Bool) → (if test then length (padded piece input) else window * piece.unit) % piece.unit ≡ 0
     by true = whole
     by false = mul-mod_left window piece.unit
 
   -- so many as a run reads at a time
-  buffer-units : 0 < piece.unit → length buffer / piece.unit ≡ (if holds_all piece then length (stream_units piece.unit stream) else window)
+  buffer-units : 0 < piece.unit → length buffer / piece.unit ≡ (if holds_all piece then length (stream_of piece input) else window)
   buffer-units some = ap (λ (count : ℕ). count / piece.unit) long ∙ by (holds_all piece) where
     by : (test : Bool)
-        → (if test then length stream else window * piece.unit) / piece.unit ≡ (if test then length (stream_units piece.unit stream) else window)
-    by true = sym (length-stream_units piece.unit stream)
+        → (if test then length (padded piece input) else window * piece.unit) / piece.unit ≡ (if test then length (stream_of piece input) else window)
+    by true = sym (length-stream_units piece.unit (padded piece input))
     by false = mul-div_left window some
 
   -- a window and a source that are made for a run
   module _ (step : ℕ) (states : Bool) (view : WindowView) (source : MemorySource) (some : 0 < piece.unit)
       (view_is : view ≡ empty_window piece.unit 0 (length buffer))
-      (source_is : source ≡ source_of piece.unit step states stream) where
-    made-units : stream_units source.unit source.bytes ≡ stream_units piece.unit stream
+      (source_is : source ≡ source_of piece.unit step states (padded piece input)) where
+    made-units : stream_units source.unit source.bytes ≡ stream_of piece input
     made-units = ap (λ (made : MemorySource). stream_units made.unit made.bytes) source_is
 
-    made-size : view.size ≡ (if holds_all piece then length (stream_units piece.unit stream) else window)
+    made-size : view.size ≡ (if holds_all piece then length (stream_of piece input) else window)
     made-size = ap (λ (made : WindowView). made.size) view_is ∙ buffer-units some
 
-    pub MayBegin-made : IsFormed view → IsWhole piece.unit stream → states ≡ list_any is_state (all_statements piece.blocks)
-        → length stream / piece.unit ≤ 0x4000_0000_0000_0000
+    pub MayBegin-made : IsFormed view → IsWhole piece.unit (padded piece input) → states ≡ list_any is_state (all_statements piece.blocks)
+        → length (padded piece input) / piece.unit ≤ 0x4000_0000_0000_0000
         → MayBegin piece view source
     MayBegin-made formed whole states_is early =
         let units = ap length made-units in
@@ -89,32 +88,30 @@ module _ (piece : Piece) (window : ℕ) (stream buffer : List ℕ)
           leaves = ap (λ (made : MemorySource). made.leaves) source_is ∙ states_is;
           leaves_next = ap (λ (made : MemorySource). made.leaves_next) source_is
               ∙ sym (ap (λ (made : MemorySource). made.leaves) source_is);
-          early = let count = length-stream_units piece.unit stream in omega (arith, units, count, early);
+          early = let count = length-stream_units piece.unit (padded piece input) in omega (arith, units, count, early);
           room = λ holds.
-              let size = made-size ∙ ap (λ (test : Bool). if test then length (stream_units piece.unit stream) else window) holds in
+              let size = made-size ∙ ap (λ (test : Bool). if test then length (stream_of piece input) else window) holds in
               omega (arith, units, size);
         }
 
-    reading_by-made : (input : List ℕ) → stream ≡ padded piece input → reading_by view source ≡ reading_of piece input window step
-    reading_by-made input is =
+    reading_by-made : reading_by view source ≡ reading_of piece input window step
+    reading_by-made =
         ap (λ (units : List ℕ). reading_with units view.size source.step) made-units
-        ∙ ap (λ (size : ℕ). reading_with (stream_units piece.unit stream) size source.step) made-size
-        ∙ ap (λ (count : ℕ). reading_with (stream_units piece.unit stream)
-        (if holds_all piece then length (stream_units piece.unit stream) else window) count)
-        (ap (λ (made : MemorySource). made.step) source_is)
-        ∙ ap (λ (bytes : List ℕ). reading_with (stream_units piece.unit bytes)
-        (if holds_all piece then length (stream_units piece.unit bytes) else window) step) is where
+        ∙ ap (λ (size : ℕ). reading_with (stream_of piece input) size source.step) made-size
+        ∙ ap (λ (count : ℕ). reading_with (stream_of piece input)
+        (if holds_all piece then length (stream_of piece input) else window) count)
+        (ap (λ (made : MemorySource). made.step) source_is) where
           reading_with : List ℕ → (size step : ℕ) → Reading
           reading_with units size step = record { stream = units; size = size; step = step }
 
     -- such a run gives the text of the run over the input
-    pub EndsAs-made : (input : List ℕ) (units : ℕ) (given given' : Option (List ℕ)) (faults faults' : ℕ) (end : RunEnd)
-        → stream ≡ padded piece input → units ≡ input_units piece input
+    pub EndsAs-made : (units : ℕ) (given given' : Option (List ℕ)) (faults faults' : ℕ) (end : RunEnd)
+        → units ≡ input_units piece input
         → EndsAs (run_from (reading_by view source) units (suc (length (reading_by view source).stream))
         (beginning piece (reading_by view source))) given given' faults faults' end
         → EndsAs (run_text piece input window step) given given' faults faults' end
-    EndsAs-made input units given given' faults faults' end is units_is ends =
+    EndsAs-made units given given' faults faults' end units_is ends =
         subst (λ (reading : Reading). EndsAs (run_from reading (input_units piece input) (suc (length reading.stream))
-        (beginning piece reading)) given given' faults faults' end) (reading_by-made input is)
+        (beginning piece reading)) given given' faults faults' end) reading_by-made
         (subst (λ (count : ℕ). EndsAs (run_from (reading_by view source) count (suc (length (reading_by view source).stream))
         (beginning piece (reading_by view source))) given given' faults faults' end) units_is ends)

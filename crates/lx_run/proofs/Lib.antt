@@ -6,6 +6,8 @@ pub mod Inputs
 pub mod MatchBounds
 pub mod MatchLemmas
 pub mod MatchLoops
+pub mod MatchRuns
+pub mod NewTags
 pub mod PutTexts
 pub mod RefilledWindows
 pub mod WindowEnds

@@ -1,5 +1,6 @@
 pub mod Ends
 pub mod Lines
+pub mod MatchRuns
 pub mod Matches
 pub mod Puts
 pub mod Readings

@@ -1,10 +1,11 @@
 //! The statements by which a match gave values, and how these are printed.
-ghost use Rattle.std.specs.Prelude.{◌≡◌, ◌++◌, if◌then◌else◌, [], codes, option_map, take, unwrap_or};
+ghost use Rattle.std.specs.Prelude.{◌≡◌, ◌<◌, ◌++◌, if◌then◌else◌, [], codes, get_or, length, option_map, take, unwrap_or};
 ghost use Rattle.std.specs.List.{list_any};
+ghost use Rattle.lx_step.specs.Firsts.{no_place};
 ghost use Rattle.lx_step.specs.Held.{cond_of};
 ghost use Rattle.lx_run.specs.Puts.{IsPut};
 ghost use Rattle.lx_run.specs.Tags.{new_tag_text};
-ghost use Rattle.lx_run.specs.Values.{assignments, gives_same, groups_text, is_cond, is_count, statement_at, statements_at, tags_text, values_text};
+ghost use Rattle.lx_run.specs.Values.{assignments, groups_text, is_cond, is_count, statement_at, statements_at, tags_text, values_text};
 
 use crate::puts::put_parts;
 use crate::values::{put_groups, put_tag};
@@ -20,48 +21,23 @@ fn statement_at<'p>(piece: &'p Piece, place: StmtAt) -> Option<&'p Stmt>
     block.stmts.as_slice().get(place.stmt as usize)
 }
 
-/// Whether both statements give the same tag a value of the same sort.
-fn gives_same(statement: &Stmt, other: &Stmt) -> bool
-    ensures { result ≡ gives_same statement.now other.now }
-{
-    match (statement, other) {
-        (Stmt::Tag(name, sort, _), Stmt::Tag(other_name, other_sort, _)) => {
-            name.as_slice() == other_name.as_slice() && *sort == *other_sort
-        }
-        _ => false,
-    }
-}
-
-/// Whether a statement at the places gives the tag of the statement a value of the same sort.
-fn is_given(piece: &Piece, places: &[StmtAt], statement: &Stmt) -> bool
-    ensures { result ≡ list_any (gives_same statement.now) (statements_at piece.now places.now) }
-{
-    for place in places {
-        if let Some(other) = statement_at(piece, *place) {
-            if gives_same(statement, other) {
-                return true;
-            }
-        }
-    }
-    false
-}
-
-/// Puts the value that the statement at a place gave a tag, unless one at the places before gave the tag a value of the same
-/// sort.
+/// Puts the value that the statement at one of the places of the last match gave a tag, unless one at the places before gave the tag a value
+/// of the same sort.
 fn put_new_tag<O: Sink>(
     out: &mut O,
     piece: &Piece,
     lexer: &Lexer<'_>,
-    before: &[StmtAt],
-    place: StmtAt,
+    at: usize,
 ) -> Result<(), PutAnswer>
+    requires piece { lexer.now.piece ≡ piece.now }
+    requires within { at < length lexer.now.assigned }
     ensures { IsPut (O.given out.old) (O.given out.new) (O.faults out.old) (O.faults out.new)
-        (new_tag_text lexer.now (statements_at piece.now before.now) (statement_at piece.now place)) result }
+        (new_tag_text lexer.now (statements_at piece.now (take at lexer.now.assigned)) (statement_at piece.now (get_or lexer.now.assigned at no_place))) result }
 {
-    let Some(statement) = statement_at(piece, place) else {
+    let Some(statement) = statement_at(piece, lexer.assigned()[at]) else {
         return Ok(());
     };
-    if is_given(piece, before, statement) {
+    if !lexer.is_first(at) {
         return Ok(());
     }
     put_tag(out, lexer, statement)
@@ -75,7 +51,7 @@ fn put_tags<O: Sink>(out: &mut O, piece: &Piece, lexer: &Lexer<'_>) -> Result<()
 {
     let places = lexer.assigned();
     for at in 0..places.len() {
-        put_new_tag(out, piece, lexer, &places[..at], places[at])?;
+        put_new_tag(out, piece, lexer, at)?;
     }
     Ok(())
 }

@@ -4,6 +4,7 @@
 mod asks;
 mod assignments;
 mod ends;
+pub mod laws;
 mod line_sinks;
 mod lines;
 mod matches;

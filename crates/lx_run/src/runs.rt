@@ -5,7 +5,7 @@ ghost use Rattle.lx_run.specs.Ends.{EndsAs};
 ghost use Rattle.lx_run.specs.Texts.{run_text};
 
 use crate::ends::RunEnd;
-use crate::streams::{ending_of, padded, zeros};
+use crate::streams::{ending_of, padded_length, zeros};
 use crate::windows::run_window;
 use lx_base::Memory;
 use lx_ccode::Piece;
@@ -21,7 +21,8 @@ const MOST_UNITS: u64 = 0x4000_0000_0000_0000;
 /// match, as soon as it is made, and one for the end of the run.
 ///
 /// The window has so many units, and a refill brings at most `step` of them; a scanner that asks for no units has the whole input in its
-/// window. The input is not copied. `Memory` is answered too where the input has more than 2^62 units.
+/// window. The input is not copied, and the padding behind it is not held in memory. `Memory` is answered too where the two have more than
+/// 2^62 units.
 pub fn run_over<O: Sink>(
     alloc: Global,
     piece: &Piece,
@@ -74,14 +75,14 @@ fn run_in<O: Sink>(
     let ending = ending_of(piece);
     let unit = u64::from(piece.unit);
     let units = input.len() as u64 / unit;
-    let stream = padded(piece, ending.padding, input)?;
-    if stream.len() as u64 / unit > MOST_UNITS {
+    let stream = padded_length(input.len() as u64, ending.padding, piece.unit)?;
+    if stream / unit > MOST_UNITS {
         return Err(Memory);
     }
-    let size = buffer_size(ending.holds_all, stream.len() as u64, window, piece.unit);
+    let size = buffer_size(ending.holds_all, stream, window, piece.unit);
     let mut buffer = zeros(alloc, size)?;
     let lexer = Lexer::load(alloc, piece)?;
     let mut over = Window::over(&mut buffer, piece.unit, 0);
-    let mut source = MemRefill::over(&stream, piece.unit, step, ending.states);
+    let mut source = MemRefill::padded(&input, ending.padding, piece.unit, step, ending.states);
     Ok(run_window(piece, lexer, &mut over, &mut source, units, out))
 }

@@ -1,5 +1,5 @@
 //! The stream that a scanner is run over.
-ghost use Rattle.std.specs.Prelude.{◌≡◌, ◌*◌, ◌++◌, IfOk, OnOk, replicate};
+ghost use Rattle.std.specs.Prelude.{◌≡◌, ◌+◌, ◌*◌, ◌++◌, IfOk, OnOk, replicate};
 ghost use Rattle.std.specs.List.{list_any};
 ghost use Rattle.lx_ccode.specs.Statements.{all_statements, is_state};
 ghost use Rattle.lx_run.specs.Streams as spec;
@@ -99,6 +99,15 @@ pub struct InputEnd {
     pub stops: bool,
 }
 
+/// How many bytes an input of so many has with the padding behind it. `Memory` is answered where no number has that many.
+pub fn padded_length(bytes: u64, padding: u32, unit: u32) -> Result<u64, Memory>
+    ensures { IfOk result (λ length. length ≡ bytes + padding * unit) }
+{
+    bytes
+        .checked_add(u64::from(padding) * u64::from(unit))
+        .ok_or(Memory)
+}
+
 /// Appends bytes 0 to the text.
 fn append_zeros(text: &mut Vec<u8>, count: u64) -> Result<(), Memory>
     ensures { OnOk result (text.new.items ≡ text.old.items ++ replicate count 0) }
@@ -118,14 +127,4 @@ pub fn zeros(alloc: Global, count: u64) -> Result<Vec<u8>, Memory>
     let mut zeros = Vec::new(alloc);
     append_zeros(&mut zeros, count)?;
     Ok(zeros)
-}
-
-/// The input and the padding behind it, in the place of the input.
-pub fn padded(piece: &Piece, padding: u32, input: Vec<u8>) -> Result<Vec<u8>, Memory>
-    requires { padding ≡ spec.padding piece.now }
-    ensures { IfOk result (λ stream. stream.items ≡ spec.padded piece.now input.items) }
-{
-    let mut stream = input;
-    append_zeros(&mut stream, u64::from(padding) * u64::from(piece.unit))?;
-    Ok(stream)
 }

@@ -50,7 +50,7 @@ none-left : (told : Outcome) (old new : Held) (start : ℕ) (point : Point) (las
 none-left outcome.NeedFill old new start point last end holds = absurd end
 none-left _ old new start point last end holds = holds.left
 
-Tells-end : (told : Outcome) → IsEnd told → Tells told (outcome_of told)
+pub Tells-end : (told : Outcome) → IsEnd told → Tells told (outcome_of told)
 Tells-end (outcome.Rule number) end = refl
 Tells-end (outcome.Jump number) end = refl
 Tells-end outcome.NoRule end = refl
@@ -230,7 +230,7 @@ module _ (piece : Piece) (stream : List ℕ) (start : ℕ) (cond : List ℕ) (fi
   run_of-no_code none = rw none refl
 
   -- what a match leads to from its entry is its run
-  run_of-leads : EndsFrom piece stream start 0 (code_or_none code) (fresh_machine start first cond) answers end → the_run ≡ end
+  pub run_of-leads : EndsFrom piece stream start 0 (code_or_none code) (fresh_machine start first cond) answers end → the_run ≡ end
   run_of-leads leads = by code refl where
     by : (found : Option (List Stmt)) → code ≡ found → the_run ≡ end
     by None none =

@@ -8,6 +8,7 @@ pub mod CondNumbers
 pub mod CountedNumbers
 pub mod FedWindows
 pub mod FilledWindows
+pub mod FirstNotes
 pub mod Following
 pub mod GivenLengths
 pub mod GroupCounts
@@ -26,6 +27,7 @@ pub mod StoredStates
 pub mod Tables
 pub mod TagLists
 pub mod TagReaders
+pub mod TagTables
 pub mod Underway
 pub mod Ways
 pub mod WindowCalls

@@ -34,7 +34,7 @@ module _ (piece : Piece) (stream : List ℕ) (start : ℕ) where
       ⊎ ((steps < loop_count piece start machine.limit) × IsRun piece stream start steps code machine answers end)
 
   -- a step, and what comes from where it went on
-  IsRun-step : (steps : ℕ) (statement : Stmt) (rest code : List Stmt) (machine after : Machine) (answers others : List Answer) (end : Ended)
+  pub IsRun-step : (steps : ℕ) (statement : Stmt) (rest code : List Stmt) (machine after : Machine) (answers others : List Answer) (end : Ended)
       → step piece stream statement rest machine answers ≡ goes_on code after others → EndsFrom (suc steps) code after others end
       → IsRun piece stream start steps (statement ∷ rest) machine answers end
   IsRun-step steps statement rest code machine after answers others end made (inl (count, is)) =
@@ -56,7 +56,7 @@ module _ (piece : Piece) (stream : List ℕ) (start : ℕ) where
     IsRun-waits end (loop_step made count) = loop_step (asked ∙ made) count
     IsRun-waits end (next_step made count run) = next_step (asked ∙ made) count run
 
-    EndsFrom-waits : (code : List Stmt) (end : Ended) → code ≡ Need units ∷ rest → steps < loop_count piece start machine.limit → EndsFrom steps code moved others end
+    pub EndsFrom-waits : (code : List Stmt) (end : Ended) → code ≡ Need units ∷ rest → steps < loop_count piece start machine.limit → EndsFrom steps code moved others end
         → EndsFrom steps code machine (refilled (more 0 added) ∷ others) end
     EndsFrom-waits code end is unlooped (inl (count, same)) = absurd (omega (arith, loop_count-more piece start machine.limit added, count, unlooped))
     EndsFrom-waits code end is unlooped (inr (fewer, run)) = inr (
@@ -139,18 +139,18 @@ module _ (piece : Piece) (stream : List ℕ) (start : ℕ) where
 
   -- ---- a match that is left, and resumed
 
-  come_back-left : (refills : List Refill) (machine : Machine) (others : List Answer) (code : List Stmt) → code_at piece.blocks (stored_block piece.blocks machine.state) ≡ Some code
+  pub come_back-left : (refills : List Refill) (machine : Machine) (others : List Answer) (code : List Stmt) → code_at piece.blocks (stored_block piece.blocks machine.state) ≡ Some code
       → come_back piece.blocks refills machine others ≡ goes_on code (record machine { unit = None; limit = machine.limit + units_of_all refills }) others
   come_back-left refills machine others code is = ap (λ target. jump target (record machine { unit = None; limit = machine.limit + units_of_all refills }) others) is
 
-  step-left : (statement : Stmt) (rest : List Stmt) (refills : List Refill) (machine : Machine) (others : List Answer) → IsAsking statement machine
+  pub step-left : (statement : Stmt) (rest : List Stmt) (refills : List Refill) (machine : Machine) (others : List Answer) → IsAsking statement machine
       → step piece stream statement rest machine (left refills ∷ others) ≡ come_back piece.blocks refills machine others
   step-left (Need units) rest refills machine others asking =
       ap (λ found. if found then goes_on rest machine (left refills ∷ others) else come_back piece.blocks refills machine others) asking
   step-left (Try block) rest refills machine others asking = refl
   step-left _ rest refills machine others asking = absurd asking
 
-  IsAsking-behind : (front : List Value) (statement : Stmt) (machine : Machine) → IsAsking statement machine → IsAsking statement (behind front machine)
+  pub IsAsking-behind : (front : List Value) (statement : Stmt) (machine : Machine) → IsAsking statement machine → IsAsking statement (behind front machine)
   IsAsking-behind front (Need units) machine asking = asking
   IsAsking-behind front (Try block) machine asking = tt
   IsAsking-behind front _ machine asking = absurd asking

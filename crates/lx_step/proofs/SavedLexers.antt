@@ -10,12 +10,14 @@ use Rattle.lx_ccode.specs.Statements.{all_statements, statement_count}
 use Rattle.lx_ccode.specs.States.{stores}
 use Rattle.lx_ccode.specs.Validity.{IsValid}
 use Rattle.lx_step.specs.declared.answers.StmtAt.{StmtAt}
+use Rattle.lx_step.specs.declared.firsts.First.{First}
 use Rattle.lx_step.specs.declared.matches.Program.{Program}
 use Rattle.lx_step.specs.declared.numbers.Numbering.{Numbering}
 use Rattle.lx_step.specs.declared.saved.Counts.{Counts}
 use Rattle.lx_step.specs.declared.scanner.Scanner.{Scanner}
-use Rattle.lx_step.specs.declared.tags.TagName.{TagName}
+use Rattle.lx_step.specs.declared.tags.TagTable.{TagTable}
 use Rattle.lx_step.specs.Conds.{IsCond, cond_name, cond_number}
+use Rattle.lx_step.specs.Firsts.{AreFirsts}
 use Rattle.lx_step.specs.Given.{Given}
 use Rattle.lx_step.specs.Left.{IsFrom, Left, left_of}
 use Rattle.lx_step.specs.LexerParts.{IsLexerOf, IsSaved}
@@ -42,8 +44,8 @@ left-state P scanner steps h = by scanner.state h where
   by (Some state) h = h
 
 -- a lexer fits its own piece
-pub Fits-own : (program : Program) (start steps conds : ℕ) (scanner : Scanner) (given : Given) (names : List TagName) (assigned : List StmtAt) (room : ℕ) (kept : Kept)
-    → IsLexerOf program start scanner given names assigned room → conds ≡ length program.piece.now.conds
+pub Fits-own : (program : Program) (start steps conds : ℕ) (scanner : Scanner) (given : Given) (table : TagTable) (assigned : List StmtAt) (firsts : List First) (room : ℕ) (kept : Kept)
+    → IsLexerOf program start scanner given table assigned firsts room → conds ≡ length program.piece.now.conds
     → kept.counts ≡ record {
       registers = length scanner.registers.items;
       histories = length scanner.histories;
@@ -53,7 +55,7 @@ pub Fits-own : (program : Program) (start steps conds : ℕ) (scanner : Scanner)
       assignments = program.assignments;
     }
     → kept.assigned ≡ assigned → kept.left ≡ left_of scanner steps → Fits program.piece.now kept
-Fits-own program start steps conds scanner given names assigned room kept lexer many counts places left = record {
+Fits-own program start steps conds scanner given table assigned firsts room kept lexer many counts places left = record {
   counts =
       let registers = lexer.tables.registers in
       let histories = lexer.tables.histories in
@@ -89,9 +91,9 @@ IsCond-distinct : (conds : List CondCase) (number : ℕ) → AreDistinct (map (�
 IsCond-distinct [] number distinct h = record { within = h; first = let none : 0 ≡ number = omega (arith, h) in none }
 IsCond-distinct (case ∷ cases) number distinct h = record { within = h; first = cond_number-distinct (case ∷ cases) number distinct (omega (arith, h)) }
 
-pub IsLexerOf-resumed : (program : Program) (start steps conds assignments capacity : ℕ) (scanner : Scanner) (numbering : Numbering) (given : Given) (names : List TagName) (assigned : List StmtAt) (room : ℕ) (kept : Kept)
+pub IsLexerOf-resumed : (program : Program) (start steps conds assignments : ℕ) (before : TagTable) (noted : List First) (scanner : Scanner) (numbering : Numbering) (given : Given) (table : TagTable) (assigned : List StmtAt) (firsts : List First) (room : ℕ) (kept : Kept)
     → IsValid program.piece.now → program.statements ≡ statement_count program.piece.now.blocks → program.assignments ≡ assignments
-    → IsSaved conds assignments start capacity scanner given assigned room → Fits program.piece.now kept
+    → IsSaved conds assignments start before scanner given assigned noted room → Fits program.piece.now kept
     → kept.counts ≡ record {
       registers = length scanner.registers.items;
       histories = length scanner.histories;
@@ -100,9 +102,9 @@ pub IsLexerOf-resumed : (program : Program) (start steps conds assignments capac
       groups = length given.entries;
       assignments = assignments;
     }
-    → kept.assigned ≡ assigned → kept.left ≡ left_of scanner steps → IsNumberingOf program.piece.now.blocks numbering → AreTags program.piece.now.blocks names
-    → IsLexerOf program start (record scanner { numbering = numbering }) given names assigned room
-IsLexerOf-resumed program start steps conds assignments capacity scanner numbering given names assigned room kept valid statements own saved fits counts places left numbered tags =
+    → kept.assigned ≡ assigned → kept.left ≡ left_of scanner steps → IsNumberingOf program.piece.now.blocks numbering → AreTags program.piece.now.blocks table → AreFirsts program.piece.now.blocks assigned firsts
+    → IsLexerOf program start (record scanner { numbering = numbering }) given table assigned firsts room
+IsLexerOf-resumed program start steps conds assignments before noted scanner numbering given table assigned firsts room kept valid statements own saved fits counts places left numbered tags notes =
     let piece : Piece = program.piece.now in
     let same = sym counts ∙ fits.counts in
     let many : assignments ≡ length (places_from 0 piece.blocks) = ap (λ (one : Counts). one.assignments) same in
@@ -121,8 +123,9 @@ IsLexerOf-resumed program start steps conds assignments capacity scanner numberi
       cond =
           let cases : conds ≡ length piece.conds = ap (λ (one : Counts). one.conds) same in
           IsCond-distinct piece.conds scanner.cond (subst AreDistinct (sym valid.conds) valid.conds_differ) (let within = saved.cond in omega (arith, within, cases));
-      tags = tags;
+      named = tags;
       places = let roomy = saved.places in omega (arith, many, roomy);
+      noted = notes;
       within = record { distinct = saved.distinct; among = among-all piece.blocks assigned all };
       state =
           left-state (λ one. list_any (stores one) (all_statements piece.blocks) ≡ true) scanner steps

@@ -8,11 +8,13 @@ use Rattle.lx_ccode.specs.declared.piece.Piece.{Piece}
 use Rattle.lx_ccode.specs.Statements.{all_statements, statement_count}
 use Rattle.lx_ccode.specs.Validity.{EachBlockHasSpelling, IsValid, NamesOneOf}
 use Rattle.lx_step.specs.declared.answers.StmtAt.{StmtAt}
+use Rattle.lx_step.specs.declared.firsts.First.{First}
 use Rattle.lx_step.specs.declared.matches.Program.{Program}
 use Rattle.lx_step.specs.declared.numbers.Numbering.{Numbering}
 use Rattle.lx_step.specs.declared.scanner.Scanner.{Scanner}
-use Rattle.lx_step.specs.declared.tags.TagName.{TagName}
+use Rattle.lx_step.specs.declared.tags.TagTable.{TagTable}
 use Rattle.lx_step.specs.Conds.{IsCond, cond_name}
+use Rattle.lx_step.specs.Firsts.{AreFirsts}
 use Rattle.lx_step.specs.Given.{Given, nothing_given}
 use Rattle.lx_step.specs.Held.{Held, first_cond, fresh}
 use Rattle.lx_step.specs.Left.{IsFrom, IsStored, Left, left_of}
@@ -53,12 +55,12 @@ pub record FreshTables (blocks : List CodeBlock) (scanner : Scanner) (given : Gi
   pub nothing : given ≡ nothing_given (tag_names blocks) (groups_of_all (all_statements blocks))
   pub tables : HasTables blocks scanner given
 
-pub HasTables-fresh : (blocks : List CodeBlock) (scanner : Scanner) (given : Given) (numbering : Numbering) (names : List TagName) (count groups : ℕ) → IsNumberingOf blocks numbering → scanner.numbering ≡ numbering
+pub HasTables-fresh : (blocks : List CodeBlock) (scanner : Scanner) (given : Given) (numbering : Numbering) (table : TagTable) (count groups : ℕ) → IsNumberingOf blocks numbering → scanner.numbering ≡ numbering
     → length scanner.registers.items ≡ length numbering.registers.keys → length scanner.histories ≡ length numbering.histories.keys
-    → AreTags blocks names → count ≡ length names → groups ≡ groups_of_all (all_statements blocks)
+    → AreTags blocks table → count ≡ length table.tags.items → groups ≡ groups_of_all (all_statements blocks)
     → ((names : List (List ℕ)) → length names ≡ count → given ≡ nothing_given names groups) → FreshTables blocks scanner given
-HasTables-fresh blocks scanner given numbering names count groups numbers same registers histories tags many most nothing =
-    let tagged : length (tag_names blocks) ≡ count = ap length (sym tags.names) ∙ length-map names (told_name blocks) ∙ sym many in
+HasTables-fresh blocks scanner given numbering table count groups numbers same registers histories tags many most nothing =
+    let tagged : length (tag_names blocks) ≡ count = ap length (sym tags.listed.named) ∙ length-map table.tags.items (told_name blocks) ∙ sym many in
     let is : given ≡ nothing_given (tag_names blocks) groups = nothing (tag_names blocks) tagged in
     record {
       nothing = is ∙ ap (nothing_given (tag_names blocks)) most;
@@ -75,15 +77,19 @@ HasTables-fresh blocks scanner given numbering names count groups numbers same r
       };
     }
 
-pub IsLexerOf-fresh : (program : Program) (start : ℕ) (scanner : Scanner) (given : Given) (names : List TagName) (assigned : List StmtAt) (room : ℕ) → IsProgram program → HasTables program.piece.now.blocks scanner given
-    → scanner.cond ≡ 0 → scanner.state ≡ None → AreTags program.piece.now.blocks names → assigned ≡ [] → program.statements ≤ room → IsLexerOf program start scanner given names assigned room
-IsLexerOf-fresh program start scanner given names assigned room runs tables cond state tags none roomy = record {
+pub IsLexerOf-fresh : (program : Program) (start : ℕ) (scanner : Scanner) (given : Given) (table : TagTable) (assigned : List StmtAt) (firsts : List First) (room : ℕ) → IsProgram program → HasTables program.piece.now.blocks scanner given
+    → scanner.cond ≡ 0 → scanner.state ≡ None → AreTags program.piece.now.blocks table → assigned ≡ [] → length firsts ≡ length table.tags.items → program.statements ≤ room → IsLexerOf program start scanner given table assigned firsts room
+IsLexerOf-fresh program start scanner given table assigned firsts room runs tables cond state tags none many roomy = record {
   runs = runs;
   tables = tables;
   cond = subst (IsCond program.piece.now.conds) (sym cond) (IsCond-zero program.piece.now.conds);
-  tags = tags;
+  named = tags;
   places = let statements = runs.statements in omega (arith, length-places_from 0 program.piece.now.blocks, statements, roomy);
   within = StaysIn-none program.piece.now.blocks assigned none;
+  noted = subst (λ places. AreFirsts program.piece.now.blocks places firsts) (sym none) (record {
+    many = many ∙ sym (length-map table.tags.items (told_name program.piece.now.blocks)) ∙ ap length tags.listed.named;
+    each = λ number h history. tt;
+  });
   state = subst (IsStored program.piece.now.blocks) (sym state) tt;
   left = subst (λ (state : Option ℕ). IfSome state (λ one. IsFrom start scanner)) (sym state) tt;
 }

@@ -46,18 +46,18 @@ IsCodeOf-block (first ∷ blocks) zero code is test has =
 IsCodeOf-block (first ∷ blocks) (suc place) code is test has =
     list_any-append test first.stmts (all_statements blocks) ∙ or_right _ _ (IsCodeOf-block blocks place code is test has)
 
-IsCodeOf-at : (blocks : List CodeBlock) (block : Option ℕ) (code : List Stmt) → code_at blocks block ≡ Some code → IsCodeOf blocks code
+pub IsCodeOf-at : (blocks : List CodeBlock) (block : Option ℕ) (code : List Stmt) → code_at blocks block ≡ Some code → IsCodeOf blocks code
 IsCodeOf-at blocks None code is test has = absurd cc
 IsCodeOf-at blocks (Some block) code is test has = IsCodeOf-block blocks block code is test has
 
-IsCodeOf-rest : (blocks : List CodeBlock) (statement : Stmt) (rest : List Stmt) → IsCodeOf blocks (statement ∷ rest) → IsCodeOf blocks rest
+pub IsCodeOf-rest : (blocks : List CodeBlock) (statement : Stmt) (rest : List Stmt) → IsCodeOf blocks (statement ∷ rest) → IsCodeOf blocks rest
 IsCodeOf-rest blocks statement rest is test has = is test (or_right (test statement) _ has)
 
 -- ---- the code behind a step
 
 module _ (blocks : List CodeBlock) where
   -- the code with which the match goes on is of the blocks
-  abbrev GoesOnWith : Next → Type 0
+  abbrev pub GoesOnWith : Next → Type 0
   GoesOnWith (goes_on code machine answers) = IsCodeOf blocks code
   GoesOnWith (ends outcome machine) = Unit {0}
 
@@ -109,7 +109,7 @@ module _ (blocks : List CodeBlock) where
     with-try block machine (refilled no_more ∷ answers) = here
     with-try block machine (left refills ∷ answers) = with-jump (stored_block blocks machine.state) _ answers
 
-with-step : (piece : Piece) (stream : List ℕ) (rest : List Stmt) (machine : Machine) (answers : List Answer) (statement : Stmt) → IsCodeOf piece.blocks rest
+pub with-step : (piece : Piece) (stream : List ℕ) (rest : List Stmt) (machine : Machine) (answers : List Answer) (statement : Stmt) → IsCodeOf piece.blocks rest
     → GoesOnWith piece.blocks (step piece stream statement rest machine answers)
 with-step piece stream rest machine answers Peek here = with-peek piece.blocks rest here _ machine answers
 with-step piece stream rest machine answers Skip here = with-skip piece.blocks rest here _ machine answers
@@ -133,7 +133,7 @@ with-step piece stream rest machine answers _ here = here
 -- ---- the state behind a step
 
 -- a State stores its own
-stored-state : (piece : Piece) (stream : List ℕ) (statement : Stmt) (rest : List Stmt) (machine : Machine) (answers : List Answer) → IsCodeOf piece.blocks (statement ∷ rest)
+pub stored-state : (piece : Piece) (stream : List ℕ) (statement : Stmt) (rest : List Stmt) (machine : Machine) (answers : List Answer) → IsCodeOf piece.blocks (statement ∷ rest)
     → IsStored piece.blocks machine.state → IsStored piece.blocks (machine_after (step piece stream statement rest machine answers)).state
 stored-state piece stream (State state) rest machine answers code stored = code (stores state) (or_left (state == state) _ (eq-eqb state state refl))
 stored-state piece stream statement rest machine answers code stored =
@@ -166,7 +166,7 @@ stored-leads piece stream start size from point all (makes {answers} {used} {poi
 abbrev pub LeavesStored : List CodeBlock → Option Left → Type 0
 LeavesStored blocks stored = IfSome stored (λ one. list_any (stores one.state) (all_statements blocks) ≡ true)
 
-IsCodeOf-or_none : (blocks : List CodeBlock) (block : Option ℕ) → IsCodeOf blocks (code_or_none (code_at blocks block))
+pub IsCodeOf-or_none : (blocks : List CodeBlock) (block : Option ℕ) → IsCodeOf blocks (code_or_none (code_at blocks block))
 IsCodeOf-or_none blocks block = by (code_at blocks block) refl where
   by : (found : Option (List Stmt)) → code_at blocks block ≡ found → IsCodeOf blocks (code_or_none found)
   by None is test has = absurd cc

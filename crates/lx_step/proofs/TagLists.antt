@@ -1,6 +1,6 @@
 -- The tags that statements name.
 use Rattle.std.proofs.Common.{◌≡◌, ◌∙◌, sym, ap, subst, refl, if◌then◌else◌, ℕ, zero, suc, ◌+◌, ◌<◌, ◌≤◌, Bool, true, false, not, ◌||◌, List, [], ◌∷◌, ◌++◌, length, length-append, append_assoc, append-nil, drop, take, get_or, Option, Some, None, is_some, arith}
-use Rattle.std.specs.List.{AllByRecursion, list_any}
+use Rattle.std.specs.List.{list_any}
 use Rattle.std.specs.Option.{option_map}
 use Rattle.std.proofs.lemmas.Bool.{false≢true}
 use Rattle.std.proofs.Math.Seq.{drop-cons, take-suc}
@@ -11,26 +11,8 @@ use Rattle.lx_ccode.specs.declared.piece.Stmt.TheVariants.{Tag}
 use Rattle.lx_ccode.specs.declared.piece.CodeBlock.{CodeBlock}
 use Rattle.lx_ccode.specs.NameSets.{first_place}
 use Rattle.lx_ccode.specs.Statements.{all_statements, statement_count}
-use Rattle.lx_step.specs.declared.answers.StmtAt.{StmtAt}
-use Rattle.lx_step.specs.Places.{statement_at}
-use Rattle.lx_step.specs.Tags.{HasFlags, gives, gives_history, gives_offset, has_name, is_new, name_of, names_from, tag_name, tag_names, with_name}
+use Rattle.lx_step.specs.Tags.{gives, has_name, is_new, names_from, tag_names, with_name}
 use Rattle.lx_step.proofs.BlockLists.{all_statements-drop}
-
-pub all-append : {A : Type 0} (P : A → Type 0) (items : List A) (last : A) → AllByRecursion P items → P last → AllByRecursion P (items ++ last ∷ [])
-all-append P [] last h p = (p, tt)
-all-append P (first ∷ items) last h p = (h.0, all-append P items last h.1 p)
-
--- a statement that names a tag tells whether it is given an offset or a history
-pub HasFlags-here : (blocks : List CodeBlock) (at : StmtAt) (statement : Stmt) (tag word other : List ℕ) (is_history offset history : Bool) (place : ℕ)
-    → statement_at blocks at ≡ Some statement → statement ≡ Tag tag is_history place → word ≡ tag → other ≡ tag
-    → offset ≡ list_any (gives_offset word) (all_statements blocks) → history ≡ list_any (gives_history other) (all_statements blocks)
-    → HasFlags blocks (record { at = at; has_offset = offset; has_history = history })
-HasFlags-here blocks at statement tag word other is_history offset history place stands is p q told given =
-    let named : tag_name blocks at ≡ tag = ap name_of stands ∙ ap (λ one. name_of (Some one)) is in
-    record {
-      offset = told ∙ ap (λ one. list_any (gives_offset one) (all_statements blocks)) (p ∙ sym named);
-      history = given ∙ ap (λ one. list_any (gives_history one) (all_statements blocks)) (q ∙ sym named);
-    }
 
 -- ---- which names there are
 
@@ -151,15 +133,18 @@ module _ (blocks : List CodeBlock) (statements : List Stmt) (tag : List ℕ) whe
       sym (has_name-behind ∙ or-none (list_any (names_it tag) (all_statements blocks)) (list_any (names_it tag) statements) (names_it-none tag (all_statements blocks) r (sym e)) (names_it-none tag statements p q))
 
 -- a tag that has no number is given nothing
-pub gives-none : (blocks : List CodeBlock) (history : Bool) (tag : List ℕ) → first_place (tag_names blocks) tag ≡ None → list_any (gives history tag) (all_statements blocks) ≡ false
-gives-none blocks history tag none = by history (list_any (gives history tag) (all_statements blocks)) refl where
-  none_named : list_any (names_it tag) (all_statements blocks) ≡ false
-  none_named = sym (has_name-from (all_statements blocks) [] tag) ∙ ap is_some none
+pub gives-none-from : (statements : List Stmt) (history : Bool) (tag : List ℕ) → first_place (names_from statements []) tag ≡ None → list_any (gives history tag) statements ≡ false
+gives-none-from statements history tag none = by history (list_any (gives history tag) statements) refl where
+  none_named : list_any (names_it tag) statements ≡ false
+  none_named = sym (has_name-from statements [] tag) ∙ ap is_some none
 
-  by : (history test : Bool) → list_any (gives history tag) (all_statements blocks) ≡ test → test ≡ false
-  by true true is = absurd (false≢true (sym none_named ∙ names_it-history tag (all_statements blocks) is))
-  by false true is = absurd (false≢true (sym none_named ∙ names_it-offset tag (all_statements blocks) is))
+  by : (history test : Bool) → list_any (gives history tag) statements ≡ test → test ≡ false
+  by true true is = absurd (false≢true (sym none_named ∙ names_it-history tag statements is))
+  by false true is = absurd (false≢true (sym none_named ∙ names_it-offset tag statements is))
   by history false is = refl
+
+pub gives-none : (blocks : List CodeBlock) (history : Bool) (tag : List ℕ) → first_place (tag_names blocks) tag ≡ None → list_any (gives history tag) (all_statements blocks) ≡ false
+gives-none blocks history tag none = gives-none-from (all_statements blocks) history tag none
 
 -- ---- how many there are
 
@@ -226,7 +211,7 @@ counted-next statements names place count statement new below is told so_far =
     by known (Tag tag is_history at) new e so = tagged known tag (first_place known tag) new e so
     by known _ new e so = other known new e so
 
-all_statements-take : (blocks : List CodeBlock) (place : ℕ) (block : CodeBlock) (front : List Stmt) → place < length blocks → block ≡ get_or blocks place block → front ≡ block.stmts
+pub all_statements-take : (blocks : List CodeBlock) (place : ℕ) (block : CodeBlock) (front : List Stmt) → place < length blocks → block ≡ get_or blocks place block → front ≡ block.stmts
     → all_statements (take (place + 1) blocks) ≡ all_statements (take place blocks) ++ front
 all_statements-take blocks place block front below is front_is =
     let next : place + 1 ≡ suc place = omega arith in
@@ -257,7 +242,7 @@ length-names (Tag name is_history place ∷ statements) names = let rest = lengt
     by (Some number) = omega arith
 length-names (_ ∷ statements) names = let rest = length-names statements names in omega (arith, rest)
 
-all_statements-split : (blocks : List CodeBlock) (place : ℕ) → all_statements blocks ≡ all_statements (take place blocks) ++ all_statements (drop place blocks)
+pub all_statements-split : (blocks : List CodeBlock) (place : ℕ) → all_statements blocks ≡ all_statements (take place blocks) ++ all_statements (drop place blocks)
 all_statements-split [] zero = refl
 all_statements-split [] (suc place) = refl
 all_statements-split (block ∷ blocks) zero = refl

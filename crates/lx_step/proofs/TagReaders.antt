@@ -10,6 +10,7 @@ use Rattle.lx_ccode.specs.declared.piece.CodeBlock.{CodeBlock}
 use Rattle.lx_ccode.specs.NameSets.{first_place}
 use Rattle.lx_ccode.specs.Statements.{all_statements}
 use Rattle.lx_step.specs.declared.tags.TagName.{TagName}
+use Rattle.lx_step.specs.declared.tags.TagTable.{TagTable}
 use Rattle.lx_step.specs.Held.{Held, history_of, offset_of}
 use Rattle.lx_step.specs.Tags.{AreTags, HasFlags, gives_history, gives_offset, tag_names, told_name}
 use Rattle.lx_step.proofs.TagLists.{gives-none}
@@ -17,19 +18,19 @@ use Rattle.lx_step.proofs.TagLists.{gives-none}
 -- the tag at the place of a name, and the name
 pub record IsTagOf (blocks : List CodeBlock) (tags : List TagName) (name : List ℕ) (number : ℕ) (tag : TagName) : Type 0 where
   pub named : told_name blocks tag ≡ name
-  pub flags : HasFlags blocks tag
+  pub flags : HasFlags blocks (all_statements blocks) tag
   pub within : number < length tags
 
 not_none : (found : Option ℕ) (number : ℕ) → option_map suc found ≡ Some number → (place : ℕ) × (found ≡ Some place) × (number ≡ suc place)
 not_none None number e = absurd cc
 not_none (Some place) number e = (place, refl, cc)
 
-pub IsTagOf-found : (blocks : List CodeBlock) (tags : List TagName) (name : List ℕ) (number : ℕ) (none : TagName) → AllByRecursion (HasFlags blocks) tags
+pub IsTagOf-found : (blocks : List CodeBlock) (tags : List TagName) (name : List ℕ) (number : ℕ) (none : TagName) → AllByRecursion (HasFlags blocks (all_statements blocks)) tags
     → first_place (map (told_name blocks) tags) name ≡ Some number → IsTagOf blocks tags name number (get_or tags number none)
 IsTagOf-found blocks [] name number none flags e = absurd cc
 IsTagOf-found blocks (tag ∷ tags) name number none flags e = by (equal_words (told_name blocks tag) name) refl e (IsTagOf-found blocks tags name) where
   by : (same : Bool) → equal_words (told_name blocks tag) name ≡ same → first_place (map (told_name blocks) (tag ∷ tags)) name ≡ Some number
-      → ((number : ℕ) (none : TagName) → AllByRecursion (HasFlags blocks) tags → first_place (map (told_name blocks) tags) name ≡ Some number → IsTagOf blocks tags name number (get_or tags number none))
+      → ((number : ℕ) (none : TagName) → AllByRecursion (HasFlags blocks (all_statements blocks)) tags → first_place (map (told_name blocks) tags) name ≡ Some number → IsTagOf blocks tags name number (get_or tags number none))
       → IsTagOf blocks (tag ∷ tags) name number (get_or (tag ∷ tags) number none)
   by true same e later =
       let zero_is : 0 ≡ number = let h : Some 0 ≡ Some number = rw same at e in cc in
@@ -41,37 +42,40 @@ IsTagOf-found blocks (tag ∷ tags) name number none flags e = by (equal_words (
       subst (λ n. IsTagOf blocks (tag ∷ tags) name n (get_or (tag ∷ tags) n none)) (sym found.2)
       (record { named = rest.named; flags = rest.flags; within = let below = rest.within in omega (arith, below) })
 
-module _ (held : Held) (tags : List TagName) (shown : List CodeBlock) (others : List TagName) (name : List ℕ) (are : AreTags held.piece.blocks tags) (blocks : shown ≡ held.piece.blocks) (same : others ≡ tags) where
-  at_names : first_place (map (told_name shown) others) name ≡ first_place (tag_names held.piece.blocks) name
-  at_names =
-      ap (λ one. first_place (map (told_name one) others) name) blocks ∙ ap (λ (one : List TagName). first_place (map (told_name held.piece.blocks) one) name) same
-      ∙ ap (λ names. first_place names name) are.names
+module _ (held : Held) (table : TagTable) (shown : List CodeBlock) (name : List ℕ) (are : AreTags held.piece.blocks table) (blocks : shown ≡ held.piece.blocks) where
+  abbrev tags : List TagName
+  tags = table.tags.items
 
-  no_offset : first_place (map (told_name shown) others) name ≡ None → list_any (gives_offset name) (all_statements held.piece.blocks) ≡ false
+  at_names : first_place (map (told_name shown) tags) name ≡ first_place (tag_names held.piece.blocks) name
+  at_names =
+      ap (λ one. first_place (map (told_name one) tags) name) blocks
+      ∙ ap (λ names. first_place names name) are.listed.named
+
+  no_offset : first_place (map (told_name shown) tags) name ≡ None → list_any (gives_offset name) (all_statements held.piece.blocks) ≡ false
   no_offset none = gives-none held.piece.blocks false name (sym at_names ∙ none)
 
-  no_history : first_place (map (told_name shown) others) name ≡ None → list_any (gives_history name) (all_statements held.piece.blocks) ≡ false
+  no_history : first_place (map (told_name shown) tags) name ≡ None → list_any (gives_history name) (all_statements held.piece.blocks) ≡ false
   no_history none = gives-none held.piece.blocks true name (sym at_names ∙ none)
 
-  pub offset_of-none : None ≡ first_place (map (told_name shown) others) name → None ≡ offset_of held name
+  pub offset_of-none : None ≡ first_place (map (told_name shown) tags) name → None ≡ offset_of held name
   unfolding offset_of
   offset_of-none none = rw (no_offset (sym none)) refl
 
-  pub offset-unknown : None ≡ first_place (map (told_name shown) others) name → false ≡ list_any (gives_offset name) (all_statements held.piece.blocks)
+  pub offset-unknown : None ≡ first_place (map (told_name shown) tags) name → false ≡ list_any (gives_offset name) (all_statements held.piece.blocks)
   offset-unknown none = sym (no_offset (sym none))
 
-  pub history_of-none : None ≡ first_place (map (told_name shown) others) name → None ≡ history_of held name
+  pub history_of-none : None ≡ first_place (map (told_name shown) tags) name → None ≡ history_of held name
   unfolding history_of
   history_of-none none = rw (no_history (sym none)) refl
 
-  pub history-unknown : None ≡ first_place (map (told_name shown) others) name → false ≡ list_any (gives_history name) (all_statements held.piece.blocks)
+  pub history-unknown : None ≡ first_place (map (told_name shown) tags) name → false ≡ list_any (gives_history name) (all_statements held.piece.blocks)
   history-unknown none = sym (no_history (sym none))
 
-  module _ (number : ℕ) (tag : TagName) (found : Some number ≡ first_place (map (told_name shown) others) name) (there : tag ≡ get_or tags number tag) where
+  module _ (number : ℕ) (tag : TagName) (found : Some number ≡ first_place (map (told_name shown) tags) name) (there : tag ≡ get_or tags number tag) where
     is_tag : IsTagOf held.piece.blocks tags name number tag
     is_tag =
         subst (IsTagOf held.piece.blocks tags name number) (sym there)
-        (IsTagOf-found held.piece.blocks tags name number tag are.flags (ap (λ names. first_place names name) are.names ∙ sym at_names ∙ sym found))
+        (IsTagOf-found held.piece.blocks tags name number tag are.flags (ap (λ names. first_place names name) are.listed.named ∙ sym at_names ∙ sym found))
 
     pub offset_flag : tag.has_offset ≡ list_any (gives_offset name) (all_statements held.piece.blocks)
     offset_flag = is_tag.flags.offset ∙ ap (λ one. list_any (gives_offset one) (all_statements held.piece.blocks)) is_tag.named
@@ -105,7 +109,7 @@ module _ (held : Held) (tags : List TagName) (shown : List CodeBlock) (others : 
 
     known : {A : Type 0} (items : List A) → length items ≡ length (tag_names held.piece.blocks) → is_some (slice_get items number) ≡ true
     known items long =
-        let count : length (tag_names held.piece.blocks) ≡ length tags = ap length (sym are.names) ∙ length-map tags (told_name held.piece.blocks) in
+        let count : length (tag_names held.piece.blocks) ≡ length tags = ap length (sym are.listed.named) ∙ length-map tags (told_name held.piece.blocks) in
         let within = is_tag.within in
         there_is items number (omega (arith, long, count, within))
       where

@@ -5,6 +5,7 @@ pub mod Calls
 pub mod Conds
 pub mod Entries
 pub mod Feeds
+pub mod Firsts
 pub mod Given
 pub mod Held
 pub mod Left

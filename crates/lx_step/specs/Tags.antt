@@ -1,7 +1,8 @@
 -- The tags that a piece names, by their numbers.
-use Rattle.std.specs.Prelude.{◌≡◌, ℕ, Bool, true, false, not, List, [], ◌∷◌, ◌++◌, map, Option, Some, None, is_some}
+use Rattle.std.specs.Prelude.{◌≡◌, ℕ, suc, ◌+◌, ◌*◌, ◌%◌, ◌<◌, ◌==◌, Bool, true, false, not, List, [], ◌∷◌, ◌++◌, get_or, length, map, take, Option, Some, None, if◌then◌else◌, is_some}
 use Rattle.std.specs.List.{AllByRecursion, list_any}
 use Rattle.lx_base.specs.Letters.{equal_words}
+use Rattle.lx_base.specs.Names.{AreDistinct}
 use Rattle.lx_ccode.specs.declared.piece.Stmt.{Stmt}
 use Rattle.lx_ccode.specs.declared.piece.Stmt.TheVariants.{Tag}
 use Rattle.lx_ccode.specs.declared.piece.CodeBlock.{CodeBlock}
@@ -9,6 +10,7 @@ use Rattle.lx_ccode.specs.NameSets.{first_place}
 use Rattle.lx_ccode.specs.Statements.{all_statements}
 use Rattle.lx_step.specs.declared.answers.StmtAt.{StmtAt}
 use Rattle.lx_step.specs.declared.tags.TagName.{TagName}
+use Rattle.lx_step.specs.declared.tags.TagTable.{TagTable}
 use Rattle.lx_step.specs.Places.{statement_at}
 
 -- ---- which tags a piece has
@@ -66,12 +68,58 @@ tag_name blocks place = name_of (statement_at blocks place)
 abbrev pub told_name : List CodeBlock → TagName → List ℕ
 told_name blocks tag = tag_name blocks tag.at
 
--- it is told whether the piece gives the tag an offset, and whether a history
-pub record HasFlags (blocks : List CodeBlock) (tag : TagName) : Type 0 where
-  pub offset : tag.has_offset ≡ list_any (gives_offset (told_name blocks tag)) (all_statements blocks)
-  pub history : tag.has_history ≡ list_any (gives_history (told_name blocks tag)) (all_statements blocks)
+-- ---- how they are found
+
+-- a number for a name, on top of that of the letters before
+abbrev pub hash_from : (name : List ℕ) → (hash : ℕ) → ℕ
+hash_from [] hash = hash
+hash_from (letter ∷ name) hash = hash_from name ((hash * 16777619 + letter) % 4294967291)
+
+-- the bucket of a name, where there are so many
+unfoldable pub bucket_of : (buckets : ℕ) → (name : List ℕ) → ℕ
+bucket_of buckets name = hash_from name 0 % buckets
+
+-- the place of the last name in a bucket
+abbrev pub last_in : (buckets bucket : ℕ) → List (List ℕ) → Option ℕ
+last_in buckets bucket [] = None
+last_in buckets bucket (name ∷ names) =
+    elim (last_in buckets bucket names) [ None ↦ if bucket_of buckets name == bucket then Some 0 else None | Some place ↦ Some (suc place) ]
+
+-- where tags have these names, each bucket has its last tag, and each tag has the last one before it in its bucket
+pub record AreLinked (names : List (List ℕ)) (befores latest : List (Option ℕ)) : Type 0 where
+  pub some : 0 < length latest
+  pub last : (bucket : ℕ) → bucket < length latest → get_or latest bucket None ≡ last_in (length latest) bucket names
+  pub before : (place : ℕ) → place < length names
+      → get_or befores place None ≡ last_in (length latest) (bucket_of (length latest) (get_or names place [])) (take place names)
+
+-- a tag that the statement at a place names first, of which nothing else is told yet
+abbrev pub new_tag : StmtAt → (before : Option ℕ) → TagName
+new_tag at before = record { at = at; before = before; has_offset = false; has_history = false }
+
+abbrev pub no_tag : TagName
+no_tag = new_tag (record { block = 0; stmt = 0 }) None
+
+-- the tag, where a history is given to it, or an offset
+abbrev pub marked : (history : Bool) → TagName → TagName
+marked true tag = record tag { has_history = true }
+marked false tag = record tag { has_offset = true }
+
+-- the table has the tags of these names, by which they are found
+pub record IsTableOf (blocks : List CodeBlock) (names : List (List ℕ)) (table : TagTable) : Type 0 where
+  pub named : map (told_name blocks) table.tags.items ≡ names
+  pub distinct : AreDistinct names
+  pub linked : AreLinked names (map (λ (tag : TagName). tag.before) table.tags.items) table.latest.items
+
+-- it is told whether statements give the tag an offset, and whether a history
+pub record HasFlags (blocks : List CodeBlock) (statements : List Stmt) (tag : TagName) : Type 0 where
+  pub offset : tag.has_offset ≡ list_any (gives_offset (told_name blocks tag)) statements
+  pub history : tag.has_history ≡ list_any (gives_history (told_name blocks tag)) statements
+
+-- these are the tags of statements
+pub record AreTagsOf (blocks : List CodeBlock) (statements : List Stmt) (table : TagTable) : Type 0 where
+  pub listed : IsTableOf blocks (names_from statements []) table
+  pub flags : AllByRecursion (HasFlags blocks statements) table.tags.items
 
 -- these are the tags of the piece
-pub record AreTags (blocks : List CodeBlock) (tags : List TagName) : Type 0 where
-  pub names : map (told_name blocks) tags ≡ tag_names blocks
-  pub flags : AllByRecursion (HasFlags blocks) tags
+abbrev pub AreTags : List CodeBlock → TagTable → Type 0
+AreTags blocks table = AreTagsOf blocks (all_statements blocks) table

@@ -10,7 +10,7 @@ ghost use Rattle.lx_step.specs.Feeds.{feed_of};
 ghost use Rattle.lx_step.specs.Held.{is_on_histories};
 ghost use Rattle.lx_step.specs.Left.{IsFrom};
 ghost use Rattle.lx_step.specs.Steps.{HasRoomFor, KeepsLengths, KeepsTables, given_after, machine_of};
-ghost use Rattle.lx_step.specs.Tags.{tag_names, told_name};
+ghost use Rattle.lx_step.specs.Tags.{AreTags, tag_names};
 
 use crate::answers::Outcome;
 use crate::scanner::{Going, Scanner};
@@ -140,7 +140,7 @@ pub(crate) fn make<S: Refill>(
     requires limit { scanner.old.limit ≡ w.old.limit }
     requires room { HasRoomFor stmt.now scanner.old slots.old }
     requires named { NamesOneOf (map (λ case. case.cond) names.piece.now.conds) stmt.now }
-    requires tags { map (told_name names.piece.now.blocks) names.tags.now ≡ tag_names names.piece.now.blocks }
+    requires tags { AreTags names.piece.now.blocks names.tags.now }
     ensures made { IfOk result (IsMade names.entry.piece.now stmt.now scanner.old scanner.new (feed_of (S.ahead src.old) w.old) (feed_of (S.ahead src.new) w.new)) }
     ensures still { OnErr result (feed_of (S.ahead src.new) w.new ≡ feed_of (S.ahead src.old) w.old) }
     ensures given { IfOk result (λ made. slots.new ≡ given_after (tag_names names.entry.piece.now.blocks) stmt.now (machine_of names.entry.piece.now.conds scanner.old []) slots.old) }

@@ -29,7 +29,7 @@ use crate::scanner::Scanner;
 use crate::slots::Slots;
 use crate::states::state_block;
 use crate::step::Names;
-use crate::tags::TagName;
+use crate::tags::TagTable;
 use indexmap::IndexSet;
 use lx_base::Memory;
 use lx_ccode::Piece;
@@ -91,7 +91,7 @@ impl<'p> Program<'p> {
         at: Option<Position<'p>>,
         w: &mut Window<'_>,
         src: &mut S,
-        tags: &[TagName],
+        tags: &TagTable,
         scanner: &mut Scanner,
         slots: &mut Slots,
         assigned: &mut IndexSet<StmtAt>,
@@ -130,7 +130,7 @@ impl<'p> Program<'p> {
         at: Position<'p>,
         w: &mut Window<'_>,
         src: &mut S,
-        tags: &[TagName],
+        tags: &TagTable,
         scanner: &mut Scanner,
         slots: &mut Slots,
         assigned: &mut IndexSet<StmtAt>,

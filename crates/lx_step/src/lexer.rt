@@ -8,6 +8,7 @@ ghost use Rattle.lx_window.specs.Windows.{KeepsStart};
 ghost use Rattle.lx_step.specs.Advances.{IsAdvance};
 ghost use Rattle.lx_step.specs.Asking.{KeepsSource};
 ghost use Rattle.lx_step.specs.Feeds.{feed_of};
+ghost use Rattle.lx_step.specs.Firsts.{is_first};
 ghost use Rattle.lx_step.specs.Held.{cond_of, fresh, history_of, is_on_histories, offset_of};
 ghost use Rattle.lx_step.specs.LexerParts.{IsProgram, told};
 ghost use Rattle.lx_step.specs.Saved.{Fits, kept_of, resumed};
@@ -17,13 +18,14 @@ use crate::answers::{Group, Outcome, StmtAt};
 use crate::assignments::count_of_assignments;
 use crate::calls::{enter, leave};
 use crate::conds::cond_name;
+use crate::firsts::{First, is_first, note_firsts};
 use crate::matches::Program;
 use crate::numbers::Numbering;
 use crate::saved::Saved;
 use crate::scanner::Scanner;
 use crate::sizes::groups_of_blocks;
 use crate::slots::Slots;
-use crate::tags::{TagName, list_tags, number_of_tag};
+use crate::tags::TagTable;
 use indexmap::IndexSet;
 use lx_base::Memory;
 use lx_ccode::{Piece, statements};
@@ -44,8 +46,9 @@ pub struct Lexer<'p> {
     steps: u128,
     scanner: Scanner,
     slots: Slots,
-    tags: Vec<TagName>,
+    tags: TagTable,
     assigned: IndexSet<StmtAt>,
+    firsts: Vec<First>,
 }
 
 impl<'p> Model for Lexer<'p> {
@@ -69,7 +72,7 @@ impl<'p> Model for Lexer<'p> {
       left = left_of lexer.scanner lexer.steps;
     } };
 
-    ghost invariant = { λ lexer. IsLexerOf lexer.program lexer.start lexer.scanner lexer.slots lexer.tags.items lexer.assigned.keys (room_of lexer.assigned) };
+    ghost invariant = { λ lexer. IsLexerOf lexer.program lexer.start lexer.scanner lexer.slots lexer.tags lexer.assigned.keys lexer.firsts.items (room_of lexer.assigned) };
 }
 
 impl<'p> Lexer<'p> {
@@ -95,15 +98,19 @@ impl<'p> Lexer<'p> {
     {
         let alloc = program.alloc;
         let blocks = program.piece.blocks.as_slice();
-        let mut tags = Vec::new(alloc);
-        list_tags(&mut tags, blocks)?;
+        let mut tags = TagTable::new(alloc, program.assignments)?;
+        tags.list(blocks)?;
         Ok(Lexer {
             program,
             spent: false,
             start: 0,
             steps: 0,
             scanner: Scanner::new(alloc, Numbering::of_blocks(alloc, blocks)?)?,
-            slots: Slots::new(alloc, tags.len(), groups_of_blocks(blocks))?,
+            slots: Slots::new(alloc, tags.tags.len(), groups_of_blocks(blocks))?,
+            firsts: vec![in alloc; First {
+                offset: 0,
+                history: 0
+            }; tags.tags.len()]?,
             tags,
             assigned: IndexSet::with_capacity(alloc, program.statements as usize)?,
         })
@@ -146,12 +153,18 @@ impl<'p> Lexer<'p> {
                 at,
                 w,
                 src,
-                self.tags.as_slice(),
+                &self.tags,
                 &mut self.scanner,
                 &mut self.slots,
                 &mut self.assigned,
                 &mut self.steps,
             ),
+        );
+        note_firsts(
+            self.program.piece.blocks.as_slice(),
+            &self.tags,
+            self.assigned.as_slice(),
+            &mut self.firsts,
         );
         self.spent = outcome.is_last();
         leave(&mut self.scanner, outcome);
@@ -175,6 +188,7 @@ impl<'p> Lexer<'p> {
             slots: self.slots,
             tags: self.tags,
             assigned: self.assigned,
+            firsts: self.firsts,
         }
     }
 
@@ -198,12 +212,10 @@ impl<'p> Lexer<'p> {
         ensures value { result ≡ offset_of self.now name.now }
         ensures known { is_some result ≡ list_any (gives_offset name.now) (all_statements self.now.piece.blocks) }
     {
-        let number = number_of_tag(
-            self.program.piece.blocks.as_slice(),
-            self.tags.as_slice(),
-            name,
-        )?;
-        if !self.tags[number].has_offset {
+        let number = self
+            .tags
+            .number_of(self.program.piece.blocks.as_slice(), name)?;
+        if !self.tags.tags[number].has_offset {
             return None;
         }
         self.slots.offset(number)
@@ -215,12 +227,10 @@ impl<'p> Lexer<'p> {
         ensures history { option_map (λ entries. entries.now) result ≡ history_of self.now name.now }
         ensures known { is_some result ≡ list_any (gives_history name.now) (all_statements self.now.piece.blocks) }
     {
-        let number = number_of_tag(
-            self.program.piece.blocks.as_slice(),
-            self.tags.as_slice(),
-            name,
-        )?;
-        if !self.tags[number].has_history {
+        let number = self
+            .tags
+            .number_of(self.program.piece.blocks.as_slice(), name)?;
+        if !self.tags.tags[number].has_history {
             return None;
         }
         self.slots.history(number)
@@ -253,6 +263,21 @@ impl<'p> Lexer<'p> {
     {
         self.assigned.as_slice()
     }
+
+    /// Whether the statement at one of these places, which are counted from 0, is the first of them that gives its tag an offset, or the
+    /// first that gives it a history; it is also true where it gives no tag a value.
+    pub fn is_first(&self, index: usize) -> bool
+        requires { index < length self.now.assigned }
+        ensures { result ≡ is_first self.now.piece.blocks self.now.assigned index }
+    {
+        is_first(
+            self.program.piece.blocks.as_slice(),
+            &self.tags,
+            self.assigned.as_slice(),
+            self.firsts.as_slice(),
+            index,
+        )
+    }
 }
 
 /// The lexer that was saved, on a valid piece that it fits. It takes no memory.
@@ -272,7 +297,9 @@ pub fn resume<'p>(piece: &'p Piece, saved: Saved) -> Lexer<'p>
     scanner.numbering.renew(blocks);
     let mut tags = saved.tags;
     tags.clear();
-    list_tags(&mut tags, blocks).unwrap();
+    tags.list(blocks).unwrap();
+    let mut firsts = saved.firsts;
+    note_firsts(blocks, &tags, saved.assigned.as_slice(), &mut firsts);
     Lexer {
         program,
         spent: saved.spent,
@@ -282,6 +309,7 @@ pub fn resume<'p>(piece: &'p Piece, saved: Saved) -> Lexer<'p>
         slots: saved.slots,
         tags,
         assigned: saved.assigned,
+        firsts,
     }
 }
 

@@ -6,6 +6,7 @@ mod answers;
 mod assignments;
 mod calls;
 mod conds;
+mod firsts;
 mod giving;
 mod histories;
 pub mod laws;

@@ -8,12 +8,13 @@ ghost use Rattle.lx_step.specs.Saved.{Fits, counts_of};
 
 use crate::answers::StmtAt;
 use crate::assignments::{are_assignments, count_of_assignments};
+use crate::firsts::First;
 use crate::numbers::{Sort, count_of_blocks};
 use crate::scanner::Scanner;
 use crate::sizes::groups_of_blocks;
 use crate::slots::Slots;
 use crate::states::has_state;
-use crate::tags::{TagName, count_of_tags};
+use crate::tags::{TagTable, count_of_tags};
 use indexmap::IndexSet;
 use lx_ccode::Piece;
 use std::alloc::Global;
@@ -32,12 +33,13 @@ pub struct Saved {
     pub(crate) steps: u128,
     pub(crate) scanner: Scanner,
     pub(crate) slots: Slots,
-    pub(crate) tags: Vec<TagName>,
+    pub(crate) tags: TagTable,
     pub(crate) assigned: IndexSet<StmtAt>,
+    pub(crate) firsts: Vec<First>,
 }
 
 impl Model for Saved {
-    ghost use Rattle.std.specs.Prelude.{length, vec_capacity};
+    ghost use Rattle.std.specs.Prelude.{length};
     ghost use Rattle.lx_step.specs.Left.{left_of};
     ghost use Rattle.lx_step.specs.Places.{room_of};
     ghost use Rattle.lx_step.specs.Saved.{Kept};
@@ -64,7 +66,7 @@ impl Model for Saved {
       left = left_of saved.scanner saved.steps;
     } };
 
-    ghost invariant = { λ saved. IsSaved saved.conds saved.assignments saved.start (vec_capacity saved.tags) saved.scanner saved.slots saved.assigned.keys (room_of saved.assigned) };
+    ghost invariant = { λ saved. IsSaved saved.conds saved.assignments saved.start saved.tags saved.scanner saved.slots saved.assigned.keys saved.firsts.items (room_of saved.assigned) };
 }
 
 /// How many registers, histories, conditions, tags, groups, and statements that assign something of the user's a piece

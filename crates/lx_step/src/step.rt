@@ -6,12 +6,12 @@ ghost use Rattle.lx_window.specs.Windows.{IsFormed, IsWindowOf, slid};
 ghost use Rattle.lx_step.specs.Conds.{IsCond};
 ghost use Rattle.lx_step.specs.Held.{is_on_histories};
 ghost use Rattle.lx_step.specs.Steps.{HasRoomFor, IsStep, KeepsLengths, KeepsTables, Moves, given_after, machine_of};
-ghost use Rattle.lx_step.specs.Tags.{tag_names, told_name};
+ghost use Rattle.lx_step.specs.Tags.{AreTags, tag_names};
 
 use crate::answers::Outcome;
 use crate::scanner::{Going, Scanner};
 use crate::slots::Slots;
-use crate::tags::{TagName, number_of_tag};
+use crate::tags::TagTable;
 use lx_base::Memory;
 use lx_ccode::{Piece, Stmt};
 use lx_window::Window;
@@ -21,7 +21,7 @@ use std::alloc::Global;
 #[derive(Clone, Copy)]
 pub(crate) struct Names<'n> {
     pub(crate) piece: &'n Piece,
-    pub(crate) tags: &'n [TagName],
+    pub(crate) tags: &'n TagTable,
 }
 
 /// Does a statement that asks for no refill.
@@ -36,7 +36,7 @@ pub(crate) fn step(
     requires asks { is_refill stmt.now ≡ false }
     requires room { HasRoomFor stmt.now scanner.old slots.old }
     requires named { NamesOneOf (map (λ case. case.cond) names.piece.now.conds) stmt.now }
-    requires tags { map (told_name names.piece.now.blocks) names.tags.now ≡ tag_names names.piece.now.blocks }
+    requires tags { AreTags names.piece.now.blocks names.tags.now }
     requires from { w.now.start ≤ scanner.old.cursor }
     requires to { scanner.old.limit ≡ w.now.limit }
     ensures step { IfOk result (λ going. (stream : List ℕ) → IsFormed w.now × IsWindowOf stream (slid w.now) → IsStep stream names.entry.piece.now.eof names.entry.piece.now.conds stmt.now scanner.old scanner.new going) }
@@ -68,7 +68,7 @@ pub(crate) fn step(
         Stmt::Cond(cond) => Ok(scanner.set_cond(names.piece.conds.as_slice(), cond)),
         Stmt::Tag(name, is_history, place) => {
             let blocks = names.piece.blocks.as_slice();
-            let number = number_of_tag(blocks, names.tags, name.as_slice());
+            let number = names.tags.number_of(blocks, name.as_slice());
             if *is_history {
                 scanner.give_history(alloc, slots, number, *place)
             } else {

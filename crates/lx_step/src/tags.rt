@@ -1,25 +1,38 @@
 //! The names of the user's tags, as they stand in a piece.
-ghost use Rattle.std.specs.Prelude.{◌≡◌, ◌+◌, ◌<◌, ◌≤◌, Some, length, map, IfSome, IsOk, OnOk, [], ◌∷◌, vec_capacity};
-ghost use Rattle.std.specs.List.{AllByRecursion, list_any};
+ghost use Rattle.std.specs.Prelude.{◌≡◌, ℕ, ◌+◌, ◌<◌, ◌≤◌, List, [], ◌∷◌, ◌++◌, Some, None, get_or, length, map, set, slice_index_or, IfOk, IfSome, IsOk, OnOk, vec_capacity};
+ghost use Rattle.std.specs.List.{list_any};
+ghost use Rattle.lx_ccode.specs.declared.piece.CodeBlock.{CodeBlock};
+ghost use Rattle.lx_ccode.specs.declared.piece.Stmt.{Stmt};
 ghost use Rattle.lx_base.specs.declared.limits.TheConstants.{STATEMENT_LIMIT};
 ghost use Rattle.lx_ccode.specs.Machine.{code_at};
 ghost use Rattle.lx_ccode.specs.NameSets.{first_place};
 ghost use Rattle.lx_ccode.specs.Statements.{all_statements, statement_count};
 ghost use Rattle.lx_step.specs.Places.{statement_at};
-ghost use Rattle.lx_step.specs.Tags.{AreTags, HasFlags, gives, has_name, is_new, names_from, tag_name, tag_names, told_name};
+ghost use Rattle.lx_step.specs.Tags.{AreTags, AreTagsOf, IsTableOf, bucket_of, gives, has_name, hash_from, is_new, marked, names_from, new_tag, no_tag, tag_name, tag_names, told_name};
 
 use crate::answers::StmtAt;
 use crate::assignments::statement_at;
 use lx_base::Memory;
 use lx_base::letters::equal_words;
 use lx_ccode::{CodeBlock, Stmt};
+use std::alloc::Global;
 
-/// A tag of the user's: where the piece names it first, and whether it gives it an offset, or a history.
+/// A tag of the user's: where the piece names it first, the last tag before it in the bucket of its name, and whether the piece gives it
+/// an offset, or a history.
 #[derive(Clone, Copy)]
 pub(crate) struct TagName {
     pub(crate) at: StmtAt,
+    pub(crate) before: Option<usize>,
     pub(crate) has_offset: bool,
     pub(crate) has_history: bool,
+}
+
+/// The tags of a piece by their numbers, and for each bucket of names the last tag in it, so that each is found by its name without a
+/// look at all others.
+#[derive(Drop)]
+pub(crate) struct TagTable {
+    pub(crate) tags: Vec<TagName>,
+    pub(crate) latest: Vec<Option<usize>>,
 }
 
 /// The name of the tag that the statement at a place gives a value, or no name.
@@ -32,81 +45,147 @@ fn name_at(blocks: &[CodeBlock], place: StmtAt) -> &[u8]
     }
 }
 
-/// The number of a tag among those of the piece, if it is one of them.
-pub(crate) fn number_of_tag(blocks: &[CodeBlock], tags: &[TagName], name: &[u8]) -> Option<usize>
-    ensures number { result ≡ first_place (map (told_name blocks.now) tags.now) name.now }
-    ensures within { IfSome result (λ number. number < length tags.now) }
+/// The bucket of a name, where there are so many.
+#[tactic(auto, unfolding(crate::specs::Tags::bucket_of))]
+fn bucket_of(buckets: usize, name: &[u8]) -> usize
+    requires { 0 < buckets }
+    ensures bucket { result ≡ bucket_of buckets name.now }
+    ensures within { result < buckets }
 {
-    for (number, tag) in tags.iter().enumerate() {
-        if equal_words(name_at(blocks, tag.at), name) {
-            return Some(number);
+    let mut hash = 0;
+    for letter in name {
+        hash = (hash * 16_777_619 + u64::from(*letter)) % 4_294_967_291;
+    }
+    hash as usize % buckets
+}
+
+impl TagTable {
+    /// No tags, and so many buckets, or one where that is none.
+    pub(crate) fn new(alloc: Global, buckets: u64) -> Result<TagTable, Memory>
+        ensures { IfOk result (λ table. (blocks : List CodeBlock) → AreTagsOf blocks [] table) }
+    {
+        Ok(TagTable {
+            tags: Vec::new(alloc),
+            latest: vec![in alloc; None; (buckets as usize).max(1)]?,
+        })
+    }
+
+    /// Forgets all tags, and keeps the room for them.
+    pub(crate) fn clear(&mut self)
+        requires { 0 < length self.old.latest.items }
+        ensures none { (blocks : List CodeBlock) → AreTagsOf blocks [] self.new }
+        ensures room { vec_capacity self.old.tags ≤ vec_capacity self.new.tags }
+    {
+        self.tags.clear();
+        self.latest.fill(None);
+    }
+
+    /// The number of a tag among those of the table, if it is one of them.
+    pub(crate) fn number_of(&self, blocks: &[CodeBlock], name: &[u8]) -> Option<usize>
+        requires { (names : List (List ℕ)) × IsTableOf blocks.now names self.now }
+        ensures number { result ≡ first_place (map (told_name blocks.now) self.now.tags.items) name.now }
+        ensures within { IfSome result (λ number. number < length self.now.tags.items) }
+    {
+        let mut at = self.latest[bucket_of(self.latest.len(), name)];
+        while let Some(number) = at {
+            let tag = self.tags[number];
+            if equal_words(name_at(blocks, tag.at), name) {
+                return Some(number);
+            }
+            at = tag.before;
+        }
+        None
+    }
+
+    /// Lists the tags of a piece, in the order in which it names them. With room for them all it takes no memory.
+    pub(crate) fn list(&mut self, blocks: &[CodeBlock]) -> Result<(), Memory>
+        requires { AreTagsOf blocks.now [] self.old }
+        ensures tags { OnOk result (AreTags blocks.now self.new) }
+        ensures succeeds { length (tag_names blocks.now) ≤ vec_capacity self.old.tags → IsOk result }
+    {
+        for (place, block) in blocks.iter().enumerate() {
+            self.list_those_of(blocks, place as u64, block.stmts.as_slice())?;
+        }
+        Ok(())
+    }
+
+    /// Lists those that a block names, behind others.
+    fn list_those_of(
+        &mut self,
+        blocks: &[CodeBlock],
+        block: u64,
+        statements: &[Stmt],
+    ) -> Result<(), Memory>
+        requires block { code_at blocks.now (Some block) ≡ Some statements.now }
+        requires table { (before : List Stmt) × AreTagsOf blocks.now before self.old }
+        ensures tags { OnOk result ((before : List Stmt) → AreTagsOf blocks.now before self.old → AreTagsOf blocks.now (before ++ statements.now) self.new) }
+        ensures room { vec_capacity self.old.tags ≤ vec_capacity self.new.tags }
+        ensures succeeds { (before : List Stmt) → AreTagsOf blocks.now before self.old → length (names_from (before ++ statements.now) []) ≤ vec_capacity self.old.tags → IsOk result }
+    {
+        for (place, statement) in statements.iter().enumerate() {
+            let at = StmtAt {
+                block,
+                stmt: place as u64,
+            };
+            self.list_one(blocks, at, statement)?;
+        }
+        Ok(())
+    }
+
+    /// Lists the tag that a statement names, if it names one that is not listed, and notes what it gives it.
+    fn list_one(&mut self, blocks: &[CodeBlock], at: StmtAt, statement: &Stmt) -> Result<(), Memory>
+        requires stands { statement_at blocks.now at ≡ Some statement.now }
+        requires table { (before : List Stmt) × AreTagsOf blocks.now before self.old }
+        ensures tags { OnOk result ((before : List Stmt) → AreTagsOf blocks.now before self.old → AreTagsOf blocks.now (before ++ statement.now ∷ []) self.new) }
+        ensures room { vec_capacity self.old.tags ≤ vec_capacity self.new.tags }
+        ensures succeeds { (before : List Stmt) → AreTagsOf blocks.now before self.old → length (names_from (before ++ statement.now ∷ []) []) ≤ vec_capacity self.old.tags → IsOk result }
+    {
+        let Stmt::Tag(name, is_history, _) = statement else {
+            return Ok(());
+        };
+        let number = match self.number_of(blocks, name.as_slice()) {
+            Some(number) => number,
+            None => self.add(at, name.as_slice())?,
+        };
+        self.mark(number, *is_history);
+        Ok(())
+    }
+
+    /// Puts a tag behind the others, which the statement at a place names first.
+    fn add(&mut self, at: StmtAt, name: &[u8]) -> Result<usize, Memory>
+        requires { 0 < length self.old.latest.items }
+        ensures number { IfOk result (λ number. number ≡ length self.old.tags.items) }
+        ensures tags { OnOk result (self.new.tags.items ≡ self.old.tags.items ++ new_tag at (get_or self.old.latest.items (bucket_of (length self.old.latest.items) name.now) None) ∷ []) }
+        ensures latest { OnOk result (self.new.latest.items ≡ set self.old.latest.items (bucket_of (length self.old.latest.items) name.now) (Some (length self.old.tags.items))) }
+        ensures room { vec_capacity self.old.tags ≤ vec_capacity self.new.tags }
+        ensures succeeds { length self.old.tags.items < vec_capacity self.old.tags → IsOk result }
+    {
+        let bucket = bucket_of(self.latest.len(), name);
+        let number = self.tags.len();
+        self.tags.push(TagName {
+            at,
+            before: self.latest[bucket],
+            has_offset: false,
+            has_history: false,
+        })?;
+        self.latest[bucket] = Some(number);
+        Ok(number)
+    }
+
+    /// Notes that the piece gives a tag a history, or an offset.
+    fn mark(&mut self, number: usize, is_history: bool)
+        requires { number < length self.old.tags.items }
+        ensures tags { self.new.tags.items ≡ set self.old.tags.items number (marked is_history (slice_index_or self.old.tags.items number no_tag)) }
+        ensures latest { self.new.latest.items ≡ self.old.latest.items }
+        ensures room { vec_capacity self.old.tags ≤ vec_capacity self.new.tags }
+    {
+        let tag = &mut self.tags[number];
+        if is_history {
+            tag.has_history = true;
+        } else {
+            tag.has_offset = true;
         }
     }
-    None
-}
-
-/// Lists the tags of a piece, in the order in which it names them. With room for them all it takes no memory.
-pub(crate) fn list_tags(tags: &mut Vec<TagName>, blocks: &[CodeBlock]) -> Result<(), Memory>
-    requires { tags.old.items ≡ [] }
-    ensures tags { OnOk result (AreTags blocks.now tags.new.items) }
-    ensures succeeds { length (tag_names blocks.now) ≤ vec_capacity tags.old → IsOk result }
-{
-    for (place, block) in blocks.iter().enumerate() {
-        list_tags_of(tags, blocks, place as u64, block.stmts.as_slice())?;
-    }
-    Ok(())
-}
-
-/// Lists those that a block names, behind others.
-fn list_tags_of(
-    tags: &mut Vec<TagName>,
-    blocks: &[CodeBlock],
-    block: u64,
-    statements: &[Stmt],
-) -> Result<(), Memory>
-    requires block { code_at blocks.now (Some block) ≡ Some statements.now }
-    requires flags { AllByRecursion (HasFlags blocks.now) tags.old.items }
-    ensures names { OnOk result (map (told_name blocks.now) tags.new.items ≡ names_from statements.now (map (told_name blocks.now) tags.old.items)) }
-    ensures flags { AllByRecursion (HasFlags blocks.now) tags.new.items }
-    ensures room { vec_capacity tags.old ≤ vec_capacity tags.new }
-    ensures succeeds { length (names_from statements.now (map (told_name blocks.now) tags.old.items)) ≤ vec_capacity tags.old → IsOk result }
-{
-    for (place, statement) in statements.iter().enumerate() {
-        let at = StmtAt {
-            block,
-            stmt: place as u64,
-        };
-        list_tag(tags, blocks, at, statement)?;
-    }
-    Ok(())
-}
-
-/// Lists the tag that a statement names, if it names one that is not listed.
-fn list_tag(
-    tags: &mut Vec<TagName>,
-    blocks: &[CodeBlock],
-    at: StmtAt,
-    statement: &Stmt,
-) -> Result<(), Memory>
-    requires stands { statement_at blocks.now at ≡ Some statement.now }
-    requires flags { AllByRecursion (HasFlags blocks.now) tags.old.items }
-    ensures names { OnOk result (map (told_name blocks.now) tags.new.items ≡ names_from (statement.now ∷ []) (map (told_name blocks.now) tags.old.items)) }
-    ensures flags { AllByRecursion (HasFlags blocks.now) tags.new.items }
-    ensures room { vec_capacity tags.old ≤ vec_capacity tags.new }
-    ensures succeeds { length (names_from (statement.now ∷ []) (map (told_name blocks.now) tags.old.items)) ≤ vec_capacity tags.old → IsOk result }
-{
-    let Stmt::Tag(name, _, _) = statement else {
-        return Ok(());
-    };
-    if number_of_tag(blocks, tags.as_slice(), name.as_slice()).is_some() {
-        return Ok(());
-    }
-    tags.push(TagName {
-        at,
-        has_offset: any_gives(blocks, false, name.as_slice()),
-        has_history: any_gives(blocks, true, name.as_slice()),
-    })?;
-    Ok(())
 }
 
 /// Whether a statement of the blocks gives a tag a history, or an offset.

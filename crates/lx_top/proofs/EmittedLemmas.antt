@@ -65,10 +65,10 @@ IsFirstBegin-unique block bytes offset other first second = elim (cases_lt offse
   ]
 ]
 
-pub BeginsWithPiece-unique : (bytes : List ℕ) (piece other : Piece) → BeginsWithPiece bytes piece → BeginsWithPiece bytes other → piece ≡ other
+BeginsWithPiece-unique : (bytes : List ℕ) (piece other : Piece) → BeginsWithPiece bytes piece → BeginsWithPiece bytes other → piece ≡ other
 BeginsWithPiece-unique bytes piece other first second = ap (λ (read : Piece × List ℕ). read.0) (sym (piece_at-front bytes piece first) ∙ piece_at-front bytes other second)
 
-pub IsUnread-unique : (bytes : List ℕ) (block : Option ℕ) (offset other : ℕ) → IsUnread bytes block offset → IsUnread bytes block other → offset ≡ other
+IsUnread-unique : (bytes : List ℕ) (block : Option ℕ) (offset other : ℕ) → IsUnread bytes block offset → IsUnread bytes block other → offset ≡ other
 IsUnread-unique bytes block offset other (inl first) (inl second) = first.1 ∙ sym second.1
 IsUnread-unique bytes block offset other (inl first) (inr second) = absurd (first.0 other second.0.begins)
 IsUnread-unique bytes block offset other (inr first) (inl second) = absurd (second.0 offset first.0.begins)

@@ -1,7 +1,7 @@
 -- How a job ends, from how its steps ended.
 use Rattle.std.proofs.Common.{◌≡◌, ◌≤◌, ℕ, Bool, true, false, List, [], Option, Some, None, Result, Ok, Err, IsErrAnd, IfErr, refl, sym, ap, subst, ◌∙◌, inl, inr, arith}
 use Rattle.std.proofs.lemmas.Bool.{cases_lt, lt-leb}
-use Rattle.std.specs.Prelude.{◌<◌, ◌&&◌, ◌||◌, codes, nat_le, option_and_then, unwrap_or, if◌then◌else◌}
+use Rattle.std.specs.Prelude.{◌<◌, ◌&&◌, ◌||◌, codes, nat_le, option_and_then, unwrap_or, IfSome, if◌then◌else◌}
 use Rattle.std.specs.Str.Parse.{digits_value}
 use Rattle.lx_base.specs.declared.faults.Fault.{Fault}
 use Rattle.lx_base.specs.Message.{HasFile, place_of}
@@ -19,7 +19,7 @@ use Rattle.lx_compile.specs.Options.{IsGreedy}
 use Rattle.lx_compile.specs.declared.made.Made.{Made}
 use Rattle.lx_top.specs.Delivery.{Bound, BreaksOff, Completes, DeliversIf, DeliversNothing, FailsToBind, FailsToGive, GivesInPart, GivesOut, GivesUp, MayBeBound, gives_before, is_full}
 use Rattle.lx_top.specs.FirstFault.{IsFaultBehind, IsFirstFault, IsJobFault}
-use Rattle.lx_top.specs.Jobs.{HasWindow, file_names, is_run, job_of, names_behind, names_of, options_for, target_of}
+use Rattle.lx_top.specs.Jobs.{IsWithinLimits, file_names, is_run, job_of, names_behind, names_of, options_for, target_of}
 use Rattle.lx_top.specs.Outside.{FilesView, SinkView, files_view}
 use Rattle.lx_top.specs.Output.{IsRightOf}
 use Rattle.lx_base.specs.Places.{file_start}
@@ -290,17 +290,38 @@ least-number most (Some text) = by (is_number text) (digits_value 10 text)
       | inr none ↦ let outside : nat_le 1 number ≡ false = lt-leb 1 number (omega arith) in rw outside (omega arith)
     ]
 
--- words ask for windows and refills of at least one unit
-HasWindow-by : (rules : Option ℕ) (input : Option (List ℕ)) (line : Line) → HasWindow (job_by rules input line)
-HasWindow-by (Some rules) input line = tt
-HasWindow-by None (Some input) line =
-    (least-number 1_048_576 (value line (codes "x-window")), least-number 1_048_576 (value line (codes "x-piece")))
-HasWindow-by None None line = tt
+-- a number within limits is at most the greater one
+most-number : (most : ℕ) (text : Option (List ℕ)) → IfSome (option_and_then (number_within 1 most) text) (λ number. number ≤ most)
+most-number most None = tt
+most-number most (Some text) = by (is_number text) (digits_value 10 text)
+  where
+    within : (number : ℕ) (inside : Bool) → number ≤ most → IfSome (if inside then Some number else None) (λ given. given ≤ most)
+    within number true few = few
+    within number false few = tt
 
-pub HasWindow-words : (words : List (List ℕ)) → HasWindow (job_of words)
+    beyond : (number : ℕ) (least : Bool) → IfSome (if least && false then Some number else None) (λ given. given ≤ most)
+    beyond number true = tt
+    beyond number false = tt
+
+    by : (is : Bool) (number : ℕ) → IfSome (if is && (nat_le 1 number && nat_le number most) then Some number else None) (λ given. given ≤ most)
+    by false number = tt
+    by true number = elim (cases_lt most number) [
+      | inl more ↦ let outside : nat_le number most ≡ false = lt-leb number most more in rw outside (beyond number (nat_le 1 number))
+      | inr few ↦ within number (nat_le 1 number && nat_le number most) few
+    ]
+
+-- words ask for windows and refills of at least one unit, and for at most 200 rules
+IsWithinLimits-by : (rules : Option ℕ) (input : Option (List ℕ)) (line : Line) → IfSome rules (λ count. count ≤ 200) → IsWithinLimits (job_by rules input line)
+IsWithinLimits-by (Some rules) input line few = few
+IsWithinLimits-by None (Some input) line few =
+    (least-number 1_048_576 (value line (codes "x-window")), least-number 1_048_576 (value line (codes "x-piece")))
+IsWithinLimits-by None None line few = tt
+
+pub IsWithinLimits-words : (words : List (List ℕ)) → IsWithinLimits (job_of words)
 unfolding options_of
-HasWindow-words words =
-    let line = line_of words in HasWindow-by (number_of line (codes "x-source") 1 200) (value line (codes "x-run")) line
+IsWithinLimits-words words =
+    let line = line_of words in
+    IsWithinLimits-by (number_of line (codes "x-source") 1 200) (value line (codes "x-run")) line (most-number 200 (value line (codes "x-source")))
 
 -- words ask for leftmost greedy trees
 pub IsGreedy-words : (words : List (List ℕ)) → IsGreedy (options_for words)

@@ -50,7 +50,7 @@ module _ (options : Options) (seen other : List HeldFile) (same : (name : List �
       ap (λ (expand : Expands). file_expansion (λ folder. expanded (expand folder)) options (file_start 0) (met [] 0) (record { name = main; bytes = bytes }))
       (include_expansion-same 32)
 
-  pub expansion-same : (main : List ℕ) → expansion options seen main ≡ expansion options other main
+  expansion-same : (main : List ℕ) → expansion options seen main ≡ expansion options other main
   expansion-same main = ap (main_expansion options seen main) (same main) ∙ main_expansion-same main (bytes_of other main)
 
   pub IsFirstFault-same : (main : List ℕ) (made : List Made) (fault : Option Fault) → IsFirstFault options seen main made fault

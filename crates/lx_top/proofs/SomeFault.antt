@@ -1,5 +1,5 @@
 -- A command line has a first fault over the files, or it has none: one of both is there, under two negations.
-use Rattle.std.proofs.Common.{ℕ, zero, suc, ◌<◌, List, [], drop, Option, Some, None, refl, inl, inr, arith}
+use Rattle.std.proofs.Common.{ℕ, zero, suc, ◌<◌, List, drop, Option, Some, None, refl, inl, inr, arith}
 use Rattle.lx_base.specs.declared.faults.Fault.{Fault}
 use Rattle.lx_base.specs.declared.faults.Fault.TheVariants.{NoFile, NotEmitted}
 use Rattle.lx_base.specs.declared.settings.Job.{Job}
@@ -11,13 +11,10 @@ use Rattle.lx_words.specs.Options.{words_fault}
 use Rattle.lx_ccode.specs.declared.piece.Piece.{Piece}
 use Rattle.lx_ccode.specs.Front.{BeginsWithPiece}
 use Rattle.lx_creader.specs.Marks.{BeginsBlock, IsFirstBegin}
-use Rattle.lx_compile.specs.FirstFault as source
 use Rattle.lx_compile.specs.declared.made.Made.{Made}
 use Rattle.lx_top.specs.Emitted.{IsEmittedFault, IsRunFault, input_fault, place_in}
 use Rattle.lx_top.specs.FirstFault.{AreMadeBy, AreMadeFor, IsFaultBehind, IsFaultOf, IsFirstFault}
 use Rattle.lx_top.specs.Jobs.{options_for}
-use Rattle.lx_top.specs.Sources.{IsScanFault, IsSourceFault, source_files, source_name, source_options}
-use Rattle.lx_compile.proofs.OneOutput.{IsOutput-some}
 use Rattle.lx_compile.proofs.SomeFault.{IsFirstFault-some as IsSourceFault-some}
 use Rattle.lx_base.specs.Places.{file_start}
 
@@ -50,34 +47,13 @@ run_fault : (block : Option ℕ) (window step : ℕ) (name : List ℕ) (given : 
 run_fault block window step name given emitted None none = none (Some (NoFile (file_start 0) emitted)) refl
 run_fault block window step name given emitted (Some bytes) none = emitted_fault block window step name given bytes none
 
--- ---- generated sources
-
--- an output has a fault of its scanner, or none
-scan_fault : (output : List ℕ) → ((fault : Option Fault) → IsScanFault output fault → ⊥) → ⊥
-scan_fault output none = emitted_fault None 0 0 [] (Some []) output known
-  where
-    known : (fault : Option Fault) → IsEmittedFault None 0 0 [] (Some []) output fault → ⊥
-    known fault (inl unread) = none fault (inl unread)
-    known fault (inr scans) = none None (inr (scans.0, scans.1, refl))
-
--- a generated source has a first fault, or none
-source_fault : (rules : ℕ) (made : List Made) → source.AreMadeOf source_options (source_files rules) source_name made
-    → ((fault : Option Fault) → IsSourceFault rules made fault → ⊥) → ⊥
-source_fault rules made are none = IsSourceFault-some source_options (source_files rules) source_name made are known
-  where
-    known : (fault : Option Fault) → source.IsFirstFault source_options (source_files rules) source_name made fault → ⊥
-    known (Some first) is = none (Some first) (inl (refl, is))
-    known None is =
-        let given = IsOutput-some source_options (source_files rules) source_name made is in
-        scan_fault given.0 (λ fault scans. none fault (inr (is, (given.0, given.1, scans))))
-
 -- ---- jobs
 
 job_fault : (options : Options) (job : Job) (files : List HeldFile) (made : List Made) → AreMadeFor options job files made
     → ((fault : Option Fault) → IsFaultOf options job files made fault → ⊥) → ⊥
 job_fault options (Compile file to) files made are none = IsSourceFault-some options files file made are none
 job_fault options (Run input emitted block window piece) files made are none = run_fault block window piece input (bytes_of files input) emitted (bytes_of files emitted) none
-job_fault options (Source rules to) files made are none = source_fault rules made are none
+job_fault options (Source rules to) files made are none = none None refl
 
 fault_behind : (of_words : Option Fault) (options : Options) (files : List HeldFile) (made : List Made) → AreMadeFor options options.job files made
     → ((fault : Option Fault) → IsFaultBehind of_words options files made fault → ⊥) → ⊥

@@ -4,7 +4,8 @@ use Rattle.std.proofs.lemmas.List.{append-nil}
 use Rattle.std.specs.Fmt.{decimal}
 use Rattle.std.specs.Prelude.{codes}
 use Rattle.lx_base.specs.Text.{joined}
-use Rattle.lx_top.specs.Sources.{rule_lines_then, source_text, words_from, words_of}
+use Rattle.lx_source.specs.Sources.{rule_lines_then, source_text}
+use Rattle.lx_top.specs.Sources.{words_from, words_of}
 
 joined-behind : (parts : List (List ℕ)) (tail : List ℕ) → joined parts [] ++ tail ≡ joined parts tail
 joined-behind [] tail = refl

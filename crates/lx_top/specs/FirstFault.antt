@@ -11,14 +11,14 @@ use Rattle.lx_compile.specs.FirstFault as source
 use Rattle.lx_compile.specs.declared.made.Made.{Made}
 use Rattle.lx_top.specs.Emitted.{IsRunFault}
 use Rattle.lx_top.specs.Jobs.{options_for}
-use Rattle.lx_top.specs.Sources.{IsSourceFault, source_files, source_name, source_options}
 
--- the first fault of a job that is asked for with these options, over the files, or none, where this is made of its source
+-- The first fault of a job that is asked for with these options, over the files, or none, where this is made of its source. A generated source
+-- has none.
 abbrev pub IsFaultOf : Options → Job → List HeldFile → List Made → Option Fault → Type 0
 IsFaultOf options (Compile file to) files made fault = source.IsFirstFault options files file made fault
 IsFaultOf options (Run input emitted block window piece) files made fault =
     IsRunFault block window piece input (bytes_of files input) emitted (bytes_of files emitted) fault
-IsFaultOf options (Source rules to) files made fault = IsSourceFault rules made fault
+IsFaultOf options (Source rules to) files made fault = fault ≡ None
 
 -- the first fault of the options' job over the files, or none
 abbrev pub IsJobFault : Options → List HeldFile → List Made → Option Fault → Type 0
@@ -34,11 +34,11 @@ IsFaultBehind (Some first) options files made fault = fault ≡ Some first
 abbrev pub IsFirstFault : (words : List (List ℕ)) → List HeldFile → List Made → Option Fault → Type 0
 IsFirstFault words files made fault = IsFaultBehind (words_fault words) (options_for words) files made fault
 
--- this is made of the source of a job, if it has one without an earlier fault
+-- this is made of the source in a file that a job compiles, if it compiles one without an earlier fault
 abbrev pub AreMadeFor : Options → Job → List HeldFile → List Made → Type 0
 AreMadeFor options (Compile file to) files made = source.AreMadeOf options files file made
 AreMadeFor options (Run input emitted block window piece) files made = Unit {0}
-AreMadeFor options (Source rules to) files made = source.AreMadeOf source_options (source_files rules) source_name made
+AreMadeFor options (Source rules to) files made = Unit {0}
 
 -- this is made of the source of what the words ask for
 abbrev pub AreMadeBy : (words : List (List ℕ)) → List HeldFile → List Made → Type 0

@@ -1,12 +1,11 @@
 -- What a command line asks the program to do.
-use Rattle.std.specs.Prelude.{◌<◌, ℕ, Bool, true, false, List, [], ◌∷◌, Option, Some, None}
+use Rattle.std.specs.Prelude.{◌<◌, ◌≤◌, ℕ, Bool, true, false, List, [], ◌∷◌, Option, Some, None}
 use Rattle.lx_base.specs.declared.faults.Fault.{Fault}
 use Rattle.lx_base.specs.declared.settings.Job.{Job}
 use Rattle.lx_base.specs.declared.settings.Job.TheVariants.{Compile, Run, Source}
 use Rattle.lx_base.specs.declared.settings.Options.{Options}
 use Rattle.lx_files.specs.declared.files.HeldFile.{HeldFile}
 use Rattle.lx_split.specs.Includes.{expansion}
-use Rattle.lx_top.specs.Sources.{source_files, source_name, source_options}
 use Rattle.lx_words.specs.Line.{line_of}
 use Rattle.lx_words.specs.Options.{options_of, words_fault}
 
@@ -17,11 +16,11 @@ options_for words = options_of (line_of words)
 abbrev pub job_of : (words : List (List ℕ)) → Job
 job_of words = (options_for words).job
 
--- the window of a run and its refills have at least one unit
-abbrev pub HasWindow : Job → Type 0
-HasWindow (Compile file to) = Unit {0}
-HasWindow (Run input emitted block window piece) = (0 < window) × (0 < piece)
-HasWindow (Source rules to) = Unit {0}
+-- the numbers of a job are within limits: the window of a run and its refills have at least one unit, and a generated source at most 200 rules
+abbrev pub IsWithinLimits : Job → Type 0
+IsWithinLimits (Compile file to) = Unit {0}
+IsWithinLimits (Run input emitted block window piece) = (0 < window) × (0 < piece)
+IsWithinLimits (Source rules to) = rules ≤ 200
 
 -- the job runs a scanner
 abbrev pub is_run : Job → Bool
@@ -36,11 +35,11 @@ target_of (Run input emitted block window piece) = None
 target_of (Source rules to) = Some to
 
 -- The names of the files that a job reads, which the message of a fault cites: a source and those that it includes, in the order in which they
--- are met; an emitted file and an input; or a generated source.
+-- are met; or an emitted file and an input. A generated source has no fault.
 abbrev pub names_of : Options → Job → (seen : List HeldFile) → List (List ℕ)
 names_of options (Compile file to) seen = (expansion options seen file).met.names
 names_of options (Run input emitted block window piece) seen = emitted ∷ input ∷ []
-names_of options (Source rules to) seen = (expansion source_options (source_files rules) source_name).met.names
+names_of options (Source rules to) seen = []
 
 -- the same where the words have this fault, or none
 abbrev pub names_behind : (of_words : Option Fault) → Options → (seen : List HeldFile) → List (List ℕ)

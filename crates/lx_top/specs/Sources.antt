@@ -1,35 +1,23 @@
--- Generated sources: their text, their compilation, and what is told of a run of their scanner.
-use Rattle.std.specs.Prelude.{◌≡◌, ◌⊎◌, ℕ, zero, suc, false, List, [], ◌∷◌, ◌++◌, length, codes, Option, Some, None, IsSome, ◌==◌, if◌then◌else◌}
+-- Generated sources: their output, and what is told of a run of their scanner.
+use Rattle.std.specs.Prelude.{◌≡◌, ℕ, zero, suc, List, [], ◌∷◌, length, codes, None, ◌==◌, if◌then◌else◌}
 use Rattle.std.specs.Fmt.{decimal}
 use Rattle.std.specs.List.{filter}
 use Rattle.lx_base.specs.Letters.{begins_with}
 use Rattle.lx_base.specs.Text.{joined}
-use Rattle.lx_base.specs.declared.faults.Fault.{Fault}
-use Rattle.lx_base.specs.declared.faults.Fault.TheVariants.{NotEmitted}
-use Rattle.lx_base.specs.declared.settings.EmptyPolicy.TheVariants.{MatchEmpty}
-use Rattle.lx_base.specs.declared.settings.Enc.TheVariants.{Byte}
-use Rattle.lx_base.specs.declared.settings.Job.TheVariants.{Compile}
-use Rattle.lx_base.specs.declared.settings.Options.{Options}
-use Rattle.lx_base.specs.declared.settings.SurPolicy.TheVariants.{Ignore}
 use Rattle.lx_ccode.specs.declared.piece.Piece.{Piece}
-use Rattle.lx_files.specs.declared.files.HeldFile.{HeldFile}
 use Rattle.lx_run.specs.Texts.{run_text}
-use Rattle.lx_compile.specs.FirstFault as source
 use Rattle.lx_compile.specs.Output.{IsOutput}
 use Rattle.lx_compile.specs.declared.made.Made.{Made}
-use Rattle.lx_top.specs.Emitted.{IsUnread, Scans, place_in}
+use Rattle.lx_source.specs.Sources.{source_files, source_name, source_options, source_text}
+use Rattle.lx_top.specs.Emitted.{Scans}
 
--- ---- the source
+-- ---- its output
 
--- the lines of so many rules, numbered from this one on: a word and its number, once to three times, and a numeral
-abbrev pub rule_lines_then : (number count : ℕ) → List ℕ → List ℕ
-rule_lines_then number zero tail = tail
-rule_lines_then number (suc count) tail =
-    joined (codes "\"w" ∷ decimal number ∷ codes "x\"{1,3} [0-9]+ { }\n" ∷ []) (rule_lines_then (suc number) count tail)
+-- the output of the source of so many rules
+abbrev pub IsSourceOutput : (rules : ℕ) → List Made → (output : List ℕ) → Type 0
+IsSourceOutput rules made output = IsOutput source_options (source_files rules) source_name made output
 
--- the source of so many rules
-abbrev pub source_text : (rules : ℕ) → List ℕ
-source_text rules = codes "/*!re2c\nre2c:yyfill:enable = 0;\n" ++ rule_lines_then 1 rules (codes "* { }\n*/\n")
+-- ---- what is told of a run
 
 -- the words that its scanner is run over, one of each rule, numbered from this one on
 abbrev pub words_from : (number count : ℕ) → List ℕ
@@ -38,52 +26,6 @@ words_from number (suc count) = joined (codes "w" ∷ decimal number ∷ codes "
 
 abbrev pub words_of : (rules : ℕ) → List ℕ
 words_of rules = words_from 1 rules
-
--- ---- its compilation
-
--- the name under which it is compiled
-abbrev pub source_name : List ℕ
-source_name = codes "source.re"
-
--- the files of its compilation
-abbrev pub source_files : (rules : ℕ) → List HeldFile
-source_files rules = record { name = source_name; bytes = source_text rules } ∷ []
-
--- it is compiled without line marks, and else as a command line asks that names it alone
-abbrev pub source_options : Options
-source_options = record {
-  job = Compile source_name None;
-  lines = false;
-  conds = false;
-  states = false;
-  tags = false;
-  captures = false;
-  posix = false;
-  custom = false;
-  enc = Byte;
-  surrogates = Ignore;
-  empty = MatchEmpty;
-  dir = None;
-}
-
--- its output
-abbrev pub IsSourceOutput : (rules : ℕ) → List Made → (output : List ℕ) → Type 0
-IsSourceOutput rules made output = IsOutput source_options (source_files rules) source_name made output
-
--- no scanner is read from its output, which is the fault, or one is
-abbrev pub IsScanFault : (output : List ℕ) → Option Fault → Type 0
-IsScanFault output fault =
-    ((offset : ℕ) × IsUnread output None offset × (fault ≡ Some (NotEmitted (place_in output offset) offset)))
-    ⊎ ((piece : Piece) × Scans output None piece × (fault ≡ None))
-
--- the first fault of its compilation; or none, and that of its output or none
-abbrev pub IsSourceFault : (rules : ℕ) → List Made → Option Fault → Type 0
-IsSourceFault rules made fault =
-    (IsSome fault × source.IsFirstFault source_options (source_files rules) source_name made fault)
-    ⊎ (source.IsFirstFault source_options (source_files rules) source_name made None
-    × ((output : List ℕ) × IsSourceOutput rules made output × IsScanFault output fault))
-
--- ---- what is told of a run
 
 -- the lines with a letter before the first of them
 abbrev pub onto_first : ℕ → List (List ℕ) → List (List ℕ)

@@ -8,10 +8,8 @@ use Rattle.lx_files.specs.Held.{bytes_of}
 use Rattle.lx_files.specs.declared.files.HeldFile.{HeldFile}
 use Rattle.lx_base.specs.Places.{file_start}
 use Rattle.std.specs.Global.{Vec}
-use Rattle.lx_compile.specs.FirstFault as source
 use Rattle.lx_compile.specs.declared.made.Made.{Made}
-use Rattle.lx_split.specs.Includes.{expansion}
-use Rattle.lx_top.specs.Sources.{IsSourceOutput, source_files, source_name, source_options}
+use Rattle.lx_top.specs.Sources.{IsSourceOutput}
 use Rattle.lx_top.specs.Delivery.{Bound, Completes, GivesOut, BreaksOff, DeliversBefore, DeliversNothing, FailsToBind, MayBeBound}
 use Rattle.lx_top.specs.Emitted.{IsUnread, place_in}
 use Rattle.lx_top.specs.Endings.{TellsMessage, failure_text}
@@ -94,20 +92,7 @@ Reports names err err' halt.ReadFailed ending = TellsHalt ReadFailed err err' en
 Reports names err err' halt.PutFailed ending = TellsHalt PutFailed err err' ending
 Reports names err err' halt.OutOfMemory ending = TellsHalt OutOfMemory err err' ending
 
--- why a generated source was not compiled: a call that reads no file but that stops with its first fault, whose file is one of the names, or where
--- memory runs out
-abbrev pub HaltsSource : (rules : ℕ) → (names : List (List ℕ)) → Halt → Type 0
-HaltsSource rules names (halt.Fault fault) =
-    ((made : List Made) × source.IsFirstFault source_options (source_files rules) source_name made (Some fault))
-    × (names ≡ (expansion source_options (source_files rules) source_name).met.names) × IsPlaced names fault
-HaltsSource rules names halt.ReadFailed = ⊥
-HaltsSource rules names halt.PutFailed = ⊥
-HaltsSource rules names halt.OutOfMemory = Unit {0}
-
--- the compilation of a generated source ended so
-abbrev pub CompilesSource : (rules : ℕ) → (names : List (List ℕ)) → Result (Vec ℕ) Halt → Type 0
-CompilesSource rules names ended =
-    MatchResult ended
-    (λ output. ((made : List Made) × source.IsFirstFault source_options (source_files rules) source_name made None × IsSourceOutput rules made output.items)
-    × (names ≡ (expansion source_options (source_files rules) source_name).met.names))
-    (HaltsSource rules names)
+-- the compilation of a generated source ended so: with its output, or where memory ran out
+abbrev pub CompilesSource : (rules : ℕ) → Result (Vec ℕ) Halt → Type 0
+CompilesSource rules ended =
+    MatchResult ended (λ output. (made : List Made) × IsSourceOutput rules made output.items) (λ halted. halted ≡ halt.OutOfMemory)

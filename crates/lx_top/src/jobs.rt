@@ -5,7 +5,7 @@ ghost use Rattle.lx_compile.specs.declared.made.Made.{Made};
 ghost use Rattle.lx_files.specs.Held.{Sees};
 ghost use Rattle.lx_files.specs.declared.files.HeldFile.{HeldFile};
 ghost use Rattle.lx_top.specs.FirstFault.{IsFirstFault, IsJobFault};
-ghost use Rattle.lx_top.specs.Jobs.{HasWindow, file_names, is_run, job_of, names_of, options_for, target_of};
+ghost use Rattle.lx_top.specs.Jobs.{IsWithinLimits, file_names, is_run, job_of, names_of, options_for, target_of};
 ghost use Rattle.lx_top.specs.Outside.{files_view, sink_view};
 ghost use Rattle.lx_top.specs.Output.{IsRightOf};
 ghost use Rattle.lx_top.specs.Steps.{Cites, JobEnds};
@@ -51,7 +51,7 @@ fn perform_job<F: Files, O: Sink>(
 ) -> Result<(), Halt>
     requires names { names.old ≡ [] }
     requires greedy { IsGreedy options.now }
-    requires windows { HasWindow options.now.job }
+    requires limits { IsWithinLimits options.now.job }
     ensures ends { let files_before = files_view (F.held files.old) (F.faults files.old) (F.write_faults files.old) in
         let files_after = files_view (F.held files.new) (F.faults files.new) (F.write_faults files.new) in
         let before = sink_view (O.given out.old) (O.faults out.old) in
@@ -81,7 +81,7 @@ fn perform_job<F: Files, O: Sink>(
             let (emitted, input) = (emitted.as_str(), input.as_str());
             run_emitted(alloc, emitted, input, *block, units, files, out)
         }
-        Job::Source { n, to } => run_source(alloc, *n, to.as_str(), files, out, names),
+        Job::Source { n, to } => run_source(alloc, *n, to.as_str(), files, out),
     }
 }
 

@@ -1,11 +1,11 @@
 //! Generated sources: their text, their compilation, and a run of their scanner.
-ghost use Rattle.std.specs.Prelude.{◌≡◌, ℕ, ◌%◌, false, [], ◌∷◌, List, Some, None, IfErr, IfOk, MatchResult, length};
+ghost use Rattle.std.specs.Prelude.{◌≡◌, ℕ, ◌≤◌, ◌%◌, false, List, Some, None, IfOk, MatchResult, length};
 ghost use Rattle.lx_compile.specs.declared.made.Made.{Made};
 ghost use Rattle.lx_run.specs.Texts.{run_text};
-ghost use Rattle.lx_split.specs.Includes.{expansion};
+ghost use Rattle.lx_source.specs.Sources.{source_options, source_text};
 ghost use Rattle.lx_top.specs.Outside.{files_view, sink_view};
-ghost use Rattle.lx_top.specs.Sources.{IsSourceFault, IsSourceOutput, IsSourceText, source_files, source_name, source_options, source_text, usual_units, words_of};
-ghost use Rattle.lx_top.specs.Steps.{Cites, CompilesSource, HaltsScan, IsPlacedHalt, JobEnds};
+ghost use Rattle.lx_top.specs.Sources.{IsSourceOutput, IsSourceText, usual_units, words_of};
+ghost use Rattle.lx_top.specs.Steps.{CompilesSource, HaltsScan, JobEnds};
 ghost use Rattle.lx_top.specs.Emitted.{Scans};
 ghost use Rattle.lx_ccode.specs.Validity.{IsValid};
 
@@ -77,23 +77,23 @@ fn source_options(alloc: Global) -> Result<Options, Memory>
     })
 }
 
-/// The output of a generated source.
-fn source_output(alloc: Global, source: &[u8], names: &mut FileNames) -> Result<Vec<u8>, Halt>
-    requires names { names.old ≡ [] }
-    ensures compiles { (rules : ℕ) → source.now ≡ source_text rules → CompilesSource rules names.new result }
+/// The output of a generated source, which has no fault.
+fn source_output(alloc: Global, source: &[u8]) -> Result<Vec<u8>, Halt>
+    ensures compiles { (rules : ℕ) → rules ≤ 200 → source.now ≡ source_text rules → CompilesSource rules result }
 {
     let mut files = QuietFiles::new(alloc);
     files.add(SOURCE_NAME, source)?;
     let options = source_options(alloc)?;
-    let output = lx_compile::compile(alloc, &mut files, names, &options, SOURCE_NAME)?;
+    let mut names = FileNames::new(alloc);
+    let output = lx_compile::compile(alloc, &mut files, &mut names, &options, SOURCE_NAME)?;
     Ok(output)
 }
 
-/// The first scanner of an output.
+/// The first scanner of an output. That of a generated source has one, whose units are bytes.
 fn scanner_of(alloc: Global, output: &[u8]) -> Result<Piece, Halt>
     ensures scans { MatchResult result (Scans output.now None) (HaltsScan output.now None) }
-    ensures units { (made : List Made) (rules : ℕ) → IsSourceOutput rules made output.now → IfOk result (λ piece. piece.unit ≡ 1) }
-    ensures placed { (name : List ℕ) (names : List (List ℕ)) → IfErr result (IsPlacedHalt (name ∷ names)) }
+    ensures found { (rules : ℕ) (made : List Made) → rules ≤ 200 → IsSourceOutput rules made output.now →
+        MatchResult result (λ piece. piece.unit ≡ 1) (λ halted. halted ≡ Halt.OutOfMemory) }
 {
     if output.len() > MOST_BYTES {
         return Err(Halt::OutOfMemory);
@@ -115,26 +115,24 @@ fn run_of(alloc: Global, piece: &Piece, input: Vec<u8>) -> Result<Vec<u8>, Memor
 }
 
 /// Generates the source of so many rules, compiles it, and runs its scanner over a word of each rule. Its output is given to the file, and what
-/// is told of the run to the standard output.
+/// is told of the run to the standard output. No such source has a fault.
 pub(crate) fn run_source<F: Files, O: Sink>(
     alloc: Global,
     rules: u32,
     target: &str,
     files: &mut F,
     out: &mut O,
-    names: &mut FileNames,
 ) -> Result<(), Halt>
-    requires names { names.old ≡ [] }
+    requires few { rules ≤ 200 }
     ensures ends { let files_before = files_view (F.held files.old) (F.faults files.old) (F.write_faults files.old) in
         let files_after = files_view (F.held files.new) (F.faults files.new) (F.write_faults files.new) in
         let before = sink_view (O.given out.old) (O.faults out.old) in
         let after = sink_view (O.given out.new) (O.faults out.new) in
         (made : List Made)
-        × JobEnds false (IsSourceFault rules made) (Some target.now) (λ bytes text. IsSourceOutput rules made bytes × IsSourceText rules bytes text) files_before files_after before after result
-        × IfErr result (Cites (expansion source_options (source_files rules) source_name).met.names names.new) }
+        × JobEnds false (λ fault. fault ≡ None) (Some target.now) (λ bytes text. IsSourceOutput rules made bytes × IsSourceText rules bytes text) files_before files_after before after result }
 {
     let source = source_text(alloc, rules)?;
-    let output = source_output(alloc, &source, names)?;
+    let output = source_output(alloc, &source)?;
     let piece = scanner_of(alloc, &output)?;
     let words = words_of(alloc, rules)?;
     let run = run_of(alloc, &piece, words)?;

@@ -1,3 +1,5 @@
 pub mod Buffers
+pub mod MemorySources
+pub mod PaddedBytes
 pub mod StreamUnits
 pub mod StreamWindows

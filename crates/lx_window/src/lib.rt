@@ -1,6 +1,7 @@
 //! The input of a scanner: a window that slides over it in a borrowed buffer, and the sources that refill it.
 //!
-//! A trait says what a refill may answer, and counts its faults and its pauses; `MemRefill` implements it over borrowed bytes.
+//! A trait says what a refill may answer, and counts its faults and its pauses; `MemRefill` implements it over borrowed bytes and
+//! the padding behind them.
 #![tactic(auto)]
 
 pub mod laws;

@@ -79,27 +79,60 @@ module _ (Has : ℕ → Type 0) (bounded : (point : ℕ) → Has point → point
         );
       }
 
+  none_above : (low : ℕ) → low ≡ 0x110000 → HasFrom low
+  none_above low top = record {
+    set = [];
+    canonical = tt;
+    points = λ point. (
+      λ none. absurd none,
+      λ has. let le = has.1 in let most = bounded point has.0 in absurd (omega (arith, top, le, most)),
+    );
+  }
+
+  all_of : HasFrom 0 → (set : List Range) × IsSetOf Has set
+  all_of all = (
+    all.set,
+    record {
+      canonical = all.canonical;
+      points = λ point. (λ is. ((all.points point).0 is).0, λ has. (all.points point).1 (has, omega arith));
+    },
+  )
+
   from_below : (count low : ℕ) → count + low ≡ 0x110000 → Surely (HasFrom low)
-  from_below zero low top =
-      surely (record {
-        set = [];
-        canonical = tt;
-        points = λ point. (
-          λ none. absurd none,
-          λ has. let le = has.1 in let most = bounded point has.0 in absurd (omega (arith, top, le, most)),
-        );
-      })
+  from_below zero low top = surely (none_above low (omega (arith, top)))
   from_below (suc count) low top =
       and_then (from_below count (suc low) (omega (arith, top)))
       (λ above. and_then (excluded_middle (Has low)) (λ here. surely (⊎_elim (with_point low above) (without_point low above) here)))
 
   pub set_exists : Surely ((set : List Range) × IsSetOf Has set)
-  set_exists =
-      and_then (from_below 0x110000 0 (omega arith))
-      (λ all. surely (
-        all.set,
-        record {
-          canonical = all.canonical;
-          points = λ point. (λ is. ((all.points point).0 is).0, λ has. (all.points point).1 (has, omega arith));
-        },
-      ))
+  set_exists = and_then (from_below 0x110000 0 (omega arith)) (λ all. surely (all_of all))
+
+  -- and where each point is decided, they are at hand
+  module _ (decide : (point : ℕ) → Has point ⊎ (Has point → ⊥)) where
+    decided_below : (count low : ℕ) → count + low ≡ 0x110000 → HasFrom low
+    decided_below zero low top = none_above low (omega (arith, top))
+    decided_below (suc count) low top =
+        ⊎_elim (with_point low (decided_below count (suc low) (omega (arith, top))))
+        (without_point low (decided_below count (suc low) (omega (arith, top)))) (decide low)
+
+    pub decided_set : (set : List Range) × IsSetOf Has set
+    decided_set = all_of (decided_below 0x110000 0 (omega arith))
+
+-- a point lies in ranges, or it does not
+pub decide_in : (ranges : List Range) (point : ℕ) → InRanges ranges point ⊎ (InRanges ranges point → ⊥)
+decide_in [] point = inr (λ none. none)
+decide_in (range ∷ ranges) point =
+    ⊎_elim (λ later. inl (inr later))
+    (λ no. ⊎_elim
+    (λ below. inr (λ is. ⊎_elim (λ here. let le = here.0 in absurd (omega (arith, below, le))) no is))
+    (λ from. ⊎_elim
+    (λ above. inr (λ is. ⊎_elim (λ here. let le = here.1 in absurd (omega (arith, above, le))) no is))
+    (λ to. inl (inl (from, to))) (cases_lt range.hi point))
+    (cases_lt point range.lo))
+    (decide_in ranges point)
+
+-- points of sorted ranges do not lie past Unicode
+pub canonical_bounded : (low : ℕ) (ranges : List Range) (point : ℕ) → IsCanonicalFrom low ranges → InRanges ranges point → point ≤ 0x10FFFF
+canonical_bounded low [] point canonical is = absurd is
+canonical_bounded low (range ∷ ranges) point canonical (inl is) = let to = is.1 in let most = canonical.2 in omega (arith, to, most)
+canonical_bounded low (range ∷ ranges) point canonical (inr is) = canonical_bounded (range.hi + 2) ranges point canonical.3 is

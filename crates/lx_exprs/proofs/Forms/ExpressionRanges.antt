@@ -10,8 +10,8 @@ use Rattle.lx_parse.specs.Expressions.{alt}
 use Rattle.lx_parse.specs.Ranges.{IsPart}
 use Rattle.lx_exprs.specs.declared.expressions.Operands.{Operands as Held}
 use Rattle.lx_exprs.specs.declared.expressions.Reading.{Reading}
+use Rattle.lx_exprs.specs.declared.operands.Operand.{Operand}
 use Rattle.lx_exprs.specs.declared.values.Room.{Room}
-use Rattle.lx_exprs.specs.declared.values.Value.{Value}
 use Rattle.lx_exprs.specs.Checks.{Checks, StopsAt, are_groups}
 use Rattle.lx_exprs.specs.Defined.{Before, Definition, Meaning, and_more, count_of, nothing}
 use Rattle.lx_forms.specs.Forms.{Form, IsForm}
@@ -19,6 +19,8 @@ use Rattle.lx_exprs.specs.Expressions.{ChecksBehind, IsExpression}
 use Rattle.lx_exprs.specs.Expressions.{IsRead, IsReadBehind}
 use Rattle.lx_forms.specs.Lexemes.{Lexeme, sort_at, sorts_at}
 use Rattle.lx_exprs.specs.Reading.{AreInOrder, AreOperands, AreTaken, AreValues, Goes, Operands, StopsReading, operands_behind, with_more}
+use Rattle.lx_exprs.specs.Operands.{IsOperand}
+use Rattle.lx_exprs.specs.Values.{IsValue}
 use Rattle.lx_forms.specs.Steps.{Step, steps_of}
 use Rattle.lx_exprs.proofs.Forms.ExpressionSteps.{reversed}
 use Rattle.lx_forms.proofs.FormReading.{HasForm, reads_form}
@@ -84,18 +86,19 @@ module _ (options : Options) (definitions : List Definition) (lexemes : List Lex
         (goes_so stands.0 stands.1 (Err fault) goes)
 
     -- and where they are taken, the expression is read
-    pub part_read : (room : Room) (held : Held) (front : List Value) (reading : Reading)
+    pub part_read : (room : Room) (held : Held) (front : List Operand) (last : Operand) (reading : Reading)
         → AreTaken options definitions room (operands_behind before) steps held
-        → held.values.items ≡ front ++ reading.value ∷ [] → reading.tags ≡ held.seen
+        → held.values.items ≡ front ++ last ∷ [] → reading.tags ≡ held.seen
+        → ((meaning : Meaning) → IsOperand room meaning last → IsValue room meaning reading.value)
         → IsReadBehind options lexemes definitions room before from until reading
-    part_read room held front reading taken values tags =
+    part_read room held front last reading taken values tags settled =
         let stands = part_form options lexemes from until part in
         ⊎_elim
         (λ found. absurd (let h : Ok taken.after ≡ Err found.0 = found.1 in cc))
         (λ read.
         let after : taken.after ≡ with_more (operands_behind before) read.0 = cc in
         let operands = subst (λ (o : Operands). AreOperands room o held) after taken.stands in
-        let is = subst (AreValues room (read.0 ∷ [])) (reversed front held.values.items reading.value values) operands.values in
+        let is = subst (AreValues room (read.0 ∷ [])) (reversed front held.values.items last values) operands.values in
         let count = read.2.count ∙ ap₂ (λ tags groups. count_of (and_more before tags groups)) (sym read.2.tags) (sym read.2.groups) in
         record {
           form = stands.0;
@@ -103,7 +106,7 @@ module _ (options : Options) (definitions : List Definition) (lexemes : List Lex
           checked = read.2.checked;
           meaning = read.0;
           means = read.2.means;
-          stands = record { value = is.0; tags = tags ∙ operands.tags; count = count };
+          stands = record { value = settled read.0 is.0; tags = tags ∙ operands.tags; count = count };
         })
         (goes_so stands.0 stands.1 (Ok taken.after) taken.goes)
 

@@ -1,50 +1,43 @@
 -- The steps of an expression, one behind another.
-use Rattle.std.proofs.Common.{◌≡◌, ℕ, zero, suc, ◌+◌, ◌<◌, ◌↔◌, arith, inl, max, Bool, List, [], ◌∷◌, ◌++◌, map, reverse, length, take, drop, get_or, Option, None, Some, Result, Ok, Err, MatchResult, refl, sym, ap, ap₂, ◌∙◌, subst, Vec, Global}
-use Rattle.std.specs.Prelude.{◌&&◌, is_some, if◌then◌else◌}
+use Rattle.std.proofs.Common.{◌≡◌, ℕ, zero, suc, ◌+◌, ◌<◌, arith, Bool, List, [], ◌∷◌, ◌++◌, map, reverse, length, take, drop, get_or, None, Some, Ok, Err, refl, sym, ap, ap₂, ◌∙◌, subst, Vec, Global}
 use Rattle.std.proofs.lemmas.List.{reverse-append}
-use Rattle.std.proofs.lemmas.Result.{MatchResult-weaker}
 use Rattle.lx_base.specs.declared.faults.Fault.{Fault}
-use Rattle.lx_base.specs.declared.faults.Fault.TheVariants.{NotClass}
 use Rattle.lx_base.specs.declared.faults.Stop.{Stop}
 use Rattle.lx_base.specs.declared.faults.Stop.TheVariants as stop
-use Rattle.lx_base.specs.declared.places.Pos.{Pos}
 use Rattle.lx_base.specs.declared.settings.Options.{Options}
-use Rattle.lx_class.specs.Ranges.{InRanges, IsCanonical}
-use Rattle.lx_class.specs.Ranges as ranges
-use Rattle.lx_class.specs.declared.ranges.Range.{Range}
 use Rattle.lx_exprs.specs.declared.expressions.Operands.{Operands as Held}
+use Rattle.lx_exprs.specs.declared.operands.Operand.{Operand}
+use Rattle.lx_exprs.specs.declared.operands.Operand.TheVariants as operand
 use Rattle.lx_exprs.specs.declared.values.Room.{Room}
 use Rattle.lx_exprs.specs.declared.values.Value.{Value}
-use Rattle.lx_exprs.specs.Checks.{IsFilled, IsIn, StopsAt}
-use Rattle.lx_exprs.specs.Defined.{Before, Definition, HasClass, Meaning, kept, meant_class}
+use Rattle.lx_exprs.specs.Checks.{StopsAt}
+use Rattle.lx_exprs.specs.Defined.{Before, Definition, Meaning, kept}
 use Rattle.lx_regex.specs.declared.rules.Tag.{Tag}
 use Rattle.lx_forms.specs.Lexemes.{Lexeme}
-use Rattle.lx_exprs.specs.Meanings.{class_meaning}
-use Rattle.lx_exprs.specs.Reading.{AreOperands, AreValues, DifferenceChecks, DifferenceHas, Goes, ends, refused, next, IsDifference, IsLeafRead, IsStepTaken, IsStepped, Operands, StepChecks, StopsReading, SubtractChecks, Subtracts, in_place, with_more}
+use Rattle.lx_exprs.specs.Reading.{AreOperands, AreValues, DifferenceChecks, Goes, ends, refused, next, IsDifference, IsLeafRead, IsStepTaken, IsStepped, Operands, StepChecks, StopsReading, SubtractChecks, Subtracts, in_place, with_more}
 use Rattle.lx_forms.specs.Steps.{Step, reads, subtracts}
-use Rattle.lx_exprs.specs.Values.{IsValue}
-use Rattle.lx_exprs.proofs.Forms.ClassForms.{filled-same}
+use Rattle.lx_exprs.specs.Operands.{IsOperand}
 
--- the last of some values, as they are listed from the last one on
-pub reversed : (front items : List Value) (value : Value) → items ≡ front ++ value ∷ [] → reverse items ≡ value ∷ reverse front
+-- the last of some operands, as they are listed from the last one on
+pub reversed : (front items : List Operand) (value : Operand) → items ≡ front ++ value ∷ [] → reverse items ≡ value ∷ reverse front
 reversed front items value same = ap reverse same ∙ reverse-append front (value ∷ [])
 
-pub values_more : (room : Room) (meanings : List Meaning) (meaning : Meaning) (front items : List Value) (value : Value) → items ≡ front ++ value ∷ []
-    → IsValue room meaning value → AreValues room meanings (reverse front) → AreValues room (meaning ∷ meanings) (reverse items)
+pub values_more : (room : Room) (meanings : List Meaning) (meaning : Meaning) (front items : List Operand) (value : Operand) → items ≡ front ++ value ∷ []
+    → IsOperand room meaning value → AreValues room meanings (reverse front) → AreValues room (meaning ∷ meanings) (reverse items)
 values_more room meanings meaning front items value same is are =
     subst (AreValues room (meaning ∷ meanings)) (sym (reversed front items value same)) (is, are)
 
--- the last two of the meanings, and their values
-pub record HasTwo (room : Room) (meanings : List Meaning) (front : List Value) (left right : Value) : Type 0 where
+-- the last two of the meanings, and their operands
+pub record HasTwo (room : Room) (meanings : List Meaning) (front : List Operand) (left right : Operand) : Type 0 where
   pub first : Meaning
   pub second : Meaning
   pub others : List Meaning
   pub are : meanings ≡ second ∷ first ∷ others
-  pub left_is : IsValue room first left
-  pub right_is : IsValue room second right
+  pub left_is : IsOperand room first left
+  pub right_is : IsOperand room second right
   pub others_are : AreValues room others (reverse front)
 
-pub last_two : (room : Room) (meanings : List Meaning) (items middle front : List Value) (left right : Value) → items ≡ middle ++ right ∷ []
+pub last_two : (room : Room) (meanings : List Meaning) (items middle front : List Operand) (left right : Operand) → items ≡ middle ++ right ∷ []
     → middle ≡ front ++ left ∷ [] → AreValues room meanings (reverse items) → HasTwo room meanings front left right
 last_two room meanings items middle front left right last before are =
     go meanings (subst (AreValues room meanings) (reversed middle items right last ∙ ap (λ l. right ∷ l) (reversed front middle left before)) are)
@@ -58,7 +51,7 @@ last_two room meanings items middle front left right last before are =
 module _ (options : Options) (definitions : List Definition) where
   -- a leaf is read
   pub leaf_taken : (room : Room) (operands : Operands) (old new : Held) (is_operand : Bool) (lexeme : Lexeme) (value : Value)
-      → AreOperands room operands old → new.values.items ≡ old.values.items ++ value ∷ []
+      → AreOperands room operands old → new.values.items ≡ old.values.items ++ operand.Whole value ∷ []
       → new.groups ≡ kept (old.groups + value.groups) → new.open_groups ≡ old.open_groups
       → IsLeafRead options definitions room is_operand (record { tags = old.seen; groups = old.groups }) lexeme new.seen value
       → IsStepTaken options definitions room operands (reads is_operand lexeme) new
@@ -70,7 +63,7 @@ module _ (options : Options) (definitions : List Definition) where
         after = with_more operands here.meaning;
         stepped = (here.meaning, here.means, refl);
         stands = record {
-          values = values_more room operands.meanings here.meaning old.values.items new.values.items value values here.stands are.values;
+          values = values_more room operands.meanings here.meaning old.values.items new.values.items (operand.Whole value) values here.stands are.values;
           tags = here.seen;
           groups = groups ∙ ap₂ (λ a b. kept (a + b)) are.groups here.stands.counted.groups_is;
           open_groups = ap (λ (l : Vec ℕ Global). reverse l.items) around ∙ are.open_groups;
@@ -80,66 +73,12 @@ module _ (options : Options) (definitions : List Definition) where
       before : List Tag → ℕ → Before
       before tags groups = record { tags = tags; groups = groups }
 
-  -- the points of a difference
-  different : (first second : Option (List (ℕ × ℕ))) (whole holes set : List Range) → HasClass (Some whole) first → HasClass (Some holes) second
-      → ranges.IsDifference whole holes set → (point : ℕ) → InRanges set point ↔ (IsIn first point × ¬ IsIn second point)
-  different None second whole holes set has more without = absurd has
-  different (Some points) None whole holes set has more without = absurd more
-  different (Some points) (Some others) whole holes set has more without = λ point. (
-    λ is. let both = (without point).0 is in ((has.1 point).0 both.0, λ inside. both.1 ((more.1 point).1 inside)),
-    λ is. (without point).1 ((has.1 point).1 is.0, λ inside. is.1 ((more.1 point).0 inside)),
-  )
-
-  are_classes : (first second : Option (List (ℕ × ℕ))) (whole holes : List Range) (at : Pos) → HasClass (Some whole) first → HasClass (Some holes) second
-      → None ≡ (if is_some first && is_some second then None else Some (NotClass at))
-  are_classes None second whole holes at has more = absurd has
-  are_classes (Some points) None whole holes at has more = absurd more
-  are_classes (Some points) (Some others) whole holes at has more = refl
-
-  module _ (room : Room) (operand : Bool) (first second : Meaning) (sign : Lexeme) (whole holes set : List Range)
-      (has : HasClass (Some whole) (meant_class first)) (more : HasClass (Some holes) (meant_class second)) (canonical : IsCanonical set)
-      (without : ranges.IsDifference whole holes set) where
-    checks_so : (fault : Option Fault) → IsFilled options definitions options.empty operand sign.at (InRanges set) fault
-        → DifferenceChecks options definitions operand first second sign fault
-    checks_so fault is =
-        inl (
-          are_classes (meant_class first) (meant_class second) whole holes sign.at has more,
-          filled-same options definitions options.empty operand sign.at (InRanges set) (DifferenceHas options definitions first second)
-              (different (meant_class first) (meant_class second) whole holes set has more without) fault is,
-        )
-
-    stops_so : (stopped : Stop) → StopsAt (IsFilled options definitions options.empty operand sign.at (InRanges set)) stopped
-        → StopsAt (DifferenceChecks options definitions operand first second sign) stopped
-    stops_so stop.Memory is = tt
-    stops_so (stop.Fault fault) is = checks_so (Some fault) is
-
-    pub difference_read : (result : Result Value Stop)
-        → MatchResult result
-        (λ value. IsFilled options definitions options.empty operand sign.at (InRanges set) None
-        × IsValue room (class_meaning operand options.empty (max first.nesting second.nesting) (first.tags ++ second.tags) (kept (first.groups + second.groups)) (max first.count second.count) set) value)
-        (StopsAt (IsFilled options definitions options.empty operand sign.at (InRanges set)))
-        → MatchResult result
-        (λ value. DifferenceChecks options definitions operand first second sign None
-        × ((meaning : Meaning) × IsDifference options definitions operand first second meaning × IsValue room meaning value))
-        (StopsAt (DifferenceChecks options definitions operand first second sign))
-    difference_read result is =
-        MatchResult-weaker result is
-        (λ value read. (
-          checks_so None read.0,
-          (
-            class_meaning operand options.empty (max first.nesting second.nesting) (first.tags ++ second.tags) (kept (first.groups + second.groups)) (max first.count second.count) set,
-            (set, record { canonical = canonical; points = different (meant_class first) (meant_class second) whole holes set has more without }, refl),
-            read.1,
-          ),
-        ))
-        stops_so
-
   -- a difference is put in the place of its sides
-  pub subtract_taken : (room : Room) (operands : Operands) (old new : Held) (operand : Bool) (sign : Lexeme) (front : List Value) (left right value : Value)
+  pub subtract_taken : (room : Room) (operands : Operands) (old new : Held) (operand : Bool) (sign : Lexeme) (front : List Operand) (left right value : Operand)
       → AreOperands room operands old → (two : HasTwo room operands.meanings front left right) → new.values.items ≡ front ++ value ∷ []
       → new.seen ≡ old.seen → new.groups ≡ old.groups → new.open_groups ≡ old.open_groups
       → DifferenceChecks options definitions operand two.first two.second sign None
-      × ((meaning : Meaning) × IsDifference options definitions operand two.first two.second meaning × IsValue room meaning value)
+      × ((meaning : Meaning) × IsDifference options definitions operand two.first two.second meaning × IsOperand room meaning value)
       → IsStepTaken options definitions room operands (subtracts operand sign) new
   subtract_taken room operands old new operand sign front left right value are two values seen groups around read = record {
     checked = subst (λ l. SubtractChecks options definitions operand l sign None) (sym two.are) read.0;
@@ -157,7 +96,7 @@ module _ (options : Options) (definitions : List Definition) where
     };
   }
 
-  pub subtract_stops : (room : Room) (meanings : List Meaning) (operand : Bool) (sign : Lexeme) (front : List Value) (left right : Value) (stopped : Stop)
+  pub subtract_stops : (room : Room) (meanings : List Meaning) (operand : Bool) (sign : Lexeme) (front : List Operand) (left right : Operand) (stopped : Stop)
       → (two : HasTwo room meanings front left right) → StopsAt (DifferenceChecks options definitions operand two.first two.second sign) stopped
       → StopsAt (SubtractChecks options definitions operand meanings sign) stopped
   subtract_stops room meanings operand sign front left right stopped two is =

@@ -1,6 +1,6 @@
 -- The rules by which states accept, state by state.
-use Rattle.std.specs.Prelude.{◌≡◌, ℕ, suc, ◌+◌, ◌<◌, ◌≤◌, List, [], ◌∷◌, ◌++◌, length, Option, Some, None, Bool, true, false, is_some, nat_eq, option_map, refl, slice_index_or, slice_set, unwrap_or, if◌then◌else◌}
-use Rattle.std.proofs.Common.{sym, ap, ◌∙◌, arith, eqb-true, eq-eqb, get_or-set_other, get_or-set_same, length-append, true≢false}
+use Rattle.std.specs.Prelude.{◌≡◌, ℕ, suc, ◌+◌, ◌≤◌, List, [], ◌∷◌, ◌++◌, length, Option, Some, None, Bool, true, false, is_some, nat_eq, option_map, refl, unwrap_or, if◌then◌else◌}
+use Rattle.std.proofs.Common.{sym, ap, ◌∙◌, arith, length-append}
 use Rattle.std.specs.List.{AllByRecursion}
 use Rattle.lx_auto.specs.declared.automaton.Accept.{Accept}
 use Rattle.lx_layout.specs.Layout.{has_rule, rule_place, with_accept}
@@ -53,41 +53,6 @@ pub with_accept-saved : (found : List Accept) (accept : Accept) → is_some (rul
     → found ≡ with_accept found (Some accept)
 with_accept-saved found accept e =
     ap (λ t. if t then found else found ++ accept ∷ []) (sym (has_rule-index found accept.rule ∙ e))
-
-rule_index-own : (found : List Accept) (accept : Accept) → rule_index found accept.rule ≡ None
-    → rule_index (found ++ accept ∷ []) accept.rule ≡ Some (length found)
-rule_index-own [] accept e = ap (λ (t : Bool). if t then Some 0 else None) (eq-eqb accept.rule accept.rule refl)
-rule_index-own (other ∷ found) accept e =
-    by (nat_eq accept.rule other.rule) (rule_index found accept.rule) refl e (λ h. rule_index-own found accept h)
-  where
-    by : (t : Bool) (before : Option ℕ) → rule_index found accept.rule ≡ before → (if t then Some 0 else option_map suc before) ≡ None
-        → (rule_index found accept.rule ≡ None → rule_index (found ++ accept ∷ []) accept.rule ≡ Some (length found))
-        → (if t then Some 0 else option_map suc (rule_index (found ++ accept ∷ []) accept.rule)) ≡ Some (suc (length found))
-    by true before is e again = absurd (cc)
-    by false None is e again = ap (λ o. option_map suc o) (again is)
-    by false (Some place) is e again = absurd (cc)
-
-rule_index-other : (found : List Accept) (accept : Accept) (rule : ℕ) → nat_eq rule accept.rule ≡ false
-    → rule_index (found ++ accept ∷ []) rule ≡ rule_index found rule
-rule_index-other [] accept rule e = ap (λ (t : Bool). if t then Some 0 else None) e
-rule_index-other (other ∷ found) accept rule e =
-    ap (λ (o : Option ℕ). if nat_eq rule other.rule then Some 0 else option_map suc o) (rule_index-other found accept rule e)
-
-pub rule_index-pushed : (places : List (Option ℕ)) (found : List Accept) (accept : Accept) → rule_index found accept.rule ≡ None
-    → accept.rule < length places → ((rule : ℕ) → slice_index_or places rule None ≡ rule_index found rule)
-    → (rule : ℕ) → slice_index_or (slice_set places accept.rule (Some (length found))) rule None ≡ rule_index (found ++ accept ∷ []) rule
-rule_index-pushed places found accept new lt table rule = by (nat_eq rule accept.rule) refl
-  where
-    by : (t : Bool) → nat_eq rule accept.rule ≡ t
-        → slice_index_or (slice_set places accept.rule (Some (length found))) rule None ≡ rule_index (found ++ accept ∷ []) rule
-    by true e =
-        let same : rule ≡ accept.rule = eqb-true rule accept.rule e in
-        ap (λ n. slice_index_or (slice_set places accept.rule (Some (length found))) n None) same
-        ∙ get_or-set_same places accept.rule (Some (length found)) None lt
-        ∙ sym (rule_index-own found accept new) ∙ ap (λ n. rule_index (found ++ accept ∷ []) n) (sym same)
-    by false e =
-        get_or-set_other places accept.rule rule (Some (length found)) None (λ same. absurd (true≢false (sym (eq-eqb rule accept.rule same) ∙ e)))
-        ∙ table rule ∙ sym (rule_index-other found accept rule e)
 
 -- ---- how many there are
 

@@ -8,7 +8,7 @@ use Rattle.lx_auto.specs.declared.automaton.Edge.{Edge}
 use Rattle.lx_auto.specs.declared.automaton.State.{State}
 use Rattle.lx_auto.specs.declared.ops.Op.{Op}
 use Rattle.lx_ccode.specs.declared.piece.Stmt.{Stmt}
-use Rattle.lx_regs.specs.ParallelCopies.{sequentialized}
+use Rattle.lx_sequence.specs.ParallelCopies.{sequentialized}
 use Rattle.lx_layout.specs.Codes.{list_code}
 use Rattle.lx_layout.specs.Plans.{HaveOrder, unlabelled}
 use Rattle.lx_layout.specs.Views.{seen_classes}

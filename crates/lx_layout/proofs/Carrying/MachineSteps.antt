@@ -14,8 +14,8 @@ use Rattle.lx_ccode.specs.Runs.{ended}
 use Rattle.lx_ccode.specs.Statements.{code_of}
 use Rattle.lx_ccode.specs.Traces.{is_peek, is_skip}
 use Rattle.lx_ccode.proofs.TraceSteps.{EndsSo, ends_at, ends_quiet, goto_step, saved_fails, saved_holds, test_fails, test_holds}
-use Rattle.lx_regs.specs.ParallelCopies.{sequentialized}
-use Rattle.lx_regs.specs.Turns.{after_op, after_ops}
+use Rattle.lx_sequence.specs.ParallelCopies.{sequentialized}
+use Rattle.lx_sequence.specs.Turns.{after_op, after_ops}
 use Rattle.lx_layout.specs.Carries.{HasUnits}
 use Rattle.lx_layout.specs.Codes.{Choice, list_code, op_code, ops_code}
 use Rattle.lx_layout.specs.Fallback.{chosen, fallback_code}

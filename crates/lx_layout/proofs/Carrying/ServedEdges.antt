@@ -13,7 +13,7 @@ use Rattle.lx_ccode.specs.declared.piece.Stmt.{Stmt}
 use Rattle.lx_ccode.specs.declared.piece.Stmt.TheVariants.{Accept as SaveAccept, Backup, Goto, Skip}
 use Rattle.lx_ccode.specs.Machine.{Answer, Machine, code_at}
 use Rattle.lx_ccode.proofs.TraceSteps.{LeadsSo, goto_step, leads_at, leads_skip}
-use Rattle.lx_regs.proofs.Operations.Agreeing.{Agrees-after}
+use Rattle.lx_sequence.proofs.Agreeing.{Agrees-after}
 use Rattle.lx_layout.specs.Codes.{list_code, save_code}
 use Rattle.lx_layout.specs.Endings.{Ending}
 use Rattle.lx_layout.specs.Fallback.{edge_code}

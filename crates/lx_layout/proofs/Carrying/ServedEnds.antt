@@ -15,9 +15,9 @@ use Rattle.lx_ccode.specs.Machine.{Answer, Machine, Value, no_rule}
 use Rattle.lx_ccode.specs.Runs.{Ended}
 use Rattle.lx_ccode.specs.Statements.{code_of}
 use Rattle.lx_ccode.proofs.TraceSteps.{EndsSo, ends_quiet, ends_telling, goto_step}
-use Rattle.lx_regs.specs.ParallelCopies.{sequentialized}
-use Rattle.lx_regs.specs.Turns.{after_ops}
-use Rattle.lx_regs.proofs.Operations.Agreeing.{Agrees, Agrees-after, read_all-agrees}
+use Rattle.lx_sequence.specs.ParallelCopies.{sequentialized}
+use Rattle.lx_sequence.specs.Turns.{after_ops}
+use Rattle.lx_sequence.proofs.Agreeing.{Agrees, Agrees-after, read_all-agrees}
 use Rattle.lx_tdfa.specs.Promise.{tag_value}
 use Rattle.lx_layout.specs.Carries.{HasSaved}
 use Rattle.lx_layout.specs.Codes.{accept_code, restore_code}

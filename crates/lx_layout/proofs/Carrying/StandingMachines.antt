@@ -9,7 +9,7 @@ use Rattle.lx_auto.specs.declared.automaton.Auto.{Auto}
 use Rattle.lx_auto.specs.declared.automaton.Edge.{Edge}
 use Rattle.lx_ccode.specs.declared.piece.Piece.{Piece}
 use Rattle.lx_ccode.specs.Machine.{Machine}
-use Rattle.lx_regs.proofs.Operations.Agreeing.{Agrees}
+use Rattle.lx_sequence.proofs.Agreeing.{Agrees}
 use Rattle.lx_layout.specs.Carries.{HasSaved, StandsAs}
 use Rattle.lx_layout.specs.Endings.{Ending}
 use Rattle.lx_layout.proofs.Carrying.MachineSteps.{bank_of}

@@ -1,5 +1,5 @@
 -- Scanners one behind another, as they are laid one by one.
-use Rattle.std.specs.Prelude.{◌≡◌, ℕ, suc, ◌+◌, ◌<◌, All, Option, Some, None, IfSome, is_some, nat_eq, option_map, List, [], ◌∷◌, ◌++◌, length, take, Bool, true, false, if◌then◌else◌, slice_index_or, refl}
+use Rattle.std.specs.Prelude.{◌≡◌, ℕ, suc, ◌+◌, ◌<◌, All, Option, Some, None, IfSome, is_some, List, [], ◌∷◌, ◌++◌, length, take, true, slice_index_or, refl}
 use Rattle.std.proofs.Common.{sym, ap, ap₂, ◌∙◌, arith, subst, append_assoc, length-append}
 use Rattle.std.proofs.lemmas.Bool.{false≢true}
 use Rattle.std.specs.List.{AllByRecursion}
@@ -17,10 +17,11 @@ use Rattle.lx_layout.specs.Parts.{Given, IsPartOf, Part, given_asked, labelled, 
 use Rattle.lx_layout.specs.Plans.{unlabelled}
 use Rattle.lx_layout.specs.PieceViews.{seen_source, seen_sources}
 use Rattle.lx_layout.specs.Pieces.{ArePartsOf, FitsAccept, FitsEnd, Form, IsFitScanner, Source, given_of}
-use Rattle.lx_layout.specs.RuleEnds.{HasEnd, HasToldEnd, end_place, ending_of, endings_of, no_ending}
+use Rattle.lx_layout.specs.RuleEnds.{HasEnd, HasToldEnd, end_place, endings_of}
 use Rattle.lx_layout.specs.Writable.{CanBeWritten}
 use Rattle.lx_layout.specs.declared.pieces.ScannerInput.{ScannerInput}
 use Rattle.lx_layout.specs.declared.rule_ends.RuleEnd.{RuleEnd}
+use Rattle.lx_layout.proofs.Rules.EndPlaces.{end_place-none}
 use Rattle.lx_layout.proofs.Rules.RuleEndings.{each-All}
 
 -- ---- one part more
@@ -70,22 +71,12 @@ parts_of-more form (first ∷ scanners) (own ∷ parts) scanner part are is = (a
 
 -- ---- what is told of ends
 
-no_end : (ends : List RuleEnd) (number : ℕ) → end_place ends number ≡ None → endings_of ends number ≡ no_ending
-no_end [] number e = refl
-no_end (end ∷ ends) number e = by (nat_eq number end.rule.now.number) (end_place ends number) e (λ h. no_end ends number h)
-  where
-    by : (t : Bool) (place : Option ℕ) → (if t then Some 0 else option_map suc place) ≡ None
-        → (place ≡ None → endings_of ends number ≡ no_ending) → (if t then ending_of end else endings_of ends number) ≡ no_ending
-    by true place e again = absurd (cc)
-    by false None e again = again refl
-    by false (Some place) e again = absurd (cc)
-
 -- an ending that can be written is that of some rule
 has_end : (names : Spellings) (conds : List (List ℕ)) (ends : List RuleEnd) (number : ℕ) → CanBeWritten names conds (endings_of ends number) → HasEnd ends number
 has_end names conds ends number written = by (end_place ends number) refl
   where
     by : (place : Option ℕ) → end_place ends number ≡ place → is_some place ≡ true
-    by None e = absurd (false≢true (subst (λ (ending : Ending). CanBeWritten names conds ending) (no_end ends number e) written).acts)
+    by None e = absurd (false≢true (subst (λ (ending : Ending). CanBeWritten names conds ending) (end_place-none ends number e) written).acts)
     by (Some place) e = refl
 
 module _ (form : Form) (conds : List (List ℕ)) (ends : List RuleEnd) (scanner : Source) (fit : IsFitScanner form conds scanner)

@@ -14,7 +14,7 @@ use Rattle.lx_auto.specs.declared.ops.Op.TheVariants.{Here, Null, Copy, MHere, M
 use Rattle.lx_ccode.specs.Counts.{is_peek}
 use Rattle.lx_ccode.specs.Statements.{is_need, is_try, state_of}
 use Rattle.lx_ccode.specs.declared.piece.Stmt.{Stmt}
-use Rattle.lx_regs.specs.ParallelCopies.{sequentialized}
+use Rattle.lx_sequence.specs.ParallelCopies.{sequentialized}
 use Rattle.lx_layout.specs.Codes.{op_code}
 use Rattle.lx_layout.specs.Endings.{Ending, action_code, cond_code, ending_code, is_slash, last_code, tag_code}
 use Rattle.lx_layout.specs.Halting.{Halting, ended_accepts, saved_accepts}

@@ -6,32 +6,16 @@ use Rattle.std.specs.Borrow.{Bor}
 use Rattle.lx_layout.specs.NumberIndexes.{with_place}
 use Rattle.lx_layout.specs.RuleEnds.{end_place, ending_of, endings_of, no_ending}
 use Rattle.lx_layout.specs.declared.rule_ends.RuleEnd.{RuleEnd}
+use Rattle.lx_layout.proofs.Rules.FirstPlaces.{first_place-pushed}
 
--- with one more end the place of each number that has none is that of the end
-pub end_place-pushed : (ends : List RuleEnd) (end : RuleEnd) (number : ℕ)
-    → end_place (ends ++ end ∷ []) number ≡ with_place (end_place ends number) end.rule.now.number (length ends) number
-end_place-pushed [] end number = refl
-end_place-pushed (first ∷ ends) end number = by (nat_eq number first.rule.now.number) (end_place ends number) (end_place-pushed ends end number)
-  where
-    at : (s : Bool) → option_map suc (if s then Some (length ends) else None) ≡ (if s then Some (suc (length ends)) else None)
-    at true = refl
-    at false = refl
-
-    by : (t : Bool) (before : Option ℕ) → end_place (ends ++ end ∷ []) number ≡ with_place before end.rule.now.number (length ends) number
-        → (if t then Some 0 else option_map suc (end_place (ends ++ end ∷ []) number))
-        ≡ with_place (if t then Some 0 else option_map suc before) end.rule.now.number (suc (length ends)) number
-    by true before e = refl
-    by false (Some place) e = ap (λ o. option_map suc o) e
-    by false None e = ap (λ o. option_map suc o) e ∙ at (nat_eq number end.rule.now.number)
-
--- so it is with the end that stands behind the first ones
+-- with the end behind the first ones the place of each number that has none is that of the end
 pub end_place-next : (ends : List RuleEnd) (place : ℕ) (end : RuleEnd) (number : ℕ) → place < length ends → end ≡ slice_index_or ends place end
     → end_place (take (place + 1) ends) number ≡ with_place (end_place (take place ends) number) end.rule.now.number place number
 end_place-next ends place end number lt read =
     let count : length (take place ends) ≡ place = length-take-le place ends (omega (arith, lt)) in
     ap (λ n. end_place (take n ends) number) (add-one place)
     ∙ ap (λ l. end_place l number) (take-suc ends place end lt ∙ ap (λ other. take place ends ++ other ∷ []) (sym read))
-    ∙ end_place-pushed (take place ends) end number
+    ∙ first_place-pushed (λ (other : RuleEnd). other.rule.now.number) (take place ends) end number
     ∙ ap (λ n. with_place (end_place (take place ends) number) end.rule.now.number n number) count
 
 pub end_place-none : (ends : List RuleEnd) (number : ℕ) → end_place ends number ≡ None → endings_of ends number ≡ no_ending

@@ -10,7 +10,7 @@ use Rattle.lx_ccode.specs.declared.piece.Stmt.TheVariants.{IfUnit}
 use Rattle.lx_ccode.specs.declared.piece.Piece.{Piece}
 use Rattle.lx_ccode.specs.Machine.{Machine, Value, Answer, goes_on, step, jump, choose, if_unit, updated, code_at}
 use Rattle.lx_ccode.specs.Statements.{code_of}
-use Rattle.lx_regs.specs.Turns.{after_op, after_ops}
+use Rattle.lx_sequence.specs.Turns.{after_op, after_ops}
 use Rattle.lx_layout.specs.Codes.{save_code, op_code, ops_code}
 use Rattle.lx_layout.specs.Layout.{StandsFrom}
 use Rattle.lx_layout.specs.TestTrees.{TestTree, fork, inner_blocks, inner_size, leaf, picked, test, tree_code}

@@ -13,7 +13,7 @@ use Rattle.lx_ccode.specs.Statements.{code_of}
 use Rattle.lx_ccode.specs.declared.piece.Piece.{Piece}
 use Rattle.lx_ccode.specs.declared.piece.Stmt.{Stmt}
 use Rattle.lx_ccode.specs.declared.piece.Stmt.TheVariants.{Accept as SaveAccept, Backup, Goto, IfAccept, IfEnd, IfUnit, Leave, Need, Peek, Restore, Skip, State as Store, Try}
-use Rattle.lx_regs.specs.ParallelCopies.{sequentialized}
+use Rattle.lx_sequence.specs.ParallelCopies.{sequentialized}
 use Rattle.lx_layout.specs.Codes.{Choice, accept_code, list_code, op_code, ops_code, restore_code, save_code}
 use Rattle.lx_layout.specs.Endings.{Ending, ending_code}
 use Rattle.lx_layout.specs.Fallback.{edge_code, fallback_code}

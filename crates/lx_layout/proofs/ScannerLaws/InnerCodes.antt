@@ -10,7 +10,7 @@ use Rattle.lx_auto.specs.declared.ops.Op.{Op}
 use Rattle.lx_auto.specs.declared.ops.Op.TheVariants.{Here, Null, Copy, MHere, MNull, MCopy}
 use Rattle.lx_ccode.specs.declared.piece.Stmt.{Stmt}
 use Rattle.lx_ccode.specs.declared.piece.Stmt.TheVariants.{Back, Backup, Accept as SaveAccept, Code, Cond, Count, End, Goto, IfAccept, IfEnd, IfUnit, Jump, Leave, Need, Peek, Restore, Skip, State as Store, Tag, Try}
-use Rattle.lx_regs.specs.ParallelCopies.{sequentialized}
+use Rattle.lx_sequence.specs.ParallelCopies.{sequentialized}
 use Rattle.lx_layout.specs.Codes.{Choice, list_code, op_code, ops_code, save_code}
 use Rattle.lx_layout.specs.EndedRules.{ended_rule, is_given}
 use Rattle.lx_layout.specs.Endings.{Ending, ending_code}

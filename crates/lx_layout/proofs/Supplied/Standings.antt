@@ -14,9 +14,9 @@ use Rattle.lx_ccode.specs.declared.piece.Piece.{Piece}
 use Rattle.lx_ccode.specs.Machine.{Answer}
 use Rattle.lx_ccode.specs.Schedules.{Buffer}
 use Rattle.lx_fill.specs.Checks.{Suffices, goes_on as reads_on, graph_of, stops as reads_one}
-use Rattle.lx_regs.specs.ParallelCopies.{sequentialized}
-use Rattle.lx_regs.specs.Turns.{after_ops}
-use Rattle.lx_regs.proofs.Operations.Agreeing.{Agrees, Agrees-after}
+use Rattle.lx_sequence.specs.ParallelCopies.{sequentialized}
+use Rattle.lx_sequence.specs.Turns.{after_ops}
+use Rattle.lx_sequence.proofs.Agreeing.{Agrees, Agrees-after}
 use Rattle.lx_layout.specs.Halting.{Halting, is_saved, saves_on}
 use Rattle.lx_layout.specs.Supplies.{Supply}
 use Rattle.lx_layout.proofs.Runs.UnitsLeft.{edge_on-one, list_any-edge_on}

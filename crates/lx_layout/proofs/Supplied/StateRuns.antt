@@ -16,9 +16,9 @@ use Rattle.lx_ccode.specs.declared.piece.Stmt.{Stmt}
 use Rattle.lx_ccode.specs.declared.piece.Stmt.TheVariants.{Goto, Restore, Skip}
 use Rattle.lx_ccode.specs.Machine.{Answer, Machine, jump, skip}
 use Rattle.lx_ccode.specs.Statements.{code_of, statement_count}
-use Rattle.lx_regs.specs.ParallelCopies.{sequentialized}
-use Rattle.lx_regs.specs.Turns.{after_ops}
-use Rattle.lx_regs.proofs.Operations.Agreeing.{Agrees, Agrees-after, read_all-agrees}
+use Rattle.lx_sequence.specs.ParallelCopies.{sequentialized}
+use Rattle.lx_sequence.specs.Turns.{after_ops}
+use Rattle.lx_sequence.proofs.Agreeing.{Agrees, Agrees-after, read_all-agrees}
 use Rattle.lx_tdfa.specs.Promise.{tag_value}
 use Rattle.lx_layout.specs.Codes.{accept_code, save_code, list_code, restore_code}
 use Rattle.lx_layout.specs.Endings.{Ending, ending_code}

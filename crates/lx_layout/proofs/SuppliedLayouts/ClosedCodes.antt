@@ -13,7 +13,7 @@ use Rattle.lx_ccode.specs.Statements.{is_ending}
 use Rattle.lx_ccode.specs.Validity.{ends_once}
 use Rattle.lx_ccode.specs.declared.piece.Stmt.{Stmt}
 use Rattle.lx_ccode.specs.declared.piece.Stmt.TheVariants.{Accept as SaveAccept, Back, Backup, Count, End, Goto, IfAccept, IfEnd, IfUnit, Need, Peek, Restore, Skip, State as Store, Try}
-use Rattle.lx_regs.specs.ParallelCopies.{sequentialized}
+use Rattle.lx_sequence.specs.ParallelCopies.{sequentialized}
 use Rattle.lx_layout.specs.Codes.{Choice, list_code, op_code, ops_code, save_code}
 use Rattle.lx_layout.specs.Endings.{Ending, action_code, back_code, cond_code, ending_code, ends_code, groups_code, is_slash, last_code, slash_held, tag_code, tags_code, unless}
 use Rattle.lx_layout.specs.Fallback.{edge_code, fallback_code}

@@ -150,7 +150,7 @@ fn a_file_has_a_longest_length(rt: HostRuntime) {
             interrupted: false,
             left: length,
         };
-        let read = read_to_end(rt.alloc(), &mut tape).is_ok();
+        let read = read_to_end(rt.alloc(), &mut tape, 20_000).is_ok();
         assert!(rt; read == fits, "{length} bytes");
     }
 }

@@ -35,7 +35,6 @@ fn each_fault_has_its_text(rt: HostRuntime) -> Result<(), Fail> {
     };
     let name = || text(rt.alloc(), b"x\xff");
     let faults = [
-        (Fault::Unsupported { at: Some(at) }, "not supported yet"),
         (Fault::NoFile { at, name: name()? }, "no such file"),
         (
             Fault::IncludeDepth { at, depth: 33 },

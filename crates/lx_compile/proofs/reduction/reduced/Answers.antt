@@ -3,7 +3,7 @@ use Rattle.lx_auto.specs.Shapes.{StaysWithin}
 use Rattle.std.proofs.lemmas.Result.{IfOk-weaker}
 use Rattle.lx_auto.proofs.Kept.{StaysWithin-through}
 use Rattle.lx_auto.proofs.SameRuns.{same_run-through}
-use Rattle.lx_regs.proofs.Shapes.{StaysWithin-shape}
+use Rattle.lx_regs.proofs.Translations.Shapes.{StaysWithin-shape}
 use Rattle.lx_compile.proofs.reduction.reduced.Goals as goal
 
 pub returns-clause-run : goal.returns-clause-run

@@ -36,7 +36,7 @@ returns-clause-read c =
     let view = step_view (lexemes_view c.args.lexemes) in
     let before : Before = record { tags = c.args.seen; groups = c.args.groups } in
     part_read options definitions (lexemes_view c.args.lexemes) c.args.from c.args.until c.requires.part
-    (map view c.in_ok-steps.steps.items) (steps_are options definitions c.are_groups.result (c.are_groups.ensures definitions) c.in_ok-steps.ensures) before c.args.reader.room c.in_ok-operands.operands c.pop-value.new.self.values.items
-    (record { value = c.pop-value.result; tags = c.in_ok-tags.tags })
+    (map view c.in_ok-steps.steps.items) (steps_are options definitions c.are_groups.result (c.are_groups.ensures definitions) c.in_ok-steps.ensures) before c.args.reader.room c.in_ok-operands.operands c.pop.new.self.values.items c.pop.result
+    (record { value = c.in_ok-value.value; tags = c.in_ok-tags.tags })
     (subst (λ l. AreTaken options definitions c.args.reader.room (operands_behind before) (map view l) c.in_ok-operands.operands) c.deref.ensures.value c.in_ok-operands.ensures.taken)
-    c.pop-value.ensures.values (c.in_ok-tags.ensures ∙ c.pop-value.ensures.seen)
+    c.pop.ensures.values (c.in_ok-tags.ensures ∙ c.pop.ensures.seen) c.in_ok-value.ensures.stands

@@ -1,7 +1,7 @@
 -- What each pass keeps, all keep.
 use Rattle.std.proofs.Common.{IfOk, Result, Ok, Err}
 use Rattle.lx_auto.proofs.SameRuns.{same_run-through}
-use Rattle.lx_regs.proofs.Shapes.{KeepsShape-through}
+use Rattle.lx_regs.proofs.Translations.Shapes.{KeepsShape-through}
 use Rattle.lx_regs.proofs.allocation.allocate.Goals as goal
 
 -- what follows from a fact on an answer

@@ -6,8 +6,8 @@ use Rattle.lx_auto.specs.declared.automaton.State.{State}
 use Rattle.lx_auto.specs.Automaton.{state_of}
 use Rattle.lx_auto.proofs.States.{state_of-read}
 use Rattle.lx_regs.specs.Arrows.{AreArrows, Notes}
-use Rattle.lx_regs.proofs.ArrowLists.{arrows-more, arrows-none}
-use Rattle.lx_regs.proofs.PairSearch.{edge-within}
+use Rattle.lx_regs.proofs.LiveRegisters.ArrowLists.{arrows-more, arrows-none}
+use Rattle.lx_regs.proofs.LiveRegisters.PairSearch.{edge-within}
 use Rattle.lx_regs.proofs.arrows.arrows_of.Goals as goal
 
 pub loop-number-init : goal.loop-number-init

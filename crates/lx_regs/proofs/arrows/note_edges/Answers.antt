@@ -1,6 +1,6 @@
 use Rattle.std.proofs.Common.{◌<◌, ◌∙◌, arith, length, subst, sym}
 use Rattle.lx_auto.specs.declared.automaton.Edge.{Edge}
-use Rattle.lx_regs.proofs.ArrowLists.{notes-more, notes-none}
+use Rattle.lx_regs.proofs.LiveRegisters.ArrowLists.{notes-more, notes-none}
 use Rattle.lx_regs.proofs.arrows.note_edges.Goals as goal
 
 pub loop-edge-init : goal.loop-edge-init

@@ -2,7 +2,7 @@ use Rattle.std.proofs.Common.{◌+◌, ◌≤◌, ◌∙◌, ◌∷◌, [], ap, 
 use Rattle.std.proofs.lemmas.List.{length-append}
 use Rattle.lx_regs.specs.Colours.{AreColours, IsTaken}
 use Rattle.lx_regs.specs.Graphs.{list_at}
-use Rattle.lx_regs.proofs.ColourSteps.{colours-pushed}
+use Rattle.lx_regs.proofs.SharedNames.ColourSteps.{colours-pushed}
 use Rattle.lx_regs.proofs.colours.colours_by_partners.Goals as goal
 
 pub loop-number-preserved : goal.loop-number-preserved

@@ -2,7 +2,7 @@ use Rattle.std.proofs.Common.{◌+◌, ◌∙◌, ◌∷◌, [], ap, length, sub
 use Rattle.std.proofs.lemmas.List.{length-append}
 use Rattle.lx_regs.specs.Colours.{IsFirstFit, IsLeastFree}
 use Rattle.lx_regs.specs.Graphs.{list_at}
-use Rattle.lx_regs.proofs.ColourSteps.{first_fit-pushed}
+use Rattle.lx_regs.proofs.SharedNames.ColourSteps.{first_fit-pushed}
 use Rattle.lx_regs.proofs.colours.first_fit.Goals as goal
 
 pub loop-number-preserved : goal.loop-number-preserved

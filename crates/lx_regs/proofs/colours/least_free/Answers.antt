@@ -1,6 +1,6 @@
 use Rattle.std.proofs.Common.{◌∙◌, ap, arith}
 use Rattle.lx_regs.specs.Colours.{mark_each}
-use Rattle.lx_regs.proofs.Marks.{least-few, least-unmarked}
+use Rattle.lx_regs.proofs.SharedNames.Marks.{least-few, least-unmarked}
 use Rattle.lx_regs.proofs.colours.least_free.Goals as goal
 
 pub returns-clause-least : goal.returns-clause-least

@@ -2,8 +2,8 @@ use Rattle.std.proofs.Common.{refl}
 use Rattle.lx_auto.specs.declared.automaton.Auto.{Auto}
 use Rattle.lx_auto.proofs.Translations.{translation-same_run}
 use Rattle.lx_regs.specs.Dead.{IsCut}
-use Rattle.lx_regs.proofs.CutAutomata.{IsAuto-cut, KeepsShape-cut, own_names, translation-cut}
-use Rattle.lx_regs.proofs.CutLive.{EachTargetIsRead-cut}
+use Rattle.lx_regs.proofs.CutOperations.CutAutomata.{IsAuto-cut, KeepsShape-cut, own_names, translation-cut}
+use Rattle.lx_regs.proofs.CutOperations.CutLive.{EachTargetIsRead-cut}
 use Rattle.lx_regs.proofs.dead.drop_dead.Goals as goal
 
 pub returns-clause-formed : goal.returns-clause-formed

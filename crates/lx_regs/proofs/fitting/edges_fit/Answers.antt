@@ -1,5 +1,5 @@
 use Rattle.std.proofs.Common.{arith}
-use Rattle.lx_regs.proofs.FittingSteps.{edges-fit}
+use Rattle.lx_regs.proofs.Translations.FittingSteps.{edges-fit}
 use Rattle.lx_regs.proofs.fitting.edges_fit.Goals as goal
 
 pub returns : goal.returns

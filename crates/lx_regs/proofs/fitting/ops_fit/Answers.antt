@@ -1,5 +1,5 @@
 use Rattle.std.proofs.Common.{arith}
-use Rattle.lx_regs.proofs.FittingSteps.{ops-fit}
+use Rattle.lx_regs.proofs.Translations.FittingSteps.{ops-fit}
 use Rattle.lx_regs.proofs.fitting.ops_fit.Goals as goal
 
 pub returns : goal.returns

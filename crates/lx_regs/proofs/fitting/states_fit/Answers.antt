@@ -1,6 +1,6 @@
 use Rattle.std.proofs.Common.{◌≡◌, ◌⊎◌, inl, inr, Contains, arith, subst, sym, take, take_all}
 use Rattle.lx_auto.specs.declared.automaton.State.{State}
-use Rattle.lx_regs.proofs.FittingSteps.{StateFits, states-fit}
+use Rattle.lx_regs.proofs.Translations.FittingSteps.{StateFits, states-fit}
 use Rattle.lx_auto.proofs.Places.{taken-cases}
 use Rattle.lx_regs.proofs.fitting.states_fit.Goals as goal
 

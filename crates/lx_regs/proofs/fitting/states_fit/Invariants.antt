@@ -1,6 +1,6 @@
 use Rattle.std.proofs.Common.{Contains, take}
 use Rattle.lx_auto.specs.declared.automaton.State.{State}
-use Rattle.lx_regs.proofs.FittingSteps.{StateFits}
+use Rattle.lx_regs.proofs.Translations.FittingSteps.{StateFits}
 use Rattle.lx_regs.proofs.fitting.states_fit.Given as goal
 
 abbrev pub invariant-loop-state : goal.invariant-loop-state

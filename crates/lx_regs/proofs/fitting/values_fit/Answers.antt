@@ -1,5 +1,5 @@
 use Rattle.std.proofs.Common.{arith}
-use Rattle.lx_regs.proofs.FittingSteps.{values-fit}
+use Rattle.lx_regs.proofs.Translations.FittingSteps.{values-fit}
 use Rattle.lx_regs.proofs.fitting.values_fit.Goals as goal
 
 pub returns : goal.returns

@@ -3,7 +3,7 @@ use Rattle.lx_auto.specs.declared.automaton.State.{State}
 use Rattle.lx_auto.proofs.States.{state_of-read}
 use Rattle.lx_regs.specs.Growth.{Grows}
 use Rattle.lx_regs.specs.Items.{IsAcceptedBy}
-use Rattle.lx_regs.proofs.FirstItems.{grows-no_state, grows-state, grows-states}
+use Rattle.lx_regs.proofs.LiveRegisters.FirstItems.{grows-no_state, grows-state, grows-states}
 use Rattle.lx_regs.proofs.items.add_accepts.Goals as goal
 
 pub loop-number-init : goal.loop-number-init

@@ -1,5 +1,5 @@
 use Rattle.lx_regs.specs.Growth.{Grows}
-use Rattle.lx_regs.proofs.FirstItems.{IsAcceptedBelow}
+use Rattle.lx_regs.proofs.LiveRegisters.FirstItems.{IsAcceptedBelow}
 use Rattle.lx_regs.proofs.items.add_accepts.Given as goal
 
 abbrev pub invariant-loop-number : goal.invariant-loop-number

@@ -1,7 +1,7 @@
 use Rattle.std.proofs.lemmas.List.Elements.{Contains-get_or}
 use Rattle.lx_regs.specs.Items.{IsLeft}
 use Rattle.lx_regs.specs.LeftGroups.{lists_of}
-use Rattle.lx_regs.proofs.GrownLists.{grows-place}
+use Rattle.lx_regs.proofs.LiveRegisters.GrownLists.{grows-place}
 use Rattle.lx_regs.proofs.items.add_all_left.Goals as goal
 
 pub add_left-requires : goal.add_left-requires

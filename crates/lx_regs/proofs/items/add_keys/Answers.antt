@@ -1,7 +1,7 @@
 use Rattle.lx_regs.specs.declared.keys.Key.TheVariants.{Reg}
 use Rattle.lx_regs.specs.Items.{IsAt}
-use Rattle.lx_regs.proofs.GrownLists.{grows-place}
-use Rattle.lx_regs.proofs.ItemTests.{TellsEqual-items}
+use Rattle.lx_regs.proofs.LiveRegisters.GrownLists.{grows-place}
+use Rattle.lx_regs.proofs.LiveRegisters.ItemTests.{TellsEqual-items}
 use Rattle.lx_regs.proofs.items.add_keys.Goals as goal
 
 pub loop-key-preserved : goal.loop-key-preserved

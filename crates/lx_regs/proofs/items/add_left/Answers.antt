@@ -1,7 +1,7 @@
 use Rattle.std.proofs.Common.{◌∙◌, sym}
 use Rattle.std.proofs.lemmas.List.{get_or_read}
 use Rattle.lx_regs.specs.LeftGroups.{lists_of}
-use Rattle.lx_regs.proofs.FirstItems.{grows-left}
+use Rattle.lx_regs.proofs.LiveRegisters.FirstItems.{grows-left}
 use Rattle.lx_regs.proofs.items.add_left.Goals as goal
 
 pub returns : goal.returns

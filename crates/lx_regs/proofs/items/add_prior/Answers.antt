@@ -1,7 +1,7 @@
 use Rattle.lx_regs.specs.Items.{Passes}
-use Rattle.lx_regs.proofs.GrownLists.{grows-none, grows-one}
-use Rattle.lx_regs.proofs.ItemTests.{TellsEqual-items}
-use Rattle.lx_regs.proofs.PriorItems.{one_prior}
+use Rattle.lx_regs.proofs.LiveRegisters.GrownLists.{grows-none, grows-one}
+use Rattle.lx_regs.proofs.LiveRegisters.ItemTests.{TellsEqual-items}
+use Rattle.lx_regs.proofs.LiveRegisters.PriorItems.{one_prior}
 use Rattle.lx_regs.proofs.items.add_prior.Goals as goal
 
 pub returns-in_ok-add-in-Some : goal.returns-in_ok-add-in-Some

@@ -3,7 +3,7 @@ use Rattle.std.proofs.lemmas.List.{get_or_read}
 use Rattle.lx_auto.specs.declared.ops.Op.{Op}
 use Rattle.lx_regs.specs.Growth.{Grows}
 use Rattle.lx_regs.specs.Items.{Passes, PassesBy}
-use Rattle.lx_regs.proofs.GrownLists.{grows-item}
+use Rattle.lx_regs.proofs.LiveRegisters.GrownLists.{grows-item}
 use Rattle.lx_regs.proofs.items.add_priors.Goals as goal
 
 pub bounds-leaves-arrow : goal.bounds-leaves-arrow

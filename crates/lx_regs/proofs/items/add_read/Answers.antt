@@ -2,8 +2,8 @@ use Rattle.std.proofs.Common.{◌∙◌, ap}
 use Rattle.lx_auto.specs.Effects.{effect_of}
 use Rattle.lx_regs.specs.Keys.{held_of}
 use Rattle.lx_regs.specs.Readers.{read_by}
-use Rattle.lx_regs.proofs.FirstItems.{grows-no_read, grows-read, held_of-key_of}
-use Rattle.lx_regs.proofs.ItemTests.{TellsEqual-items}
+use Rattle.lx_regs.proofs.LiveRegisters.FirstItems.{grows-no_read, grows-read, held_of-key_of}
+use Rattle.lx_regs.proofs.LiveRegisters.ItemTests.{TellsEqual-items}
 use Rattle.lx_regs.proofs.items.add_read.Goals as goal
 
 pub returns-in_ok-add-in-Some : goal.returns-in_ok-add-in-Some

@@ -1,6 +1,6 @@
 use Rattle.lx_auto.specs.declared.automaton.Held.TheVariants.{Reg}
 use Rattle.lx_regs.specs.Items.{IsReadAt}
-use Rattle.lx_regs.proofs.GrownLists.{grows-place}
+use Rattle.lx_regs.proofs.LiveRegisters.GrownLists.{grows-place}
 use Rattle.lx_regs.proofs.items.add_reads.Goals as goal
 
 pub loop-value-preserved : goal.loop-value-preserved

@@ -4,8 +4,8 @@ use Rattle.lx_regs.specs.declared.reached.Pair.{Pair}
 use Rattle.lx_regs.specs.Growth.{Grows, IsDueForSome}
 use Rattle.lx_regs.specs.Items.{IsLeft}
 use Rattle.lx_regs.specs.LeftGroups.{lists_of}
-use Rattle.lx_regs.proofs.PairSearch.{reached-within}
-use Rattle.lx_regs.proofs.RightItems.{begun}
+use Rattle.lx_regs.proofs.LiveRegisters.PairSearch.{reached-within}
+use Rattle.lx_regs.proofs.LiveRegisters.RightItems.{begun}
 use Rattle.lx_regs.proofs.items.first_items.Goals as goal
 
 pub add_all_left-requires : goal.add_all_left-requires

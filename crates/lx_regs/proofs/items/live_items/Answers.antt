@@ -8,10 +8,10 @@ use Rattle.lx_regs.specs.Arrows.{arrows_to}
 use Rattle.lx_regs.specs.Growth.{Grows, IsDueForSome}
 use Rattle.lx_regs.specs.Items.{IsItem, IsPrior, PassesBy}
 use Rattle.lx_regs.specs.LeftGroups.{lists_of}
-use Rattle.lx_regs.proofs.ArrowLists.{leave_at}
-use Rattle.lx_regs.proofs.GrownLists.{search-more, search-starts}
-use Rattle.lx_regs.proofs.ItemSearch.{begun-grown, grows-priors, items-bounded, items-found}
-use Rattle.lx_regs.proofs.RightItems.{right-prior, state-within}
+use Rattle.lx_regs.proofs.LiveRegisters.ArrowLists.{leave_at}
+use Rattle.lx_regs.proofs.LiveRegisters.GrownLists.{search-more, search-starts}
+use Rattle.lx_regs.proofs.LiveRegisters.ItemSearch.{begun-grown, grows-priors, items-bounded, items-found}
+use Rattle.lx_regs.proofs.LiveRegisters.RightItems.{right-prior, state-within}
 use Rattle.lx_regs.proofs.items.live_items.Goals as goal
 
 pub loop-done-init : goal.loop-done-init

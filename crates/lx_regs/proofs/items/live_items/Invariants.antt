@@ -2,7 +2,7 @@ use Rattle.std.proofs.Common.{◌-◌, length}
 use Rattle.lx_regs.specs.Growth.{IsSearch}
 use Rattle.lx_regs.specs.Items.{IsBegun, IsItem, IsPrior}
 use Rattle.lx_regs.specs.LeftGroups.{lists_of}
-use Rattle.lx_regs.proofs.ItemSearch.{all_items}
+use Rattle.lx_regs.proofs.LiveRegisters.ItemSearch.{all_items}
 use Rattle.lx_regs.proofs.items.live_items.Given as goal
 
 abbrev pub invariant-loop-done : goal.invariant-loop-done

@@ -1,7 +1,7 @@
 use Rattle.std.proofs.Common.{◌∷◌, reverse, sym, ◌∙◌, subst}
 use Rattle.lx_regs.specs.Dead.{KeepsWanted}
 use Rattle.lx_regs.specs.HeldSets.{Has}
-use Rattle.lx_regs.proofs.KeptSteps.{kept-goes, kept-stays}
+use Rattle.lx_regs.proofs.CutOperations.KeptSteps.{kept-goes, kept-stays}
 use Rattle.lx_regs.proofs.kept_lists.keep_op.Goals as goal
 
 pub returns-in_ok-push-clause-kept : goal.returns-in_ok-push-clause-kept

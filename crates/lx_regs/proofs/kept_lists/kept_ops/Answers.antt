@@ -1,4 +1,4 @@
-use Rattle.lx_regs.proofs.CutSteps.{listed-keeps}
+use Rattle.lx_regs.proofs.CutOperations.CutSteps.{listed-keeps}
 use Rattle.lx_regs.proofs.kept_lists.kept_ops.Goals as goal
 
 pub returns : goal.returns

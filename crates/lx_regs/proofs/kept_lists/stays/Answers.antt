@@ -1,4 +1,4 @@
-use Rattle.lx_regs.proofs.KeptSteps.{copy-stays, set-stays}
+use Rattle.lx_regs.proofs.CutOperations.KeptSteps.{copy-stays, set-stays}
 use Rattle.lx_regs.proofs.kept_lists.stays.Goals as goal
 
 pub returns-in_ok-last-in-MCopy-clause-stays : goal.returns-in_ok-last-in-MCopy-clause-stays

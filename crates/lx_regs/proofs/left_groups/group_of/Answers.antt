@@ -1,6 +1,6 @@
 use Rattle.std.proofs.Common.{◌+◌, ◌∙◌, sym, subst}
 use Rattle.lx_regs.specs.LeftGroups.{FitsGroup, lists_of}
-use Rattle.lx_regs.proofs.GroupLists.{fits-stored, widens-insert}
+use Rattle.lx_regs.proofs.SharedNames.GroupLists.{fits-stored, widens-insert}
 use Rattle.lx_regs.proofs.left_groups.group_of.Goals as goal
 
 pub returns-in_ok-place-in-Some-clause-group : goal.returns-in_ok-place-in-Some-clause-group

@@ -3,7 +3,7 @@ use Rattle.lx_auto.specs.declared.automaton.State.{State}
 use Rattle.lx_auto.specs.Automaton.{state_of}
 use Rattle.lx_auto.proofs.States.{state_of-read}
 use Rattle.lx_regs.specs.LeftGroups.{FitsGroup, lists_of}
-use Rattle.lx_regs.proofs.GroupLists.{fits-more, groups-fit}
+use Rattle.lx_regs.proofs.SharedNames.GroupLists.{fits-more, groups-fit}
 use Rattle.lx_regs.proofs.left_groups.groups_of.Goals as goal
 
 pub loop-state-preserved : goal.loop-state-preserved

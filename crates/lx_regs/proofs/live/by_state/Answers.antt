@@ -4,7 +4,7 @@ use Rattle.std.proofs.lemmas.List.Elements.{Contains-get_or}
 use Rattle.lx_regs.specs.declared.items.Item.{Item}
 use Rattle.lx_regs.specs.declared.live.Usage.{Usage}
 use Rattle.lx_regs.specs.declared.keys.Key.TheVariants.{Reg}
-use Rattle.lx_regs.proofs.KeptUsages.{sorted-more, sorted-none}
+use Rattle.lx_regs.proofs.CutOperations.KeptUsages.{sorted-more, sorted-none}
 use Rattle.lx_regs.proofs.live.by_state.Goals as goal
 
 pub loop-item-init : goal.loop-item-init

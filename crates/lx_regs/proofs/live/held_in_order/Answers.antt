@@ -3,7 +3,7 @@ use Rattle.lx_auto.specs.declared.automaton.Held.{Held}
 use Rattle.lx_regs.specs.declared.keys.Key.{Key}
 use Rattle.lx_regs.specs.Keys.{held_of}
 use Rattle.lx_regs.specs.LiveSets.{AreAscending}
-use Rattle.lx_regs.proofs.KeyOrder.{held-ascending}
+use Rattle.lx_regs.proofs.SharedNames.KeyOrder.{held-ascending}
 use Rattle.lx_regs.proofs.live.held_in_order.Goals as goal
 
 pub returns : goal.returns

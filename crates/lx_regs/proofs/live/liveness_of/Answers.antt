@@ -5,7 +5,7 @@ use Rattle.lx_regs.specs.declared.reached.Pair.{Pair}
 use Rattle.lx_regs.specs.LeftGroups.{lists_of}
 use Rattle.lx_regs.specs.Liveness.{AreMarked, AreSorted}
 use Rattle.lx_regs.specs.Reached.{ArePairs}
-use Rattle.lx_regs.proofs.PairSearch.{reached-within}
+use Rattle.lx_regs.proofs.LiveRegisters.PairSearch.{reached-within}
 use Rattle.lx_regs.proofs.live.liveness_of.Goals as goal
 
 pub marks_of-requires : goal.marks_of-requires

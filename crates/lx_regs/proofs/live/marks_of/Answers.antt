@@ -1,6 +1,6 @@
 use Rattle.std.proofs.Common.{arith, rules}
 use Rattle.std.proofs.lemmas.List.Elements.{Contains-get_or}
-use Rattle.lx_regs.proofs.KeptUsages.{marked-more, marked-none}
+use Rattle.lx_regs.proofs.CutOperations.KeptUsages.{marked-more, marked-none}
 use Rattle.lx_regs.proofs.live.marks_of.Goals as goal
 
 pub loop-pair-init : goal.loop-pair-init

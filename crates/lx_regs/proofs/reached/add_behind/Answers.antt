@@ -1,7 +1,7 @@
 use Rattle.std.proofs.Common.{sym}
 use Rattle.lx_regs.specs.Reached.{IsBehind}
-use Rattle.lx_regs.proofs.GrownLists.{grows-item}
-use Rattle.lx_regs.proofs.PairSearch.{TellsEqual-pairs}
+use Rattle.lx_regs.proofs.LiveRegisters.GrownLists.{grows-item}
+use Rattle.lx_regs.proofs.LiveRegisters.PairSearch.{TellsEqual-pairs}
 use Rattle.lx_regs.proofs.reached.add_behind.Goals as goal
 
 pub loop-edge-preserved : goal.loop-edge-preserved

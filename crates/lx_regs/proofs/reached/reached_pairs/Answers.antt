@@ -1,7 +1,7 @@
 use Rattle.std.proofs.Common.{◌<◌, length, refl, arith}
 use Rattle.lx_regs.specs.Reached.{IsNextPair, IsPair}
-use Rattle.lx_regs.proofs.GrownLists.{grown-has, search-begins, search-more}
-use Rattle.lx_regs.proofs.PairSearch.{TellsEqual-pairs, first-pair, next-pair, pairs-bounded, pairs-found, reached-within}
+use Rattle.lx_regs.proofs.LiveRegisters.GrownLists.{grown-has, search-begins, search-more}
+use Rattle.lx_regs.proofs.LiveRegisters.PairSearch.{TellsEqual-pairs, first-pair, next-pair, pairs-bounded, pairs-found, reached-within}
 use Rattle.lx_regs.proofs.reached.reached_pairs.Goals as goal
 
 pub loop-done-init : goal.loop-done-init

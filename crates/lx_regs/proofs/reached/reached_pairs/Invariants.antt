@@ -1,7 +1,7 @@
 use Rattle.std.proofs.Common.{◌-◌, length, Contains}
 use Rattle.lx_regs.specs.Growth.{IsSearch}
 use Rattle.lx_regs.specs.Reached.{IsNextPair, IsPair}
-use Rattle.lx_regs.proofs.PairSearch.{all_pairs}
+use Rattle.lx_regs.proofs.LiveRegisters.PairSearch.{all_pairs}
 use Rattle.lx_regs.proofs.reached.reached_pairs.Given as goal
 
 abbrev pub invariant-loop-done : goal.invariant-loop-done

@@ -1,6 +1,6 @@
 use Rattle.std.proofs.Common.{◌∙◌, ap, option_map}
 use Rattle.lx_regs.specs.Keys.{held_of}
-use Rattle.lx_regs.proofs.ReaderSteps.{read_after-effect}
+use Rattle.lx_regs.proofs.LiveRegisters.ReaderSteps.{read_after-effect}
 use Rattle.lx_regs.proofs.readers.read_of.Goals as goal
 
 pub returns : goal.returns

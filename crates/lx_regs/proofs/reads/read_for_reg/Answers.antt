@@ -2,7 +2,7 @@ use Rattle.std.proofs.Common.{◌≡◌, drop, [], ap, sym, ◌∙◌}
 use Rattle.std.proofs.Math.ListN.{drop_of_length-le}
 use Rattle.lx_auto.specs.Effects.{held_by}
 use Rattle.lx_regs.specs.Reads.{read_after}
-use Rattle.lx_regs.proofs.ReadEffects.{read_by-after}
+use Rattle.lx_regs.proofs.LiveRegisters.ReadEffects.{read_by-after}
 use Rattle.lx_regs.proofs.reads.read_for_reg.Goals as goal
 
 pub returns : goal.returns

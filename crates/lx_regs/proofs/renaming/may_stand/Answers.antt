@@ -1,7 +1,7 @@
 use Rattle.std.proofs.lemmas.Result.{IfOk-weaker}
 use Rattle.lx_auto.proofs.Translations.{translation-same_run}
 use Rattle.lx_regs.specs.NameTables.{names_at}
-use Rattle.lx_regs.proofs.TestedTranslations.{IsTested-formed, IsTested-shape, IsTested-translation}
+use Rattle.lx_regs.proofs.Translations.TestedTranslations.{IsTested-formed, IsTested-shape, IsTested-translation}
 use Rattle.lx_regs.proofs.renaming.may_stand.Goals as goal
 
 pub returns-clause-formed : goal.returns-clause-formed

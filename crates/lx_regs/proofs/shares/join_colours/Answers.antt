@@ -3,7 +3,7 @@ use Rattle.std.proofs.lemmas.List.{map-append, take_more}
 use Rattle.std.proofs.lemmas.List.Elements.{Contains-get_or}
 use Rattle.std.specs.Prelude.{map, slice_index}
 use Rattle.lx_regs.specs.Graphs.{JoinsEach}
-use Rattle.lx_regs.proofs.Merges.{joins_each-pushed}
+use Rattle.lx_regs.proofs.SharedNames.Merges.{joins_each-pushed}
 use Rattle.lx_regs.proofs.shares.join_colours.Goals as goal
 
 pub bounds-colours-number : goal.bounds-colours-number

@@ -1,7 +1,7 @@
 use Rattle.std.proofs.Common.{◌<◌, ◌∙◌, Contains, subst, sym}
 use Rattle.std.specs.Prelude.{map, slice_index}
 use Rattle.lx_regs.specs.Graphs.{JoinsEach}
-use Rattle.lx_regs.proofs.Merges.{merges-begin, merges-pushed}
+use Rattle.lx_regs.proofs.SharedNames.Merges.{merges-begin, merges-pushed}
 use Rattle.lx_regs.proofs.shares.merged_by.Goals as goal
 
 pub loop-number-init : goal.loop-number-init

@@ -1,4 +1,4 @@
-use Rattle.lx_regs.proofs.Merges.{MergesBelow}
+use Rattle.lx_regs.proofs.SharedNames.Merges.{MergesBelow}
 use Rattle.lx_regs.proofs.shares.merged_by.Given as goal
 
 abbrev pub invariant-loop-number : goal.invariant-loop-number

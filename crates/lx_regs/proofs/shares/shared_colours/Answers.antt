@@ -2,7 +2,7 @@ use Rattle.std.proofs.Common.{◌≡◌, ◌∙◌, ap, map, subst, sym}
 use Rattle.std.proofs.lemmas.Result.{IfOk-weaker}
 use Rattle.std.specs.Prelude.{slice_index}
 use Rattle.lx_regs.specs.Colours.{IsMerged, IsSharing}
-use Rattle.lx_regs.proofs.ColourSteps.{twice-sharing}
+use Rattle.lx_regs.proofs.SharedNames.ColourSteps.{twice-sharing}
 use Rattle.lx_regs.proofs.shares.shared_colours.Goals as goal
 
 pub returns : goal.returns

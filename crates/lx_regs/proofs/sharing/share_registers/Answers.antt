@@ -8,10 +8,10 @@ use Rattle.lx_auto.proofs.Translations.{translation-same_run}
 use Rattle.lx_auto.specs.Live.{AllInterfere}
 use Rattle.lx_regs.specs.Shapes.{KeepsShape}
 use Rattle.lx_regs.specs.SharedNames.{names_of, renamed_auto}
-use Rattle.lx_regs.proofs.RenamedAutomata.{IsAuto-renamed, KeepsShape-renamed}
-use Rattle.lx_regs.proofs.RenamedReads.{EachTargetIsRead-renamed}
-use Rattle.lx_regs.proofs.RenamedWalks.{renamed-translation}
-use Rattle.lx_regs.proofs.TightNames.{shared-interfere}
+use Rattle.lx_regs.proofs.Translations.RenamedAutomata.{IsAuto-renamed, KeepsShape-renamed}
+use Rattle.lx_regs.proofs.Translations.RenamedReads.{EachTargetIsRead-renamed}
+use Rattle.lx_regs.proofs.Translations.RenamedWalks.{renamed-translation}
+use Rattle.lx_regs.proofs.SharedNames.TightNames.{shared-interfere}
 use Rattle.lx_regs.proofs.sharing.share_registers.Goals as goal
 
 pub returns-clause-kept : goal.returns-clause-kept

@@ -1,5 +1,5 @@
 use Rattle.std.proofs.Common.{◌∙◌, ◌+◌, ◌∷◌, ap, map}
-use Rattle.lx_regs.proofs.SharedLists.{lists-shared}
+use Rattle.lx_regs.proofs.SharedNames.SharedLists.{lists-shared}
 use Rattle.lx_regs.proofs.sharing.shared_names.Goals as goal
 
 pub returns : goal.returns

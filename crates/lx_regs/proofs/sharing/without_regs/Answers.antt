@@ -1,6 +1,6 @@
 use Rattle.std.proofs.Common.{length, subst, sym}
 use Rattle.lx_auto.specs.Automaton.{AreStates}
-use Rattle.lx_regs.proofs.TightNames.{shared-no_regs}
+use Rattle.lx_regs.proofs.SharedNames.TightNames.{shared-no_regs}
 use Rattle.lx_regs.proofs.sharing.without_regs.Goals as goal
 
 pub returns : goal.returns

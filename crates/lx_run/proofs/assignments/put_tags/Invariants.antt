@@ -7,4 +7,4 @@ abbrev pub invariant-loop-at : goal.invariant-loop-at
 invariant-loop-at g l =
     HasPut (g.O.Sink.given l.initial.out) (g.O.Sink.given l.out) (g.O.Sink.faults l.initial.out) (g.O.Sink.faults l.out)
     (tags_text l.lexer [] (assignments l.lexer))
-    (tags_text l.lexer (statements_at l.piece (take l.at l.places)) (statements_at l.piece (drop l.at l.places)))
+    (tags_text l.lexer (statements_at l.piece (take l.at l.lexer.assigned)) (statements_at l.piece (drop l.at l.lexer.assigned)))

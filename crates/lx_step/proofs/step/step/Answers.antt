@@ -156,7 +156,7 @@ returns-then-is_history-clause-step c =
 pub returns-then-is_history-clause-given : goal.returns-then-is_history-clause-given
 returns-then-is_history-clause-given c =
     IfOk-tag c.args.names.piece.now _ _ _ _ _ _ _ _ _ c.in-Tag.is c.if-is_history.true
-    (numbered c.args.names.piece.now _ _ _ _ _ c.requires.tags c.as_slice-blocks.ensures c.as_slice-in-Tag.ensures c.number_of_tag-number.ensures.number) c.give_history.ensures.given
+    (numbered c.args.names.piece.now _ _ _ _ _ c.requires.tags.listed.named c.as_slice-blocks.ensures c.as_slice-in-Tag.ensures c.number_of-number.ensures.number) c.give_history.ensures.given
 
 pub returns-then-is_history-clause-lengths : goal.returns-then-is_history-clause-lengths
 returns-then-is_history-clause-lengths c =
@@ -167,7 +167,7 @@ returns-else-is_history-clause-step c = λ stream holds. rw (c.in-Tag.is, c.if-i
 
 pub returns-else-is_history-clause-given : goal.returns-else-is_history-clause-given
 returns-else-is_history-clause-given c = rw (c.in-Tag.is, c.if-is_history.false) (c.give_offset.ensures.given c.args.names.piece.now.conds (names_of c.args.names.piece.now) c.in-Tag.name
-    (numbered c.args.names.piece.now _ _ _ _ _ c.requires.tags c.as_slice-blocks.ensures c.as_slice-in-Tag.ensures c.number_of_tag-number.ensures.number))
+    (numbered c.args.names.piece.now _ _ _ _ _ c.requires.tags.listed.named c.as_slice-blocks.ensures c.as_slice-in-Tag.ensures c.number_of-number.ensures.number))
 
 pub returns-else-is_history-clause-lengths : goal.returns-else-is_history-clause-lengths
 returns-else-is_history-clause-lengths c = KeepsLengths-given (names_of c.args.names.piece.now) c.args.stmt.now (machine_of c.args.names.piece.now.conds c.args.scanner.now []) _ _ (returns-else-is_history-clause-given c)

@@ -2,8 +2,8 @@ use Rattle.std.proofs.Common.{[], map, refl, string_bytes, subst, sym}
 use Rattle.lx_base.specs.declared.settings.Options.{Options}
 use Rattle.lx_compile.specs.Options.{IsGreedy}
 use Rattle.lx_top.proofs.CompileLemmas.{sees_any}
-use Rattle.lx_top.specs.Jobs.{HasWindow, is_run, job_of}
-use Rattle.lx_top.proofs.JobLemmas.{Cites-job, Cites-words, HasWindow-words, IsGreedy-words, JobEnds-reason, JobEnds-words, Reason-words}
+use Rattle.lx_top.specs.Jobs.{IsWithinLimits, is_run, job_of}
+use Rattle.lx_top.proofs.JobLemmas.{Cites-job, Cites-words, IsGreedy-words, IsWithinLimits-words, JobEnds-reason, JobEnds-words, Reason-words}
 use Rattle.lx_top.proofs.jobs.perform.Goals as goal
 
 pub returns-in_err-options : goal.returns-in_err-options
@@ -18,10 +18,10 @@ perform_job-requires-clause-greedy g c =
     let words = map string_bytes c.args.words.now in
     subst (λ (options : Options). IsGreedy options) (sym c.in_ok-options.ensures.1) (IsGreedy-words words)
 
-pub perform_job-requires-clause-windows : goal.perform_job-requires-clause-windows
-perform_job-requires-clause-windows g c =
+pub perform_job-requires-clause-limits : goal.perform_job-requires-clause-limits
+perform_job-requires-clause-limits g c =
     let words = map string_bytes c.args.words.now in
-    subst (λ (options : Options). HasWindow options.job) (sym c.in_ok-options.ensures.1) (HasWindow-words words)
+    subst (λ (options : Options). IsWithinLimits options.job) (sym c.in_ok-options.ensures.1) (IsWithinLimits-words words)
 
 pub returns : goal.returns
 returns g c =

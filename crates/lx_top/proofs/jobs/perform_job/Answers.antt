@@ -1,11 +1,11 @@
-use Rattle.std.proofs.Common.{[], refl}
+use Rattle.std.proofs.Common.{[], false, refl}
 use Rattle.lx_top.specs.Jobs.{is_run, names_of}
 use Rattle.lx_top.specs.Steps.{Cites}
 use Rattle.lx_top.specs.declared.endings.Halt.TheVariants as halt
 use Rattle.lx_top.proofs.CompileLemmas.{Cites-compiled, JobEnds-compiled, sees_any}
 use Rattle.lx_top.proofs.EmittedLemmas.{Cites-asked, JobEnds-asked, names-two}
-use Rattle.lx_top.proofs.GeneratedEnds.{Cites-generated, JobEnds-generated}
-use Rattle.lx_top.proofs.JobLemmas.{IfErr-residual, JobEnds-reason}
+use Rattle.lx_top.proofs.GeneratedEnds.{JobEnds-generated}
+use Rattle.lx_top.proofs.JobLemmas.{Cites-delivered, IfErr-residual, JobEnds-reason}
 use Rattle.lx_top.proofs.jobs.perform_job.Goals as goal
 
 pub returns-in-Compile : goal.returns-in-Compile
@@ -55,4 +55,4 @@ returns-in-Source g c =
     let ran = c.run_source.ensures.ends in
     let job = c.args.options.now.job in
     let ends = JobEnds-generated c.args.options.now job _ _ _ any.0 ran.0 _ _ _ _ c.run_source.result c.in-Source.is c.as_str-in-Source.ensures ran.1 in
-    record { ends = (any.0, ran.0, any.1, ends, Cites-generated c.args.options.now job _ _ any.0 c.run_source.new.names c.run_source.result c.in-Source.is ran.2) }
+    record { ends = (any.0, ran.0, any.1, ends, Cites-delivered false _ _ _ _ _ _ (names_of c.args.options.now job any.0) _ c.run_source.result ran.1) }

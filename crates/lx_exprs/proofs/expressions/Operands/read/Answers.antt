@@ -1,3 +1,4 @@
+use Rattle.lx_exprs.specs.declared.operands.Operand.TheVariants as operand
 use Rattle.lx_exprs.specs.Seen.{scope_view}
 use Rattle.lx_forms.specs.Seen.{lexeme_view}
 use Rattle.lx_exprs.proofs.Forms.ExpressionSteps.{leaf_taken}
@@ -12,5 +13,5 @@ returns-clause-stands c operands are =
 
 pub returns-clause-bounded : goal.returns-clause-bounded
 returns-clause-bounded c bounded =
-    bounded_all c.args.self.now.values.items c.push.new.self.values.items c.in_ok-value.value c.in_ok-push.ensures.values bounded
+    bounded_all c.args.self.now.values.items c.push.new.self.values.items (operand.Whole c.in_ok-value.value) c.in_ok-push.ensures.values bounded
     c.in_ok-value.ensures.bounded

@@ -4,7 +4,7 @@ use Rattle.lx_auto.specs.Effects.{target_of}
 use Rattle.lx_auto.specs.Live.{AtSomePoint}
 use Rattle.lx_regs.specs.Dead.{IsAcceptCut, KeepsWanted}
 use Rattle.lx_regs.specs.KeptLists.{IsListed}
-use Rattle.lx_regs.proofs.KeptOps.{KeepsWanted-alike}
+use Rattle.lx_regs.proofs.CutOperations.KeptOps.{KeepsWanted-alike}
 use Rattle.lx_regs.proofs.dead.Source.cut_accept.Goals as goal
 
 pub returns-in_ok-copy_of-in-Some : goal.returns-in_ok-copy_of-in-Some

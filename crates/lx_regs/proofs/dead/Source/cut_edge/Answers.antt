@@ -3,7 +3,7 @@ use Rattle.lx_auto.specs.declared.automaton.Held.{Held}
 use Rattle.lx_regs.specs.Dead.{KeepsWanted}
 use Rattle.lx_regs.specs.HeldSets.{has}
 use Rattle.lx_regs.specs.KeptLists.{IsListed, is_read}
-use Rattle.lx_regs.proofs.CutSteps.{edge-keeps, edge-reads}
+use Rattle.lx_regs.proofs.CutOperations.CutSteps.{edge-keeps, edge-reads}
 use Rattle.lx_regs.proofs.dead.Source.cut_edge.Goals as goal
 
 pub returns-clause-cut : goal.returns-clause-cut

@@ -4,7 +4,7 @@ use Rattle.lx_auto.specs.declared.automaton.Edge.{Edge}
 use Rattle.lx_auto.specs.Automaton.{state_of}
 use Rattle.lx_regs.specs.Dead.{AreEdgesCut}
 use Rattle.lx_regs.specs.Leaving.{AddsRead}
-use Rattle.lx_regs.proofs.CutSteps.{edges-more, reads-more}
+use Rattle.lx_regs.proofs.CutOperations.CutSteps.{edges-more, reads-more}
 use Rattle.lx_regs.proofs.dead.Source.cut_edges.Goals as goal
 
 pub loop-edge-preserved : goal.loop-edge-preserved

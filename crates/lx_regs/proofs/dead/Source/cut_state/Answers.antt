@@ -8,7 +8,7 @@ use Rattle.lx_auto.proofs.States.{state_of-read}
 use Rattle.lx_regs.specs.Dead.{IsAcceptCut, KeepsWanted}
 use Rattle.lx_regs.specs.HeldSets.{Has, has}
 use Rattle.lx_regs.specs.KeptLists.{writes}
-use Rattle.lx_regs.proofs.CutSteps.{leave-keeps}
+use Rattle.lx_regs.proofs.CutOperations.CutSteps.{leave-keeps}
 use Rattle.lx_regs.proofs.dead.Source.cut_state.Goals as goal
 
 pub returns : goal.returns

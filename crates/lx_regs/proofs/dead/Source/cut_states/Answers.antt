@@ -1,6 +1,6 @@
 use Rattle.std.proofs.Common.{◌≡◌, ◌≤◌, [], ◌∷◌, ◌++◌, length, ap, arith}
 use Rattle.std.proofs.lemmas.List.{length_push}
-use Rattle.lx_regs.proofs.CutSteps.{states-all, states-more}
+use Rattle.lx_regs.proofs.CutOperations.CutSteps.{states-all, states-more}
 use Rattle.lx_regs.proofs.dead.Source.cut_states.Goals as goal
 
 pub loop-number-preserved : goal.loop-number-preserved

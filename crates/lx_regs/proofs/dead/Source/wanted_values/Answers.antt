@@ -3,7 +3,7 @@ use Rattle.std.specs.Prelude.{◌↔◌}
 use Rattle.lx_auto.specs.declared.automaton.Held.{Held}
 use Rattle.lx_auto.specs.Live.{AtSomePoint}
 use Rattle.lx_regs.specs.KeptLists.{IsListed}
-use Rattle.lx_regs.proofs.CutSteps.{values-wanted}
+use Rattle.lx_regs.proofs.CutOperations.CutSteps.{values-wanted}
 use Rattle.lx_regs.proofs.dead.Source.wanted_values.Goals as goal
 
 pub returns-then-self-state : goal.returns-then-self-state

@@ -1,4 +1,4 @@
-use Rattle.lx_regs.proofs.GrownLists.{grows-insert}
+use Rattle.lx_regs.proofs.LiveRegisters.GrownLists.{grows-insert}
 use Rattle.lx_regs.proofs.found.Found.add.Goals as goal
 
 pub returns : goal.returns

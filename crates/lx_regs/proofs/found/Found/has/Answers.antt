@@ -1,5 +1,5 @@
 use Rattle.std.proofs.Common.{◌∙◌, sym}
-use Rattle.lx_regs.proofs.GrownLists.{has-Contains}
+use Rattle.lx_regs.proofs.LiveRegisters.GrownLists.{has-Contains}
 use Rattle.lx_regs.proofs.found.Found.has.Goals as goal
 
 pub returns : goal.returns

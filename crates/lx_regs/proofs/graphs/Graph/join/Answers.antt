@@ -1,5 +1,5 @@
 use Rattle.std.proofs.lemmas.Result.{on_ok_weaker}
-use Rattle.lx_regs.proofs.GraphSteps.{Joins-turned}
+use Rattle.lx_regs.proofs.SharedNames.GraphSteps.{Joins-turned}
 use Rattle.lx_regs.proofs.graphs.Graph.join.Goals as goal
 
 pub returns-then-second-first : goal.returns-then-second-first

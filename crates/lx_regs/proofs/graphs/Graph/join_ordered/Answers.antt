@@ -1,6 +1,6 @@
 use Rattle.std.proofs.Common.{◌∙◌, ap, refl}
 use Rattle.lx_regs.specs.Graphs.{put_at}
-use Rattle.lx_regs.proofs.GraphSteps.{Joins-fresh, Joins-known, pair-inserted, pair-known}
+use Rattle.lx_regs.proofs.SharedNames.GraphSteps.{Joins-fresh, Joins-known, pair-inserted, pair-known}
 use Rattle.lx_regs.proofs.graphs.Graph.join_ordered.Goals as goal
 
 pub returns-in_ok-put-2 : goal.returns-in_ok-put-2

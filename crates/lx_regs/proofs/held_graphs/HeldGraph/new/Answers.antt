@@ -1,5 +1,5 @@
 use Rattle.lx_regs.specs.declared.held_graphs.HeldGraph.{HeldGraph}
-use Rattle.lx_regs.proofs.NoteSteps.{joined-empty}
+use Rattle.lx_regs.proofs.SharedNames.NoteSteps.{joined-empty}
 use Rattle.lx_regs.proofs.held_graphs.HeldGraph.new.Goals as goal
 
 pub returns-clause-empty : goal.returns-clause-empty

@@ -3,7 +3,7 @@ use Rattle.std.proofs.lemmas.List.{take_more}
 use Rattle.std.proofs.lemmas.List.Elements.{Contains-get_or}
 use Rattle.lx_auto.specs.declared.ops.Op.TheVariants.{Here}
 use Rattle.lx_regs.specs.HeldGraphs.{AreAmong, AreBeside, Notes}
-use Rattle.lx_regs.proofs.NoteSteps.{beside-pushed, there-still}
+use Rattle.lx_regs.proofs.SharedNames.NoteSteps.{beside-pushed, there-still}
 use Rattle.lx_regs.proofs.held_graphs.HeldGraph.note_beside.Goals as goal
 
 pub note_each-requires-clause-held : goal.note_each-requires-clause-held

@@ -3,7 +3,7 @@ use Rattle.std.proofs.lemmas.List.{take_more}
 use Rattle.std.proofs.lemmas.List.Elements.{Contains-get_or}
 use Rattle.lx_auto.specs.declared.automaton.Held.TheVariants.{Reg}
 use Rattle.lx_regs.specs.HeldGraphs.{AreAmong, Notes}
-use Rattle.lx_regs.proofs.NoteSteps.{among-pushed, there-still}
+use Rattle.lx_regs.proofs.SharedNames.NoteSteps.{among-pushed, there-still}
 use Rattle.lx_regs.proofs.held_graphs.HeldGraph.note_each.Goals as goal
 
 pub note-requires-clause-other : goal.note-requires-clause-other

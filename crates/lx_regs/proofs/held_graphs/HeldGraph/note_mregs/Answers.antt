@@ -1,5 +1,5 @@
 use Rattle.std.proofs.Common.{◌<◌, arith, refl}
-use Rattle.lx_regs.proofs.NoteSteps.{notes-mregs}
+use Rattle.lx_regs.proofs.SharedNames.NoteSteps.{notes-mregs}
 use Rattle.lx_regs.proofs.held_graphs.HeldGraph.note_mregs.Goals as goal
 
 pub returns-in_ok-join : goal.returns-in_ok-join

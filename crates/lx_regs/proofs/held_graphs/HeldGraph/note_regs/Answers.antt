@@ -1,5 +1,5 @@
 use Rattle.std.proofs.Common.{refl}
-use Rattle.lx_regs.proofs.NoteSteps.{notes-regs}
+use Rattle.lx_regs.proofs.SharedNames.NoteSteps.{notes-regs}
 use Rattle.lx_regs.proofs.held_graphs.HeldGraph.note_regs.Goals as goal
 
 pub returns-in_ok-join : goal.returns-in_ok-join

@@ -1,6 +1,6 @@
 use Rattle.std.proofs.Common.{◌≤◌, length, subst}
 use Rattle.lx_regs.specs.Interference.{AreBesideAt}
-use Rattle.lx_regs.proofs.InterferenceSteps.{graph-still, interference-whole, states-pushed}
+use Rattle.lx_regs.proofs.SharedNames.InterferenceSteps.{graph-still, interference-whole, states-pushed}
 use Rattle.lx_regs.proofs.interference.Known.interference.Goals as goal
 
 pub loop-state-preserved : goal.loop-state-preserved

@@ -2,8 +2,8 @@ use Rattle.std.proofs.Common.{◌∙◌, Contains, subst, sym}
 use Rattle.lx_auto.specs.Automaton.{state_of}
 use Rattle.lx_auto.specs.Effects.{Writes}
 use Rattle.lx_auto.proofs.States.{state_formed}
-use Rattle.lx_regs.proofs.HeldBounds.{accept-formed, values-held, written-held}
-use Rattle.lx_regs.proofs.InterferenceSteps.{there}
+use Rattle.lx_regs.proofs.LiveRegisters.HeldBounds.{accept-formed, values-held, written-held}
+use Rattle.lx_regs.proofs.SharedNames.InterferenceSteps.{there}
 use Rattle.lx_regs.proofs.interference.Known.note_accept.Goals as goal
 
 pub note_beside-requires-clause-ops : goal.note_beside-requires-clause-ops

@@ -3,9 +3,9 @@ use Rattle.lx_auto.specs.Automaton.{state_of}
 use Rattle.lx_auto.specs.Effects.{Writes}
 use Rattle.lx_auto.proofs.States.{state_formed}
 use Rattle.lx_regs.specs.HeldGraphs.{AreBeside, Notes, read_each}
-use Rattle.lx_regs.proofs.HeldBounds.{edge-ops, written-held}
-use Rattle.lx_regs.proofs.InterferenceSteps.{edge-notes, live-there, read-there, there}
-use Rattle.lx_regs.proofs.NoteSteps.{there-still}
+use Rattle.lx_regs.proofs.LiveRegisters.HeldBounds.{edge-ops, written-held}
+use Rattle.lx_regs.proofs.SharedNames.InterferenceSteps.{edge-notes, live-there, read-there, there}
+use Rattle.lx_regs.proofs.SharedNames.NoteSteps.{there-still}
 use Rattle.lx_regs.proofs.interference.Known.note_edge.Goals as goal
 
 pub note_beside-requires-clause-ops : goal.note_beside-requires-clause-ops

@@ -2,7 +2,7 @@ use Rattle.std.proofs.Common.{◌∙◌, ◌++◌, ◌∷◌, [], ap, arith, sub
 use Rattle.std.proofs.lemmas.List.{take_more}
 use Rattle.lx_regs.specs.HeldGraphs.{Notes}
 use Rattle.lx_regs.specs.Interference.{AreBesideOnEdges}
-use Rattle.lx_regs.proofs.InterferenceSteps.{edges-pushed}
+use Rattle.lx_regs.proofs.SharedNames.InterferenceSteps.{edges-pushed}
 use Rattle.lx_regs.proofs.interference.Known.note_edges.Goals as goal
 
 pub loop-edge-preserved : goal.loop-edge-preserved

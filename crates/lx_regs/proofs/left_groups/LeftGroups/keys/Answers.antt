@@ -1,5 +1,5 @@
 use Rattle.std.proofs.Common.{◌∙◌, sym}
-use Rattle.lx_regs.proofs.GroupLists.{keys_in-Some}
+use Rattle.lx_regs.proofs.SharedNames.GroupLists.{keys_in-Some}
 use Rattle.lx_regs.proofs.left_groups.LeftGroups.keys.Goals as goal
 
 pub returns-in-Some : goal.returns-in-Some

@@ -1,4 +1,4 @@
-use Rattle.lx_regs.proofs.KeptUsages.{adds-key}
+use Rattle.lx_regs.proofs.CutOperations.KeptUsages.{adds-key}
 use Rattle.lx_regs.proofs.live.Liveness.add_usage.Goals as goal
 
 pub returns : goal.returns

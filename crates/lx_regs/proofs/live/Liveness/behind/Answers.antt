@@ -4,8 +4,8 @@ use Rattle.lx_auto.specs.declared.automaton.Held.{Held}
 use Rattle.lx_regs.specs.declared.live.Usage.{Usage}
 use Rattle.lx_regs.specs.LiveSets.{AreLiveBehind}
 use Rattle.lx_regs.specs.Liveness.{AreKeysBehind, usages_at}
-use Rattle.lx_regs.proofs.LiveBehind.{live-behind}
-use Rattle.lx_regs.proofs.PairSearch.{edge-within}
+use Rattle.lx_regs.proofs.LiveRegisters.LiveBehind.{live-behind}
+use Rattle.lx_regs.proofs.LiveRegisters.PairSearch.{edge-within}
 use Rattle.lx_regs.proofs.live.Liveness.behind.Goals as goal
 
 pub index-requires-2 : goal.index-requires-2

@@ -1,5 +1,5 @@
 use Rattle.lx_regs.specs.declared.keys.Key.TheVariants.{Reg}
-use Rattle.lx_regs.proofs.KeptUsages.{behind-more}
+use Rattle.lx_regs.proofs.CutOperations.KeptUsages.{behind-more}
 use Rattle.lx_regs.proofs.live.Liveness.keys_behind.Goals as goal
 
 pub loop-usage-preserved : goal.loop-usage-preserved

@@ -1,7 +1,7 @@
 use Rattle.std.proofs.Common.{◌∙◌, ap, option_map, subst}
 use Rattle.lx_regs.specs.Keys.{held_of}
 use Rattle.lx_regs.specs.Readers.{IsIndex, read_found}
-use Rattle.lx_regs.proofs.ReaderSteps.{read_after-effect}
+use Rattle.lx_regs.proofs.LiveRegisters.ReaderSteps.{read_after-effect}
 use Rattle.lx_regs.proofs.readers.Reader.read.Goals as goal
 
 pub returns-in-Some-get : goal.returns-in-Some-get

@@ -1,7 +1,7 @@
 use Rattle.std.proofs.Common.{◌≡◌, All, refl, subst, rules}
 use Rattle.std.proofs.lemmas.Result.{IfOk-weaker}
 use Rattle.lx_regs.specs.Tested.{KeepsEffect}
-use Rattle.lx_regs.proofs.KeptEdges.{KeepsEdge-registers}
+use Rattle.lx_regs.proofs.CutOperations.KeptEdges.{KeepsEdge-registers}
 use Rattle.lx_regs.proofs.translation_test.Test.keeps_edge.Goals as goal
 
 pub returns : goal.returns

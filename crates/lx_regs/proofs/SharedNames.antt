@@ -1,0 +1,13 @@
+-- Registers that do not interfere share names, by the colours of a graph.
+pub mod ColourSteps
+pub mod GraphLists
+pub mod GraphSteps
+pub mod GroupLists
+pub mod InterferenceSteps
+pub mod KeyOrder
+pub mod KeyTests
+pub mod Marks
+pub mod Merges
+pub mod NoteSteps
+pub mod SharedLists
+pub mod TightNames

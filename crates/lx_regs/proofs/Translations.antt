@@ -1,0 +1,10 @@
+-- Automata by other names are translations.
+pub mod FittingSteps
+pub mod Pairs
+pub mod RenamedAutomata
+pub mod RenamedEffects
+pub mod RenamedInterference
+pub mod RenamedReads
+pub mod RenamedWalks
+pub mod Shapes
+pub mod TestedTranslations

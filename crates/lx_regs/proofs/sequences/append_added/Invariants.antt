@@ -1,6 +1,0 @@
-use Rattle.std.proofs.Common.{◌≡◌, ◌++◌, drop}
-use Rattle.lx_regs.specs.ParallelCopies.{added_marks}
-use Rattle.lx_regs.proofs.sequences.append_added.Given as goal
-
-abbrev pub invariant-loop-op : goal.invariant-loop-op
-invariant-loop-op l = l.list.items ++ added_marks (drop l.op-index l.ops) ≡ l.initial.list.items ++ added_marks l.ops

@@ -1,9 +1,0 @@
-use Rattle.std.proofs.Common.{◌≤◌, drop, length}
-use Rattle.lx_regs.specs.CopyOps.{AreMarksBehind}
-use Rattle.lx_regs.proofs.sequences.marks_of.Given as goal
-
-abbrev pub invariant-loop-place : goal.invariant-loop-place
-invariant-loop-place l = (l.place ≤ length l.ops) × AreMarksBehind l.later l.list.items (drop l.place l.ops)
-
-abbrev pub decreases-loop-place : goal.decreases-loop-place
-decreases-loop-place l = l.place

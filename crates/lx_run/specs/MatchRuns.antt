@@ -1,0 +1,33 @@
+-- That a match over a window ends as a run over the whole stream.
+use Rattle.std.specs.Prelude.{◌≡◌, ◌≤◌, ℕ, List, ◌++◌, length, Bool, true, false}
+use Rattle.std.specs.List.{list_any}
+use Rattle.lx_ccode.specs.declared.piece.Piece.{Piece}
+use Rattle.lx_ccode.specs.Runs.{Ended, run_of}
+use Rattle.lx_ccode.specs.Schedules.{IsLegal, Schedule}
+use Rattle.lx_ccode.specs.Statements.{all_statements, is_refill, is_state}
+use Rattle.lx_step.specs.Held.{Tells}
+use Rattle.lx_run.specs.Matches.{MatchEnd}
+use Rattle.lx_run.specs.Readings.{Reading}
+
+-- A match may start there, over a window that has the stream's units up to a limit: the scanner is left only in a piece that stores states, and a
+-- piece that never asks for a refill has the whole stream.
+pub record MayStart (piece : Piece) (reading : Reading) (start limit : ℕ) (leaving : Bool) : Type 0 where
+  pub step : 1 ≤ reading.step
+  pub from : start ≤ limit
+  pub within : limit ≤ length reading.stream
+  pub states : leaving ≡ true → list_any is_state (all_statements piece.blocks) ≡ true
+  pub whole : list_any is_refill (all_statements piece.blocks) ≡ false → limit ≡ length reading.stream
+
+-- the run tells what the match told, with what it held and the values that it gave
+pub record IsEndOf (end : MatchEnd) (run : Ended) : Type 0 where
+  pub told : Tells end.told run.outcome
+  pub cursor : run.cursor ≡ end.stand.point.machine.cursor
+  pub cond : run.cond ≡ end.stand.point.machine.cond
+  pub values : run.values ≡ end.stand.values ++ end.stand.point.machine.values
+
+-- the match ended as the run does, under some legal schedule that begins with the units which the window had
+pub record EndsAsRun (piece : Piece) (reading : Reading) (start : ℕ) (cond : List ℕ) (limit : ℕ) (end : MatchEnd) : Type 0 where
+  pub schedule : Schedule
+  pub first : schedule.first ≡ limit
+  pub legal : IsLegal piece (length reading.stream) start schedule
+  pub ends : IsEndOf end (run_of piece reading.stream start cond schedule)

@@ -1,0 +1,2 @@
+pub mod GeneratedRules
+pub mod Sources

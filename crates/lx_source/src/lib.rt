@@ -1,0 +1,4 @@
+//! Generated sources: the rules of each one, and what holds of them.
+#![tactic(auto)]
+
+pub mod laws;
