@@ -16,7 +16,13 @@ fi
 work=$(mktemp -d) || exit 1
 trap 'rm -rf "$work"' EXIT
 python3 - "$program" "$work" <<'PYTHON'
-import os, re, resource, subprocess, sys
+import os, re, subprocess, sys
+MEASURE = """
+import os, sys
+child = os.posix_spawn(sys.argv[1], sys.argv[1:], os.environ, file_actions=[(os.POSIX_SPAWN_OPEN, 1, os.devnull, os.O_WRONLY, 0)])
+_, status, usage = os.wait4(child, 0)
+print(status, usage.ru_utime, usage.ru_stime, usage.ru_maxrss)
+"""
 
 program, work = os.path.abspath(sys.argv[1]), sys.argv[2]
 os.chdir(work)
@@ -72,15 +78,15 @@ def run(name, options, rules):
     subprocess.run([program, '-i', *options, '-o', 's.c', 's.re'], check=True)
     text = open('s.c').read()
     made, units = count(text, WORDS * 2000)
-    before = resource.getrusage(resource.RUSAGE_CHILDREN)
-    with open(os.devnull, 'w') as nowhere:
-        child = subprocess.Popen([program, '--x-run', 'in.txt', '--x-window', '4096', '--x-piece', '4096', 's.c'], stdout=nowhere)
-        _, status, usage = os.wait4(child.pid, 0)
+    # (the peak of a process counts that of the one that began it, so a small one begins it)
+    words = [program, '--x-run', 'in.txt', '--x-window', '4096', '--x-piece', '4096', 's.c']
+    ran = subprocess.run([sys.executable, '-c', MEASURE, *words], stdout=subprocess.PIPE, check=True, text=True)
+    status, user, system, peak = map(float, ran.stdout.split())
     if status:
-        sys.exit(f'running: {name}: status {status}')
-    seconds = usage.ru_utime + usage.ru_stime
-    speed, above = made / units * SIZE / seconds, usage.ru_maxrss / 1024 - SIZE / (1 << 20)
-    print(f'{name}: {made / units:.2f} statements a unit, {seconds:.1f} s ({usage.ru_stime:.1f} of the system), '
+        sys.exit(f'running: {name}: status {status:.0f}')
+    seconds = user + system
+    speed, above = made / units * SIZE / seconds, peak / 1024 - SIZE / (1 << 20)
+    print(f'{name}: {made / units:.2f} statements a unit, {seconds:.1f} s ({system:.1f} of the system), '
           f'{speed / 1e6:.1f} million statements a second, {above:.1f} MiB above the input')
     return speed >= 20e6 and above < 32
 
