@@ -24,7 +24,7 @@ if [ -z "$program" ]; then
     program=$(find crates/re2c/out -maxdepth 1 -type f -name re2c | head -1)
 fi
 python3 - "$work" "$(realpath "$program")" "${ORIGINAL:-re2c}" <<'PYTHON'
-import os, re, resource, shutil, subprocess, sys
+import os, re, shutil, subprocess, sys
 work, program, original = sys.argv[1:]
 SECONDS, MEMORY, RUNS = 60, 4 << 30, 5
 PLAIN = 're2c:yyfill:enable = 0;\n'
@@ -75,18 +75,24 @@ COMPARED = {
 failed = []
 
 
-def limit():
-    resource.setrlimit(resource.RLIMIT_CORE, (0, 0))
-    resource.setrlimit(resource.RLIMIT_CPU, (SECONDS, SECONDS))
-    resource.setrlimit(resource.RLIMIT_AS, (MEMORY, MEMORY))
+# The peak of a process counts that of the one that began it, so a small one begins it.
+BEGUN = """
+import os, resource, sys
+seconds, memory = map(int, sys.argv[1:3])
+files = [(os.POSIX_SPAWN_OPEN, number, os.devnull, os.O_WRONLY, 0) for number in (1, 2)]
+for what, most in ((resource.RLIMIT_CORE, 0), (resource.RLIMIT_CPU, seconds), (resource.RLIMIT_AS, memory)):
+    resource.setrlimit(what, (most, most))
+child = os.posix_spawnp(sys.argv[3], sys.argv[3:], os.environ, file_actions=files)
+_, status, usage = os.wait4(child, 0)
+print(status, usage.ru_utime + usage.ru_stime, usage.ru_maxrss)
+"""
 
 
 def measured(words):
     """The seconds of the processor and the bytes of memory that a command takes, or None where it fails."""
-    child = subprocess.Popen(words, stdout=subprocess.DEVNULL, stderr=subprocess.DEVNULL, preexec_fn=limit)
-    _, status, usage = os.wait4(child.pid, 0)
-    child.returncode = status
-    return None if status else (usage.ru_utime + usage.ru_stime, 1024 * usage.ru_maxrss)
+    ran = subprocess.run([sys.executable, '-c', BEGUN, str(SECONDS), str(MEMORY), *words], stdout=subprocess.PIPE, check=True, text=True)
+    status, seconds, peak = ran.stdout.split()
+    return None if int(status) else (float(seconds), 1024 * int(peak))
 
 
 def instructions(words):

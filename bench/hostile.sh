@@ -23,7 +23,7 @@ if [ -z "$program" ]; then
     program=$(find crates/re2c/out -maxdepth 1 -type f -name re2c | head -1)
 fi
 python3 - "$work" "$(realpath "$program")" <<'PYTHON'
-import os, resource, sys, time, unicodedata
+import os, subprocess, sys, unicodedata
 work, program = sys.argv[1:]
 os.chdir(work)
 GROWTH = 6.0
@@ -96,17 +96,26 @@ def condition_list(count):
 
 # ---- the program
 
+# The peak of a process counts that of the one that began it, so a small one begins it.
+BEGUN = """
+import os, resource, sys
+seconds, memory = map(int, sys.argv[1:3])
+files = [(os.POSIX_SPAWN_OPEN, 1, os.devnull, os.O_WRONLY, 0),
+         (os.POSIX_SPAWN_OPEN, 2, 'err', os.O_WRONLY | os.O_CREAT | os.O_TRUNC, 0o644)]
+resource.setrlimit(resource.RLIMIT_CPU, (seconds, seconds))
+resource.setrlimit(resource.RLIMIT_AS, (memory, memory))
+child = os.posix_spawn(sys.argv[3], sys.argv[3:], {}, file_actions=files)
+_, status, usage = os.wait4(child, 0)
+print(os.waitstatus_to_exitcode(status), usage.ru_utime + usage.ru_stime, usage.ru_maxrss)
+"""
+
 def measured(words):
     """The status, the seconds of processor time, the MiB and the message with which it ends; a run much past its limits is ended."""
-    flags = os.O_WRONLY | os.O_CREAT | os.O_TRUNC
-    files = [(os.POSIX_SPAWN_OPEN, 1, '/dev/null', os.O_WRONLY, 0), (os.POSIX_SPAWN_OPEN, 2, 'err', flags, 0o644)]
-    child = os.posix_spawn(program, ['re2c'] + words, {}, file_actions=files)
-    resource.prlimit(child, resource.RLIMIT_CPU, (3 * int(SECONDS), 3 * int(SECONDS)))
-    resource.prlimit(child, resource.RLIMIT_AS, (3 * MEMORY * MIB, 3 * MEMORY * MIB))
-    _, status, usage = os.wait4(child, 0)
-    seconds = usage.ru_utime + usage.ru_stime
+    limits = [str(3 * int(SECONDS)), str(3 * MEMORY * MIB)]
+    ran = subprocess.run([sys.executable, '-c', BEGUN, *limits, program, *words], stdout=subprocess.PIPE, check=True, text=True)
+    status, seconds, peak = ran.stdout.split()
     with open('err', errors='replace') as told:
-        return os.waitstatus_to_exitcode(status), seconds, usage.ru_maxrss / 1024, told.read().strip().rpartition('error: ')[2]
+        return int(status), float(seconds), int(peak) / 1024, told.read().strip().rpartition('error: ')[2]
 
 def file(name, text):
     with open(name, 'w') as given:

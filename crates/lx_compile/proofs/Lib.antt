@@ -10,9 +10,9 @@ pub mod ItemRuns
 pub mod KernelRuns
 pub mod ListedRegisters
 pub mod MadeRuns
+pub mod NoRegisters
 pub mod OneBlock
 pub mod OneFault
-pub mod OneOutput
 pub mod OneSyntax
 pub mod OutputCuts
 pub mod OutsideTexts

@@ -22,3 +22,4 @@ pub mod SignatureLists
 pub mod SignedStates
 pub mod TargetPlaces
 pub mod Targets
+pub mod ToldByDistance

@@ -1,5 +1,5 @@
 -- From partition to partition, until one is refined no more.
-use Rattle.std.proofs.Common.{◌≡◌, ◌⊎◌, inl, inr, ℕ, ◌<◌, ◌≤◌, Bool, false, List, [], ◌∷◌, length, get_or, None, sym, ap, ◌∙◌, subst, arith}
+use Rattle.std.proofs.Common.{◌≡◌, ◌⊎◌, inl, inr, ℕ, ◌<◌, ◌≤◌, Bool, true, false, List, [], ◌∷◌, length, get_or, None, sym, ap, ◌∙◌, subst, arith}
 use Rattle.std.proofs.lemmas.Bool.{cases_lt}
 use Rattle.std.proofs.lemmas.List.{get_or_append_left, get_or_past, length-append}
 use Rattle.std.proofs.lemmas.Option.{slice_get_within}
@@ -9,11 +9,12 @@ use Rattle.lx_auto.specs.MetStates.{AreMet, is_marked}
 use Rattle.lx_auto.specs.Points.{IsMet, begins}
 use Rattle.lx_min.specs.declared.looks.Look.{Look}
 use Rattle.lx_min.specs.declared.partitions.Partition.{Partition}
+use Rattle.lx_min.specs.Distances.{TellApart}
 use Rattle.lx_min.specs.Joined.{class_in}
 use Rattle.lx_min.specs.Looks.{AreLooks}
 use Rattle.lx_min.specs.Merges.{AreAlike, AreClassesApart}
 use Rattle.lx_min.specs.Partitions.{IsMinimal, seen_classes}
-use Rattle.lx_min.specs.Rounds.{AreMarked, AreOwn, IsPartition, IsRefined}
+use Rattle.lx_min.specs.Rounds.{AreMarked, AreOwn, IsBegun, IsPartition, IsRefined}
 use Rattle.lx_min.specs.Signatures.{HasSign, Sign}
 use Rattle.lx_min.proofs.Refinements.{same-at}
 use Rattle.lx_min.proofs.SignatureLists.{one-place}
@@ -31,33 +32,43 @@ module _ (auto : Auto) (marks : List Bool) (met : AreMet auto marks) where
   pub partition-own : (looks : List Look) (partition : Partition) → length looks ≡ length auto.states → IsPartition auto partition
       → AreOwn looks partition
   partition-own looks partition count is class lt =
-      let chosen = is.chosen class lt in
-      (omega (arith, count, met-within (get_or partition.chosen.items class 0) chosen.0), chosen.1)
+      let chosen = is.chosen class lt in (
+        omega (arith, count, met-within (get_or partition.chosen.items class 0) chosen.0),
+        λ other also same. sym chosen.1 ∙ same ∙ (is.chosen other also).1,
+      )
 
   pub partition-marked : (partition : Partition) → IsPartition auto partition → AreMarked marks partition.chosen.items
   partition-marked partition is class lt = met.complete (get_or partition.chosen.items class 0) (is.chosen class lt).0
 
--- all states are in class 0
-pub first-partition : (auto : Auto) (partition : Partition) → length partition.class.items ≡ length auto.states
-    → ((state : ℕ) → class_in partition.class.items state ≡ 0) → partition.chosen.items ≡ 0 ∷ [] → IsPartition auto partition
-first-partition auto partition fit zeros one = record {
-  fit = fit;
-  some = some;
-  first = ap (λ l. get_or l 0 0) one;
-  within = λ state is. omega (arith, zeros state, some);
-  chosen = λ class lt.
-      let here : class ≡ 0 = omega (arith, lt, ap length one) in
-      let stands : get_or partition.chosen.items class 0 ≡ 0 =
-      ap (λ k. get_or partition.chosen.items k 0) here ∙ ap (λ l. get_or l 0 0) one in
-      (subst (IsMet auto) (sym stands) (None, begins), zeros (get_or partition.chosen.items class 0) ∙ sym here);
-  apart = λ state other is also differ. absurd (differ (zeros state ∙ sym (zeros other)));
-}
-  where
-    some : 0 < length partition.chosen.items
-    some = omega (arith, ap length one)
+  -- state 0 alone is chosen
+  module _ (looks : List Look) (partition : Partition) (count : length looks ≡ length auto.states) (start : 0 < length auto.states)
+      (one : partition.chosen.items ≡ 0 ∷ []) where
+    first-at : (place : ℕ) → place < length partition.chosen.items → (place ≡ 0) × (get_or partition.chosen.items place 0 ≡ 0)
+    first-at place lt =
+        let here : place ≡ 0 = omega (arith, lt, ap length one) in
+        (here, ap (λ k. get_or partition.chosen.items k 0) here ∙ ap (λ l. get_or l 0 0) one)
+
+    pub first-own : AreOwn looks partition
+    first-own place lt =
+        let at = first-at place lt in
+        (omega (arith, at.1, count, start), λ other also same. at.0 ∙ sym (first-at other also).0)
+
+    pub first-marked : AreMarked marks partition.chosen.items
+    first-marked place lt =
+        subst (λ s. is_marked marks s ≡ true) (sym (first-at place lt).1) (met.complete 0 (None, begins))
+
+    pub first-begun : TellApart auto partition.class.items → IsBegun auto partition
+    first-begun tell = record {
+      some = omega (arith, ap length one);
+      first = ap (λ l. get_or l 0 0) one;
+      apart = λ state other is also differ. tell state other (met-within state is) (met-within other also) differ;
+    }
+
+pub partition-begun : (auto : Auto) (partition : Partition) → IsPartition auto partition → IsBegun auto partition
+partition-begun auto partition is = record { some = is.some; first = is.first; apart = is.apart }
 
 module _ (auto : Auto) (marks : List Bool) (looks : List Look) (is : IsAuto auto) (met : AreMet auto marks) (are : AreLooks auto looks)
-    (given next : Partition) (partition : IsPartition auto given) (refined : IsRefined marks looks given next) where
+    (given next : Partition) (begun : IsBegun auto given) (refined : IsRefined marks looks given next) where
   pub count-grows : length given.chosen.items ≤ length next.chosen.items
   count-grows = omega (arith, ap length refined.kept, length-append given.chosen.items refined.more)
 
@@ -78,15 +89,15 @@ module _ (auto : Auto) (marks : List Bool) (looks : List Look) (is : IsAuto auto
       let has = signed-met state is_met in
       let also = signed-met other also_met in
       told-apart auto looks (class_in given.class.items) is are state other (met-within auto marks met state is_met)
-      (met-within auto marks met other also_met) is_met also_met partition.apart has.look also.look has.looks_so also.looks_so
+      (met-within auto marks met other also_met) is_met also_met begun.apart has.look also.look has.looks_so also.looks_so
       (λ same. differ (refined.chosen.distinct (class_in next.class.items state) (class_in next.class.items other) has.signature
       also.signature has.stands also.stands (has.same ∙ same ∙ sym also.same)))
 
   pub next-partition : IsPartition auto next
   next-partition = record {
     fit = refined.fit ∙ are.count;
-    some = omega (arith, partition.some, count-grows);
-    first = kept-at 0 partition.some ∙ partition.first;
+    some = omega (arith, begun.some, count-grows);
+    first = kept-at 0 begun.some ∙ begun.first;
     within = within-next;
     chosen = λ class lt.
         let state = get_or next.chosen.items class 0 in
@@ -99,7 +110,7 @@ module _ (auto : Auto) (marks : List Bool) (looks : List Look) (is : IsAuto auto
   }
 
   -- no class was split
-  module _ (same : length next.chosen.items ≡ length given.chosen.items) where
+  module _ (partition : IsPartition auto given) (same : length next.chosen.items ≡ length given.chosen.items) where
     alike-chosen : (state : ℕ) → IsMet auto state
         → AreAlike (class_in given.class.items) (state_of auto.states state)
         (state_of auto.states (get_or given.chosen.items (class_in given.class.items state) 0))

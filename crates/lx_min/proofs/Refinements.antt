@@ -44,7 +44,7 @@ module _ (looks : List Look) (given : Partition) (own : AreOwn looks given) (bef
       let classes = same-class (class_in given.class.items) looks after.signatures.keys number (get_or after.chosen.items number 0)
       (get_or given.chosen.items place 0) (are.signed number lt) has in
       let one : number ≡ place =
-      sym (own number (omega arith)).1 ∙ ap (class_in given.class.items) (sym stands) ∙ classes ∙ (own place within).1 in
+      (own number (omega arith)).1 place within (ap (class_in given.class.items) (sym stands) ∙ classes) in
       absurd (omega arith)
 
   pub chosen-again : Takes before after (get_or given.chosen.items place 0) → after.chosen.items ≡ take (place + 1) given.chosen.items

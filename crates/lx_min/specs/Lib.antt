@@ -1,4 +1,5 @@
 pub mod Canonical
+pub mod Distances
 pub mod Joined
 pub mod Looks
 pub mod Merges

@@ -12,12 +12,14 @@ use Rattle.lx_min.specs.Merges.{AreClassesApart}
 use Rattle.lx_min.specs.Partitions.{seen_classes}
 use Rattle.lx_min.specs.Signatures.{AreChosen, HasSign}
 
--- the state that is chosen for a class is one of that class
+-- no two of the chosen states are of one class
 abbrev pub AreOwn : List Look → Partition → Type 0
 AreOwn looks partition =
-    (class : ℕ) → class < length partition.chosen.items
-    → (slice_index partition.chosen.items class < length looks)
-    × (class_in partition.class.items (slice_index partition.chosen.items class) ≡ class)
+    (place : ℕ) → place < length partition.chosen.items
+    → (slice_index partition.chosen.items place < length looks)
+    × ((other : ℕ) → other < length partition.chosen.items
+    → class_in partition.class.items (slice_index partition.chosen.items place)
+    ≡ class_in partition.class.items (slice_index partition.chosen.items other) → place ≡ other)
 
 -- each of the states is marked
 abbrev pub AreMarked : (marks : List Bool) → (states : List ℕ) → Type 0
@@ -40,6 +42,12 @@ pub record IsRefined (marks : List Bool) (looks : List Look) (given next : Parti
   pub fit : length next.class.items ≡ length looks
   pub signed : (state : ℕ) → is_marked marks state ≡ true
       → HasSign (class_in given.class.items) looks signatures (class_in next.class.items state) state
+
+-- state 0 is chosen first, and a word tells states of different classes apart
+pub record IsBegun (auto : Auto) (partition : Partition) : Type 0 where
+  pub some : 0 < length partition.chosen.items
+  pub first : slice_index partition.chosen.items 0 ≡ 0
+  pub apart : AreClassesApart auto (seen_classes partition)
 
 -- state 0 is chosen for class 0, classes have chosen states of their own, and a word tells states of different classes apart
 pub record IsPartition (auto : Auto) (partition : Partition) : Type 0 where

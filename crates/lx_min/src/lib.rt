@@ -3,6 +3,7 @@
 
 mod accept_numbers;
 mod canonical;
+mod distances;
 mod joined;
 pub mod laws;
 mod list_numbers;

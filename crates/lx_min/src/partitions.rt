@@ -6,6 +6,7 @@ ghost use Rattle.lx_min.specs.Looks.{AreLooks};
 ghost use Rattle.lx_min.specs.Partitions.{IsMinimal};
 ghost use Rattle.lx_min.specs.Rounds.{IsPartition};
 
+use crate::distances::distances_of;
 use crate::looks::Look;
 use crate::rounds::refined;
 use lx_auto::Auto;
@@ -21,16 +22,24 @@ pub(crate) struct Partition {
     pub chosen: Vec<u32>,
 }
 
-/// The partition with one class.
-fn first_partition(alloc: Global, auto: &Auto, looks: &[Look]) -> Result<Partition, Memory>
+/// The partition of the states to which walks come by what they do and by how far they are from accepting ones: a round over distances as
+/// classes, of which state 0 alone is chosen.
+fn first_partition(
+    alloc: Global,
+    auto: &Auto,
+    met: &[bool],
+    looks: &[Look],
+) -> Result<Partition, Memory>
     requires formed { IsAuto auto.now }
+    requires met { AreMet auto.now met.now }
     requires looks { AreLooks auto.now looks.now }
     ensures { IfOk result (IsPartition auto.now) }
 {
-    Ok(Partition {
-        class: vec![in alloc; 0; looks.len()]?,
+    let start = Partition {
+        class: distances_of(alloc, auto)?,
         chosen: vec![in alloc; 0]?,
-    })
+    };
+    refined(alloc, met, looks, &start)
 }
 
 /// The partition of the states to which walks come. State 0 is chosen for its class.
@@ -45,7 +54,7 @@ pub(crate) fn partition_of(
     requires looks { AreLooks auto.now looks.now }
     ensures { IfOk result (λ partition. IsMinimal auto.now partition) }
 {
-    let mut partition = first_partition(alloc, auto, looks)?;
+    let mut partition = first_partition(alloc, auto, met, looks)?;
     loop {
         let next = refined(alloc, met, looks, &partition)?;
         if next.chosen.len() == partition.chosen.len() {

@@ -1,18 +1,29 @@
-use Rattle.std.proofs.Common.{◌≡◌, ℕ, zero, suc, length, get_or, refl, ap, ◌∙◌, rules}
-use Rattle.std.specs.Prelude.{replicate}
-use Rattle.std.proofs.lemmas.List.{length-replicate}
-use Rattle.lx_min.proofs.PartitionSteps.{first-partition}
+use Rattle.std.proofs.lemmas.Result.{IfOk-weaker}
+use Rattle.lx_min.specs.declared.partitions.Partition.{Partition}
+use Rattle.lx_min.specs.Rounds.{IsPartition, IsRefined}
+use Rattle.lx_min.proofs.PartitionSteps.{first-begun, first-marked, first-own, next-partition}
 use Rattle.lx_min.proofs.partitions.first_partition.Goals as goal
 
-get_or-zeros : (count place : ℕ) → ◌≡◌ {A = ℕ} (get_or (replicate count 0) place 0) 0
-get_or-zeros zero place = refl
-get_or-zeros (suc count) zero = refl
-get_or-zeros (suc count) (suc place) = get_or-zeros count place
+pub refined-requires-clause-own : goal.refined-requires-clause-own
+refined-requires-clause-own c =
+    first-own c.args.auto.now c.args.met.now c.requires.met c.args.looks.now
+    (record { class = c.in_ok-distances_of.field-0; chosen = c.in_ok-vec.field-0 }) c.requires.looks.count c.requires.formed.start
+    c.in_ok-vec.ensures.items
+
+pub refined-requires-clause-marked : goal.refined-requires-clause-marked
+refined-requires-clause-marked c =
+    first-marked c.args.auto.now c.args.met.now c.requires.met c.args.looks.now
+    (record { class = c.in_ok-distances_of.field-0; chosen = c.in_ok-vec.field-0 }) c.requires.looks.count c.requires.formed.start
+    c.in_ok-vec.ensures.items
 
 pub returns : goal.returns
 returns c =
-    let zeros = c.in_ok-vec.ensures.items_if_clones_equal (λ y e. search (rules, e)) in
-    let count = length c.args.looks.now in
-    first-partition c.args.auto.now (record { class = c.in_ok-vec.field-0; chosen = c.in_ok-vec-2.field-0 })
-    (ap length zeros ∙ length-replicate count 0 ∙ c.requires.looks.count)
-    (λ state. ap (λ l. get_or l state 0) zeros ∙ get_or-zeros count state) c.in_ok-vec-2.ensures.items
+    let auto = c.args.auto.now in
+    let met = c.args.met.now in
+    let looks = c.args.looks.now in
+    let start : Partition = record { class = c.in_ok-distances_of.field-0; chosen = c.in_ok-vec.field-0 } in
+    let begun = first-begun auto met c.requires.met looks start c.requires.looks.count c.requires.formed.start
+    c.in_ok-vec.ensures.items c.in_ok-distances_of.ensures in
+    IfOk-weaker c.refined.result (IsRefined met looks start) (IsPartition auto)
+    (λ next refined. next-partition auto met looks c.requires.formed c.requires.met c.requires.looks start next begun refined)
+    c.refined.ensures

@@ -1,6 +1,6 @@
 use Rattle.std.proofs.Common.{◌≤◌, length, arith}
 use Rattle.lx_min.specs.Joined.{class_in}
-use Rattle.lx_min.proofs.PartitionSteps.{count-grows, next-partition, partition-marked, partition-own, stable-minimal}
+use Rattle.lx_min.proofs.PartitionSteps.{count-grows, next-partition, partition-begun, partition-marked, partition-own, stable-minimal}
 use Rattle.lx_min.proofs.SignatureLists.{chosen-few}
 use Rattle.lx_min.proofs.partitions.partition_of.Goals as goal
 
@@ -16,7 +16,8 @@ refined-requires-clause-marked c =
 pub returns-then-len : goal.returns-then-len
 returns-then-len c =
     stable-minimal c.args.auto.now c.args.met.now c.args.looks.now c.requires.formed c.requires.met c.requires.looks
-    c.loop-partition.partition c.in_ok-next.next c.loop-partition.invariant c.in_ok-next.ensures
+    c.loop-partition.partition c.in_ok-next.next (partition-begun c.args.auto.now c.loop-partition.partition c.loop-partition.invariant)
+    c.in_ok-next.ensures c.loop-partition.invariant
     (omega (arith, c.len.ensures, c.if-len.true, c.len-in-loop-partition.ensures))
 
 pub loop-partition-smaller : goal.loop-partition-smaller
@@ -25,7 +26,8 @@ loop-partition-smaller c =
     let after = c.in_ok-next.next.chosen.items in
     let grows : length before ≤ length after =
     count-grows c.args.auto.now c.args.met.now c.args.looks.now c.requires.formed c.requires.met c.requires.looks
-    c.loop-partition.partition c.in_ok-next.next c.loop-partition.invariant c.in_ok-next.ensures in
+    c.loop-partition.partition c.in_ok-next.next (partition-begun c.args.auto.now c.loop-partition.partition c.loop-partition.invariant)
+    c.in_ok-next.ensures in
     let few : length after ≤ length c.args.looks.now =
     chosen-few (class_in c.loop-partition.partition.class.items) c.args.looks.now c.in_ok-next.ensures.signatures after
     c.in_ok-next.ensures.chosen in
@@ -34,4 +36,5 @@ loop-partition-smaller c =
 pub loop-partition-preserved : goal.loop-partition-preserved
 loop-partition-preserved c =
     next-partition c.args.auto.now c.args.met.now c.args.looks.now c.requires.formed c.requires.met c.requires.looks
-    c.loop-partition.partition c.in_ok-next.next c.loop-partition.invariant c.in_ok-next.ensures
+    c.loop-partition.partition c.in_ok-next.next (partition-begun c.args.auto.now c.loop-partition.partition c.loop-partition.invariant)
+    c.in_ok-next.ensures
