@@ -1,0 +1,3 @@
+-- The order by recursion is the one by lengths and positions.
+pub mod CountedPositions
+pub mod NumbersOfCuts

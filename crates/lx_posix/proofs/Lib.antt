@@ -1,0 +1,9 @@
+pub mod Partings
+pub mod Fronts
+pub mod Orders
+pub mod Counted
+pub mod Steps
+pub mod Kernels
+pub mod Ends
+pub mod Searches
+pub mod Worked
