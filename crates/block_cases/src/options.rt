@@ -18,6 +18,8 @@ fn usual_options(alloc: Global) -> Options {
         captures: false,
         posix: false,
         custom: false,
+        warn: false,
+        cover: false,
         enc: Enc::Byte,
         surrogates: SurPolicy::Ignore,
         empty: EmptyPolicy::MatchEmpty,

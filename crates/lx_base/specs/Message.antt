@@ -4,7 +4,7 @@ use Rattle.std.specs.Fmt.{decimal}
 use Rattle.lx_base.specs.Text.{joined}
 use Rattle.lx_base.specs.declared.places.Pos.{Pos}
 use Rattle.lx_base.specs.declared.faults.Fault.{Fault}
-use Rattle.lx_base.specs.declared.faults.Fault.TheVariants.{Usage, NoFile, IncludeDepth, Unclosed, MarkInSource, BadToken, Syntax, UnknownName, Redefined, NotClass, CodePoint, Surrogate, Bounds, EmptyClass, NoRules, EofPair, Condition, TagsOff, DuplicateTag, UnknownConfig, BadValue, NoRulesToUse, TooLong, TooManyParts, TooManyStates, NotEmitted, WindowFull, Directive, BadInput}
+use Rattle.lx_base.specs.declared.faults.Fault.TheVariants.{Usage, NoFile, IncludeDepth, Unclosed, MarkInSource, BadToken, Syntax, UnknownName, Redefined, NotClass, CodePoint, Surrogate, Bounds, EmptyClass, NoRules, EofPair, Condition, TagsOff, DuplicateTag, UnknownConfig, BadValue, NoRulesToUse, TooLong, TooManyParts, TooManyStates, NotEmitted, WindowFull, Directive, BadInput, CoverTooLong}
 
 -- where a fault stands
 abbrev pub place_of : Fault → Option Pos
@@ -37,6 +37,7 @@ place_of (NotEmitted place offset) = Some place
 place_of (WindowFull place kept need size) = Some place
 place_of (Directive place) = Some place
 place_of (BadInput place length) = Some place
+place_of (CoverTooLong place sum) = Some place
 
 -- the place's file, if there is a place, stands in the list of names
 abbrev pub HasFile : List (List ℕ) → Option Pos → Type 0
@@ -87,6 +88,7 @@ text_of (NotEmitted place offset) = codes "not emitted text"
 text_of (WindowFull place kept need size) = window_text kept need size
 text_of (Directive place) = codes "unknown directive or option missing"
 text_of (BadInput place length) = codes "input is no whole number of units"
+text_of (CoverTooLong place sum) = codes "too many cover words"
 
 -- `FILE:LINE:COL: error: TEXT` or `re2c: error: TEXT`, and a line feed
 abbrev pub message_text : List (List ℕ) → Fault → List ℕ

@@ -146,6 +146,12 @@ pub enum Fault {
         at: Pos,
         length: u64,
     },
+    /// The covering words of a scanner have this many units, up to and with the first word that passes
+    /// the limit.
+    CoverTooLong {
+        at: Pos,
+        sum: u64,
+    },
 }
 
 impl Fault {
@@ -183,6 +189,7 @@ impl Fault {
             Fault::WindowFull { at, .. } => Some(*at),
             Fault::Directive { at } => Some(*at),
             Fault::BadInput { at, .. } => Some(*at),
+            Fault::CoverTooLong { at, .. } => Some(*at),
         }
     }
 }

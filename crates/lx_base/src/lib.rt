@@ -16,7 +16,7 @@ pub mod settings;
 pub use blocks::BlockKind;
 pub use faults::{Fault, Stop};
 pub use letters::Letters;
-pub use lists::{ByteText, Memory, Sequence, append_parts};
+pub use lists::{ByteText, Memory, Sequence, Word, append_parts};
 pub use messages::message;
 pub use names::{Names, usual_names};
 pub use places::{FileName, FileNames, Pos, place_after};

@@ -96,6 +96,9 @@ impl<T: Copy> Sequence<T> {
 /// Bytes: a text of a source or of an output, which may be in no encoding.
 pub type ByteText = Sequence<u8>;
 
+/// A word: code units, one behind another.
+pub type Word = Sequence<u32>;
+
 /// Appends the parts to the text, one behind another.
 ///
 /// Where memory runs out some of them may stand there.

@@ -98,6 +98,7 @@ fn append_text(alloc: Global, text: &mut Vec<u8>, fault: &Fault) -> Result<(), M
         } => append_window(alloc, text, *kept, *need, *size),
         Fault::Directive { .. } => append_parts(text, &[b"unknown directive or option missing"]),
         Fault::BadInput { .. } => append_parts(text, &[b"input is no whole number of units"]),
+        Fault::CoverTooLong { .. } => append_parts(text, &[b"too many cover words"]),
     }
 }
 

@@ -73,6 +73,10 @@ pub struct Options {
     pub posix: bool,
     /// Whether a scanner reads its input by primitives of the user's, and not through pointers.
     pub custom: bool,
+    /// Whether warnings of scanners are told.
+    pub warn: bool,
+    /// Whether the covering words of the scanners are given in the output's place.
+    pub cover: bool,
     pub enc: Enc,
     pub surrogates: SurPolicy,
     pub empty: EmptyPolicy,

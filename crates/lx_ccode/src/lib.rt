@@ -19,5 +19,6 @@ pub use counts::{mregs_of, regs_of};
 pub use fronts::begins_with_piece;
 pub use heads::is_custom;
 pub use name_sets::NameSet;
+pub use numerals::hexadecimal;
 pub use piece::{CodeBlock, CondCase, Head, LineMark, Mode, Piece, StateCase, Stmt};
 pub use printing::{count_statements, print, statements};

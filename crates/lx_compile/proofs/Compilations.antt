@@ -20,8 +20,8 @@ use Rattle.lx_compile.specs.Emittable.{IsNearPiece}
 use Rattle.lx_compile.specs.Facts.{directives_fault}
 use Rattle.lx_compile.specs.FirstFault.{IsFaultOfBlocks, IsFaultOfPieces, IsFirstFault, StopsBehind, StopsWith, setting_of}
 use Rattle.lx_compile.specs.Made.{AreMade}
-use Rattle.lx_compile.specs.Output.{IsOutput, IsOutputOf}
-use Rattle.lx_compile.specs.Parts.{AreParts, IsKernelFault, StopsAmong, StopsByKernels}
+use Rattle.lx_compile.specs.Output.{IsGiven, IsGivenOf, IsOutput, IsOutputOf, given_text}
+use Rattle.lx_compile.specs.Parts.{AreParts, IsScanningFault, StopsAmong, StopsByScanners}
 use Rattle.lx_compile.specs.Writing.{StopsByDirectives, output_text}
 use Rattle.lx_compile.specs.declared.made.Made.{Made}
 use Rattle.lx_compile.specs.declared.parts.Part.{Part}
@@ -35,22 +35,22 @@ module _ (options : Options) (names : List (List ℕ)) (pieces : List SourcePiec
   StopsBehind-blocks (split_stop.Fault fault) stops = ([], inl stops)
 
   module _ (parts : List Part) (last : Environment) (are : AreParts options first_environment pieces parts last) where
-    pub StopsBehind-kernels : (stopped : Stop) → StopsByKernels options.enc parts stopped → StopsBehind options names pieces stopped
-    StopsBehind-kernels split_stop.Memory stops = tt
-    StopsBehind-kernels (split_stop.Fault fault) stops = ([], inr (parts, last, are, inl (refl, stops)))
+    pub StopsBehind-scanners : (stopped : Stop) → StopsByScanners options parts stopped → StopsBehind options names pieces stopped
+    StopsBehind-scanners split_stop.Memory stops = tt
+    StopsBehind-scanners (split_stop.Fault fault) stops = ([], inr (parts, last, are, inl (refl, stops)))
 
-    module _ (none : IsKernelFault options.enc parts None) (made : List Made) (is : AreMade (setting_of options names parts) 1 0 parts made) where
+    module _ (none : IsScanningFault options parts None) (made : List Made) (is : AreMade (setting_of options names parts) 1 0 parts made) where
       pub StopsBehind-directives : (stopped : Stop) → StopsByDirectives (config_of last.settings).names made stopped
           → StopsBehind options names pieces stopped
       StopsBehind-directives split_stop.Memory stops = tt
       StopsBehind-directives (split_stop.Fault fault) stops = (made, inr (parts, last, are, inr (none, is, sym stops)))
 
-      pub IsOutputOf-parts : (output : List ℕ) → output ≡ output_text (config_of last.settings).names made
-          → directives_fault (config_of last.settings).names made ≡ None
-          → IsFaultOfBlocks options names pieces made None × IsOutputOf options names pieces made output
-      IsOutputOf-parts output text no_fault = (
+      pub IsGivenOf-parts : (output given : List ℕ) → output ≡ output_text (config_of last.settings).names made
+          → directives_fault (config_of last.settings).names made ≡ None → given ≡ given_text options made output
+          → IsFaultOfBlocks options names pieces made None × IsGivenOf options names pieces made given
+      IsGivenOf-parts output given text no_fault given_is = (
         (parts, last, are, inr (none, is, sym no_fault)),
-        record { parts = parts; last = last; parts_are = are; made_are = is; no_fault = no_fault; text = text },
+        (output, record { parts = parts; last = last; parts_are = are; made_are = is; no_fault = no_fault; text = text }, given_is),
       )
 
 -- ---- over files
@@ -101,9 +101,12 @@ module _ (options : Options) (seen : List HeldFile) (main : List ℕ) (names : L
       pub IsFirstFault-none : IsFaultOfBlocks options names pieces made None → IsFirstFault options seen main made None
       IsFirstFault-none is = IsFaultOfPieces-expands options whole names pieces made None expands is
 
-      pub IsOutput-of : (output : List ℕ) → IsOutputOf options names pieces made output → IsOutput options seen main made output
+      IsOutput-of : (output : List ℕ) → IsOutputOf options names pieces made output → IsOutput options seen main made output
       IsOutput-of output is = record {
         pieces = pieces;
         pieces_are = expands.0;
         is = subst (λ (met : List (List ℕ)). IsOutputOf options met pieces made output) (sym expands.1) is;
       }
+
+      pub IsGiven-of : (given : List ℕ) → IsGivenOf options names pieces made given → IsGiven options seen main made given
+      IsGiven-of given (output, is, given_is) = (output, IsOutput-of output is, given_is)

@@ -8,9 +8,8 @@ use Rattle.lx_base.specs.Names.{Spellings}
 use Rattle.lx_base.specs.Places.{place_after}
 use Rattle.lx_base.specs.declared.blocks.BlockKind.{BlockKind}
 use Rattle.lx_base.specs.declared.faults.Fault.{Fault}
-use Rattle.lx_base.specs.declared.faults.Fault.TheVariants.{BadValue, TooManyStates}
+use Rattle.lx_base.specs.declared.faults.Fault.TheVariants.{BadValue}
 use Rattle.lx_base.specs.declared.places.Pos.{Pos}
-use Rattle.lx_base.specs.declared.settings.Enc.{Enc}
 use Rattle.lx_base.specs.declared.settings.Options.{Options}
 use Rattle.lx_ccode.specs.Bodies.{body_then}
 use Rattle.lx_ccode.specs.declared.piece.Piece.{Piece}
@@ -21,6 +20,7 @@ use Rattle.lx_parse.specs.Blocks.{place_of_next}
 use Rattle.lx_rules.specs.Environments.{Environment, config_of, first_environment}
 use Rattle.lx_rules.specs.Items.{first_state}
 use Rattle.lx_rules.proofs.Blocks.FaultPlaces.{block_fault-place}
+use Rattle.lx_rules.specs.declared.resolved.Scanner.{Scanner}
 use Rattle.lx_split.specs.Expanded.{IsSound, IsSoundBlock}
 use Rattle.lx_split.specs.Includes.{expansion}
 use Rattle.lx_split.specs.Pieces.{Split}
@@ -34,9 +34,11 @@ use Rattle.lx_compile.specs.Blocks.{IsFaultOf, no_items, no_token, refused}
 use Rattle.lx_compile.specs.Facts.{body_of, conditions_of, directive_fault, fault_among, has_wrong_strings, holds_opener, missing_fault, no_conditions_fault, no_scanner_fault, pieces_among, text_fault}
 use Rattle.lx_compile.specs.FirstFault.{IsFaultOfParts, IsFaultOfPieces, IsFirstFault, setting_of}
 use Rattle.lx_compile.specs.Made.{AreMade, Setting}
-use Rattle.lx_compile.specs.Parts.{AreParts, IsFaultAmong, IsKernelFault}
+use Rattle.lx_compile.specs.Parts.{AreParts, IsFaultAmong, IsScanningFault}
+use Rattle.lx_compile.specs.ScannerFaults.{IsFaultOfContent, IsFaultOfScanners}
 use Rattle.lx_compile.specs.declared.made.Made.{Made}
 use Rattle.lx_compile.specs.declared.made.Made.TheVariants as made
+use Rattle.lx_compile.specs.declared.parts.Content.{Content}
 use Rattle.lx_compile.specs.declared.parts.Content.TheVariants.{Asks, Scanners}
 use Rattle.lx_compile.specs.declared.parts.Directive.{Directive}
 use Rattle.lx_compile.specs.declared.parts.Directive.TheVariants as directive
@@ -125,13 +127,26 @@ module _ (names : List (List ℕ)) where
         parts-met options are.2.0 pieces parts last are.2.2 (All-tail (IsSound (length names)) block pieces sound),
       )
 
-  -- the fault of a scanner with too many kernels
-  kernels-placed : (enc : Enc) (parts : List Part) (fault : Fault) → IsKernelFault enc parts (Some fault) → ArePartsMet parts → IsPlaced names fault
-  kernels-placed enc [] fault is met = absurd cc
-  kernels-placed enc (Outside text ∷ parts) fault is met = kernels-placed enc parts fault is met
-  kernels-placed enc (Block at line content ∷ parts) fault (inl is) met =
-      let found : fault ≡ TooManyStates at = cc (is.1) in subst (IsPlaced names) (sym found) met.0
-  kernels-placed enc (Block at line content ∷ parts) fault (inr is) met = kernels-placed enc parts fault is.1 met.1
+  -- the fault of a scanner
+  scanners-placed : (options : Options) (at : Pos) (scanners : List Scanner) (fault : Fault) → IsFaultOfScanners options at scanners fault → IsMet names at
+      → IsPlaced names fault
+  scanners-placed options at [] fault is met = absurd is
+  scanners-placed options at (scanner ∷ scanners) fault (inl (inl large)) met = subst (IsPlaced names) (sym large.1) met
+  scanners-placed options at (scanner ∷ scanners) fault (inl (inr (small, (sum, long, is)))) met = subst (IsPlaced names) (sym is) met
+  scanners-placed options at (scanner ∷ scanners) fault (inr is) met = scanners-placed options at scanners fault is.1 met
+
+  content-placed : (options : Options) (at : Pos) (content : Content) (fault : Fault) → IsFaultOfContent options at content fault → IsMet names at
+      → IsPlaced names fault
+  content-placed options at (Scanners resolved) fault is met = scanners-placed options at resolved.scanners fault is met
+  content-placed options at (Asks directive) fault is met = absurd is
+
+  scanning-placed : (options : Options) (parts : List Part) (fault : Fault) → IsScanningFault options parts (Some fault) → ArePartsMet parts
+      → IsPlaced names fault
+  scanning-placed options [] fault is met = absurd cc
+  scanning-placed options (Outside text ∷ parts) fault is met = scanning-placed options parts fault is met
+  scanning-placed options (Block at line content ∷ parts) fault (inl (found, is, same)) met =
+      let here : found ≡ fault = cc in subst (IsPlaced names) here (content-placed options at content found is met.0)
+  scanning-placed options (Block at line content ∷ parts) fault (inr is) met = scanning-placed options parts fault is.1 met.1
 
   -- ---- directives
 
@@ -139,7 +154,7 @@ module _ (names : List (List ℕ)) where
   abbrev AreMadeMet : List Made → Type 0
   AreMadeMet [] = Unit {0}
   AreMadeMet (made.Outside text ∷ all) = AreMadeMet all
-  AreMadeMet (made.Scanners piece checks ∷ all) = AreMadeMet all
+  AreMadeMet (made.Scanners piece checks warnings cover ∷ all) = AreMadeMet all
   AreMadeMet (made.Bare at line directive ∷ all) = IsMet names at × AreMadeMet all
 
   made-met : (setting : Setting) (number first_state : ℕ) (parts : List Part) (all : List Made) → AreMade setting number first_state parts all
@@ -148,15 +163,15 @@ module _ (names : List (List ℕ)) where
   made-met setting number first_state [] (one ∷ all) are met = absurd are
   made-met setting number first_state (Outside text ∷ parts) [] are met = absurd are
   made-met setting number first_state (Outside text ∷ parts) (made.Outside other ∷ all) are met = made-met setting number first_state parts all are.1 met
-  made-met setting number first_state (Outside text ∷ parts) (made.Scanners piece checks ∷ all) are met = absurd are
+  made-met setting number first_state (Outside text ∷ parts) (made.Scanners piece checks warnings cover ∷ all) are met = absurd are
   made-met setting number first_state (Outside text ∷ parts) (made.Bare at line directive ∷ all) are met = absurd are
   made-met setting number first_state (Block at line content ∷ parts) [] are met = absurd are
   made-met setting number first_state (Block at line (Scanners resolved) ∷ parts) (made.Outside other ∷ all) are met = absurd are.1
-  made-met setting number first_state (Block at line (Scanners resolved) ∷ parts) (made.Scanners piece checks ∷ all) are met =
+  made-met setting number first_state (Block at line (Scanners resolved) ∷ parts) (made.Scanners piece checks warnings cover ∷ all) are met =
       made-met setting (suc number) are.0 parts all are.2 met.1
   made-met setting number first_state (Block at line (Scanners resolved) ∷ parts) (made.Bare place mark directive ∷ all) are met = absurd are.1
   made-met setting number first_state (Block at line (Asks directive) ∷ parts) (made.Outside other ∷ all) are met = absurd are.1
-  made-met setting number first_state (Block at line (Asks directive) ∷ parts) (made.Scanners piece checks ∷ all) are met = absurd are.1
+  made-met setting number first_state (Block at line (Asks directive) ∷ parts) (made.Scanners piece checks warnings cover ∷ all) are met = absurd are.1
   made-met setting number first_state (Block at line (Asks directive) ∷ parts) (made.Bare place mark other ∷ all) are met =
       (same-met place at (ap (λ (p : Pos). p.file) are.1.0) met.0, made-met setting (suc number) are.0 parts all are.2 met.1)
 
@@ -192,7 +207,7 @@ module _ (names : List (List ℕ)) where
     directives-placed : (made : List Made) → AreMadeMet made → IsFoundPlaced (fault_among spellings all made)
     directives-placed [] met = tt
     directives-placed (made.Outside text ∷ made) met = directives-placed made met
-    directives-placed (made.Scanners piece checks ∷ made) met = directives-placed made met
+    directives-placed (made.Scanners piece checks warnings cover ∷ made) met = directives-placed made met
     directives-placed (made.Bare at line directive ∷ made) met =
         option_or-placed (directive_fault spellings all at directive) (fault_among spellings all made)
         (option_or-placed (missing_fault (pieces_among all) at directive) (text_fault spellings all at directive)
@@ -204,7 +219,7 @@ module _ (names : List (List ℕ)) where
   module _ (options : Options) (made : List Made) where
     end-placed : (parts : List Part) (last : Environment) (fault : Fault) → ArePartsMet parts
         → IsFaultOfParts options names parts last made (Some fault) → IsPlaced names fault
-    end-placed parts last fault met (inl is) = kernels-placed options.enc parts fault is.1 met
+    end-placed parts last fault met (inl is) = scanning-placed options parts fault is.1 met
     end-placed parts last fault met (inr is) =
         subst IsFoundPlaced (sym is.2) (directives-placed (config_of last.settings).names made made (made-met (setting_of options names parts) 1 0 parts made is.1 met))
 

@@ -33,7 +33,7 @@ NoneAnswers block parts = AllByRecursion (λ (part : OutputPart). Answers block 
 
 -- a piece of scanners has this number
 abbrev HasNumber : (number : ℕ) → Made → Type 0
-HasNumber number (made.Scanners piece checks) = piece.number ≡ number
+HasNumber number (made.Scanners piece checks warnings cover) = piece.number ≡ number
 HasNumber number one = Unit {0}
 
 -- pieces are numbered from here on
@@ -43,12 +43,12 @@ AreNumbered number (one ∷ some) = HasNumber number one × AreNumbered (number_
 
 number_of_block : (setting : Setting) (number first_state next : ℕ) (at : Pos) (line : ℕ) (content : Content) (one : Made)
     → IsMadeOf setting number first_state next at line content one → HasNumber number one × (suc number ≡ number_behind number one)
-number_of_block setting number first_state next at line (Scanners resolved) (made.Scanners piece checks) is = (is.0.generated.fields.number, refl)
+number_of_block setting number first_state next at line (Scanners resolved) (made.Scanners piece checks warnings cover) is = (is.0.generated.fields.number, refl)
 number_of_block setting number first_state next at line (Scanners resolved) (made.Outside text) is = absurd is
 number_of_block setting number first_state next at line (Scanners resolved) (made.Bare place mark other) is = absurd is
 number_of_block setting number first_state next at line (Asks directive) (made.Bare place mark other) is = (tt, refl)
 number_of_block setting number first_state next at line (Asks directive) (made.Outside text) is = absurd is
-number_of_block setting number first_state next at line (Asks directive) (made.Scanners piece checks) is = absurd is
+number_of_block setting number first_state next at line (Asks directive) (made.Scanners piece checks warnings cover) is = absurd is
 
 AreNumbered-made : (setting : Setting) (number first_state : ℕ) (parts : List Part) (some : List Made) → AreMade setting number first_state parts some
     → AreNumbered number some
@@ -57,7 +57,7 @@ AreNumbered-made setting number first_state [] (one ∷ some) given = absurd giv
 AreNumbered-made setting number first_state (Outside text ∷ parts) [] given = absurd given
 AreNumbered-made setting number first_state (Outside text ∷ parts) (made.Outside other ∷ some) given =
     (tt, AreNumbered-made setting number first_state parts some given.1)
-AreNumbered-made setting number first_state (Outside text ∷ parts) (made.Scanners piece checks ∷ some) given = absurd given
+AreNumbered-made setting number first_state (Outside text ∷ parts) (made.Scanners piece checks warnings cover ∷ some) given = absurd given
 AreNumbered-made setting number first_state (Outside text ∷ parts) (made.Bare place mark other ∷ some) given = absurd given
 AreNumbered-made setting number first_state (Block at line content ∷ parts) [] given = absurd given
 AreNumbered-made setting number first_state (Block at line content ∷ parts) (one ∷ some) given =
@@ -74,13 +74,13 @@ number_past number (one ∷ some) = number_past (number_behind number one) some
 number_past-least : (number : ℕ) (some : List Made) → number ≤ number_past number some
 number_past-least number [] = omega arith
 number_past-least number (made.Outside text ∷ some) = number_past-least number some
-number_past-least number (made.Scanners piece checks ∷ some) = omega (arith, number_past-least (suc number) some)
+number_past-least number (made.Scanners piece checks warnings cover ∷ some) = omega (arith, number_past-least (suc number) some)
 number_past-least number (made.Bare at line directive ∷ some) = omega (arith, number_past-least (suc number) some)
 
 number_past-after : (number : ℕ) (some : List Made) → number_past number some + 1 ≡ number + number_after some
 number_past-after number [] = refl
 number_past-after number (made.Outside text ∷ some) = number_past-after number some
-number_past-after number (made.Scanners piece checks ∷ some) = omega (arith, number_past-after (suc number) some)
+number_past-after number (made.Scanners piece checks warnings cover ∷ some) = omega (arith, number_past-after (suc number) some)
 number_past-after number (made.Bare at line directive ∷ some) = omega (arith, number_past-after (suc number) some)
 
 AreNumbered-past : (number : ℕ) (earlier rest : List Made) → AreNumbered number (earlier ++ rest) → AreNumbered (number_past number earlier) rest
@@ -99,7 +99,7 @@ module _ (names : Spellings) (all : List Made) where
   others_answer asked number [] rest within numbered = tt
   others_answer asked number (made.Outside text ∷ earlier) rest within numbered =
       (λ is. is, others_answer asked number earlier rest within numbered.1)
-  others_answer asked number (made.Scanners piece checks ∷ earlier) rest within numbered =
+  others_answer asked number (made.Scanners piece checks warnings cover ∷ earlier) rest within numbered =
       let least = number_past-least (suc number) earlier in
       let same : piece.number ≡ number = numbered.0 in
       (λ is. omega (arith, within, least, same, is), others_answer asked (suc number) earlier rest within numbered.1)
@@ -110,25 +110,25 @@ module _ (names : Spellings) (all : List Made) where
   no_scanner_answers : (number : ℕ) (earlier : List Made) → HaveNoScanner earlier → NoneAnswers None (output_parts names all number earlier)
   no_scanner_answers number [] none = tt
   no_scanner_answers number (made.Outside text ∷ earlier) none = (λ is. is, no_scanner_answers number earlier none.1)
-  no_scanner_answers number (made.Scanners piece checks ∷ earlier) none = absurd (false≢true (sym none.0))
+  no_scanner_answers number (made.Scanners piece checks warnings cover ∷ earlier) none = absurd (false≢true (sym none.0))
   no_scanner_answers number (made.Bare at line directive ∷ earlier) none = (λ is. is, no_scanner_answers (suc number) earlier none.1)
 
   -- ---- the piece
 
   answers-number : (number : ℕ) (one : Made) → HasNumber number one → is_piece one ≡ true → Answers (Some number) (output_part names all number one)
   answers-number number (made.Outside text) numbered is = absurd (false≢true is)
-  answers-number number (made.Scanners piece checks) numbered is = numbered
+  answers-number number (made.Scanners piece checks warnings cover) numbered is = numbered
   answers-number number (made.Bare at line directive) numbered is = refl
 
   answers-scanner : (number : ℕ) (one : Made) → is_scanner one ≡ true → Answers None (output_part names all number one)
   answers-scanner number (made.Outside text) is = absurd (false≢true is)
-  answers-scanner number (made.Scanners piece checks) is = tt
+  answers-scanner number (made.Scanners piece checks warnings cover) is = tt
   answers-scanner number (made.Bare at line directive) is = absurd (false≢true is)
 
   short_number : (number : ℕ) (one : Made) (rest : List OutputPart) → HasNumber number one → is_piece one ≡ true
       → AreCut (output_part names all number one ∷ rest) → IsShort number
   short_number number (made.Outside text) rest numbered is cut = absurd (false≢true is)
-  short_number number (made.Scanners piece checks) rest numbered is cut =
+  short_number number (made.Scanners piece checks warnings cover) rest numbered is cut =
       let same : piece.number ≡ number = numbered in let short = cut.0.range.number in omega (arith, same, short)
   short_number number (made.Bare at line directive) rest numbered is cut = cut.0
 

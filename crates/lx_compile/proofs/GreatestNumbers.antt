@@ -9,6 +9,7 @@ use Rattle.lx_ccode.specs.declared.piece.Piece.{Piece}
 use Rattle.lx_compile.specs.Facts.{greatest, greatest_in, groups_of, units_of}
 use Rattle.lx_compile.specs.declared.made.Made.{Made}
 use Rattle.lx_compile.specs.declared.made.Made.TheVariants.{Outside, Scanners, Bare}
+use Rattle.lx_compile.specs.declared.warned.PlacedWarning.{PlacedWarning}
 
 pub greatest-max : (least : ℕ) (numbers : List ℕ) → greatest least numbers ≡ max least (greatest 0 numbers)
 greatest-max least [] = omega arith
@@ -57,14 +58,14 @@ pub units_of-positive : (made : List Made) → 1 ≤ units_of made
 units_of-positive [] = omega arith
 units_of-positive (Outside text ∷ made) = units_of-positive made
 units_of-positive (Bare at line directive ∷ made) = units_of-positive made
-units_of-positive (Scanners piece checks ∷ made) =
+units_of-positive (Scanners piece checks warnings cover ∷ made) =
     let rest = units_of-positive made in
     omega (arith, rest, greatest_in-max (units_of made) checks)
 
 -- that of one piece more
-pub units_of-more : (most : ℕ) (piece : Piece) (checks : List (List ℕ)) (made : List Made)
-    → max (greatest_in most checks) (units_of made) ≡ max most (units_of (Scanners piece checks ∷ made))
-units_of-more most piece checks made = omega (arith, greatest_in-max most checks, greatest_in-max (units_of made) checks)
+pub units_of-more : (most : ℕ) (piece : Piece) (checks : List (List ℕ)) (warnings : List PlacedWarning) (cover : List ℕ) (made : List Made)
+    → max (greatest_in most checks) (units_of made) ≡ max most (units_of (Scanners piece checks warnings cover ∷ made))
+units_of-more most piece checks warnings cover made = omega (arith, greatest_in-max most checks, greatest_in-max (units_of made) checks)
 
 -- the number of groups is at least 1
 pub groups_of-positive : (pieces : List Piece) → 1 ≤ groups_of pieces
@@ -73,10 +74,10 @@ groups_of-positive (piece ∷ pieces) = let rest = groups_of-positive pieces in 
 
 -- without a piece it stays
 pub units_of-other : (one : Made) (made : List Made)
-    → ((piece : Piece) (checks : Sequence CheckList) → one ≡ Scanners piece checks → ⊥) → units_of (one ∷ made) ≡ units_of made
+    → ((piece : Piece) (checks : Sequence CheckList) (warnings : Sequence PlacedWarning) (cover : Sequence ℕ) → one ≡ Scanners piece checks warnings cover → ⊥) → units_of (one ∷ made) ≡ units_of made
 units_of-other (Outside text) made other = refl
 units_of-other (Bare at line directive) made other = refl
-units_of-other (Scanners piece checks) made other = absurd (other piece checks refl)
+units_of-other (Scanners piece checks warnings cover) made other = absurd (other piece checks warnings cover refl)
 
 -- `max` of numbers is the greater one
 pub ord_max-max : (first second : ℕ) → ord_max nat_cmp first second ≡ max first second

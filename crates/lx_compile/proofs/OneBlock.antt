@@ -1,19 +1,16 @@
 -- A block gives one thing, as far as definitions tell, or it has one fault.
-use Rattle.std.proofs.Common.{◌≡◌, ℕ, true, false, List, [], ◌∷◌, Ok, Err, refl, sym, subst, inl, inr, ◌∙◌}
+use Rattle.std.proofs.Common.{◌≡◌, ℕ, true, false, List, [], ◌∷◌, Ok, Err, refl, sym, subst, ◌∙◌}
 use Rattle.std.proofs.lemmas.Bool.{false≢true}
 use Rattle.lx_base.specs.declared.blocks.BlockKind.{BlockKind}
 use Rattle.lx_base.specs.declared.blocks.BlockKind.TheVariants as block
 use Rattle.lx_base.specs.declared.faults.Fault.{Fault}
 use Rattle.lx_base.specs.declared.places.Pos.{Pos}
-use Rattle.lx_base.specs.declared.settings.Enc.{Enc}
 use Rattle.lx_base.specs.declared.settings.Options.{Options}
 use Rattle.lx_forms.specs.Lexemes.{lexemes_of}
 use Rattle.lx_parse.specs.Blocks.{IsBody, IsSyntaxFault, form_of, has_tokens}
 use Rattle.lx_parse.specs.Sorts.{sorts_of}
 use Rattle.lx_parse.specs.declared.items.Item.{Item}
 use Rattle.lx_parse.proofs.Refusals.{one_tree}
-use Rattle.lx_regex.specs.Kernel.{HasTooManyKernels}
-use Rattle.lx_regex.specs.Pattern.{Pattern, terms_of}
 use Rattle.lx_rules.specs.Blocks.{HasRules, IsBlockFault, Resolves, of_scanners, of_use, to_keep}
 use Rattle.lx_rules.specs.Environments.{Environment}
 use Rattle.lx_rules.specs.Likeness.{AreAlike, HaveSameRules}
@@ -24,7 +21,6 @@ use Rattle.lx_token.specs.Tokens.{tokens_of}
 use Rattle.lx_token.specs.declared.list.Token.{Token}
 use Rattle.lx_compile.specs.Blocks.{IsBlock, IsFaultOf, IsRead, asks, content_of, gives_nothing, no_items, no_token, refused, resolves}
 use Rattle.lx_compile.specs.Directives.{directive_of, is_directive, strings_of}
-use Rattle.lx_compile.specs.Parts.{HasTooLarge, HasTooLargeContent}
 use Rattle.lx_compile.specs.declared.parts.Content.{Content}
 use Rattle.lx_compile.specs.declared.parts.Content.TheVariants.{Asks, Scanners}
 use Rattle.lx_compile.proofs.OneSyntax.{read_or_not, syntax-one}
@@ -88,21 +84,6 @@ content_of-alike resolved another (scanner ∷ scanners) (other ∷ others) same
 give-alike : (content another given other : Content) → content ≡ given → another ≡ other → GiveAlike given other → GiveAlike content another
 give-alike content another given other is is_other alike =
     subst (λ (c : Content). GiveAlike c another) (sym is) (subst (λ (c : Content). GiveAlike given c) (sym is_other) alike)
-
--- what is alike has too many kernels, or has not
-too_large-alike : (enc : Enc) (scanners others : List Scanner) → HaveSameRules scanners others → HasTooLarge enc scanners → HasTooLarge enc others
-too_large-alike enc [] others same large = absurd large
-too_large-alike enc (scanner ∷ scanners) [] same large = absurd same
-too_large-alike enc (scanner ∷ scanners) (other ∷ others) same (inl large) =
-    inl (subst (λ (patterns : List Pattern). HasTooManyKernels enc (terms_of patterns)) same.0.1 large)
-too_large-alike enc (scanner ∷ scanners) (other ∷ others) same (inr large) = inr (too_large-alike enc scanners others same.1 large)
-
-pub content-too_large : (enc : Enc) (content another : Content) → GiveAlike content another → HasTooLargeContent enc content
-    → HasTooLargeContent enc another
-content-too_large enc (Scanners resolved) (Scanners another) alike large =
-    too_large-alike enc resolved.scanners another.scanners alike.scanners large
-content-too_large enc (Scanners resolved) (Asks directive) alike large = absurd alike
-content-too_large enc (Asks directive) another alike large = absurd large
 
 same-turned : (scanners others : List Scanner) → HaveSameRules scanners others → HaveSameRules others scanners
 same-turned [] [] same = tt

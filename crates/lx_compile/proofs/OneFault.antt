@@ -1,9 +1,7 @@
 -- A source has one first fault, or none.
 use Rattle.std.proofs.Common.{◌≡◌, ℕ, List, [], ◌∷◌, Option, Some, None, IsSome, Ok, Err, refl, sym, ap, subst, inl, inr, ◌∙◌}
 use Rattle.lx_base.specs.declared.faults.Fault.{Fault}
-use Rattle.lx_base.specs.declared.faults.Fault.TheVariants.{TooManyStates}
 use Rattle.lx_base.specs.declared.places.Pos.{Pos}
-use Rattle.lx_base.specs.declared.settings.Enc.{Enc}
 use Rattle.lx_base.specs.declared.settings.Options.{Options}
 use Rattle.lx_files.specs.declared.files.HeldFile.{HeldFile}
 use Rattle.lx_rules.specs.Environments.{Environment, config_of, first_environment}
@@ -13,11 +11,13 @@ use Rattle.lx_split.specs.declared.pieces.SourcePiece.{SourcePiece}
 use Rattle.lx_split.specs.declared.pieces.SourcePiece.TheVariants as piece
 use Rattle.lx_compile.specs.Facts.{directives_fault}
 use Rattle.lx_compile.specs.FirstFault.{IsFaultBehind, IsFaultOfBlocks, IsFaultOfParts, IsFaultOfPieces, IsFirstFault}
-use Rattle.lx_compile.specs.Parts.{AreParts, IsFaultAmong, IsKernelFault}
+use Rattle.lx_compile.specs.Parts.{AreParts, IsFaultAmong, IsScanningFault}
+use Rattle.lx_compile.specs.ScannerFaults.{IsFaultOfContent}
 use Rattle.lx_compile.specs.declared.made.Made.{Made}
 use Rattle.lx_compile.specs.declared.parts.Part.{Part}
 use Rattle.lx_compile.specs.declared.parts.Part.TheVariants.{Outside, Block}
-use Rattle.lx_compile.proofs.OneBlock.{GiveAlike, alike-turned, block-one, block_or_not, content-too_large, fault-one}
+use Rattle.lx_compile.proofs.OneBlock.{GiveAlike, alike-turned, block-one, block_or_not, fault-one}
+use Rattle.lx_compile.proofs.OneScan.{content-one, content_or_not}
 
 -- ---- parts
 
@@ -29,25 +29,26 @@ ArePartsAlike (Block at line content ∷ parts) (Block place other another ∷ o
     (at ≡ place) × GiveAlike content another × ArePartsAlike parts others
 ArePartsAlike parts others = ⊥
 
--- parts that are alike have one first scanner with too many kernels, or none
-kernels-one : (enc : Enc) (parts others : List Part) (fault other : Option Fault) → ArePartsAlike parts others → IsKernelFault enc parts fault
-    → IsKernelFault enc others other → fault ≡ other
-kernels-one enc [] [] fault other alike is is_other = is ∙ sym is_other
-kernels-one enc [] (part ∷ others) fault other alike is is_other = absurd alike
-kernels-one enc (Outside text ∷ parts) [] fault other alike is is_other = absurd alike
-kernels-one enc (Outside text ∷ parts) (Outside second ∷ others) fault other alike is is_other =
-    kernels-one enc parts others fault other alike is is_other
-kernels-one enc (Outside text ∷ parts) (Block place line another ∷ others) fault other alike is is_other = absurd alike
-kernels-one enc (Block at line content ∷ parts) [] fault other alike is is_other = absurd alike
-kernels-one enc (Block at line content ∷ parts) (Outside second ∷ others) fault other alike is is_other = absurd alike
-kernels-one enc (Block at line content ∷ parts) (Block place end another ∷ others) fault other alike (inl large) (inl large_other) =
-    large.1 ∙ ap (λ (p : Pos). Some (TooManyStates p)) alike.0 ∙ sym large_other.1
-kernels-one enc (Block at line content ∷ parts) (Block place end another ∷ others) fault other alike (inl large) (inr none) =
-    absurd (none.0 (content-too_large enc content another alike.1 large.0))
-kernels-one enc (Block at line content ∷ parts) (Block place end another ∷ others) fault other alike (inr none) (inl large) =
-    absurd (none.0 (content-too_large enc another content (alike-turned content another alike.1) large.0))
-kernels-one enc (Block at line content ∷ parts) (Block place end another ∷ others) fault other alike (inr none) (inr none_other) =
-    kernels-one enc parts others fault other alike.2 none.1 none_other.1
+-- parts that are alike have one first fault of a scanner, or none
+scanning-one : (options : Options) (parts others : List Part) (fault other : Option Fault) → ArePartsAlike parts others → IsScanningFault options parts fault
+    → IsScanningFault options others other → fault ≡ other
+scanning-one options [] [] fault other alike is is_other = is ∙ sym is_other
+scanning-one options [] (part ∷ others) fault other alike is is_other = absurd alike
+scanning-one options (Outside text ∷ parts) [] fault other alike is is_other = absurd alike
+scanning-one options (Outside text ∷ parts) (Outside second ∷ others) fault other alike is is_other =
+    scanning-one options parts others fault other alike is is_other
+scanning-one options (Outside text ∷ parts) (Block place line another ∷ others) fault other alike is is_other = absurd alike
+scanning-one options (Block at line content ∷ parts) [] fault other alike is is_other = absurd alike
+scanning-one options (Block at line content ∷ parts) (Outside second ∷ others) fault other alike is is_other = absurd alike
+scanning-one options (Block at line content ∷ parts) (Block place end another ∷ others) fault other alike (inl (first, found, is)) (inl (second, found_other, is_other)) =
+    is ∙ ap Some (content-one options at content another first second alike.1 found
+    (subst (λ (p : Pos). IsFaultOfContent options p another second) (sym alike.0) found_other)) ∙ sym is_other
+scanning-one options (Block at line content ∷ parts) (Block place end another ∷ others) fault other alike (inl (first, found, is)) (inr none) =
+    absurd (content_or_not options at content another first alike.1 found none.0)
+scanning-one options (Block at line content ∷ parts) (Block place end another ∷ others) fault other alike (inr none) (inl (second, found_other, is_other)) =
+    absurd (content_or_not options place another content second (alike-turned content another alike.1) found_other none.0)
+scanning-one options (Block at line content ∷ parts) (Block place end another ∷ others) fault other alike (inr none) (inr none_other) =
+    scanning-one options parts others fault other alike.2 none.1 none_other.1
 
 module _ (options : Options) where
   -- the parts of a source are alike, and leave one environment
@@ -113,12 +114,12 @@ module _ (options : Options) where
     end-one : (parts others : List Part) (last end : Environment) (fault other : Option Fault) → ArePartsAlike parts others → last ≡ end
         → IsFaultOfParts options names parts last made fault → IsFaultOfParts options names others end made other → fault ≡ other
     end-one parts others last end fault other alike same (inl is) (inl is_other) =
-        kernels-one options.enc parts others fault other alike is.1 is_other.1
+        scanning-one options parts others fault other alike is.1 is_other.1
     end-one parts others last end fault other alike same (inl is) (inr is_other) =
-        let none : fault ≡ None = kernels-one options.enc parts others fault None alike is.1 is_other.0 in
+        let none : fault ≡ None = scanning-one options parts others fault None alike is.1 is_other.0 in
         absurd (let some = subst (λ (f : Option Fault). IsSome f) none is.0 in cc)
     end-one parts others last end fault other alike same (inr is) (inl is_other) =
-        let none : None ≡ other = kernels-one options.enc parts others None other alike is.0 is_other.1 in
+        let none : None ≡ other = scanning-one options parts others None other alike is.0 is_other.1 in
         absurd (let some = subst (λ (f : Option Fault). IsSome f) (sym none) is_other.0 in cc)
     end-one parts others last end fault other alike same (inr is) (inr is_other) =
         is.2 ∙ ap (λ (e : Environment). directives_fault (config_of e.settings).names made) same ∙ sym is_other.2

@@ -60,7 +60,7 @@ pub parts_text-among : (names : Spellings) (all : List Made) (number : ℕ) (som
     → text_among names all number some ≡ parts_text (output_parts names all number some)
 parts_text-among names all number [] = refl
 parts_text-among names all number (made.Outside text ∷ some) = ap (λ (l : List ℕ). text ++ l) (parts_text-among names all number some)
-parts_text-among names all number (made.Scanners piece checks ∷ some) =
+parts_text-among names all number (made.Scanners piece checks warnings cover ∷ some) =
     ap (λ (l : List ℕ). piece_text piece ++ l) (parts_text-among names all (suc number) some)
 parts_text-among names all number (made.Bare at line directive ∷ some) =
     ap (λ (l : List ℕ). body_piece_text number names (body_of all directive) line ++ l) (parts_text-among names all (suc number) some)
@@ -103,7 +103,7 @@ module _ (names : Spellings) (all : List Made) where
   no_faults : (some : List Made) → fault_among names all some ≡ None → AllByRecursion HasNoFault some
   no_faults [] none = tt
   no_faults (made.Outside text ∷ some) none = (tt, no_faults some none)
-  no_faults (made.Scanners piece checks ∷ some) none = (tt, no_faults some none)
+  no_faults (made.Scanners piece checks warnings cover ∷ some) none = (tt, no_faults some none)
   no_faults (made.Bare at line directive ∷ some) none =
       let both = option_or-none (directive_fault names all at directive) (fault_among names all some) none in
       (both.0, no_faults some both.1)
@@ -226,7 +226,7 @@ module _ (options : Options) (names : Spellings) (all : List Made) (setting : Se
   cut_block : (number first_state next : ℕ) (at : Pos) (line : ℕ) (content : Content) (one : Made) (rest : List OutputPart)
       → IsMadeOf setting number first_state next at line content one → HasPlainActs content → line ≤ 16777217 → HasNoFault names all one
       → IsShort number → begins_piece (47 ∷ parts_text rest) ≡ false → AreCut rest → AreCut (output_part names all number one ∷ rest)
-  cut_block number first_state next at line (Scanners resolved) (made.Scanners piece checks) rest is acts range none short slash cut =
+  cut_block number first_state next at line (Scanners resolved) (made.Scanners piece checks warnings cover) rest is acts range none short slash cut =
       cut_scanners number first_state at line resolved piece checks rest is.0 acts slash cut
   cut_block number first_state next at line (Asks directive) (made.Bare place mark other) rest is acts range none short slash cut =
       cut_bare number (body_then names (body_of all other) (line_then mark [])) rest short
@@ -235,7 +235,7 @@ module _ (options : Options) (names : Spellings) (all : List Made) (setting : Se
   cut_block number first_state next at line (Scanners resolved) (made.Outside text) rest is acts range none short slash cut = absurd is
   cut_block number first_state next at line (Scanners resolved) (made.Bare place mark other) rest is acts range none short slash cut = absurd is
   cut_block number first_state next at line (Asks directive) (made.Outside text) rest is acts range none short slash cut = absurd is
-  cut_block number first_state next at line (Asks directive) (made.Scanners piece checks) rest is acts range none short slash cut = absurd is
+  cut_block number first_state next at line (Asks directive) (made.Scanners piece checks warnings cover) rest is acts range none short slash cut = absurd is
 
   -- it is no outside text, and has a number
   record IsNumbered (number : ℕ) (one : Made) : Type 0 where
@@ -244,7 +244,7 @@ module _ (options : Options) (names : Spellings) (all : List Made) (setting : Se
 
   block_is_numbered : (number first_state next : ℕ) (at : Pos) (line : ℕ) (content : Content) (one : Made)
       → IsMadeOf setting number first_state next at line content one → IsNumbered number one
-  block_is_numbered number first_state next at line content (made.Scanners piece checks) is = record { not_outside = λ rest. refl; behind = refl }
+  block_is_numbered number first_state next at line content (made.Scanners piece checks warnings cover) is = record { not_outside = λ rest. refl; behind = refl }
   block_is_numbered number first_state next at line content (made.Bare place mark other) is = record { not_outside = λ rest. refl; behind = refl }
   block_is_numbered number first_state next at line (Scanners resolved) (made.Outside text) is = absurd is
   block_is_numbered number first_state next at line (Asks directive) (made.Outside text) is = absurd is
@@ -274,7 +274,7 @@ module _ (options : Options) (names : Spellings) (all : List Made) (setting : Se
   cut_from _ _ _ (piece.Block _ _ _ _ _ ∷ _) [] _ _ are given _ _ _ _ _ _ _ = absurd are
   cut_from _ _ _ (piece.Block _ _ _ _ _ ∷ _) (Outside _ ∷ _) _ _ are given _ _ _ _ _ _ _ = absurd are
   cut_from _ _ _ (piece.Outside _ ∷ _) (Outside _ ∷ _) [] _ are given _ _ _ _ _ _ _ = absurd given
-  cut_from _ _ _ (piece.Outside _ ∷ _) (Outside _ ∷ _) (made.Scanners _ _ ∷ _) _ are given _ _ _ _ _ _ _ = absurd given
+  cut_from _ _ _ (piece.Outside _ ∷ _) (Outside _ ∷ _) (made.Scanners _ _ _ _ ∷ _) _ are given _ _ _ _ _ _ _ = absurd given
   cut_from _ _ _ (piece.Outside _ ∷ _) (Outside _ ∷ _) (made.Bare _ _ _ ∷ _) _ are given _ _ _ _ _ _ _ = absurd given
   cut_from environment number first_state (piece.Outside text ∷ pieces) (Outside other ∷ parts) (made.Outside third ∷ some) last are given fine keeps range apart none slash few =
       cut_outside names all number text third pieces some (given.0 ∙ are.0)

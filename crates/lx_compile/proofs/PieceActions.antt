@@ -7,7 +7,8 @@ use Rattle.lx_auto.specs.declared.automaton.Auto.{Auto}
 use Rattle.lx_ccode.specs.Marks.{IsUnmarked, IsUnmarkedLine}
 use Rattle.lx_ccode.specs.declared.piece.Stmt.{Stmt}
 use Rattle.lx_ccode.specs.declared.piece.Stmt.TheVariants.{Peek, Skip, Backup, Restore, Accept, Set, Unset, Copy, MSet, MUnset, MCopy, IfUnit, IfAccept, IfEnd, State, Need, Try, Cond, Tag, Count, End, Back, Goto, Leave, Code, Jump}
-use Rattle.lx_gen.specs.Generated.{Marks, act_ending, act_of, endings_by, sources_of}
+use Rattle.lx_gen.specs.Generated.{Marks, act_ending, endings_by, sources_of}
+use Rattle.lx_rules.specs.Numbered.{numbered_act}
 use Rattle.lx_layout.specs.Endings.{Ending}
 use Rattle.lx_layout.specs.Pieces.{IsActionOf, Source}
 use Rattle.lx_regex.specs.declared.rules.Rule.{Rule}
@@ -31,7 +32,7 @@ module _ (marks : Marks) (plain : IfSome marks ArePlain) where
   found_act (act ∷ acts) zero have = have.0
   found_act (act ∷ acts) (suc place) have = found_act acts place have.1
 
-  act_found : (acts : List Act) (number : ℕ) → ArePlainActs acts → IfSome (act_of acts number) HasPlainAct
+  act_found : (acts : List Act) (number : ℕ) → ArePlainActs acts → IfSome (numbered_act acts number) HasPlainAct
   act_found acts zero have = tt
   act_found acts (suc place) have = found_act acts place have
 
@@ -46,8 +47,8 @@ module _ (marks : Marks) (plain : IfSome marks ArePlain) where
   plain_endings : (acts : List Act) (rules : List Rule) (number : ℕ) → ArePlainActs acts → IsPlainEnding (endings_by marks acts rules number)
   plain_endings acts [] number have = record { acts = tt; line = tt }
   plain_endings acts (rule ∷ rules) number have =
-      either (nat_eq number rule.number) (act_ending marks rule (act_of acts number)) (endings_by marks acts rules number)
-      (plain_ending rule (act_of acts number) (act_found acts number have)) (plain_endings acts rules number have)
+      either (nat_eq number rule.number) (act_ending marks rule (numbered_act acts number)) (endings_by marks acts rules number)
+      (plain_ending rule (numbered_act acts number) (act_found acts number have)) (plain_endings acts rules number have)
 
   abbrev IsPlainSource : Source → Type 0
   IsPlainSource source = (number : ℕ) → IsPlainEnding (source.endings number)

@@ -1,22 +1,28 @@
 -- The automata of a block's scanners, and their checks, one behind another.
-use Rattle.std.proofs.Common.{◌≡◌, ℕ, suc, ◌<◌, ◌+◌, add-one, List, [], ◌∷◌, ◌++◌, length, drop, get_or, inl, inr, sym, ap, subst, append_assoc, append-nil, ◌∙◌}
+use Rattle.std.proofs.Common.{◌≡◌, ℕ, suc, ◌<◌, ◌+◌, add-one, List, [], ◌∷◌, ◌++◌, length, drop, get_or, inl, inr, refl, sym, ap, subst, append_assoc, append-nil, ◌∙◌}
 use Rattle.std.proofs.Math.Seq.{drop-cons}
 use Rattle.std.specs.List.{AllByRecursion}
 use Rattle.lx_auto.specs.Automaton.{IsAuto}
 use Rattle.lx_auto.specs.declared.automaton.Auto.{Auto}
+use Rattle.lx_base.specs.declared.faults.Fault.{Fault}
+use Rattle.lx_base.specs.declared.faults.Fault.TheVariants.{CoverTooLong}
 use Rattle.lx_base.specs.declared.faults.Stop.{Stop}
 use Rattle.lx_base.specs.declared.faults.Stop.TheVariants as stop
 use Rattle.lx_base.specs.declared.places.Pos.{Pos}
 use Rattle.lx_base.specs.declared.settings.Enc.{Enc}
+use Rattle.lx_base.specs.declared.settings.Options.{Options}
 use Rattle.lx_gen.specs.Generated.{AreAutomata, AreAutomataUnder}
 use Rattle.lx_fill.specs.Checks.{AreChecks}
 use Rattle.lx_regex.specs.Order.{greedy}
 use Rattle.lx_rules.specs.Within.{IsScannerWithin}
+use Rattle.lx_rules.specs.declared.resolved.Act.{Act}
 use Rattle.lx_rules.specs.declared.resolved.Scanner.{Scanner}
 use Rattle.lx_tdfa.specs.Making.{StopsBy}
+use Rattle.lx_compile.specs.Covering.{AreCoveredBy, IsCoveredWhere}
 use Rattle.lx_compile.specs.Emittable.{AreAutosOf, AreChecksOf, IsMadeFor}
-use Rattle.lx_compile.specs.Parts.{HasTooLarge, IsTooLarge}
+use Rattle.lx_compile.specs.Options.{asks_for_cover}
 use Rattle.lx_compile.specs.Reduced.{IsReduced}
+use Rattle.lx_compile.specs.ScannerFaults.{AreFaultless, IsFaultOfScanners, IsFaultless, IsScannerFault, IsTooLarge, IsTooLong, StopsWithFault}
 
 -- the element at a place is the first one of those from there on
 pub elements_from : {A : Type 0} (elements : List A) (i : ℕ) (element : A) → i < length elements → element ≡ get_or elements i element
@@ -26,39 +32,65 @@ elements_from {A = A} elements i element lt at =
 
 -- ---- automata
 
--- what holds behind some scanners, which have these automata, where the others are left
-pub record HaveAutos (enc : Enc) (scanners rest : List Scanner) (autos : List Auto) : Type 0 where
-  pub within : AllByRecursion (IsScannerWithin enc) rest
-  pub continues : (more : List Auto) → AreAutosOf enc rest more → AreAutosOf enc scanners (autos ++ more)
-  pub small : (HasTooLarge enc rest → ⊥) → HasTooLarge enc scanners → ⊥
-  pub large : HasTooLarge enc rest → HasTooLarge enc scanners
+module _ (options : Options) (number : ℕ) (at : Pos) (acts : List Act) where
+  -- what holds behind some scanners, which have these automata and this text of covering words, where the others are left
+  pub record HaveAutos (scanners rest : List Scanner) (autos : List Auto) (text : List ℕ) : Type 0 where
+    pub within : AllByRecursion (IsScannerWithin options.enc) rest
+    pub continues : (more : List Auto) → AreAutosOf options.enc rest more → AreAutosOf options.enc scanners (autos ++ more)
+    pub covered : (more : List ℕ) → AreCoveredBy options number acts rest more → AreCoveredBy options number acts scanners (text ++ more)
+    pub faultless : AreFaultless options rest → AreFaultless options scanners
+    pub faults : (fault : Fault) → IsFaultOfScanners options at rest fault → IsFaultOfScanners options at scanners fault
 
-pub HaveAutos-start : (enc : Enc) (scanners : List Scanner) → AllByRecursion (IsScannerWithin enc) scanners → HaveAutos enc scanners scanners []
-HaveAutos-start enc scanners within = record { within = within; continues = λ more are. are; small = λ small. small; large = λ large. large }
+  pub HaveAutos-start : (scanners : List Scanner) → AllByRecursion (IsScannerWithin options.enc) scanners → HaveAutos scanners scanners [] []
+  HaveAutos-start scanners within = record {
+    within = within;
+    continues = λ more are. are;
+    covered = λ more are. are;
+    faultless = λ are. are;
+    faults = λ fault is. is;
+  }
 
-pub HaveAutos-next : (enc : Enc) (scanners : List Scanner) (scanner : Scanner) (rest : List Scanner) (autos : List Auto) (auto : Auto)
-    → HaveAutos enc scanners (scanner ∷ rest) autos → IsMadeFor enc scanner auto → (IsTooLarge enc scanner → ⊥)
-    → HaveAutos enc scanners rest (autos ++ auto ∷ [])
-HaveAutos-next enc scanners scanner rest autos auto have is small = record {
-  within = have.within.1;
-  continues = λ more are. rw append_assoc (have.continues (auto ∷ more) (is, are));
-  small = λ others. have.small (λ large. elim large [
-    | inl here ↦ small here
-    | inr there ↦ others there
-  ]);
-  large = λ large. have.large (inr large);
-}
+  pub HaveAutos-next : (scanners : List Scanner) (scanner : Scanner) (rest : List Scanner) (autos : List Auto) (auto : Auto) (text after own : List ℕ)
+      → HaveAutos scanners (scanner ∷ rest) autos text → IsMadeFor options.enc scanner auto → IsFaultless options scanner
+      → IsCoveredWhere options.enc acts scanner (asks_for_cover options) number own → after ≡ text ++ own
+      → HaveAutos scanners rest (autos ++ auto ∷ []) after
+  HaveAutos-next scanners scanner rest autos auto text after own have is faultless covered text_is = record {
+    within = have.within.1;
+    continues = λ more are. rw append_assoc (have.continues (auto ∷ more) (is, are));
+    covered = λ more are.
+        subst (AreCoveredBy options number acts scanners) (sym (append_assoc text own more) ∙ ap (λ (front : List ℕ). front ++ more) (sym text_is))
+        (have.covered (own ++ more) (own, more, covered, are, refl));
+    faultless = λ others. have.faultless (faultless, others);
+    faults = λ fault found. have.faults fault (inr (faultless, found));
+  }
 
-pub HaveAutos-end : (enc : Enc) (scanners : List Scanner) (autos : List Auto) → HaveAutos enc scanners [] autos
-    → AreAutosOf enc scanners autos × (HasTooLarge enc scanners → ⊥)
-HaveAutos-end enc scanners autos have =
-    (subst (AreAutosOf enc scanners) (append-nil autos) (have.continues [] tt), have.small (λ large. large))
+  pub HaveAutos-end : (scanners : List Scanner) (autos : List Auto) (text : List ℕ) → HaveAutos scanners [] autos text
+      → AreAutosOf options.enc scanners autos × AreFaultless options scanners × AreCoveredBy options number acts scanners text
+  HaveAutos-end scanners autos text have = (
+    subst (AreAutosOf options.enc scanners) (append-nil autos) (have.continues [] tt),
+    have.faultless tt,
+    subst (AreCoveredBy options number acts scanners) (append-nil text) (have.covered [] refl),
+  )
 
--- what stops one of the scanners stops the block
-pub StopsBy-scanner : (enc : Enc) (at : Pos) (scanners : List Scanner) (scanner : Scanner) (rest : List Scanner) (autos : List Auto) (stopped : Stop)
-    → HaveAutos enc scanners (scanner ∷ rest) autos → StopsBy at (IsTooLarge enc scanner) stopped → StopsBy at (HasTooLarge enc scanners) stopped
-StopsBy-scanner enc at scanners scanner rest autos stop.Memory have stops = tt
-StopsBy-scanner enc at scanners scanner rest autos (stop.Fault fault) have stops = (stops.0, have.large (inl stops.1))
+  -- what stops one of the scanners stops the block
+  pub StopsWithFault-scanner : (scanners : List Scanner) (scanner : Scanner) (rest : List Scanner) (autos : List Auto) (text : List ℕ) (stopped : Stop)
+      → HaveAutos scanners (scanner ∷ rest) autos text → StopsWithFault (IsScannerFault options at scanner) stopped
+      → StopsWithFault (IsFaultOfScanners options at scanners) stopped
+  StopsWithFault-scanner scanners scanner rest autos text stop.Memory have stops = tt
+  StopsWithFault-scanner scanners scanner rest autos text (stop.Fault fault) have stops = have.faults fault (inl stops)
+
+-- a scanner with too many kernels stops with that fault
+pub StopsWithFault-kernels : (options : Options) (at : Pos) (scanner : Scanner) (stopped : Stop) → StopsBy at (IsTooLarge options.enc scanner) stopped
+    → StopsWithFault (IsScannerFault options at scanner) stopped
+StopsWithFault-kernels options at scanner stop.Memory stops = tt
+StopsWithFault-kernels options at scanner (stop.Fault fault) stops = inl (stops.1, stops.0)
+
+-- one without stops with that of its covering words
+pub StopsWithFault-cover : (options : Options) (at : Pos) (scanner : Scanner) (stopped : Stop) → (IsTooLarge options.enc scanner → ⊥)
+    → StopsWithFault (λ fault. (sum : ℕ) × IsTooLong options scanner sum × (fault ≡ CoverTooLong at sum)) stopped
+    → StopsWithFault (IsScannerFault options at scanner) stopped
+StopsWithFault-cover options at scanner stop.Memory small stops = tt
+StopsWithFault-cover options at scanner (stop.Fault fault) small stops = inr (small, stops)
 
 pub are_autos : (enc : Enc) (scanners : List Scanner) (autos : List Auto) → AreAutosOf enc scanners autos → AllByRecursion IsAuto autos
 are_autos enc [] [] are = tt

@@ -4,9 +4,7 @@ use Rattle.std.specs.Prelude.{All}
 use Rattle.std.proofs.lemmas.List.Elements.{All-head, All-tail}
 use Rattle.lx_base.specs.declared.blocks.BlockKind.{BlockKind}
 use Rattle.lx_base.specs.declared.faults.Fault.{Fault}
-use Rattle.lx_base.specs.declared.faults.Fault.TheVariants.{TooManyStates}
 use Rattle.lx_base.specs.declared.places.Pos.{Pos}
-use Rattle.lx_base.specs.declared.settings.Enc.{Enc}
 use Rattle.lx_base.specs.declared.settings.Options.{Options}
 use Rattle.lx_files.specs.declared.files.HeldFile.{HeldFile}
 use Rattle.lx_forms.specs.Lexemes.{lexemes_of}
@@ -31,7 +29,8 @@ use Rattle.lx_compile.specs.Directives.{directive_of, strings_of}
 use Rattle.lx_compile.specs.Facts.{directives_fault}
 use Rattle.lx_compile.specs.FirstFault.{AreMadeOf, IsFaultOfBlocks, IsFaultOfPieces, IsFirstFault, setting_of}
 use Rattle.lx_compile.specs.Made.{AreMade}
-use Rattle.lx_compile.specs.Parts.{AreParts, HasTooLargeContent, IsFaultAmong, IsKernelFault}
+use Rattle.lx_compile.specs.Parts.{AreParts, IsFaultAmong, IsScanningFault}
+use Rattle.lx_compile.specs.ScannerFaults.{IsFaultlessContent}
 use Rattle.lx_compile.specs.declared.made.Made.{Made}
 use Rattle.lx_compile.specs.declared.parts.Content.{Content}
 use Rattle.lx_compile.specs.declared.parts.Content.TheVariants.{Asks}
@@ -39,17 +38,18 @@ use Rattle.lx_compile.specs.declared.parts.Directive.TheVariants.{Nothing}
 use Rattle.lx_compile.specs.declared.parts.Part.{Part}
 use Rattle.lx_compile.specs.declared.parts.Part.TheVariants.{Outside, Block}
 use Rattle.lx_compile.proofs.OneBlock.{KindSort, directive-tokens, kind_sort, of_directive, of_nothing, of_rules, rules-tokens}
+use Rattle.lx_compile.proofs.OneScan.{content-faultless}
 
--- ---- kernels
+-- ---- scanners
 
--- a block has too many kernels, or none has
-kernel_fault : (enc : Enc) (parts : List Part) → ((fault : Option Fault) → IsKernelFault enc parts fault → ⊥) → ⊥
-kernel_fault enc [] none = none None refl
-kernel_fault enc (Outside text ∷ parts) none = kernel_fault enc parts none
-kernel_fault enc (Block at line content ∷ parts) none = kernel_fault enc parts (λ fault is. none fault (inr (small, is)))
+-- a scanner has a fault, or none has
+scanning_fault : (options : Options) (parts : List Part) → ((fault : Option Fault) → IsScanningFault options parts fault → ⊥) → ⊥
+scanning_fault options [] none = none None refl
+scanning_fault options (Outside text ∷ parts) none = scanning_fault options parts none
+scanning_fault options (Block at line content ∷ parts) none = scanning_fault options parts (λ fault is. none fault (inr (faultless, is)))
   where
-    small : HasTooLargeContent enc content → ⊥
-    small large = none (Some (TooManyStates at)) (inl (large, refl))
+    faultless : IsFaultlessContent options content
+    faultless = content-faultless options at content (λ fault is. none (Some fault) (inl (fault, is, refl)))
 
 module _ (options : Options) where
   -- ---- blocks
@@ -121,15 +121,15 @@ module _ (options : Options) where
   module _ (names : List (List ℕ)) (made : List Made) where
     -- the blocks of a source have a fault, or none
     blocks_fault : (pieces : List SourcePiece) → All (IsSound (length names)) pieces
-        → ((parts : List Part) (last : Environment) → AreParts options first_environment pieces parts last → IsKernelFault options.enc parts None
+        → ((parts : List Part) (last : Environment) → AreParts options first_environment pieces parts last → IsScanningFault options parts None
         → AreMade (setting_of options names parts) 1 0 parts made)
         → ((fault : Option Fault) → IsFaultOfBlocks options names pieces made fault → ⊥) → ⊥
     blocks_fault pieces sound are_made none = parts_or_fault (length names) first_environment pieces sound before_all
-        (λ parts last are. kernel_fault options.enc parts (λ fault is. behind parts last are fault is))
+        (λ parts last are. scanning_fault options parts (λ fault is. behind parts last are fault is))
         (λ fault among. none (Some fault) (inl among))
       where
         behind : (parts : List Part) (last : Environment) → AreParts options first_environment pieces parts last → (fault : Option Fault)
-            → IsKernelFault options.enc parts fault → ⊥
+            → IsScanningFault options parts fault → ⊥
         behind parts last are (Some fault) is = none (Some fault) (inr (parts, last, are, inl (refl, is)))
         behind parts last are None is = given (directives_fault (config_of last.settings).names made) refl
           where

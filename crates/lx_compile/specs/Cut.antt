@@ -12,7 +12,7 @@ use Rattle.lx_compile.specs.declared.made.Made.TheVariants.{Outside, Scanners, B
 -- the part of an output that this is, where a piece has this number and directives speak of all that is made, by these spellings
 abbrev pub output_part : Spellings → (all : List Made) → (number : ℕ) → Made → OutputPart
 output_part names all number (Outside text) = outside text
-output_part names all number (Scanners piece checks) = scanner piece
+output_part names all number (Scanners piece checks warnings cover) = scanner piece
 output_part names all number (Bare at line directive) = bare number (body_then names (body_of all directive) (line_then line []))
 
 -- the number of the next piece
@@ -38,7 +38,7 @@ is_piece one = true
 
 -- it is the piece of scanners
 abbrev pub is_scanner : Made → Bool
-is_scanner (Scanners piece checks) = true
+is_scanner (Scanners piece checks warnings cover) = true
 is_scanner one = false
 
 -- none of them is

@@ -30,7 +30,7 @@ use Rattle.lx_compile.specs.declared.parts.Directive.TheVariants as directive
 -- the pieces of scanners
 abbrev pub pieces_among : List Made → List Piece
 pieces_among [] = []
-pieces_among (Scanners piece checks ∷ made) = piece ∷ pieces_among made
+pieces_among (Scanners piece checks warnings cover ∷ made) = piece ∷ pieces_among made
 pieces_among (other ∷ made) = pieces_among made
 
 -- the greatest of numbers, or the least one that it may be
@@ -46,7 +46,7 @@ greatest_in least (numbers ∷ lists) = greatest (greatest_in least lists) numbe
 -- the greatest number of units that a check asks for, at least 1
 abbrev pub units_of : List Made → ℕ
 units_of [] = 1
-units_of (Scanners piece checks ∷ made) = greatest_in (units_of made) checks
+units_of (Scanners piece checks warnings cover ∷ made) = greatest_in (units_of made) checks
 units_of (other ∷ made) = units_of made
 
 -- how many groups the statement tells of

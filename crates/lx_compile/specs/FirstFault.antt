@@ -14,7 +14,7 @@ use Rattle.lx_split.specs.declared.expanding.ExpandStop.TheVariants as stop
 use Rattle.lx_split.specs.declared.pieces.SourcePiece.{SourcePiece}
 use Rattle.lx_compile.specs.Facts.{directives_fault}
 use Rattle.lx_compile.specs.Made.{AreMade, Setting}
-use Rattle.lx_compile.specs.Parts.{AreParts, IsFaultAmong, IsKernelFault, switch_themselves}
+use Rattle.lx_compile.specs.Parts.{AreParts, IsFaultAmong, IsScanningFault, switch_themselves}
 use Rattle.lx_compile.specs.declared.made.Made.{Made}
 use Rattle.lx_compile.specs.declared.parts.Part.{Part}
 
@@ -22,11 +22,11 @@ use Rattle.lx_compile.specs.declared.parts.Part.{Part}
 abbrev pub setting_of : Options → (names : List (List ℕ)) → List Part → Setting
 setting_of options names parts = record { options = options; names = names; own_switch = switch_themselves parts }
 
--- behind all blocks, the fault of a scanner with too many kernels; or else all this is made, and has the fault of a directive or none
+-- behind all blocks, the fault of a scanner; or else all this is made, and has the fault of a directive or none
 abbrev pub IsFaultOfParts : Options → (names : List (List ℕ)) → List Part → (last : Environment) → List Made → Option Fault → Type 0
 IsFaultOfParts options names parts last made fault =
-    (IsSome fault × IsKernelFault options.enc parts fault)
-    ⊎ (IsKernelFault options.enc parts None × AreMade (setting_of options names parts) 1 0 parts made
+    (IsSome fault × IsScanningFault options parts fault)
+    ⊎ (IsScanningFault options parts None × AreMade (setting_of options names parts) 1 0 parts made
     × (fault ≡ directives_fault (config_of last.settings).names made))
 
 abbrev pub IsFaultBehind : Options → (names : List (List ℕ)) → List SourcePiece → List Made → Option Fault → Type 0
@@ -46,17 +46,17 @@ IsFaultOfPieces options names (Err first) made fault = fault ≡ Some first
 IsFaultOfPieces options names (Ok pieces) made fault = IsFaultOfBlocks options names pieces made fault
 
 -- The first fault of a source over these files, or none, where this is made of it: its files cannot be cut into pieces, or an include cannot
--- be put in; or a block has a fault, of which the first one in the order of the pieces counts; or a scanner has too many kernels; or a
--- directive has a fault. The last of these may go by how many registers the scanners use, so it is told by what is made.
+-- be put in; or a block has a fault, of which the first one in the order of the pieces counts; or a scanner has too many kernels, or
+-- covering words that are too long; or a directive has a fault. The last of these may go by how many registers the scanners use, so it is told by what is made.
 abbrev pub IsFirstFault : Options → (seen : List HeldFile) → (main : List ℕ) → List Made → Option Fault → Type 0
 IsFirstFault options seen main made fault =
     IsFaultOfPieces options (expansion options seen main).met.names (expansion options seen main).found made fault
 
--- where the source has blocks without a fault, and no scanner with too many kernels, this is made of it
+-- where the source has blocks without a fault, and no scanner has one, this is made of it
 abbrev pub AreMadeOf : Options → (seen : List HeldFile) → (main : List ℕ) → List Made → Type 0
 AreMadeOf options seen main made =
     (pieces : List SourcePiece) (parts : List Part) (last : Environment) → (expansion options seen main).found ≡ Ok pieces
-    → AreParts options first_environment pieces parts last → IsKernelFault options.enc parts None
+    → AreParts options first_environment pieces parts last → IsScanningFault options parts None
     → AreMade (setting_of options (expansion options seen main).met.names parts) 1 0 parts made
 
 -- a call that is to compile pieces stops with their fault, or where memory runs out

@@ -1,4 +1,5 @@
 pub mod Blocks
+pub mod Covering
 pub mod Cut
 pub mod Directives
 pub mod Emittable
@@ -10,4 +11,7 @@ pub mod Options
 pub mod Output
 pub mod Parts
 pub mod Reduced
+pub mod ScannerFaults
+pub mod Telling
+pub mod Warnings
 pub mod Writing

@@ -10,7 +10,9 @@ use Rattle.lx_ccode.specs.declared.piece.Piece.{Piece}
 use Rattle.lx_gen.specs.Generated.{AreAutomataUnder, AreRightUnder, IsGenerated, marks_of}
 use Rattle.lx_regex.specs.Order.{greedy}
 use Rattle.lx_rules.specs.declared.resolved.Resolved.{Resolved}
+use Rattle.lx_compile.specs.Covering.{AreCovered}
 use Rattle.lx_compile.specs.Reduced.{IsReduced}
+use Rattle.lx_compile.specs.Warnings.{AreWarned}
 use Rattle.lx_compile.specs.declared.made.Made.{Made}
 use Rattle.lx_compile.specs.declared.made.Made.TheVariants as made
 use Rattle.lx_compile.specs.declared.parts.Content.{Content}
@@ -39,10 +41,12 @@ pub record IsScannerPiece (setting : Setting) (number first_state : ℕ) (line :
   pub right : AreRightUnder greedy setting.options (marks_of line setting.names) resolved piece
 
 -- This is made of what a block gives, whose opener stands at a place and whose end in a line, where the piece has this number and its states are
--- numbered from a first one on; behind it they are from `next` on.
+-- numbered from a first one on; behind it they are from `next` on. With a piece of scanners stand their warnings, and the text of their
+-- covering words.
 abbrev pub IsMadeOf : Setting → (number first_state next : ℕ) → Pos → (line : ℕ) → Content → Made → Type 0
-IsMadeOf setting number first_state next at line (Scanners resolved) (made.Scanners piece checks) =
-    IsScannerPiece setting number first_state (line_mark setting at line) resolved piece checks × (next ≡ first_state + state_count piece.blocks)
+IsMadeOf setting number first_state next at line (Scanners resolved) (made.Scanners piece checks warnings cover) =
+    IsScannerPiece setting number first_state (line_mark setting at line) resolved piece checks × AreWarned setting.options at resolved warnings × AreCovered setting.options number resolved cover
+    × (next ≡ first_state + state_count piece.blocks)
 IsMadeOf setting number first_state next at line (Asks directive) (made.Bare place mark other) =
     (place ≡ at) × (mark ≡ line_mark setting at line) × (other ≡ directive) × (next ≡ first_state)
 IsMadeOf setting number first_state next at line content one = ⊥

@@ -1,14 +1,16 @@
 -- What the output of a source is.
-use Rattle.std.specs.Prelude.{◌≡◌, ℕ, List, None, Ok}
+use Rattle.std.specs.Prelude.{◌≡◌, ℕ, List, None, Ok, if◌then◌else◌}
 use Rattle.lx_base.specs.declared.settings.Options.{Options}
 use Rattle.lx_base.specs.Names.{Spellings}
 use Rattle.lx_files.specs.declared.files.HeldFile.{HeldFile}
 use Rattle.lx_rules.specs.Environments.{Environment, config_of, first_environment}
 use Rattle.lx_split.specs.Includes.{expansion}
 use Rattle.lx_split.specs.declared.pieces.SourcePiece.{SourcePiece}
+use Rattle.lx_compile.specs.Covering.{cover_of}
 use Rattle.lx_compile.specs.Facts.{directives_fault}
 use Rattle.lx_compile.specs.FirstFault.{setting_of}
 use Rattle.lx_compile.specs.Made.{AreMade}
+use Rattle.lx_compile.specs.Options.{asks_for_cover}
 use Rattle.lx_compile.specs.Parts.{AreParts}
 use Rattle.lx_compile.specs.Writing.{output_text}
 use Rattle.lx_compile.specs.declared.made.Made.{Made}
@@ -36,3 +38,15 @@ pub record IsOutput (options : Options) (seen : List HeldFile) (main : List ℕ)
 abbrev pub last_names : {options : Options} {seen : List HeldFile} {main : List ℕ} {made : List Made} {output : List ℕ}
     → IsOutput options seen main made output → Spellings
 last_names output = (config_of output.is.last.settings).names
+
+-- what a compilation gives where this is made and this is the output: the output; or, where covering words are asked for, their text in its place
+abbrev pub given_text : Options → List Made → (output : List ℕ) → List ℕ
+given_text options made output = if asks_for_cover options then cover_of made else output
+
+-- what is given of pieces
+abbrev pub IsGivenOf : Options → (names : List (List ℕ)) → List SourcePiece → List Made → (text : List ℕ) → Type 0
+IsGivenOf options names pieces made text = (output : List ℕ) × IsOutputOf options names pieces made output × (text ≡ given_text options made output)
+
+-- what is given of a source
+abbrev pub IsGiven : Options → (seen : List HeldFile) → (main : List ℕ) → List Made → (text : List ℕ) → Type 0
+IsGiven options seen main made text = (output : List ℕ) × IsOutput options seen main made output × (text ≡ given_text options made output)

@@ -2,20 +2,16 @@
 use Rattle.std.specs.Prelude.{◌≡◌, ◌⊎◌, Bool, true, false, not, List, [], ◌∷◌, Option, Some, None}
 use Rattle.std.specs.List.{list_any}
 use Rattle.lx_base.specs.declared.faults.Fault.{Fault}
-use Rattle.lx_base.specs.declared.faults.Fault.TheVariants.{TooManyStates}
 use Rattle.lx_base.specs.declared.faults.Stop.{Stop}
 use Rattle.lx_base.specs.declared.faults.Stop.TheVariants as stop
-use Rattle.lx_base.specs.declared.settings.Enc.{Enc}
 use Rattle.lx_base.specs.declared.settings.Options.{Options}
-use Rattle.lx_regex.specs.Kernel.{HasTooManyKernels}
-use Rattle.lx_regex.specs.Pattern.{patterns_of, terms_of}
 use Rattle.lx_rules.specs.Environments.{Environment}
-use Rattle.lx_rules.specs.declared.resolved.Scanner.{Scanner}
 use Rattle.lx_split.specs.declared.pieces.SourcePiece.{SourcePiece}
 use Rattle.lx_split.specs.declared.pieces.SourcePiece.TheVariants as piece
 use Rattle.lx_compile.specs.Blocks.{IsBlock, IsFaultOf}
+use Rattle.lx_compile.specs.ScannerFaults.{IsFaultOfContent, IsFaultlessContent}
 use Rattle.lx_compile.specs.declared.parts.Content.{Content}
-use Rattle.lx_compile.specs.declared.parts.Content.TheVariants.{Asks, Scanners}
+use Rattle.lx_compile.specs.declared.parts.Content.TheVariants.{Asks}
 use Rattle.lx_compile.specs.declared.parts.Directive.TheVariants.{GetState}
 use Rattle.lx_compile.specs.declared.parts.Part.{Part}
 use Rattle.lx_compile.specs.declared.parts.Part.TheVariants.{Outside, Block}
@@ -53,29 +49,15 @@ asks_for_states part = false
 abbrev pub switch_themselves : List Part → Bool
 switch_themselves parts = not (list_any asks_for_states parts)
 
--- the scanner has too many kernels in the encoding
-abbrev pub IsTooLarge : Enc → Scanner → Type 0
-IsTooLarge enc scanner = HasTooManyKernels enc (terms_of (patterns_of scanner.set.rules))
-
--- one of the scanners has
-abbrev pub HasTooLarge : Enc → List Scanner → Type 0
-HasTooLarge enc [] = ⊥
-HasTooLarge enc (scanner ∷ scanners) = IsTooLarge enc scanner ⊎ HasTooLarge enc scanners
-
--- so has one of those that a block gives
-abbrev pub HasTooLargeContent : Enc → Content → Type 0
-HasTooLargeContent enc (Scanners resolved) = HasTooLarge enc resolved.scanners
-HasTooLargeContent enc (Asks directive) = ⊥
-
--- the fault of the first block that has such a scanner, or none
-abbrev pub IsKernelFault : Enc → List Part → Option Fault → Type 0
-IsKernelFault enc [] fault = fault ≡ None
-IsKernelFault enc (Outside text ∷ parts) fault = IsKernelFault enc parts fault
-IsKernelFault enc (Block at line content ∷ parts) fault =
-    (HasTooLargeContent enc content × (fault ≡ Some (TooManyStates at)))
-    ⊎ ((HasTooLargeContent enc content → ⊥) × IsKernelFault enc parts fault)
+-- the fault of the first block with a scanner that has one, or none
+abbrev pub IsScanningFault : Options → List Part → Option Fault → Type 0
+IsScanningFault options [] fault = fault ≡ None
+IsScanningFault options (Outside text ∷ parts) fault = IsScanningFault options parts fault
+IsScanningFault options (Block at line content ∷ parts) fault =
+    ((found : Fault) × IsFaultOfContent options at content found × (fault ≡ Some found))
+    ⊎ (IsFaultlessContent options content × IsScanningFault options parts fault)
 
 -- a call that is to make the scanners stops with that fault, or where memory runs out
-abbrev pub StopsByKernels : Enc → List Part → Stop → Type 0
-StopsByKernels enc parts stop.Memory = Unit {0}
-StopsByKernels enc parts (stop.Fault fault) = IsKernelFault enc parts (Some fault)
+abbrev pub StopsByScanners : Options → List Part → Stop → Type 0
+StopsByScanners options parts stop.Memory = Unit {0}
+StopsByScanners options parts (stop.Fault fault) = IsScanningFault options parts (Some fault)

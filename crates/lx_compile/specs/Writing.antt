@@ -16,7 +16,7 @@ use Rattle.lx_compile.specs.declared.made.Made.TheVariants.{Outside, Scanners, B
 abbrev pub text_among : Spellings → (all : List Made) → (number : ℕ) → List Made → List ℕ
 text_among names all number [] = []
 text_among names all number (Outside text ∷ made) = text ++ text_among names all number made
-text_among names all number (Scanners piece checks ∷ made) = piece_text piece ++ text_among names all (suc number) made
+text_among names all number (Scanners piece checks warnings cover ∷ made) = piece_text piece ++ text_among names all (suc number) made
 text_among names all number (Bare at line directive ∷ made) =
     body_piece_text number names (body_of all directive) line ++ text_among names all (suc number) made
 
@@ -26,7 +26,7 @@ output_text names made = text_among names made 1 made
 
 -- a piece of scanners is valid
 abbrev pub IsPrintable : Made → Type 0
-IsPrintable (Scanners piece checks) = IsValid piece
+IsPrintable (Scanners piece checks warnings cover) = IsValid piece
 IsPrintable one = Unit {0}
 
 -- a call that may find this fault stops with it, or where memory runs out

@@ -1,5 +1,5 @@
 //! The compilation of one source.
-ghost use Rattle.std.specs.Prelude.{◌≡◌, ◌<◌, ◌≤◌, ℕ, List, [], All, IfErr, MatchResult, length, None, Ok};
+ghost use Rattle.std.specs.Prelude.{◌≡◌, ◌<◌, ◌≤◌, ℕ, List, [], All, IfErr, IfOk, MatchResult, length, None, Ok};
 ghost use Rattle.lx_base.specs.declared.faults.Stop.{Stop};
 ghost use Rattle.lx_files.specs.Counts.{Rose};
 ghost use Rattle.lx_files.specs.Held.{Sees};
@@ -8,29 +8,59 @@ ghost use Rattle.lx_split.specs.Includes.{expansion};
 ghost use Rattle.lx_compile.specs.Emittable.{IsNearPiece};
 ghost use Rattle.lx_compile.specs.FirstFault.{IsFaultOfBlocks, IsFirstFault, StopsBehind, StopsWith};
 ghost use Rattle.lx_compile.specs.Options.{IsGreedy};
-ghost use Rattle.lx_compile.specs.Output.{IsOutput, IsOutputOf};
-ghost use Rattle.lx_compile.specs.declared.made.Made.{Made};
+ghost use Rattle.lx_compile.specs.Output.{IsGiven, IsGivenOf, given_text};
+ghost use Rattle.lx_compile.specs.Warnings.{told_warnings};
+ghost use Rattle.lx_compile.specs.declared.made.Made.{Made as made_type};
 
+use crate::covered::{asks_for_cover, cover_of};
+use crate::made::Made;
 use crate::making::{Frame, make};
 use crate::walk::{Resolution, resolve_blocks, switch_themselves};
+use crate::warned::{PlacedWarning, told_warnings};
 use crate::writing::write;
-use lx_base::{FileNames, Options, Stop};
+use lx_base::{FileNames, Memory, Options, Sequence, Stop};
 use lx_files::Files;
 use lx_split::{ExpandStop, Pieces, expand};
 use std::alloc::Global;
 
-/// The output of the pieces of a source, where files of these names were met.
+/// What a compilation gives.
+#[derive(Drop)]
+pub struct Compiled {
+    /// The output, or the text of the covering words where they are asked for.
+    pub output: Vec<u8>,
+    /// The warnings, in the order of the pieces; none where they are not asked for.
+    pub warnings: Sequence<PlacedWarning>,
+}
+
+/// What is given where this is made and this is the output: the output; or, where covering words are asked for, their text in its place.
+fn given_text(
+    alloc: Global,
+    options: &Options,
+    made: &[Made],
+    output: Vec<u8>,
+) -> Result<Vec<u8>, Memory>
+    ensures { IfOk result (λ text. text.items ≡ given_text options.now made.now output.items) }
+{
+    if asks_for_cover(options) {
+        cover_of(alloc, made)
+    } else {
+        Ok(output)
+    }
+}
+
+/// What is given of the pieces of a source, and its warnings, where files of these names were met.
 fn output_of(
     alloc: Global,
     pieces: Pieces,
     names: &FileNames,
     options: &Options,
-) -> Result<Vec<u8>, Stop>
+) -> Result<Compiled, Stop>
     requires greedy { IsGreedy options.now }
     requires near { All IsNearPiece pieces }
     requires few { length pieces < 4294967295 }
     ensures { MatchResult result
-        (λ output. (made : List Made) × IsFaultOfBlocks options.now names.now pieces made None × IsOutputOf options.now names.now pieces made output.items)
+        (λ compiled. (made : List made_type) × IsFaultOfBlocks options.now names.now pieces made None × IsGivenOf options.now names.now pieces made compiled.output.items
+        × (compiled.warnings ≡ told_warnings options.now made))
         (StopsBehind options.now names.now pieces) }
 {
     let resolution = resolve_blocks(alloc, pieces, options)?;
@@ -41,11 +71,16 @@ fn output_of(
         own_switch,
     };
     let made = make(alloc, &frame, resolution.parts)?;
-    write(alloc, &resolution.names, made.as_slice())
+    let whole = write(alloc, &resolution.names, made.as_slice())?;
+    let output = given_text(alloc, options, made.as_slice(), whole)?;
+    let warnings = told_warnings(alloc, options, made)?;
+    Ok(Compiled { output, warnings })
 }
 
 /// The output of a source: the text outside of its blocks and of the files that it includes, unchanged, with one emitted piece in the place of
-/// each block.
+/// each block. With it come the warnings of its scanners, where they are asked for. Where covering words are asked for, the text that tells
+/// them is given in the output's place: for each scanner in order a line `scanner N`, N the number of its piece, with ` NAME` for a condition,
+/// and a line for each of its covering words, with the match of that.
 ///
 /// The source is the file `main`, which is the first of the file names; those of included files follow in the order in which they are met.
 /// It refuses with the first fault of the source, whose place is one of a file that was met. `ReadFailed` says that a read failed, and the
@@ -57,12 +92,12 @@ pub fn compile<F: Files>(
     names: &mut FileNames,
     options: &Options,
     main: &str,
-) -> Result<Vec<u8>, ExpandStop>
+) -> Result<Compiled, ExpandStop>
     requires greedy { IsGreedy options.now }
     requires new { names.old ≡ [] }
     ensures compiles { (seen : List HeldFile) × Sees (F.held files.old) seen × MatchResult result
-        (λ output. (made : List Made) × IsFirstFault options.now seen main.now made None × IsOutput options.now seen main.now made output.items
-        × (names.new ≡ (expansion options.now seen main.now).met.names))
+        (λ compiled. (made : List made_type) × IsFirstFault options.now seen main.now made None × IsGiven options.now seen main.now made compiled.output.items
+        × (compiled.warnings ≡ told_warnings options.now made) × (names.new ≡ (expansion options.now seen main.now).met.names))
         (StopsWith options.now seen main.now (Rose (F.faults files.old) (F.faults files.new)) names.new) }
     ensures never_falls { F.faults files.old ≤ F.faults files.new }
     ensures held_stays { F.held files.new ≡ F.held files.old }

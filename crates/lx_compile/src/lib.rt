@@ -4,6 +4,8 @@
 mod blocks;
 mod bodies;
 mod compiling;
+mod cover_lines;
+mod covered;
 mod directives;
 mod facts;
 pub mod laws;
@@ -12,8 +14,12 @@ mod making;
 mod parts;
 mod reduction;
 mod walk;
+mod warned;
+mod warning_lines;
 mod writing;
 
-pub use compiling::compile;
+pub use compiling::{Compiled, compile};
 pub use made::Made;
 pub use parts::{Content, Directive, Part};
+pub use warned::{PlacedWarning, tells_warnings};
+pub use warning_lines::warning_line;

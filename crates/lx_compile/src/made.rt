@@ -1,5 +1,6 @@
 //! What is made of the parts of a source, before the text of any directive.
 use crate::parts::Directive;
+use crate::warned::PlacedWarning;
 use lx_base::{ByteText, Pos, Sequence};
 use lx_ccode::{LineMark, Piece};
 use lx_fill::CheckList;
@@ -14,6 +15,10 @@ pub enum Made {
         piece: Piece,
         /// The checks of the automaton of each scanner.
         checks: Sequence<CheckList>,
+        /// What the scanners are warned of, one scanner behind another; none where warnings are not asked for.
+        warnings: Sequence<PlacedWarning>,
+        /// The text that tells the covering words of the scanners; empty where they are not asked for.
+        cover: ByteText,
     },
     /// A block without scanners.
     Bare {

@@ -1,22 +1,28 @@
 //! The pieces of the scanners of a source.
-ghost use Rattle.std.specs.Prelude.{◌≡◌, ◌<◌, ◌≤◌, ◌+◌, ℕ, List, [], All, IfOk, IfSome, IsSome, MatchResult, OnOk, length, None, slice_index_or};
+ghost use Rattle.std.specs.Prelude.{◌≡◌, ◌++◌, ◌<◌, ◌≤◌, ◌+◌, ℕ, List, [], All, IfOk, IfSome, IsSome, MatchResult, OnOk, length, None, slice_index_or};
 ghost use Rattle.std.specs.List.{AllByRecursion};
 ghost use Rattle.lx_auto.specs.Automaton.{IsAuto};
 ghost use Rattle.lx_base.specs.declared.limits.TheConstants.{SOURCE_LIMIT};
 ghost use Rattle.lx_ccode.specs.Counts.{state_count};
 ghost use Rattle.lx_ccode.specs.Validity.{IsLine};
+ghost use Rattle.lx_rules.specs.FitScanners.{IsFit};
 ghost use Rattle.lx_rules.specs.Within.{IsScannerWithin};
-ghost use Rattle.lx_tdfa.specs.Making.{StopsBy};
+ghost use Rattle.lx_compile.specs.Covering.{AreCovered, AreCoveredBy, IsCoveredWhere};
 ghost use Rattle.lx_compile.specs.Emittable.{AreAutosOf, AreChecksOf, CanBeMade, HasMakeable, IsMadeFor, IsMakeable};
 ghost use Rattle.lx_compile.specs.Made.{AreMade, IsMadeOf, IsScannerPiece, line_mark};
 ghost use Rattle.lx_compile.specs.Making.{seen_frame};
-ghost use Rattle.lx_compile.specs.Parts.{HasTooLarge, HasTooLargeContent, IsKernelFault, IsTooLarge, StopsByKernels};
+ghost use Rattle.lx_compile.specs.Options.{asks_for_cover};
+ghost use Rattle.lx_compile.specs.Warnings.{AreWarned};
+ghost use Rattle.lx_compile.specs.Parts.{IsScanningFault, StopsByScanners};
+ghost use Rattle.lx_compile.specs.ScannerFaults.{AreFaultless, IsFaultOfContent, IsFaultOfScanners, IsFaultless, IsFaultlessContent, IsScannerFault, StopsWithFault};
 
+use crate::covered::{BlockFrame, append_cover};
 use crate::made::Made;
 use crate::parts::{Content, Part};
 use crate::reduction::reduced;
+use crate::warned::{PlacedWarning, block_warnings};
 use lx_auto::Auto;
-use lx_base::{ByteText, Enc, FileNames, Memory, Options, Pos, Sequence, Stop};
+use lx_base::{ByteText, FileNames, Memory, Options, Pos, Sequence, Stop};
 use lx_ccode::{LineMark, Piece};
 use lx_fill::{CheckList, checks};
 use lx_gen::generate;
@@ -46,7 +52,7 @@ struct Numbers {
 }
 
 /// The name of a file by its place, empty past the list.
-fn file_of(alloc: Global, names: &FileNames, file: u32) -> Result<ByteText, Memory>
+pub(crate) fn file_of(alloc: Global, names: &FileNames, file: u32) -> Result<ByteText, Memory>
     ensures { IfOk result (λ name. name ≡ slice_index_or names.now file []) }
 {
     match names.get(file) {
@@ -72,36 +78,56 @@ fn line_mark(
     Ok(Some(LineMark { line, file }))
 }
 
-/// The automaton of a scanner whose block opens at `at`, with few states, registers and operations, or the fault of too many kernels.
-fn automaton_of(alloc: Global, enc: Enc, at: Pos, scanner: &Scanner) -> Result<Auto, Stop>
-    requires { IsScannerWithin enc scanner.now }
+/// The automaton of a scanner, with few states, registers and operations; or the scanner's fault. The text of its covering words is appended,
+/// where they are asked for.
+fn automaton_of(
+    alloc: Global,
+    frame: &BlockFrame<'_>,
+    scanner: &Scanner,
+    cover: &mut Vec<u8>,
+) -> Result<Auto, Stop>
+    requires fit { IsFit (length frame.now.acts.now) scanner.now }
+    requires within { IsScannerWithin frame.now.options.now.enc scanner.now }
     ensures { MatchResult result
-        (λ auto. IsMadeFor enc scanner.now auto × ¬ IsTooLarge enc scanner.now)
-        (StopsBy at (IsTooLarge enc scanner.now)) }
+        (λ auto. IsMadeFor frame.now.options.now.enc scanner.now auto × IsFaultless frame.now.options.now scanner.now
+        × ((own : List ℕ) × IsCoveredWhere frame.now.options.now.enc frame.now.acts.now scanner.now (asks_for_cover frame.now.options.now) frame.now.number own
+        × (cover.new.items ≡ cover.old.items ++ own)))
+        (StopsWithFault (IsScannerFault frame.now.options.now frame.now.at scanner.now)) }
 {
-    let automaton = Tnfa::of(alloc, &scanner.set, enc)?;
-    let found = determinize(alloc, &automaton, at)?;
+    let automaton = Tnfa::of(alloc, &scanner.set, frame.options.enc)?;
+    let found = determinize(alloc, &automaton, frame.at)?;
     let few = reduced(alloc, found)?;
+    append_cover(alloc, frame, scanner, &automaton, &few, cover)?;
     Ok(few)
 }
 
-/// The automata of scanners whose block opens at `at`, or the fault of too many kernels.
+/// What the scanners of a block give.
+#[derive(Drop)]
+struct Automata {
+    autos: Sequence<Auto>,
+    /// The text of their covering words.
+    cover: Vec<u8>,
+}
+
+/// The automata of scanners, with the text of their covering words, where they are asked for; or the fault of the first scanner that has one.
 fn automata_of(
     alloc: Global,
-    enc: Enc,
-    at: Pos,
+    frame: &BlockFrame<'_>,
     scanners: &[Scanner],
-) -> Result<Sequence<Auto>, Stop>
-    requires { AllByRecursion (IsScannerWithin enc) scanners.now }
+) -> Result<Automata, Stop>
+    requires fit { All (IsFit (length frame.now.acts.now)) scanners.now }
+    requires within { AllByRecursion (IsScannerWithin frame.now.options.now.enc) scanners.now }
     ensures { MatchResult result
-        (λ autos. AreAutosOf enc scanners.now autos × ¬ HasTooLarge enc scanners.now)
-        (StopsBy at (HasTooLarge enc scanners.now)) }
+        (λ answer. AreAutosOf frame.now.options.now.enc scanners.now answer.autos × AreFaultless frame.now.options.now scanners.now
+        × AreCoveredBy frame.now.options.now frame.now.number frame.now.acts.now scanners.now answer.cover.items)
+        (StopsWithFault (IsFaultOfScanners frame.now.options.now frame.now.at scanners.now)) }
 {
     let mut autos = Sequence::new(alloc);
+    let mut cover = Vec::new(alloc);
     for scanner in scanners {
-        autos.push(automaton_of(alloc, enc, at, scanner)?)?;
+        autos.push(automaton_of(alloc, frame, scanner, &mut cover)?)?;
     }
-    Ok(autos)
+    Ok(Automata { autos, cover })
 }
 
 /// The checks of automata.
@@ -116,7 +142,16 @@ fn checks_of(alloc: Global, autos: &[Auto]) -> Result<Sequence<CheckList>, Memor
     Ok(lists)
 }
 
-/// The piece of a block's scanners, whose opener stands at `at`, and the checks of its automata.
+/// What is made of a block's scanners.
+#[derive(Drop)]
+struct Scanned {
+    piece: Piece,
+    checks: Sequence<CheckList>,
+    warnings: Sequence<PlacedWarning>,
+    cover: ByteText,
+}
+
+/// The piece of a block's scanners, whose opener stands at `at`, the checks of its automata, the warnings, and the text of the covering words.
 ///
 /// A number over 2^62 counts as want of memory.
 fn scanner_piece(
@@ -126,16 +161,24 @@ fn scanner_piece(
     at: Pos,
     line: Option<LineMark>,
     resolved: &Resolved,
-) -> Result<(Piece, Sequence<CheckList>), Stop>
+) -> Result<Scanned, Stop>
     requires makeable { CanBeMade frame.now.options.now resolved.now }
     requires line { IsLine line }
     ensures { MatchResult result
-        (λ answer. IsScannerPiece (seen_frame frame.now) numbers.piece numbers.state line resolved.now answer.0 answer.1
-        × ¬ HasTooLarge frame.now.options.now.enc resolved.now.scanners)
-        (StopsBy at (HasTooLarge frame.now.options.now.enc resolved.now.scanners)) }
+        (λ answer. IsScannerPiece (seen_frame frame.now) numbers.piece numbers.state line resolved.now answer.piece answer.checks
+        × AreWarned frame.now.options.now at resolved.now answer.warnings
+        × AreCovered frame.now.options.now numbers.piece resolved.now answer.cover
+        × AreFaultless frame.now.options.now resolved.now.scanners)
+        (StopsWithFault (IsFaultOfScanners frame.now.options.now at resolved.now.scanners)) }
 {
     let options = frame.options;
-    let autos = automata_of(alloc, options.enc, at, resolved.scanners.as_slice())?;
+    let block = BlockFrame {
+        options,
+        number: numbers.piece,
+        at,
+        acts: resolved.acts.as_slice(),
+    };
+    let Automata { autos, cover } = automata_of(alloc, &block, resolved.scanners.as_slice())?;
     let checks = checks_of(alloc, autos.as_slice())?;
     if numbers.state > STATE_LIMIT {
         return Err(Stop::Memory);
@@ -152,7 +195,13 @@ fn scanner_piece(
         frame.own_switch,
         line,
     )?;
-    Ok((piece, checks))
+    let warnings = block_warnings(alloc, options, at, resolved, autos.as_slice())?;
+    Ok(Scanned {
+        piece,
+        checks,
+        warnings,
+        cover: ByteText::from_vec(cover),
+    })
 }
 
 /// The number behind those of the states that a piece stores, if the first one has this number.
@@ -178,8 +227,8 @@ fn make_block(
     requires { HasMakeable frame.now.options.now content }
     ensures { MatchResult result
         (λ answer. IsMadeOf (seen_frame frame.now) numbers.piece numbers.state answer.1 at line content answer.0
-        × ¬ HasTooLargeContent frame.now.options.now.enc content)
-        (StopsBy at (HasTooLargeContent frame.now.options.now.enc content)) }
+        × IsFaultlessContent frame.now.options.now content)
+        (StopsWithFault (IsFaultOfContent frame.now.options.now at content)) }
 {
     let line = line_mark(alloc, frame, at, line)?;
     match content {
@@ -192,17 +241,29 @@ fn make_block(
             Ok((made, numbers.state))
         }
         Content::Scanners(resolved) => {
-            let (piece, checks) = scanner_piece(alloc, frame, numbers, at, line, &resolved)?;
+            let Scanned {
+                piece,
+                checks,
+                warnings,
+                cover,
+            } = scanner_piece(alloc, frame, numbers, at, line, &resolved)?;
             let next = next_state(numbers.state, &piece)?;
-            Ok((Made::Scanners { piece, checks }, next))
+            let made = Made::Scanners {
+                piece,
+                checks,
+                warnings,
+                cover,
+            };
+            Ok((made, next))
         }
     }
 }
 
 /// What is made of the parts of a source. Pieces are numbered from 1, and the states that they store from 0.
 ///
-/// It refuses the first block with a scanner that has too many kernels, with `TooManyStates` at its opener; `Memory` may be
-/// answered, also for a piece that would have more than 2^62 statements; no clause ties it to a cause.
+/// It refuses the first scanner that has too many kernels, with `TooManyStates` at its block's opener, or whose covering words are asked for
+/// and too long, with `CoverTooLong` there; `Memory` may be answered, also for a piece that would have more than 2^62 statements; no clause ties
+/// it to a cause.
 pub(crate) fn make(
     alloc: Global,
     frame: &Frame<'_>,
@@ -211,8 +272,8 @@ pub(crate) fn make(
     requires makeable { All (IsMakeable frame.now.options.now) parts }
     requires few { length parts < 4294967295 }
     ensures { MatchResult result
-        (λ made. AreMade (seen_frame frame.now) 1 0 parts made × IsKernelFault frame.now.options.now.enc parts None × (length made ≡ length parts))
-        (StopsByKernels frame.now.options.now.enc parts) }
+        (λ made. AreMade (seen_frame frame.now) 1 0 parts made × IsScanningFault frame.now.options.now parts None × (length made ≡ length parts))
+        (StopsByScanners frame.now.options.now parts) }
 {
     let mut all = Sequence::new(alloc);
     let mut numbers = Numbers { piece: 1, state: 0 };

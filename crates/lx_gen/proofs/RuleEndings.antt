@@ -8,7 +8,8 @@ use Rattle.lx_rules.specs.declared.resolved.Act.{Act}
 use Rattle.lx_layout.specs.Endings.{Ending}
 use Rattle.lx_layout.specs.RuleEnds.{ending_of, endings_of}
 use Rattle.lx_layout.specs.declared.rule_ends.RuleEnd.{RuleEnd}
-use Rattle.lx_gen.specs.Generated.{Marks, act_ending, act_of, endings_by}
+use Rattle.lx_gen.specs.Generated.{Marks, act_ending, endings_by}
+use Rattle.lx_rules.specs.Numbered.{numbered_act}
 use Rattle.lx_gen.specs.Seen.{HaveShortLines}
 
 -- the ending of the first rule with a number, and behind these what the rest says
@@ -17,20 +18,20 @@ endings_over [] rest number = rest number
 endings_over (end ∷ ends) rest number = if nat_eq number end.rule.now.number then ending_of end else endings_over ends rest number
 
 one_more : (marks : Marks) (acts : List Act) (end : RuleEnd) (rule : Rule) (act : Act) (rest : ℕ → Ending) (number : ℕ)
-    → end.rule.now ≡ rule → ending_of end ≡ act_ending marks rule (Some act) → act_of acts rule.number ≡ Some act
+    → end.rule.now ≡ rule → ending_of end ≡ act_ending marks rule (Some act) → numbered_act acts rule.number ≡ Some act
     → (if nat_eq number end.rule.now.number then ending_of end else rest number)
-    ≡ (if nat_eq number rule.number then act_ending marks rule (act_of acts number) else rest number)
+    ≡ (if nat_eq number rule.number then act_ending marks rule (numbered_act acts number) else rest number)
 one_more marks acts end rule act rest number same ending own =
     ap (λ (one : Rule). if nat_eq number one.number then ending_of end else rest number) same ∙ by (nat_eq number rule.number) refl
   where
     by : (t : Bool) → nat_eq number rule.number ≡ t
-        → (if t then ending_of end else rest number) ≡ (if t then act_ending marks rule (act_of acts number) else rest number)
-    by true is = ending ∙ ap (λ o. act_ending marks rule o) (sym own ∙ ap (λ n. act_of acts n) (sym (eqb-true number rule.number is)))
+        → (if t then ending_of end else rest number) ≡ (if t then act_ending marks rule (numbered_act acts number) else rest number)
+    by true is = ending ∙ ap (λ o. act_ending marks rule o) (sym own ∙ ap (λ n. numbered_act acts n) (sym (eqb-true number rule.number is)))
     by false is = refl
 
 -- with one end more behind the others
 pub endings_over-more : (marks : Marks) (acts : List Act) (ends : List RuleEnd) (end : RuleEnd) (rule : Rule) (act : Act) (rules : List Rule) (number : ℕ)
-    → end.rule.now ≡ rule → ending_of end ≡ act_ending marks rule (Some act) → act_of acts rule.number ≡ Some act
+    → end.rule.now ≡ rule → ending_of end ≡ act_ending marks rule (Some act) → numbered_act acts rule.number ≡ Some act
     → endings_over (ends ++ end ∷ []) (endings_by marks acts rules) number ≡ endings_over ends (endings_by marks acts (rule ∷ rules)) number
 endings_over-more marks acts [] end rule act rules number same ending own =
     one_more marks acts end rule act (endings_by marks acts rules) number same ending own
@@ -53,9 +54,9 @@ endings_over-all marks acts ends rules left none same =
     ∙ ap (λ (list : List Rule). endings_over ends (endings_by marks acts list) number) (sym none) ∙ same number)
 
 -- a rule with a number of an act has one
-pub act_of-some : (acts : List Act) (number : ℕ) → 0 < number → number ≤ length acts → act_of acts number ≡ None → ⊥
-act_of-some acts zero some few none = omega arith
-act_of-some acts (suc place) some few none = within acts place (omega arith) none
+pub numbered_act-some : (acts : List Act) (number : ℕ) → 0 < number → number ≤ length acts → numbered_act acts number ≡ None → ⊥
+numbered_act-some acts zero some few none = omega arith
+numbered_act-some acts (suc place) some few none = within acts place (omega arith) none
   where
     within : (acts : List Act) (place : ℕ) → place < length acts → slice_get acts place ≡ None → ⊥
     within [] place lt e = omega (arith, lt)

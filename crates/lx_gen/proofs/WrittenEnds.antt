@@ -25,7 +25,8 @@ use Rattle.lx_layout.specs.Pieces.{FitsAccept}
 use Rattle.lx_layout.specs.Rules.{names_of}
 use Rattle.lx_layout.specs.Writable.{ActsOrGoes, CanBeWritten, IsOneOf}
 use Rattle.lx_layout.specs.Written.{MayStand}
-use Rattle.lx_gen.specs.Generated.{Marks, act_ending, act_of, endings_by, mark_of}
+use Rattle.lx_gen.specs.Generated.{Marks, act_ending, endings_by, mark_of}
+use Rattle.lx_rules.specs.Numbered.{numbered_act}
 use Rattle.lx_gen.specs.Seen.{HaveShortLines}
 use Rattle.lx_gen.proofs.Elements.{All-each}
 
@@ -84,7 +85,7 @@ pub record IsWritableAct (conds : List (List ℕ)) (act : Act) : Type 0 where
   pub acts : ActsOrGoes act.code act.goes
 
 pub act_there : (P : Act → Type 0) (acts : List Act) (number : ℕ) → AllByRecursion P acts → 0 < number → number ≤ length acts
-    → (act : Act) × (act_of acts number ≡ Some act) × P act
+    → (act : Act) × (numbered_act acts number ≡ Some act) × P act
 act_there P acts zero each some few = absurd (omega (arith, some))
 act_there P acts (suc place) each some few = within acts place each (omega (arith, few))
   where
@@ -96,18 +97,18 @@ act_there P acts (suc place) each some few = within acts place each (omega (arit
 module _ (marks : Marks) (acts : List Act) where
   -- each rule has its own ending, where numbers differ
   abbrev pub HaveOwnEndings : (endings : ℕ → Ending) → List Rule → Type 0
-  HaveOwnEndings endings rules = AllByRecursion (λ (rule : Rule). endings rule.number ≡ act_ending marks rule (act_of acts rule.number)) rules
+  HaveOwnEndings endings rules = AllByRecursion (λ (rule : Rule). endings rule.number ≡ act_ending marks rule (numbered_act acts rule.number)) rules
 
-  own-first : (rule : Rule) (rules : List Rule) → endings_by marks acts (rule ∷ rules) rule.number ≡ act_ending marks rule (act_of acts rule.number)
+  own-first : (rule : Rule) (rules : List Rule) → endings_by marks acts (rule ∷ rules) rule.number ≡ act_ending marks rule (numbered_act acts rule.number)
   own-first rule rules =
-      ap (λ t. if t then act_ending marks rule (act_of acts rule.number) else endings_by marks acts rules rule.number)
+      ap (λ t. if t then act_ending marks rule (numbered_act acts rule.number) else endings_by marks acts rules rule.number)
       (eq-eqb rule.number rule.number refl)
 
   own-later : (first : Rule) (list rules : List Rule) → NoneHasNumber first.number rules → HaveOwnEndings (endings_by marks acts list) rules
       → HaveOwnEndings (endings_by marks acts (first ∷ list)) rules
   own-later first list [] apart own = tt
   own-later first list (rule ∷ rules) apart own = (
-    ap (λ t. if t then act_ending marks first (act_of acts rule.number) else endings_by marks acts list rule.number)
+    ap (λ t. if t then act_ending marks first (numbered_act acts rule.number) else endings_by marks acts list rule.number)
         (ne_eqb rule.number first.number apart.0) ∙ own.0,
     own-later first list rules apart.1 own.1,
   )
@@ -127,7 +128,7 @@ module _ (names : Spellings) (conds : List (List ℕ)) (endings : ℕ → Ending
 
   module _ (marks : Marks) (acts : List Act) (few_acts : length acts ≤ 2 * SOURCE_LIMIT) (writable : AllByRecursion (IsWritableAct conds) acts)
       (lines : HaveShortLines endings) where
-    rule_ends : (rule : Rule) → endings rule.number ≡ act_ending marks rule (act_of acts rule.number) → (0 < rule.number) × (rule.number ≤ length acts)
+    rule_ends : (rule : Rule) → endings rule.number ≡ act_ending marks rule (numbered_act acts rule.number) → (0 < rule.number) × (rule.number ≤ length acts)
         → HaveNames names rule.slash rule.tags → rule.groups ≤ 65 → EndsAs rule
     rule_ends rule own numbered named few =
         let there = act_there (IsWritableAct conds) acts rule.number writable numbered.0 numbered.1 in

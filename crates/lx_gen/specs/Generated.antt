@@ -1,5 +1,5 @@
 -- What the piece of a block of scanners is made of, by what the block resolves to.
-use Rattle.std.specs.Prelude.{◌&&◌, ◌||◌, ℕ, zero, suc, Bool, not, List, [], ◌∷◌, Option, Some, None, is_some, nat_eq, slice_get, slice_index_or, if◌then◌else◌}
+use Rattle.std.specs.Prelude.{◌&&◌, ◌||◌, ℕ, Bool, not, List, [], ◌∷◌, Option, Some, None, is_some, nat_eq, slice_index_or, if◌then◌else◌}
 use Rattle.std.specs.List.{AllByRecursion, list_any}
 use Rattle.lx_auto.specs.declared.automaton.Auto.{Auto}
 use Rattle.lx_base.specs.declared.places.Pos.{Pos}
@@ -16,6 +16,7 @@ use Rattle.lx_layout.specs.Rules.{names_of}
 use Rattle.lx_regex.specs.Order.{Policy}
 use Rattle.lx_regex.specs.Pattern.{end_rule, patterns_of}
 use Rattle.lx_regex.specs.declared.rules.Rule.{Rule}
+use Rattle.lx_rules.specs.Numbered.{numbered_act}
 use Rattle.lx_rules.specs.declared.resolved.Act.{Act}
 use Rattle.lx_rules.specs.declared.resolved.Resolved.{Resolved}
 use Rattle.lx_rules.specs.declared.resolved.Scanner.{Scanner}
@@ -49,16 +50,11 @@ act_ending marks rule (Some act) = record {
   line = mark_of marks act.at;
 }
 
--- the action of the rule with a number, counted from 1
-abbrev pub act_of : List Act → (number : ℕ) → Option Act
-act_of acts zero = None
-act_of acts (suc place) = slice_get acts place
-
 -- the end of the first rule with a number
 abbrev pub endings_by : Marks → List Act → List Rule → (number : ℕ) → Ending
 endings_by marks acts [] number = no_ending
 endings_by marks acts (rule ∷ rules) number =
-    if nat_eq number rule.number then act_ending marks rule (act_of acts number) else endings_by marks acts rules number
+    if nat_eq number rule.number then act_ending marks rule (numbered_act acts number) else endings_by marks acts rules number
 
 -- ---- a piece
 

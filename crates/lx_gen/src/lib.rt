@@ -6,3 +6,4 @@ mod generating;
 mod scanner_ends;
 
 pub use generating::generate;
+pub use scanner_ends::{Marks, rule_ends};

@@ -1,21 +1,22 @@
 //! What the rules of a scanner do at their ends, by what the block says.
-ghost use Rattle.std.specs.Prelude.{◌≡◌, ◌<◌, ◌≤◌, All, IfOk, [], length, option_copied, slice_index_or, Some};
+ghost use Rattle.std.specs.Prelude.{◌≡◌, ◌<◌, ◌≤◌, All, IfOk, [], length, slice_index_or, Some};
 ghost use Rattle.lx_ccode.specs.Validity.{IsLine};
 ghost use Rattle.lx_layout.specs.RuleEnds.{ending_of, endings_of};
 ghost use Rattle.lx_regex.specs.declared.rules.Rule.{Rule as rule_type};
-ghost use Rattle.lx_gen.specs.Generated.{act_ending, act_of, endings_by, mark_of};
+ghost use Rattle.lx_gen.specs.Generated.{act_ending, endings_by, mark_of};
+ghost use Rattle.lx_rules.specs.Numbered.{numbered_act};
 ghost use Rattle.lx_gen.specs.Seen.{HaveShortLines, seen_marks};
 
 use lx_base::{ByteText, FileNames, Memory, Pos};
 use lx_ccode::LineMark;
 use lx_layout::RuleEnd;
 use lx_regex::Rule;
-use lx_rules::Act;
+use lx_rules::{Act, numbered_act};
 use std::alloc::Global;
 
 /// The names of files, where the lines of actions are told.
 #[derive(Clone, Copy)]
-pub(crate) struct Marks<'a> {
+pub struct Marks<'a> {
     pub names: Option<&'a FileNames>,
 }
 
@@ -43,16 +44,6 @@ fn mark_of(alloc: Global, marks: Marks<'_>, at: Pos) -> Result<Option<LineMark>,
     }
 }
 
-/// What the rule of a number, counted from 1, does.
-fn act_of(acts: &[Act], number: u32) -> Option<&Act>
-    ensures { option_copied result ≡ act_of acts.now number }
-{
-    match number.checked_sub(1) {
-        None => None,
-        Some(place) => acts.get(place as usize),
-    }
-}
-
 /// What a rule does at its end.
 fn rule_end<'a>(
     alloc: Global,
@@ -73,7 +64,7 @@ fn rule_end<'a>(
 }
 
 /// What the rules of a scanner do at their ends; each has an act.
-pub(crate) fn rule_ends<'a>(
+pub fn rule_ends<'a>(
     alloc: Global,
     marks: Marks<'_>,
     rules: &'a [Rule],
@@ -85,7 +76,7 @@ pub(crate) fn rule_ends<'a>(
 {
     let mut ends = Vec::new(alloc);
     for rule in rules {
-        let Some(act) = act_of(acts, rule.number) else {
+        let Some(act) = numbered_act(acts, rule.number) else {
             unreachable!()
         };
         ends.push(rule_end(alloc, marks, rule, act)?)?;

@@ -29,6 +29,7 @@ mod test_trees;
 mod transition_classes;
 mod unit_splits;
 
+pub use number_index::NumberIndex;
 pub use pieces::{PieceForm, ScannerInput, piece_of};
-pub use rule_ends::RuleEnd;
+pub use rule_ends::{EndIndex, RuleEnd, index_of};
 pub use switches::{names_register_one, state_cases};

@@ -8,7 +8,7 @@ use std::alloc::Global;
 
 /// Places in a list by numbers.
 #[derive(Drop)]
-pub(crate) struct NumberIndex {
+pub struct NumberIndex {
     /// The places of the numbers that have one.
     pub places: IndexMap<u32, usize>,
 }

@@ -22,13 +22,13 @@ pub struct RuleEnd<'a> {
 
 /// The ends of rules, with their places by the numbers of the rules.
 #[derive(Drop)]
-pub(crate) struct EndIndex<'a> {
+pub struct EndIndex<'a> {
     pub ends: &'a [RuleEnd<'a>],
     pub places: NumberIndex,
 }
 
 /// The places of ends by the numbers of their rules; of several with one number the first counts.
-pub(crate) fn index_of<'a>(alloc: Global, ends: &'a [RuleEnd<'a>]) -> Result<EndIndex<'a>, Memory>
+pub fn index_of<'a>(alloc: Global, ends: &'a [RuleEnd<'a>]) -> Result<EndIndex<'a>, Memory>
     ensures indexed { IfOk result AreEndsIndexed }
     ensures ends { IfOk result (λ index. index.ends.now ≡ ends.now) }
 {

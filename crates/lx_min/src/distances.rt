@@ -51,7 +51,7 @@ fn sources_of(alloc: Global, auto: &Auto) -> Result<Vec<Vec<u32>>, Memory>
 }
 
 impl Search {
-    /// A search that has met the accepting states. Of the others none has an edge to one that is as near as `far`.
+    /// A search that has met the accepting states, and has all others as farther than `far`.
     fn new(alloc: Global, auto: &Auto, far: u32) -> Result<Search, Memory>
         requires { IsAuto auto.now }
     {
@@ -91,7 +91,7 @@ impl Search {
     }
 }
 
-/// How far each state is from an accepting one, and more than the number of states where it is no number.
+/// How far each state is from an accepting one, and one more than `far` where no word leads it to one.
 fn searched(alloc: Global, auto: &Auto, far: u32) -> Result<Vec<u32>, Memory>
     requires { IsAuto auto.now }
 {

@@ -12,6 +12,7 @@ pub mod Kept
 pub mod Likeness
 pub mod Linked
 pub mod Lists
+pub mod Numbered
 pub mod Opening
 pub mod Represents
 pub mod Rules

@@ -24,5 +24,5 @@ pub use laws::{
     block_faults_stand_in_the_file_of_the_opener, blocks_resolve_in_one_way,
     blocks_resolve_or_have_a_fault, resolved_blocks_are_well_formed,
 };
-pub use resolved::{Act, Config, Resolved, Scanner};
+pub use resolved::{Act, Config, Resolved, Scanner, numbered_act};
 pub use resolving::resolve;

@@ -1,4 +1,7 @@
 //! What a block resolves to.
+ghost use Rattle.std.specs.Prelude.{◌≡◌, option_copied};
+ghost use Rattle.lx_rules.specs.Numbered.{numbered_act};
+
 use lx_base::{ByteText, Names, Pos, Sequence};
 use lx_regex::RuleSet;
 
@@ -21,6 +24,16 @@ pub struct Act {
     pub code: Option<ByteText>,
     /// The place of the action's `{`, or that of `:=>`.
     pub at: Pos,
+}
+
+/// What the rule with a number does, if there is one; rules are numbered from 1, in the order of their actions.
+pub fn numbered_act(acts: &[Act], number: u32) -> Option<&Act>
+    ensures { option_copied result ≡ numbered_act acts.now number }
+{
+    match number.checked_sub(1) {
+        None => None,
+        Some(place) => acts.get(place as usize),
+    }
 }
 
 /// The configuration that holds for a block.

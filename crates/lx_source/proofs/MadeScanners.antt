@@ -8,6 +8,7 @@ use Rattle.lx_compile.specs.declared.made.Made.{Made}
 use Rattle.lx_compile.specs.declared.made.Made.TheVariants as made
 use Rattle.lx_compile.specs.declared.parts.Content.TheVariants.{Scanners}
 use Rattle.lx_compile.specs.declared.parts.Part.TheVariants.{Outside, Block}
+use Rattle.lx_compile.specs.declared.warned.PlacedWarning.{PlacedWarning}
 use Rattle.lx_rules.specs.declared.resolved.Resolved.{Resolved}
 use Rattle.lx_source.specs.Sources.{source_options}
 
@@ -15,8 +16,10 @@ use Rattle.lx_source.specs.Sources.{source_options}
 pub record HasOneScanner (all : List Made) : Type 0 where
   pub piece : Piece
   pub checks : List (List ℕ)
+  pub warnings : List PlacedWarning
+  pub cover : List ℕ
   pub text : List ℕ
-  pub all_is : all ≡ made.Scanners piece checks ∷ made.Outside text ∷ []
+  pub all_is : all ≡ made.Scanners piece checks warnings cover ∷ made.Outside text ∷ []
   pub valid : IsValid piece
   pub unit : piece.unit ≡ 1
 
@@ -30,15 +33,17 @@ module _ (names : List (List ℕ)) (own_switch : Bool) where
   one_scanner place line resolved text [] are = absurd are
   one_scanner place line resolved text (made.Outside other ∷ all) are = absurd are.1
   one_scanner place line resolved text (made.Bare at mark directive ∷ all) are = absurd are.1
-  one_scanner place line resolved text (made.Scanners piece checks ∷ []) are = absurd are.2
-  one_scanner place line resolved text (made.Scanners piece checks ∷ made.Outside other ∷ []) are = record {
+  one_scanner place line resolved text (made.Scanners piece checks warnings cover ∷ []) are = absurd are.2
+  one_scanner place line resolved text (made.Scanners piece checks warnings cover ∷ made.Outside other ∷ []) are = record {
     piece = piece;
     checks = checks;
+    warnings = warnings;
+    cover = cover;
     text = other;
     all_is = refl;
     valid = are.1.0.generated.valid;
     unit = are.1.0.generated.fields.unit;
   }
-  one_scanner place line resolved text (made.Scanners piece checks ∷ made.Outside other ∷ one ∷ all) are = absurd are.2.1
-  one_scanner place line resolved text (made.Scanners piece checks ∷ made.Scanners other more ∷ all) are = absurd are.2
-  one_scanner place line resolved text (made.Scanners piece checks ∷ made.Bare at mark directive ∷ all) are = absurd are.2
+  one_scanner place line resolved text (made.Scanners piece checks warnings cover ∷ made.Outside other ∷ one ∷ all) are = absurd are.2.1
+  one_scanner place line resolved text (made.Scanners piece checks warnings cover ∷ made.Scanners other more others words ∷ all) are = absurd are.2
+  one_scanner place line resolved text (made.Scanners piece checks warnings cover ∷ made.Bare at mark directive ∷ all) are = absurd are.2

@@ -12,7 +12,8 @@ use Rattle.lx_compile.specs.Facts.{directives_fault}
 use Rattle.lx_compile.specs.FirstFault.{IsFaultBehind, IsFaultOfPieces, IsFirstFault, setting_of}
 use Rattle.lx_compile.specs.Made.{AreMade}
 use Rattle.lx_compile.specs.Output.{IsOutput}
-use Rattle.lx_compile.specs.Parts.{AreParts, HasTooLarge, IsKernelFault, switch_themselves}
+use Rattle.lx_compile.specs.Parts.{AreParts, IsScanningFault, switch_themselves}
+use Rattle.lx_compile.specs.ScannerFaults.{IsFaultOfScanners}
 use Rattle.lx_compile.specs.declared.made.Made.{Made}
 use Rattle.lx_compile.specs.declared.parts.Content.{Content}
 use Rattle.lx_compile.specs.declared.parts.Content.TheVariants.{Scanners}
@@ -44,18 +45,21 @@ use Rattle.lx_token.specs.declared.list.Token.{Token}
 
 -- ---- what a block gives
 
--- scanners without too many kernels
+-- scanners without a fault
 record GivesScanners (content : Content) : Type 0 where
   resolved : Resolved
   content_is : content ≡ Scanners resolved
-  small : HasTooLarge Byte resolved.scanners → ⊥
+  faultless : (at : Pos) (fault : Fault) → IsFaultOfScanners source_options at resolved.scanners fault → ⊥
 
-small-one : (rules : ℕ) → rules ≤ 200 → (scanners : List Scanner) → IsGenerated rules scanners → HasTooLarge Byte scanners → ⊥
-small-one rules few scanners is large = by (subst (HasTooLarge Byte) is.all large)
+faultless-one : (rules : ℕ) → rules ≤ 200 → (scanners : List Scanner) → IsGenerated rules scanners → (at : Pos) (fault : Fault)
+    → IsFaultOfScanners source_options at scanners fault → ⊥
+faultless-one rules few scanners is at fault found =
+    by (subst (λ (l : List Scanner). IsFaultOfScanners source_options at l fault) is.all found)
   where
-    by : HasTooLarge Byte (is.scanner ∷ []) → ⊥
-    by (inl many) = few_kernels rules few (subst (λ (l : List Term). HasTooManyKernels Byte l) is.terms many)
-    by (inr none) = none
+    by : IsFaultOfScanners source_options at (is.scanner ∷ []) fault → ⊥
+    by (inl (inl (many, same))) = few_kernels rules few (subst (λ (l : List Term). HasTooManyKernels Byte l) is.terms many)
+    by (inl (inr (small, (sum, long, same)))) = false≢true long.0
+    by (inr none) = none.1
 
 module _ (rules : ℕ) (few : rules ≤ 200) where
   abbrev body : List ℕ
@@ -104,7 +108,7 @@ module _ (rules : ℕ) (few : rules ≤ 200) where
       record {
         resolved = resolved;
         content_is = content_is ∙ ap (content_of resolved) generated.all;
-        small = small-one rules few resolved.scanners generated;
+        faultless = faultless-one rules few resolved.scanners generated;
       }
   gives after content (asks tokens items is stands after_is content_is) = absurd (false≢true is)
   gives after content (gives_nothing none after_is content_is) = absurd (false≢true (sym none))
@@ -135,15 +139,15 @@ module _ (rules : ℕ) (few : rules ≤ 200) where
   }
   parts_read (Block place line content ∷ Outside text ∷ part ∷ parts) last are = absurd are.2.2.1
 
-  -- no scanner is too large
-  no_kernel_fault : (parts : List Part) (fault : Fault) → HasParts parts → IsKernelFault Byte parts (Some fault) → ⊥
-  no_kernel_fault parts fault has is =
-      by (subst (λ (c : Content). IsKernelFault Byte (Block has.place has.line c ∷ Outside has.text ∷ [])
+  -- no scanner has a fault
+  no_scanning_fault : (parts : List Part) (fault : Fault) → HasParts parts → IsScanningFault source_options parts (Some fault) → ⊥
+  no_scanning_fault parts fault has is =
+      by (subst (λ (c : Content). IsScanningFault source_options (Block has.place has.line c ∷ Outside has.text ∷ [])
       (Some fault)) has.gives_scanners.content_is
-      (subst (λ (l : List Part). IsKernelFault Byte l (Some fault)) has.all is))
+      (subst (λ (l : List Part). IsScanningFault source_options l (Some fault)) has.all is))
     where
-      by : IsKernelFault Byte (Block has.place has.line (Scanners has.gives_scanners.resolved) ∷ Outside has.text ∷ []) (Some fault) → ⊥
-      by (inl found) = has.gives_scanners.small found.0
+      by : IsScanningFault source_options (Block has.place has.line (Scanners has.gives_scanners.resolved) ∷ Outside has.text ∷ []) (Some fault) → ⊥
+      by (inl (first, found, same)) = has.gives_scanners.faultless has.place first found
       by (inr found) = let same : Some fault ≡ None = found.1 in cc
 
   -- one piece with a scanner is made
@@ -156,7 +160,7 @@ module _ (rules : ℕ) (few : rules ≤ 200) where
 
   no_fault_behind : (names : List (List ℕ)) (all : List Made) (fault : Fault)
       → IsFaultBehind source_options names (source_pieces rules) all (Some fault) → ⊥
-  no_fault_behind names all fault (parts, last, are, inl found) = no_kernel_fault parts fault (parts_read parts last are) found.1
+  no_fault_behind names all fault (parts, last, are, inl found) = no_scanning_fault parts fault (parts_read parts last are) found.1
   no_fault_behind names all fault (parts, last, are, inr found) =
       let one = made_here names parts all (parts_read parts last are) found.1 in
       let same : Some fault ≡ None = found.2 ∙ ap (directives_fault (config_of last.settings).names) one.all_is in cc

@@ -4,3 +4,4 @@ pub mod Rules
 pub mod Values
 pub mod Tables
 pub mod Loops
+pub mod LeastWords

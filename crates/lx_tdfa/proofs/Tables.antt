@@ -8,5 +8,6 @@ pub mod TableBest
 pub mod TableBounds
 pub mod TableFormed
 pub mod TableKept
+pub mod TableKernels
 pub mod TableRuns
 pub mod TableWords

@@ -2,10 +2,13 @@ pub mod Accepts
 pub mod Building
 pub mod Edges
 pub mod Graph
+pub mod KernelStates
 pub mod Kernels
 pub mod Making
 pub mod Promise
 pub mod Registers
+pub mod Searches
 pub mod Steps
 pub mod Table
 pub mod Values
+pub mod Words

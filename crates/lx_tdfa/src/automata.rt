@@ -6,6 +6,7 @@ ghost use Rattle.lx_regex.specs.Kernel.{HasTooManyKernels};
 ghost use Rattle.lx_regex.specs.Pattern.{Pattern, terms_of};
 ghost use Rattle.lx_tnfa.specs.Tnfa.{IsTnfaOf};
 ghost use Rattle.lx_tdfa.specs.Building.{AreListed, AreStatesOf, Grows, IsBuilt, IsSourceOfRules, TooManyFound};
+ghost use Rattle.lx_tdfa.specs.KernelStates.{HasKernelStates};
 ghost use Rattle.lx_tdfa.specs.Making.{StopsBy};
 ghost use Rattle.lx_tdfa.specs.Promise.{IsAutoOf};
 ghost use Rattle.lx_tdfa.specs.Steps.{start_place};
@@ -52,7 +53,7 @@ fn states(source: &Source<'_>, kernels: &mut Kernels) -> Result<Sequence<State>,
 }
 
 /// The automaton whose run tells after each word whether the word begins a match, and what is matched: the first rule that takes the
-/// word, with the values of the rule's best tree, which a later fallback reads too.
+/// word, with the values of the rule's best tree, which a later fallback reads too. Its states are the kernels of words.
 ///
 /// Registers are those of lookahead TDFA (Trofimovich 2017), one for each tag at each place of a kernel. Where the rules have more
 /// than 4,096 kernels, or more than 1,048,576 places in them, it answers `TooManyStates` with this place.
@@ -61,6 +62,8 @@ pub fn determinize(alloc: Global, t: &Tnfa, at: Pos) -> Result<Auto, Stop>
     ensures automaton { (enc : Enc) (patterns : List Pattern) → IsTnfaOf enc patterns t.now → AllClassesFit enc (terms_of patterns)
         → MatchResult result (λ auto. IsAutoOf enc patterns auto × ¬ HasTooManyKernels enc (terms_of patterns))
         (StopsBy at (HasTooManyKernels enc (terms_of patterns))) }
+    ensures kernels { (enc : Enc) (patterns : List Pattern) → IsTnfaOf enc patterns t.now → AllClassesFit enc (terms_of patterns)
+        → IfOk result (λ auto. HasKernelStates enc patterns auto) }
 {
     let source = Source {
         alloc,

@@ -1,5 +1,5 @@
 //! Lists of places, each with a number, and the limits on them.
-ghost use Rattle.std.specs.Prelude.{◌≡◌, ◌<◌, [], ◌∷◌, ◌++◌, length, IfOk, MatchResult, Some, slice_get};
+ghost use Rattle.std.specs.Prelude.{◌≡◌, ◌≢◌, ◌<◌, [], ◌∷◌, ◌++◌, length, AllPairs, IfOk, MatchResult, Some, slice_get};
 ghost use Rattle.lx_tdfa.specs.Making.{Adds, AreTooMany, IsWithin, StopsBy, most_places};
 
 use indexmap::IndexSet;
@@ -56,7 +56,8 @@ impl Kernels {
 
     /// How many places the longest list has. It takes no memory.
     pub(crate) fn most(&self) -> usize
-        ensures { result ≡ most_places self.now }
+        ensures most { result ≡ most_places self.now }
+        ensures apart { AllPairs (λ list other. list ≢ other) self.now }
     {
         self.most
     }

@@ -1,6 +1,6 @@
 //! What holds of the lists of places that are computed for words, and of automata of rule lists. Each law is the contract of a
 //! function that does nothing.
-ghost use Rattle.std.specs.Prelude.{◌≡◌, ◌≢◌, ◌++◌, ◌↔◌, ℕ, List, [], ◌∷◌, None, length, map};
+ghost use Rattle.std.specs.Prelude.{◌≡◌, ◌≢◌, ◌++◌, ◌↔◌, ◌<◌, ℕ, List, [], ◌∷◌, Option, None, Some, Bool, true, false, length, map};
 ghost use Rattle.lx_regex.specs.ClassLimits.{AllClassesFit};
 ghost use Rattle.lx_auto.specs.Automaton.{IsAuto};
 ghost use Rattle.lx_auto.specs.SameRun.{HasSameRun};
@@ -21,7 +21,9 @@ ghost use Rattle.lx_tdfa.specs.Accepts.{Accepts, IsAccepted, accept_after};
 ghost use Rattle.lx_tdfa.specs.Graph.{path_symbols};
 ghost use Rattle.lx_tdfa.specs.Kernels.{Entry, cut_of, kernel_after, places, places_step, rule_of};
 ghost use Rattle.lx_tdfa.specs.Promise.{FitsRules, IsAutoUnder};
+ghost use Rattle.lx_tdfa.specs.Searches.{AreApart, IsSearched, IsTrace, Trace, walk, word_at};
 ghost use Rattle.lx_tdfa.specs.Values.{all_values_after, last_values_after, value_at};
+ghost use Rattle.lx_tdfa.specs.Words.{ComesBefore, IsNoLater};
 
 /// The list after a word is the kernel of the word: for each place of its cuts, once, the first cut there, in their order.
 pub fn kernels_are_listed()
@@ -94,4 +96,25 @@ pub fn same_runs_are_of_one_list()
 pub fn what_stays_within_is_of_one_list()
     ensures { (policy : Policy) (enc : Enc) (patterns : List Pattern) (auto given : Auto) → IsAutoUnder policy enc patterns given
         → IsAuto auto → HasSameRun auto given → StaysWithin given auto → IsAutoUnder policy enc patterns auto }
+{}
+
+/// The places of a breadth-first search in unit order stand in the order of their words, and a place's word is that of its parent
+/// and the unit. Each leads to the place's state; and at the end of the search it is the least that does. Of the words that end in
+/// a good unit, the first is that of the first place whose state has one, and the least one there.
+pub fn searches_find_least_words()
+    ensures ascend { (step : ℕ → ℕ → Option ℕ) (trace : Trace) (place other : ℕ) → IsTrace step trace → place < other
+        → other < trace.count → ComesBefore (word_at trace place) (word_at trace other) }
+    ensures parents { (step : ℕ → ℕ → Option ℕ) (trace : Trace) (place : ℕ) → IsTrace step trace → 0 < place → place < trace.count
+        → word_at trace place ≡ word_at trace (trace.parent place) ++ trace.unit place ∷ [] }
+    ensures lead { (step : ℕ → ℕ → Option ℕ) (trace : Trace) (place : ℕ) → IsTrace step trace → place < trace.count
+        → walk step 0 (word_at trace place) ≡ Some (trace.state place) }
+    ensures least { (step : ℕ → ℕ → Option ℕ) (trace : Trace) (place : ℕ) (word : List ℕ) → IsSearched step trace
+        → AreApart step trace → place < trace.count → walk step 0 word ≡ Some (trace.state place)
+        → IsNoLater (word_at trace place) word }
+    ensures first { (step : ℕ → ℕ → Option ℕ) (trace : Trace) (good : (state unit : ℕ) → Bool) (place unit : ℕ) (front : List ℕ) (last state : ℕ)
+        → IsSearched step trace → place < trace.count
+        → ((earlier other : ℕ) → earlier < place → good (trace.state earlier) other ≡ false)
+        → ((other : ℕ) → other < unit → good (trace.state place) other ≡ false)
+        → walk step 0 front ≡ Some state → good state last ≡ true
+        → IsNoLater (word_at trace place ++ unit ∷ []) (front ++ last ∷ []) }
 {}

@@ -1,11 +1,12 @@
 -- What is read before a text is made.
-use Rattle.std.proofs.Common.{◌≡◌, ◌≤◌, ℕ, false, List, [], ◌∷◌, Option, Some, None, MatchOption, Result, IfErr, IsErrAnd, refl, subst, sym}
+use Rattle.std.proofs.Common.{◌≡◌, ◌≤◌, ℕ, false, List, [], ◌∷◌, Option, Some, None, MatchOption, Result, IfErr, IfOk, IsErrAnd, refl, ap, subst, sym}
 use Rattle.std.proofs.lemmas.Slice.Eq.{bytes_eq-Decides}
 use Rattle.lx_base.specs.declared.settings.Job.{Job}
-use Rattle.lx_base.specs.declared.settings.Job.TheVariants.{Compile}
+use Rattle.lx_base.specs.declared.settings.Job.TheVariants.{Compile, Run, Source}
 use Rattle.lx_base.specs.declared.settings.Options.{Options}
 use Rattle.lx_compile.specs.FirstFault.{IsFirstFault, StopsWith}
-use Rattle.lx_compile.specs.Output.{IsOutput}
+use Rattle.lx_compile.specs.Output.{IsGiven}
+use Rattle.lx_compile.specs.Warnings.{told_warnings, warning_lines}
 use Rattle.lx_compile.specs.declared.made.Made.{Made}
 use Rattle.lx_files.specs.Counts.{Rose}
 use Rattle.lx_files.specs.declared.files.HeldFile.{HeldFile}
@@ -20,7 +21,8 @@ use Rattle.lx_top.specs.Output.{GoesTo, IsJobRight}
 use Rattle.lx_top.specs.Outside.{FilesView, SinkView}
 use Rattle.lx_top.specs.Puts.{halt_of_expand}
 use Rattle.lx_top.specs.Steps.{Cites, HaltsRead, IsNoFile, JobEnds}
-use Rattle.lx_top.proofs.JobLemmas.{IfErr-residual, JobEnds-delivered, JobEnds-reason}
+use Rattle.lx_top.proofs.JobLemmas.{IfErr-residual, JobEnds-behind, JobEnds-reason}
+use Rattle.lx_top.specs.Warnings.{job_lines}
 use Rattle.lx_top.specs.declared.endings.Halt.{Halt}
 use Rattle.lx_top.specs.declared.endings.Halt.TheVariants as halt
 
@@ -61,7 +63,7 @@ HaltsRead-missing seen CountRose file name halt.OutOfMemory missing is = tt
 pub Ends-stopped : (options : Options) (seen : List HeldFile) (main : List ℕ) (target : Option (List ℕ)) (files files' : FilesView) (out : SinkView) (names : List (List ℕ))
     (stopped : ExpandStop) {T : Type 0} (ended : Result T Halt) → IsErrAnd ended (λ given. given ≡ halt_of_expand stopped)
     → StopsWith options seen main (Rose files.faults files'.faults) names stopped → files'.held ≡ files.held
-    → (made : List Made) × JobEnds false (IsFirstFault options seen main made) target (GoesTo target (IsOutput options seen main made)) files files' out out ended
+    → (made : List Made) × JobEnds false (IsFirstFault options seen main made) target (GoesTo target (IsGiven options seen main made)) files files' out out ended
     × IfErr ended (Cites (expansion options seen main).met.names names)
 Ends-stopped options seen main target files files' out names stop.Memory ended is stops held = (
   [],
@@ -79,48 +81,38 @@ Ends-stopped options seen main target files files' out names stop.ReadFailed end
   IfErr-residual ended halt.ReadFailed (Cites (expansion options seen main).met.names names) is tt,
 )
 
+-- what goes to a file or to the standard output is right, if what is given so is
+GoesTo-weaker : (target : Option (List ℕ)) (IsGiven IsRight : List ℕ → Type 0) → ((given : List ℕ) → IsGiven given → IsRight given)
+    → (bytes text : List ℕ) → GoesTo target IsGiven bytes text → GoesTo target IsRight bytes text
+GoesTo-weaker None IsGiven IsRight right bytes text goes = (goes.0, right text goes.1)
+GoesTo-weaker (Some name) IsGiven IsRight right bytes text goes = (right bytes goes.0, goes.1)
+
 module _ (options : Options) (seen : List HeldFile) (main : List ℕ) (made : List Made) (none : IsFirstFault options seen main made None)
     (files middle files' : FilesView) (held : middle.held ≡ files.held) (fewer : files.faults ≤ middle.faults) (writes : middle.write_faults ≡ files.write_faults)
     (out out' : SinkView) where
   -- the job is to compile the source to the file, or without one to the standard output
   abbrev Compiles : (target : Option (List ℕ)) → {T : Type 0} → Result T Halt → Type 0
-  Compiles target ended = JobEnds false (IsFirstFault options seen main made) target (GoesTo target (IsOutput options seen main made)) files files' out out' ended
+  Compiles target ended = JobEnds false (IsFirstFault options seen main made) target (GoesTo target (IsGiven options seen main made)) files files' out out' ended
 
-  -- so many bytes were given to the file and the text to the standard output
-  abbrev Delivered : (target : Option (List ℕ)) (bytes text : List ℕ) → {T : Type 0} → Result T Halt → Type 0
-  Delivered target bytes text ended = JobEnds false (λ fault. fault ≡ None) target (λ given put. (given ≡ bytes) × (put ≡ text)) middle files' out out' ended
-
-  Compiles-given : (target : Option (List ℕ)) (bytes text : List ℕ) {T : Type 0} (ended : Result T Halt)
-      → GoesTo target (IsOutput options seen main made) bytes text → Delivered target bytes text ended → Compiles target ended
-  Compiles-given target bytes text ended right ends =
-      JobEnds-delivered false (IsFirstFault options seen main made) target (GoesTo target (IsOutput options seen main made)) bytes text files middle files' out out' ended
-      held fewer writes none right ends
-
-  -- the output was given to the standard output
-  pub Compiles-out : (target : Option (List ℕ)) (output text : List ℕ) {T : Type 0} (ended : Result T Halt) → target ≡ None → text ≡ output
-      → IsOutput options seen main made output → Delivered None [] text ended → Compiles target ended
-  Compiles-out target output text ended is same right ends =
-      subst (λ target. Compiles target ended) (sym is)
-      (Compiles-given None [] text ended (refl, subst (IsOutput options seen main made) (sym same) right) ends)
-
-  -- the output was given to the file
-  pub Compiles-file : (target : Option (List ℕ)) (name output bytes : List ℕ) {T : Type 0} (ended : Result T Halt) → target ≡ Some name → bytes ≡ output
-      → IsOutput options seen main made output → Delivered target bytes [] ended → Compiles target ended
-  Compiles-file target name output bytes ended is same right ends =
-      Compiles-given target bytes [] ended
-      (subst (λ target. GoesTo target (IsOutput options seen main made) bytes []) (sym is) (subst (IsOutput options seen main made) (sym same) right, refl)) ends
+  -- the output was given to the file, or without one to the standard output
+  pub Compiles-output : (target : Option (List ℕ)) (output : List ℕ) {T : Type 0} (ended : Result T Halt) → IsGiven options seen main made output
+      → JobEnds false (λ fault. fault ≡ None) target (GoesTo target (λ given. given ≡ output)) middle files' out out' ended → Compiles target ended
+  Compiles-output target output ended right ends =
+      JobEnds-behind false (IsFirstFault options seen main made) target (GoesTo target (IsGiven options seen main made)) (GoesTo target (λ given. given ≡ output))
+      files middle files' out out' ended held fewer writes none
+      (GoesTo-weaker target (λ given. given ≡ output) (IsGiven options seen main made) (λ given is. subst (IsGiven options seen main made) (sym is) right)) ends
 
 -- ---- the job
 
 -- the job was a compilation
 pub JobEnds-compiled : (options : Options) (job : Job) (file name : List ℕ) (to target : Option (List ℕ)) (seen : List HeldFile) (made : List Made)
     (files files' : FilesView) (out out' : SinkView) {T : Type 0} (ended : Result T Halt) → job ≡ Compile file to → name ≡ file → target ≡ to
-    → JobEnds false (IsFirstFault options seen name made) target (GoesTo target (IsOutput options seen name made)) files files' out out' ended
+    → JobEnds false (IsFirstFault options seen name made) target (GoesTo target (IsGiven options seen name made)) files files' out out' ended
     → JobEnds (is_run job) (IsFaultOf options job seen made) (target_of job) (IsJobRight options job seen made) files files' out out' ended
 JobEnds-compiled options job file name to target seen made files files' out out' ended is name_is target_is ends =
     subst (λ job. JobEnds (is_run job) (IsFaultOf options job seen made) (target_of job) (IsJobRight options job seen made) files files' out out' ended) (sym is)
-    (subst (λ to. JobEnds false (IsFirstFault options seen file made) to (GoesTo to (IsOutput options seen file made)) files files' out out' ended) target_is
-    (subst (λ (file : List ℕ). JobEnds false (IsFirstFault options seen file made) target (GoesTo target (IsOutput options seen file made)) files files' out out' ended)
+    (subst (λ to. JobEnds false (IsFirstFault options seen file made) to (GoesTo to (IsGiven options seen file made)) files files' out out' ended) target_is
+    (subst (λ (file : List ℕ). JobEnds false (IsFirstFault options seen file made) target (GoesTo target (IsGiven options seen file made)) files files' out out' ended)
     name_is ends))
 
 -- its message cites the files that were met
@@ -130,3 +122,21 @@ pub Cites-compiled : (options : Options) (job : Job) (file name : List ℕ) (to 
 Cites-compiled options job file name to seen names ended is name_is cites =
     subst (λ job. IfErr ended (Cites (names_of options job seen) names)) (sym is)
     (subst (λ (file : List ℕ). IfErr ended (Cites (expansion options seen file).met.names names)) name_is cites)
+
+-- the lines of its warnings cite them
+pub lines-compiled : (options : Options) (job : Job) (file name : List ℕ) (to : Option (List ℕ)) (seen : List HeldFile) (made : List Made) {T : Type 0} (lines : T → List ℕ)
+    (ended : Result T Halt) → job ≡ Compile file to → name ≡ file
+    → IfOk ended (λ told. lines told ≡ warning_lines (expansion options seen name).met.names (told_warnings options made))
+    → IfOk ended (λ told. lines told ≡ job_lines options job seen made)
+lines-compiled options job file name to seen made lines ended is name_is are =
+    subst (λ job. IfOk ended (λ told. lines told ≡ job_lines options job seen made)) (sym is)
+    (subst (λ (file : List ℕ). IfOk ended (λ told. lines told ≡ warning_lines (expansion options seen file).met.names (told_warnings options made))) name_is are)
+
+-- other jobs have none
+pub lines-run : (options : Options) (job : Job) (input emitted : List ℕ) (block : Option ℕ) (window piece : ℕ) (seen : List HeldFile) (made : List Made)
+    → job ≡ Run input emitted block window piece → [] ≡ job_lines options job seen made
+lines-run options job input emitted block window piece seen made is = ap (λ job. job_lines options job seen made) (sym is)
+
+pub lines-source : (options : Options) (job : Job) (rules : ℕ) (to : List ℕ) (seen : List HeldFile) (made : List Made) → job ≡ Source rules to
+    → [] ≡ job_lines options job seen made
+lines-source options job rules to seen made is = ap (λ job. job_lines options job seen made) (sym is)

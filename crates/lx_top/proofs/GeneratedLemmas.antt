@@ -1,10 +1,10 @@
 -- How the compilation of a generated source ends.
-use Rattle.std.proofs.Common.{◌≡◌, ◌≤◌, ◌∙◌, ℕ, List, [], Some, None, Result, Ok, Err, IsErrAnd, refl, ap, arith}
+use Rattle.std.proofs.Common.{◌≡◌, ◌≤◌, ◌∙◌, ℕ, List, [], Some, None, Result, Ok, Err, IsErrAnd, refl, ap, sym, subst, arith}
 use Rattle.std.specs.Prelude.{if◌then◌else◌}
 use Rattle.std.specs.Global.{Vec}
 use Rattle.std.specs.Str.{bytes_eq}
 use Rattle.lx_compile.specs.FirstFault.{StopsWith}
-use Rattle.lx_compile.specs.Output.{IsOutput}
+use Rattle.lx_compile.specs.Output.{IsGiven, IsOutput}
 use Rattle.lx_compile.specs.declared.made.Made.{Made}
 use Rattle.lx_files.specs.Counts.{Rose}
 use Rattle.lx_files.specs.Held.{Binds, bytes_of}
@@ -28,8 +28,12 @@ module _ (rules : ℕ) (files seen : List HeldFile) (text : List ℕ) (text_is :
       ∙ ap (λ (bytes : List ℕ). if bytes_eq source_name name then Some bytes else None) text_is
 
   -- it compiles
-  pub Compiles-source : (made : List Made) (output : Vec ℕ) → IsOutput source_options seen source_name made output.items → CompilesSource rules (Ok output)
-  Compiles-source made output is = (made, IsOutput-same source_options seen (source_files rules) holds-source source_name made output.items is)
+  pub Compiles-source : (made : List Made) (output : Vec ℕ) → IsGiven source_options seen source_name made output.items → CompilesSource rules (Ok output)
+  Compiles-source made output (whole, is, given) = (
+    made,
+    IsOutput-same source_options seen (source_files rules) holds-source source_name made output.items
+        (subst (IsOutput source_options seen source_name made) (sym given) is),
+  )
 
   module _ (few : rules ≤ 200) (names : List (List ℕ)) where
     -- it has no fault, and no read of it fails

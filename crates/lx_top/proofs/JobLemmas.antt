@@ -1,5 +1,5 @@
 -- How a job ends, from how its steps ended.
-use Rattle.std.proofs.Common.{◌≡◌, ◌≤◌, ℕ, Bool, true, false, List, [], Option, Some, None, Result, Ok, Err, IsErrAnd, IfErr, refl, sym, ap, subst, ◌∙◌, inl, inr, arith}
+use Rattle.std.proofs.Common.{◌≡◌, ◌≤◌, ℕ, Bool, true, false, List, [], Option, Some, None, Result, Ok, Err, IsErrAnd, IfErr, IfOk, refl, sym, ap, subst, ◌∙◌, inl, inr, arith}
 use Rattle.std.proofs.lemmas.Bool.{cases_lt, lt-leb}
 use Rattle.std.specs.Prelude.{◌<◌, ◌&&◌, ◌||◌, codes, nat_le, option_and_then, unwrap_or, IfSome, if◌then◌else◌}
 use Rattle.std.specs.Str.Parse.{digits_value}
@@ -25,6 +25,7 @@ use Rattle.lx_top.specs.Output.{IsRightOf}
 use Rattle.lx_base.specs.Places.{file_start}
 use Rattle.lx_top.specs.Puts.{halt_of_stop}
 use Rattle.lx_top.specs.Steps.{Cites, Halts, HaltsRead, JobEnds}
+use Rattle.lx_top.specs.Warnings.{job_lines, lines_for}
 use Rattle.lx_top.specs.declared.endings.Halt.{Halt}
 use Rattle.lx_top.specs.declared.endings.Halt.TheVariants as halt
 
@@ -194,6 +195,19 @@ module _ (files files' : FilesView) (faults : ℕ) (fewer : faults ≤ files.fau
     JobEnds-earlier (Err halt.PutFailed) ends = GivesOut-earlier ends
     JobEnds-earlier (Err halt.OutOfMemory) ends = BreaksOff-earlier ends
 
+-- A job whose bytes and text are right where they are given so ends as the giving of them; before it files were read, which changed nothing of theirs
+-- but the count of reads that failed.
+pub JobEnds-behind : (runs : Bool) (IsFault : Option Fault → Type 0) (target : Option (List ℕ)) (IsRight IsGiven : (bytes text : List ℕ) → Type 0)
+    (files middle files' : FilesView) (out out' : SinkView) {T : Type 0} (ended : Result T Halt)
+    → middle.held ≡ files.held → files.faults ≤ middle.faults → middle.write_faults ≡ files.write_faults → IsFault None
+    → ((bytes text : List ℕ) → IsGiven bytes text → IsRight bytes text)
+    → JobEnds runs (λ fault. fault ≡ None) target IsGiven middle files' out out' ended → JobEnds runs IsFault target IsRight files files' out out' ended
+JobEnds-behind runs IsFault target IsRight IsGiven files middle files' out out' ended held fewer writes none rights ends =
+    subst (λ (before : FilesView). JobEnds runs IsFault target IsRight before files' out out' ended) (files_view-same held refl writes)
+    (JobEnds-earlier middle files' files.faults fewer runs IsFault target IsRight out out' ended
+    (JobEnds-among runs (λ fault. fault ≡ None) target IsGiven middle files' out out' IsFault IsRight
+    (λ fault is. subst IsFault (sym is) none) rights ended ends))
+
 -- A job whose bytes and text were made and are right ends as its delivery; before it files were read, which changed nothing of theirs but the
 -- count of reads that failed.
 pub JobEnds-delivered : (runs : Bool) (IsFault : Option Fault → Type 0) (target : Option (List ℕ)) (IsRight : (bytes text : List ℕ) → Type 0) (bytes text : List ℕ)
@@ -202,11 +216,8 @@ pub JobEnds-delivered : (runs : Bool) (IsFault : Option Fault → Type 0) (targe
     → JobEnds runs (λ fault. fault ≡ None) target (λ given put. (given ≡ bytes) × (put ≡ text)) middle files' out out' ended
     → JobEnds runs IsFault target IsRight files files' out out' ended
 JobEnds-delivered runs IsFault target IsRight bytes text files middle files' out out' ended held fewer writes none right ends =
-    subst (λ (before : FilesView). JobEnds runs IsFault target IsRight before files' out out' ended) (files_view-same held refl writes)
-    (JobEnds-earlier middle files' files.faults fewer runs IsFault target IsRight out out' ended
-    (JobEnds-among runs (λ fault. fault ≡ None) target (λ given put. (given ≡ bytes) × (put ≡ text)) middle files' out out' IsFault IsRight
-    (λ fault is. subst IsFault (sym is) none)
-    (λ given put is. subst (λ (given : List ℕ). IsRight given put) (sym is.0) (subst (IsRight bytes) (sym is.1) right)) ended ends))
+    JobEnds-behind runs IsFault target IsRight (λ given put. (given ≡ bytes) × (put ≡ text)) files middle files' out out' ended held fewer writes none
+    (λ given put is. subst (λ (given : List ℕ). IsRight given put) (sym is.0) (subst (IsRight bytes) (sym is.1) right)) ends
 
 -- a delivery breaks off with no fault, so its message cites none
 pub Cites-delivered : (runs : Bool) (target : Option (List ℕ)) (IsRight : (bytes text : List ℕ) → Type 0) (files files' : FilesView) (out out' : SinkView) (cited names : List (List ℕ))
@@ -334,3 +345,23 @@ IsGreedy-words words = refl
 pub IfErr-residual : {T : Type 0} (ended : Result T Halt) (halted : Halt) (P : Halt → Type 0) → IsErrAnd ended (λ given. given ≡ halted) → P halted → IfErr ended P
 IfErr-residual (Ok value) halted P is holds = absurd is
 IfErr-residual (Err given) halted P is holds = subst P (sym is) holds
+
+-- a job that broke off answers nothing
+pub IfOk-residual : {T : Type 0} (ended : Result T Halt) (halted : Halt) (P : T → Type 0) → IsErrAnd ended (λ given. given ≡ halted) → IfOk ended P
+IfOk-residual (Ok value) halted P is = absurd is
+IfOk-residual (Err given) halted P is = tt
+
+-- how a step broke off its job did
+pub JobEnds-residual : (runs : Bool) (IsFault : Option Fault → Type 0) (target : Option (List ℕ)) (IsRight : (bytes text : List ℕ) → Type 0) (files files' : FilesView) (out out' : SinkView)
+    {T : Type 0} (ended : Result T Halt) (halted : Halt) → IsErrAnd ended (λ given. given ≡ halted)
+    → Halts runs IsFault target IsRight files files' out out' halted → JobEnds runs IsFault target IsRight files files' out out' ended
+JobEnds-residual runs IsFault target IsRight files files' out out' (Ok value) halted is halts = absurd is
+JobEnds-residual runs IsFault target IsRight files files' out out' (Err given) halted is halts =
+    subst (Halts runs IsFault target IsRight files files' out out') (sym is) halts
+
+-- the lines of what the words ask for are those of their job
+pub lines_for-job : {T : Type 0} (words : List (List ℕ)) (seen : List HeldFile) (made : List Made) (options : Options) (lines : T → List ℕ) (ended : Result T Halt)
+    → options ≡ options_for words → IfOk ended (λ told. lines told ≡ job_lines options options.job seen made)
+    → IfOk ended (λ told. lines told ≡ lines_for words seen made)
+lines_for-job words seen made options lines ended same are =
+    subst (λ (options : Options). IfOk ended (λ told. lines told ≡ job_lines options options.job seen made)) same are

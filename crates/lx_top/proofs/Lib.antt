@@ -11,3 +11,4 @@ pub mod SeenFiles
 pub mod SomeFault
 pub mod SourceLemmas
 pub mod SummaryLemmas
+pub mod WarningPuts

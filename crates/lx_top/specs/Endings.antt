@@ -1,5 +1,5 @@
 -- How a run of the program ends.
-use Rattle.std.specs.Prelude.{◌≡◌, ◌⊎◌, ℕ, Bool, List, [], codes, Option, Some, MatchOption}
+use Rattle.std.specs.Prelude.{◌≡◌, ◌≢◌, ◌⊎◌, ℕ, Bool, List, [], codes, Option, Some, MatchOption}
 use Rattle.lx_base.specs.Message.{message_text}
 use Rattle.lx_base.specs.declared.faults.Fault.{Fault}
 use Rattle.lx_base.specs.declared.faults.Fault.TheVariants.{Usage}
@@ -13,6 +13,7 @@ use Rattle.lx_top.specs.FirstFault.{IsFirstFault}
 use Rattle.lx_top.specs.Jobs.{file_names, is_run, job_of, options_for, target_of}
 use Rattle.lx_top.specs.Outside.{SinkView, Outside, NoCountRose}
 use Rattle.lx_top.specs.Output.{IsRightOf}
+use Rattle.lx_top.specs.Warnings.{lines_for}
 use Rattle.lx_top.specs.declared.endings.Ending.{Ending}
 use Rattle.lx_top.specs.declared.endings.Ending.TheVariants.{Done, Refused, ReadFailed, PutFailed, OutOfMemory}
 
@@ -45,12 +46,21 @@ TellsMessage message err err' ReadFailed = ⊥
 TellsMessage message err err' PutFailed = Rose err.faults err'.faults × TellsFront message PutFailed err err'
 TellsMessage message err err' OutOfMemory = TellsFront message OutOfMemory err err'
 
+-- How the lines of warnings are told behind a job that was done: all of them, and no put failed; or, where there are some, a front of them and then a
+-- front of the ending's own text.
+abbrev pub TellsLines : (lines : List ℕ) → SinkView → SinkView → Ending → Type 0
+TellsLines lines err err' Done = (err'.given ≡ given_then err.given lines) × (err'.faults ≡ err.faults)
+TellsLines lines err err' Refused = ⊥
+TellsLines lines err err' ReadFailed = ⊥
+TellsLines lines err err' PutFailed = (lines ≢ []) × Rose err.faults err'.faults × TellsFront lines PutFailed err err'
+TellsLines lines err err' OutOfMemory = (lines ≢ []) × TellsFront lines OutOfMemory err err'
+
 -- words that are no text are refused as any faulty command line is, with nothing read and nothing given
 abbrev pub RefusesWords : SinkView → SinkView → (status : ℕ) → Type 0
 RefusesWords err err' status =
     (ending : Ending) × (status ≡ status_of ending) × TellsMessage (message_text [] Usage) err err' ending
 
-module _ (runs : Bool) (IsFault : Option Fault → Type 0) (names : List (List ℕ)) (target : Option (List ℕ)) (IsRight : (bytes text : List ℕ) → Type 0) (before after : Outside) where
+module _ (runs : Bool) (IsFault : Option Fault → Type 0) (names : List (List ℕ)) (target : Option (List ℕ)) (IsRight : (bytes text : List ℕ) → Type 0) (lines : List ℕ) (before after : Outside) where
   abbrev GivesNothing : Type 0
   GivesNothing = DeliversNothing before.files after.files before.out after.out
 
@@ -64,14 +74,21 @@ module _ (runs : Bool) (IsFault : Option Fault → Type 0) (names : List (List �
     pub gave : GivesBefore first
     pub told : TellsFront (message_text names first) ending before.err after.err
 
+  -- all was done, there are warnings to tell, and a front of their lines was told, and then a front of the ending's own text
+  pub record BreaksLines (ending : Ending) : Type 0 where
+    pub completes : Completes IsFault target IsRight before.files after.files before.out after.out
+    pub some : lines ≢ []
+    pub told : TellsFront lines ending before.err after.err
+
   -- the ending's own text was told, or a front of it
   abbrev TellsEnding : Ending → Type 0
   TellsEnding ending = GivesFront before.err.given after.err.given (failure_text ending)
 
-  -- all was done, and nothing is told
+  -- all was done, and the lines of the warnings were told, of which there are none where they are not asked for
   pub record IsDone : Type 0 where
     pub completes : Completes IsFault target IsRight before.files after.files before.out after.out
-    pub err_stays : after.err.given ≡ before.err.given
+    pub told : after.err.given ≡ given_then before.err.given lines
+    pub err_calm : after.err.faults ≡ before.err.faults
 
   -- there is a first fault, what comes before it was given, and then its message was told
   pub record IsRefused : Type 0 where
@@ -86,17 +103,18 @@ module _ (runs : Bool) (IsFault : Option Fault → Type 0) (names : List (List �
     pub nothing : GivesNothing
     pub told : TellsEnding ReadFailed
 
-  -- a put or a write failed while what is right was given, or the put of a fault's message failed
+  -- a put or a write failed while what is right was given, or the put of a fault's message or of the lines of warnings failed
   abbrev pub IsPutFailed : Type 0
   IsPutFailed =
       (GivesOut runs IsFault target IsRight before.files after.files before.out after.out
       × TellsEnding PutFailed)
-      ⊎ (BreaksMessage PutFailed × Rose before.err.faults after.err.faults)
+      ⊎ ((BreaksMessage PutFailed ⊎ BreaksLines PutFailed) × Rose before.err.faults after.err.faults)
 
   -- memory ran out
   abbrev pub IsOutOfMemory : Type 0
   IsOutOfMemory =
-      (BreaksOff runs IsFault target IsRight before.files after.files before.out after.out × TellsEnding OutOfMemory) ⊎ BreaksMessage OutOfMemory
+      (BreaksOff runs IsFault target IsRight before.files after.files before.out after.out × TellsEnding OutOfMemory)
+      ⊎ (BreaksMessage OutOfMemory ⊎ BreaksLines OutOfMemory)
 
   -- a run ended so
   abbrev pub EndsAs : Ending → Type 0
@@ -117,7 +135,7 @@ pub record EndsSo (words : List (List ℕ)) (before after : Outside) (ending : E
   pub seen : List HeldFile
   pub made : List Made
   pub sees : Sees before.files.held seen
-  pub ends : EndsAs (is_run (job_of words)) (IsFirstFault words seen made) (file_names words seen) (target_of (job_of words)) (IsRightOf (options_for words) seen made) before after ending
+  pub ends : EndsAs (is_run (job_of words)) (IsFirstFault words seen made) (file_names words seen) (target_of (job_of words)) (IsRightOf (options_for words) seen made) (lines_for words seen made) before after ending
   pub expected : NoCountRose before after → (fault : Option Fault) → IsFirstFault words seen made fault → IsExpected fault ending
 
 -- a run has this exit status, which stands for one of the five endings

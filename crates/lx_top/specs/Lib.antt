@@ -8,3 +8,4 @@ pub mod Output
 pub mod Puts
 pub mod Sources
 pub mod Steps
+pub mod Warnings

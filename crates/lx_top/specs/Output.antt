@@ -5,7 +5,7 @@ use Rattle.lx_base.specs.declared.settings.Job.TheVariants.{Compile, Run, Source
 use Rattle.lx_base.specs.declared.settings.Options.{Options}
 use Rattle.lx_files.specs.declared.files.HeldFile.{HeldFile}
 use Rattle.lx_files.specs.Held.{bytes_of}
-use Rattle.lx_compile.specs.Output.{IsOutput}
+use Rattle.lx_compile.specs.Output.{IsGiven}
 use Rattle.lx_compile.specs.declared.made.Made.{Made}
 use Rattle.lx_top.specs.Emitted.{IsRunText}
 use Rattle.lx_top.specs.Sources.{IsSourceOutput, IsSourceText}
@@ -17,7 +17,7 @@ GoesTo (Some name) IsOutput bytes text = IsOutput bytes × (text ≡ [])
 
 -- the bytes for its file and the text of a job that is asked for with these options, over the files, where this is made of its source
 abbrev pub IsJobRight : Options → Job → List HeldFile → List Made → (bytes text : List ℕ) → Type 0
-IsJobRight options (Compile file to) files made bytes text = GoesTo to (IsOutput options files file made) bytes text
+IsJobRight options (Compile file to) files made bytes text = GoesTo to (IsGiven options files file made) bytes text
 IsJobRight options (Run input emitted block window piece) files made bytes text =
     (bytes ≡ []) × IsRunText block window piece (bytes_of files emitted) (bytes_of files input) text
 IsJobRight options (Source rules to) files made bytes text = IsSourceOutput rules made bytes × IsSourceText rules bytes text

@@ -12,6 +12,7 @@ mod report;
 pub mod run;
 mod source;
 mod summary;
+mod warnings;
 
 pub use endings::{Ending, Halt};
 pub use lx_files::put_all;

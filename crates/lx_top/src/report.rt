@@ -47,7 +47,7 @@ fn tell_message<E: Sink>(text: &[u8], err: &mut E) -> Ending
     }
 }
 
-fn tell_failure<E: Sink>(ending: Ending, err: &mut E) -> Ending
+pub(crate) fn tell_failure<E: Sink>(ending: Ending, err: &mut E) -> Ending
     ensures same { result ≡ ending }
     ensures told { GivesFront (E.given err.old) (E.given err.new) (failure_text ending) }
     ensures never_falls { E.faults err.old ≤ E.faults err.new }

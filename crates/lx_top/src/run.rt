@@ -6,6 +6,7 @@ ghost use Rattle.lx_top.specs.Outside.{files_view, outside, sink_view};
 use crate::endings::{Ending, Halt};
 use crate::jobs::perform;
 use crate::report::report;
+use crate::warnings::tell_warnings;
 use lx_base::{Fault, FileNames};
 use lx_files::{Files, Sink};
 use std::alloc::Global;
@@ -60,7 +61,7 @@ fn run<F: Files, O: Sink, E: Sink>(
 {
     let mut names = FileNames::new(alloc);
     match perform(alloc, words, files, out, &mut names) {
-        Ok(()) => Ending::Done,
+        Ok(warnings) => tell_warnings(alloc, &names, warnings.as_slice(), err),
         Err(halt) => report(alloc, &names, halt, err),
     }
 }

@@ -70,6 +70,8 @@ fn source_options(alloc: Global) -> Result<Options, Memory>
         captures: false,
         posix: false,
         custom: false,
+        warn: false,
+        cover: false,
         enc: Enc::Byte,
         surrogates: SurPolicy::Ignore,
         empty: EmptyPolicy::MatchEmpty,
@@ -85,8 +87,8 @@ fn source_output(alloc: Global, source: &[u8]) -> Result<Vec<u8>, Halt>
     files.add(SOURCE_NAME, source)?;
     let options = source_options(alloc)?;
     let mut names = FileNames::new(alloc);
-    let output = lx_compile::compile(alloc, &mut files, &mut names, &options, SOURCE_NAME)?;
-    Ok(output)
+    let compiled = lx_compile::compile(alloc, &mut files, &mut names, &options, SOURCE_NAME)?;
+    Ok(compiled.output)
 }
 
 /// The first scanner of an output. That of a generated source has one, whose units are bytes.

@@ -7,7 +7,5 @@ pub mod Links
 pub mod MetWords
 pub mod NumberLists
 pub mod SearchSteps
-pub mod SearchedWords
 pub mod StoppedWords
 pub mod WarningLists
-pub mod WordOrder

@@ -11,7 +11,7 @@ use Rattle.lx_auto.specs.Automaton.{state_of}
 use Rattle.lx_warn.proofs.EdgeFronts.{IsPassed, edge-below, edge-high, edge-low, edge-on, edges-more, passed-all}
 use Rattle.lx_warn.specs.Found.{Extends, IsAtEdge, IsSearch, IsSearchOf, Stands, found_at, trace_of}
 use Rattle.lx_warn.specs.Graph.{accepts, edge_from, next_quiet, quiet, target_of}
-use Rattle.lx_warn.specs.Searches.{IsEarlier, IsSearched, IsTrace, StandsBy}
+use Rattle.lx_tdfa.specs.Searches.{IsEarlier, IsSearched, IsTrace, StandsBy}
 use Rattle.lx_warn.specs.declared.search.Found.{Found}
 use Rattle.lx_warn.specs.declared.search.Search.{Search}
 

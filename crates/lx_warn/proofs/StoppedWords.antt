@@ -2,12 +2,12 @@
 use Rattle.std.proofs.Common.{◌≡◌, ℕ, List, [], ◌∷◌, ◌++◌, length, true, false, refl, sym, ◌∙◌, subst}
 use Rattle.lx_auto.specs.declared.automaton.Auto.{Auto}
 use Rattle.lx_base.specs.declared.settings.Enc.{Enc}
-use Rattle.lx_warn.proofs.SearchedWords.{StandsNoLater, first-least, stands-least, words-lead}
+use Rattle.lx_tdfa.proofs.LeastWords.SearchedWords.{StandsNoLater, first-least, stands-least, words-lead}
 use Rattle.lx_warn.specs.Found.{found_at, trace_of}
 use Rattle.lx_warn.specs.Graph.{IsGap, accepts, next_quiet}
-use Rattle.lx_warn.specs.Searches.{IsSearched, word_at}
+use Rattle.lx_tdfa.specs.Searches.{IsSearched, word_at}
 use Rattle.lx_warn.specs.Stops.{HaveNoGap, IsFirstGap, IsFirstStopping, IsStopping}
-use Rattle.lx_warn.specs.Words.{IsNoLater}
+use Rattle.lx_tdfa.specs.Words.{IsNoLater}
 use Rattle.lx_warn.specs.declared.search.Found.{Found}
 
 module _ (enc : Enc) (auto : Auto) where

@@ -5,7 +5,7 @@ use Rattle.lx_auto.specs.MetStates.{is_marked, newness}
 use Rattle.lx_auto.specs.declared.automaton.Auto.{Auto}
 use Rattle.lx_auto.specs.declared.automaton.Edge.{Edge}
 use Rattle.lx_warn.specs.Graph.{edge_from, next_quiet}
-use Rattle.lx_warn.specs.Searches.{ArePassed, IsEarlier, IsTrace, Trace}
+use Rattle.lx_tdfa.specs.Searches.{ArePassed, IsEarlier, IsTrace, Trace}
 use Rattle.lx_warn.specs.declared.search.Found.{Found}
 use Rattle.lx_warn.specs.declared.search.Search.{Search}
 

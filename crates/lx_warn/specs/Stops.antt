@@ -4,8 +4,8 @@ use Rattle.lx_auto.specs.declared.automaton.Auto.{Auto}
 use Rattle.lx_base.specs.declared.settings.Enc.{Enc}
 use Rattle.lx_warn.specs.Found.{found_at}
 use Rattle.lx_warn.specs.Graph.{IsGap, accepts, next_quiet}
-use Rattle.lx_warn.specs.Searches.{walk}
-use Rattle.lx_warn.specs.Words.{IsNoLater}
+use Rattle.lx_tdfa.specs.Searches.{walk}
+use Rattle.lx_tdfa.specs.Words.{IsNoLater}
 use Rattle.lx_warn.specs.declared.search.Found.{Found}
 
 module _ (enc : Enc) (auto : Auto) where

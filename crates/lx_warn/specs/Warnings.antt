@@ -8,7 +8,7 @@ use Rattle.lx_regex.specs.Match.{IsMatch, Takes, matched}
 use Rattle.lx_regex.specs.Order.{Policy}
 use Rattle.lx_regex.specs.Pattern.{Pattern, terms_of, with_terms}
 use Rattle.lx_regex.specs.Values.{Value}
-use Rattle.lx_warn.specs.Words.{ComesBefore}
+use Rattle.lx_tdfa.specs.Words.{ComesBefore}
 use Rattle.lx_warn.specs.declared.lists.Warning.{Warning}
 use Rattle.lx_warn.specs.declared.lists.Warning.TheVariants.{Unreachable, Empty, Undefined}
 

@@ -2,13 +2,13 @@
 ghost use Rattle.std.specs.Prelude.{◌≡◌, ℕ, ◌<◌, List, [], ◌∷◌, ◌++◌, Option, IfOk, MatchOption, length};
 ghost use Rattle.lx_auto.specs.Automaton.{IsAuto};
 ghost use Rattle.lx_warn.specs.Found.{found_at, trace_of};
-ghost use Rattle.lx_warn.specs.Searches.{IsTrace, word_at};
+ghost use Rattle.lx_tdfa.specs.Searches.{IsTrace, word_at};
 ghost use Rattle.lx_warn.specs.Stops.{HaveNoGap, IsFirstGap, IsFirstStopping, IsStopping};
 
 use crate::gaps::least_gap;
 use crate::search::{Found, accepts, searched};
 use lx_auto::{Auto, edges_of};
-use lx_base::{Enc, Memory, Sequence};
+use lx_base::{Enc, Memory, Word};
 use std::alloc::Global;
 
 /// The first place whose state has no edge on some unit of the encoding, and the least such unit.
@@ -27,7 +27,7 @@ fn first_gap(auto: &Auto, enc: Enc, found: &[Found]) -> Option<(usize, u32)>
 }
 
 /// The word of a place, and a unit behind it.
-fn word_to(alloc: Global, found: &[Found], place: usize, unit: u32) -> Result<Sequence<u32>, Memory>
+fn word_to(alloc: Global, found: &[Found], place: usize, unit: u32) -> Result<Word, Memory>
     requires traced { (step : ℕ → ℕ → Option ℕ) × IsTrace step (trace_of found.now) }
     requires within { place < length found.now }
     ensures { IfOk result (λ word. word ≡ word_at (trace_of found.now) place ++ unit ∷ []) }
@@ -40,15 +40,11 @@ fn word_to(alloc: Global, found: &[Found], place: usize, unit: u32) -> Result<Se
         at = found[at].parent as usize;
     }
     units.reverse();
-    Ok(Sequence::from_vec(units))
+    Ok(Word::from_vec(units))
 }
 
 /// The first word on which the automaton stops before it accepts, if there is one.
-pub(crate) fn first_stopping(
-    alloc: Global,
-    auto: &Auto,
-    enc: Enc,
-) -> Result<Option<Sequence<u32>>, Memory>
+pub(crate) fn first_stopping(alloc: Global, auto: &Auto, enc: Enc) -> Result<Option<Word>, Memory>
     requires { IsAuto auto.now }
     ensures { IfOk result (λ found. MatchOption found ((word : List ℕ) → IsStopping enc auto.now word → ⊥)
         (IsFirstStopping enc auto.now)) }

@@ -4,8 +4,7 @@
 mod dead_words;
 mod entered;
 mod gaps;
-pub mod laws;
 mod lists;
 mod search;
 
-pub use lists::{Warning, WarningList, Word, warnings};
+pub use lists::{Warning, WarningList, warnings};

@@ -12,13 +12,10 @@ ghost use Rattle.lx_warn.specs.Warnings.{AreWarnings, HasNumber};
 use crate::dead_words::first_stopping;
 use crate::entered::{accepted_rule, entered_rules, start_enters};
 use lx_auto::{Auto, met_states};
-use lx_base::{Enc, Memory, Sequence};
+use lx_base::{Enc, Memory, Sequence, Word};
 use lx_regex::{Kind, Rule, RuleSet};
 use lx_rules::Scanner;
 use std::alloc::Global;
-
-/// A list of code units.
-pub type Word = Sequence<u32>;
 
 /// What a scanner is warned of.
 #[derive(Drop)]

@@ -3,7 +3,7 @@ ghost use Rattle.std.specs.Prelude.{◌≡◌, ℕ, ◌+◌, ◌<◌, IfOk, OnOk
 ghost use Rattle.lx_auto.specs.Automaton.{IsAuto, state_of};
 ghost use Rattle.lx_warn.specs.Found.{Extends, IsAtEdge, IsSearch, found_at, trace_of};
 ghost use Rattle.lx_warn.specs.Graph.{accepts as state_accepts, next_quiet};
-ghost use Rattle.lx_warn.specs.Searches.{IsSearched};
+ghost use Rattle.lx_tdfa.specs.Searches.{IsSearched};
 
 use lx_auto::{Auto, Edge, edges_of};
 use lx_base::Memory;

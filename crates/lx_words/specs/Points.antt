@@ -63,8 +63,9 @@ abbrev pub says_how_to_compile : Line → Bool
 says_how_to_compile line =
     has_flag line (codes "no-debug-info") || (has_flag line (codes "conditions") || (has_flag line (codes "storable-state")
     || (has_flag line (codes "reusable") || (has_flag line (codes "tags") || (has_flag line (codes "nested-ifs")
-    || (has_flag line (codes "captures") || (nat_lt 0 (encoding_count line) || (has_value line (codes "include")
-    || (has_value line (codes "encoding-policy") || (has_value line (codes "empty-class") || has_value line (codes "input")))))))))))
+    || (has_flag line (codes "captures") || (has_flag line (codes "warnings") || (has_flag line (codes "x-cover")
+    || (nat_lt 0 (encoding_count line) || (has_value line (codes "include")
+    || (has_value line (codes "encoding-policy") || (has_value line (codes "empty-class") || has_value line (codes "input")))))))))))))
 
 -- options of a run stand without one, or a run stands with other options
 abbrev pub mixes_run : Line → Bool

@@ -101,7 +101,9 @@ fn with_features<'a>(alloc: Global, command: Command<'a>) -> Result<Command<'a>,
         Some("nested-ifs"),
         count,
     )?;
-    with_option(alloc, command, "captures", None, Some("captures"), count)
+    let command = with_option(alloc, command, "captures", None, Some("captures"), count)?;
+    let command = with_option(alloc, command, "warnings", Some('W'), None, count)?;
+    with_option(alloc, command, "x-cover", None, Some("x-cover"), count)
 }
 
 /// The command with encodings and policies, and with how input is read.

@@ -133,6 +133,8 @@ pub fn options_of(alloc: Global, line: &ArgMatches<'_>) -> Result<Options, Memor
         captures: has_flag(line, "captures"),
         posix: false,
         custom: has_value(line, "input"),
+        warn: has_flag(line, "warnings"),
+        cover: has_flag(line, "x-cover"),
         enc: encoding_of(line),
         surrogates,
         empty,

@@ -96,6 +96,8 @@ fn says_how_to_compile(line: &ArgMatches<'_>) -> bool
         || has_flag(line, "tags")
         || has_flag(line, "nested-ifs")
         || has_flag(line, "captures")
+        || has_flag(line, "warnings")
+        || has_flag(line, "x-cover")
         || encoding_count(line) > 0
         || has_value(line, "include")
         || has_value(line, "encoding-policy")

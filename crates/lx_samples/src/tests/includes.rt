@@ -21,6 +21,8 @@ fn options(alloc: Global, dir: Option<FileName>) -> Options {
         captures: false,
         posix: false,
         custom: false,
+        warn: false,
+        cover: false,
         enc: Enc::Byte,
         surrogates: SurPolicy::Ignore,
         empty: EmptyPolicy::MatchEmpty,

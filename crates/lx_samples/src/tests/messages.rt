@@ -98,6 +98,10 @@ fn each_fault_has_its_text(rt: HostRuntime) -> Result<(), Fail> {
             Fault::BadInput { at, length: 3 },
             "input is no whole number of units",
         ),
+        (
+            Fault::CoverTooLong { at, sum: 1048762 },
+            "too many cover words",
+        ),
     ];
     let mut names = FileNames::new(rt.alloc());
     names.add("a.re")?;

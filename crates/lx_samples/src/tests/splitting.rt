@@ -21,6 +21,8 @@ fn options(alloc: Global, conds: bool, states: bool) -> Options {
         captures: false,
         posix: false,
         custom: false,
+        warn: false,
+        cover: false,
         enc: Enc::Byte,
         surrogates: SurPolicy::Ignore,
         empty: EmptyPolicy::MatchEmpty,

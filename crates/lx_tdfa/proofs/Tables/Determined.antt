@@ -1,7 +1,7 @@
 -- From what the code builds to what is promised.
-use Rattle.std.proofs.Common.{◌≡◌, ◌≤◌, arith, List, [], ◌∷◌, length, refl, sym, ap, subst}
+use Rattle.std.proofs.Common.{◌≡◌, ◌≢◌, ◌≤◌, arith, List, [], ◌∷◌, length, refl, sym, ap, subst}
 use Rattle.std.proofs.lemmas.List.Elements.{All-cons, All-nil}
-use Rattle.std.specs.Prelude.{All}
+use Rattle.std.specs.Prelude.{All, AllPairs}
 use Rattle.lx_regex.specs.ClassLimits.{AllClassesFit}
 use Rattle.lx_base.specs.Spelling.{greatest_unit}
 use Rattle.lx_base.specs.declared.faults.Stop.{Stop}
@@ -16,6 +16,7 @@ use Rattle.lx_tnfa.specs.RuleNumbers.{HaveApartNumbers}
 use Rattle.lx_tnfa.specs.Tnfa.{IsTnfaOf, Tnfa}
 use Rattle.lx_tnfa.specs.declared.places.Place.{Place}
 use Rattle.lx_tdfa.specs.Building.{AreListed, AreStatesOf, IsBuilt, TooManyFound, greatest_of}
+use Rattle.lx_tdfa.specs.KernelStates.{HasKernelStates}
 use Rattle.lx_tdfa.specs.Making.{StopsBy}
 use Rattle.lx_tdfa.specs.Promise.{IsAutoOf}
 use Rattle.lx_tdfa.specs.Registers.{widest}
@@ -30,6 +31,7 @@ use Rattle.lx_tdfa.proofs.WordKernels.ManyKernels.{many_found}
 use Rattle.lx_tdfa.proofs.Rules.OwnedEnds.{ends_are_owned}
 use Rattle.lx_tdfa.proofs.Walks.Searches.{searches_alike}
 use Rattle.lx_tdfa.proofs.Tables.TableAutomata.{table_auto}
+use Rattle.lx_tdfa.proofs.Tables.TableKernels.{table-kernels}
 
 pub start_listed : (tnfa : Tnfa) → AreListed tnfa ((start_place ∷ []) ∷ [])
 start_listed tnfa = record {
@@ -65,20 +67,27 @@ module _ (tnfa : Tnfa) (built : IsBuilt tnfa) where
           (subst (λ greatest. All (IsFound tnfa greatest) reason.1.0) greatest_same reason.1.1) reason.1.2.apart reason.1.2.many,
     )
 
+    built-table : (kernels : List (List Place)) (auto : Auto) → AreListed tnfa kernels → IsAuto auto → length auto.states ≡ length kernels
+        → AreStatesOf tnfa kernels auto.states → IsTable tnfa (greatest_unit enc) kernels auto
+    built-table kernels auto listed formed count states = record {
+      formed = formed;
+      start = listed.start;
+      lists = sym count;
+      places = listed.places;
+      states = λ number list state e f.
+          subst (λ greatest. IsStateOf tnfa greatest kernels (is_first number) list state) greatest_same (states number list state e f).0;
+    }
+
+    pub built-kernels : (kernels : List (List Place)) (auto : Auto) → AreListed tnfa kernels → IsAuto auto → length auto.states ≡ length kernels
+        → AreStatesOf tnfa kernels auto.states → AllPairs (λ list other. list ≢ other) kernels → HasKernelStates enc patterns auto
+    built-kernels kernels auto listed formed count states differ =
+        table-kernels enc patterns tnfa of fits alike kept kernels auto (built-table kernels auto listed formed count states) differ
+
     pub built-automaton : (kernels : List (List Place)) (auto : Auto) → AreListed tnfa kernels → IsAuto auto → length auto.states ≡ length kernels
         → AreStatesOf tnfa kernels auto.states
         → IsAutoOf enc patterns auto × (HasTooManyKernels enc (terms_of patterns) → ⊥)
-    built-automaton kernels auto listed formed count states = (
-      table_auto enc patterns tnfa kernels auto of fits alike kept (ends_are_owned enc patterns tnfa of) table,
-      few_found enc patterns tnfa of fits alike kernels auto table listed.within.few listed.within.few_places,
-    )
-      where
-        table : IsTable tnfa (greatest_unit enc) kernels auto
-        table = record {
-          formed = formed;
-          start = listed.start;
-          lists = sym count;
-          places = listed.places;
-          states = λ number list state e f.
-              subst (λ greatest. IsStateOf tnfa greatest kernels (is_first number) list state) greatest_same (states number list state e f).0;
-        }
+    built-automaton kernels auto listed formed count states =
+        let table = built-table kernels auto listed formed count states in (
+          table_auto enc patterns tnfa kernels auto of fits alike kept (ends_are_owned enc patterns tnfa of) table,
+          few_found enc patterns tnfa of fits alike kernels auto table listed.within.few listed.within.few_places,
+        )

@@ -19,7 +19,7 @@ use Rattle.lx_tdfa.proofs.WordKernels.ProgramKernels.{kernel_after-empty, kernel
 use Rattle.lx_tdfa.proofs.Values.StepHolds.{kernel_after-more}
 use Rattle.lx_tdfa.proofs.Tables.TableRuns.{IsGiven, Stands, kernel_numbers, stands-run, stands-start, stands-step, stuck}
 
-nil_of_map : {X Y : Type 0} (f : X → Y) (xs : List X) → map f xs ≡ [] → xs ≡ []
+pub nil_of_map : {X Y : Type 0} (f : X → Y) (xs : List X) → map f xs ≡ [] → xs ≡ []
 nil_of_map f [] e = refl
 nil_of_map f (x ∷ xs) e = cc e
 

@@ -38,7 +38,7 @@ module _ (enc : Enc) (patterns : List Pattern) (tnfa : Tnfa) (of : IsTnfaOf enc 
 
   some_in_table : (word : List ℕ) (cuts : List Cut) → IsWord enc (terms_of patterns) word → IsKernel Precedes enc (terms_of patterns) word cuts
       → cuts ≢ [] → InTable enc patterns tnfa kernels word
-  some_in_table [] cuts spelled is full = record { index = 0; kernel = start_place ∷ []; at = table.start; stands = at_first }
+  some_in_table [] cuts spelled is full = record { index = 0; kernel = start_place ∷ []; at = table.start; stands = at_first; full = λ e. cc }
   some_in_table (unit ∷ word) cuts spelled is full =
       ⊎_elim
       (λ none. absurd (full (cuts_are (unit ∷ word) cuts (λ e. cc) is ∙ bare (after_word (unit ∷ word)) none)))
@@ -59,7 +59,7 @@ module _ (enc : Enc) (patterns : List Pattern) (tnfa : Tnfa) (of : IsTnfaOf enc 
       ∙ ap length (sym same) ∙ length-map kernel (number_of tnfa)
 
   -- kernels at one place of the table are the same
-  one_place : (word other : List ℕ) (cuts others : List Cut) (index at : ℕ) (kernel list : List Place)
+  pub one_place : (word other : List ℕ) (cuts others : List Cut) (index at : ℕ) (kernel list : List Place)
       → IsKernel Precedes enc (terms_of patterns) word cuts → IsKernel Precedes enc (terms_of patterns) other others
       → Stands word index kernel → Stands other at list → index ≡ at → kernel ≡ list → SamePlaces enc (terms_of patterns) cuts others
   one_place word other cuts others index at kernel list is too at_first at_first e f =

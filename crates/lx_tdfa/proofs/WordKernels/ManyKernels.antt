@@ -53,14 +53,14 @@ first_apart enc rules word (cut ∷ cuts) ne is same =
 module _ (enc : Enc) (patterns : List Pattern) (tnfa : Tnfa) (of : IsTnfaOf enc patterns tnfa) (fits : AllClassesFit enc (terms_of patterns))
     (kept : RulesKept enc patterns tnfa) where
   -- where a list of places comes from: from the start, or from a word
-  abbrev Origin : List Place → Type 0
+  abbrev pub Origin : List Place → Type 0
   Origin kernel = (kernel ≡ start_place ∷ []) ⊎ HasWord enc patterns tnfa kernel
 
   word_from : (kernel : List Place) → Origin kernel → List ℕ
   word_from kernel (inl start) = []
   word_from kernel (inr has) = has.word
 
-  cuts_from : (kernel : List Place) → Origin kernel → List Cut
+  unfoldable pub cuts_from : (kernel : List Place) → Origin kernel → List Cut
   cuts_from kernel (inl start) = first_cut ∷ []
   cuts_from kernel (inr has) = map cut_of (kernel_after tnfa (terms_of patterns) has.word)
 
@@ -104,7 +104,7 @@ module _ (enc : Enc) (patterns : List Pattern) (tnfa : Tnfa) (of : IsTnfaOf enc 
       let rest = numbers_same kernel other are.1 also.1 tail in cc
 
   -- different lists are different kernels
-  apart : (kernel other : List Place) (origin : Origin kernel) (also : Origin other) → kernel ≢ other
+  pub apart : (kernel other : List Place) (origin : Origin kernel) (also : Origin other) → kernel ≢ other
       → SamePlaces enc (terms_of patterns) (cuts_from kernel origin) (cuts_from other also) → ⊥
   unfolding cuts_from
   apart kernel other (inl start) (inl first) ne same = ne (start ∙ sym first)

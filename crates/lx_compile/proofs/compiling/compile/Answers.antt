@@ -3,7 +3,7 @@ use Rattle.std.proofs.lemmas.Result.{err_from_is_err_and}
 use Rattle.lx_files.specs.Counts.{Rose}
 use Rattle.lx_split.specs.Includes.{expansion}
 use Rattle.lx_split.proofs.SoundExpansions.{expansion-sound}
-use Rattle.lx_compile.proofs.Compilations.{EachIsNear-sound, IsFirstFault-none, IsOutput-of, StopsWith-behind, StopsWith-expansion}
+use Rattle.lx_compile.proofs.Compilations.{EachIsNear-sound, IsFirstFault-none, IsGiven-of, StopsWith-behind, StopsWith-expansion}
 use Rattle.lx_compile.proofs.compiling.compile.Goals as goal
 
 pub returns-in_err-pieces-clause-compiles : goal.returns-in_err-pieces-clause-compiles
@@ -48,14 +48,15 @@ returns-clause-compiles g c =
     let names = c.expand.new.names in
     let pieces = c.in_ok-pieces.pieces in
     let found = c.in_ok-pieces.ensures.expands in
-    let output = c.in_ok-output_of.field-0.items in
+    let output = c.in_ok-output_of.field-0.output.items in
     let answer = c.in_ok-output_of.ensures in (
       found.0,
       found.1,
       (
         answer.0,
         IsFirstFault-none options found.0 main names pieces found.2 answer.0 answer.1,
-        IsOutput-of options found.0 main names pieces found.2 answer.0 output answer.2,
+        IsGiven-of options found.0 main names pieces found.2 answer.0 output answer.2,
+        answer.3,
         sym found.2.1,
       ),
     )

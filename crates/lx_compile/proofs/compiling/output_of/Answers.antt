@@ -1,6 +1,6 @@
-use Rattle.std.proofs.lemmas.Result.{MatchResult-weaker, err_from_is_err_and}
+use Rattle.std.proofs.lemmas.Result.{err_from_is_err_and}
 use Rattle.lx_compile.specs.FirstFault.{setting_of}
-use Rattle.lx_compile.proofs.Compilations.{IsOutputOf-parts, StopsBehind-blocks, StopsBehind-directives, StopsBehind-kernels}
+use Rattle.lx_compile.proofs.Compilations.{IsGivenOf-parts, StopsBehind-blocks, StopsBehind-directives, StopsBehind-scanners}
 use Rattle.lx_compile.proofs.MadeRuns.{IsPrintable-made}
 use Rattle.lx_compile.proofs.compiling.output_of.Goals as goal
 
@@ -14,7 +14,7 @@ returns-in_err-made c =
     let parts = c.in_ok-resolution.ensures.parts in
     let p = err_from_is_err_and c.from_residual-in_err-made.result c.from_residual-in_err-made.ensures.1 in
     rw (p.1, p.2)
-    (StopsBehind-kernels c.args.options.now c.args.names.now c.args.pieces c.in_ok-resolution.resolution.parts parts.0 parts.1
+    (StopsBehind-scanners c.args.options.now c.args.names.now c.args.pieces c.in_ok-resolution.resolution.parts parts.0 parts.1
     c.in_err-made.field-0.0 c.in_err-made.ensures)
 
 pub write-requires-clause-valid : goal.write-requires-clause-valid
@@ -22,6 +22,17 @@ write-requires-clause-valid c =
     let parts = c.in_ok-resolution.resolution.parts in
     let is = rw (c.switch_themselves-own_switch.ensures, c.as_slice.ensures) at c.in_ok-made.ensures in
     rw c.as_slice-2.ensures (IsPrintable-made (setting_of c.args.options.now c.args.names.now parts) 1 0 parts c.in_ok-made.made is.0)
+
+pub returns-in_err-whole : goal.returns-in_err-whole
+returns-in_err-whole c =
+    let names = c.args.names.now in
+    let parts = c.in_ok-resolution.resolution.parts in
+    let are = c.in_ok-resolution.ensures.parts in
+    let is = rw (c.switch_themselves-own_switch.ensures, c.as_slice.ensures) at c.in_ok-made.ensures in
+    let stops = rw (c.as_slice-2.ensures, are.2) at c.in_err-whole.ensures in
+    let p = err_from_is_err_and c.from_residual-in_err-whole.result c.from_residual-in_err-whole.ensures.1 in
+    rw (p.1, p.2)
+    (StopsBehind-directives c.args.options.now names c.args.pieces parts are.0 are.1 is.1 c.in_ok-made.made is.0 c.in_err-whole.field-0.0 stops)
 
 pub returns : goal.returns
 returns c =
@@ -31,9 +42,8 @@ returns c =
     let made = c.in_ok-made.made in
     let are = c.in_ok-resolution.ensures.parts in
     let is = rw (c.switch_themselves-own_switch.ensures, c.as_slice.ensures) at c.in_ok-made.ensures in
-    let wrote = rw (c.as_slice-2.ensures, are.2) at c.write.ensures in
-    MatchResult-weaker c.write.result wrote
-    (λ output holds.
-    let output_of = IsOutputOf-parts options names c.args.pieces parts are.0 are.1 is.1 made is.0 output.items holds.0 holds.1 in
-    (made, output_of.0, output_of.1))
-    (λ stopped stops. StopsBehind-directives options names c.args.pieces parts are.0 are.1 is.1 made is.0 stopped stops)
+    let wrote = rw (c.as_slice-2.ensures, are.2) at c.in_ok-whole.ensures in
+    let given = rw c.as_slice-3.ensures at c.in_ok-output.ensures in
+    let given_of =
+    IsGivenOf-parts options names c.args.pieces parts are.0 are.1 is.1 made is.0 c.in_ok-whole.whole.items c.in_ok-output.output.items wrote.0 wrote.1 given in
+    (made, given_of.0, given_of.1, c.in_ok-warnings.ensures)

@@ -21,10 +21,11 @@ loop-one-preserved c =
       | in-Scanners w ↦
           let piece = w.in-Scanners.piece in
           let checks = w.in-Scanners.checks in
+          let warnings = w.in-Scanners.warnings in
           let is : c.match-one.most ≡ greatest_in most checks =
           w.most-is ∙ w.greatest_in-most.ensures ∙ ap (greatest_in most) w.as_slice.ensures in record {
             most =
-                ap (λ n. max n (units_of rest)) is ∙ units_of-more most piece checks rest
+                ap (λ n. max n (units_of rest)) is ∙ units_of-more most piece checks warnings w.in-Scanners.cover rest
                 ∙ ap (λ first. max most (units_of (first ∷ rest))) (sym w.in-Scanners.is) ∙ from;
             positive = omega (arith, before.positive, is, greatest_in-max most checks);
           }

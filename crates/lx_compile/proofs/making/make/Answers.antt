@@ -5,18 +5,18 @@ use Rattle.std.proofs.lemmas.List.Elements.{All-head, All-tail}
 use Rattle.std.proofs.lemmas.Result.{err_from_is_err_and}
 use Rattle.lx_compile.specs.Emittable.{IsMakeable}
 use Rattle.lx_compile.specs.Making.{seen_frame}
-use Rattle.lx_compile.proofs.KernelRuns.{HasNoneBefore-block, HasNoneBefore-outside, HasNoneBefore-start, IsKernelFault-end, StopsByKernels-block}
+use Rattle.lx_compile.proofs.ScanningRuns.{HasNoneBefore-block, HasNoneBefore-outside, HasNoneBefore-start, IsScanningFault-end, StopsByScanners-block}
 use Rattle.lx_compile.proofs.MadeRuns.{AreMade-length, HasMade-block, HasMade-end, HasMade-outside, HasMade-start}
 use Rattle.lx_compile.proofs.making.make.Goals as goal
 
 pub loop-part-init : goal.loop-part-init
 loop-part-init c =
     let setting = seen_frame c.args.frame.now in
-    let enc = c.args.frame.now.options.now.enc in
+    let options = c.args.frame.now.options.now in
     let gives = c.into_iter-part-iterator.ensures.into_iter_gives in
     let items = gives.0 ∙ c.into_vec-part-items.ensures in record {
       made = rw (items, c.new-all.ensures) (HasMade-start setting c.args.parts);
-      none = rw items (HasNoneBefore-start enc c.args.parts);
+      none = rw items (HasNoneBefore-start options c.args.parts);
       makeable = rw items c.requires.makeable;
       small = let same = ap length items in omega arith;
       count = let held = c.into_vec-part-items.result.ok in gives.1 ∙ held.0 ∙ ap length (sym gives.0);
@@ -25,7 +25,7 @@ loop-part-init c =
 pub loop-part-preserved-in-Continue-1 : goal.loop-part-preserved-in-Continue-1
 loop-part-preserved-in-Continue-1 c =
     let setting = seen_frame c.args.frame.now in
-    let enc = c.args.frame.now.options.now.enc in
+    let options = c.args.frame.now.options.now in
     let at = c.loop-part in
     let before = at.invariant in
     let rest = into_iter_items c.next.new.self in
@@ -35,7 +35,7 @@ loop-part-preserved-in-Continue-1 c =
       made =
           rw c.in_ok-push-in-Outside.ensures.pushed
           (HasMade-outside setting c.args.parts rest at.numbers.piece at.numbers.state at.all c.in-Outside.text (rw (steps, c.in-Outside.is) at before.made));
-      none = HasNoneBefore-outside enc c.args.parts rest c.in-Outside.text (rw (steps, c.in-Outside.is) at before.none);
+      none = HasNoneBefore-outside options c.args.parts rest c.in-Outside.text (rw (steps, c.in-Outside.is) at before.none);
       makeable = All-tail (IsMakeable c.args.frame.now.options.now) c.in-Some.part rest (rw steps at before.makeable);
       small = let was = before.small in omega arith;
       count = let was = before.count in omega arith;
@@ -52,7 +52,7 @@ make_block-requires c =
 pub loop-part-preserved : goal.loop-part-preserved
 loop-part-preserved c =
     let setting = seen_frame c.args.frame.now in
-    let enc = c.args.frame.now.options.now.enc in
+    let options = c.args.frame.now.options.now in
     let at = c.loop-part in
     let before = at.invariant in
     let rest = into_iter_items c.next.new.self in
@@ -65,7 +65,7 @@ loop-part-preserved c =
           rw c.in_ok-push-in-Block.ensures.pushed
           (HasMade-block setting c.args.parts rest at.numbers.piece at.numbers.state answer.next at.all block.at block.line block.content answer.made
           (rw (steps, block.is) at before.made) answer.ensures.0);
-      none = HasNoneBefore-block enc c.args.parts rest block.at block.line block.content (rw (steps, block.is) at before.none) answer.ensures.1;
+      none = HasNoneBefore-block options c.args.parts rest block.at block.line block.content (rw (steps, block.is) at before.none) answer.ensures.1;
       makeable = All-tail (IsMakeable c.args.frame.now.options.now) c.in-Some.part rest (rw steps at before.makeable);
       small = let was = before.small in omega arith;
       count = let was = before.count in omega arith;
@@ -73,24 +73,24 @@ loop-part-preserved c =
 
 pub returns-in_err-made-in-Block : goal.returns-in_err-made-in-Block
 returns-in_err-made-in-Block c =
-    let enc = c.args.frame.now.options.now.enc in
+    let options = c.args.frame.now.options.now in
     let at = c.loop-part in
     let rest = into_iter_items c.next.new.self in
     let steps : into_iter_items at.part-iterator ≡ c.in-Some.part ∷ rest = c.in-Some.ensures.steps.0 in
     let none = rw (steps, c.in-Block.is) at at.invariant.none in
     let p = err_from_is_err_and c.from_residual-in_err-made-in-Block.result c.from_residual-in_err-made-in-Block.ensures.1 in
     rw (p.1, p.2)
-    (StopsByKernels-block enc c.args.parts rest c.in-Block.at c.in-Block.line c.in-Block.content c.in_err-made-in-Block.field-0.0 none c.in_err-made-in-Block.ensures)
+    (StopsByScanners-block options c.args.parts rest c.in-Block.at c.in-Block.line c.in-Block.content c.in_err-made-in-Block.field-0.0 none c.in_err-made-in-Block.ensures)
 
 pub returns : goal.returns
 returns c =
     let setting = seen_frame c.args.frame.now in
-    let enc = c.args.frame.now.options.now.enc in
+    let options = c.args.frame.now.options.now in
     let at = c.loop-part in
     let none = c.in-None.ensures.steps in
     let empty : into_iter_items at.part-iterator ≡ [] = nil_from_length (into_iter_items at.part-iterator) (sym at.invariant.count ∙ none.0) in
     let made = HasMade-end setting c.args.parts at.numbers.piece at.numbers.state at.all (rw empty at at.invariant.made) in (
       made,
-      IsKernelFault-end enc c.args.parts (rw empty at at.invariant.none),
+      IsScanningFault-end options c.args.parts (rw empty at at.invariant.none),
       AreMade-length setting 1 0 c.args.parts at.all made,
     )

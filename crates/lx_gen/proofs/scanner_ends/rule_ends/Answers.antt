@@ -3,9 +3,10 @@ use Rattle.std.proofs.lemmas.List.{drop_more}
 use Rattle.lx_ccode.specs.Validity.{IsLine}
 use Rattle.lx_layout.specs.declared.rule_ends.RuleEnd.{RuleEnd}
 use Rattle.lx_regex.specs.declared.rules.Rule.{Rule}
-use Rattle.lx_gen.specs.Generated.{act_of, endings_by}
+use Rattle.lx_gen.specs.Generated.{endings_by}
+use Rattle.lx_rules.specs.Numbered.{numbered_act}
 use Rattle.lx_gen.specs.Seen.{seen_marks}
-use Rattle.lx_gen.proofs.RuleEndings.{act_of-some, endings_over, endings_over-all, endings_over-more, lines-each}
+use Rattle.lx_gen.proofs.RuleEndings.{numbered_act-some, endings_over, endings_over-all, endings_over-more, lines-each}
 use Rattle.lx_gen.proofs.SourceLists.{drop_all, each-more}
 use Rattle.lx_gen.proofs.scanner_ends.rule_ends.Goals as goal
 
@@ -23,7 +24,7 @@ loop-rule-preserved c =
     let acts = c.args.acts.now in
     let rules = c.args.rules.now in
     let left = drop (c.loop-rule.rule-index + 1) rules in
-    let own : act_of acts c.rule-item.result.number ≡ Some c.in-Some.act.now = sym c.act_of.ensures ∙ ap option_copied c.in-Some.is in
+    let own : numbered_act acts c.rule-item.result.number ≡ Some c.in-Some.act.now = sym c.numbered_act.ensures ∙ ap option_copied c.in-Some.is in
     let split : drop c.loop-rule.rule-index rules ≡ c.rule-item.result ∷ left =
     drop_more rules c.loop-rule.rule-index c.rule-item.result c.loop-rule-test.true
     ∙ ap (λ (rule : Rule). rule ∷ left) (sym c.rule-item.is) in
@@ -43,4 +44,4 @@ unreachable-requires c =
     let rules = c.args.rules.now in
     let numbered = subst (λ (rule : Rule). (0 < rule.number) × (rule.number ≤ length c.args.acts.now)) (sym c.rule-item.is)
     (c.requires c.loop-rule.rule-index c.rule-item.result c.loop-rule-test.true) in
-    act_of-some c.args.acts.now c.rule-item.result.number numbered.0 numbered.1 (sym c.act_of.ensures ∙ ap option_copied c.in_default.is)
+    numbered_act-some c.args.acts.now c.rule-item.result.number numbered.0 numbered.1 (sym c.numbered_act.ensures ∙ ap option_copied c.in_default.is)

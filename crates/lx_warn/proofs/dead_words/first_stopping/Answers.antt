@@ -1,7 +1,7 @@
 use Rattle.std.proofs.Common.{◌++◌, [], ◌∷◌, length, sym, ap, ◌∙◌, subst}
 use Rattle.lx_warn.proofs.StoppedWords.{first-stopping, no-stopping}
 use Rattle.lx_warn.specs.Found.{trace_of}
-use Rattle.lx_warn.specs.Searches.{word_at}
+use Rattle.lx_tdfa.specs.Searches.{word_at}
 use Rattle.lx_warn.specs.Stops.{HaveNoGap, IsFirstGap, IsFirstStopping}
 use Rattle.lx_warn.proofs.dead_words.first_stopping.Goals as goal
 

@@ -1,8 +1,8 @@
 use Rattle.std.proofs.Common.{◌<◌, [], ◌∷◌, ◌++◌, length, reverse, sym, ap, ◌∙◌, arith, append_assoc}
 use Rattle.std.proofs.lemmas.List.{reverse-append}
 use Rattle.lx_warn.specs.Found.{found_at, trace_of}
-use Rattle.lx_warn.specs.Searches.{word_at}
-use Rattle.lx_warn.proofs.SearchedWords.{word_at-parent}
+use Rattle.lx_tdfa.specs.Searches.{word_at}
+use Rattle.lx_tdfa.proofs.LeastWords.SearchedWords.{word_at-parent}
 use Rattle.lx_warn.proofs.dead_words.word_to.Goals as goal
 
 pub loop-at-preserved : goal.loop-at-preserved

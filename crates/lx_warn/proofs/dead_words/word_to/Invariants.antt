@@ -1,6 +1,6 @@
 use Rattle.std.proofs.Common.{◌≡◌, ◌<◌, ◌++◌, [], ◌∷◌, length, reverse}
 use Rattle.lx_warn.specs.Found.{trace_of}
-use Rattle.lx_warn.specs.Searches.{word_at}
+use Rattle.lx_tdfa.specs.Searches.{word_at}
 use Rattle.lx_warn.proofs.dead_words.word_to.Given as goal
 
 abbrev pub invariant-loop-at : goal.invariant-loop-at

@@ -1,0 +1,21 @@
+use Rattle.std.proofs.Common.{sym}
+use Rattle.lx_cover.proofs.OneCover.{IsCover-sum}
+use Rattle.lx_cover.specs.declared.covering.TheConstants.{COVER_LIMIT}
+use Rattle.lx_regex.specs.Pattern.{patterns_of, terms_of}
+use Rattle.lx_compile.specs.Covering.{IsCoveredWhere}
+use Rattle.lx_compile.specs.Options.{asks_for_cover}
+use Rattle.lx_compile.proofs.covered.append_cover.Goals as goal
+
+pub returns : goal.returns
+returns c =
+    let frame = c.args.frame.now in
+    let options = frame.options.now in
+    let scanner = c.args.scanner.now in
+    let patterns = patterns_of scanner.set.rules in
+    let cover = c.in_ok-words.ensures patterns c.requires.built c.requires.within.classes in
+    let own = c.in_ok-append_words.ensures in
+    let covered : IsCoveredWhere options.enc frame.acts.now scanner (asks_for_cover options) frame.number own.0 =
+    rw (sym c.asks_for_cover.ensures, c.if-not-asks_for_cover.false) own.1 in (
+      λ sum long. IsCover-sum options.enc (terms_of patterns) c.in_ok-words.words COVER_LIMIT sum cover.0 cover.1 long.1,
+      (own.0, covered, own.2),
+    )

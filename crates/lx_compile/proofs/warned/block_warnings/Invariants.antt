@@ -1,0 +1,6 @@
+use Rattle.std.proofs.Common.{drop}
+use Rattle.lx_compile.proofs.WarningRuns.{HaveWarnings}
+use Rattle.lx_compile.proofs.warned.block_warnings.Given as goal
+
+abbrev pub invariant-loop-place : goal.invariant-loop-place
+invariant-loop-place l = HaveWarnings l.options.enc l.at l.acts l.resolved.scanners (drop l.place l.resolved.scanners) (drop l.place l.autos) l.all

@@ -1,0 +1,9 @@
+pub mod Cover
+pub mod Cursors
+pub mod Found
+pub mod Machine
+pub mod Matches
+pub mod Outcomes
+pub mod Progress
+pub mod Registers
+pub mod Runs
