@@ -75,7 +75,8 @@ ran() {
 			test $is_first = yes || continue
 			# shellcheck disable=SC2086
 			printf '%b' "$(as_bytes "$bytes" ${line%% : *})" > "$work/word"
-			found=$("$program" --x-run "$work/word" --x-block "$block" "$work/ended.c" | head -n 1)
+			"$program" --x-run "$work/word" --x-block "$block" "$work/ended.c" > "$work/run"
+			found=$(head -n 1 "$work/run")
 			if test "$found" != "${line##* : }"; then
 				echo "$line, but $found"
 				return 1

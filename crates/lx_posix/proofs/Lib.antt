@@ -5,5 +5,7 @@ pub mod Counted
 pub mod Steps
 pub mod Kernels
 pub mod Ends
+pub mod Lists
 pub mod Searches
+pub mod OneSearch
 pub mod Worked

@@ -1,7 +1,16 @@
 pub mod Accepts
+pub mod Comparing
 pub mod Examples
+pub mod KernelLists
 pub mod KernelSteps
+pub mod KernelValues
+pub mod LevelPaths
+pub mod LevelSearch
+pub mod Levels
 pub mod Numbers
 pub mod Parting
+pub mod Paths
 pub mod PosixKernel
+pub mod RankTables
+pub mod Starts
 pub mod Walks

@@ -1,21 +1,40 @@
 //! What holds of the POSIX order and of kernels under it. Each law is the contract of a function that does nothing.
-ghost use Rattle.std.specs.Prelude.{◌≡◌, ◌↔◌, ◌++◌, ◌<◌, ◌≤◌, ◌⊎◌, ℕ, List, [], ◌∷◌, length, min, Some, slice_get, sum_by};
+ghost use Rattle.std.specs.Prelude.{◌≡◌, ◌≢◌, ◌↔◌, ◌++◌, ◌<◌, ◌≤◌, ◌⊎◌, ℕ, List, [], ◌∷◌, length, map, min, true, None, Some, slice_get, sum_by};
 ghost use Rattle.lx_base.specs.declared.limits.TheConstants.{KERNEL_LIMIT, PLACE_LIMIT};
 ghost use Rattle.lx_base.specs.declared.settings.Enc.{Enc};
-ghost use Rattle.lx_posix.specs.Accepts.{IsFirstAccept};
+ghost use Rattle.lx_posix.specs.Accepts.{AcceptsBest, IsFirstAccept, posix_accept_after};
+ghost use Rattle.lx_posix.specs.Comparing.{Ranked, number_between, ranked_at};
+ghost use Rattle.lx_posix.specs.KernelLists.{entries_by, posix_kernel_after, posix_segments, ranks_after, ranks_step};
 ghost use Rattle.lx_posix.specs.KernelSteps.{AreListed, IsStepOf, Pairs, PlacesAreDecided, Source, Stem, beginnings, sources};
+ghost use Rattle.lx_posix.specs.KernelValues.{posix_all_values_after, posix_last_values_after};
+ghost use Rattle.lx_posix.specs.LevelPaths.{AreDepths, LevelPath, PlainPath, level_choices, lowest_on, state_depth};
+ghost use Rattle.lx_posix.specs.LevelSearch.{ArePlaceDepths, level_segments, place_depth, ranks_by};
+ghost use Rattle.lx_posix.specs.Levels.{levelled};
 ghost use Rattle.lx_posix.specs.Numbers.{IsFirstOf, PosixPrecedes};
 ghost use Rattle.lx_posix.specs.Parting.{Parting, Parts, events};
 ghost use Rattle.lx_posix.specs.PosixKernel.{AllDifferByNumbers, AreClosed, ArePosixKernels, HasTooManyPosixKernels, HoldEveryKernel, IsBestPosix, IsPosixKernel, IsSameKernel};
+ghost use Rattle.lx_posix.specs.RankTables.{AreTooManyRanks, HaveAllRanks, HaveDifferentRanks};
+ghost use Rattle.lx_posix.specs.Starts.{AreWeighed, Start, is_start_first, level_starts};
 ghost use Rattle.lx_posix.specs.Walks.{after, depth, kept, lowest};
+ghost use Rattle.lx_regex.specs.Automaton.{State, automaton};
+ghost use Rattle.lx_regex.specs.ClassLimits.{AllClassesFit};
 ghost use Rattle.lx_regex.specs.Cut.{Cut, EndsInUnit, GoesOn, IsCut, SamePlace, last_part, rule_part};
 ghost use Rattle.lx_regex.specs.Dictionary.{IsBefore};
 ghost use Rattle.lx_regex.specs.Least.{HasTree};
+ghost use Rattle.lx_regex.specs.Pattern.{Pattern, terms_of};
 ghost use Rattle.lx_regex.specs.Plain.{mark_of};
 ghost use Rattle.lx_regex.specs.Posix.{IsLonger};
-ghost use Rattle.lx_regex.specs.Script.{Symbol, choices, picks, script, units};
+ghost use Rattle.lx_regex.specs.Reading.{IsReading};
+ghost use Rattle.lx_regex.specs.Script.{Symbol, choices, picks, reads, script, units};
 ghost use Rattle.lx_regex.specs.Term.{Term};
 ghost use Rattle.lx_regex.specs.Tree.{Tree};
+ghost use Rattle.lx_regex.specs.Values.{all_events, last_event};
+ghost use Rattle.lx_regex.specs.Walk.{mark};
+ghost use Rattle.lx_tdfa.specs.Graph.{graph_of, path_symbols};
+ghost use Rattle.lx_tdfa.specs.Kernels.{Entry, cut_of};
+ghost use Rattle.lx_tdfa.specs.Values.{value_at};
+ghost use Rattle.lx_tnfa.specs.LeafReadings.{IsNth};
+ghost use Rattle.lx_tnfa.specs.Tnfa.{IsTnfaOf, Tnfa};
 
 /// A term that has a tree for a word has a first plain one under the POSIX order.
 pub fn best_tree_exists()
@@ -83,6 +102,19 @@ pub fn two_walks_from_one_place()
         × (second ≤ first → IsFirstOf enc rules (after cut walk) (after cut way) (min first second)) }
 {}
 
+/// Of two walks over a unit from places of a kernel that of the first rule comes first. From two places of one rule that from the first
+/// place comes first, unless it keeps less than both the number of the two places and what the other walk keeps.
+pub fn walks_from_places_are_ordered()
+    ensures { (enc : Enc) (patterns : List Pattern) (tnfa : Tnfa) (word : List ℕ) (unit i j : ℕ) (cut other : Cut)
+        (walk way : List Symbol)
+        → IsTnfaOf enc patterns tnfa → AllClassesFit enc (terms_of patterns) → i < j
+        → slice_get (map cut_of (posix_kernel_after tnfa (terms_of patterns) word)) i ≡ Some cut
+        → slice_get (map cut_of (posix_kernel_after tnfa (terms_of patterns) word)) j ≡ Some other
+        → EndsInUnit walk → EndsInUnit way → IsCut enc (terms_of patterns) (word ++ unit ∷ []) (after cut walk)
+        → IsCut enc (terms_of patterns) (word ++ unit ∷ []) (after other way)
+        → AreWeighed enc (terms_of patterns) (ranks_after tnfa (terms_of patterns) word) i walk j way (after cut walk) (after other way) }
+{}
+
 /// A walk taken in two parts, of which the first reads no unit, keeps the lesser of what the parts keep.
 pub fn walk_keeps_in_parts()
     ensures { (cut : Cut) (walk rest : List Symbol) → units walk ≡ []
@@ -123,6 +155,97 @@ pub fn later_branch_is_dropped()
         × SamePlace enc rules (after cut shorter) (after cut (common ++ picks greater ∷ (way ++ symbol ∷ rest)))
         × ((number : ℕ)
         × IsFirstOf enc rules (after cut shorter) (after cut (common ++ picks greater ∷ (way ++ symbol ∷ rest))) number) }
+{}
+
+/// Of two walks over a unit from one place that comes first whose choices in a search over states and levels come first. So a search
+/// that is depth-first over these comes first to each place by its first walk, and in their order.
+pub fn levels_give_the_order()
+    ensures { (enc : Enc) (rules : List Term) (word : List ℕ) (unit : ℕ) (cut : Cut) (walk way : List Symbol)
+        → units walk ≡ unit ∷ [] → units way ≡ unit ∷ []
+        → IsCut enc rules (word ++ unit ∷ []) (after cut walk) → IsCut enc rules (word ++ unit ∷ []) (after cut way)
+        → IsBefore (levelled (depth 0 cut.front) 0 (events walk)) (levelled (depth 0 cut.front) 0 (events way))
+        → (number : ℕ) × IsFirstOf enc rules (after cut walk) (after cut way) number }
+{}
+
+/// A search over states and levels finds plain paths alone, and the first of them. The least of its paths from a state to another, up
+/// to that one's depth, which is at no state and level twice, is that of a path which visits no state twice; and of no other such path
+/// the choices come before.
+pub fn level_searches_find_plain_paths()
+    ensures { (graph : List (List ℕ)) (deep : ℕ → ℕ) (state level : ℕ) (choices : List ℕ) (to : ℕ) → level ≤ deep state
+        → LevelPath graph deep [] state level choices to (deep to)
+        → ((other : List ℕ) → LevelPath graph deep [] state level other to (deep to) → IsBefore other choices → ⊥)
+        → (way : List ℕ) × PlainPath graph deep [] state way to × (level ≤ lowest_on graph deep state way)
+        × (level_choices graph deep state level way ≡ choices)
+        × ((other : List ℕ) → PlainPath graph deep [] state other to → level ≤ lowest_on graph deep state other
+        → IsBefore (level_choices graph deep state level other) choices → ⊥) }
+{}
+
+/// From one place such a search finds the first walk to each leaf: over the states of the automaton of a rule list and their depths,
+/// the least of its paths from the state of a cut to a leaf that reads the unit is that of a walk which is before all others to it.
+pub fn level_searches_find_first_walks()
+    ensures { (enc : Enc) (rules : List Term) (deep : ℕ → ℕ) (word : List ℕ) (unit : ℕ) (cut : Cut) (state to : ℕ) (choices : List ℕ)
+        (row : State) (choice : List Symbol) (left : List ℕ)
+        → AreDepths (automaton rules) deep → deep state ≡ depth (depth 0 cut.front) (mark state ∷ [])
+        → slice_get (automaton rules) to ≡ Some row → IsReading enc row choice (unit ∷ left)
+        → LevelPath (graph_of (automaton rules)) deep [] state 0 choices to (deep to)
+        → ((other : List ℕ) → LevelPath (graph_of (automaton rules)) deep [] state 0 other to (deep to) → IsBefore other choices → ⊥)
+        → (way : List ℕ) × PlainPath (graph_of (automaton rules)) deep [] state way to
+        × (level_choices (graph_of (automaton rules)) deep state 0 way ≡ choices)
+        × ((other : List ℕ) → PlainPath (graph_of (automaton rules)) deep [] state other to
+        → IsCut enc rules (word ++ unit ∷ [])
+        (after cut (path_symbols (automaton rules) state way (mark to ∷ (choice ++ reads unit ∷ []))))
+        → IsCut enc rules (word ++ unit ∷ [])
+        (after cut (path_symbols (automaton rules) state other (mark to ∷ (choice ++ reads unit ∷ []))))
+        → (way ≡ other) ⊎ ((number : ℕ)
+        × IsFirstOf enc rules (after cut (path_symbols (automaton rules) state way (mark to ∷ (choice ++ reads unit ∷ []))))
+        (after cut (path_symbols (automaton rules) state other (mark to ∷ (choice ++ reads unit ∷ [])))) number)) }
+{}
+
+/// The automaton of each rule list has depths of its states. A place at which a state stands has the depth before that state.
+pub fn states_have_depths()
+    ensures states { (rules : List Term) → AreDepths (automaton rules) (state_depth rules) }
+    ensures places { (enc : Enc) (patterns : List Pattern) (tnfa : Tnfa) (word : List ℕ) (index : ℕ) (entry : Entry)
+        → IsTnfaOf enc patterns tnfa → AllClassesFit enc (terms_of patterns)
+        → IsNth (posix_kernel_after tnfa (terms_of patterns) word) index entry → entry.place < length (automaton (terms_of patterns))
+        → state_depth (terms_of patterns) entry.place
+        ≡ depth (ranked_at (ranks_after tnfa (terms_of patterns) word) index).depth (mark entry.place ∷ []) }
+{}
+
+/// A search over states and levels begins from each place at each level that is no greater than the depth there and that of its state.
+/// Each of these starts comes before all that it beats.
+pub fn starts_are_in_order()
+    ensures each { (deep : ℕ → ℕ) (ranks : List Ranked) (from level : ℕ) (ranked : Ranked)
+        → IsNth ranks from ranked → level ≤ min ranked.depth (deep ranked.place)
+        → (index : ℕ) × IsNth (level_starts deep ranks) index (record { from = from; level = level }) }
+    ensures order { (deep : ℕ → ℕ) (ranks : List Ranked) (index later : ℕ) (start other : Start)
+        → index < later → IsNth (level_starts deep ranks) index start → IsNth (level_starts deep ranks) later other
+        → is_start_first ranks start other ≡ true }
+{}
+
+/// One depth-first search over states and levels, from all starts in their order, which keeps what it visited for all of them, lists
+/// the first segments over a unit from the places of a kernel: to each place the first, in their order.
+pub fn one_search_lists_first_segments()
+    ensures segments { (enc : Enc) (patterns : List Pattern) (tnfa : Tnfa) (word : List ℕ) (unit : ℕ) (deep : ℕ → ℕ) (width : ℕ)
+        → IsTnfaOf enc patterns tnfa → AllClassesFit enc (terms_of patterns)
+        → AreDepths (automaton (terms_of patterns)) deep
+        → ArePlaceDepths (automaton (terms_of patterns)) (ranks_after tnfa (terms_of patterns) word) deep
+        → ((state : ℕ) → deep state < width)
+        → level_segments tnfa (terms_of patterns) deep width (ranks_after tnfa (terms_of patterns) word) unit
+        ≡ posix_segments tnfa (terms_of patterns) (ranks_after tnfa (terms_of patterns) word) unit }
+    ensures ranks { (enc : Enc) (patterns : List Pattern) (tnfa : Tnfa) (word : List ℕ) (unit : ℕ) (deep : ℕ → ℕ) (width : ℕ)
+        → IsTnfaOf enc patterns tnfa → AllClassesFit enc (terms_of patterns)
+        → AreDepths (automaton (terms_of patterns)) deep
+        → ArePlaceDepths (automaton (terms_of patterns)) (ranks_after tnfa (terms_of patterns) word) deep
+        → ((state : ℕ) → deep state < width)
+        → ranks_after tnfa (terms_of patterns) (word ++ unit ∷ [])
+        ≡ ranks_by tnfa (terms_of patterns) (ranks_after tnfa (terms_of patterns) word) unit
+        (level_segments tnfa (terms_of patterns) deep width (ranks_after tnfa (terms_of patterns) word) unit) }
+    ensures depths { (enc : Enc) (patterns : List Pattern) (tnfa : Tnfa) (word : List ℕ)
+        → IsTnfaOf enc patterns tnfa → AllClassesFit enc (terms_of patterns)
+        → AreDepths (automaton (terms_of patterns)) (place_depth (terms_of patterns) (ranks_after tnfa (terms_of patterns) word))
+        × ArePlaceDepths (automaton (terms_of patterns)) (ranks_after tnfa (terms_of patterns) word)
+        (place_depth (terms_of patterns) (ranks_after tnfa (terms_of patterns) word))
+        × ((width : ℕ) × ((state : ℕ) → place_depth (terms_of patterns) (ranks_after tnfa (terms_of patterns) word) state < width)) }
 {}
 
 /// A word has at most one kernel under the POSIX order.
@@ -208,6 +331,15 @@ pub fn first_accept_is_best()
         → IsBestPosix enc (rule_part rules cut.rule) e (first ∷ word) tree }
 {}
 
+/// What the list after a word accepts: nothing where no rule has a tree for the word; else the first rule that has one, by a way that
+/// makes the front of one of the places to the script of this rule's best tree.
+pub fn best_trees_are_accepted()
+    ensures { (enc : Enc) (patterns : List Pattern) (tnfa : Tnfa) (word : List ℕ) → IsTnfaOf enc patterns tnfa
+        → AllClassesFit enc (terms_of patterns)
+        → AcceptsBest enc (terms_of patterns) word (posix_kernel_after tnfa (terms_of patterns) word)
+        (posix_accept_after tnfa (terms_of patterns) word) }
+{}
+
 /// Where each word has a kernel: kernels of some words, the empty one among them, from which one more unit leads to an empty kernel
 /// or to one of themselves, are all that there are.
 pub fn closed_kernels_are_all()
@@ -222,4 +354,71 @@ pub fn found_kernels_are_counted()
     ensures { (enc : Enc) (rules : List Term) (words : List (List ℕ)) (kernels : List (List Cut))
         → ArePosixKernels enc rules words kernels → AllDifferByNumbers enc rules kernels → HoldEveryKernel enc rules kernels
         → HasTooManyPosixKernels enc rules ↔ ((KERNEL_LIMIT < length words) ⊎ (PLACE_LIMIT < sum_by length kernels)) }
+{}
+
+/// The list that is computed for a word, unit by unit, is the kernel of the word. So each word has a kernel.
+pub fn posix_kernels_are_listed()
+    ensures kernel { (enc : Enc) (patterns : List Pattern) (tnfa : Tnfa) (word : List ℕ) → IsTnfaOf enc patterns tnfa
+        → AllClassesFit enc (terms_of patterns) → word ≢ []
+        → IsPosixKernel enc (terms_of patterns) word (map cut_of (posix_kernel_after tnfa (terms_of patterns) word)) }
+    ensures some { (enc : Enc) (patterns : List Pattern) (tnfa : Tnfa) (word : List ℕ) → IsTnfaOf enc patterns tnfa
+        → AllClassesFit enc (terms_of patterns)
+        → (kernel : List Cut) × IsPosixKernel enc (terms_of patterns) word kernel }
+{}
+
+/// With two places of one rule the kernel of a word keeps the number that is computed beside them.
+pub fn posix_numbers_are_kept()
+    ensures { (enc : Enc) (patterns : List Pattern) (tnfa : Tnfa) (word : List ℕ) (i j : ℕ) (cut other : Cut)
+        → IsTnfaOf enc patterns tnfa → AllClassesFit enc (terms_of patterns) → i < j
+        → slice_get (map cut_of (posix_kernel_after tnfa (terms_of patterns) word)) i ≡ Some cut
+        → slice_get (map cut_of (posix_kernel_after tnfa (terms_of patterns) word)) j ≡ Some other → cut.rule ≡ other.rule
+        → IsFirstOf enc (terms_of patterns) cut other (number_between (ranks_after tnfa (terms_of patterns) word) i j) }
+{}
+
+/// After two words the same places and numbers are kept exactly where their kernels have the same places in order and the same
+/// numbers.
+pub fn equal_ranks_are_equal_posix_kernels()
+    ensures { (enc : Enc) (patterns : List Pattern) (tnfa : Tnfa) (word other : List ℕ) → IsTnfaOf enc patterns tnfa
+        → AllClassesFit enc (terms_of patterns) → word ≢ [] → other ≢ []
+        → (ranks_after tnfa (terms_of patterns) word ≡ ranks_after tnfa (terms_of patterns) other)
+        ↔ IsSameKernel enc (terms_of patterns) (map cut_of (posix_kernel_after tnfa (terms_of patterns) word))
+        (map cut_of (posix_kernel_after tnfa (terms_of patterns) other)) }
+{}
+
+/// The places and numbers after one more unit, and from which place and by which walk each comes, are found from the places and
+/// numbers before it alone.
+pub fn posix_steps_go_by_places_and_numbers()
+    ensures ranks { (tnfa : Tnfa) (rules : List Term) (word : List ℕ) (unit : ℕ)
+        → ranks_after tnfa rules (word ++ unit ∷ []) ≡ ranks_step tnfa rules (ranks_after tnfa rules word) unit }
+    ensures entries { (tnfa : Tnfa) (rules : List Term) (word : List ℕ) (unit : ℕ)
+        → posix_kernel_after tnfa rules (word ++ unit ∷ [])
+        ≡ entries_by tnfa rules (posix_kernel_after tnfa rules word) unit
+        (posix_segments tnfa rules (ranks_after tnfa rules word) unit) }
+{}
+
+/// Words after which different places and numbers are kept have different kernels: where these are too many, the rules have too many
+/// kernels. Where nothing else is kept after any word, the rules have too many kernels only then.
+pub fn ranks_are_counted()
+    ensures many { (enc : Enc) (patterns : List Pattern) (tnfa : Tnfa) (words : List (List ℕ)) → IsTnfaOf enc patterns tnfa
+        → AllClassesFit enc (terms_of patterns) → HaveDifferentRanks enc (terms_of patterns) tnfa words
+        → AreTooManyRanks enc (terms_of patterns) tnfa words → HasTooManyPosixKernels enc (terms_of patterns) }
+    ensures all { (enc : Enc) (patterns : List Pattern) (tnfa : Tnfa) (words : List (List ℕ)) → IsTnfaOf enc patterns tnfa
+        → AllClassesFit enc (terms_of patterns) → HaveDifferentRanks enc (terms_of patterns) tnfa words
+        → HaveAllRanks enc (terms_of patterns) tnfa words
+        → HasTooManyPosixKernels enc (terms_of patterns) ↔ AreTooManyRanks enc (terms_of patterns) tnfa words }
+{}
+
+/// What the front of a place and more symbols leave in a tag is what the value that is kept beside the place and these symbols do:
+/// for the last event of the tag, and for all its events.
+pub fn posix_values_are_kept()
+    ensures last { (enc : Enc) (patterns : List Pattern) (tnfa : Tnfa) (word : List ℕ) (tag from : ℕ) (entry : Entry) (rest : List Symbol)
+        → IsTnfaOf enc patterns tnfa → AllClassesFit enc (terms_of patterns)
+        → IsNth (posix_kernel_after tnfa (terms_of patterns) word) from entry
+        → last_event tag 0 None (entry.front ++ rest)
+        ≡ last_event tag (length word) (value_at None (posix_last_values_after tnfa (terms_of patterns) word tag) from) rest }
+    ensures all { (enc : Enc) (patterns : List Pattern) (tnfa : Tnfa) (word : List ℕ) (tag from : ℕ) (entry : Entry) (rest : List Symbol)
+        → IsTnfaOf enc patterns tnfa → AllClassesFit enc (terms_of patterns)
+        → IsNth (posix_kernel_after tnfa (terms_of patterns) word) from entry
+        → all_events tag 0 (entry.front ++ rest)
+        ≡ value_at [] (posix_all_values_after tnfa (terms_of patterns) word tag) from ++ all_events tag (length word) rest }
 {}

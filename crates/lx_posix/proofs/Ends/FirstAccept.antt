@@ -71,7 +71,7 @@ module _ (enc : Enc) {e : Term} (p : ℕ) (positive : 0 < p) (t t' : Tree e) whe
       (scripts_differ enc e p positive t t' (u1 ∙ u2))
 
 module _ (enc : Enc) (rules : List Term) where
-  same_scripts : {e : Term} → (p : ℕ) (t t' : Tree e) → script enc p t ≡ script enc p t' → IsLonger enc t t' → ⊥
+  pub same_scripts : {e : Term} → (p : ℕ) (t t' : Tree e) → script enc p t ≡ script enc p t' → IsLonger enc t t' → ⊥
   same_scripts p t t' s h =
       let z = one_shape enc p t t' [] [] (ap (λ l. l ++ []) s) in
       longer_self (λ q. length_at (whole enc t) (shape_of enc t) q)
@@ -160,10 +160,14 @@ module _ (enc : Enc) (rules : List Term) where
           (λ d. ⊎_elim
           (λ d.
           accept.first_walk p.mid p.then gk
-          (walk_before k.front p.mid rest (subst (λ l. IsBefore (choices l) (choices (k.front ++ rest))) f' (subst (λ l. IsBefore (choices (script enc (rule_part rules k.rule) s)) (choices l)) f (differs_is_before _ _ d)))))
-          (λ d. longer_both s longer (lesser_end enc (rule_part rules k.rule) (rule_positive rules k.rule) t s k.front rest p.mid f f' accept.without_unit p.then d)) d)
+          (walk_before k.front p.mid rest
+          (subst (λ l. IsBefore (choices l) (choices (k.front ++ rest))) f'
+          (subst (λ l. IsBefore (choices (script enc (rule_part rules k.rule) s)) (choices l)) f (differs_is_before _ _ d)))))
+          (λ d. longer_both s longer (lesser_end enc (rule_part rules k.rule)
+          (rule_positive rules k.rule) t s k.front rest p.mid f f' accept.without_unit p.then d)) d)
           (scripts_differ enc e (rule_part rules k.rule) (rule_positive rules k.rule) s t
-          (yields ∙ sym (ap units f ∙ units_append k.front rest ∙ ap₂ (λ a b. a ++ b) ik.reads_word accept.without_unit ∙ append-nil (x ∷ w)))))
+          (yields ∙ sym (ap units f ∙ units_append k.front rest ∙ ap₂ (λ a b. a ++ b) ik.reads_word accept.without_unit
+          ∙ append-nil (x ∷ w)))))
           (λ b.
           longer_both s longer
           (end_order enc rules k a rest p.mid b.0 (ik.reads_word ∙ sym p.first) accept.without_unit p.then b.1 e at t s f p.is))

@@ -48,7 +48,7 @@ front_leaf enc states f v (within at r d u us h c) = (r, d, u ∷ (us ++ v), ap 
 
 module _ (enc : Enc) (rules : List Term) where
   -- no cut stands in part 0
-  in_some_part : (w : List ℕ) (k : Cut) → IsCut enc rules w k → last_part 0 k.front ≡ 0 → ⊥
+  pub in_some_part : (w : List ℕ) (k : Cut) → IsCut enc rules w k → last_part 0 k.front ≡ 0 → ⊥
   in_some_part w k is e =
       let c = cutting_of enc rules k.rule k.front is.possible.0 is.after_unit (way_of enc rules k is.possible.0 is.possible.1) in
       let f = front_part enc (automaton rules) (paired_rules rules 1) c.at c.left c.front 0 in
@@ -126,7 +126,8 @@ module _ (enc : Enc) (rules : List Term) where
     where
       begin : (ks : List Cut) → IsPosixKernel enc rules [] ks → Found kernels ks
       begin ks is =
-          let s = second_at (List ℕ) (List Cut) (λ w k. IsPosixKernel enc rules w k) words kernels (paired words kernels are) start [] first in
+          let s = second_at (List ℕ) (List Cut) (λ w k. IsPosixKernel enc rules w k) words kernels
+          (paired words kernels are) start [] first in
           let e = posix_unique enc rules [] s.0 ks s.2 is in
           (start, s.0, s.1, subst (λ n. IsSameKernel enc rules n s.0) e (same_self s.0))
 

@@ -20,7 +20,7 @@ use Rattle.lx_posix.proofs.Orders.NumberBetween.{number_between}
 
 module _ (enc : Enc) (rules : List Term) where
   -- the order of the cuts at a word is total
-  precedes_total : (w : List ℕ) (j k : Cut) → IsCut enc rules w j → IsCut enc rules w k
+  pub precedes_total : (w : List ℕ) (j k : Cut) → IsCut enc rules w j → IsCut enc rules w k
       → (j ≡ k) ⊎ (PosixPrecedes enc rules j k ⊎ PosixPrecedes enc rules k j)
   precedes_total w j k ij ik =
       ⊎_elim
@@ -34,7 +34,7 @@ module _ (enc : Enc) (rules : List Term) where
       (λ d. inr (⊎_elim (λ lt. inl (inl lt)) (λ gt. inr (inl gt)) d))
       (cases_order j.rule k.rule)
 
-  precedes_trans : (w : List ℕ) (i j k : Cut) → IsCut enc rules w i → IsCut enc rules w j → IsCut enc rules w k
+  pub precedes_trans : (w : List ℕ) (i j k : Cut) → IsCut enc rules w i → IsCut enc rules w j → IsCut enc rules w k
       → PosixPrecedes enc rules i j → PosixPrecedes enc rules j k → PosixPrecedes enc rules i k
   precedes_trans w i j k ii ij ik (inl a) (inl b) = inl (omega arith)
   precedes_trans w i j k ii ij ik (inl a) (inr b) = let z = b.1.one_rule in inl (omega arith)
@@ -48,10 +48,11 @@ module _ (enc : Enc) (rules : List Term) where
             (before_of enc rules w i j a.0 ii ij a.1) (before_of enc rules w j k b.0 ij ik b.1)),
       )
 
-  precedes_asym : (w : List ℕ) (j k : Cut) → IsCut enc rules w j → IsCut enc rules w k
+  pub precedes_asym : (w : List ℕ) (j k : Cut) → IsCut enc rules w j → IsCut enc rules w k
       → PosixPrecedes enc rules j k → PosixPrecedes enc rules k j → ⊥
   precedes_asym w j k ij ik a b =
-      earlier_asym enc rules j k (ij.reads_word ∙ sym ik.reads_word) (earlier_from enc rules w j k ij ik a) (earlier_from enc rules w k j ik ij b)
+      earlier_asym enc rules j k (ij.reads_word ∙ sym ik.reads_word) (earlier_from enc rules w j k ij ik a)
+      (earlier_from enc rules w k j ik ij b)
 
   place_self : (k : Cut) → SamePlace enc rules k k
   place_self k = record { rule = refl; part = refl; left = λ v. ((λ f. f), (λ f. f)) }
@@ -85,8 +86,10 @@ module _ (enc : Enc) (rules : List Term) where
 
       found : (d : Distilled Cut (λ j k. PosixPrecedes enc rules j k) (λ j k. SamePlace enc rules j k) listed) (k : Cut)
           → IsCut enc rules (w ++ u ∷ []) k
-          → (j : ℕ) × (first : Cut) × (slice_get listed j ≡ Some first) × SamePlace enc rules first k × (PosixPrecedes enc rules k first → ⊥)
-          → (j : ℕ) × (first : Cut) × (slice_get d.list j ≡ Some first) × SamePlace enc rules first k × (PosixPrecedes enc rules k first → ⊥)
+          → (j : ℕ) × (first : Cut) × (slice_get listed j ≡ Some first) × SamePlace enc rules first k
+          × (PosixPrecedes enc rules k first → ⊥)
+          → (j : ℕ) × (first : Cut) × (slice_get d.list j ≡ Some first) × SamePlace enc rules first k
+          × (PosixPrecedes enc rules k first → ⊥)
       found d k is r =
           let o = d.on r.1 (in_at Cut listed r.0 r.1 r.2) in
           let at = at_in Cut d.list o.0 o.1 in
@@ -110,7 +113,8 @@ module _ (enc : Enc) (rules : List Term) where
       → (w : List ℕ) → (ks : List Cut) × IsPosixKernel enc rules w ks
   each_kernel decided lists w = from [] (record { rule = 0; front = [] } ∷ []) (empty_kernel enc rules _ refl) w
     where
-      one : (w : List ℕ) (ks : List Cut) (u : ℕ) → IsPosixKernel enc rules w ks → (next : List Cut) × IsPosixKernel enc rules (w ++ u ∷ []) next
+      one : (w : List ℕ) (ks : List Cut) (u : ℕ) → IsPosixKernel enc rules w ks → (next : List Cut)
+          × IsPosixKernel enc rules (w ++ u ∷ []) next
       one [] ks u is =
           let l = lists [] ks u is in
           let s = listed_step [] u (sources rules [] ks) l.0 l.1 (decided (u ∷ [])) in (s.0, first_kernel enc rules u s.0 s.1)
@@ -118,7 +122,8 @@ module _ (enc : Enc) (rules : List Term) where
           let l = lists (x ∷ w) ks u is in
           let s = listed_step (x ∷ w) u ks l.0 l.1 (decided ((x ∷ w) ++ u ∷ [])) in (s.0, posix_from_walks enc rules x w u ks s.0 is s.1)
 
-      from : (w : List ℕ) (ks : List Cut) → IsPosixKernel enc rules w ks → (v : List ℕ) → (next : List Cut) × IsPosixKernel enc rules (w ++ v) next
+      from : (w : List ℕ) (ks : List Cut) → IsPosixKernel enc rules w ks → (v : List ℕ) → (next : List Cut)
+          × IsPosixKernel enc rules (w ++ v) next
       from w ks is [] = (ks, subst (λ l. IsPosixKernel enc rules l ks) (sym (append-nil w)) is)
       from w ks is (u ∷ v) =
           let o = one w ks u is in

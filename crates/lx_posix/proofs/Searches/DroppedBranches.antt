@@ -92,7 +92,7 @@ plain_late (unsets t ∷ y) l k h p u = plain_late y l k h p u
 plain_late (picks t ∷ y) l k h p u = plain_late y l k h p u
 
 -- where two lists part, and what each keeps from there
-parting_at : (a : List Symbol) → units a ≡ [] → (d i j : ℕ) → i < j → (l l' : List Symbol)
+pub parting_at : (a : List Symbol) → units a ≡ [] → (d i j : ℕ) → i < j → (l l' : List Symbol)
     → Parting 1 d (events (a ++ picks i ∷ l)) (events (a ++ picks j ∷ l')) (depth d a)
     (keep 1 (depth d a) (depth d a) (events l)) (keep 1 (depth d a) (depth d a) (events l'))
 parting_at [] q d i j lt l l' = parts_here lt
@@ -103,7 +103,7 @@ parting_at (sets t ∷ a) q d i j lt l l' = parting_at a q d i j lt l l'
 parting_at (unsets t ∷ a) q d i j lt l l' = parting_at a q d i j lt l l'
 parting_at (picks x ∷ a) q d i j lt l l' = by_digit refl (parting_at a q d i j lt l l')
 
-keep_lowest : (l : List Symbol) (d m : ℕ) → keep 1 d m (events l) ≡ lowest d m l
+pub keep_lowest : (l : List Symbol) (d m : ℕ) → keep 1 d m (events l) ≡ lowest d m l
 keep_lowest [] d m = refl
 keep_lowest (begins p ∷ l) d m = keep_lowest l (suc d) m
 keep_lowest (ends p ∷ l) d m = keep_lowest l (d - 1) (min m (d - 1))
@@ -148,9 +148,11 @@ module _ (enc : Enc) (rules : List Term) where
       let p = parting_at common uc d lesser greater lt y z in
       let p' =
       subst
-      (λ l. Parting 1 (depth 0 j.front) (events l) (events (common ++ picks greater ∷ z)) r.0 r.1 r.2) (append-nil (common ++ picks lesser ∷ y))
+      (λ l. Parting 1 (depth 0 j.front) (events l) (events (common ++ picks greater ∷ z)) r.0 r.1 r.2)
+      (append-nil (common ++ picks lesser ∷ y))
       (subst
-      (λ l. Parting 1 (depth 0 j.front) (events ((common ++ picks lesser ∷ y) ++ [])) (events l) r.0 r.1 r.2) (append-nil (common ++ picks greater ∷ z))
+      (λ l. Parting 1 (depth 0 j.front) (events ((common ++ picks lesser ∷ y) ++ [])) (events l) r.0 r.1 r.2)
+      (append-nil (common ++ picks greater ∷ z))
       r.3) in
       let o = one_parting p p' in
       let o1 = o.1 in
@@ -179,7 +181,8 @@ module _ (enc : Enc) (rules : List Term) where
       let uf : units c.fore ≡ [] = quiet_front c.fore c.left_out (ap units (sym c.is_front) ∙ uf1) in
       let us : units (second ++ c.skipped) ≡ [] = units_append second c.skipped ∙ ap₂ (λ a b. a ++ b) us1 c.without_unit in
       let uk : units (j.front ++ (common ++ picks greater ∷ (second ++ m ∷ rest))) ≡ w ++ units (m ∷ rest) =
-      units_append j.front _ ∙ ap₂ (λ a b. a ++ b) uj (units_append common _ ∙ ap₂ (λ a b. a ++ b) uc (units_append second (m ∷ rest) ∙ ap (λ l. l ++ units (m ∷ rest)) us1)) in
+      units_append j.front _ ∙ ap₂ (λ a b. a ++ b) uj
+      (units_append common _ ∙ ap₂ (λ a b. a ++ b) uc (units_append second (m ∷ rest) ∙ ap (λ l. l ++ units (m ∷ rest)) us1)) in
       let ur : units (m ∷ rest) ≡ u ∷ [] = drop_word w (units (m ∷ rest)) (u ∷ []) (sym uk ∙ kz.reads_word) in
       let ub : units (c.at ∷ c.back) ≡ u ∷ [] =
       ap (λ l. l ++ units (c.at ∷ c.back)) (sym c.without_unit) ∙ sym (units_append c.skipped (c.at ∷ c.back)) ∙ ap units (sym c.goes)
@@ -188,7 +191,8 @@ module _ (enc : Enc) (rules : List Term) where
       ends_behind c.skipped (c.at ∷ c.back) er.0 er.1 (sym c.goes ∙ er.2) (λ e. some (sym ub ∙ e)) in
       let a : List Symbol = (j.front ++ common) ++ picks lesser ∷ c.fore in
       let b : List Symbol = (j.front ++ common) ++ picks greater ∷ (second ++ c.skipped) in
-      let fk : j.front ++ (common ++ picks greater ∷ (second ++ m ∷ rest)) ≡ ((j.front ++ common) ++ picks greater ∷ (second ++ c.skipped)) ++ (c.at ∷ c.back) =
+      let fk : j.front ++ (common ++ picks greater ∷ (second ++ m ∷ rest))
+      ≡ ((j.front ++ common) ++ picks greater ∷ (second ++ c.skipped)) ++ (c.at ∷ c.back) =
       ap (λ l. j.front ++ (common ++ picks greater ∷ (second ++ l))) c.goes ∙ simp append_assoc in
       let gk' : GoesOn enc rules (record { rule = j.rule; front = b ++ (c.at ∷ c.back) }) q =
       subst (λ l. GoesOn enc rules (record { rule = j.rule; front = l }) q) fk gk in
@@ -198,48 +202,58 @@ module _ (enc : Enc) (rules : List Term) where
       (append_assoc b (c.at ∷ c.back) q) in
       let f0 : (j.front ++ (common ++ picks lesser ∷ first)) ++ m ∷ more ≡ (j.front ++ common) ++ picks lesser ∷ (first ++ m ∷ more) =
       simp append_assoc in
-      let f1 : (j.front ++ common) ++ picks lesser ∷ (c.fore ++ (c.at ∷ c.behind)) ≡ ((j.front ++ common) ++ picks lesser ∷ c.fore) ++ (c.at ∷ c.behind) =
+      let f1 : (j.front ++ common) ++ picks lesser ∷ (c.fore ++ (c.at ∷ c.behind))
+      ≡ ((j.front ++ common) ++ picks lesser ∷ c.fore) ++ (c.at ∷ c.behind) =
       simp append_assoc in
-      let fj : (j.front ++ (common ++ picks lesser ∷ first)) ++ m ∷ more ≡ ((j.front ++ common) ++ picks lesser ∷ c.fore) ++ (c.at ∷ c.behind) =
+      let fj : (j.front ++ (common ++ picks lesser ∷ first)) ++ m ∷ more
+      ≡ ((j.front ++ common) ++ picks lesser ∷ c.fore) ++ (c.at ∷ c.behind) =
       f0 ∙ ap (λ l. (j.front ++ common) ++ picks lesser ∷ l) c.comes ∙ f1 in
       let pj =
       at_state enc
       (automaton rules) (path_on enc rules j.rule (j.front ++ (common ++ picks lesser ∷ first)) (m ∷ more) gj) a c.behind c.at c.state
       c.is_mark fj in
       let path = pj.1 (c.at ∷ (c.back ++ q)) pk.0 in
-      let g1 : (((j.front ++ common) ++ picks greater ∷ (second ++ c.skipped)) ++ (c.at ∷ c.back)) ++ q ≡ (j.front ++ common) ++ ((picks greater ∷ (second ++ c.skipped)) ++ (c.at ∷ (c.back ++ q))) =
+      let g1 : (((j.front ++ common) ++ picks greater ∷ (second ++ c.skipped)) ++ (c.at ∷ c.back)) ++ q
+      ≡ (j.front ++ common) ++ ((picks greater ∷ (second ++ c.skipped)) ++ (c.at ∷ (c.back ++ q))) =
       simp append_assoc in
       let p1 = plain_from _ (subst IsPlain (gk'.3 ∙ g1) gk'.4) in
       let p2 : IsPlainList (c.at ∷ (c.back ++ q)) =
-      plain_tail b (c.at ∷ (c.back ++ q)) (subst IsPlainList (append_assoc b (c.at ∷ c.back) q) (plain_from _ (subst IsPlain gk'.3 gk'.4))) in
+      plain_tail b (c.at ∷ (c.back ++ q))
+      (subst IsPlainList (append_assoc b (c.at ∷ c.back) q) (plain_from _ (subst IsPlain gk'.3 gk'.4))) in
       let late =
       late_back lead (picks greater ∷ (second ++ c.skipped)) (c.at ∷ (c.back ++ q)) us (late_of_plain lead _ p1) in
       let unseen =
-      all_unseen c.fore c.skipped (c.at ∷ c.back) q c.without_unit (λ e. some (sym ub ∙ e)) (subst (λ l. AreUnseen c.fore l) c.goes c.unseen) in
+      all_unseen c.fore c.skipped (c.at ∷ c.back) q c.without_unit (λ e. some (sym ub ∙ e))
+      (subst (λ l. AreUnseen c.fore l) c.goes c.unseen) in
       let late' =
       late_append lead (picks lesser ∷ c.fore) (c.at ∷ (c.back ++ q)) late (late_all c.fore (c.at ∷ (c.back ++ q)) unseen) in
       let p3 = plain_late a (c.at ∷ c.behind) (c.at ∷ (c.back ++ q)) (plain_from _ (subst IsPlain (gj.3 ∙ fj) gj.4)) p2 late' in
       let ga : GoesOn enc rules (record { rule = j.rule; front = a }) (c.at ∷ (c.back ++ q)) =
-      goes_by enc rules j.rule a (c.at ∷ (c.back ++ q)) (j.front ++ (common ++ picks lesser ∷ first)) (m ∷ more) gj path (plain_list _ p3) in
+      goes_by enc rules j.rule a (c.at ∷ (c.back ++ q)) (j.front ++ (common ++ picks lesser ∷ first)) (m ∷ more) gj path
+      (plain_list _ p3) in
       let gb : GoesOn enc rules (record { rule = j.rule; front = b }) (c.at ∷ (c.back ++ q)) =
       (gk'.0, gk'.1, gk'.2, gk'.3 ∙ append_assoc b (c.at ∷ c.back) q, gk'.4) in
       let go : GoesOn enc rules (record { rule = j.rule; front = a ++ (c.at ∷ c.back) }) q =
       (ga.0, ga.1, ga.2, ga.3 ∙ sym (append_assoc a (c.at ∷ c.back) q), ga.4) in
-      let fa : ((j.front ++ common) ++ picks lesser ∷ c.fore) ++ (c.at ∷ c.back) ≡ j.front ++ (common ++ picks lesser ∷ (c.fore ++ (c.at ∷ c.back))) =
+      let fa : ((j.front ++ common) ++ picks lesser ∷ c.fore) ++ (c.at ∷ c.back)
+      ≡ j.front ++ (common ++ picks lesser ∷ (c.fore ++ (c.at ∷ c.back))) =
       simp append_assoc in
       let place = one_place enc rules c.at c.state c.is_mark c.back eb j.rule a b q q go gk' in
       let place1 =
       subst
-      (λ l. SamePlace enc rules (record { rule = j.rule; front = l }) (record { rule = j.rule; front = ((j.front ++ common) ++ picks greater ∷ (second ++ c.skipped)) ++ (c.at ∷ c.back) })) fa
+      (λ l. SamePlace enc rules (record { rule = j.rule; front = l })
+      (record { rule = j.rule; front = ((j.front ++ common) ++ picks greater ∷ (second ++ c.skipped)) ++ (c.at ∷ c.back) })) fa
       place in
       let place2 =
       subst
-      (λ l. SamePlace enc rules (after j (common ++ picks lesser ∷ (c.fore ++ (c.at ∷ c.back)))) (record { rule = j.rule; front = l })) (sym fk)
+      (λ l. SamePlace enc rules (after j (common ++ picks lesser ∷ (c.fore ++ (c.at ∷ c.back)))) (record { rule = j.rule; front = l }))
+      (sym fk)
       place1 in
       let deep = one_depth enc rules j.rule j.rule a b (c.at ∷ (c.back ++ q)) ga gb in
       let da = depth_append enc (j.front ++ common) (picks lesser ∷ c.fore) 0 in
       let db = depth_append enc (j.front ++ common) (picks greater ∷ (second ++ c.skipped)) 0 in
-      let level : depth (depth 0 (j.front ++ common)) c.fore ≡ depth (depth 0 (j.front ++ common)) (second ++ c.skipped) = sym da ∙ deep ∙ db in
+      let level : depth (depth 0 (j.front ++ common)) c.fore ≡ depth (depth 0 (j.front ++ common)) (second ++ c.skipped) = sym da ∙ deep
+      ∙ db in
       let k : Cut = after j common in
       let k1 = kept_in_parts (after j common) c.fore (c.at ∷ c.back) uf in
       let k2 = kept_in_parts (after j common) c.fore c.left_out uf in
@@ -249,7 +263,8 @@ module _ (enc : Enc) (rules : List Term) where
       ap (λ l. kept (after j common) l) (ap (λ l. second ++ l) c.goes ∙ sym (append_assoc second c.skipped (c.at ∷ c.back))) in
       let k6 :
       lowest (depth (depth 0 (j.front ++ common)) c.fore) (depth (depth 0 (j.front ++ common)) c.fore) (c.at ∷ c.back)
-      ≡ lowest (depth (depth 0 (j.front ++ common)) (second ++ c.skipped)) (depth (depth 0 (j.front ++ common)) (second ++ c.skipped)) (c.at ∷ c.back) =
+      ≡ lowest (depth (depth 0 (j.front ++ common)) (second ++ c.skipped)) (depth (depth 0 (j.front ++ common)) (second ++ c.skipped))
+      (c.at ∷ c.back) =
       ap (λ d. lowest d d (c.at ∷ c.back)) level in
       let k7 = kept_in_parts (after j common) second (m ∷ rest) us1 in
       let uw : units (c.fore ++ (c.at ∷ c.back)) ≡ u ∷ [] = units_append c.fore (c.at ∷ c.back) ∙ ap₂ (λ a b. a ++ b) uf ub in

@@ -61,7 +61,8 @@ module _ (enc : Enc) (rules : List Term) where
         let p = at_state enc (automaton rules) (path_on rule (a ++ m ∷ r) x gx) a (r ++ x) m s is_mark (append_assoc a (m ∷ r) x) in
         let q = at_state enc (automaton rules) (path_on other (b ++ m ∷ r) y gy) b (r ++ y) m s is_mark (append_assoc b (m ∷ r) y) in
         let path = q.1 (m ∷ (r ++ x)) p.0 in
-        let one : (c z : List Symbol) → (c ++ m ∷ r) ++ z ≡ (c ++ is.0) ++ reads is.1 ∷ z = λ c z. ap (λ l. (c ++ l) ++ z) is.2 ∙ simp append_assoc in
+        let one : (c z : List Symbol) → (c ++ m ∷ r) ++ z ≡ (c ++ is.0) ++ reads is.1 ∷ z = λ c z. ap (λ l. (c ++ l) ++ z) is.2
+        ∙ simp append_assoc in
         let plain : IsPlain ((b ++ m ∷ r) ++ x) =
         subst IsPlain (sym (one b x))
         (plain_swap
@@ -91,8 +92,16 @@ module _ (enc : Enc) (rules : List Term) where
       rule = refl;
       part = one_leaf rule a b x gx;
       left = λ v. (
-        λ f. (f.0, subst (λ p. GoesOn enc rules (record { rule = rule; front = b ++ m ∷ r }) (map reads v ++ ends p ∷ f.0)) (one_leaf rule a b x gx) (over rule rule a b _ y f.1 gy)),
-        λ f. (f.0, subst (λ p. GoesOn enc rules (record { rule = rule; front = a ++ m ∷ r }) (map reads v ++ ends p ∷ f.0)) (one_leaf rule b a y gy) (over rule rule b a _ x f.1 gx)),
+        λ f. (
+          f.0,
+          subst (λ p. GoesOn enc rules (record { rule = rule; front = b ++ m ∷ r }) (map reads v ++ ends p ∷ f.0))
+              (one_leaf rule a b x gx) (over rule rule a b _ y f.1 gy),
+        ),
+        λ f. (
+          f.0,
+          subst (λ p. GoesOn enc rules (record { rule = rule; front = a ++ m ∷ r }) (map reads v ++ ends p ∷ f.0))
+              (one_leaf rule b a y gy) (over rule rule b a _ x f.1 gx),
+        ),
       );
     }
 
@@ -150,29 +159,35 @@ module _ (enc : Enc) (rules : List Term) where
       let whole = plain_from _ (subst IsPlain (gj.3 ∙ fj ∙ unit (c.at ∷ c.behind)) gj.4) in
       let p1 = plain_back ij.after_unit.0 ij.after_unit.1 (c.fore ++ (c.at ∷ c.behind)) whole in
       let p2 : IsPlainList (c.at ∷ (c.back ++ q)) =
-      plain_tail b (c.at ∷ (c.back ++ q)) (subst IsPlainList (append_assoc b (c.at ∷ c.back) q) (plain_from _ (subst IsPlain gk'.3 gk'.4))) in
+      plain_tail b (c.at ∷ (c.back ++ q))
+      (subst IsPlainList (append_assoc b (c.at ∷ c.back) q) (plain_from _ (subst IsPlain gk'.3 gk'.4))) in
       let unseen =
-      all_unseen c.fore c.skipped (c.at ∷ c.back) q c.without_unit (λ e. some (sym ub ∙ e)) (subst (λ l. AreUnseen c.fore l) c.goes c.unseen) in
+      all_unseen c.fore c.skipped (c.at ∷ c.back) q c.without_unit (λ e. some (sym ub ∙ e))
+      (subst (λ l. AreUnseen c.fore l) c.goes c.unseen) in
       let p3 = plain_swapped c.fore (c.at ∷ c.behind) (c.at ∷ (c.back ++ q)) uf p1 p2 unseen in
       let p4 = plain_join ij.after_unit.0 ij.after_unit.1 (c.fore ++ (c.at ∷ c.behind)) (c.fore ++ (c.at ∷ (c.back ++ q))) whole p3 in
-      let plain : IsPlain ((j.front ++ c.fore) ++ (c.at ∷ (c.back ++ q))) = subst IsPlain (sym (unit (c.at ∷ (c.back ++ q)))) (plain_list _ p4) in
+      let plain : IsPlain ((j.front ++ c.fore) ++ (c.at ∷ (c.back ++ q))) = subst IsPlain (sym (unit (c.at ∷ (c.back ++ q))))
+      (plain_list _ p4) in
       let ga : GoesOn enc rules (record { rule = j.rule; front = a }) (c.at ∷ (c.back ++ q)) =
       goes_by j.rule a (c.at ∷ (c.back ++ q)) (j.front ++ y) (m ∷ more) gj path plain in
       let gb : GoesOn enc rules (record { rule = k.rule; front = b }) (c.at ∷ (c.back ++ q)) =
       (gk'.0, gk'.1, gk'.2, gk'.3 ∙ append_assoc b (c.at ∷ c.back) q, gk'.4) in
       let go : GoesOn enc rules (record { rule = j.rule; front = a ++ (c.at ∷ c.back) }) q =
       (ga.0, ga.1, ga.2, ga.3 ∙ sym (append_assoc a (c.at ∷ c.back) q), ga.4) in
-      let fa : (j.front ++ c.fore) ++ (c.at ∷ c.back) ≡ j.front ++ (c.fore ++ (c.at ∷ c.back)) = append_assoc j.front c.fore (c.at ∷ c.back) in
+      let fa : (j.front ++ c.fore) ++ (c.at ∷ c.back) ≡ j.front ++ (c.fore ++ (c.at ∷ c.back)) = append_assoc j.front c.fore
+      (c.at ∷ c.back) in
       let gk'' : GoesOn enc rules (record { rule = j.rule; front = b ++ (c.at ∷ c.back) }) q =
       subst (λ n. GoesOn enc rules (record { rule = n; front = b ++ (c.at ∷ c.back) }) q) (sym same) gk' in
       let place = one_place c.at c.state c.is_mark c.back eb j.rule a b q q go gk'' in
       let place1 =
       subst
-      (λ n. SamePlace enc rules (record { rule = j.rule; front = (j.front ++ c.fore) ++ (c.at ∷ c.back) }) (record { rule = n; front = (k.front ++ (z ++ c.skipped)) ++ (c.at ∷ c.back) })) same
+      (λ n. SamePlace enc rules (record { rule = j.rule; front = (j.front ++ c.fore) ++ (c.at ∷ c.back) })
+      (record { rule = n; front = (k.front ++ (z ++ c.skipped)) ++ (c.at ∷ c.back) })) same
       place in
       let place2 =
       subst
-      (λ l. SamePlace enc rules (record { rule = j.rule; front = l }) (record { rule = k.rule; front = (k.front ++ (z ++ c.skipped)) ++ (c.at ∷ c.back) })) fa
+      (λ l. SamePlace enc rules (record { rule = j.rule; front = l })
+      (record { rule = k.rule; front = (k.front ++ (z ++ c.skipped)) ++ (c.at ∷ c.back) })) fa
       place1 in
       let deep = one_depth j.rule k.rule a b (c.at ∷ (c.back ++ q)) ga gb in
       let da = depth_append enc j.front c.fore 0 in
