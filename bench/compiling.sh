@@ -70,6 +70,7 @@ COMPARED = {
     '4,096 rules': (block('[^] { }\n' * 4096), [], []),
     '128 tags': (block(''.join(f'("a" @t{k})? ' for k in range(128)) + '{ }\n'), ['-T'], ['-T']),
     '64 groups': (block('("a" | "aa")' * 64 + ' { }\n'), ['--captures'], ['-P']),
+    '64 groups under -P': (block('("a" | "aa")' * 64 + ' { }\n'), ['-P'], ['-P']),
     '256 parentheses': (block('(' * 256 + '"a"' + ')' * 256 + ' { }\n'), [], []),
 }
 failed = []

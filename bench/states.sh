@@ -104,4 +104,5 @@ compare "$work/pushed.re" -f -f
 compare "$root/examples/numbers.re" '' -r
 compare "$root/examples/without_buffer.re" '--input custom' '--input custom'
 compare "$root/examples/addresses.re" --captures -P
+compare "$root/examples/addresses.re" -P -P
 exit "$status"

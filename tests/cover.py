@@ -232,16 +232,16 @@ def value(events, tag, is_many):
     return "[" + ",".join(shown) + "]" if is_many else (["-"] + shown)[-1]
 
 
-def match_line(scanner, captures, node):
-    """The line of the match of a word."""
+def match_line(scanner, captures, node, start=0):
+    """The line of the match of a word, or of a match from a start, whose offsets are those of the stream."""
     ending = next((rule for rule in scanner.rules if rule.kind == "$"), None)
     found = Found(ending, (), 0) if ending and not node.word else node.found
     if found is None:
-        return "none 0 %d" % node.begins
+        return "none %d %d" % (start, node.begins)
     rule, cursor = found.rule, found.length
     if rule.context is not None:
         cursor = int(value(found.events, "/", False))
-    words = ["jump" if rule.is_jump else "rule", str(rule.number), "0", str(cursor)]
+    words = ["jump" if rule.is_jump else "rule", str(rule.number), str(start), str(cursor)]
     words += ["%s=%s" % (name, value(found.events, name, is_many)) for name, is_many in rule.named_tags()]
     if captures and rule.kind != "$":
         ends = [[value(found.events, (number, end), False) for end in ("open", "close")] for number in range(rule.groups() + 1)]

@@ -99,7 +99,7 @@ LINES = [
     b"/*!getstate:re2c*/\n", b"/*!max:re2c*/\n", b"/*!maxnmatch:re2c*/\n",
 ]  # fmt: skip
 OPENERS = {b"code": b"/*!re2c", b"rules": b"/*!rules:re2c", b"use": b"/*!use:re2c"}
-OPTIONS = ["-i", "-s", "-8", "-x", "-u", "-w", "-T", "--captures", "-c", "-f", "-r", "--utf-8", "--input=custom"]
+OPTIONS = ["-i", "-s", "-8", "-x", "-u", "-w", "-T", "--captures", "-P", "-c", "-f", "-r", "--utf-8", "--input=custom"]
 OPTIONS += ["--empty-class=match-none", "--empty-class=error", "--empty-class=match-empty"]
 OPTIONS += ["--encoding-policy=fail", "--encoding-policy=substitute"]
 OPTIONS += ["--encoding-policy=ignore", "-I.", "-Isub", "--tags", "--conditions", "--storable-state", "--nested-ifs", "--no-debug-info"]
@@ -432,7 +432,7 @@ class Fuzzer:
         """The options of a compilation: mostly those of the example, and some others."""
         rng = self.rng
         words = list(text.options) if self.chance(0.8) else []
-        words += rng.sample(OPTIONS[:26], rng.choice([0, 0, 0, 0, 1, 1, 2, 4]))
+        words += rng.sample(OPTIONS[:27], rng.choice([0, 0, 0, 0, 1, 1, 2, 4]))
         if self.chance(0.03):
             words += rng.choices(OPTIONS, k=2)
         return words if self.chance(0.3) else ["-i"] + words

@@ -169,6 +169,7 @@ example utf_16 2 -x
 example utf_32 4 -u
 example ranges 1
 example addresses 1 --captures
+example sizes 1 -P
 example options 1 -T
 example words_of_file 1
 example settings 1 -T

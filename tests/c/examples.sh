@@ -26,6 +26,7 @@ prints utf_16 "1 0 3 2 0 2" -x
 prints utf_32 "a e e f ? l ? ?" -u
 prints ranges "number:0-1 range:1-3 number:3-5 fraction:6-9 fraction:10-12 call:13-14 name:15-16 call:18-19 name:22-23 end:24-25"
 prints addresses "9 3-30 3-7 - - 10-21 - - 21-30 23-30 9 34-56 34-37 40-43 40-42 43-51 51-56 52-56 56-56 -" --captures
+prints sizes "512 - b 4 ki b 16 m b 3 mi b" -P
 prints options "build 8=13 17 25=30 clean" -T
 prints words_of_file "word:0-1 word:2-12 string:13-19 word:20-23 word:24-28 word:29-33 word:34-37 other:37-38 other:38-39 other:39-40 \
 word:40-46 end:46-46"

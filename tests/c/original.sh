@@ -61,6 +61,8 @@ compare utf_16 -x -x
 compare utf_32 -u -u
 compare ranges '' ''
 compare addresses --captures "$captures"
+compare addresses -P -P
+compare sizes -P -P
 compare options -T -T
 compare words_of_file '' ''
 compare settings -T -T

@@ -7,6 +7,7 @@ pub mod FoundPieces
 pub mod GreatestNumbers
 pub mod HistoryBounds
 pub mod ItemRuns
+pub mod LeftmostToo
 pub mod LineRuns
 pub mod ListedRegisters
 pub mod MadeRuns

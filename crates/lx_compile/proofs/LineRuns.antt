@@ -4,6 +4,7 @@ use Rattle.std.specs.Prelude.{codes}
 use Rattle.lx_base.specs.Spelling.{greatest_unit}
 use Rattle.lx_base.specs.Text.{joined}
 use Rattle.lx_base.specs.declared.settings.Enc.{Enc}
+use Rattle.lx_base.specs.declared.settings.Options.{Options}
 use Rattle.lx_cover.specs.Cover.{IsCovering}
 use Rattle.lx_layout.specs.Endings.{Ending}
 use Rattle.lx_regex.specs.Kernel.{IsWord}
@@ -46,26 +47,26 @@ covering-units enc rules word (inr leaves) =
 
 -- ---- lines
 
-module _ (enc : Enc) (acts : List Act) (scanner : Scanner) where
+module _ (options : Options) (acts : List Act) (scanner : Scanner) where
   -- behind a text stand the lines of some words, where the others are left
   pub record HaveLines (words rest : List (List ℕ)) (start text : List ℕ) : Type 0 where
     pub lines : List ℕ
     pub is : text ≡ start ++ lines
-    pub continues : (more : List ℕ) → AreWordLines enc acts scanner rest more → AreWordLines enc acts scanner words (lines ++ more)
+    pub continues : (more : List ℕ) → AreWordLines options acts scanner rest more → AreWordLines options acts scanner words (lines ++ more)
 
   pub HaveLines-start : (words : List (List ℕ)) (start : List ℕ) → HaveLines words words start start
   HaveLines-start words start = record { lines = []; is = sym (append-nil start); continues = λ more are. are }
 
   pub HaveLines-next : (words : List (List ℕ)) (word : List ℕ) (rest : List (List ℕ)) (start text after line : List ℕ)
-      → HaveLines words (word ∷ rest) start text → IsWordLine enc acts scanner word line → after ≡ text ++ line → HaveLines words rest start after
+      → HaveLines words (word ∷ rest) start text → IsWordLine options acts scanner word line → after ≡ text ++ line → HaveLines words rest start after
   HaveLines-next words word rest start text after line have tells is = record {
     lines = have.lines ++ line;
     is = is ∙ ap (λ (front : List ℕ). front ++ line) have.is ∙ append_assoc start have.lines line;
     continues = λ more are.
-        subst (AreWordLines enc acts scanner words) (sym (append_assoc have.lines line more)) (have.continues (line ++ more) (line, more, tells, are, refl));
+        subst (AreWordLines options acts scanner words) (sym (append_assoc have.lines line more)) (have.continues (line ++ more) (line, more, tells, are, refl));
   }
 
   pub HaveLines-end : (words : List (List ℕ)) (start text : List ℕ) → HaveLines words [] start text
-      → (lines : List ℕ) × AreWordLines enc acts scanner words lines × (text ≡ start ++ lines)
+      → (lines : List ℕ) × AreWordLines options acts scanner words lines × (text ≡ start ++ lines)
   HaveLines-end words start text have =
-      (have.lines, subst (AreWordLines enc acts scanner words) (append-nil have.lines) (have.continues [] refl), have.is)
+      (have.lines, subst (AreWordLines options acts scanner words) (append-nil have.lines) (have.continues [] refl), have.is)

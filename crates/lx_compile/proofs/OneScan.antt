@@ -7,11 +7,10 @@ use Rattle.lx_base.specs.declared.settings.Options.{Options}
 use Rattle.lx_cover.proofs.OneCover.{IsFirstSumOver-one}
 use Rattle.lx_cover.specs.Cover.{IsFirstSumOver}
 use Rattle.lx_cover.specs.declared.covering.TheConstants.{COVER_LIMIT}
-use Rattle.lx_regex.specs.Kernel.{HasTooManyKernels}
 use Rattle.lx_regex.specs.Pattern.{Pattern, patterns_of, terms_of}
 use Rattle.lx_rules.specs.Likeness.{HaveSameRules}
 use Rattle.lx_rules.specs.declared.resolved.Scanner.{Scanner}
-use Rattle.lx_compile.specs.ScannerFaults.{AreFaultless, IsFaultOfContent, IsFaultOfScanners, IsFaultless, IsFaultlessContent, IsScannerFault, IsTooLarge, IsTooLong}
+use Rattle.lx_compile.specs.ScannerFaults.{AreFaultless, AreTooManyFor, IsFaultOfContent, IsFaultOfScanners, IsFaultless, IsFaultlessContent, IsScannerFault, IsTooLarge, IsTooLong}
 use Rattle.lx_compile.specs.declared.parts.Content.{Content}
 use Rattle.lx_compile.specs.declared.parts.Content.TheVariants.{Asks, Scanners}
 use Rattle.lx_compile.proofs.OneBlock.{GiveAlike}
@@ -20,11 +19,11 @@ module _ (options : Options) where
   -- ---- one scanner
 
   module _ (scanner other : Scanner) (same : patterns_of scanner.set.rules ≡ patterns_of other.set.rules) where
-    large-same : IsTooLarge options.enc scanner → IsTooLarge options.enc other
-    large-same large = subst (λ (patterns : List Pattern). HasTooManyKernels options.enc (terms_of patterns)) same large
+    large-same : IsTooLarge options scanner → IsTooLarge options other
+    large-same large = subst (λ (patterns : List Pattern). AreTooManyFor options (terms_of patterns)) same large
 
-    large-back : IsTooLarge options.enc other → IsTooLarge options.enc scanner
-    large-back large = subst (λ (patterns : List Pattern). HasTooManyKernels options.enc (terms_of patterns)) (sym same) large
+    large-back : IsTooLarge options other → IsTooLarge options scanner
+    large-back large = subst (λ (patterns : List Pattern). AreTooManyFor options (terms_of patterns)) (sym same) large
 
     long-same : (sum : ℕ) → IsTooLong options scanner sum → IsTooLong options other sum
     long-same sum long =
@@ -88,7 +87,7 @@ module _ (options : Options) where
   scanner-faultless : (at : Pos) (scanner : Scanner) → ((fault : Fault) → IsScannerFault options at scanner fault → ⊥) → IsFaultless options scanner
   scanner-faultless at scanner none = (small, λ sum long. none (CoverTooLong at sum) (inr (small, (sum, long, refl))))
     where
-      small : IsTooLarge options.enc scanner → ⊥
+      small : IsTooLarge options scanner → ⊥
       small large = none (TooManyStates at) (inl (large, refl))
 
   scanners-faultless : (at : Pos) (scanners : List Scanner) → ((fault : Fault) → IsFaultOfScanners options at scanners fault → ⊥)

@@ -13,14 +13,14 @@ use Rattle.lx_base.specs.declared.settings.Enc.{Enc}
 use Rattle.lx_base.specs.declared.settings.Options.{Options}
 use Rattle.lx_gen.specs.Generated.{AreAutomata, AreAutomataUnder}
 use Rattle.lx_fill.specs.Checks.{AreChecks}
-use Rattle.lx_regex.specs.Order.{greedy}
+use Rattle.lx_regex.specs.Order.{Policy}
 use Rattle.lx_rules.specs.Within.{IsScannerWithin}
 use Rattle.lx_rules.specs.declared.resolved.Act.{Act}
 use Rattle.lx_rules.specs.declared.resolved.Scanner.{Scanner}
 use Rattle.lx_tdfa.specs.Making.{StopsBy}
 use Rattle.lx_compile.specs.Covering.{AreCoveredBy, IsCoveredWhere}
 use Rattle.lx_compile.specs.Emittable.{AreAutosOf, AreChecksOf, IsMadeFor}
-use Rattle.lx_compile.specs.Options.{asks_for_cover}
+use Rattle.lx_compile.specs.Options.{asks_for_cover, policy_of}
 use Rattle.lx_compile.specs.Reduced.{IsReduced}
 use Rattle.lx_compile.specs.ScannerFaults.{AreFaultless, IsFaultOfScanners, IsFaultless, IsScannerFault, IsTooLarge, IsTooLong, StopsWithFault}
 
@@ -36,7 +36,7 @@ module _ (options : Options) (number : ℕ) (at : Pos) (acts : List Act) where
   -- what holds behind some scanners, which have these automata and this text of covering words, where the others are left
   pub record HaveAutos (scanners rest : List Scanner) (autos : List Auto) (text : List ℕ) : Type 0 where
     pub within : AllByRecursion (IsScannerWithin options.enc) rest
-    pub continues : (more : List Auto) → AreAutosOf options.enc rest more → AreAutosOf options.enc scanners (autos ++ more)
+    pub continues : (more : List Auto) → AreAutosOf options rest more → AreAutosOf options scanners (autos ++ more)
     pub covered : (more : List ℕ) → AreCoveredBy options number acts rest more → AreCoveredBy options number acts scanners (text ++ more)
     pub faultless : AreFaultless options rest → AreFaultless options scanners
     pub faults : (fault : Fault) → IsFaultOfScanners options at rest fault → IsFaultOfScanners options at scanners fault
@@ -51,8 +51,8 @@ module _ (options : Options) (number : ℕ) (at : Pos) (acts : List Act) where
   }
 
   pub HaveAutos-next : (scanners : List Scanner) (scanner : Scanner) (rest : List Scanner) (autos : List Auto) (auto : Auto) (text after own : List ℕ)
-      → HaveAutos scanners (scanner ∷ rest) autos text → IsMadeFor options.enc scanner auto → IsFaultless options scanner
-      → IsCoveredWhere options.enc acts scanner (asks_for_cover options) number own → after ≡ text ++ own
+      → HaveAutos scanners (scanner ∷ rest) autos text → IsMadeFor options scanner auto → IsFaultless options scanner
+      → IsCoveredWhere options acts scanner (asks_for_cover options) number own → after ≡ text ++ own
       → HaveAutos scanners rest (autos ++ auto ∷ []) after
   HaveAutos-next scanners scanner rest autos auto text after own have is faultless covered text_is = record {
     within = have.within.1;
@@ -65,9 +65,9 @@ module _ (options : Options) (number : ℕ) (at : Pos) (acts : List Act) where
   }
 
   pub HaveAutos-end : (scanners : List Scanner) (autos : List Auto) (text : List ℕ) → HaveAutos scanners [] autos text
-      → AreAutosOf options.enc scanners autos × AreFaultless options scanners × AreCoveredBy options number acts scanners text
+      → AreAutosOf options scanners autos × AreFaultless options scanners × AreCoveredBy options number acts scanners text
   HaveAutos-end scanners autos text have = (
-    subst (AreAutosOf options.enc scanners) (append-nil autos) (have.continues [] tt),
+    subst (AreAutosOf options scanners) (append-nil autos) (have.continues [] tt),
     have.faultless tt,
     subst (AreCoveredBy options number acts scanners) (append-nil text) (have.covered [] refl),
   )
@@ -80,29 +80,29 @@ module _ (options : Options) (number : ℕ) (at : Pos) (acts : List Act) where
   StopsWithFault-scanner scanners scanner rest autos text (stop.Fault fault) have stops = have.faults fault (inl stops)
 
 -- a scanner with too many kernels stops with that fault
-pub StopsWithFault-kernels : (options : Options) (at : Pos) (scanner : Scanner) (stopped : Stop) → StopsBy at (IsTooLarge options.enc scanner) stopped
+pub StopsWithFault-kernels : (options : Options) (at : Pos) (scanner : Scanner) (stopped : Stop) → StopsBy at (IsTooLarge options scanner) stopped
     → StopsWithFault (IsScannerFault options at scanner) stopped
 StopsWithFault-kernels options at scanner stop.Memory stops = tt
 StopsWithFault-kernels options at scanner (stop.Fault fault) stops = inl (stops.1, stops.0)
 
 -- one without stops with that of its covering words
-pub StopsWithFault-cover : (options : Options) (at : Pos) (scanner : Scanner) (stopped : Stop) → (IsTooLarge options.enc scanner → ⊥)
+pub StopsWithFault-cover : (options : Options) (at : Pos) (scanner : Scanner) (stopped : Stop) → (IsTooLarge options scanner → ⊥)
     → StopsWithFault (λ fault. (sum : ℕ) × IsTooLong options scanner sum × (fault ≡ CoverTooLong at sum)) stopped
     → StopsWithFault (IsScannerFault options at scanner) stopped
 StopsWithFault-cover options at scanner stop.Memory small stops = tt
 StopsWithFault-cover options at scanner (stop.Fault fault) small stops = inr (small, stops)
 
-pub are_autos : (enc : Enc) (scanners : List Scanner) (autos : List Auto) → AreAutosOf enc scanners autos → AllByRecursion IsAuto autos
-are_autos enc [] [] are = tt
-are_autos enc [] (auto ∷ autos) are = absurd are
-are_autos enc (scanner ∷ scanners) [] are = absurd are
-are_autos enc (scanner ∷ scanners) (auto ∷ autos) are = (are.0.0.fits.formed, are_autos enc scanners autos are.1)
+pub are_autos : (options : Options) (scanners : List Scanner) (autos : List Auto) → AreAutosOf options scanners autos → AllByRecursion IsAuto autos
+are_autos options [] [] are = tt
+are_autos options [] (auto ∷ autos) are = absurd are
+are_autos options (scanner ∷ scanners) [] are = absurd are
+are_autos options (scanner ∷ scanners) (auto ∷ autos) are = (are.0.0.fits.formed, are_autos options scanners autos are.1)
 
-pub are_reduced : (enc : Enc) (scanners : List Scanner) (autos : List Auto) → AreAutosOf enc scanners autos → AllByRecursion IsReduced autos
-are_reduced enc [] [] are = tt
-are_reduced enc [] (auto ∷ autos) are = absurd are
-are_reduced enc (scanner ∷ scanners) [] are = absurd are
-are_reduced enc (scanner ∷ scanners) (auto ∷ autos) are = (are.0.1, are_reduced enc scanners autos are.1)
+pub are_reduced : (options : Options) (scanners : List Scanner) (autos : List Auto) → AreAutosOf options scanners autos → AllByRecursion IsReduced autos
+are_reduced options [] [] are = tt
+are_reduced options [] (auto ∷ autos) are = absurd are
+are_reduced options (scanner ∷ scanners) [] are = absurd are
+are_reduced options (scanner ∷ scanners) (auto ∷ autos) are = (are.0.1, are_reduced options scanners autos are.1)
 
 -- ---- checks
 
@@ -126,23 +126,23 @@ HaveChecks-end autos checks have = subst (AreChecksOf autos) (append-nil checks)
 
 -- ---- both
 
-pub AreAutomataUnder-of : (enc : Enc) (scanners : List Scanner) (autos : List Auto) (checks : List (List ℕ)) → AreAutosOf enc scanners autos
-    → AreChecksOf autos checks → AreAutomataUnder greedy enc scanners autos checks
-AreAutomataUnder-of enc [] [] [] are have = tt
-AreAutomataUnder-of enc [] [] (list ∷ checks) are have = absurd have
-AreAutomataUnder-of enc [] (auto ∷ autos) checks are have = absurd are
-AreAutomataUnder-of enc (scanner ∷ scanners) [] checks are have = absurd are
-AreAutomataUnder-of enc (scanner ∷ scanners) (auto ∷ autos) [] are have = absurd have
-AreAutomataUnder-of enc (scanner ∷ scanners) (auto ∷ autos) (list ∷ checks) are have =
-    (are.0.0, have.0, AreAutomataUnder-of enc scanners autos checks are.1 have.1)
+pub AreAutomataUnder-of : (options : Options) (scanners : List Scanner) (autos : List Auto) (checks : List (List ℕ)) → AreAutosOf options scanners autos
+    → AreChecksOf autos checks → AreAutomataUnder (policy_of options) options.enc scanners autos checks
+AreAutomataUnder-of options [] [] [] are have = tt
+AreAutomataUnder-of options [] [] (list ∷ checks) are have = absurd have
+AreAutomataUnder-of options [] (auto ∷ autos) checks are have = absurd are
+AreAutomataUnder-of options (scanner ∷ scanners) [] checks are have = absurd are
+AreAutomataUnder-of options (scanner ∷ scanners) (auto ∷ autos) [] are have = absurd have
+AreAutomataUnder-of options (scanner ∷ scanners) (auto ∷ autos) (list ∷ checks) are have =
+    (are.0.0, have.0, AreAutomataUnder-of options scanners autos checks are.1 have.1)
 
 -- automata of rules fit them
-pub AreAutomata-of : (enc : Enc) (scanners : List Scanner) (autos : List Auto) (checks : List (List ℕ)) → AreAutomataUnder greedy enc scanners autos checks
+pub AreAutomata-of : (policy : Policy) (enc : Enc) (scanners : List Scanner) (autos : List Auto) (checks : List (List ℕ)) → AreAutomataUnder policy enc scanners autos checks
     → AreAutomata enc scanners autos checks
-AreAutomata-of enc [] [] [] are = tt
-AreAutomata-of enc [] [] (list ∷ checks) are = absurd are
-AreAutomata-of enc [] (auto ∷ autos) checks are = absurd are
-AreAutomata-of enc (scanner ∷ scanners) [] checks are = absurd are
-AreAutomata-of enc (scanner ∷ scanners) (auto ∷ autos) [] are = absurd are
-AreAutomata-of enc (scanner ∷ scanners) (auto ∷ autos) (list ∷ checks) are =
-    (are.0.fits, are.1, AreAutomata-of enc scanners autos checks are.2)
+AreAutomata-of policy enc [] [] [] are = tt
+AreAutomata-of policy enc [] [] (list ∷ checks) are = absurd are
+AreAutomata-of policy enc [] (auto ∷ autos) checks are = absurd are
+AreAutomata-of policy enc (scanner ∷ scanners) [] checks are = absurd are
+AreAutomata-of policy enc (scanner ∷ scanners) (auto ∷ autos) [] are = absurd are
+AreAutomata-of policy enc (scanner ∷ scanners) (auto ∷ autos) (list ∷ checks) are =
+    (are.0.fits, are.1, AreAutomata-of policy enc scanners autos checks are.2)

@@ -2,21 +2,19 @@
 use Rattle.std.specs.Prelude.{◌≡◌, ℕ, suc, Bool, true, false, List, [], ◌∷◌, ◌++◌, length, drop, codes, Option, Some, None, if◌then◌else◌}
 use Rattle.std.specs.Fmt.{decimal}
 use Rattle.lx_base.specs.Text.{joined}
-use Rattle.lx_base.specs.declared.settings.Enc.{Enc}
 use Rattle.lx_base.specs.declared.settings.Options.{Options}
 use Rattle.lx_ccode.specs.Text.{hexadecimal}
 use Rattle.lx_cover.specs.Cover.{IsCover}
 use Rattle.lx_gen.specs.Generated.{endings_by}
 use Rattle.lx_layout.specs.Endings.{Ending, is_slash}
 use Rattle.lx_regex.specs.Match.{IsMatch, Outcome, matched, unmatched}
-use Rattle.lx_regex.specs.Order.{greedy}
 use Rattle.lx_regex.specs.Pattern.{patterns_of, terms_of}
 use Rattle.lx_regex.specs.Values.{Value, history, single}
 use Rattle.lx_rules.specs.declared.resolved.Act.{Act}
 use Rattle.lx_rules.specs.declared.resolved.Resolved.{Resolved}
 use Rattle.lx_rules.specs.declared.resolved.Scanner.{Scanner}
 use Rattle.lx_run.specs.Values.{history_text, offset_text}
-use Rattle.lx_compile.specs.Options.{asks_for_cover}
+use Rattle.lx_compile.specs.Options.{asks_for_cover, policy_of}
 use Rattle.lx_compile.specs.Warnings.{units_text}
 use Rattle.lx_compile.specs.declared.made.Made.{Made}
 use Rattle.lx_compile.specs.declared.made.Made.TheVariants.{Scanners}
@@ -84,11 +82,11 @@ scanner_line number (Some cond) = joined (codes "scanner " ∷ decimal number �
 
 -- ---- what is told
 
-module _ (enc : Enc) (acts : List Act) (scanner : Scanner) where
-  -- a line tells a word with its match, by the leftmost greedy trees
+module _ (options : Options) (acts : List Act) (scanner : Scanner) where
+  -- a line tells a word with its match, by the trees that are meant
   abbrev pub IsWordLine : (word line : List ℕ) → Type 0
   IsWordLine word line =
-      (outcome : Outcome) × IsMatch greedy enc (patterns_of scanner.set.rules) word 0 outcome
+      (outcome : Outcome) × IsMatch (policy_of options) options.enc (patterns_of scanner.set.rules) word 0 outcome
       × (line ≡ word_line (endings_by None acts scanner.set.rules) word outcome)
 
   -- so do the lines of words, one behind another
@@ -100,7 +98,7 @@ module _ (enc : Enc) (acts : List Act) (scanner : Scanner) where
   -- the text of a scanner's covering words, all of them and each once, in their order
   abbrev pub IsCoverText : (number : ℕ) → (text : List ℕ) → Type 0
   IsCoverText number text =
-      (words : List (List ℕ)) × (lines : List ℕ) × IsCover enc (terms_of (patterns_of scanner.set.rules)) words
+      (words : List (List ℕ)) × (lines : List ℕ) × IsCover options.enc (terms_of (patterns_of scanner.set.rules)) words
       × AreWordLines words lines × (text ≡ scanner_line number scanner.cond ++ lines)
 
   -- the same where they are asked for, and else nothing
@@ -112,7 +110,7 @@ module _ (enc : Enc) (acts : List Act) (scanner : Scanner) where
 abbrev pub AreCoveredBy : Options → (number : ℕ) → List Act → List Scanner → (text : List ℕ) → Type 0
 AreCoveredBy options number acts [] text = text ≡ []
 AreCoveredBy options number acts (scanner ∷ scanners) text =
-    (own : List ℕ) × (rest : List ℕ) × IsCoveredWhere options.enc acts scanner (asks_for_cover options) number own
+    (own : List ℕ) × (rest : List ℕ) × IsCoveredWhere options acts scanner (asks_for_cover options) number own
     × AreCoveredBy options number acts scanners rest × (text ≡ own ++ rest)
 
 -- the same of the block whose piece has the number

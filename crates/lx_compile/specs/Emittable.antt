@@ -3,7 +3,6 @@ use Rattle.std.specs.Prelude.{ℕ, ◌<◌, ◌≤◌, List, [], ◌∷◌, leng
 use Rattle.lx_auto.specs.declared.automaton.Auto.{Auto}
 use Rattle.lx_base.specs.declared.limits.TheConstants.{SOURCE_LIMIT}
 use Rattle.lx_base.specs.declared.places.Pos.{Pos}
-use Rattle.lx_base.specs.declared.settings.Enc.{Enc}
 use Rattle.lx_base.specs.declared.settings.Options.{Options}
 use Rattle.lx_fill.specs.Checks.{AreChecks}
 use Rattle.lx_regex.specs.Pattern.{patterns_of}
@@ -12,7 +11,8 @@ use Rattle.lx_rules.specs.declared.resolved.Resolved.{Resolved}
 use Rattle.lx_rules.specs.declared.resolved.Scanner.{Scanner}
 use Rattle.lx_split.specs.declared.pieces.SourcePiece.{SourcePiece}
 use Rattle.lx_split.specs.declared.pieces.SourcePiece.TheVariants as piece
-use Rattle.lx_tdfa.specs.Promise.{IsAutoOf}
+use Rattle.lx_tdfa.specs.Promise.{IsAutoUnder}
+use Rattle.lx_compile.specs.Options.{policy_of}
 use Rattle.lx_compile.specs.Reduced.{IsReduced}
 use Rattle.lx_compile.specs.declared.parts.Content.{Content}
 use Rattle.lx_compile.specs.declared.parts.Content.TheVariants.{Asks, Scanners}
@@ -43,15 +43,16 @@ abbrev pub IsMakeable : Options → Part → Type 0
 IsMakeable options (Outside text) = Unit {0}
 IsMakeable options (Block at line content) = HasMakeable options content
 
--- it is the automaton of the scanner's rules, with no more in it than has to be
-abbrev pub IsMadeFor : Enc → Scanner → Auto → Type 0
-IsMadeFor enc scanner auto = IsAutoOf enc (patterns_of scanner.set.rules) auto × IsReduced auto
+-- it is the automaton of the scanner's rules, by the trees that are meant, with no more in it than has to be
+abbrev pub IsMadeFor : Options → Scanner → Auto → Type 0
+IsMadeFor options scanner auto =
+    IsAutoUnder (policy_of options) options.enc (patterns_of scanner.set.rules) auto × IsReduced auto
 
 -- each scanner has such an automaton
-abbrev pub AreAutosOf : Enc → List Scanner → List Auto → Type 0
-AreAutosOf enc [] [] = Unit {0}
-AreAutosOf enc (scanner ∷ scanners) (auto ∷ autos) = IsMadeFor enc scanner auto × AreAutosOf enc scanners autos
-AreAutosOf enc scanners autos = ⊥
+abbrev pub AreAutosOf : Options → List Scanner → List Auto → Type 0
+AreAutosOf options [] [] = Unit {0}
+AreAutosOf options (scanner ∷ scanners) (auto ∷ autos) = IsMadeFor options scanner auto × AreAutosOf options scanners autos
+AreAutosOf options scanners autos = ⊥
 
 -- each automaton has its checks
 abbrev pub AreChecksOf : List Auto → (checks : List (List ℕ)) → Type 0

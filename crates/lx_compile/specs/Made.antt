@@ -8,9 +8,9 @@ use Rattle.lx_ccode.specs.Counts.{state_count}
 use Rattle.lx_ccode.specs.declared.piece.LineMark.{LineMark}
 use Rattle.lx_ccode.specs.declared.piece.Piece.{Piece}
 use Rattle.lx_gen.specs.Generated.{AreAutomataUnder, AreRightUnder, IsGenerated, marks_of}
-use Rattle.lx_regex.specs.Order.{greedy}
 use Rattle.lx_rules.specs.declared.resolved.Resolved.{Resolved}
 use Rattle.lx_compile.specs.Covering.{AreCovered}
+use Rattle.lx_compile.specs.Options.{policy_of}
 use Rattle.lx_compile.specs.Reduced.{IsReduced}
 use Rattle.lx_compile.specs.Warnings.{AreWarned}
 use Rattle.lx_compile.specs.declared.made.Made.{Made}
@@ -32,13 +32,13 @@ line_mark setting at line =
     if setting.options.lines then Some (record { line = line; file = slice_index_or setting.names at.file [] }) else None
 
 -- The piece with this number of a block's scanners, whose states are numbered from a first one on, and the checks of its automata: it
--- carries these automata, in which nothing is left that need not be there, and each scanner is right, by the leftmost greedy trees.
+-- carries these automata, in which nothing is left that need not be there, and each scanner is right, by the trees that are meant.
 pub record IsScannerPiece (setting : Setting) (number first_state : ℕ) (line : Option LineMark) (resolved : Resolved) (piece : Piece) (checks : List (List ℕ)) : Type 0 where
   pub autos : List Auto
-  pub automata : AreAutomataUnder greedy setting.options.enc resolved.scanners autos checks
+  pub automata : AreAutomataUnder (policy_of setting.options) setting.options.enc resolved.scanners autos checks
   pub reduced : AllByRecursion IsReduced autos
   pub generated : IsGenerated setting.options resolved autos checks setting.names number first_state setting.own_switch line piece
-  pub right : AreRightUnder greedy setting.options (marks_of line setting.names) resolved piece
+  pub right : AreRightUnder (policy_of setting.options) setting.options (marks_of line setting.names) resolved piece
 
 -- This is made of what a block gives, whose opener stands at a place and whose end in a line, where the piece has this number and its states are
 -- numbered from a first one on; behind it they are from `next` on. With a piece of scanners stand their warnings, and the text of their

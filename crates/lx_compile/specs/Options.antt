@@ -1,10 +1,15 @@
 -- What the command line asks for.
-use Rattle.std.specs.Prelude.{◌≡◌, Bool, false}
+use Rattle.std.specs.Prelude.{Bool, true, false}
 use Rattle.lx_base.specs.declared.settings.Options.{Options}
+use Rattle.lx_regex.specs.Order.{Policy, greedy, posix}
 
--- captures by the POSIX order are not asked for, so the trees of rules are the leftmost greedy ones
-abbrev pub IsGreedy : Options → Type 0
-IsGreedy options = options.posix ≡ false
+-- which trees of rules are meant: the best ones under the POSIX order where its captures are asked for, and else the leftmost greedy ones
+abbrev pub policy_where : (posix : Bool) → Policy
+policy_where true = posix
+policy_where false = greedy
+
+abbrev pub policy_of : Options → Policy
+policy_of options = policy_where options.posix
 
 -- warnings are asked for
 abbrev pub tells_warnings : Options → Bool

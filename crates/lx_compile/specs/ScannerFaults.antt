@@ -11,15 +11,28 @@ use Rattle.lx_base.specs.declared.settings.Options.{Options}
 use Rattle.lx_cover.specs.Cover.{IsFirstSumOver}
 use Rattle.lx_cover.specs.declared.covering.TheConstants.{COVER_LIMIT}
 use Rattle.lx_regex.specs.Kernel.{HasTooManyKernels}
+use Rattle.lx_posix.specs.PosixKernel.{HasTooManyPosixKernels}
+use Rattle.lx_regex.specs.Order.{Policy, greedy, posix}
 use Rattle.lx_regex.specs.Pattern.{patterns_of, terms_of}
+use Rattle.lx_regex.specs.Term.{Term}
 use Rattle.lx_rules.specs.declared.resolved.Scanner.{Scanner}
-use Rattle.lx_compile.specs.Options.{asks_for_cover}
+use Rattle.lx_compile.specs.Options.{asks_for_cover, policy_of}
 use Rattle.lx_compile.specs.declared.parts.Content.{Content}
 use Rattle.lx_compile.specs.declared.parts.Content.TheVariants.{Asks, Scanners}
 
--- the scanner has too many kernels in the encoding
-abbrev pub IsTooLarge : Enc → Scanner → Type 0
-IsTooLarge enc scanner = HasTooManyKernels enc (terms_of (patterns_of scanner.set.rules))
+-- the rules have too many kernels, by the trees that are meant
+abbrev pub HasTooMany : Policy → Enc → (rules : List Term) → Type 0
+HasTooMany greedy enc rules = HasTooManyKernels enc rules
+HasTooMany posix enc rules = HasTooManyPosixKernels enc rules
+
+-- the same; and where covering words are asked for, which are of leftmost kernels always, too many of these
+abbrev pub AreTooManyFor : Options → (rules : List Term) → Type 0
+AreTooManyFor options rules =
+    HasTooMany (policy_of options) options.enc rules ⊎ ((asks_for_cover options ≡ true) × HasTooManyKernels options.enc rules)
+
+-- the scanner has too many kernels
+abbrev pub IsTooLarge : Options → Scanner → Type 0
+IsTooLarge options scanner = AreTooManyFor options (terms_of (patterns_of scanner.set.rules))
 
 -- covering words are asked for, and those of the scanner have so many units, which are too many, up to and with the first word that passes the limit
 abbrev pub IsTooLong : Options → Scanner → (sum : ℕ) → Type 0
@@ -28,13 +41,13 @@ IsTooLong options scanner sum =
 
 -- the scanner has no fault
 abbrev pub IsFaultless : Options → Scanner → Type 0
-IsFaultless options scanner = (IsTooLarge options.enc scanner → ⊥) × ((sum : ℕ) → IsTooLong options scanner sum → ⊥)
+IsFaultless options scanner = (IsTooLarge options scanner → ⊥) × ((sum : ℕ) → IsTooLong options scanner sum → ⊥)
 
 -- the fault of a scanner whose block opens at a place: that of its kernels, or else that of its covering words
 abbrev pub IsScannerFault : Options → (at : Pos) → Scanner → Fault → Type 0
 IsScannerFault options at scanner fault =
-    (IsTooLarge options.enc scanner × (fault ≡ TooManyStates at))
-    ⊎ ((IsTooLarge options.enc scanner → ⊥) × ((sum : ℕ) × IsTooLong options scanner sum × (fault ≡ CoverTooLong at sum)))
+    (IsTooLarge options scanner × (fault ≡ TooManyStates at))
+    ⊎ ((IsTooLarge options scanner → ⊥) × ((sum : ℕ) × IsTooLong options scanner sum × (fault ≡ CoverTooLong at sum)))
 
 -- no scanner has a fault
 abbrev pub AreFaultless : Options → List Scanner → Type 0

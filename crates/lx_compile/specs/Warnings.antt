@@ -4,11 +4,9 @@ use Rattle.std.specs.Fmt.{decimal}
 use Rattle.lx_base.specs.Message.{heading}
 use Rattle.lx_base.specs.Text.{joined}
 use Rattle.lx_base.specs.declared.places.Pos.{Pos}
-use Rattle.lx_base.specs.declared.settings.Enc.{Enc}
 use Rattle.lx_base.specs.declared.settings.Options.{Options}
 use Rattle.lx_ccode.specs.Text.{hexadecimal}
 use Rattle.lx_rules.specs.Numbered.{numbered_act}
-use Rattle.lx_regex.specs.Order.{greedy}
 use Rattle.lx_regex.specs.Pattern.{patterns_of}
 use Rattle.lx_rules.specs.declared.resolved.Act.{Act}
 use Rattle.lx_rules.specs.declared.resolved.Resolved.{Resolved}
@@ -16,7 +14,7 @@ use Rattle.lx_rules.specs.declared.resolved.Scanner.{Scanner}
 use Rattle.lx_warn.specs.Warnings.{AreWarnings}
 use Rattle.lx_warn.specs.declared.lists.Warning.{Warning}
 use Rattle.lx_warn.specs.declared.lists.Warning.TheVariants.{Unreachable, Empty, Undefined}
-use Rattle.lx_compile.specs.Options.{tells_warnings}
+use Rattle.lx_compile.specs.Options.{policy_of, tells_warnings}
 use Rattle.lx_compile.specs.declared.made.Made.{Made}
 use Rattle.lx_compile.specs.declared.made.Made.TheVariants.{Scanners}
 use Rattle.lx_compile.specs.declared.warned.PlacedWarning.{PlacedWarning}
@@ -38,21 +36,21 @@ warning_place at acts (Undefined word) = at
 abbrev pub placed : (at : Pos) → List Act → (cond : Option (List ℕ)) → Warning → PlacedWarning
 placed at acts cond warning = record { at = warning_place at acts warning; cond = cond; warning = warning }
 
--- the warnings of scanners, one scanner behind another, each at its place: those that there are of its rules in this encoding
-abbrev pub AreWarningsOf : Enc → (at : Pos) → List Act → List Scanner → List PlacedWarning → Type 0
-AreWarningsOf enc at acts [] warnings = warnings ≡ []
-AreWarningsOf enc at acts (scanner ∷ scanners) warnings =
-    (own : List Warning) × (others : List PlacedWarning) × AreWarnings greedy enc (patterns_of scanner.set.rules) own
-    × AreWarningsOf enc at acts scanners others × (warnings ≡ map (placed at acts scanner.cond) own ++ others)
+-- the warnings of scanners, one scanner behind another, each at its place: those that there are of its rules, by the trees that are meant
+abbrev pub AreWarningsOf : Options → (at : Pos) → List Act → List Scanner → List PlacedWarning → Type 0
+AreWarningsOf options at acts [] warnings = warnings ≡ []
+AreWarningsOf options at acts (scanner ∷ scanners) warnings =
+    (own : List Warning) × (others : List PlacedWarning) × AreWarnings (policy_of options) options.enc (patterns_of scanner.set.rules) own
+    × AreWarningsOf options at acts scanners others × (warnings ≡ map (placed at acts scanner.cond) own ++ others)
 
 -- the same where warnings are asked for, and else none
-abbrev pub AreWarnedWhere : (asked : Bool) → Enc → (at : Pos) → List Act → List Scanner → List PlacedWarning → Type 0
-AreWarnedWhere true enc at acts scanners warnings = AreWarningsOf enc at acts scanners warnings
-AreWarnedWhere false enc at acts scanners warnings = warnings ≡ []
+abbrev pub AreWarnedWhere : (asked : Bool) → Options → (at : Pos) → List Act → List Scanner → List PlacedWarning → Type 0
+AreWarnedWhere true options at acts scanners warnings = AreWarningsOf options at acts scanners warnings
+AreWarnedWhere false options at acts scanners warnings = warnings ≡ []
 
 -- the warnings of the scanners of a block that opens at a place
 abbrev pub AreWarned : Options → (at : Pos) → Resolved → List PlacedWarning → Type 0
-AreWarned options at resolved warnings = AreWarnedWhere (tells_warnings options) options.enc at resolved.acts resolved.scanners warnings
+AreWarned options at resolved warnings = AreWarnedWhere (tells_warnings options) options at resolved.acts resolved.scanners warnings
 
 -- those that stand with what is made of a part
 abbrev pub warnings_in : Made → List PlacedWarning

@@ -7,7 +7,6 @@ ghost use Rattle.lx_files.specs.declared.files.HeldFile.{HeldFile};
 ghost use Rattle.lx_split.specs.Includes.{expansion};
 ghost use Rattle.lx_compile.specs.Emittable.{IsNearPiece};
 ghost use Rattle.lx_compile.specs.FirstFault.{IsFaultOfBlocks, IsFirstFault, StopsBehind, StopsWith};
-ghost use Rattle.lx_compile.specs.Options.{IsGreedy};
 ghost use Rattle.lx_compile.specs.Output.{IsGiven, IsGivenOf, given_text};
 ghost use Rattle.lx_compile.specs.Warnings.{told_warnings};
 ghost use Rattle.lx_compile.specs.declared.made.Made.{Made as made_type};
@@ -55,7 +54,6 @@ fn output_of(
     names: &FileNames,
     options: &Options,
 ) -> Result<Compiled, Stop>
-    requires greedy { IsGreedy options.now }
     requires near { All IsNearPiece pieces }
     requires few { length pieces < 4294967295 }
     ensures { MatchResult result
@@ -93,7 +91,6 @@ pub fn compile<F: Files>(
     options: &Options,
     main: &str,
 ) -> Result<Compiled, ExpandStop>
-    requires greedy { IsGreedy options.now }
     requires new { names.old ≡ [] }
     ensures compiles { (seen : List HeldFile) × Sees (F.held files.old) seen × MatchResult result
         (λ compiled. (made : List made_type) × IsFirstFault options.now seen main.now made None × IsGiven options.now seen main.now made compiled.output.items

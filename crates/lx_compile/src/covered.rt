@@ -92,10 +92,10 @@ fn append_match(
     }
 }
 
-/// A scanner with its automaton, in an encoding, and what its rules do.
+/// A scanner with its automaton, by the options, and what its rules do.
 #[derive(Clone, Copy)]
 struct Matching<'a> {
-    enc: Enc,
+    options: &'a Options,
     acts: &'a [Act],
     scanner: &'a Scanner,
     auto: &'a Auto,
@@ -112,16 +112,16 @@ fn append_line(
 ) -> Result<(), Memory>
     requires indexed { AreEndsIndexed index.now }
     requires endings { endings_of index.now.ends.now ≡ endings_by None matching.now.acts.now matching.now.scanner.now.set.rules }
-    requires within { IsScannerWithin matching.now.enc matching.now.scanner.now }
-    requires automaton { IsMadeFor matching.now.enc matching.now.scanner.now matching.now.auto.now }
-    requires units { IsWord matching.now.enc (terms_of (patterns_of matching.now.scanner.now.set.rules)) word.now }
-    ensures { OnOk result ((line : List ℕ) × IsWordLine matching.now.enc matching.now.acts.now matching.now.scanner.now word.now line
+    requires within { IsScannerWithin matching.now.options.now.enc matching.now.scanner.now }
+    requires automaton { IsMadeFor matching.now.options.now matching.now.scanner.now matching.now.auto.now }
+    requires units { IsWord matching.now.options.now.enc (terms_of (patterns_of matching.now.scanner.now.set.rules)) word.now }
+    ensures { OnOk result ((line : List ℕ) × IsWordLine matching.now.options.now matching.now.acts.now matching.now.scanner.now word.now line
         × (text.new.items ≡ text.old.items ++ line)) }
 {
     let found = match_word(
         alloc,
         matching.scanner,
-        matching.enc,
+        matching.options.enc,
         matching.acts,
         matching.auto,
         word,
@@ -143,10 +143,10 @@ fn append_lines(
 ) -> Result<(), Memory>
     requires indexed { AreEndsIndexed index.now }
     requires endings { endings_of index.now.ends.now ≡ endings_by None matching.now.acts.now matching.now.scanner.now.set.rules }
-    requires within { IsScannerWithin matching.now.enc matching.now.scanner.now }
-    requires automaton { IsMadeFor matching.now.enc matching.now.scanner.now matching.now.auto.now }
-    requires units { All (IsWord matching.now.enc (terms_of (patterns_of matching.now.scanner.now.set.rules))) words.now }
-    ensures { OnOk result ((lines : List ℕ) × AreWordLines matching.now.enc matching.now.acts.now matching.now.scanner.now words.now lines
+    requires within { IsScannerWithin matching.now.options.now.enc matching.now.scanner.now }
+    requires automaton { IsMadeFor matching.now.options.now matching.now.scanner.now matching.now.auto.now }
+    requires units { All (IsWord matching.now.options.now.enc (terms_of (patterns_of matching.now.scanner.now.set.rules))) words.now }
+    ensures { OnOk result ((lines : List ℕ) × AreWordLines matching.now.options.now matching.now.acts.now matching.now.scanner.now words.now lines
         × (text.new.items ≡ text.old.items ++ lines)) }
 {
     let mut values = Values::new(alloc);
@@ -165,10 +165,10 @@ fn append_words(
     words: &[Word],
 ) -> Result<(), Memory>
     requires fit { IsFit (length matching.now.acts.now) matching.now.scanner.now }
-    requires within { IsScannerWithin matching.now.enc matching.now.scanner.now }
-    requires automaton { IsMadeFor matching.now.enc matching.now.scanner.now matching.now.auto.now }
-    requires cover { IsCover matching.now.enc (terms_of (patterns_of matching.now.scanner.now.set.rules)) words.now }
-    ensures { OnOk result ((own : List ℕ) × IsCoverText matching.now.enc matching.now.acts.now matching.now.scanner.now number own
+    requires within { IsScannerWithin matching.now.options.now.enc matching.now.scanner.now }
+    requires automaton { IsMadeFor matching.now.options.now matching.now.scanner.now matching.now.auto.now }
+    requires cover { IsCover matching.now.options.now.enc (terms_of (patterns_of matching.now.scanner.now.set.rules)) words.now }
+    ensures { OnOk result ((own : List ℕ) × IsCoverText matching.now.options.now matching.now.acts.now matching.now.scanner.now number own
         × (text.new.items ≡ text.old.items ++ own)) }
 {
     let rules = matching.scanner.set.rules.as_slice();
@@ -190,21 +190,21 @@ pub(crate) fn append_cover(
     requires fit { IsFit (length frame.now.acts.now) scanner.now }
     requires within { IsScannerWithin frame.now.options.now.enc scanner.now }
     requires built { IsTnfaOf frame.now.options.now.enc (patterns_of scanner.now.set.rules) t.now }
-    requires few { IsTooLarge frame.now.options.now.enc scanner.now → ⊥ }
-    requires automaton { IsMadeFor frame.now.options.now.enc scanner.now auto.now }
+    requires few { IsTooLarge frame.now.options.now scanner.now → ⊥ }
+    requires automaton { IsMadeFor frame.now.options.now scanner.now auto.now }
     ensures { MatchResult result
         (λ _. ((sum : ℕ) → IsTooLong frame.now.options.now scanner.now sum → ⊥)
-        × ((own : List ℕ) × IsCoveredWhere frame.now.options.now.enc frame.now.acts.now scanner.now (asks_for_cover frame.now.options.now) frame.now.number own
+        × ((own : List ℕ) × IsCoveredWhere frame.now.options.now frame.now.acts.now scanner.now (asks_for_cover frame.now.options.now) frame.now.number own
         × (text.new.items ≡ text.old.items ++ own)))
         (StopsWithFault (λ fault. (sum : ℕ) × IsTooLong frame.now.options.now scanner.now sum × (fault ≡ CoverTooLong frame.now.at sum))) }
 {
     if !asks_for_cover(frame.options) {
         return Ok(());
     }
-    let enc = frame.options.enc;
-    let words = covering_words(alloc, t, enc, frame.at)?;
+    let options = frame.options;
+    let words = covering_words(alloc, t, options.enc, frame.at)?;
     let matching = Matching {
-        enc,
+        options,
         acts: frame.acts,
         scanner,
         auto,

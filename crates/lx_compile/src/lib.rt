@@ -6,6 +6,7 @@ mod bodies;
 mod compiling;
 mod cover_lines;
 mod covered;
+mod determinized;
 mod directives;
 mod facts;
 pub mod laws;

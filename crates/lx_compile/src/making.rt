@@ -1,8 +1,7 @@
 //! The pieces of the scanners of a source.
-ghost use Rattle.std.specs.Prelude.{◌≡◌, ◌++◌, ◌<◌, ◌≤◌, ◌+◌, ℕ, List, [], All, IfOk, IfSome, IsSome, MatchResult, OnOk, length, None, slice_index_or};
+ghost use Rattle.std.specs.Prelude.{◌≡◌, ◌++◌, ◌<◌, ◌+◌, ℕ, List, [], All, IfOk, IfSome, IsSome, MatchResult, length, None, slice_index_or};
 ghost use Rattle.std.specs.List.{AllByRecursion};
 ghost use Rattle.lx_auto.specs.Automaton.{IsAuto};
-ghost use Rattle.lx_base.specs.declared.limits.TheConstants.{SOURCE_LIMIT};
 ghost use Rattle.lx_ccode.specs.Counts.{state_count};
 ghost use Rattle.lx_ccode.specs.Validity.{IsLine};
 ghost use Rattle.lx_rules.specs.FitScanners.{IsFit};
@@ -17,6 +16,7 @@ ghost use Rattle.lx_compile.specs.Parts.{IsScanningFault, StopsByScanners};
 ghost use Rattle.lx_compile.specs.ScannerFaults.{AreFaultless, IsFaultOfContent, IsFaultOfScanners, IsFaultless, IsFaultlessContent, IsScannerFault, StopsWithFault};
 
 use crate::covered::{BlockFrame, append_cover};
+use crate::determinized::determinized;
 use crate::made::Made;
 use crate::parts::{Content, Part};
 use crate::reduction::reduced;
@@ -27,7 +27,6 @@ use lx_ccode::{LineMark, Piece};
 use lx_fill::{CheckList, checks};
 use lx_gen::generate;
 use lx_rules::{Resolved, Scanner};
-use lx_tdfa::determinize;
 use lx_tnfa::Tnfa;
 use std::alloc::Global;
 
@@ -89,13 +88,13 @@ fn automaton_of(
     requires fit { IsFit (length frame.now.acts.now) scanner.now }
     requires within { IsScannerWithin frame.now.options.now.enc scanner.now }
     ensures { MatchResult result
-        (λ auto. IsMadeFor frame.now.options.now.enc scanner.now auto × IsFaultless frame.now.options.now scanner.now
-        × ((own : List ℕ) × IsCoveredWhere frame.now.options.now.enc frame.now.acts.now scanner.now (asks_for_cover frame.now.options.now) frame.now.number own
+        (λ auto. IsMadeFor frame.now.options.now scanner.now auto × IsFaultless frame.now.options.now scanner.now
+        × ((own : List ℕ) × IsCoveredWhere frame.now.options.now frame.now.acts.now scanner.now (asks_for_cover frame.now.options.now) frame.now.number own
         × (cover.new.items ≡ cover.old.items ++ own)))
         (StopsWithFault (IsScannerFault frame.now.options.now frame.now.at scanner.now)) }
 {
     let automaton = Tnfa::of(alloc, &scanner.set, frame.options.enc)?;
-    let found = determinize(alloc, &automaton, frame.at)?;
+    let found = determinized(alloc, frame.options, &automaton, frame.at)?;
     let few = reduced(alloc, found)?;
     append_cover(alloc, frame, scanner, &automaton, &few, cover)?;
     Ok(few)
@@ -118,7 +117,7 @@ fn automata_of(
     requires fit { All (IsFit (length frame.now.acts.now)) scanners.now }
     requires within { AllByRecursion (IsScannerWithin frame.now.options.now.enc) scanners.now }
     ensures { MatchResult result
-        (λ answer. AreAutosOf frame.now.options.now.enc scanners.now answer.autos × AreFaultless frame.now.options.now scanners.now
+        (λ answer. AreAutosOf frame.now.options.now scanners.now answer.autos × AreFaultless frame.now.options.now scanners.now
         × AreCoveredBy frame.now.options.now frame.now.number frame.now.acts.now scanners.now answer.cover.items)
         (StopsWithFault (IsFaultOfScanners frame.now.options.now frame.now.at scanners.now)) }
 {

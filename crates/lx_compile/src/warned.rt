@@ -1,19 +1,18 @@
 //! What the scanners of a source are warned of.
-ghost use Rattle.std.specs.Prelude.{◌≡◌, ◌++◌, ℕ, List, IfOk, OnOk, length, map};
+ghost use Rattle.std.specs.Prelude.{◌≡◌, ◌++◌, List, IfOk, OnOk, map};
 ghost use Rattle.std.specs.List.{AllByRecursion};
 ghost use Rattle.lx_rules.specs.Numbered.{numbered_act};
-ghost use Rattle.lx_regex.specs.Order.{greedy};
 ghost use Rattle.lx_regex.specs.Pattern.{patterns_of};
 ghost use Rattle.lx_rules.specs.Within.{IsScannerWithin};
 ghost use Rattle.lx_warn.specs.Warnings.{AreWarnings};
 ghost use Rattle.lx_warn.specs.declared.lists.Warning.{Warning as warning_type};
 ghost use Rattle.lx_compile.specs.Emittable.{AreAutosOf, IsMadeFor};
-ghost use Rattle.lx_compile.specs.Options.{tells_warnings};
+ghost use Rattle.lx_compile.specs.Options.{policy_of, tells_warnings};
 ghost use Rattle.lx_compile.specs.Warnings.{AreWarned, act_place, placed, told_warnings, warning_place, warnings_in, warnings_of};
 
 use crate::made::Made;
 use lx_auto::Auto;
-use lx_base::{ByteText, Enc, Memory, Options, Pos, Sequence};
+use lx_base::{ByteText, Memory, Options, Pos, Sequence};
 use lx_rules::{Act, Resolved, Scanner, numbered_act};
 use lx_warn::{Warning, warnings};
 use std::alloc::Global;
@@ -83,19 +82,19 @@ fn placed(
 /// Appends the warnings of a scanner.
 fn append_warnings(
     alloc: Global,
-    enc: Enc,
+    options: &Options,
     at: Pos,
     acts: &[Act],
     scanner: &Scanner,
     auto: &Auto,
     all: &mut Sequence<PlacedWarning>,
 ) -> Result<(), Memory>
-    requires within { IsScannerWithin enc scanner.now }
-    requires automaton { IsMadeFor enc scanner.now auto.now }
-    ensures { OnOk result ((own : List warning_type) × AreWarnings greedy enc (patterns_of scanner.now.set.rules) own
+    requires within { IsScannerWithin options.now.enc scanner.now }
+    requires automaton { IsMadeFor options.now scanner.now auto.now }
+    ensures { OnOk result ((own : List warning_type) × AreWarnings (policy_of options.now) options.now.enc (patterns_of scanner.now.set.rules) own
         × (all.new ≡ all.old ++ map (placed at acts.now scanner.now.cond) own)) }
 {
-    let own = warnings(alloc, scanner, enc, auto)?;
+    let own = warnings(alloc, scanner, options.enc, auto)?;
     for warning in own.into_vec() {
         all.push(placed(alloc, at, acts, &scanner.cond, warning)?)?;
     }
@@ -111,7 +110,7 @@ pub(crate) fn block_warnings(
     autos: &[Auto],
 ) -> Result<Sequence<PlacedWarning>, Memory>
     requires within { AllByRecursion (IsScannerWithin options.now.enc) resolved.now.scanners }
-    requires automata { AreAutosOf options.now.enc resolved.now.scanners autos.now }
+    requires automata { AreAutosOf options.now resolved.now.scanners autos.now }
     ensures { IfOk result (AreWarned options.now at resolved.now) }
 {
     let mut all = Sequence::new(alloc);
@@ -120,15 +119,7 @@ pub(crate) fn block_warnings(
     }
     let acts = resolved.acts.as_slice();
     for (place, scanner) in resolved.scanners.as_slice().iter().enumerate() {
-        append_warnings(
-            alloc,
-            options.enc,
-            at,
-            acts,
-            scanner,
-            &autos[place],
-            &mut all,
-        )?;
+        append_warnings(alloc, options, at, acts, scanner, &autos[place], &mut all)?;
     }
     Ok(all)
 }

@@ -8,4 +8,10 @@ pub mod Ends
 pub mod Lists
 pub mod Searches
 pub mod OneSearch
+pub mod CodeStarts
 pub mod Worked
+pub mod CodeSearch
+pub mod CodeNumbers
+pub mod Made
+pub mod Course
+pub mod CodeReaches

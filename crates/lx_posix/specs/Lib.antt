@@ -1,9 +1,15 @@
 pub mod Accepts
+pub mod Beginnings
+pub mod Closures
 pub mod Comparing
+pub mod Determining
 pub mod Examples
+pub mod Finding
 pub mod KernelLists
 pub mod KernelSteps
 pub mod KernelValues
+pub mod KeptKernels
+pub mod KeptPlaces
 pub mod LevelPaths
 pub mod LevelSearch
 pub mod Levels
@@ -12,5 +18,8 @@ pub mod Parting
 pub mod Paths
 pub mod PosixKernel
 pub mod RankTables
+pub mod Reaching
 pub mod Starts
+pub mod Sweeps
 pub mod Walks
+pub mod WayNumbers

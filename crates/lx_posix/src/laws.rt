@@ -1,12 +1,16 @@
 //! What holds of the POSIX order and of kernels under it. Each law is the contract of a function that does nothing.
-ghost use Rattle.std.specs.Prelude.{◌≡◌, ◌≢◌, ◌↔◌, ◌++◌, ◌<◌, ◌≤◌, ◌⊎◌, ℕ, List, [], ◌∷◌, length, map, min, true, None, Some, slice_get, sum_by};
+ghost use Rattle.std.specs.Prelude.{◌≡◌, ◌≢◌, ◌↔◌, ◌++◌, ◌*◌, ◌<◌, ◌≤◌, ◌⊎◌, ℕ, List, [], ◌∷◌, length, map, min, true, false, None, Some, AllPairs, slice_get, slice_index, sum_by};
 ghost use Rattle.lx_base.specs.declared.limits.TheConstants.{KERNEL_LIMIT, PLACE_LIMIT};
 ghost use Rattle.lx_base.specs.declared.settings.Enc.{Enc};
-ghost use Rattle.lx_posix.specs.Accepts.{AcceptsBest, IsFirstAccept, posix_accept_after};
+ghost use Rattle.lx_posix.specs.Accepts.{IsFirstAccept, posix_accept_after};
+ghost use Rattle.lx_posix.specs.Beginnings.{AreByRule};
 ghost use Rattle.lx_posix.specs.Comparing.{Ranked, number_between, ranked_at};
 ghost use Rattle.lx_posix.specs.KernelLists.{entries_by, posix_kernel_after, posix_segments, ranks_after, ranks_step};
 ghost use Rattle.lx_posix.specs.KernelSteps.{AreListed, IsStepOf, Pairs, PlacesAreDecided, Source, Stem, beginnings, sources};
 ghost use Rattle.lx_posix.specs.KernelValues.{posix_all_values_after, posix_last_values_after};
+ghost use Rattle.lx_posix.specs.KeptKernels as kept_kernels;
+ghost use Rattle.lx_posix.specs.KeptKernels.{AreReached, Keeps, rule_at, start_kernel};
+ghost use Rattle.lx_posix.specs.KeptPlaces.{IsLeafEnd, IsRuleBeginning};
 ghost use Rattle.lx_posix.specs.LevelPaths.{AreDepths, LevelPath, PlainPath, level_choices, lowest_on, state_depth};
 ghost use Rattle.lx_posix.specs.LevelSearch.{ArePlaceDepths, level_segments, place_depth, ranks_by};
 ghost use Rattle.lx_posix.specs.Levels.{levelled};
@@ -16,11 +20,13 @@ ghost use Rattle.lx_posix.specs.PosixKernel.{AllDifferByNumbers, AreClosed, AreP
 ghost use Rattle.lx_posix.specs.RankTables.{AreTooManyRanks, HaveAllRanks, HaveDifferentRanks};
 ghost use Rattle.lx_posix.specs.Starts.{AreWeighed, Start, is_start_first, level_starts};
 ghost use Rattle.lx_posix.specs.Walks.{after, depth, kept, lowest};
+ghost use Rattle.lx_posix.specs.declared.kept.Kept.{Kept};
 ghost use Rattle.lx_regex.specs.Automaton.{State, automaton};
 ghost use Rattle.lx_regex.specs.ClassLimits.{AllClassesFit};
-ghost use Rattle.lx_regex.specs.Cut.{Cut, EndsInUnit, GoesOn, IsCut, SamePlace, last_part, rule_part};
+ghost use Rattle.lx_regex.specs.Cut.{BeginsMatch, Cut, EndsInUnit, GoesOn, IsCut, SamePlace, last_part, rule_part};
 ghost use Rattle.lx_regex.specs.Dictionary.{IsBefore};
 ghost use Rattle.lx_regex.specs.Least.{HasTree};
+ghost use Rattle.lx_regex.specs.Order.{posix};
 ghost use Rattle.lx_regex.specs.Pattern.{Pattern, terms_of};
 ghost use Rattle.lx_regex.specs.Plain.{mark_of};
 ghost use Rattle.lx_regex.specs.Posix.{IsLonger};
@@ -30,11 +36,16 @@ ghost use Rattle.lx_regex.specs.Term.{Term};
 ghost use Rattle.lx_regex.specs.Tree.{Tree};
 ghost use Rattle.lx_regex.specs.Values.{all_events, last_event};
 ghost use Rattle.lx_regex.specs.Walk.{mark};
+ghost use Rattle.lx_tdfa.specs.Accepts.{Accepts};
 ghost use Rattle.lx_tdfa.specs.Graph.{graph_of, path_symbols};
-ghost use Rattle.lx_tdfa.specs.Kernels.{Entry, cut_of};
+ghost use Rattle.lx_tdfa.specs.Kernels.{Candidate, Entry, cut_of, places};
+ghost use Rattle.lx_tdfa.specs.Making.{AreMany};
+ghost use Rattle.lx_tdfa.specs.Steps.{IsInLeaf};
 ghost use Rattle.lx_tdfa.specs.Values.{value_at};
 ghost use Rattle.lx_tnfa.specs.LeafReadings.{IsNth};
+ghost use Rattle.lx_tnfa.specs.PlaceNumbers.{place_number};
 ghost use Rattle.lx_tnfa.specs.Tnfa.{IsTnfaOf, Tnfa};
+ghost use Rattle.lx_tnfa.specs.declared.places.Place.{Place};
 
 /// A term that has a tree for a word has a first plain one under the POSIX order.
 pub fn best_tree_exists()
@@ -222,6 +233,37 @@ pub fn starts_are_in_order()
         → is_start_first ranks start other ≡ true }
 {}
 
+/// The places that are kept after a word stand in the order of their rules, and the first one of a later rule has the number 0.
+pub fn kept_places_are_by_rule()
+    ensures { (enc : Enc) (patterns : List Pattern) (tnfa : Tnfa) (word : List ℕ) → IsTnfaOf enc patterns tnfa
+        → AllClassesFit enc (terms_of patterns) → AreByRule (ranks_after tnfa (terms_of patterns) word) }
+{}
+
+/// Depths of states, and those of places, are no more than half of the states. So as many levels as there are states are enough.
+pub fn depths_are_small()
+    ensures states { (rules : List Term) (state : ℕ) → 2 * state_depth rules state ≤ length (automaton rules) }
+    ensures places { (enc : Enc) (patterns : List Pattern) (tnfa : Tnfa) (word : List ℕ) (index : ℕ) (ranked : Ranked)
+        → IsTnfaOf enc patterns tnfa → AllClassesFit enc (terms_of patterns)
+        → IsNth (ranks_after tnfa (terms_of patterns) word) index ranked → 2 * ranked.depth ≤ length (automaton (terms_of patterns)) }
+    ensures width { (enc : Enc) (patterns : List Pattern) (tnfa : Tnfa) (word : List ℕ) (place : ℕ)
+        → IsTnfaOf enc patterns tnfa → AllClassesFit enc (terms_of patterns)
+        → place_depth (terms_of patterns) (ranks_after tnfa (terms_of patterns) word) place < length (automaton (terms_of patterns)) }
+{}
+
+/// A place at which a state stands is behind the end of a leaf or, where no unit is read yet, the beginning of a rule.
+pub fn states_stand_at_ends_and_beginnings()
+    ensures ends { (enc : Enc) (patterns : List Pattern) (tnfa : Tnfa) (word : List ℕ) (deep : ℕ → ℕ) (index : ℕ) (ranked : Ranked)
+        → IsTnfaOf enc patterns tnfa → AllClassesFit enc (terms_of patterns) → word ≢ []
+        → ArePlaceDepths (automaton (terms_of patterns)) (ranks_after tnfa (terms_of patterns) word) deep
+        → IsNth (ranks_after tnfa (terms_of patterns) word) index ranked → ranked.place < length (automaton (terms_of patterns))
+        → IsLeafEnd ranked (deep ranked.place) }
+    ensures beginnings { (enc : Enc) (patterns : List Pattern) (tnfa : Tnfa) (deep : ℕ → ℕ) (index : ℕ) (ranked : Ranked)
+        → IsTnfaOf enc patterns tnfa → AllClassesFit enc (terms_of patterns)
+        → ArePlaceDepths (automaton (terms_of patterns)) (ranks_after tnfa (terms_of patterns) []) deep
+        → IsNth (ranks_after tnfa (terms_of patterns) []) index ranked → ranked.place < length (automaton (terms_of patterns))
+        → IsRuleBeginning (terms_of patterns) ranked (deep ranked.place) }
+{}
+
 /// One depth-first search over states and levels, from all starts in their order, which keeps what it visited for all of them, lists
 /// the first segments over a unit from the places of a kernel: to each place the first, in their order.
 pub fn one_search_lists_first_segments()
@@ -336,7 +378,7 @@ pub fn first_accept_is_best()
 pub fn best_trees_are_accepted()
     ensures { (enc : Enc) (patterns : List Pattern) (tnfa : Tnfa) (word : List ℕ) → IsTnfaOf enc patterns tnfa
         → AllClassesFit enc (terms_of patterns)
-        → AcceptsBest enc (terms_of patterns) word (posix_kernel_after tnfa (terms_of patterns) word)
+        → Accepts posix enc (terms_of patterns) word (posix_kernel_after tnfa (terms_of patterns) word)
         (posix_accept_after tnfa (terms_of patterns) word) }
 {}
 
@@ -421,4 +463,46 @@ pub fn posix_values_are_kept()
         → IsNth (posix_kernel_after tnfa (terms_of patterns) word) from entry
         → all_events tag 0 (entry.front ++ rest)
         ≡ value_at [] (posix_all_values_after tnfa (terms_of patterns) word tag) from ++ all_events tag (length word) rest }
+{}
+
+/// The places after one more unit are those to which first segments lead. There are none exactly behind a word that begins no match.
+pub fn posix_lists_go_on()
+    ensures places { (enc : Enc) (patterns : List Pattern) (tnfa : Tnfa) (word : List ℕ) (unit : ℕ) → IsTnfaOf enc patterns tnfa
+        → AllClassesFit enc (terms_of patterns)
+        → places (posix_kernel_after tnfa (terms_of patterns) (word ++ unit ∷ []))
+        ≡ map (λ (candidate : Candidate). candidate.to)
+        (posix_segments tnfa (terms_of patterns) (ranks_after tnfa (terms_of patterns) word) unit) }
+    ensures none { (enc : Enc) (patterns : List Pattern) (tnfa : Tnfa) (word : List ℕ) → IsTnfaOf enc patterns tnfa
+        → AllClassesFit enc (terms_of patterns) → word ≢ []
+        → (posix_kernel_after tnfa (terms_of patterns) word ≡ []) ↔ (BeginsMatch enc (terms_of patterns) word → ⊥) }
+{}
+
+/// The number of a place tells its rule. So places whose numbers tell one rule have one owner, and kernels that keep the same are one.
+pub fn places_tell_rules()
+    ensures kept { (enc : Enc) (patterns : List Pattern) (tnfa : Tnfa) (word : List ℕ) (index : ℕ) (ranked : Ranked)
+        → IsTnfaOf enc patterns tnfa → AllClassesFit enc (terms_of patterns)
+        → IsNth (ranks_after tnfa (terms_of patterns) word) index ranked → ranked.rule ≡ rule_at (terms_of patterns) ranked.place }
+    ensures owner { (enc : Enc) (patterns : List Pattern) (tnfa : Tnfa) (place other : Place) → IsTnfaOf enc patterns tnfa
+        → IsInLeaf tnfa place → IsInLeaf tnfa other
+        → rule_at (terms_of patterns) (place_number tnfa (2 * place.part) place.rest.0)
+        ≡ rule_at (terms_of patterns) (place_number tnfa (2 * other.part) other.rest.0)
+        → slice_index tnfa.owners place.part ≡ slice_index tnfa.owners other.part }
+    ensures kernel { (enc : Enc) (patterns : List Pattern) (tnfa : Tnfa) (kernel other : List Kept) (ranks : List Ranked)
+        → IsTnfaOf enc patterns tnfa → Keeps tnfa (terms_of patterns) false kernel ranks
+        → Keeps tnfa (terms_of patterns) false other ranks → kernel ≡ other }
+{}
+
+/// A table of kernels as the code keeps them, each that of a word, and no two the same: where it is too large, the rules have too many
+/// kernels, and where it is whole and not too large, they have not.
+pub fn tables_are_counted()
+    ensures many { (enc : Enc) (patterns : List Pattern) (tnfa : Tnfa) (kernels : List (List Kept)) → IsTnfaOf enc patterns tnfa
+        → AllClassesFit enc (terms_of patterns) → AreReached enc (terms_of patterns) tnfa kernels
+        → slice_get kernels 0 ≡ Some start_kernel → AllPairs (λ list other. list ≢ other) kernels → AreMany kernels
+        → HasTooManyPosixKernels enc (terms_of patterns) }
+    ensures few { (enc : Enc) (patterns : List Pattern) (tnfa : Tnfa) (kernels : List (List Kept)) → IsTnfaOf enc patterns tnfa
+        → AllClassesFit enc (terms_of patterns) → AreReached enc (terms_of patterns) tnfa kernels
+        → slice_get kernels 0 ≡ Some start_kernel → AllPairs (λ list other. list ≢ other) kernels
+        → kept_kernels.AreClosed enc (terms_of patterns) tnfa kernels
+        → length kernels ≤ KERNEL_LIMIT → sum_by length kernels ≤ PLACE_LIMIT
+        → HasTooManyPosixKernels enc (terms_of patterns) → ⊥ }
 {}

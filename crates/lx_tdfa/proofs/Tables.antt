@@ -1,5 +1,7 @@
--- The automaton of a table of lists of places is that of the rules.
+-- The automaton of a table of kernels is that of the rules.
+pub mod Courses
 pub mod Determined
+pub mod GreedyTables
 pub mod KeptRules
 pub mod SameAutomata
 pub mod TableAutomata

@@ -1,10 +1,11 @@
--- What is accepted behind a word: the first way to the end from the places of its kernel.
+-- What is accepted behind a word: the first way to the end from the places of its kernel. The trees that are meant are those of a
+-- policy.
 use Rattle.std.specs.Prelude.{◌≡◌, ℕ, ◌<◌, List, [], ◌∷◌, ◌++◌, Option, Some, None, slice_get}
 use Rattle.lx_base.specs.declared.settings.Enc.{Enc}
 use Rattle.lx_regex.specs.Automaton.{automaton}
 use Rattle.lx_regex.specs.Cut.{rule_part}
 use Rattle.lx_regex.specs.Least.{HasTree, IsLeast}
-use Rattle.lx_regex.specs.Order.{greedy}
+use Rattle.lx_regex.specs.Order.{Policy}
 use Rattle.lx_regex.specs.Script.{Symbol, script}
 use Rattle.lx_regex.specs.Term.{Term}
 use Rattle.lx_regex.specs.Tree.{Tree}
@@ -31,14 +32,14 @@ first_end graph finals entries = first_final finals (search_from graph [] (place
 abbrev pub accept_after : Tnfa → List Term → (word : List ℕ) → Option Found
 accept_after tnfa rules word = first_end (graph_of (automaton rules)) (0 ∷ []) (kernel_after tnfa rules word)
 
-module _ (enc : Enc) (rules : List Term) (word : List ℕ) where
-  -- These symbols are the script of the leftmost greedy least tree that the rule has for the word. No earlier rule has a tree.
+module _ (policy : Policy) (enc : Enc) (rules : List Term) (word : List ℕ) where
+  -- These symbols are the script of the least tree that the rule has for the word. No earlier rule has a tree.
   pub record IsAccepted (rule : ℕ) (symbols : List Symbol) : Type 0 where
     pub term : Term
     pub tree : Tree term
     pub at : slice_get rules rule ≡ Some term
     pub says : script enc (rule_part rules rule) tree ≡ symbols
-    pub least : IsLeast greedy enc (rule_part rules rule) term word tree
+    pub least : IsLeast policy enc (rule_part rules rule) term word tree
     pub first : (earlier : ℕ) (e : Term) → earlier < rule → slice_get rules earlier ≡ Some e → HasTree enc (rule_part rules earlier) e word → ⊥
 
   -- What the kernel of the word accepts: nothing where no rule has a tree for it; else a way goes on from one of the places, and

@@ -1,5 +1,5 @@
 -- What holds while an automaton is built.
-use Rattle.std.specs.Prelude.{◌≡◌, ℕ, suc, ◌<◌, ◌≤◌, List, [], ◌∷◌, ◌++◌, Option, Some, None, Bool, All, slice_get}
+use Rattle.std.specs.Prelude.{◌≡◌, ℕ, suc, ◌<◌, ◌≤◌, List, [], ◌∷◌, ◌++◌, Option, Some, None, Bool, All, AllPairs, ◌≢◌, slice_get}
 use Rattle.lx_base.specs.declared.limits.TheConstants.{PLACE_LIMIT}
 use Rattle.lx_regex.specs.ClassLimits.{AllClassesFit}
 use Rattle.lx_base.specs.Spelling.{greatest_unit}
@@ -16,7 +16,7 @@ use Rattle.lx_tnfa.specs.declared.closure.Reach.{Reach}
 use Rattle.lx_tnfa.specs.declared.places.Place.{Place}
 use Rattle.lx_tdfa.specs.Making.{AreTooMany, IsWithin}
 use Rattle.lx_tdfa.specs.Registers.{widest}
-use Rattle.lx_tdfa.specs.Steps.{IsFound, IsInLeaf, next_steps, start_place}
+use Rattle.lx_tdfa.specs.Steps.{IsFound, IsInLeaf, next_steps, places_of, start_place}
 use Rattle.lx_tdfa.specs.Table.{IsEdgeOf, IsStateOf, is_first}
 use Rattle.lx_tdfa.specs.declared.states.Source.{Source}
 use Rattle.lx_tdfa.specs.declared.states.Units.{Units}
@@ -50,6 +50,7 @@ module _ (tnfa : Tnfa) where
     pub start : slice_get lists 0 ≡ Some (start_place ∷ [])
     pub places : (number : ℕ) (list : List Place) → slice_get lists (suc number) ≡ Some list → All (IsInLeaf tnfa) list
     pub within : IsWithin lists
+    pub apart : AllPairs (λ list other. list ≢ other) lists
 
   -- the targets of the closure of a list that is found
   pub record AreTargets (reaches : List Reach) : Type 0 where
@@ -66,9 +67,11 @@ module _ (tnfa : Tnfa) where
 
   -- the edge on units that go on alike
   abbrev pub IsEdgeMade : (lists : List (List Place)) → (first : Bool) → List Reach → Units → Option Edge → Type 0
-  IsEdgeMade lists first reaches units None = IsEdgeOf tnfa lists first (next_steps tnfa units.lo reaches) None
+  IsEdgeMade lists first reaches units None =
+      IsEdgeOf tnfa lists first (next_steps tnfa units.lo reaches) (places_of (next_steps tnfa units.lo reaches)) None
   IsEdgeMade lists first reaches units (Some edge) =
-      IsEdgeOf tnfa lists first (next_steps tnfa units.lo reaches) (Some edge) × (edge.lo ≡ units.lo) × (edge.hi ≡ units.hi)
+      IsEdgeOf tnfa lists first (next_steps tnfa units.lo reaches) (places_of (next_steps tnfa units.lo reaches)) (Some edge)
+      × (edge.lo ≡ units.lo) × (edge.hi ≡ units.hi)
 
   -- states of the lists with their numbers, with edges apart
   abbrev pub AreStatesOf : (lists : List (List Place)) → List State → Type 0

@@ -1,5 +1,5 @@
 -- Edges that do the same, and the units between cuts.
-use Rattle.std.specs.Prelude.{◌≡◌, ℕ, suc, ◌+◌, ◌<◌, ◌≤◌, List, [], ◌∷◌, Option, Some, None, Bool, filter_map, slice_get}
+use Rattle.std.specs.Prelude.{◌≡◌, ℕ, suc, ◌+◌, ◌<◌, ◌≤◌, List, [], ◌∷◌, Option, Some, None, Bool, map, slice_get}
 use Rattle.std.specs.Option.{option_map}
 use Rattle.lx_auto.specs.Automaton.{AreApart, edge_on}
 use Rattle.lx_auto.specs.declared.automaton.Edge.{Edge}
@@ -7,9 +7,8 @@ use Rattle.lx_auto.specs.declared.ops.Op.{Op}
 use Rattle.lx_encode.specs.Graph.{NoneBetween}
 use Rattle.lx_tnfa.specs.Tnfa.{Tnfa}
 use Rattle.lx_tnfa.specs.declared.closure.Reach.{Reach}
-use Rattle.lx_tnfa.specs.declared.places.Place.{Place}
-use Rattle.lx_tdfa.specs.Steps.{next_steps, step_on}
-use Rattle.lx_tdfa.specs.Table.{IsEdgeOf}
+use Rattle.lx_tdfa.specs.Steps.{step_on}
+use Rattle.lx_tdfa.specs.Table.{IsEdgeOf, Onward}
 
 -- where the edge on a unit leads, and its operations
 abbrev pub effect_on : List Edge → (unit : ℕ) → Option (ℕ × List Op)
@@ -42,10 +41,10 @@ abbrev pub StandsBefore : Option ℕ → (unit : ℕ) → Type 0
 StandsBefore None unit = Unit {0}
 StandsBefore (Some cut) unit = unit < cut
 
--- between cuts the targets go on over each unit in the same way
+-- between cuts each target goes on over each unit in the same way
 abbrev pub CutSteps : Tnfa → List Reach → (cuts : List ℕ) → Type 0
 CutSteps tnfa reaches cuts = (first second : ℕ) → first ≤ second → NoneBetween first second cuts
-    → filter_map (step_on tnfa first) reaches ≡ filter_map (step_on tnfa second) reaches
+    → map (step_on tnfa first) reaches ≡ map (step_on tnfa second) reaches
 
 -- each cut is at most the next
 abbrev pub IsAscending : (cuts : List ℕ) → Type 0
@@ -65,9 +64,15 @@ abbrev pub IsRangeEmpty : (cuts : List ℕ) → (index greatest : ℕ) → Type 
 IsRangeEmpty cuts index greatest = (unit : ℕ) → unit ≤ greatest → StandsBefore (slice_get cuts (suc index)) unit
     → StandsBefore (slice_get cuts index) unit
 
+-- between cuts a state goes on over each unit in the same way
+abbrev pub GoesOnAlike : {K : Type 0} → Onward K → (cuts : List ℕ) → Type 0
+GoesOnAlike onward cuts = (first second : ℕ) → first ≤ second → NoneBetween first second cuts
+    → (onward.steps first ≡ onward.steps second) × (onward.next first ≡ onward.next second)
+
 -- the edges for the units up to the greatest that stand before a cut
-pub record AreEdgesBefore (tnfa : Tnfa) (greatest : ℕ) (kernels : List (List Place)) (first : Bool) (reaches : List Reach) (cut : Option ℕ) (edges : List Edge) : Type 0 where
+pub record AreEdgesBefore {K : Type 0} (tnfa : Tnfa) (greatest : ℕ) (kernels : List K) (first : Bool) (onward : Onward K) (cut : Option ℕ) (edges : List Edge) : Type 0 where
   pub apart : AreApart edges
   pub before : (bound : ℕ) → cut ≡ Some bound → StartBelow bound edges
   pub units : EndBy greatest edges
-  pub right : (unit : ℕ) → unit ≤ greatest → StandsBefore cut unit → IsEdgeOf tnfa kernels first (next_steps tnfa unit reaches) (edge_on edges unit)
+  pub right : (unit : ℕ) → unit ≤ greatest → StandsBefore cut unit
+      → IsEdgeOf tnfa kernels first (onward.steps unit) (onward.next unit) (edge_on edges unit)

@@ -1,5 +1,5 @@
 -- How places go on over a unit, by the targets of plain walks from them.
-use Rattle.std.specs.Prelude.{◌≡◌, ℕ, ◌<◌, ◌≤◌, List, [], ◌∷◌, map, filter_map, Option, Some, None, Bool, false, nat_eq, ◌&&◌, ◌||◌, if◌then◌else◌}
+use Rattle.std.specs.Prelude.{◌≡◌, ℕ, suc, ◌<◌, ◌≤◌, List, [], ◌∷◌, map, filter_map, Option, Some, None, Bool, false, nat_eq, ◌&&◌, ◌||◌, if◌then◌else◌}
 use Rattle.std.specs.Option.{option_map}
 use Rattle.lx_encode.specs.Graph.{numbered}
 use Rattle.lx_tnfa.specs.Closure.{IsClosureOf}
@@ -50,6 +50,21 @@ first_steps seen (step ∷ steps) =
 -- the steps over a unit: for each place the first that leads there, in the order of the targets
 abbrev pub next_steps : Tnfa → (unit : ℕ) → List Reach → List Step
 next_steps tnfa unit reaches = first_steps [] (filter_map (step_on tnfa unit) reaches)
+
+-- one more index, where a step leads to a place that was not seen
+abbrev pub index_if : Option Step → (seen : List Place) → (index : ℕ) → (others : List Place → List ℕ) → List ℕ
+index_if None seen index others = others seen
+index_if (Some step) seen index others = if is_among seen step.to then others seen else index ∷ others (step.to ∷ seen)
+
+-- the indices of the targets by which the first steps are to places that were not seen, where the first target has this index
+abbrev pub indices_from : Tnfa → (unit : ℕ) → (seen : List Place) → (index : ℕ) → List Reach → List ℕ
+indices_from tnfa unit seen index [] = []
+indices_from tnfa unit seen index (reach ∷ reaches) =
+    index_if (step_on tnfa unit reach) seen index (λ seen. indices_from tnfa unit seen (suc index) reaches)
+
+-- the indices of the targets by which the steps over a unit are
+abbrev pub step_indices : Tnfa → (unit : ℕ) → List Reach → List ℕ
+step_indices tnfa unit reaches = indices_from tnfa unit [] 0 reaches
 
 -- the places to which they lead
 abbrev pub places_of : List Step → List Place

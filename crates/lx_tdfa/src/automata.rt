@@ -20,7 +20,7 @@ use lx_tnfa::{Place, Search, Tnfa, Visited};
 use std::alloc::Global;
 
 /// The list of the place where no rule has begun.
-fn start(alloc: Global) -> Result<Kernels, Memory>
+fn start(alloc: Global) -> Result<Kernels<Place>, Memory>
     ensures { IfOk result (λ kernels. kernels ≡ (start_place ∷ []) ∷ []) }
 {
     let mut places = Vec::new(alloc);
@@ -32,7 +32,7 @@ fn start(alloc: Global) -> Result<Kernels, Memory>
 }
 
 /// A state for each list of places, in the order in which the lists are found.
-fn states(source: &Source<'_>, kernels: &mut Kernels) -> Result<Sequence<State>, Stop>
+fn states(source: &Source<'_>, kernels: &mut Kernels<Place>) -> Result<Sequence<State>, Stop>
     requires of_rules { IsSourceOfRules source.now }
     requires listed { AreListed source.now.t.now kernels.old }
     ensures { MatchResult result (λ states. Grows source.now.t.now kernels.old kernels.new × (length states ≡ length kernels.new)

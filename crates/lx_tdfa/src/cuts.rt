@@ -22,8 +22,8 @@ fn gathered_cuts(alloc: Global, t: &Tnfa, reaches: &[Reach]) -> Result<Vec<u32>,
     Ok(cuts)
 }
 
-/// Zero and the cuts of all leaves among the targets, in ascending order.
-pub(crate) fn merged_cuts(alloc: Global, t: &Tnfa, reaches: &[Reach]) -> Result<Vec<u32>, Memory>
+/// Zero and the cuts of all leaves among the targets, in ascending order. Its only error is want of memory.
+pub fn merged_cuts(alloc: Global, t: &Tnfa, reaches: &[Reach]) -> Result<Vec<u32>, Memory>
     requires { AllPlaces t.now reaches.now }
     ensures cuts { IfOk result (λ cuts. CutSteps t.now reaches.now cuts.items) }
     ensures first { IfOk result (λ cuts. slice_get cuts.items 0 ≡ Some 0) }
@@ -34,8 +34,9 @@ pub(crate) fn merged_cuts(alloc: Global, t: &Tnfa, reaches: &[Reach]) -> Result<
     Ok(cuts)
 }
 
-/// The greatest unit, up to a bound, before the next cut; nothing where none is left between them.
-pub(crate) fn last_unit(cuts: &[u32], index: usize, greatest: u32) -> Option<u32>
+/// The greatest unit, up to a bound, before the next cut; nothing where none is left between them. It takes no
+/// memory.
+pub fn last_unit(cuts: &[u32], index: usize, greatest: u32) -> Option<u32>
     requires { index < length cuts.now }
     ensures { MatchOption result (IsRangeEmpty cuts.now index greatest) (IsRangeEnd cuts.now index greatest) }
 {

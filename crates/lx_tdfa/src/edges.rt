@@ -16,8 +16,8 @@ fn goes_on(edge: &Edge, next: &Edge) -> bool
         && edge.ops.as_slice() == next.ops.as_slice()
 }
 
-/// Appends an edge, or makes the last one longer where the edge goes on with it.
-pub(crate) fn push_edge(edges: &mut Vec<Edge>, edge: Edge) -> Result<(), Memory>
+/// Appends an edge, or makes the last one longer where the edge goes on with it. Its only error is want of memory.
+pub fn push_edge(edges: &mut Vec<Edge>, edge: Edge) -> Result<(), Memory>
     requires { AreApart (edges.old.items ++ edge ∷ []) }
     ensures { OnOk result (AreSameEdges (edges.old.items ++ edge ∷ []) edges.new.items) }
 {

@@ -1,41 +1,41 @@
 //! Lists of places, each with a number, and the limits on them.
-ghost use Rattle.std.specs.Prelude.{◌≡◌, ◌≢◌, ◌<◌, [], ◌∷◌, ◌++◌, length, AllPairs, IfOk, MatchResult, Some, slice_get};
-ghost use Rattle.lx_tdfa.specs.Making.{Adds, AreTooMany, IsWithin, StopsBy, most_places};
+ghost use Rattle.std.specs.Prelude.{◌≡◌, ◌<◌, [], ◌∷◌, ◌++◌, length, Contains, IfOk, MatchResult, Some, slice_get};
+ghost use Rattle.lx_tdfa.specs.Making.{Adds, AreMany, IsWithin, StopsBy, most_places};
+ghost use Rattle.lx_tnfa.specs.Equality.{TellsEqual};
 
 use indexmap::IndexSet;
 use lx_base::limits::{KERNEL_LIMIT, PLACE_LIMIT};
 use lx_base::{Fault, Memory, Pos, Stop};
-use lx_tnfa::Place;
 use std::alloc::Global;
+use std::hash::Hash;
 use std::marker::Model;
 
-/// Lists of places, all different, each by its number. A list is found by its places in constant time.
+/// Lists of places, or of places with what else is kept of them, all different, each by its number. A list is found by its places in
+/// constant time, as far as hashes differ. Contracts see them as a list of lists.
 #[derive(Drop)]
-pub(crate) struct Kernels {
-    lists: IndexSet<Vec<Place>>,
+pub struct Kernels<P: Eq + Hash + Drop> {
+    lists: IndexSet<Vec<P>>,
     /// How many places all of them have together.
     places: usize,
     /// How many places the longest one has.
     most: usize,
 }
 
-impl Model for Kernels {
-    ghost use Rattle.std.specs.Prelude.{List, ◌≡◌, ◌≢◌, AllPairs, length, sum_by};
-    ghost use Rattle.lx_tnfa.specs.declared.places.Place.{Place};
+impl<P: Eq + Hash + Drop> Model for Kernels<P> {
+    ghost use Rattle.std.specs.Prelude.{List, ◌≡◌, length, sum_by};
     ghost use Rattle.lx_tdfa.specs.Making.{lists_of, most_places};
 
-    ghost Value = { List (List Place) };
+    ghost Value = { List (List P) };
 
     ghost view = { λ kernels. lists_of kernels.lists.keys };
 
-    ghost invariant = { λ kernels. AllPairs (λ list other. list ≢ other) (lists_of kernels.lists.keys)
-        × (kernels.places ≡ sum_by length (lists_of kernels.lists.keys))
+    ghost invariant = { λ kernels. (kernels.places ≡ sum_by length (lists_of kernels.lists.keys))
         × (kernels.most ≡ most_places (lists_of kernels.lists.keys)) };
 }
 
-impl Kernels {
-    /// One list.
-    pub(crate) fn of(alloc: Global, places: Vec<Place>) -> Result<Kernels, Memory>
+impl<P: Eq + Hash + Drop> Kernels<P> {
+    /// One list. Its only error is want of memory.
+    pub fn of(alloc: Global, places: Vec<P>) -> Result<Kernels<P>, Memory>
         ensures { IfOk result (λ kernels. kernels ≡ places.items ∷ []) }
     {
         let mut kernels = Kernels {
@@ -48,22 +48,21 @@ impl Kernels {
     }
 
     /// How many lists there are. It takes no memory.
-    pub(crate) fn len(&self) -> usize
+    pub fn len(&self) -> usize
         ensures { result ≡ length self.now }
     {
         self.lists.len()
     }
 
     /// How many places the longest list has. It takes no memory.
-    pub(crate) fn most(&self) -> usize
-        ensures most { result ≡ most_places self.now }
-        ensures apart { AllPairs (λ list other. list ≢ other) self.now }
+    pub fn most(&self) -> usize
+        ensures { result ≡ most_places self.now }
     {
         self.most
     }
 
     /// The list with this number. It takes no memory.
-    pub(crate) fn get(&self, number: usize) -> &[Place]
+    pub fn get(&self, number: usize) -> &[P]
         requires { number < length self.now }
         ensures { Some result.now ≡ slice_get self.now number }
     {
@@ -73,12 +72,13 @@ impl Kernels {
         }
     }
 
-    /// The number of a list, which is appended where it is not there yet. It refuses a list with which there are more lists or
-    /// places than the limits.
-    pub(crate) fn add(&mut self, places: Vec<Place>, at: Pos) -> Result<usize, Stop>
+    /// The number of a list, which is appended where it is not there yet. Where that makes more than 4,096 lists, or more than
+    /// 1,048,576 places in them, it answers `TooManyStates` with this place.
+    pub fn add(&mut self, places: Vec<P>, at: Pos) -> Result<usize, Stop>
         requires { IsWithin self.old }
-        ensures { MatchResult result (λ number. Adds self.old places.items self.new × (slice_get self.new number ≡ Some places.items) × IsWithin self.new)
-            (StopsBy at (AreTooMany (self.old ++ places.items ∷ []))) }
+        ensures { TellsEqual P.eq → MatchResult result
+            (λ number. Adds self.old places.items self.new × (slice_get self.new number ≡ Some places.items) × IsWithin self.new)
+            (StopsBy at (AreMany (self.old ++ places.items ∷ []) × ¬ Contains self.old places.items)) }
     {
         let count = places.len();
         let (number, is_new) = match self.lists.insert_full(places) {

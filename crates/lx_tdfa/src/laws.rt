@@ -10,7 +10,7 @@ ghost use Rattle.lx_base.specs.declared.settings.Enc.{Enc};
 ghost use Rattle.lx_regex.specs.Automaton.{automaton};
 ghost use Rattle.lx_regex.specs.Cut.{BeginsMatch, Precedes, rule_part};
 ghost use Rattle.lx_regex.specs.Kernel.{IsKernel, SamePlaces};
-ghost use Rattle.lx_regex.specs.Order.{Policy};
+ghost use Rattle.lx_regex.specs.Order.{Policy, greedy};
 ghost use Rattle.lx_regex.specs.Pattern.{Pattern, terms_of};
 ghost use Rattle.lx_regex.specs.Script.{script};
 ghost use Rattle.lx_regex.specs.Term.{Term};
@@ -59,7 +59,7 @@ pub fn steps_go_by_places()
 pub fn first_rules_are_accepted()
     ensures { (enc : Enc) (patterns : List Pattern) (tnfa : Tnfa) (word : List ℕ) → IsTnfaOf enc patterns tnfa
         → AllClassesFit enc (terms_of patterns)
-        → Accepts enc (terms_of patterns) word (kernel_after tnfa (terms_of patterns) word) (accept_after tnfa (terms_of patterns) word) }
+        → Accepts greedy enc (terms_of patterns) word (kernel_after tnfa (terms_of patterns) word) (accept_after tnfa (terms_of patterns) word) }
 {}
 
 /// The last event of a tag in the tree that is accepted is that in the way from a place to the end, or if there is none the value
@@ -67,7 +67,7 @@ pub fn first_rules_are_accepted()
 pub fn last_values_are_kept()
     ensures { (enc : Enc) (patterns : List Pattern) (tnfa : Tnfa) (word : List ℕ) (tag from : ℕ) (way : List ℕ) (entry : Entry)
         → IsTnfaOf enc patterns tnfa → AllClassesFit enc (terms_of patterns) → IsNth (kernel_after tnfa (terms_of patterns) word) from entry
-        → (accepted : IsAccepted enc (terms_of patterns) word (rule_of entry.keys)
+        → (accepted : IsAccepted greedy enc (terms_of patterns) word (rule_of entry.keys)
         (entry.front ++ path_symbols (automaton (terms_of patterns)) entry.place way []))
         → last_event tag 0 None (script enc (rule_part (terms_of patterns) (rule_of entry.keys)) accepted.tree)
         ≡ last_event tag (length word) (value_at None (last_values_after tnfa (terms_of patterns) word tag) from)
@@ -79,7 +79,7 @@ pub fn last_values_are_kept()
 pub fn all_values_are_kept()
     ensures { (enc : Enc) (patterns : List Pattern) (tnfa : Tnfa) (word : List ℕ) (tag from : ℕ) (way : List ℕ) (entry : Entry)
         → IsTnfaOf enc patterns tnfa → AllClassesFit enc (terms_of patterns) → IsNth (kernel_after tnfa (terms_of patterns) word) from entry
-        → (accepted : IsAccepted enc (terms_of patterns) word (rule_of entry.keys)
+        → (accepted : IsAccepted greedy enc (terms_of patterns) word (rule_of entry.keys)
         (entry.front ++ path_symbols (automaton (terms_of patterns)) entry.place way []))
         → all_events tag 0 (script enc (rule_part (terms_of patterns) (rule_of entry.keys)) accepted.tree)
         ≡ value_at [] (all_values_after tnfa (terms_of patterns) word tag) from

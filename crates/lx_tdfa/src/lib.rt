@@ -11,3 +11,8 @@ mod states;
 mod steps;
 
 pub use automata::determinize;
+pub use cuts::{last_unit, merged_cuts};
+pub use edges::push_edge;
+pub use kernels::Kernels;
+pub use states::Source;
+pub use steps::{Ending, Step, first_ending, next_steps};

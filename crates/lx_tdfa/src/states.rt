@@ -9,7 +9,7 @@ ghost use Rattle.lx_tdfa.specs.Edges.{AreEdgesBefore};
 ghost use Rattle.lx_tdfa.specs.Making.{StopsBy, seen_ending, seen_step};
 ghost use Rattle.lx_tdfa.specs.Registers.{ending_ops, first_of, held_from, step_ops, widest};
 ghost use Rattle.lx_tdfa.specs.Steps.{IsInLeaf, places_of};
-ghost use Rattle.lx_tdfa.specs.Table.{IsStateOf, accept_of, is_first, leave_of};
+ghost use Rattle.lx_tdfa.specs.Table.{IsStateOf, accept_of, is_first, leave_of, onward_by};
 
 use crate::cuts::{last_unit, merged_cuts};
 use crate::edges::push_edge;
@@ -23,8 +23,9 @@ use std::alloc::Global;
 
 /// What the states of an automaton are made from.
 #[derive(Clone, Copy)]
-pub(crate) struct Source<'a> {
+pub struct Source<'a> {
     pub alloc: Global,
+    /// The automaton of a rule list, from which they are made.
     pub t: &'a Tnfa,
     /// The most tags that a rule has: so many registers hold the values at a place.
     pub width: u32,
@@ -56,8 +57,8 @@ impl<'a> Source<'a> {
         (index as u32 + 1) * self.width
     }
 
-    /// The operations of steps.
-    fn step_ops(&self, is_first: bool, steps: &[Step<'_>]) -> Result<Ops, Memory>
+    /// The operations of steps: they bring the values of tags from place to place. Its only error is want of memory.
+    pub fn step_ops(&self, is_first: bool, steps: &[Step<'_>]) -> Result<Ops, Memory>
         requires of_rules { IsSourceOfRules self.now }
         requires few { length steps.now ≤ PLACE_LIMIT }
         requires sources { All (λ step. step.reach.now.from < PLACE_LIMIT) steps.now }
@@ -118,8 +119,12 @@ impl<'a> Source<'a> {
         Ok(values)
     }
 
-    /// What a state accepts by its first ending.
-    fn accept(&self, is_first: bool, ending: Option<Ending<'_>>) -> Result<Option<Accept>, Memory>
+    /// What a state accepts by its first ending. Its only error is want of memory.
+    pub fn accept(
+        &self,
+        is_first: bool,
+        ending: Option<Ending<'_>>,
+    ) -> Result<Option<Accept>, Memory>
         requires of_rules { IsSourceOfRules self.now }
         requires source { IfSome ending (λ ending. ending.reach.now.from < PLACE_LIMIT) }
         ensures { IfOk result (λ accept. accept ≡ accept_of self.now.t.now is_first (option_map seen_ending ending.entry)) }
@@ -134,8 +139,8 @@ impl<'a> Source<'a> {
         }
     }
 
-    /// What is done where a state is left.
-    fn leave(&self, is_first: bool, ending: Option<Ending<'_>>) -> Result<Ops, Memory>
+    /// What is done where a state is left: the values of the rule that ended are kept. Its only error is want of memory.
+    pub fn leave(&self, is_first: bool, ending: Option<Ending<'_>>) -> Result<Ops, Memory>
         requires of_rules { IsSourceOfRules self.now }
         requires source { IfSome ending (λ ending. ending.reach.now.from < PLACE_LIMIT) }
         ensures { IfOk result (λ ops. ops ≡ leave_of self.now.t.now is_first (option_map seen_ending ending.entry)) }
@@ -160,7 +165,7 @@ impl<'a> Source<'a> {
     /// The edge on units that all go on alike, if there is one; a list of places that is new becomes a state.
     fn edge(
         &self,
-        kernels: &mut Kernels,
+        kernels: &mut Kernels<Place>,
         seen: &mut Visited<Place>,
         is_first: bool,
         reaches: &[Reach],
@@ -189,7 +194,7 @@ impl<'a> Source<'a> {
     /// The edges of a state, by the targets of its closure.
     fn edges(
         &self,
-        kernels: &mut Kernels,
+        kernels: &mut Kernels<Place>,
         seen: &mut Visited<Place>,
         is_first: bool,
         reaches: &[Reach],
@@ -198,7 +203,7 @@ impl<'a> Source<'a> {
         requires listed { AreListed self.now.t.now kernels.old }
         requires targets { AreTargets self.now.t.now reaches.now × AllPlaces self.now.t.now reaches.now }
         ensures { MatchResult result (λ edges. Grows self.now.t.now kernels.old kernels.new
-            × AreEdgesBefore self.now.t.now (greatest_of self.now.t.now) kernels.new is_first reaches.now None edges)
+            × AreEdgesBefore self.now.t.now (greatest_of self.now.t.now) kernels.new is_first (onward_by self.now.t.now reaches.now) None edges)
             (StopsBy self.now.at (TooManyFound self.now.t.now)) }
     {
         let cuts = merged_cuts(self.alloc, self.t, reaches)?;
@@ -220,7 +225,7 @@ impl<'a> Source<'a> {
     /// The state of the list of places with this number.
     pub(crate) fn state(
         &self,
-        kernels: &mut Kernels,
+        kernels: &mut Kernels<Place>,
         buffers: &mut Buffers,
         number: usize,
     ) -> Result<State, Stop>

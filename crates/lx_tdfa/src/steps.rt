@@ -2,7 +2,7 @@
 ghost use Rattle.std.specs.Prelude.{◌≡◌, IfOk, map, option_map};
 ghost use Rattle.lx_tnfa.specs.Closure.{AllPlaces, IsTarget};
 ghost use Rattle.lx_tdfa.specs.Making.{seen_ending, seen_step};
-ghost use Rattle.lx_tdfa.specs.Steps.{first_ending, next_steps, step_on};
+ghost use Rattle.lx_tdfa.specs.Steps.{first_ending, next_steps, step_indices, step_on};
 
 use lx_base::Memory;
 use lx_tnfa::{Place, Reach, Target, Tnfa, Visited};
@@ -10,15 +10,21 @@ use std::alloc::Global;
 
 /// A step over a unit: by the walk to a target, and on to a place.
 #[derive(Clone, Copy)]
-pub(crate) struct Step<'a> {
+pub struct Step<'a> {
+    /// The target, with the walk there.
     pub reach: &'a Reach,
+    /// The index of the target among those of its closure.
+    pub index: usize,
+    /// The place behind the unit.
     pub to: Place,
 }
 
 /// The end of the rule with this number, and the walk there.
 #[derive(Clone, Copy)]
-pub(crate) struct Ending<'a> {
+pub struct Ending<'a> {
+    /// The number of the rule.
     pub rule: u32,
+    /// The target, with the walk there.
     pub reach: &'a Reach,
 }
 
@@ -33,8 +39,9 @@ fn place_behind(t: &Tnfa, reach: &Reach, unit: u32) -> Option<Place>
     }
 }
 
-/// The steps over a unit by the targets of a closure: for each place the first one that leads there.
-pub(crate) fn next_steps<'a>(
+/// The steps over a unit by the targets of a closure: for each place the first one that leads there. `seen` may hold anything.
+/// Its only error is want of memory.
+pub fn next_steps<'a>(
     alloc: Global,
     t: &Tnfa,
     seen: &mut Visited<Place>,
@@ -42,22 +49,23 @@ pub(crate) fn next_steps<'a>(
     unit: u32,
 ) -> Result<Vec<Step<'a>>, Memory>
     requires { AllPlaces t.now reaches.now }
-    ensures { IfOk result (λ steps. map seen_step steps.items ≡ next_steps t.now unit reaches.now) }
+    ensures steps { IfOk result (λ steps. map seen_step steps.items ≡ next_steps t.now unit reaches.now) }
+    ensures indices { IfOk result (λ steps. map (λ step. step.index) steps.items ≡ step_indices t.now unit reaches.now) }
 {
     seen.clear();
     let mut steps = Vec::new(alloc);
-    for reach in reaches {
+    for (index, reach) in reaches.iter().enumerate() {
         if let Some(to) = place_behind(t, reach, unit) {
             if seen.add(to)? {
-                steps.push(Step { reach, to })?;
+                steps.push(Step { reach, index, to })?;
             }
         }
     }
     Ok(steps)
 }
 
-/// The first end among the targets of a closure.
-pub(crate) fn first_ending(reaches: &[Reach]) -> Option<Ending<'_>>
+/// The first end among the targets of a closure. It takes no memory.
+pub fn first_ending(reaches: &[Reach]) -> Option<Ending<'_>>
     ensures { option_map seen_ending result ≡ first_ending reaches.now }
 {
     for reach in reaches {

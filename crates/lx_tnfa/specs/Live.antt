@@ -1,5 +1,6 @@
 -- The states from which an end can be reached.
 use Rattle.std.specs.Prelude.{◌≡◌, ℕ, suc, ◌<◌, ◌↔◌, List, [], ◌∷◌, ◌++◌, map, length, Bool, true, false, Contains, slice_index_or, slice_set, if◌then◌else◌}
+use Rattle.lx_encode.specs.Graph.{numbered}
 use Rattle.lx_encode.specs.declared.graph.Residual.{Residual}
 use Rattle.lx_tnfa.specs.declared.classes.ClassGraph.{ClassGraph}
 use Rattle.lx_tnfa.specs.declared.states.Move.{Move}
@@ -9,6 +10,12 @@ use Rattle.lx_tnfa.specs.declared.states.State.TheVariants.{Moves, Class, AnyUni
 -- the starts of the graph of the class with this number
 abbrev pub starts_at : List ClassGraph → ℕ → List Residual
 starts_at classes number = slice_index_or (map (λ (class : ClassGraph). class.graph.starts) classes) number []
+
+-- the starts of a leaf
+abbrev pub starts_in : List ClassGraph → State → List Residual
+starts_in classes (Moves ways) = []
+starts_in classes (Class number) = starts_at classes number
+starts_in classes AnyUnit = numbered 1 ∷ []
 
 -- a state, if a leaf has a spelling that leads to it
 abbrev pub behind_leaf : List Residual → ℕ → List ℕ

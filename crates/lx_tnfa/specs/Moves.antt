@@ -1,5 +1,5 @@
 -- What the program holds of moves.
-use Rattle.std.specs.Prelude.{ℕ, ◌+◌, ◌-◌, ◌*◌, min, List, ◌++◌, map, nat_eq, nat_le, Option, if◌then◌else◌}
+use Rattle.std.specs.Prelude.{ℕ, ◌+◌, ◌-◌, ◌*◌, min, List, [], ◌++◌, map, nat_eq, nat_le, Option, if◌then◌else◌}
 use Rattle.lx_regex.specs.Automaton as spec
 use Rattle.lx_regex.specs.Automaton.{iteration_moves, move}
 use Rattle.lx_regex.specs.Script.{may_iterate}
@@ -7,10 +7,18 @@ use Rattle.lx_regex.specs.Term.{Term, copies, parts}
 use Rattle.lx_tnfa.specs.declared.states.Event.TheVariants.{Set, Unset}
 use Rattle.lx_tnfa.specs.declared.states.Move.{Move}
 use Rattle.lx_tnfa.specs.declared.states.Repeat.{Repeat}
+use Rattle.lx_tnfa.specs.declared.states.State.{State}
+use Rattle.lx_tnfa.specs.declared.states.State.TheVariants.{AnyUnit, Class, Moves}
 
 -- a move, with its events in order; its choice is its place among the moves of its state
 abbrev pub shown_move : spec.Move → Move
 shown_move (move picked set unset to) = record { to = to; events = map Set set ++ map Unset unset }
+
+-- the moves of a state; a leaf has none
+abbrev pub moves_in : State → List Move
+moves_in (Moves ways) = ways
+moves_in (Class number) = []
+moves_in AnyUnit = []
 
 -- the moves of a repetition after so many iterations, where stopping unsets these tags
 abbrev pub sized_moves : Repeat → (done : ℕ) → (unset : List ℕ) → List spec.Move

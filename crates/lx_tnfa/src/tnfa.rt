@@ -11,7 +11,7 @@ use crate::classes::ClassGraph;
 use crate::live::live_states;
 use crate::making::Making;
 use crate::places::Place;
-use crate::states::State;
+use crate::states::{Move, State};
 use lx_base::{Enc, Memory};
 use lx_encode::{Residual, greatest_unit};
 use lx_regex::RuleSet;
@@ -65,6 +65,9 @@ impl Model for Tnfa {
 
 impl Tnfa {
     ghost use Rattle.lx_regex.specs.ClassLimits.{AllClassesFit};
+    ghost use Rattle.lx_tnfa.specs.Live.{mark_at, starts_in, state_of};
+    ghost use Rattle.lx_tnfa.specs.Moves.{moves_in};
+    ghost use Rattle.lx_tnfa.specs.PlaceNumbers.{is_finished};
     ghost use Rattle.lx_tnfa.specs.Tnfa.{FinishesPlace, IsPlace, IsTnfaOf, kinds_for, most_tags, place_after, rest_after, state_at};
 
     /// The automaton of a rule list within the limits of a scanner, of whose classes the encoding has each point.
@@ -136,6 +139,61 @@ impl Tnfa {
         match &self.states[2 * place.part as usize] {
             State::Class(number) => self.classes[*number as usize].graph.cuts(place.rest),
             State::Moves(_) | State::AnyUnit => &[],
+        }
+    }
+
+    /// The states at which the rules begin, in the order of the rules. It takes no memory.
+    pub fn begins(&self) -> &[u32]
+        ensures { result.now ≡ self.now.begins }
+    {
+        &self.begins
+    }
+
+    /// The moves of the state with this number, in order: an earlier one is preferred to a later one. There are none at a leaf, and
+    /// where there is no such state. It takes no memory.
+    pub fn moves(&self, state: u32) -> &[Move]
+        ensures { result.now ≡ moves_in (state_of self.now.states state) }
+    {
+        match self.states.get(state as usize) {
+            Some(State::Moves(ways)) => ways.as_slice(),
+            Some(State::Class(_)) | Some(State::AnyUnit) | None => &[],
+        }
+    }
+
+    /// What may come next where a leaf begins, for each way to begin it, in order. There is nothing where the state with this number
+    /// is no leaf, and where there is no such state. It takes no memory.
+    pub fn starts(&self, state: u32) -> &[Residual]
+        ensures { result.now ≡ starts_in self.now.classes (state_of self.now.states state) }
+    {
+        match self.states.get(state as usize) {
+            Some(State::Class(class)) => match self.classes.get(*class as usize) {
+                Some(class) => class.graph.starts(),
+                None => &[],
+            },
+            Some(State::AnyUnit) => &[Residual(1)],
+            Some(State::Moves(_)) | None => &[],
+        }
+    }
+
+    /// Whether an end can be reached from the state with this number; not where there is no such state. It takes no memory.
+    pub fn is_live(&self, state: u32) -> bool
+        ensures { result ≡ mark_at self.now.live state }
+    {
+        match self.live.get(state as usize) {
+            Some(live) => *live,
+            None => false,
+        }
+    }
+
+    /// Whether no unit is left to be read at a place: then the walks from it begin at the state behind its leaf. It takes no memory.
+    pub fn is_finished(&self, place: &Place) -> bool
+        requires { IsPlace self.now place.now }
+        ensures { result ≡ is_finished self.now.classes (state_at self.now place.now) place.now.rest.0 }
+    {
+        match &self.states[2 * place.part as usize] {
+            State::Moves(_) => false,
+            State::Class(class) => self.classes[*class as usize].graph.done(place.rest),
+            State::AnyUnit => place.rest == Residual(0),
         }
     }
 

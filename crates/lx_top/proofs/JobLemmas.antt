@@ -15,7 +15,6 @@ use Rattle.lx_files.specs.declared.files.HeldFile.{HeldFile}
 use Rattle.lx_words.specs.Line.{Line, is_refused, line_of, value}
 use Rattle.lx_words.specs.Options.{StopsBy, job_by, number_of, options_of, words_fault}
 use Rattle.lx_words.specs.Points.{is_number, is_wrong, number_within}
-use Rattle.lx_compile.specs.Options.{IsGreedy}
 use Rattle.lx_compile.specs.declared.made.Made.{Made}
 use Rattle.lx_top.specs.Delivery.{Bound, BreaksOff, Completes, DeliversIf, DeliversNothing, FailsToBind, FailsToGive, GivesInPart, GivesOut, GivesUp, MayBeBound, gives_before, is_full}
 use Rattle.lx_top.specs.FirstFault.{IsFaultBehind, IsFirstFault, IsJobFault}
@@ -333,11 +332,6 @@ unfolding options_of
 IsWithinLimits-words words =
     let line = line_of words in
     IsWithinLimits-by (number_of line (codes "x-source") 1 200) (value line (codes "x-run")) line (most-number 200 (value line (codes "x-source")))
-
--- words ask for leftmost greedy trees
-pub IsGreedy-words : (words : List (List ℕ)) → IsGreedy (options_for words)
-unfolding options_of
-IsGreedy-words words = refl
 
 -- ---- steps that broke off
 

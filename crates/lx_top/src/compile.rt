@@ -1,7 +1,6 @@
 //! The compilation of the source in a file.
-ghost use Rattle.std.specs.Prelude.{◌≡◌, ℕ, false, [], List, option_map, None, IfErr, IfOk};
+ghost use Rattle.std.specs.Prelude.{◌≡◌, false, [], List, option_map, None, IfErr, IfOk};
 ghost use Rattle.lx_compile.specs.FirstFault.{IsFirstFault};
-ghost use Rattle.lx_compile.specs.Options.{IsGreedy};
 ghost use Rattle.lx_compile.specs.Output.{IsGiven};
 ghost use Rattle.lx_compile.specs.Warnings.{told_warnings, warning_lines};
 ghost use Rattle.lx_compile.specs.declared.made.Made.{Made};
@@ -50,7 +49,6 @@ pub(crate) fn compile<F: Files, O: Sink>(
     out: &mut O,
     names: &mut FileNames,
 ) -> Result<Sequence<PlacedWarning>, Halt>
-    requires greedy { IsGreedy options.now }
     requires names { names.old ≡ [] }
     ensures ends { let files_before = files_view (F.held files.old) (F.faults files.old) (F.write_faults files.old) in
         let files_after = files_view (F.held files.new) (F.faults files.new) (F.write_faults files.new) in

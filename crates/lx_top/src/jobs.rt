@@ -1,6 +1,5 @@
 //! What the words ask for, and its doing.
 ghost use Rattle.std.specs.Prelude.{◌≡◌, [], List, map, option_map, string_bytes, IfErr, IfOk};
-ghost use Rattle.lx_compile.specs.Options.{IsGreedy};
 ghost use Rattle.lx_compile.specs.Warnings.{warning_lines};
 ghost use Rattle.lx_compile.specs.declared.made.Made.{Made};
 ghost use Rattle.lx_files.specs.Held.{Sees};
@@ -55,7 +54,6 @@ fn perform_job<F: Files, O: Sink>(
     names: &mut FileNames,
 ) -> Result<Sequence<PlacedWarning>, Halt>
     requires names { names.old ≡ [] }
-    requires greedy { IsGreedy options.now }
     requires limits { IsWithinLimits options.now.job }
     ensures ends { let files_before = files_view (F.held files.old) (F.faults files.old) (F.write_faults files.old) in
         let files_after = files_view (F.held files.new) (F.faults files.new) (F.write_faults files.new) in

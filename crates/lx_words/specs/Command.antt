@@ -34,13 +34,14 @@ abbrev pub with_features : App → App
 with_features command =
     with_flag (codes "x-cover") None (Some (codes "x-cover"))
     (with_flag (codes "warnings") (Some 87) None
+    (with_flag (codes "posix") (Some 80) None
     (with_flag (codes "captures") None (Some (codes "captures"))
     (with_flag (codes "nested-ifs") (Some 115) (Some (codes "nested-ifs"))
     (with_flag (codes "tags") (Some 84) (Some (codes "tags"))
     (with_flag (codes "reusable") (Some 114) None
     (with_flag (codes "storable-state") (Some 102) (Some (codes "storable-state"))
     (with_flag (codes "conditions") (Some 99) (Some (codes "conditions"))
-    (with_flag (codes "no-debug-info") (Some 105) (Some (codes "no-debug-info")) command))))))))
+    (with_flag (codes "no-debug-info") (Some 105) (Some (codes "no-debug-info")) command)))))))))
 
 -- encodings and policies, and how input is read
 abbrev pub with_encodings : App → App

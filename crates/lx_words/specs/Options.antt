@@ -1,5 +1,5 @@
 -- The options that a command line gives.
-use Rattle.std.specs.Prelude.{◌≡◌, ℕ, false, not, List, [], codes, Option, Some, None, unwrap_or, option_and_then, ◌||◌, if◌then◌else◌}
+use Rattle.std.specs.Prelude.{◌≡◌, ℕ, not, List, [], codes, Option, Some, None, unwrap_or, option_and_then, ◌||◌, if◌then◌else◌}
 use Rattle.std.specs.Option.{option_map_or}
 use Rattle.std.specs.Str.{bytes_eq}
 use Rattle.lx_base.specs.declared.settings.Options.{Options}
@@ -60,7 +60,7 @@ options_of line = record {
   states = has_flag line (codes "storable-state");
   tags = has_flag line (codes "tags");
   captures = has_flag line (codes "captures");
-  posix = false;
+  posix = has_flag line (codes "posix");
   custom = has_value line (codes "input");
   warn = has_flag line (codes "warnings");
   cover = has_flag line (codes "x-cover");

@@ -38,6 +38,10 @@ encoding_count line =
     one_if (has_flag line (codes "utf-8")) + one_if (has_flag line (codes "utf-16"))
     + one_if (has_flag line (codes "utf-32")) + one_if (has_flag line (codes "ucs-2"))
 
+-- captures are asked for by both orders
+abbrev pub mixes_captures : Line → Bool
+mixes_captures line = has_flag line (codes "captures") && has_flag line (codes "posix")
+
 abbrev pub is_encoding_policy : List ℕ → Bool
 is_encoding_policy text = bytes_eq text (codes "ignore") || (bytes_eq text (codes "substitute") || bytes_eq text (codes "fail"))
 
@@ -63,9 +67,9 @@ abbrev pub says_how_to_compile : Line → Bool
 says_how_to_compile line =
     has_flag line (codes "no-debug-info") || (has_flag line (codes "conditions") || (has_flag line (codes "storable-state")
     || (has_flag line (codes "reusable") || (has_flag line (codes "tags") || (has_flag line (codes "nested-ifs")
-    || (has_flag line (codes "captures") || (has_flag line (codes "warnings") || (has_flag line (codes "x-cover")
-    || (nat_lt 0 (encoding_count line) || (has_value line (codes "include")
-    || (has_value line (codes "encoding-policy") || (has_value line (codes "empty-class") || has_value line (codes "input")))))))))))))
+    || (has_flag line (codes "captures") || (has_flag line (codes "posix") || (has_flag line (codes "warnings")
+    || (has_flag line (codes "x-cover") || (nat_lt 0 (encoding_count line) || (has_value line (codes "include")
+    || (has_value line (codes "encoding-policy") || (has_value line (codes "empty-class") || has_value line (codes "input"))))))))))))))
 
 -- options of a run stand without one, or a run stands with other options
 abbrev pub mixes_run : Line → Bool
@@ -92,6 +96,6 @@ has_odd_name line id = option_map_or is_odd_name (value line id) false
 -- the line is wrong
 abbrev pub is_wrong : Line → Bool
 is_wrong line =
-    misses_file line || (nat_lt 1 (encoding_count line) || (has_wrong_numbers line || (has_wrong_policy line
+    misses_file line || (nat_lt 1 (encoding_count line) || (mixes_captures line || (has_wrong_numbers line || (has_wrong_policy line
     || (has_wrong_input line || (mixes_run line || (mixes_source line || (has_odd_name line (codes "file") || (has_odd_name line (codes "x-run")
-    || has_odd_name line (codes "include")))))))))
+    || has_odd_name line (codes "include"))))))))))

@@ -102,6 +102,7 @@ fn with_features<'a>(alloc: Global, command: Command<'a>) -> Result<Command<'a>,
         count,
     )?;
     let command = with_option(alloc, command, "captures", None, Some("captures"), count)?;
+    let command = with_option(alloc, command, "posix", Some('P'), None, count)?;
     let command = with_option(alloc, command, "warnings", Some('W'), None, count)?;
     with_option(alloc, command, "x-cover", None, Some("x-cover"), count)
 }

@@ -131,7 +131,7 @@ pub fn options_of(alloc: Global, line: &ArgMatches<'_>) -> Result<Options, Memor
         states: has_flag(line, "storable-state"),
         tags: has_flag(line, "tags"),
         captures: has_flag(line, "captures"),
-        posix: false,
+        posix: has_flag(line, "posix"),
         custom: has_value(line, "input"),
         warn: has_flag(line, "warnings"),
         cover: has_flag(line, "x-cover"),

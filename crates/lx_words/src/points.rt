@@ -45,6 +45,13 @@ fn encoding_count(line: &ArgMatches<'_>) -> u32
         + u32::from(has_flag(line, "ucs-2"))
 }
 
+/// Whether the line asks for captures by both orders.
+fn mixes_captures(line: &ArgMatches<'_>) -> bool
+    ensures { result ≡ point.mixes_captures (rows_of (found_of line.now)) }
+{
+    has_flag(line, "captures") && has_flag(line, "posix")
+}
+
 fn is_encoding_policy(text: &str) -> bool
     ensures { result ≡ point.is_encoding_policy text.now }
 {
@@ -96,6 +103,7 @@ fn says_how_to_compile(line: &ArgMatches<'_>) -> bool
         || has_flag(line, "tags")
         || has_flag(line, "nested-ifs")
         || has_flag(line, "captures")
+        || has_flag(line, "posix")
         || has_flag(line, "warnings")
         || has_flag(line, "x-cover")
         || encoding_count(line) > 0
@@ -151,6 +159,7 @@ pub fn is_wrong(line: &ArgMatches<'_>) -> bool
 {
     misses_file(line)
         || encoding_count(line) > 1
+        || mixes_captures(line)
         || has_wrong_numbers(line)
         || has_wrong_policy(line)
         || has_wrong_input(line)

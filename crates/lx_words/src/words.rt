@@ -38,8 +38,8 @@ fn refused(kind: ErrorKind) -> Stop
 ///
 /// `Usage` comes exactly where the words are no line of the command (an option that there is not, one without its value
 /// or with one too many, one with a value that stands twice, a second file), or a wrong one: a file is missing or too much,
-/// two encodings are asked for, a number or a policy is none or out of its limits, options of a run, of a compilation and of
-/// a generated source are mixed, or a name would end a line or open a block where it is printed.
+/// two encodings or captures by two orders are asked for, a number or a policy is none or out of its limits, options of a run,
+/// of a compilation and of a generated source are mixed, or a name would end a line or open a block where it is printed.
 #[tactic(auto, unfolding(crate::specs::Options::words_fault))]
 pub fn read_words(alloc: Global, words: &[String]) -> Result<Options, Stop>
     ensures { let texts = map string_bytes words.now in

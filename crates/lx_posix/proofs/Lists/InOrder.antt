@@ -5,7 +5,7 @@ use Rattle.lx_tdfa.proofs.WordKernels.OrderedLists.{IsMember, IsRising, each_fro
 use Rattle.lx_posix.specs.KernelLists.{in_order, put_in_order}
 
 module _ {A : Type 0} (is_first : A → A → Bool) where
-  put_back : (x : A) (ys : List A) (z : A) → IsMember (put_in_order is_first x ys) z → (x ≡ z) ⊎ IsMember ys z
+  pub put_back : (x : A) (ys : List A) (z : A) → IsMember (put_in_order is_first x ys) z → (x ≡ z) ⊎ IsMember ys z
   put_back x [] z m = m
   put_back x (y ∷ ys) z m = go (is_first x y) (put_back x ys z) m
     where

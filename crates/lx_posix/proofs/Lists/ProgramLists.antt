@@ -6,6 +6,7 @@ use Rattle.lx_base.specs.declared.settings.Enc.{Enc}
 use Rattle.lx_regex.specs.Automaton.{automaton}
 use Rattle.lx_regex.specs.ClassLimits.{AllClassesFit}
 use Rattle.lx_regex.specs.Cut.{Cut}
+use Rattle.lx_regex.specs.Order.{posix}
 use Rattle.lx_regex.specs.Pattern.{Pattern, terms_of}
 use Rattle.lx_regex.specs.Script.{Symbol}
 use Rattle.lx_regex.specs.Term.{Term}
@@ -16,12 +17,13 @@ use Rattle.lx_tnfa.specs.PlaceNumbers.{number_behind, numbers_after, symbols_add
 use Rattle.lx_tnfa.specs.Tnfa.{IsTnfaOf, Tnfa}
 use Rattle.lx_tnfa.proofs.Construction.NthLists.{nth_unmap}
 use Rattle.lx_tnfa.proofs.Leaves.LeafNumbering.{automaton_numbers}
+use Rattle.lx_tdfa.specs.Accepts.{Accepts}
 use Rattle.lx_tdfa.specs.Graph.{graph_of, rule_starts}
 use Rattle.lx_tdfa.specs.Kernels.{Entry, cut_of, segment_symbols}
 use Rattle.lx_tdfa.specs.Values.{value_at}
 use Rattle.lx_tdfa.proofs.Values.ValueSteps.{forwards}
 use Rattle.lx_tdfa.proofs.WordKernels.ProgramKernels.{forwards-reverse}
-use Rattle.lx_posix.specs.Accepts.{AcceptsBest, posix_accept_after}
+use Rattle.lx_posix.specs.Accepts.{posix_accept_after}
 use Rattle.lx_posix.specs.Comparing.{Ranked, number_between, ranked_at}
 use Rattle.lx_posix.specs.KernelLists.{entries_by, entry_list, posix_kernel_after, posix_segments, rank_list, ranks_after, ranks_step}
 use Rattle.lx_posix.specs.KernelValues.{posix_all_values_after, posix_last_values_after}
@@ -132,11 +134,11 @@ module _ (enc : Enc) (patterns : List Pattern) (tnfa : Tnfa) (of : IsTnfaOf enc 
       )
 
   pub accepted_best : (word : List ℕ)
-      → AcceptsBest enc (terms_of patterns) word (posix_kernel_after tnfa (terms_of patterns) word)
+      → Accepts posix enc (terms_of patterns) word (posix_kernel_after tnfa (terms_of patterns) word)
       (posix_accept_after tnfa (terms_of patterns) word)
   accepted_best word =
       subst
-      (λ l. AcceptsBest enc (terms_of patterns) l (posix_kernel_after tnfa (terms_of patterns) word)
+      (λ l. Accepts posix enc (terms_of patterns) l (posix_kernel_after tnfa (terms_of patterns) word)
       (posix_accept_after tnfa (terms_of patterns) word)) (forwards-reverse word)
       (accepts_best enc (terms_of patterns) (numbers_after tnfa) (symbols_added tnfa) (number_behind tnfa)
       (automaton_numbers enc patterns tnfa of fits) (reverse word))

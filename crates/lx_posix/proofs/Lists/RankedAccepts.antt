@@ -7,6 +7,7 @@ use Rattle.lx_regex.specs.Automaton.{automaton}
 use Rattle.lx_regex.specs.Cut.{GoesOn, SamePlace, rule_part}
 use Rattle.lx_regex.specs.Dictionary.{IsBefore}
 use Rattle.lx_regex.specs.Least.{HasTree}
+use Rattle.lx_regex.specs.Order.{posix}
 use Rattle.lx_regex.specs.Plain.{IsPlain}
 use Rattle.lx_regex.specs.Posix.{IsLonger, length_at, shape_of, whole}
 use Rattle.lx_regex.specs.Script.{Symbol, choices, script, units}
@@ -24,7 +25,7 @@ use Rattle.lx_tnfa.proofs.Construction.NthLists.{nth_map, nth_unmap}
 use Rattle.lx_tnfa.proofs.Searching.SearchLaws.{IsAscending}
 use Rattle.lx_tnfa.proofs.Searching.SearchUnique.{IsBefore-cases, IsBefore-trans}
 use Rattle.lx_tnfa.proofs.Searching.SimplePaths.{SimplePath, SimplePathFrom}
-use Rattle.lx_tdfa.specs.Accepts.{first_end, first_final, if_final}
+use Rattle.lx_tdfa.specs.Accepts.{Accepts, IsAccepted, first_end, first_final, if_final, none, some}
 use Rattle.lx_tdfa.specs.Graph.{graph_of, path_symbols, rule_starts}
 use Rattle.lx_tdfa.specs.Kernels.{Entry, Key, cut_of, first_entries, places, rule_of}
 use Rattle.lx_tdfa.proofs.Rules.StateOrder.{automaton_in_order}
@@ -36,7 +37,7 @@ use Rattle.lx_tdfa.proofs.WordKernels.KernelsListed.{same_number}
 use Rattle.lx_tdfa.proofs.WordKernels.OrderedLists.{IsMember, at_zero_nth, each_member, nth_at_zero, nth_same}
 use Rattle.lx_tdfa.proofs.WordKernels.RunCuts.{run_cut, run_word}
 use Rattle.lx_tdfa.proofs.WordKernels.RunOrder.{path_order}
-use Rattle.lx_posix.specs.Accepts.{AcceptsBest, IsBestOf, IsFirstAccept, none, some}
+use Rattle.lx_posix.specs.Accepts.{IsFirstAccept}
 use Rattle.lx_posix.specs.PosixKernel.{IsBestPosix, IsPosixKernel}
 use Rattle.lx_posix.proofs.Ends.FirstAccept.{accept_is_best, lesser_end, same_scripts}
 use Rattle.lx_posix.proofs.Kernels.PosixKernels.{from_posix}
@@ -239,8 +240,9 @@ module _ (enc : Enc) (rules : List Term) (next : ℕ → ℕ → List ℕ) (adde
               omega arith)
               (cases_lt i j)
 
-      accepted : IsBestPosix enc (rule_part rules rule) tree.0 (forwards w) tree.1 → IsBestOf enc rules (forwards w) rule (x.front ++ rest)
-      accepted best = record { term = tree.0; tree = tree.1; at = tree.2; says = tree.3; best = best; first = first_rule }
+      accepted : IsBestPosix enc (rule_part rules rule) tree.0 (forwards w) tree.1
+          → IsAccepted posix enc rules (forwards w) rule (x.front ++ rest)
+      accepted best = record { term = tree.0; tree = tree.1; at = tree.2; says = tree.3; least = best; first = first_rule }
 
       is_first : IsFirstAccept enc rules (map cut_of (list_of w)) i (cut_of x) rest
       is_first = record {
@@ -285,7 +287,7 @@ module _ (enc : Enc) (rules : List Term) (next : ℕ → ℕ → List ℕ) (adde
   -- the first that is found is the best
   best_of : (w : List ℕ) (i : ℕ) (ws : List ℕ) (x : Entry) → IsNth (list_of w) i x → PathToEnd x.place ws
       → ((j : ℕ) (y : Entry) (way : List ℕ) → IsNth (list_of w) j y → PathToEnd y.place way → IsBefore (j ∷ way) (i ∷ ws) → ⊥)
-      → IsBestOf enc rules (forwards w) (rule_of x.keys) (x.front ++ way_on x.place ws)
+      → IsAccepted posix enc rules (forwards w) (rule_of x.keys) (x.front ++ way_on x.place ws)
   best_of [] i ws x at path never =
       accepted [] i ws x at path never (best_empty [] i ws x at path never refl (bare i x at))
     where
@@ -309,7 +311,7 @@ module _ (enc : Enc) (rules : List Term) (next : ℕ → ℕ → List ℕ) (adde
       some_word [] = (u, [], refl)
       some_word (y ∷ l) = (y, l ++ u ∷ [], refl)
 
-  pub accepts_best : (w : List ℕ) → AcceptsBest enc rules (forwards w) (list_of w)
+  pub accepts_best : (w : List ℕ) → Accepts posix enc rules (forwards w) (list_of w)
       (first_end (graph_of (automaton rules)) (0 ∷ []) (list_of w))
   accepts_best w = of (search_from (graph_of (automaton rules)) [] (places (list_of w)))
       (search_from-list (graph_of (automaton rules)) (places (list_of w)))
@@ -319,7 +321,7 @@ module _ (enc : Enc) (rules : List Term) (next : ℕ → ℕ → List ℕ) (adde
       zero_is t (inr k) = absurd k
 
       of : (xs : List Found) → IsSearchList (graph_of (automaton rules)) (places (list_of w)) xs
-          → AcceptsBest enc rules (forwards w) (list_of w) (first_final (0 ∷ []) xs)
+          → Accepts posix enc rules (forwards w) (list_of w) (first_final (0 ∷ []) xs)
       of xs C = go (first_final (0 ∷ []) xs) (first_final-is (0 ∷ []) xs C.order)
         where
           there : (j : ℕ) (y : Entry) (way : List ℕ) → IsNth (list_of w) j y → PathToEnd y.place way
@@ -328,7 +330,7 @@ module _ (enc : Enc) (rules : List Term) (next : ℕ → ℕ → List ℕ) (adde
               C.complete (j ∷ way) 0
               (y.place, nth_at_zero (places (list_of w)) j y.place (nth_map (λ (e : Entry). e.place) (list_of w) j y h), p)
 
-          go : (o : Option Found) → IsFirstFinal (0 ∷ []) xs o → AcceptsBest enc rules (forwards w) (list_of w) o
+          go : (o : Option Found) → IsFirstFinal (0 ∷ []) xs o → Accepts posix enc rules (forwards w) (list_of w) o
           go o (ends_nowhere f) = none (λ r e h t.
               let q = (plain_run enc rules next added number numbers w r e h t.0 t.1).1 in
               let y = entry_has w q.keys q.front q.place q.run in
@@ -336,7 +338,7 @@ module _ (enc : Enc) (rules : List Term) (next : ℕ → ℕ → List ℕ) (adde
               f c.0 c.1 (inl (sym c.2)))
           go o (ends_at e m k f) = by e.choices refl
             where
-              by : (cs : List ℕ) → e.choices ≡ cs → AcceptsBest enc rules (forwards w) (list_of w) (Some e)
+              by : (cs : List ℕ) → e.choices ≡ cs → Accepts posix enc rules (forwards w) (list_of w) (Some e)
               by [] q = absurd (subst (λ c. SimplePathFrom (graph_of (automaton rules)) [] 0 (places (list_of w)) c e.state) q
                   (C.sound e m))
               by (i ∷ ws) q =

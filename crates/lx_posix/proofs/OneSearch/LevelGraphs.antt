@@ -85,7 +85,7 @@ module _ (graph : List (List ℕ)) (deep : ℕ → ℕ) (width : ℕ) where
   abbrev pub levels : List (List ℕ)
   levels = level_graph graph deep width
 
-  node_after : (s l : ℕ) → l < width → s < length graph → successors levels (node s l) ≡ steps s l (successors graph s)
+  pub node_after : (s l : ℕ) → l < width → s < length graph → successors levels (node s l) ≡ steps s l (successors graph s)
   node_after s l lt lt' = let z : 0 + s ≡ s = omega arith in rows_at graph 0 s l lt lt' ∙ ap (λ x. steps x l (successors graph s)) z
 
   pub node_past : (s l : ℕ) → length graph ≤ s → successors levels (node s l) ≡ []

@@ -110,7 +110,7 @@ module _ (enc : Enc) (rules : List Term) (next : ℕ → ℕ → List ℕ) (adde
     (numbers : NumbersLeaves enc rules next added number) (w : List ℕ) (es : List Entry) (ss : List Ranked)
     (are : AreRanked enc rules next added number numbers w es ss) where
   -- the entry of a place
-  entry_of_place : (i : ℕ) (r : Ranked) → IsNth ss i r → (e : Entry) × IsNth es i e × (r.place ≡ e.place) × (r.depth ≡ depth 0 e.front)
+  pub entry_of_place : (i : ℕ) (r : Ranked) → IsNth ss i r → (e : Entry) × IsNth es i e × (r.place ≡ e.place) × (r.depth ≡ depth 0 e.front)
   entry_of_place i r at =
       let o =
       nth_unmap (λ (e : Entry). e.place) es i r.place

@@ -1,5 +1,5 @@
 -- The edges of a state, range by range.
-use Rattle.std.proofs.Common.{◌≡◌, ℕ, zero, suc, ◌+◌, ◌<◌, ◌≤◌, ◌⊎◌, inl, inr, arith, Bool, true, false, if◌then◌else◌, List, [], ◌∷◌, ◌++◌, Option, Some, None, refl, sym, ap, ◌∙◌, subst}
+use Rattle.std.proofs.Common.{◌≡◌, ℕ, zero, suc, ◌+◌, ◌<◌, ◌≤◌, ◌⊎◌, inl, inr, arith, Bool, true, false, if◌then◌else◌, List, [], ◌∷◌, ◌++◌, Option, Some, None, refl, sym, ap, ◌∙◌, subst, subst₂}
 use Rattle.std.specs.Option.{option_map}
 use Rattle.std.specs.Prelude.{slice_get}
 use Rattle.lx_auto.specs.Automaton.{AreApart, AreApartFrom, edge_on, has_unit}
@@ -8,11 +8,9 @@ use Rattle.lx_auto.specs.declared.ops.Op.{Op}
 use Rattle.lx_auto.proofs.Edges.{edge_on-append, edge_on-below, edge_on-here, edge_on-past}
 use Rattle.lx_encode.specs.Graph.{NoneBetween}
 use Rattle.lx_tnfa.specs.Tnfa.{Tnfa}
-use Rattle.lx_tnfa.specs.declared.closure.Reach.{Reach}
-use Rattle.lx_tnfa.specs.declared.places.Place.{Place}
-use Rattle.lx_tdfa.specs.Edges.{AreEdgesBefore, AreSameEdges, CutSteps, EndBy, IsAscending, IsRangeEmpty, IsRangeEnd, StandsBefore, StartBelow}
-use Rattle.lx_tdfa.specs.Steps.{Step, first_steps, next_steps, places_of}
-use Rattle.lx_tdfa.specs.Table.{IsEdgeOf}
+use Rattle.lx_tdfa.specs.Edges.{AreEdgesBefore, AreSameEdges, EndBy, GoesOnAlike, IsAscending, IsRangeEmpty, IsRangeEnd, StandsBefore, StartBelow}
+use Rattle.lx_tdfa.specs.Steps.{Step}
+use Rattle.lx_tdfa.specs.Table.{IsEdgeOf, Onward}
 use Rattle.lx_tdfa.proofs.Walks.ListReads.{slice_get-front}
 
 -- edges that end below a bound
@@ -53,31 +51,35 @@ AreApart-behind low (other ∷ edges) edge apart below le some =
     (apart.0, apart.1, AreApart-behind (other.hi + 1) edges edge apart.2 below.1 (omega (arith, below.0)) some)
 
 -- an edge is judged by its effect
-IsEdgeOf-effect : (tnfa : Tnfa) (lists : List (List Place)) (first : Bool) (steps : List Step) (edge other : Option Edge)
+IsEdgeOf-effect : {K : Type 0} (tnfa : Tnfa) (lists : List K) (first : Bool) (steps : List Step) (next : K) (edge other : Option Edge)
     → option_map {U = ℕ × List Op} (λ (e : Edge). (e.to, e.ops)) other ≡ option_map {U = ℕ × List Op} (λ (e : Edge). (e.to, e.ops)) edge
-    → IsEdgeOf tnfa lists first steps edge → IsEdgeOf tnfa lists first steps other
-IsEdgeOf-effect tnfa lists first [] None None same is = is
-IsEdgeOf-effect tnfa lists first [] None (Some other) same is = cc
-IsEdgeOf-effect tnfa lists first [] (Some edge) other same is = absurd is
-IsEdgeOf-effect tnfa lists first (step ∷ steps) None other same is = absurd is
-IsEdgeOf-effect tnfa lists first (step ∷ steps) (Some edge) None same is = cc
-IsEdgeOf-effect tnfa lists first (step ∷ steps) (Some edge) (Some other) same is =
+    → IsEdgeOf tnfa lists first steps next edge → IsEdgeOf tnfa lists first steps next other
+IsEdgeOf-effect tnfa lists first [] next None None same is = is
+IsEdgeOf-effect tnfa lists first [] next None (Some other) same is = cc
+IsEdgeOf-effect tnfa lists first [] next (Some edge) other same is = absurd is
+IsEdgeOf-effect tnfa lists first (step ∷ steps) next None other same is = absurd is
+IsEdgeOf-effect tnfa lists first (step ∷ steps) next (Some edge) None same is = cc
+IsEdgeOf-effect tnfa lists first (step ∷ steps) next (Some edge) (Some other) same is =
     let pair : Path (ℕ × List Op) (other.to, other.ops) (edge.to, edge.ops) = cc same in
     (ap (λ (p : ℕ × List Op). slice_get lists p.0) pair ∙ is.0, ap (λ (p : ℕ × List Op). p.1) pair ∙ is.1)
 
 -- it stays where lists come behind
-pub IsEdgeOf-more : (tnfa : Tnfa) (lists later : List (List Place)) (first : Bool) (steps : List Step) (edge : Option Edge)
-    → IsEdgeOf tnfa lists first steps edge → IsEdgeOf tnfa (lists ++ later) first steps edge
-IsEdgeOf-more tnfa lists later first [] None is = is
-IsEdgeOf-more tnfa lists later first [] (Some edge) is = absurd is
-IsEdgeOf-more tnfa lists later first (step ∷ steps) None is = absurd is
-IsEdgeOf-more tnfa lists later first (step ∷ steps) (Some edge) is =
-    (slice_get-front lists later edge.to (places_of (step ∷ steps)) is.0, is.1)
+pub IsEdgeOf-more : {K : Type 0} (tnfa : Tnfa) (lists later : List K) (first : Bool) (steps : List Step) (next : K) (edge : Option Edge)
+    → IsEdgeOf tnfa lists first steps next edge → IsEdgeOf tnfa (lists ++ later) first steps next edge
+IsEdgeOf-more tnfa lists later first [] next None is = is
+IsEdgeOf-more tnfa lists later first [] next (Some edge) is = absurd is
+IsEdgeOf-more tnfa lists later first (step ∷ steps) next None is = absurd is
+IsEdgeOf-more tnfa lists later first (step ∷ steps) next (Some edge) is =
+    (slice_get-front lists later edge.to next is.0, is.1)
 
-no_edge-no_step : (tnfa : Tnfa) (lists : List (List Place)) (first : Bool) (steps other : List Step) → other ≡ steps
-    → IsEdgeOf tnfa lists first steps None → (o : Option Edge) → o ≡ None → IsEdgeOf tnfa lists first other o
-no_edge-no_step tnfa lists first steps other same is o none =
-    subst (λ l. IsEdgeOf tnfa lists first l o) (sym same) (subst (λ e. IsEdgeOf tnfa lists first steps e) (sym none) is)
+module _ {K : Type 0} (tnfa : Tnfa) (lists : List K) (first : Bool) (steps other : List Step) (next to : K) (same : (other ≡ steps) × (to ≡ next)) where
+  -- an edge is judged by steps and by what they lead to
+  IsEdgeOf-same : (edge : Option Edge) → IsEdgeOf tnfa lists first steps next edge → IsEdgeOf tnfa lists first other to edge
+  IsEdgeOf-same edge is =
+      subst₂ (λ (l : List Step) (k : K). IsEdgeOf tnfa lists first l k edge) (sym same.0) (sym same.1) is
+
+  no_edge-no_step : IsEdgeOf tnfa lists first steps next None → (o : Option Edge) → o ≡ None → IsEdgeOf tnfa lists first other to o
+  no_edge-no_step is o none = IsEdgeOf-same o (subst (λ e. IsEdgeOf tnfa lists first steps next e) (sym none) is)
 
 none_between : (cuts : List ℕ) (first second : ℕ) → ((index cut : ℕ) → slice_get cuts index ≡ Some cut → (cut ≤ first) ⊎ (second < cut))
     → NoneBetween first second cuts
@@ -85,9 +87,9 @@ none_between [] first second each = tt
 none_between (cut ∷ cuts) first second each =
     (each 0 cut refl, none_between cuts first second (λ index other e. each (suc index) other e))
 
-module _ (tnfa : Tnfa) (greatest : ℕ) (first : Bool) (reaches : List Reach) (cuts : List ℕ) (separate : CutSteps tnfa reaches cuts)
+module _ {K : Type 0} (tnfa : Tnfa) (greatest : ℕ) (first : Bool) (onward : Onward K) (cuts : List ℕ) (separate : GoesOnAlike onward cuts)
     (ascending : IsAscending cuts) where
-  pub edges-start : (lists : List (List Place)) → slice_get cuts 0 ≡ Some 0 → AreEdgesBefore tnfa greatest lists first reaches (slice_get cuts 0) []
+  pub edges-start : (lists : List K) → slice_get cuts 0 ≡ Some 0 → AreEdgesBefore tnfa greatest lists first onward (slice_get cuts 0) []
   edges-start lists zero_first = record {
     apart = tt;
     before = λ bound e. tt;
@@ -98,14 +100,14 @@ module _ (tnfa : Tnfa) (greatest : ℕ) (first : Bool) (reaches : List Reach) (c
       none : (unit : ℕ) → unit < 0 → ⊥
       none unit lt = omega arith
 
-  pub edges-more : (lists later : List (List Place)) (cut : Option ℕ) (edges : List Edge) → AreEdgesBefore tnfa greatest lists first reaches cut edges
-      → AreEdgesBefore tnfa greatest (lists ++ later) first reaches cut edges
+  pub edges-more : (lists later : List K) (cut : Option ℕ) (edges : List Edge) → AreEdgesBefore tnfa greatest lists first onward cut edges
+      → AreEdgesBefore tnfa greatest (lists ++ later) first onward cut edges
   edges-more lists later cut edges are = record {
     apart = are.apart;
     before = are.before;
     units = are.units;
     right = λ unit le before.
-        IsEdgeOf-more tnfa lists later first (next_steps tnfa unit reaches) (edge_on edges unit) (are.right unit le before);
+        IsEdgeOf-more tnfa lists later first (onward.steps unit) (onward.next unit) (edge_on edges unit) (are.right unit le before);
   }
 
   -- the cut before the next one
@@ -121,15 +123,15 @@ module _ (tnfa : Tnfa) (greatest : ℕ) (first : Bool) (reaches : List Reach) (c
       at None none = absurd (there cuts index bound e none)
       at (Some cut) some = (cut, some, ascending index (suc index) cut bound (omega arith) some e)
 
-  start_below-next : (lists : List (List Place)) (index : ℕ) (edges : List Edge)
-      → AreEdgesBefore tnfa greatest lists first reaches (slice_get cuts index) edges
+  start_below-next : (lists : List K) (index : ℕ) (edges : List Edge)
+      → AreEdgesBefore tnfa greatest lists first onward (slice_get cuts index) edges
       → (bound : ℕ) → slice_get cuts (suc index) ≡ Some bound → StartBelow bound edges
   start_below-next lists index edges are bound e =
       let before = cut_before index bound e in StartBelow-more before.0 bound edges before.2 (are.before before.0 before.1)
 
-  pub edges-empty : (lists : List (List Place)) (index : ℕ) (edges : List Edge)
-      → AreEdgesBefore tnfa greatest lists first reaches (slice_get cuts index) edges → IsRangeEmpty cuts index greatest
-      → AreEdgesBefore tnfa greatest lists first reaches (slice_get cuts (suc index)) edges
+  pub edges-empty : (lists : List K) (index : ℕ) (edges : List Edge)
+      → AreEdgesBefore tnfa greatest lists first onward (slice_get cuts index) edges → IsRangeEmpty cuts index greatest
+      → AreEdgesBefore tnfa greatest lists first onward (slice_get cuts (suc index)) edges
   edges-empty lists index edges are empty = record {
     apart = are.apart;
     before = start_below-next lists index edges are;
@@ -138,12 +140,13 @@ module _ (tnfa : Tnfa) (greatest : ℕ) (first : Bool) (reaches : List Reach) (c
   }
 
   -- in a range the steps are the same
-  module _ (lists : List (List Place)) (index last : ℕ) (edges : List Edge)
-      (are : AreEdgesBefore tnfa greatest lists first reaches (slice_get cuts index) edges) (range : IsRangeEnd cuts index greatest last) where
+  module _ (lists : List K) (index last : ℕ) (edges : List Edge)
+      (are : AreEdgesBefore tnfa greatest lists first onward (slice_get cuts index) edges) (range : IsRangeEnd cuts index greatest last) where
     same_steps : (unit : ℕ) → range.cut ≤ unit → StandsBefore (slice_get cuts (suc index)) unit
-        → next_steps tnfa unit reaches ≡ next_steps tnfa range.cut reaches
+        → (onward.steps unit ≡ onward.steps range.cut) × (onward.next unit ≡ onward.next range.cut)
     same_steps unit le before =
-        ap (λ l. first_steps [] l) (sym (separate range.cut unit le (none_between cuts range.cut unit each)))
+        let same = separate range.cut unit le (none_between cuts range.cut unit each) in
+        (sym same.0, sym same.1)
       where
         each : (other cut : ℕ) → slice_get cuts other ≡ Some cut → (cut ≤ range.cut) ⊎ (unit < cut)
         each other cut e = elim (le_or other index) [
@@ -171,8 +174,8 @@ module _ (tnfa : Tnfa) (greatest : ℕ) (first : Bool) (reaches : List Reach) (c
     below_cut : StartBelow range.cut edges
     below_cut = are.before range.cut range.first
 
-    pub edges-none : IsEdgeOf tnfa lists first (next_steps tnfa range.cut reaches) None
-        → AreEdgesBefore tnfa greatest lists first reaches (slice_get cuts (suc index)) edges
+    pub edges-none : IsEdgeOf tnfa lists first (onward.steps range.cut) (onward.next range.cut) None
+        → AreEdgesBefore tnfa greatest lists first onward (slice_get cuts (suc index)) edges
     edges-none none = record {
       apart = are.apart;
       before = start_below-next lists index edges are;
@@ -186,25 +189,25 @@ module _ (tnfa : Tnfa) (greatest : ℕ) (first : Bool) (reaches : List Reach) (c
         lt_or (suc a) (suc b) = elim (lt_or a b) [ inl x ↦ inl (omega (arith, x)) | inr y ↦ inr (omega (arith, y)) ]
 
         at : (unit : ℕ) → unit ≤ greatest → StandsBefore (slice_get cuts (suc index)) unit → (unit < range.cut) ⊎ (range.cut ≤ unit)
-            → IsEdgeOf tnfa lists first (next_steps tnfa unit reaches) (edge_on edges unit)
+            → IsEdgeOf tnfa lists first (onward.steps unit) (onward.next unit) (edge_on edges unit)
         at unit le before (inl early) = are.right unit le (subst (λ o. StandsBefore o unit) (sym range.first) early)
         at unit le before (inr later) =
-            no_edge-no_step tnfa lists first (next_steps tnfa range.cut reaches) (next_steps tnfa unit reaches) (same_steps unit later before) none
-            (edge_on edges unit) (edge_on-above range.cut edges unit below_cut later)
+            no_edge-no_step tnfa lists first (onward.steps range.cut) (onward.steps unit) (onward.next range.cut) (onward.next unit)
+            (same_steps unit later before) none (edge_on edges unit) (edge_on-above range.cut edges unit below_cut later)
 
     module _ (edge : Edge) (lo : edge.lo ≡ range.cut) (hi : edge.hi ≡ last) where
       pub edges-apart : AreApart (edges ++ edge ∷ [])
       edges-apart =
           AreApart-behind 0 edges edge are.apart (subst (λ n. StartBelow n edges) (sym lo) below_cut) (omega arith) (omega (arith, lo, hi, range.some))
 
-      pub edges-behind : (new : List Edge) → IsEdgeOf tnfa lists first (next_steps tnfa range.cut reaches) (Some edge)
-          → AreSameEdges (edges ++ edge ∷ []) new → AreEdgesBefore tnfa greatest lists first reaches (slice_get cuts (suc index)) new
+      pub edges-behind : (new : List Edge) → IsEdgeOf tnfa lists first (onward.steps range.cut) (onward.next range.cut) (Some edge)
+          → AreSameEdges (edges ++ edge ∷ []) new → AreEdgesBefore tnfa greatest lists first onward (slice_get cuts (suc index)) new
       edges-behind new is same = record {
         apart = same.apart;
         before = λ bound e. before_next bound e (subst (λ o. StandsBefore o last) e range.before);
         units = same.ends greatest (EndBy-behind greatest edges edge are.units (omega (arith, hi, range.within)));
         right = λ unit le before.
-            IsEdgeOf-effect tnfa lists first (next_steps tnfa unit reaches) (edge_on (edges ++ edge ∷ []) unit) (edge_on new unit) (same.effects unit)
+            IsEdgeOf-effect tnfa lists first (onward.steps unit) (onward.next unit) (edge_on (edges ++ edge ∷ []) unit) (edge_on new unit) (same.effects unit)
             (at unit le before (lt_or unit range.cut));
       }
         where
@@ -227,13 +230,14 @@ module _ (tnfa : Tnfa) (greatest : ℕ) (first : Bool) (reaches : List Reach) (c
               found xs some = edge_on-front xs (edge ∷ []) unit other some
 
           at : (unit : ℕ) → unit ≤ greatest → StandsBefore (slice_get cuts (suc index)) unit → (unit < range.cut) ⊎ (range.cut ≤ unit)
-              → IsEdgeOf tnfa lists first (next_steps tnfa unit reaches) (edge_on (edges ++ edge ∷ []) unit)
+              → IsEdgeOf tnfa lists first (onward.steps unit) (onward.next unit) (edge_on (edges ++ edge ∷ []) unit)
           at unit le before (inl early) =
-              subst (λ o. IsEdgeOf tnfa lists first (next_steps tnfa unit reaches) o) (sym (front unit early (edge_on edges unit) refl))
+              subst (λ o. IsEdgeOf tnfa lists first (onward.steps unit) (onward.next unit) o) (sym (front unit early (edge_on edges unit) refl))
               (are.right unit le (subst (λ o. StandsBefore o unit) (sym range.first) early))
           at unit le before (inr later) =
               let here : edge_on (edges ++ edge ∷ []) unit ≡ Some edge =
               edge_on-append edges (edge ∷ []) unit (edge_on-above range.cut edges unit below_cut later)
               ∙ edge_on-here edge [] unit (omega (arith, lo, later)) (omega (arith, hi, range.all unit le before)) in
-              subst (λ o. IsEdgeOf tnfa lists first (next_steps tnfa unit reaches) o) (sym here)
-              (subst (λ l. IsEdgeOf tnfa lists first l (Some edge)) (sym (same_steps unit later before)) is)
+              subst (λ o. IsEdgeOf tnfa lists first (onward.steps unit) (onward.next unit) o) (sym here)
+              (IsEdgeOf-same tnfa lists first (onward.steps range.cut) (onward.steps unit) (onward.next range.cut) (onward.next unit)
+              (same_steps unit later before) (Some edge) is)

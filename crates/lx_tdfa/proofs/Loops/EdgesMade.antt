@@ -5,7 +5,7 @@ use Rattle.std.proofs.lemmas.List.Elements.{All-append, All-cons, All-nil}
 use Rattle.std.proofs.lemmas.List.Sums.{sum_by-cons}
 use Rattle.std.specs.List.{cons_option}
 use Rattle.std.specs.Option.{option_map}
-use Rattle.std.specs.Prelude.{All, slice_get, sum_by}
+use Rattle.std.specs.Prelude.{All, AllPairs, Contains, slice_get, sum_by}
 use Rattle.lx_base.specs.declared.faults.Stop.{Stop}
 use Rattle.lx_base.specs.declared.faults.Stop.TheVariants as stop
 use Rattle.lx_base.specs.declared.places.Pos.{Pos}
@@ -20,19 +20,20 @@ use Rattle.lx_tnfa.specs.declared.places.Place.{Place}
 use Rattle.lx_tnfa.proofs.Searching.SearchBasics.{Each}
 use Rattle.lx_tnfa.proofs.Searching.SearchPaths.{All-from_each, Each-from_all}
 use Rattle.lx_tdfa.specs.Building.{AreListed, AreTargets, Grows, TooManyFound, greatest_of}
-use Rattle.lx_tdfa.specs.Making.{Adds, AreTooMany, IsWithin, StopsBy, seen_step}
+use Rattle.lx_tdfa.specs.Making.{Adds, AreMany, IsWithin, StopsBy, seen_step}
 use Rattle.lx_tdfa.specs.Registers.{step_ops, widest}
 use Rattle.lx_tdfa.specs.Steps.{IsFound, IsInLeaf, Step, at_start, next_steps, onward, places_of, start_place, step_on, step_to}
 use Rattle.lx_tdfa.specs.Table.{IsEdgeOf}
 use Rattle.lx_tdfa.specs.declared.steps.Step as held
+use Rattle.lx_tdfa.proofs.Loops.ListSets.{apart-push}
 use Rattle.lx_tdfa.proofs.Walks.ListReads.{slice_get-behind, slice_get-front}
 use Rattle.lx_tdfa.proofs.Rules.StepPlaces.{first_steps-each, next_steps-in_leaf, start_place-place}
 
 -- a list among others is no longer than all together
-pub length-among : (lists : List (List Place)) (number : ℕ) (list : List Place) → slice_get lists number ≡ Some list → length list ≤ sum_by length lists
+pub length-among : {P : Type 0} (lists : List (List P)) (number : ℕ) (list : List P) → slice_get lists number ≡ Some list → length list ≤ sum_by length lists
 length-among [] number list e = cc
 length-among (other ∷ lists) zero list e =
-    let same : length other ≡ length list = ap (λ (o : List Place). length o) (let q : other ≡ list = cc in q) in
+    let same : length other ≡ length list = ap (λ o. length o) (let q : other ≡ list = cc in q) in
     let sum : sum_by length (other ∷ lists) ≡ length other + sum_by length lists = sum_by-cons (λ l. length l) other lists in omega (arith, same, sum)
 length-among (other ∷ lists) (suc number) list e =
     let r : length list ≤ sum_by length lists = length-among lists number list e in
@@ -130,28 +131,33 @@ module _ (enc : Enc) (patterns : List Pattern) (tnfa : Tnfa) (of : IsTnfaOf enc 
                 | inr last ↦ subst (All (IsInLeaf tnfa)) (sym lead ∙ last.1) steps_in_leaf
               ];
           within = few;
+          apart = subst (λ l. AllPairs (λ list other. list ≢ other) l) (sym behind.0) (apart-push lists places behind.1 listed.apart);
         };
       }
 
-      pub too_many-found : (at : Pos) (why : Stop) → StopsBy at (AreTooMany (lists ++ places ∷ [])) why → StopsBy at (TooManyFound tnfa) why
+      pub too_many-found : (at : Pos) (why : Stop) → StopsBy at (AreMany (lists ++ places ∷ []) × ¬ Contains lists places) why
+          → StopsBy at (TooManyFound tnfa) why
       too_many-found at stop.Memory reason = tt
-      too_many-found at (stop.Fault fault) reason = (reason.0, (lists ++ places ∷ [], all_found, reason.1))
+      too_many-found at (stop.Fault fault) reason = (
+        reason.0,
+        (lists ++ places ∷ [], all_found, record { apart = apart-push lists places reason.1.1 listed.apart; many = reason.1.0 }),
+      )
 
     -- the edge leads to the list of the places
     pub edge-made : (new : List (List Place)) (first : Bool) (edge : Edge) (places : List Place) → steps ≢ []
         → slice_get new edge.to ≡ Some places → places ≡ places_of (map seen_step steps)
         → edge.ops ≡ step_ops tnfa (widest tnfa.rules) first 0 (map seen_step steps)
-        → IsEdgeOf tnfa new first (next_steps tnfa unit reaches) (Some edge)
+        → IsEdgeOf tnfa new first (next_steps tnfa unit reaches) (places_of (next_steps tnfa unit reaches)) (Some edge)
     edge-made new first edge places some there lead ops =
-        subst (λ l. IsEdgeOf tnfa new first l (Some edge)) are (at steps some (there ∙ ap (λ l. Some l) lead) ops)
+        subst (λ l. IsEdgeOf tnfa new first l (places_of l) (Some edge)) are (at steps some (there ∙ ap (λ l. Some l) lead) ops)
       where
         at : (all : List held.Step) → all ≢ [] → slice_get new edge.to ≡ Some (places_of (map seen_step all))
             → edge.ops ≡ step_ops tnfa (widest tnfa.rules) first 0 (map seen_step all)
-            → IsEdgeOf tnfa new first (map seen_step all) (Some edge)
+            → IsEdgeOf tnfa new first (map seen_step all) (places_of (map seen_step all)) (Some edge)
         at [] some there ops = absurd (some refl)
         at (step ∷ others) some there ops = (there, ops)
 
     -- where there is no step there is no edge
-    pub no_edge-made : (first : Bool) → steps ≡ [] → IsEdgeOf tnfa lists first (next_steps tnfa unit reaches) None
+    pub no_edge-made : (first : Bool) → steps ≡ [] → IsEdgeOf tnfa lists first (next_steps tnfa unit reaches) (places_of (next_steps tnfa unit reaches)) None
     no_edge-made first none =
-        subst (λ l. IsEdgeOf tnfa lists first l None) (ap (λ l. map seen_step l) (sym none) ∙ are) tt
+        subst (λ l. IsEdgeOf tnfa lists first l (places_of l) None) (ap (λ l. map seen_step l) (sym none) ∙ are) tt

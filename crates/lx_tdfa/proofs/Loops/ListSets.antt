@@ -1,4 +1,4 @@
--- Lists of places in sets.
+-- Lists in sets.
 use Rattle.std.proofs.Common.{◌≡◌, ℕ, ◌+◌, ◌<◌, ◌≤◌, max, arith, Bool, true, false, not, List, [], ◌∷◌, ◌++◌, length, Vec, sym, ap, ◌∙◌, inl, inr, Some, subst, slice_get}
 use Rattle.std.specs.Bool.{Decides, MatchBool}
 use Rattle.std.specs.Cmp.Lexicographic.{pointwise, pointwise_decides}
@@ -10,79 +10,88 @@ use Rattle.std.proofs.lemmas.Bool.Decides.{when_true, when_false}
 use Rattle.std.proofs.lemmas.List.{map_push, get_or_append_left, get_or_default, get_or_push, length_push}
 use Rattle.std.proofs.lemmas.List.Sums.{sum_by_push}
 use Rattle.std.proofs.lemmas.Option.{slice_get-map}
-use Rattle.lx_tnfa.specs.contracts.places.PlacePartialEq.TheImpl.{eq-value}
-use Rattle.lx_tnfa.specs.declared.places.Place.{Place}
+use Rattle.lx_tnfa.specs.Equality.{TellsEqual}
 use Rattle.lx_tdfa.specs.Making.{Adds, lists_of, most_places}
-use Rattle.lx_tdfa.proofs.Loops.PlaceSets.{same_place, place_same}
 use Rattle.lx_tnfa.proofs.Searching.SetMembers.{added}
 
-pub Decides-pointwise : (list other : List Place) → Decides (pointwise eq-value.it list other) (list ≡ other)
-Decides-pointwise = pointwise_decides (λ place other. (same_place place other, place_same place other))
+Decides-pointwise : {P : Type 0} (same : P → P → Bool) → TellsEqual same → (list other : List P) → Decides (pointwise same list other) (list ≡ other)
+Decides-pointwise same tells = pointwise_decides (λ place other. (tells.equal place other, tells.itself place other))
 
--- what a set of lists that are all different says of itself
-abbrev pub AreKept : (lists : List (List Place)) → (places most : ℕ) → Type 0
-AreKept lists places most = AllPairs (λ list other. list ≢ other) lists × (places ≡ sum_by length lists) × (most ≡ most_places lists)
+-- what a set of lists says of itself
+abbrev pub AreKept : {P : Type 0} → (lists : List (List P)) → (places most : ℕ) → Type 0
+AreKept lists places most = (places ≡ sum_by length lists) × (most ≡ most_places lists)
 
-pub most_places-push : (lists : List (List Place)) (list : List Place) → most_places (lists ++ list ∷ []) ≡ max (most_places lists) (length list)
+most_places-push : {P : Type 0} (lists : List (List P)) (list : List P) → most_places (lists ++ list ∷ []) ≡ max (most_places lists) (length list)
 most_places-push [] list = omega arith
 most_places-push (other ∷ lists) list =
     let later : most_places (lists ++ list ∷ []) ≡ max (most_places lists) (length list) = most_places-push lists list in
     omega arith
 
-module _ (lists : List (List Place)) (list : List Place) (absent : ¬ Contains lists list) where
-  apart-push : AllPairs (λ list other. list ≢ other) lists → AllPairs (λ list other. list ≢ other) (lists ++ list ∷ [])
-  apart-push apart i j d lt within e = at (cases_lt j (length lists))
+-- lists that are all different, and one that is not among them
+pub apart-push : {P : Type 0} (lists : List (List P)) (list : List P) → ¬ Contains lists list → AllPairs (λ list other. list ≢ other) lists
+    → AllPairs (λ list other. list ≢ other) (lists ++ list ∷ [])
+apart-push lists list absent apart i j d lt within e = at (cases_lt j (length lists))
+  where
+    at : (j < length lists) ⊎ (length lists ≤ j) → ⊥
+    at (inl inside) =
+        apart i j d lt inside (sym (get_or_append_left lists (list ∷ []) d i (omega arith)) ∙ e ∙ get_or_append_left lists (list ∷ []) d j inside)
+    at (inr past) =
+        let last : length lists ≡ j = omega (arith, length_push lists list) in
+        absent (
+          i,
+          omega arith,
+          get_or_default lists i list d (omega arith)
+              ∙ sym (get_or_append_left lists (list ∷ []) d i (omega arith)) ∙ e ∙ get_or_push lists list d j last,
+        )
+
+kept-push : {P : Type 0} (lists : List (List P)) (list : List P) (places most count : ℕ) → AreKept lists places most → count ≡ length list
+    → AreKept (lists ++ list ∷ []) (places + count) (max most count)
+kept-push {P} lists list places most count kept counted =
+    (omega (arith, sum_by_push {X = List P} length lists list, kept.0), omega (arith, most_places-push lists list, kept.1))
+
+module _ {P A : Type 0} (same : P → P → Bool) (old new : List (Vec P A)) (list : Vec P A) (fresh : Bool)
+    (told : fresh ≡ not (list_any (λ (other : Vec P A). pointwise same list.items other.items) old))
+    (keys : new ≡ (if list_any (λ (other : Vec P A). pointwise same list.items other.items) old then old else old ++ list ∷ [])) where
+  insertion : TellsEqual same
+      → MatchBool fresh (¬ Contains (lists_of old) list.items × (new ≡ old ++ list ∷ [])) (Contains (lists_of old) list.items × (new ≡ old))
+  insertion tells =
+      added (λ (list : Vec P A). list.items) (λ (list other : Vec P A). pointwise same list.items other.items)
+      (λ list other. (Decides-pointwise same tells list.items other.items).0) (λ list other. (Decides-pointwise same tells list.items other.items).1) old new list fresh told keys
+
+  pub is_put : fresh ≡ true → lists_of new ≡ lists_of old ++ list.items ∷ []
+  is_put e = at (list_any (λ (other : Vec P A). pointwise same list.items other.items) old) (sym told ∙ e) keys
     where
-      at : (j < length lists) ⊎ (length lists ≤ j) → ⊥
-      at (inl inside) =
-          apart i j d lt inside (sym (get_or_append_left lists (list ∷ []) d i (omega arith)) ∙ e ∙ get_or_append_left lists (list ∷ []) d j inside)
-      at (inr past) =
-          let last : length lists ≡ j = omega (arith, length_push lists list) in
-          absent (
-            i,
-            omega arith,
-            get_or_default lists i list d (omega arith)
-                ∙ sym (get_or_append_left lists (list ∷ []) d i (omega arith)) ∙ e ∙ get_or_push lists list d j last,
-          )
+      at : (b : Bool) → not b ≡ true → new ≡ (if b then old else old ++ list ∷ []) → lists_of new ≡ lists_of old ++ list.items ∷ []
+      at true e put = absurd (cc e)
+      at false e put = ap lists_of put ∙ map_push (λ (list : Vec P A). list.items) old list
 
-  pub kept-push : (places most count : ℕ) → AreKept lists places most → count ≡ length list → AreKept (lists ++ list ∷ []) (places + count) (max most count)
-  kept-push places most count kept counted =
-      (apart-push kept.0, omega (arith, sum_by_push {X = List Place} length lists list, kept.1), omega (arith, most_places-push lists list, kept.2))
-
-module _ {A : Type 0} (old new : List (Vec Place A)) (list : Vec Place A) (fresh : Bool)
-    (told : fresh ≡ not (list_any (λ (other : Vec Place A). pointwise eq-value.it list.items other.items) old))
-    (keys : new ≡ (if list_any (λ (other : Vec Place A). pointwise eq-value.it list.items other.items) old then old else old ++ list ∷ [])) where
-  insertion : MatchBool fresh (¬ Contains (lists_of old) list.items × (new ≡ old ++ list ∷ [])) (Contains (lists_of old) list.items × (new ≡ old))
-  insertion =
-      added (λ (list : Vec Place A). list.items) (λ (list other : Vec Place A). pointwise eq-value.it list.items other.items)
-      (λ list other. (Decides-pointwise list.items other.items).0) (λ list other. (Decides-pointwise list.items other.items).1) old new list fresh told keys
-
-  pub is_put : fresh ≡ true → ¬ Contains (lists_of old) list.items × (lists_of new ≡ lists_of old ++ list.items ∷ [])
-  is_put e =
-      let put = when_true _ _ e insertion in
-      (put.0, ap lists_of put.1 ∙ map_push (λ (list : Vec Place A). list.items) old list)
-
-  pub is_kept : fresh ≡ false → Contains (lists_of old) list.items × (lists_of new ≡ lists_of old)
-  is_kept e = let kept = when_false _ _ e insertion in (kept.0, ap lists_of kept.1)
+  pub is_kept : fresh ≡ false → lists_of new ≡ lists_of old
+  is_kept e = at (list_any (λ (other : Vec P A). pointwise same list.items other.items) old) (sym told ∙ e) keys
+    where
+      at : (b : Bool) → not b ≡ false → new ≡ (if b then old else old ++ list ∷ []) → lists_of new ≡ lists_of old
+      at true e put = ap lists_of put
+      at false e put = absurd (cc e)
 
   pub kept_with : (places most count : ℕ) → fresh ≡ true → AreKept (lists_of old) places most → count ≡ length list.items
       → AreKept (lists_of new) (places + count) (max most count)
   kept_with places most count e kept counted =
-      let put = is_put e in
-      subst (λ (lists : List (List Place)). AreKept lists (places + count) (max most count)) (sym put.1)
-      (kept-push (lists_of old) list.items put.0 places most count kept counted)
+      subst (λ (lists : List (List P)). AreKept lists (places + count) (max most count)) (sym (is_put e))
+      (kept-push (lists_of old) list.items places most count kept counted)
 
-  pub adds_put : fresh ≡ true → Adds (lists_of old) list.items (lists_of new)
-  adds_put e = let put = is_put e in inr (put.1, put.0)
+  pub is_absent : TellsEqual same → fresh ≡ true → ¬ Contains (lists_of old) list.items
+  is_absent tells e = (when_true _ _ e (insertion tells)).0
 
-  pub adds_kept : fresh ≡ false → Adds (lists_of old) list.items (lists_of new)
-  adds_kept e = let kept = is_kept e in inl (kept.1, kept.0)
+  pub adds_put : TellsEqual same → fresh ≡ true → Adds (lists_of old) list.items (lists_of new)
+  adds_put tells e = inr (is_put e, is_absent tells e)
+
+  pub adds_kept : TellsEqual same → fresh ≡ false → Adds (lists_of old) list.items (lists_of new)
+  adds_kept tells e = inl (is_kept e, (when_false _ _ e (insertion tells)).0)
 
 -- what stands in the set at the index of an equal list
-pub stored_list : {A : Type 0} (new : List (Vec Place A)) (list : List Place) (index : ℕ)
-    → (there : Vec Place A) × (slice_get new index ≡ Some there) × (pointwise eq-value.it list there.items ≡ true)
+pub stored_list : {P A : Type 0} (same : P → P → Bool) → TellsEqual same → (new : List (Vec P A)) (list : List P) (index : ℕ)
+    → (there : Vec P A) × (slice_get new index ≡ Some there) × (pointwise same list there.items ≡ true)
     → slice_get (lists_of new) index ≡ Some list
-stored_list {A} new list index there =
-    slice_get-map (λ (list : Vec Place A). list.items) new index
-    ∙ ap (λ o. option_map (λ (list : Vec Place A). list.items) o) there.1
-    ∙ ap Some (sym ((Decides-pointwise list there.0.items).0 there.2))
+stored_list {P} {A} same tells new list index there =
+    slice_get-map (λ (list : Vec P A). list.items) new index
+    ∙ ap (λ o. option_map (λ (list : Vec P A). list.items) o) there.1
+    ∙ ap Some (sym ((Decides-pointwise same tells list there.0.items).0 there.2))

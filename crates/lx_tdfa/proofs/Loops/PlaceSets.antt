@@ -1,5 +1,5 @@
 -- Places in sets.
-use Rattle.std.proofs.Common.{◌≡◌, Bool, true, rules}
+use Rattle.std.proofs.Common.{◌≡◌, true, rules}
 use Rattle.lx_tnfa.specs.contracts.places.PlacePartialEq.TheImpl.{eq-value}
 use Rattle.lx_tnfa.specs.declared.places.Place.{Place}
 use Rattle.lx_tnfa.specs.Equality.{TellsEqual}

@@ -8,21 +8,26 @@ use Rattle.lx_auto.specs.declared.automaton.State.{State}
 use Rattle.lx_tnfa.specs.Tnfa.{Tnfa}
 use Rattle.lx_tnfa.specs.declared.places.Place.{Place}
 use Rattle.lx_tdfa.specs.Building.{AreStatesOf, Grows, greatest_of}
-use Rattle.lx_tdfa.specs.Steps.{next_steps}
-use Rattle.lx_tdfa.specs.Table.{IsStateOf, is_first}
+use Rattle.lx_tdfa.specs.Table.{IsStateBy, IsStateOf, Onward, is_first, onward_by}
 use Rattle.lx_tdfa.proofs.Loops.EdgeLoops.{IsEdgeOf-more}
 use Rattle.lx_tdfa.proofs.Loops.EdgeSteps.{grows-more}
 use Rattle.lx_tdfa.proofs.Walks.ListReads.{slice_get-behind, slice_get-front}
+
+pub IsStateBy-more : {K : Type 0} (tnfa : Tnfa) (greatest : ℕ) (kernels later : List K) (first : Bool) (onward : Onward K) (state : State)
+    → IsStateBy tnfa greatest kernels first onward state → IsStateBy tnfa greatest (kernels ++ later) first onward state
+IsStateBy-more tnfa greatest kernels later first onward state is = record {
+  edges = λ unit le. IsEdgeOf-more tnfa kernels later first (onward.steps unit) (onward.next unit) (edge_on state.edges unit) (is.edges unit le);
+  units = is.units;
+  accept = is.accept;
+  leave = is.leave;
+}
 
 IsStateOf-more : (tnfa : Tnfa) (greatest : ℕ) (lists later : List (List Place)) (first : Bool) (list : List Place) (state : State)
     → IsStateOf tnfa greatest lists first list state → IsStateOf tnfa greatest (lists ++ later) first list state
 IsStateOf-more tnfa greatest lists later first list state is = record {
   reaches = is.reaches;
   closure = is.closure;
-  edges = λ unit le. IsEdgeOf-more tnfa lists later first (next_steps tnfa unit is.reaches) (edge_on state.edges unit) (is.edges unit le);
-  units = is.units;
-  accept = is.accept;
-  leave = is.leave;
+  is = IsStateBy-more tnfa greatest lists later first (onward_by tnfa is.reaches) state is.is;
 }
 
 module _ (tnfa : Tnfa) (start lists new : List (List Place)) (grown : Grows tnfa start lists) (grows : Grows tnfa lists new) (states : List State)

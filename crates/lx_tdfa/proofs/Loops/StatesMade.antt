@@ -20,9 +20,17 @@ use Rattle.lx_tdfa.specs.Building.{AreListed, AreTargets, greatest_of}
 use Rattle.lx_tdfa.specs.Edges.{AreEdgesBefore, EndBy}
 use Rattle.lx_tdfa.specs.Making.{seen_ending}
 use Rattle.lx_tdfa.specs.Steps.{Ending, IsFound, ending_at, first_ending}
-use Rattle.lx_tdfa.specs.Table.{IsStateOf, accept_of, is_first, leave_of}
+use Rattle.lx_tdfa.specs.Table.{IsStateOf, accept_of, is_first, leave_of, onward_by}
 use Rattle.lx_tdfa.specs.declared.steps.Ending as held
 use Rattle.lx_tdfa.proofs.Loops.EdgesMade.{found_places, length-among}
+
+-- no edge goes further than a bound
+pub EndBy-all : (bound : ℕ) (edges : List Edge) → EndBy bound edges → All (λ (edge : Edge). edge.hi ≤ bound) edges
+EndBy-all bound edges ends = All-from_each (λ (edge : Edge). edge.hi ≤ bound) edges (each edges ends)
+  where
+    each : (xs : List Edge) → EndBy bound xs → Each (λ (edge : Edge). edge.hi ≤ bound) xs
+    each [] h = tt
+    each (x ∷ xs) h = (h.0, each xs h.1)
 
 pub is_first-zero : (number : ℕ) → nat_eq number 0 ≡ is_first number
 is_first-zero zero = refl
@@ -91,7 +99,7 @@ module _ (enc : Enc) (patterns : List Pattern) (tnfa : Tnfa) (of : IsTnfaOf enc 
 
   pub state_made : (new : List (List Place)) (first : Bool) (reaches : List Reach) (ending : Option held.Ending) (state : State)
       → IsClosureOf tnfa list reaches → option_map seen_ending ending ≡ first_ending reaches → first ≡ is_first number
-      → AreEdgesBefore tnfa (greatest_of tnfa) new first reaches None state.edges
+      → AreEdgesBefore tnfa (greatest_of tnfa) new first (onward_by tnfa reaches) None state.edges
       → state.accept ≡ accept_of tnfa first (option_map seen_ending ending) → state.leave ≡ leave_of tnfa first (option_map seen_ending ending)
       → (other : List Place) → slice_get lists number ≡ Some other
       → IsStateOf tnfa (greatest_of tnfa) new (is_first number) other state × AreApart state.edges
@@ -102,17 +110,12 @@ module _ (enc : Enc) (patterns : List Pattern) (tnfa : Tnfa) (of : IsTnfaOf enc 
             (record {
               reaches = reaches;
               closure = is;
-              edges = λ unit le. edges.right unit le tt;
-              units = ends state.edges edges.units;
-              accept = accept ∙ ap (λ o. accept_of tnfa first o) same;
-              leave = leave ∙ ap (λ o. leave_of tnfa first o) same;
+              is = record {
+                edges = λ unit le. edges.right unit le tt;
+                units = EndBy-all (greatest_of tnfa) state.edges edges.units;
+                accept = accept ∙ ap (λ o. accept_of tnfa first o) same;
+                leave = leave ∙ ap (λ o. leave_of tnfa first o) same;
+              };
             }),
         edges.apart,
       )
-    where
-      each_ends : (xs : List Edge) → EndBy (greatest_of tnfa) xs → Each (λ (edge : Edge). edge.hi ≤ greatest_of tnfa) xs
-      each_ends [] h = tt
-      each_ends (x ∷ xs) h = (h.0, each_ends xs h.1)
-
-      ends : (xs : List Edge) → EndBy (greatest_of tnfa) xs → All (λ (edge : Edge). edge.hi ≤ greatest_of tnfa) xs
-      ends xs h = All-from_each (λ (edge : Edge). edge.hi ≤ greatest_of tnfa) xs (each_ends xs h)

@@ -8,7 +8,7 @@ use Rattle.std.specs.Prelude.{Contains}
 use Rattle.lx_tnfa.specs.Tnfa.{Tnfa}
 use Rattle.lx_tnfa.specs.declared.closure.Reach.{Reach}
 use Rattle.lx_tnfa.specs.declared.places.Place.{Place}
-use Rattle.lx_tdfa.specs.Steps.{Step, first_steps, is_among, is_place, step_on}
+use Rattle.lx_tdfa.specs.Steps.{Step, first_steps, index_if, indices_from, is_among, is_place, step_on}
 
 is_place-same : (place : Place) → is_place place place ≡ true
 is_place-same place = search rules
@@ -124,3 +124,72 @@ module _ (tnfa : Tnfa) (unit : ℕ) (reaches : List Reach) (index : ℕ) (reach 
   first_steps-left e =
       ap (λ l. front ++ first_steps seen l)
       (sym (filter_map-left (step_on tnfa unit) reach (drop (index + 1) reaches) (on ∙ ap (λ o. option_map (step_by reach) o) e))) ∙ before_rest
+
+-- indices of steps, in the same way
+indices-same : (tnfa : Tnfa) (unit : ℕ) (seen other : List Place) → ((place : Place) → is_among seen place ≡ is_among other place) → (index : ℕ)
+    (reaches : List Reach) → indices_from tnfa unit seen index reaches ≡ indices_from tnfa unit other index reaches
+indices-same tnfa unit seen other same index [] = refl
+indices-same tnfa unit seen other same index (reach ∷ reaches) =
+    at (step_on tnfa unit reach) (λ seen other same. indices-same tnfa unit seen other same (suc index) reaches)
+  where
+    by : (b : Bool) (to : Place) → indices_from tnfa unit seen (suc index) reaches ≡ indices_from tnfa unit other (suc index) reaches
+        → indices_from tnfa unit (to ∷ seen) (suc index) reaches ≡ indices_from tnfa unit (to ∷ other) (suc index) reaches
+        → (if b then indices_from tnfa unit seen (suc index) reaches else index ∷ indices_from tnfa unit (to ∷ seen) (suc index) reaches)
+        ≡ (if b then indices_from tnfa unit other (suc index) reaches else index ∷ indices_from tnfa unit (to ∷ other) (suc index) reaches)
+    by true to skipped taken = skipped
+    by false to skipped taken = ap (λ l. index ∷ l) taken
+
+    at : (o : Option Step) → ((seen other : List Place) → ((place : Place) → is_among seen place ≡ is_among other place)
+        → indices_from tnfa unit seen (suc index) reaches ≡ indices_from tnfa unit other (suc index) reaches)
+        → index_if o seen index (λ seen. indices_from tnfa unit seen (suc index) reaches)
+        ≡ index_if o other index (λ seen. indices_from tnfa unit seen (suc index) reaches)
+    at None more = more seen other same
+    at (Some step) more =
+        ap (λ b. if b then indices_from tnfa unit seen (suc index) reaches else index ∷ indices_from tnfa unit (step.to ∷ seen) (suc index) reaches)
+        (same step.to)
+        ∙ by (is_among other step.to) step.to (more seen other same)
+        (more (step.to ∷ seen) (step.to ∷ other) (λ place. ap (λ b. is_place step.to place || b) (same place)))
+
+module _ (tnfa : Tnfa) (unit : ℕ) (reaches : List Reach) (index : ℕ) (reach : Reach) (within : index < length reaches)
+    (is : reach ≡ get_or reaches index reach) (seen : List Place) (front whole : List ℕ)
+    (before : front ++ indices_from tnfa unit seen index (drop index reaches) ≡ whole)
+    (behind : Option Place) (on : step_on tnfa unit reach ≡ option_map (step_by reach) behind) where
+  abbrev rest : List Place → List ℕ
+  rest seen = indices_from tnfa unit seen (suc index) (drop (index + 1) reaches)
+
+  next_is : index + 1 ≡ suc index
+  next_is = omega arith
+
+  -- what is left, by what the step is
+  left_by : (o : Option Place) → behind ≡ o → front ++ index_if (option_map (step_by reach) o) seen index rest ≡ whole
+  left_by o e =
+      ap (λ s. front ++ index_if s seen index rest) (sym (on ∙ ap (λ o. option_map (step_by reach) o) e))
+      ∙ ap (λ l. front ++ indices_from tnfa unit seen index l)
+      (sym (drop_more reaches index reach within ∙ ap (λ r. r ∷ drop (index + 1) reaches) (sym is)))
+      ∙ before
+
+  pub indices-taken : (to : Place) (new : List Place) (fresh : Bool) → behind ≡ Some to
+      → MatchBool fresh (¬ Contains seen to × (new ≡ seen ++ to ∷ [])) (Contains seen to × (new ≡ seen)) → fresh ≡ true
+      → (front ++ index ∷ []) ++ indices_from tnfa unit new (index + 1) (drop (index + 1) reaches) ≡ whole
+  indices-taken to new false e added fresh = absurd (false≢true fresh)
+  indices-taken to new true e added fresh =
+      ap (λ n. (front ++ index ∷ []) ++ indices_from tnfa unit new n (drop (index + 1) reaches)) next_is
+      ∙ append_assoc front (index ∷ []) (rest new)
+      ∙ ap (λ s. front ++ index ∷ rest s) added.1
+      ∙ ap (λ l. front ++ index ∷ l)
+      (indices-same tnfa unit (seen ++ to ∷ []) (to ∷ seen) (is_among-behind seen to) (suc index) (drop (index + 1) reaches))
+      ∙ ap (λ b. front ++ (if b then rest seen else index ∷ rest (to ∷ seen))) (sym (not_among seen to added.0))
+      ∙ left_by (Some to) e
+
+  pub indices-seen : (to : Place) (new : List Place) (fresh : Bool) → behind ≡ Some to
+      → MatchBool fresh (¬ Contains seen to × (new ≡ seen ++ to ∷ [])) (Contains seen to × (new ≡ seen)) → fresh ≡ false
+      → front ++ indices_from tnfa unit new (index + 1) (drop (index + 1) reaches) ≡ whole
+  indices-seen to new true e added fresh = absurd (false≢true (sym fresh))
+  indices-seen to new false e added fresh =
+      ap (λ n. front ++ indices_from tnfa unit new n (drop (index + 1) reaches)) next_is
+      ∙ ap (λ s. front ++ rest s) added.1
+      ∙ ap (λ b. front ++ (if b then rest seen else index ∷ rest (to ∷ seen))) (sym (contains-is_among seen to added.0))
+      ∙ left_by (Some to) e
+
+  pub indices-left : behind ≡ None → front ++ indices_from tnfa unit seen (index + 1) (drop (index + 1) reaches) ≡ whole
+  indices-left e = ap (λ n. front ++ indices_from tnfa unit seen n (drop (index + 1) reaches)) next_is ∙ left_by None e

@@ -33,7 +33,7 @@ use Rattle.lx_tnfa.specs.declared.states.Event.{Event}
 use Rattle.lx_tnfa.specs.declared.states.Move.{Move}
 use Rattle.lx_tnfa.specs.declared.states.State.{State}
 use Rattle.lx_tnfa.specs.declared.states.State.TheVariants.{AnyUnit, Class, Moves}
-use Rattle.lx_tdfa.proofs.Tables.TableAutomata.{EndsAreOwned}
+use Rattle.lx_tdfa.proofs.Walks.ClosureSearches.{EndsAreOwned}
 use Rattle.lx_tdfa.specs.Steps.{Ending, ending_at, first_ending}
 
 -- the numbers of the rules of parts

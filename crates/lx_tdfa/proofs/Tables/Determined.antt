@@ -30,7 +30,7 @@ use Rattle.lx_tdfa.proofs.Rules.KeptRules.{rules_kept}
 use Rattle.lx_tdfa.proofs.WordKernels.ManyKernels.{many_found}
 use Rattle.lx_tdfa.proofs.Rules.OwnedEnds.{ends_are_owned}
 use Rattle.lx_tdfa.proofs.Walks.Searches.{searches_alike}
-use Rattle.lx_tdfa.proofs.Tables.TableAutomata.{table_auto}
+use Rattle.lx_tdfa.proofs.Tables.GreedyTables.{table_auto}
 use Rattle.lx_tdfa.proofs.Tables.TableKernels.{table-kernels}
 
 pub start_listed : (tnfa : Tnfa) → AreListed tnfa ((start_place ∷ []) ∷ [])
@@ -39,6 +39,7 @@ start_listed tnfa = record {
   start = refl;
   places = λ number list e. cc;
   within = record { few = omega arith; few_places = omega arith };
+  apart = λ i j d lt within. absurd (omega arith);
 }
 
 module _ (tnfa : Tnfa) (built : IsBuilt tnfa) where
@@ -88,6 +89,6 @@ module _ (tnfa : Tnfa) (built : IsBuilt tnfa) where
         → IsAutoOf enc patterns auto × (HasTooManyKernels enc (terms_of patterns) → ⊥)
     built-automaton kernels auto listed formed count states =
         let table = built-table kernels auto listed formed count states in (
-          table_auto enc patterns tnfa kernels auto of fits alike kept (ends_are_owned enc patterns tnfa of) table,
+          table_auto enc patterns tnfa of fits alike kept (ends_are_owned enc patterns tnfa of) kernels auto table,
           few_found enc patterns tnfa of fits alike kernels auto table listed.within.few listed.within.few_places,
         )

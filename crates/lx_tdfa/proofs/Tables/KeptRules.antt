@@ -1,11 +1,11 @@
 -- What stays within an automaton that fits the rules fits them.
-use Rattle.std.proofs.Common.{◌≡◌, ℕ, zero, suc, ◌+◌, ◌<◌, ◌≤◌, List, [], ◌∷◌, length, get_or, Option, Some, None, Bool, true, false, Contains, refl, sym, ap, ◌∙◌, subst, arith, nat_le, ◌&&◌}
+use Rattle.std.proofs.Common.{◌≡◌, ℕ, zero, suc, ◌+◌, ◌<◌, ◌≤◌, List, [], ◌∷◌, length, get_or, Option, Some, None, Bool, true, false, refl, sym, ap, ◌∙◌, subst, arith, nat_le, ◌&&◌}
 use Rattle.std.specs.Prelude.{All}
 use Rattle.std.proofs.lemmas.Bool.{le-leb, leb-true}
 use Rattle.std.proofs.lemmas.List.Elements.{All-contains, Contains-get_or}
 use Rattle.lx_base.specs.Spelling.{greatest_unit}
 use Rattle.lx_base.specs.declared.settings.Enc.{Enc}
-use Rattle.lx_auto.specs.Automaton.{AreApart, AreApartFrom, IsAuto, has_unit, state_of}
+use Rattle.lx_auto.specs.Automaton.{AreApartFrom, IsAuto, has_unit, state_of}
 use Rattle.lx_auto.specs.SameRun.{HasSameRun}
 use Rattle.lx_auto.specs.Shapes.{HasAcceptLike, HasEdgeOn, StaysWithin}
 use Rattle.lx_auto.specs.declared.automaton.Accept.{Accept}

@@ -2,7 +2,6 @@
 use Rattle.std.proofs.Common.{◌≡◌, ◌≢◌, ℕ, zero, suc, ◌+◌, ◌/◌, List, [], ◌∷◌, ◌++◌, map, length, Option, Some, None, Bool, true, false, slice_get, slice_index, option_map, refl, ap, ap₂, ◌∙◌, sym, subst, arith}
 use Rattle.std.proofs.lemmas.List.{map-append}
 use Rattle.std.proofs.lemmas.Option.{slice_get-map}
-use Rattle.lx_auto.specs.Automaton.{state_of}
 use Rattle.lx_auto.specs.Bank.{Bank, bank_after, read_all}
 use Rattle.lx_auto.specs.Run.{Standing, found_at, found_by, run, start_with}
 use Rattle.lx_auto.specs.Run as machine
@@ -14,7 +13,7 @@ use Rattle.lx_regex.specs.Automaton.{automaton}
 use Rattle.lx_regex.specs.Cut.{rule_part}
 use Rattle.lx_regex.specs.Least.{IsLeast}
 use Rattle.lx_regex.specs.Match.{Takes}
-use Rattle.lx_regex.specs.Order.{greedy}
+use Rattle.lx_regex.specs.Order.{Policy}
 use Rattle.lx_regex.specs.Pattern.{Pattern, sorts_of, terms_of, with_terms}
 use Rattle.lx_regex.specs.Script.{Symbol, script, units}
 use Rattle.lx_regex.specs.Term.{Term}
@@ -24,23 +23,23 @@ use Rattle.lx_tnfa.specs.DepthFirst.{Found}
 use Rattle.lx_tnfa.specs.LeafReadings.{IsNth}
 use Rattle.lx_tnfa.specs.Tnfa.{Tnfa}
 use Rattle.lx_tnfa.specs.declared.places.Place.{Place}
-use Rattle.lx_tdfa.specs.Accepts.{Accepts, IsAccepted, accept_after, none, some}
+use Rattle.lx_tdfa.specs.Accepts.{Accepts, IsAccepted, none, some}
 use Rattle.lx_tdfa.specs.Graph.{path_symbols}
-use Rattle.lx_tdfa.specs.Kernels.{Entry, kernel_after, places, rule_of}
+use Rattle.lx_tdfa.specs.Kernels.{Entry, places, rule_of}
 use Rattle.lx_tdfa.specs.Promise.{FindsBest, IsBest, tag_value}
 use Rattle.lx_tdfa.specs.Registers.{ending_ops, first_of, held_from, last_mark, kinds_of_rule, tag_ops, widest}
-use Rattle.lx_tdfa.specs.Steps.{Ending, first_ending}
-use Rattle.lx_tdfa.specs.Table.{IsStateOf, accept_of}
-use Rattle.lx_tdfa.specs.Values.{all_values_after, last_values_after, value_at}
-use Rattle.lx_tdfa.proofs.Walks.ClosureSearches.{AreEndsAlike, IsEndAlike, IsSource, end_from, events_of, last_state}
+use Rattle.lx_tdfa.specs.Steps.{Ending}
+use Rattle.lx_tdfa.specs.Table.{IsTableBy, Onward, accept_of}
+use Rattle.lx_tdfa.specs.Values.{value_at}
+use Rattle.lx_tdfa.proofs.Tables.Courses.{Course, IsHeldAt, KeepUp}
+use Rattle.lx_tdfa.proofs.Walks.ClosureSearches.{AreEndsAlike, IsEndAlike, IsSource, RulesKept, events_of, last_state}
 use Rattle.lx_tdfa.proofs.Values.HeldValues.{read_all-values}
-use Rattle.lx_tdfa.proofs.WordKernels.ProgramAccepts.{accept_after-accepts, all_accepted, last_accepted}
 use Rattle.lx_tdfa.proofs.Values.RegisterWrites.{mregs-alone, regs-alone}
-use Rattle.lx_tdfa.proofs.Values.StepHolds.{IsHeldAt, all_values-bare, last_values-bare}
+use Rattle.lx_tdfa.proofs.Values.StepHolds.{all-bare, last-bare}
 use Rattle.lx_tdfa.proofs.Values.StepOps.{ending_ops-alone, kinds_of_rule-widest}
 use Rattle.lx_tdfa.proofs.Values.StepValues.{source_value, value_at-source}
 use Rattle.lx_tdfa.proofs.Values.SymbolValues.{all_events-from, all_events-marks, from_start, last_event-from, last_event-marked, marked-from, marks-from}
-use Rattle.lx_tdfa.proofs.Tables.TableRuns.{IsGiven, Stands, contained, ending_held, ends_alike, stands-run, stands-start, state_at}
+use Rattle.lx_tdfa.proofs.Tables.TableRuns.{Goes, Stands, contained, stands-run, stands-start, state_at}
 use Rattle.lx_tdfa.proofs.Values.TagOps.{marked, marks, tag_ops-history, tag_ops-value}
 
 nth-place : (entries : List Entry) (from : ℕ) (entry : Entry) → IsNth entries from entry → value_at 0 (places entries) from ≡ entry.place
@@ -48,19 +47,23 @@ nth-place [] from entry nth = absurd nth
 nth-place (first ∷ entries) zero entry nth = ap (λ (e : Entry). e.place) nth
 nth-place (first ∷ entries) (suc from) entry nth = nth-place entries from entry nth
 
-module _ (enc : Enc) (patterns : List Pattern) (tnfa : Tnfa) (kernels : List (List Place)) (auto : Auto) (given : IsGiven enc patterns tnfa kernels auto)
-    (start : ℕ) (word : List ℕ) (behind : Standing) (stands : Stands tnfa (terms_of patterns) kernels start word behind) where
+module _ {policy : Policy} {enc : Enc} {patterns : List Pattern} {tnfa : Tnfa} {course : Course policy enc patterns tnfa} {K : Type 0}
+    {begin : K} {places_in : K → List Place} {GoesOn : (first : Bool) → K → Onward K → Type 0}
+    {IsAfter : (first : Bool) → K → (word : List ℕ) → Type 0} (keeps : KeepUp course begin places_in GoesOn IsAfter) {kernels : List K} {auto : Auto}
+    (table : IsTableBy begin GoesOn tnfa (greatest_unit enc) kernels auto)
+    (kept : RulesKept enc patterns tnfa) (start : ℕ) (word : List ℕ) (behind : Standing)
+    (stands : Stands course places_in IsAfter kernels start word behind) where
   abbrev rules : List Term
   rules = terms_of patterns
 
   abbrev numbers : List ℕ
-  numbers = places (kernel_after tnfa (terms_of patterns) word)
+  numbers = places (course.entries word)
 
   -- a way that was found is the walk of the first ending
-  module _ (ending : Ending) (held : IsHeldAt tnfa stands.first stands.kernel ending.from ending.rule)
-      (found : Found) (alike : IsEndAlike tnfa (terms_of patterns) stands.first (places (kernel_after tnfa (terms_of patterns) word)) found ending)
-      (from : ℕ) (way : List ℕ) (entry : Entry) (choices : found.choices ≡ from ∷ way) (nth : IsNth (kernel_after tnfa (terms_of patterns) word) from entry)
-      (accepted : IsAccepted enc (terms_of patterns) word (rule_of entry.keys) (entry.front ++ path_symbols (automaton (terms_of patterns)) entry.place way [])) where
+  module _ (ending : Ending) (held : IsHeldAt tnfa stands.first (places_in stands.kernel) ending.from ending.rule)
+      (found : Found) (alike : IsEndAlike tnfa (terms_of patterns) stands.first (places (course.entries word)) found ending)
+      (from : ℕ) (way : List ℕ) (entry : Entry) (choices : found.choices ≡ from ∷ way) (nth : IsNth (course.entries word) from entry)
+      (accepted : IsAccepted policy enc (terms_of patterns) word (rule_of entry.keys) (entry.front ++ path_symbols (automaton (terms_of patterns)) entry.place way [])) where
     abbrev path : List Symbol
     path = path_symbols (automaton (terms_of patterns)) entry.place way []
 
@@ -74,7 +77,7 @@ module _ (enc : Enc) (patterns : List Pattern) (tnfa : Tnfa) (kernels : List (Li
     way_same = let e : alike.from ∷ alike.way ≡ from ∷ way = sym alike.choices ∙ choices in cc e
 
     place_same : value_at 0 numbers alike.from ≡ entry.place
-    place_same = ap (value_at 0 numbers) from_same ∙ nth-place (kernel_after tnfa rules word) from entry nth
+    place_same = ap (value_at 0 numbers) from_same ∙ nth-place (course.entries word) from entry nth
 
     path_same : path_symbols (automaton rules) (value_at 0 numbers alike.from) alike.way [] ≡ path
     path_same = ap₂ (λ (p : ℕ) (w : List ℕ). path_symbols (automaton rules) p w []) place_same way_same
@@ -95,7 +98,7 @@ module _ (enc : Enc) (patterns : List Pattern) (tnfa : Tnfa) (kernels : List (Li
     of_rule : (pattern : Pattern) × (slice_get (with_terms patterns) (rule_of entry.keys) ≡ Some pattern)
         × (pattern.number ≡ slice_index tnfa.owners (last_state (automaton rules) entry.place way / 2))
     of_rule =
-        let r = given.kept.ending_rules (rule_of entry.keys) accepted.term accepted.tree entry.front entry.place way moves accepted.at accepted.says in
+        let r = kept.ending_rules (rule_of entry.keys) accepted.term accepted.tree entry.front entry.place way moves accepted.at accepted.says in
         (r.0, r.1, r.2)
 
     rule_is : ending.rule ≡ (of_rule.0).number
@@ -104,7 +107,7 @@ module _ (enc : Enc) (patterns : List Pattern) (tnfa : Tnfa) (kernels : List (Li
         ∙ ap₂ (λ (p : ℕ) (w : List ℕ). slice_index tnfa.owners (last_state (automaton rules) p w / 2)) place_same way_same ∙ sym of_rule.2
 
     kinds_are : kinds_of_rule tnfa ending.rule ≡ sorts_of of_rule.0
-    kinds_are = ap (kinds_of_rule tnfa) rule_is ∙ given.kept.kinds of_rule.0 (contained (with_terms patterns) (rule_of entry.keys) of_rule.0 of_rule.1)
+    kinds_are = ap (kinds_of_rule tnfa) rule_is ∙ kept.kinds of_rule.0 (contained (with_terms patterns) (rule_of entry.keys) of_rule.0 of_rule.1)
 
     term_is : (of_rule.0).term ≡ accepted.term
     term_is =
@@ -121,7 +124,7 @@ module _ (enc : Enc) (patterns : List Pattern) (tnfa : Tnfa) (kernels : List (Li
     found_value t kind =
         let from_reg : ℕ = first_of (widest tnfa.rules) ending.from + t in
         let mark : Option Bool = last_mark t ending.events None in
-        let before : List (Option ℕ) = last_values_after tnfa rules word t in
+        let before : List (Option ℕ) = course.last word t in
         let kept : Option ℕ = source_value None stands.first before ending.from in
         let value : Option ℕ = value_at None before from in
         let read : (bank_after behind.offset ops behind.bank).regs t ≡ from_start start (marked (length word) mark kept) =
@@ -133,17 +136,17 @@ module _ (enc : Enc) (patterns : List Pattern) (tnfa : Tnfa) (kernels : List (Li
         let z : start ≡ start + 0 = omega arith in
         let said : last_event t start None whole ≡ from_start start (marked (length word) mark kept) =
         ap (λ n. last_event t n None whole) z ∙ last_event-from start t 0 None whole
-        ∙ ap (from_start start) (last_accepted enc patterns tnfa given.of given.fits word t from way entry nth accepted
+        ∙ ap (from_start start) (ap (last_event t 0 None) accepted.says ∙ course.last_kept word t from entry path nth
         ∙ last_event-marked t (length word) path value None silent
         ∙ ap₂ (λ (l : List _) (v : Option ℕ). marked (length word) (last_mark t l None) v) events
-        (value_at-source None stands.first before from ending.from (last_values-bare tnfa rules stands.first word t stands.empty) source)) in
+        (value_at-source None stands.first before from ending.from (last-bare course stands.first word t stands.empty) source)) in
         read ∙ sym said
 
     found_history : (t : ℕ) → slice_get (kinds_of_rule tnfa ending.rule) t ≡ Some true
         → (bank_after behind.offset ops behind.bank).mregs (suc t) ≡ all_events t start whole
     found_history t kind =
         let from_reg : ℕ = first_of (widest tnfa.rules) ending.from + t in
-        let before : List (List (Option ℕ)) = all_values_after tnfa rules word t in
+        let before : List (List (Option ℕ)) = course.all word t in
         let kept : List (Option ℕ) = source_value [] stands.first before ending.from in
         let more : List (Option ℕ) = marks (length word) t ending.events in
         let read : (bank_after behind.offset ops behind.bank).mregs (suc t) ≡ map (from_start start) (kept ++ more) =
@@ -156,9 +159,9 @@ module _ (enc : Enc) (patterns : List Pattern) (tnfa : Tnfa) (kernels : List (Li
         let z : start ≡ start + 0 = omega arith in
         let said : all_events t start whole ≡ map (from_start start) (kept ++ more) =
         ap (λ n. all_events t n whole) z ∙ all_events-from start t 0 whole
-        ∙ ap (map (from_start start)) (all_accepted enc patterns tnfa given.of given.fits word t from way entry nth accepted
+        ∙ ap (map (from_start start)) (ap (all_events t 0) accepted.says ∙ course.all_kept word t from entry path nth
         ∙ ap₂ (λ (a b : List (Option ℕ)). a ++ b)
-        (value_at-source [] stands.first before from ending.from (all_values-bare tnfa rules stands.first word t stands.empty) source)
+        (value_at-source [] stands.first before from ending.from (all-bare course stands.first word t stands.empty) source)
         (all_events-marks t (length word) path silent ∙ ap (marks (length word) t) events)) in
         read ∙ sym said
 
@@ -177,13 +180,13 @@ module _ (enc : Enc) (patterns : List Pattern) (tnfa : Tnfa) (kernels : List (Li
         ∙ ap (values_of start whole 0) kinds_are
 
     best_by : (term : Term) → (of_rule.0).term ≡ term → (tree : Tree term)
-        → IsLeast greedy enc (rule_part rules (rule_of entry.keys)) term word tree
+        → IsLeast policy enc (rule_part rules (rule_of entry.keys)) term word tree
         → map tag_value match.values ≡ values_of start (script enc (rule_part rules (rule_of entry.keys)) tree) 0 (sorts_of of_rule.0)
-        → IsBest greedy enc patterns start word match
+        → IsBest policy enc patterns start word match
     best_by term is =
-        subst (λ (x : Term). (tree : Tree x) → IsLeast greedy enc (rule_part rules (rule_of entry.keys)) x word tree
+        subst (λ (x : Term). (tree : Tree x) → IsLeast policy enc (rule_part rules (rule_of entry.keys)) x word tree
         → map tag_value match.values ≡ values_of start (script enc (rule_part rules (rule_of entry.keys)) tree) 0 (sorts_of of_rule.0)
-        → IsBest greedy enc patterns start word match) is
+        → IsBest policy enc patterns start word match) is
         (λ tree least values. record {
           place = rule_of entry.keys;
           pattern = of_rule.0;
@@ -200,7 +203,7 @@ module _ (enc : Enc) (patterns : List Pattern) (tnfa : Tnfa) (kernels : List (Li
         term_at place pattern at =
             slice_get-map (λ (pattern : Pattern). pattern.term) (with_terms patterns) place ∙ ap (option_map (λ (pattern : Pattern). pattern.term)) at
 
-    is_best : IsBest greedy enc patterns start word match
+    is_best : IsBest policy enc patterns start word match
     is_best = best_by accepted.term term_is accepted.tree accepted.least values_are
 
   none_taken : ((rule : ℕ) (e : Term) → slice_get rules rule ≡ Some e → (tree : Tree e) × (units (script enc (rule_part rules rule) tree) ≡ word) → ⊥)
@@ -211,31 +214,30 @@ module _ (enc : Enc) (patterns : List Pattern) (tnfa : Tnfa) (kernels : List (Li
       takes.2
 
   best_of : (ending : Option Ending) (found : Option Found)
-      → ((e : Ending) → ending ≡ Some e → IsHeldAt tnfa stands.first stands.kernel e.from e.rule)
-      → AreEndsAlike tnfa rules stands.first numbers found ending → Accepts enc rules word (kernel_after tnfa rules word) found
-      → FindsBest greedy enc patterns start word (found_by (accept_of tnfa stands.first ending) behind)
+      → ((e : Ending) → ending ≡ Some e → IsHeldAt tnfa stands.first (places_in stands.kernel) e.from e.rule)
+      → AreEndsAlike tnfa rules stands.first numbers found ending → Accepts policy enc rules word (course.entries word) found
+      → FindsBest policy enc patterns start word (found_by (accept_of tnfa stands.first ending) behind)
   best_of None None held alike (none not) = none_taken not
   best_of None (Some found) held alike accepts = absurd alike
   best_of (Some ending) None held alike accepts = absurd alike
   best_of (Some ending) (Some found) held alike (some other from way entry choices nth accepted) =
       is_best ending (held ending refl) found alike from way entry choices nth accepted
 
-  stands-best : FindsBest greedy enc patterns start word (found_at auto behind)
+  stands-best : FindsBest policy enc patterns start word (found_at auto behind)
   stands-best =
-      let is : IsStateOf tnfa (greatest_unit enc) kernels stands.first stands.kernel (state_of auto.states behind.state) =
-      state_at enc patterns tnfa kernels auto given start word behind stands in
-      let alike : AreEndsAlike tnfa rules stands.first numbers (accept_after tnfa rules word) (first_ending is.reaches) =
-      subst (λ ns. AreEndsAlike tnfa rules stands.first ns (end_from rules ns) (first_ending is.reaches)) stands.numbers
-      (ends_alike enc patterns tnfa kernels auto given stands.first behind.state stands.kernel is.reaches stands.is stands.at is.closure) in
-      subst (λ a. FindsBest greedy enc patterns start word (found_by a behind)) (sym is.accept)
-      (best_of (first_ending is.reaches) (accept_after tnfa rules word)
-      (λ e same. ending_held enc patterns tnfa kernels auto given stands.first behind.state stands.kernel is.reaches e stands.is stands.at is.closure same)
-      alike (accept_after-accepts enc patterns tnfa given.of given.fits word))
+      let goes : Goes keeps table behind.state stands.first stands.kernel = state_at keeps table start word behind stands in
+      subst (λ a. FindsBest policy enc patterns start word (found_by a behind)) (sym goes.is.accept)
+      (best_of goes.onward.ending (course.accept word)
+      (λ e same. keeps.ending_held stands.first stands.kernel goes.onward e goes.goes same)
+      (keeps.ends_alike stands.first stands.kernel word goes.onward stands.after goes.goes) (course.accepts word))
 
-pub table-best : (enc : Enc) (patterns : List Pattern) (tnfa : Tnfa) (kernels : List (List Place)) (auto : Auto) (given : IsGiven enc patterns tnfa kernels auto)
-    (start : ℕ) (bank : Bank) (word : List ℕ) (behind : Standing) → bank.mregs 0 ≡ [] → run auto (start_with start bank) word ≡ Some behind
-    → FindsBest greedy enc patterns start word (found_at auto behind)
-table-best enc patterns tnfa kernels auto given start bank word behind empty ran =
-    stands-best enc patterns tnfa kernels auto given start word behind
-    (stands-run enc patterns tnfa kernels auto given start word [] (start_with start bank) behind
-    (stands-start enc patterns tnfa kernels auto given start bank empty) ran)
+module _ {policy : Policy} {enc : Enc} {patterns : List Pattern} {tnfa : Tnfa} {course : Course policy enc patterns tnfa} {K : Type 0}
+    {begin : K} {places_in : K → List Place} {GoesOn : (first : Bool) → K → Onward K → Type 0}
+    {IsAfter : (first : Bool) → K → (word : List ℕ) → Type 0} (keeps : KeepUp course begin places_in GoesOn IsAfter) {kernels : List K} {auto : Auto}
+    (table : IsTableBy begin GoesOn tnfa (greatest_unit enc) kernels auto)
+    (kept : RulesKept enc patterns tnfa) where
+  pub table-best : (start : ℕ) (bank : Bank) (word : List ℕ) (behind : Standing) → bank.mregs 0 ≡ []
+      → run auto (start_with start bank) word ≡ Some behind → FindsBest policy enc patterns start word (found_at auto behind)
+  table-best start bank word behind empty ran =
+      stands-best keeps table kept start word behind
+      (stands-run keeps table start word [] (start_with start bank) behind (stands-start keeps table start bank empty) ran)

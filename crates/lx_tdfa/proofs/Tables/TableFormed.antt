@@ -17,7 +17,7 @@ use Rattle.lx_tdfa.specs.Building.{AreStatesOf, greatest_of}
 use Rattle.lx_tdfa.specs.Making.{IsWithin, most_places}
 use Rattle.lx_tdfa.specs.Registers.{widest}
 use Rattle.lx_tdfa.specs.Steps.{Ending, Step, first_ending, next_steps, places_of, start_place, step_on}
-use Rattle.lx_tdfa.specs.Table.{IsEdgeOf, IsStateOf, accept_of, is_first, leave_of}
+use Rattle.lx_tdfa.specs.Table.{IsEdgeOf, IsStateBy, IsStateOf, Onward, accept_of, is_first, leave_of, onward_by}
 use Rattle.lx_tdfa.proofs.Loops.EdgesMade.{steps_from}
 use Rattle.lx_tdfa.proofs.Loops.OpBounds.{ending_ops-bound, step_ops-bound, values-bound}
 use Rattle.lx_tdfa.proofs.Loops.StatesMade.{closure_sources, first_ending-source}
@@ -26,13 +26,13 @@ use Rattle.lx_tdfa.proofs.Rules.StepPlaces.{first_steps-each}
 use Rattle.lx_tdfa.proofs.Tables.TableBounds.{most_places-sum}
 
 -- no list has more places than the most, and that is no more than all together
-length-most : (lists : List (List Place)) (number : ℕ) (list : List Place) → slice_get lists number ≡ Some list → length list ≤ most_places lists
+pub length-most : {P : Type 0} (lists : List (List P)) (number : ℕ) (list : List P) → slice_get lists number ≡ Some list → length list ≤ most_places lists
 length-most [] number list e = cc
 length-most (other ∷ lists) zero list e =
-    let same : length other ≡ length list = ap (λ (l : List Place). length l) (let q : other ≡ list = cc in q) in omega (arith, same)
+    let same : length other ≡ length list = ap (λ l. length l) (let q : other ≡ list = cc in q) in omega (arith, same)
 length-most (other ∷ lists) (suc number) list e = let r : length list ≤ most_places lists = length-most lists number list e in omega (arith, r)
 
-places_of-length : (steps : List Step) → length (places_of steps) ≡ length steps
+pub places_of-length : (steps : List Step) → length (places_of steps) ≡ length steps
 places_of-length [] = refl
 places_of-length (step ∷ steps) = let r : length (places_of steps) ≡ length steps = places_of-length steps in omega (arith, r)
 
@@ -60,73 +60,65 @@ states-from_each regs mregs count [] each = tt
 states-from_each regs mregs count (state ∷ states) each =
     (each 0 state refl, states-from_each regs mregs count states (λ number other e. each (suc number) other e))
 
--- a state of a table, by the registers of the table's lists
-module _ (tnfa : Tnfa) (kernels : List (List Place)) (regs mregs : ℕ) (regs_are : regs ≡ (most_places kernels + 1) * widest tnfa.rules)
-    (mregs_are : mregs ≡ regs + 1) where
-  edge_formed : (first : Bool) (edge : Edge) (steps : List Step) → Each (λ (step : Step). step.from < most_places kernels) steps
-      → IsEdgeOf tnfa kernels first steps (Some edge) → (edge.to < length kernels) × AreOps regs mregs edge.ops
-  edge_formed first edge [] each is = absurd is
-  edge_formed first edge (step ∷ steps) each is =
-      let long : length (places_of (step ∷ steps)) ≤ most_places kernels = length-most kernels edge.to (places_of (step ∷ steps)) is.0 in
-      let same : length (places_of (step ∷ steps)) ≡ length (step ∷ steps) = places_of-length (step ∷ steps) in
-      let few : 0 + length (step ∷ steps) ≤ most_places kernels = omega (arith, long, same) in (
-        slice_get_within kernels edge.to (places_of (step ∷ steps)) is.0,
-        subst (AreOps regs mregs) (sym is.1)
-            (step_ops-bound regs mregs mregs_are tnfa (widest tnfa.rules) (most_places kernels) (kinds_of_rule-widest tnfa) regs_are first 0 (step ∷ steps) each few),
-      )
-
-  accept_formed : (first : Bool) (ending : Option Ending) → ((e : Ending) → ending ≡ Some e → e.from < most_places kernels)
+-- a state of a table, by the registers for so many places
+module _ (tnfa : Tnfa) (most regs mregs : ℕ) (regs_are : regs ≡ (most + 1) * widest tnfa.rules) (mregs_are : mregs ≡ regs + 1) where
+  accept_formed : (first : Bool) (ending : Option Ending) → ((e : Ending) → ending ≡ Some e → e.from < most)
       → IsAccept regs mregs (accept_of tnfa first ending)
   accept_formed first None from = tt
   accept_formed first (Some ending) from = (
-    ending_ops-bound regs mregs mregs_are tnfa (widest tnfa.rules) (most_places kernels) (kinds_of_rule-widest tnfa) regs_are first ending (from ending refl),
-    values-bound regs mregs mregs_are tnfa (widest tnfa.rules) (most_places kernels) (kinds_of_rule-widest tnfa) regs_are ending.rule,
+    ending_ops-bound regs mregs mregs_are tnfa (widest tnfa.rules) most (kinds_of_rule-widest tnfa) regs_are first ending (from ending refl),
+    values-bound regs mregs mregs_are tnfa (widest tnfa.rules) most (kinds_of_rule-widest tnfa) regs_are ending.rule,
   )
 
-  leave_formed : (first : Bool) (ending : Option Ending) → ((e : Ending) → ending ≡ Some e → e.from < most_places kernels)
+  leave_formed : (first : Bool) (ending : Option Ending) → ((e : Ending) → ending ≡ Some e → e.from < most)
       → AreOps regs mregs (leave_of tnfa first ending)
   leave_formed first None from = tt
   leave_formed first (Some ending) from =
-      ending_ops-bound regs mregs mregs_are tnfa (widest tnfa.rules) (most_places kernels) (kinds_of_rule-widest tnfa) regs_are first ending (from ending refl)
+      ending_ops-bound regs mregs mregs_are tnfa (widest tnfa.rules) most (kinds_of_rule-widest tnfa) regs_are first ending (from ending refl)
 
-  pub state_formed : (greatest : ℕ) (first : Bool) (list : List Place) (state : State) → length list ≤ most_places kernels
-      → IsStateOf tnfa greatest kernels first list state → AreApartFrom 0 state.edges → IsState regs mregs (length kernels) state
-  state_formed greatest first list state few is apart = record {
-    apart = apart;
-    lead =
-        lead-from_on regs mregs (length kernels) greatest 0 state.edges apart
-        (Each-from_all (λ (edge : Edge). edge.hi ≤ greatest) state.edges is.units) on;
-    accept = subst (IsAccept regs mregs) (sym is.accept) (accept_formed first (first_ending is.reaches) ending);
-    leave = subst (AreOps regs mregs) (sym is.leave) (leave_formed first (first_ending is.reaches) ending);
-  }
-    where
-      sources : Each (λ (reach : Reach). reach.from < most_places kernels) is.reaches
-      sources =
-          Each-from_all (λ (reach : Reach). reach.from < most_places kernels) is.reaches
-          (closure_sources tnfa (most_places kernels) list is.reaches is.closure few)
+  module _ {K : Type 0} (kernels : List K) (size : K → ℕ)
+      (bounded : (number : ℕ) (kernel : K) → slice_get kernels number ≡ Some kernel → size kernel ≤ most) where
+    edge_formed : (first : Bool) (edge : Edge) (steps : List Step) (next : K) → Each (λ (step : Step). step.from < most) steps
+        → size next ≡ length steps → IsEdgeOf tnfa kernels first steps next (Some edge) → (edge.to < length kernels) × AreOps regs mregs edge.ops
+    edge_formed first edge [] next each sized is = absurd is
+    edge_formed first edge (step ∷ steps) next each sized is =
+        let long : size next ≤ most = bounded edge.to next is.0 in
+        let few : 0 + length (step ∷ steps) ≤ most = omega (arith, long, sized) in (
+          slice_get_within kernels edge.to next is.0,
+          subst (AreOps regs mregs) (sym is.1)
+              (step_ops-bound regs mregs mregs_are tnfa (widest tnfa.rules) most (kinds_of_rule-widest tnfa) regs_are first 0 (step ∷ steps) each few),
+        )
 
-      ending : (e : Ending) → first_ending is.reaches ≡ Some e → e.from < most_places kernels
-      ending e at = first_ending-source (most_places kernels) is.reaches sources e at
+    pub state-formed : (greatest : ℕ) (first : Bool) (onward : Onward K) (state : State)
+        → ((unit : ℕ) → Each (λ (step : Step). step.from < most) (onward.steps unit))
+        → ((unit : ℕ) → size (onward.next unit) ≡ length (onward.steps unit))
+        → ((e : Ending) → onward.ending ≡ Some e → e.from < most)
+        → IsStateBy tnfa greatest kernels first onward state → AreApartFrom 0 state.edges → IsState regs mregs (length kernels) state
+    state-formed greatest first onward state sources sized ending is apart = record {
+      apart = apart;
+      lead =
+          lead-from_on regs mregs (length kernels) greatest 0 state.edges apart
+          (Each-from_all (λ (edge : Edge). edge.hi ≤ greatest) state.edges is.units) on;
+      accept = subst (IsAccept regs mregs) (sym is.accept) (accept_formed first onward.ending ending);
+      leave = subst (AreOps regs mregs) (sym is.leave) (leave_formed first onward.ending ending);
+    }
+      where
+        on : (unit : ℕ) (edge : Edge) → 0 ≤ unit → unit ≤ greatest → edge_on state.edges unit ≡ Some edge
+            → (edge.to < length kernels) × AreOps regs mregs edge.ops
+        on unit edge low le e =
+            edge_formed first edge (onward.steps unit) (onward.next unit) (sources unit) (sized unit)
+            (subst (IsEdgeOf tnfa kernels first (onward.steps unit) (onward.next unit)) e (is.edges unit le))
 
-      on : (unit : ℕ) (edge : Edge) → 0 ≤ unit → unit ≤ greatest → edge_on state.edges unit ≡ Some edge
-          → (edge.to < length kernels) × AreOps regs mregs edge.ops
-      on unit edge low le e =
-          edge_formed first edge (next_steps tnfa unit is.reaches)
-          (first_steps-each (λ (step : Step). step.from < most_places kernels) [] (filter_map (step_on tnfa unit) is.reaches)
-          (steps_from (λ from. from < most_places kernels) tnfa unit is.reaches sources))
-          (subst (IsEdgeOf tnfa kernels first (next_steps tnfa unit is.reaches)) e (is.edges unit le))
-
--- the automaton of a table, with its registers, is well formed
-pub table_formed : (tnfa : Tnfa) (kernels : List (List Place)) (auto : Auto)
-    → auto.regs ≡ (most_places kernels + 1) * widest tnfa.rules → auto.mregs ≡ auto.regs + 1 → widest tnfa.rules ≤ 130 → IsWithin kernels
-    → slice_get kernels 0 ≡ Some (start_place ∷ []) → length auto.states ≡ length kernels → AreStatesOf tnfa kernels auto.states → IsAuto auto
-table_formed tnfa kernels auto regs mregs narrow within start lengths states =
-    let some : 0 < length kernels = slice_get_within kernels 0 (start_place ∷ []) start in
-    let few : length kernels ≤ 4096 = within.few in
-    let places : sum_by length kernels ≤ 1048576 = within.few_places in
-    let most : most_places kernels ≤ sum_by length kernels = most_places-sum kernels in
-    let le : (most_places kernels + 1) * widest tnfa.rules ≤ 1048577 * 130 =
-    mul-le-mul {n₁ = most_places kernels + 1} {m₁ = widest tnfa.rules} {n₂ = 1048577} {m₂ = 130} (omega arith) narrow in
+-- an automaton of formed states, with registers for so many places, is well formed
+pub auto-formed : {K : Type 0} (tnfa : Tnfa) (most : ℕ) (kernels : List K) (begin : K) (auto : Auto)
+    → auto.regs ≡ (most + 1) * widest tnfa.rules → auto.mregs ≡ auto.regs + 1 → widest tnfa.rules ≤ 130 → length kernels ≤ 4096 → most ≤ 1048576
+    → slice_get kernels 0 ≡ Some begin → length auto.states ≡ length kernels
+    → ((number : ℕ) (kernel : K) (state : State) → slice_get kernels number ≡ Some kernel → slice_get auto.states number ≡ Some state
+    → IsState auto.regs auto.mregs (length kernels) state) → IsAuto auto
+auto-formed {K} tnfa most kernels begin auto regs mregs narrow few small start lengths states =
+    let some : 0 < length kernels = slice_get_within kernels 0 begin start in
+    let le : (most + 1) * widest tnfa.rules ≤ 1048577 * 130 =
+    mul-le-mul {n₁ = most + 1} {m₁ = widest tnfa.rules} {n₂ = 1048577} {m₂ = 130} (omega arith) narrow in
     record {
       start = omega arith;
       few = omega arith;
@@ -135,16 +127,45 @@ table_formed tnfa kernels auto regs mregs narrow within start lengths states =
       states = states-from_each auto.regs auto.mregs (length auto.states) auto.states formed;
     }
   where
-    at : (number : ℕ) (list : List Place) (state : State) → slice_get kernels number ≡ Some list → slice_get auto.states number ≡ Some state
-        → IsState auto.regs auto.mregs (length kernels) state
-    at number list state listed there =
-        state_formed tnfa kernels auto.regs auto.mregs regs mregs (greatest_of tnfa) (is_first number) list state
-        (length-most kernels number list listed) (states number list state listed there).0 (states number list state listed there).1
-
     formed : (number : ℕ) (state : State) → slice_get auto.states number ≡ Some state
         → IsState auto.regs auto.mregs (length auto.states) state
     formed number state there =
         let among : number < length auto.states = slice_get_within auto.states number state there in
         let here : number < length kernels = omega (arith, among, lengths) in
         subst (λ count. IsState auto.regs auto.mregs count state) (sym lengths)
-        (at number (get_or kernels number []) state (slice_get-get_or kernels number [] here) there)
+        (states number (get_or kernels number begin) state (slice_get-get_or kernels number begin here) there)
+
+-- a state of a list of places
+state_of_list-formed : (tnfa : Tnfa) (kernels : List (List Place)) (regs mregs : ℕ) → regs ≡ (most_places kernels + 1) * widest tnfa.rules
+    → mregs ≡ regs + 1 → (greatest : ℕ) (first : Bool) (list : List Place) (state : State) → length list ≤ most_places kernels
+    → IsStateOf tnfa greatest kernels first list state → AreApartFrom 0 state.edges → IsState regs mregs (length kernels) state
+state_of_list-formed tnfa kernels regs mregs regs_are mregs_are greatest first list state few is apart =
+    state-formed tnfa (most_places kernels) regs mregs regs_are mregs_are kernels (λ (l : List Place). length l) (length-most kernels) greatest first
+    (onward_by tnfa is.reaches) state steps (λ unit. places_of-length (next_steps tnfa unit is.reaches)) ending is.is apart
+  where
+    sources : Each (λ (reach : Reach). reach.from < most_places kernels) is.reaches
+    sources =
+        Each-from_all (λ (reach : Reach). reach.from < most_places kernels) is.reaches
+        (closure_sources tnfa (most_places kernels) list is.reaches is.closure few)
+
+    ending : (e : Ending) → first_ending is.reaches ≡ Some e → e.from < most_places kernels
+    ending e at = first_ending-source (most_places kernels) is.reaches sources e at
+
+    steps : (unit : ℕ) → Each (λ (step : Step). step.from < most_places kernels) (next_steps tnfa unit is.reaches)
+    steps unit =
+        first_steps-each (λ (step : Step). step.from < most_places kernels) [] (filter_map (step_on tnfa unit) is.reaches)
+        (steps_from (λ from. from < most_places kernels) tnfa unit is.reaches sources)
+
+-- the automaton of a table of lists of places, with its registers, is well formed
+pub table_formed : (tnfa : Tnfa) (kernels : List (List Place)) (auto : Auto)
+    → auto.regs ≡ (most_places kernels + 1) * widest tnfa.rules → auto.mregs ≡ auto.regs + 1 → widest tnfa.rules ≤ 130 → IsWithin kernels
+    → slice_get kernels 0 ≡ Some (start_place ∷ []) → length auto.states ≡ length kernels → AreStatesOf tnfa kernels auto.states → IsAuto auto
+table_formed tnfa kernels auto regs mregs narrow within start lengths states =
+    let places : sum_by length kernels ≤ 1048576 = within.few_places in
+    let most : most_places kernels ≤ sum_by length kernels = most_places-sum kernels in
+    let small : most_places kernels ≤ 1048576 = omega (arith, places, most) in
+    let few : length kernels ≤ 4096 = within.few in
+    auto-formed tnfa (most_places kernels) kernels (start_place ∷ []) auto regs mregs narrow few small start lengths
+    (λ number list state listed there.
+    state_of_list-formed tnfa kernels auto.regs auto.mregs regs mregs (greatest_of tnfa) (is_first number) list state
+    (length-most kernels number list listed) (states number list state listed there).0 (states number list state listed there).1)

@@ -2,7 +2,7 @@
 use Rattle.std.proofs.Common.{ap, sym, ◌∙◌, subst, inl, inr, ⊎_elim, arith}
 use Rattle.std.proofs.lemmas.Option.{get_or_from_slice_get}
 use Rattle.std.specs.Prelude.{◌≡◌, ◌≢◌, ℕ, zero, suc, ◌<◌, ◌≤◌, ◌⊎◌, List, [], ◌∷◌, ◌++◌, map, length, reverse, Option, Some, None, Bool, true, false, All, slice_get, refl}
-use Rattle.lx_auto.specs.Automaton.{edge_on, state_of}
+use Rattle.lx_auto.specs.Automaton.{edge_on}
 use Rattle.lx_auto.specs.declared.automaton.Auto.{Auto}
 use Rattle.lx_auto.specs.declared.automaton.Edge.{Edge}
 use Rattle.lx_auto.specs.declared.automaton.State.{State}
@@ -68,7 +68,7 @@ module _ (enc : Enc) (patterns : List Pattern) (tnfa : Tnfa) (of : IsTnfaOf enc 
   places_at word = places (kernel_after tnfa (terms_of patterns) word)
 
   -- where an edge leads
-  edge_leads : (word : List ℕ) (unit : ℕ) (first : Bool) (steps : List Step) (edge : Option Edge) → IsEdgeOf tnfa kernels first steps edge
+  edge_leads : (word : List ℕ) (unit : ℕ) (first : Bool) (steps : List Step) (edge : Option Edge) → IsEdgeOf tnfa kernels first steps (places_of steps) edge
       → map (number_of tnfa) (places_of steps) ≡ places_at (word ++ unit ∷ []) → Each (λ (step : Step). IsInLeaf tnfa step.to) steps
       → Leads enc patterns tnfa kernels (word ++ unit ∷ []) (target_of edge)
   edge_leads word unit first [] None is same leaves = inl (refl, sym same)
@@ -114,7 +114,7 @@ module _ (enc : Enc) (patterns : List Pattern) (tnfa : Tnfa) (of : IsTnfaOf enc 
       let is = table.states 0 (start_place ∷ []) state.0 here state.1 in
       let start : All (IsPlace tnfa) (start_place ∷ []) = All-from_each (IsPlace tnfa) (start_place ∷ []) (start_place-place enc patterns tnfa of, tt) in
       by_state (unit ∷ []) unit 0 state.0 state.1
-      (edge_leads [] unit true (next_steps tnfa unit is.reaches) (edge_on state.0.edges unit) (is.edges unit le)
+      (edge_leads [] unit true (next_steps tnfa unit is.reaches) (edge_on state.0.edges unit) (is.is.edges unit le)
       (first_numbers enc patterns tnfa of alike is.reaches unit is.closure)
       (next_steps-in_leaf enc patterns tnfa of (start_place ∷ []) is.reaches unit start is.closure))
   table_on word unit index kernel le here (at_word w number k some same) =
@@ -122,7 +122,7 @@ module _ (enc : Enc) (patterns : List Pattern) (tnfa : Tnfa) (of : IsTnfaOf enc 
       let is = table.states (suc number) kernel state.0 here state.1 in
       let leaves = table.places number kernel here in
       by_state (word ++ unit ∷ []) unit (suc number) state.0 state.1
-      (edge_leads word unit false (next_steps tnfa unit is.reaches) (edge_on state.0.edges unit) (is.edges unit le)
+      (edge_leads word unit false (next_steps tnfa unit is.reaches) (edge_on state.0.edges unit) (is.is.edges unit le)
       (numbers_on enc patterns tnfa of alike kernel is.reaches word unit leaves is.closure same)
       (next_steps-in_leaf enc patterns tnfa of kernel is.reaches unit (λ k d lt. (leaves k d lt).0) is.closure))
 

@@ -105,6 +105,12 @@ pub record SearchesAlike (patterns : List Pattern) (tnfa : Tnfa) : Type 0 where
       → AreEndsAlike tnfa (terms_of patterns) true (rule_starts (terms_of patterns))
       (end_from (terms_of patterns) (rule_starts (terms_of patterns))) (first_ending reaches)
 
+-- the first ending from any list of places is that of a rule of the list
+abbrev pub EndsAreOwned : List Pattern → Tnfa → Type 0
+EndsAreOwned patterns tnfa =
+    (kernel : List Place) (reaches : List Reach) (ending : Ending) → IsClosureOf tnfa kernel reaches → first_ending reaches ≡ Some ending
+    → (pattern : Pattern) × Contains (with_terms patterns) pattern × (pattern.number ≡ ending.rule)
+
 -- walks stay in their rules, and numbers tell places apart
 pub record RulesKept (enc : Enc) (patterns : List Pattern) (tnfa : Tnfa) : Type 0 where
   pub numbers : (place other : Place) → IsInLeaf tnfa place → IsInLeaf tnfa other → number_of tnfa place ≡ number_of tnfa other → place ≡ other

@@ -1,11 +1,11 @@
 -- The starts of a leaf are listed in their order, and those that a unit leads on from keep their order.
-use Rattle.std.proofs.Common.{◌≡◌, ℕ, zero, suc, ◌<◌, ◌≤◌, inl, inr, arith, Bool, true, false, List, [], ◌∷◌, length, refl, sym, ap, ◌∙◌, subst, Some, None, ⊎_elim}
-use Rattle.std.proofs.lemmas.Bool.{false≢true, leb-true, or_cases}
+use Rattle.std.proofs.Common.{◌≡◌, ℕ, zero, suc, ◌<◌, arith, Bool, true, false, List, [], ◌∷◌, length, refl, sym, ap, ◌∙◌, subst, Some, None, ⊎_elim}
+use Rattle.std.proofs.lemmas.Bool.{false≢true}
 use Rattle.std.specs.List.{cons_option}
-use Rattle.std.specs.Prelude.{Option, filter_map, max, min, nat_le, if◌then◌else◌}
+use Rattle.std.specs.Prelude.{Option, filter_map, if◌then◌else◌}
 use Rattle.lx_base.specs.declared.settings.Enc.{Enc}
 use Rattle.lx_class.specs.declared.ranges.Range.{Range}
-use Rattle.lx_encode.specs.Graph.{AreStarts, IsStart}
+use Rattle.lx_encode.specs.Graph.{AreStarts}
 use Rattle.lx_encode.specs.Table.{Finishes, Rows}
 use Rattle.lx_encode.specs.declared.graph.Residual.{Residual}
 use Rattle.lx_regex.specs.Expr.{ranges_of}

@@ -9,6 +9,7 @@ use Rattle.lx_regex.specs.Cut.{rule_part}
 use Rattle.lx_regex.specs.Dictionary.{IsBefore}
 use Rattle.lx_regex.specs.Plain.{IsPlain}
 use Rattle.lx_regex.specs.Reading.{IsReading, of_point, of_unit}
+use Rattle.lx_regex.specs.Order.{greedy}
 use Rattle.lx_regex.specs.Script.{Symbol, begins, choices, ends, leaf_choice, picks, reads, script, sets, units, unsets}
 use Rattle.lx_regex.specs.Term.{Term}
 use Rattle.lx_regex.specs.Tree.{Tree}
@@ -227,12 +228,12 @@ module _ (enc : Enc) (rules : List Term) (after : ℕ → ℕ → List ℕ) (add
   -- the first end is accepted
   pub accepts_right : (w : List ℕ) (es : List Entry)
       → AreFirstRuns (graph_of (automaton rules)) after (segment_symbols rules added) (rule_starts rules) w es
-      → Accepts enc rules (forwards w) es (first_end (graph_of (automaton rules)) (0 ∷ []) es)
+      → Accepts greedy enc rules (forwards w) es (first_end (graph_of (automaton rules)) (0 ∷ []) es)
   accepts_right w es K = go (first_end (graph_of (automaton rules)) (0 ∷ []) es) (first_end-is (graph_of (automaton rules)) after (segment_symbols rules added) (rule_starts rules) (0 ∷ []) w es K)
     where
       go : (o : Option Found)
           → IsFirstEnd (graph_of (automaton rules)) after (segment_symbols rules added) (rule_starts rules) (0 ∷ []) w es o
-          → Accepts enc rules (forwards w) es o
+          → Accepts greedy enc rules (forwards w) es o
       go o (refuses h) = none (λ r e at t. let a = plain_run w r e at t.0 t.1 in h a.1.keys a.1.front a.1.place a.1.way 0 a.1.run a.1.path (inl refl))
       go o (accepts x i ws f c n run path m first) =
           let path0 : SimplePath (graph_of (automaton rules)) [] f.place ws 0 = subst (λ t. SimplePath (graph_of (automaton rules)) [] f.place ws t) (sym (zero_is m)) path in

@@ -1,11 +1,12 @@
 -- Cuts of several targets.
 use Rattle.std.proofs.Common.{◌≡◌, ℕ, ◌<◌, ◌≤◌, arith, List, [], ◌∷◌, ◌++◌, length, get_or, sym, ap, ap₂, ◌∙◌, Option, Some, IsPermutation, slice_get, subst}
-use Rattle.std.proofs.lemmas.List.Elements.{All-from_recursion, filter_map-append, recursion_from_All}
+use Rattle.std.proofs.lemmas.List.{map-append}
+use Rattle.std.proofs.lemmas.List.Elements.{All-from_recursion, recursion_from_All}
 use Rattle.std.proofs.lemmas.List.Sorted.{All-permutation, IsPermutation-sym}
 use Rattle.std.proofs.lemmas.Option.{get_or_from_slice_get, slice_get-get_or, slice_get_within}
 use Rattle.std.specs.List.Sorted.{IsNonDecreasing}
 use Rattle.std.specs.Option.{option_map}
-use Rattle.std.specs.Prelude.{◌⊎◌, Contains, filter_map}
+use Rattle.std.specs.Prelude.{◌⊎◌, Contains}
 use Rattle.lx_encode.specs.Graph.{NoneBetween, Separates, numbered}
 use Rattle.lx_tnfa.specs.Tnfa.{Tnfa, rest_after, state_at}
 use Rattle.lx_tnfa.specs.declared.closure.Reach.{Reach}
@@ -45,10 +46,10 @@ module _ (tnfa : Tnfa) (reach : Reach) where
       → CutSteps tnfa (reaches ++ reach ∷ []) (cuts ++ others)
   steps-push reaches cuts others steps step first second le none =
       let parts = between-append first second cuts others none in
-      filter_map-append (step_on tnfa first) reaches (reach ∷ [])
-      ∙ ap₂ (λ (before after : List Step). before ++ after) (steps first second le parts.0)
-      (ap (λ (one : Option Step). filter_map (λ (o : Option Step). o) (one ∷ [])) (step first second le parts.1))
-      ∙ sym (filter_map-append (step_on tnfa second) reaches (reach ∷ []))
+      map-append (step_on tnfa first) reaches (reach ∷ [])
+      ∙ ap₂ (λ (before after : List (Option Step)). before ++ after) (steps first second le parts.0)
+      (ap (λ (one : Option Step). one ∷ []) (step first second le parts.1))
+      ∙ sym (map-append (step_on tnfa second) reaches (reach ∷ []))
 
 pub steps-permutation : (tnfa : Tnfa) (reaches : List Reach) (cuts others : List ℕ) → IsPermutation cuts others → CutSteps tnfa reaches cuts
     → CutSteps tnfa reaches others

@@ -1,5 +1,5 @@
 -- Stops in sets.
-use Rattle.std.proofs.Common.{◌≡◌, Bool, true, rules}
+use Rattle.std.proofs.Common.{◌≡◌, true, rules}
 use Rattle.lx_tnfa.specs.contracts.closure.StopPartialEq.TheImpl.{eq-value}
 use Rattle.lx_tnfa.specs.declared.closure.Stop.{Stop}
 use Rattle.lx_tnfa.specs.Equality.{TellsEqual}

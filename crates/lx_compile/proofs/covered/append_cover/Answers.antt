@@ -14,7 +14,7 @@ returns c =
     let patterns = patterns_of scanner.set.rules in
     let cover = c.in_ok-words.ensures patterns c.requires.built c.requires.within.classes in
     let own = c.in_ok-append_words.ensures in
-    let covered : IsCoveredWhere options.enc frame.acts.now scanner (asks_for_cover options) frame.number own.0 =
+    let covered : IsCoveredWhere options frame.acts.now scanner (asks_for_cover options) frame.number own.0 =
     rw (sym c.asks_for_cover.ensures, c.if-not-asks_for_cover.false) own.1 in (
       λ sum long. IsCover-sum options.enc (terms_of patterns) c.in_ok-words.words COVER_LIMIT sum cover.0 cover.1 long.1,
       (own.0, covered, own.2),

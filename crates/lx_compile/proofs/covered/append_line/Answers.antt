@@ -3,8 +3,8 @@ use Rattle.std.proofs.lemmas.Result.{on_ok_weaker}
 use Rattle.lx_cover.specs.Matches.{Tells}
 use Rattle.lx_cover.specs.declared.values.TagValue.{TagValue}
 use Rattle.lx_gen.specs.Generated.{endings_by}
-use Rattle.lx_regex.specs.Order.{greedy}
 use Rattle.lx_compile.specs.Covering.{match_text, word_line, word_text}
+use Rattle.lx_compile.specs.Options.{policy_of}
 use Rattle.lx_compile.proofs.LineRuns.{word_line-parts}
 use Rattle.lx_compile.proofs.covered.append_line.Goals as goal
 
@@ -12,7 +12,7 @@ pub returns : goal.returns
 returns c =
     let matching = c.args.matching.now in
     let acts = matching.acts.now in
-    let found = c.in_ok-found.ensures.matches greedy c.requires.automaton.0 in
+    let found = c.in_ok-found.ensures.matches (policy_of matching.options.now) c.requires.automaton.0 in
     let outcome = found.0 in
     let tells = subst (λ (values : List TagValue). Tells acts outcome c.in_ok-found.found values) (sym c.as_slice-2.ensures) found.2 in
     let endings = endings_by None acts matching.scanner.now.set.rules in

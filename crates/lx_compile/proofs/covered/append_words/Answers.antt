@@ -18,7 +18,7 @@ append_lines-requires-clause-endings c =
 pub append_lines-requires-clause-units : goal.append_lines-requires-clause-units
 append_lines-requires-clause-units c k d lt =
     let words = c.args.words.now in
-    covering-units c.args.matching.now.enc (terms_of (patterns_of c.args.matching.now.scanner.now.set.rules)) (get_or words k d)
+    covering-units c.args.matching.now.options.now.enc (terms_of (patterns_of c.args.matching.now.scanner.now.set.rules)) (get_or words k d)
     (c.requires.cover.sound (get_or words k d) (Contains-get_or words k d lt))
 
 pub returns : goal.returns

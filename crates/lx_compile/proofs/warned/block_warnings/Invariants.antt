@@ -3,4 +3,4 @@ use Rattle.lx_compile.proofs.WarningRuns.{HaveWarnings}
 use Rattle.lx_compile.proofs.warned.block_warnings.Given as goal
 
 abbrev pub invariant-loop-place : goal.invariant-loop-place
-invariant-loop-place l = HaveWarnings l.options.enc l.at l.acts l.resolved.scanners (drop l.place l.resolved.scanners) (drop l.place l.autos) l.all
+invariant-loop-place l = HaveWarnings l.options l.at l.acts l.resolved.scanners (drop l.place l.resolved.scanners) (drop l.place l.autos) l.all

@@ -33,18 +33,18 @@ returns-in_err-states c = record {
 
 pub overflow_cast-regs : goal.overflow_cast-regs
 overflow_cast-regs c =
-    let most = most_places-within c.states.new.kernels c.in_ok-states.ensures.0.listed.within in omega (arith, most, c.most.ensures.most)
+    let most = most_places-within c.states.new.kernels c.in_ok-states.ensures.0.listed.within in omega (arith, most, c.most.ensures)
 
 pub overflow_add-regs : goal.overflow_add-regs
 overflow_add-regs c =
-    let most = most_places-within c.states.new.kernels c.in_ok-states.ensures.0.listed.within in omega (arith, most, c.most.ensures.most)
+    let most = most_places-within c.states.new.kernels c.in_ok-states.ensures.0.listed.within in omega (arith, most, c.most.ensures)
 
 pub overflow_mul-regs : goal.overflow_mul-regs
 overflow_mul-regs c =
     let most = most_places-within c.states.new.kernels c.in_ok-states.ensures.0.listed.within in
     let narrow = built-narrow c.args.t.now c.requires in
     let le : (c.most.result + 1) * c.most_tags.result ≤ 1048577 * 130 =
-    mul-le-mul {n₁ = c.most.result + 1} {m₁ = c.most_tags.result} {n₂ = 1048577} {m₂ = 130} (omega (arith, most, c.most.ensures.most)) (omega (arith, narrow, c.most_tags.ensures)) in
+    mul-le-mul {n₁ = c.most.result + 1} {m₁ = c.most_tags.result} {n₂ = 1048577} {m₂ = 130} (omega (arith, most, c.most.ensures)) (omega (arith, narrow, c.most_tags.ensures)) in
     omega (arith, le)
 
 pub overflow_add-result : goal.overflow_add-result
@@ -52,14 +52,14 @@ overflow_add-result c =
     let most = most_places-within c.states.new.kernels c.in_ok-states.ensures.0.listed.within in
     let narrow = built-narrow c.args.t.now c.requires in
     let le : (c.most.result + 1) * c.most_tags.result ≤ 1048577 * 130 =
-    mul-le-mul {n₁ = c.most.result + 1} {m₁ = c.most_tags.result} {n₂ = 1048577} {m₂ = 130} (omega (arith, most, c.most.ensures.most)) (omega (arith, narrow, c.most_tags.ensures)) in
+    mul-le-mul {n₁ = c.most.result + 1} {m₁ = c.most_tags.result} {n₂ = 1048577} {m₂ = 130} (omega (arith, most, c.most.ensures)) (omega (arith, narrow, c.most_tags.ensures)) in
     omega (arith, le)
 
 pub returns : goal.returns
 returns c =
     let formed =
     table_formed c.args.t.now c.states.new.kernels _
-    (ap (λ n. (n + 1) * c.most_tags.result) c.most.ensures.most ∙ ap (λ n. (most_places c.states.new.kernels + 1) * n) c.most_tags.ensures)
+    (ap (λ n. (n + 1) * c.most_tags.result) c.most.ensures ∙ ap (λ n. (most_places c.states.new.kernels + 1) * n) c.most_tags.ensures)
     refl (built-narrow c.args.t.now c.requires) c.in_ok-states.ensures.0.listed.within c.in_ok-states.ensures.0.listed.start
     c.in_ok-states.ensures.1 c.in_ok-states.ensures.2 in
     record {
@@ -68,5 +68,5 @@ returns c =
           c.in_ok-states.ensures.1 c.in_ok-states.ensures.2;
       kernels = λ enc patterns of fits.
           built-kernels c.args.t.now c.requires enc patterns of fits c.states.new.kernels _ c.in_ok-states.ensures.0.listed formed
-          c.in_ok-states.ensures.1 c.in_ok-states.ensures.2 c.most.ensures.apart;
+          c.in_ok-states.ensures.1 c.in_ok-states.ensures.2 c.in_ok-states.ensures.0.listed.apart;
     }

@@ -1,10 +1,9 @@
 use Rattle.std.proofs.Common.{[], map, refl, string_bytes, subst, sym}
 use Rattle.lx_base.specs.declared.settings.Options.{Options}
-use Rattle.lx_compile.specs.Options.{IsGreedy}
 use Rattle.lx_compile.specs.Warnings.{warning_lines}
 use Rattle.lx_top.proofs.CompileLemmas.{sees_any}
 use Rattle.lx_top.specs.Jobs.{IsWithinLimits, is_run, job_of}
-use Rattle.lx_top.proofs.JobLemmas.{Cites-job, Cites-words, IfOk-residual, IsGreedy-words, IsWithinLimits-words, JobEnds-reason, JobEnds-words, Reason-words, lines_for-job}
+use Rattle.lx_top.proofs.JobLemmas.{Cites-job, Cites-words, IfOk-residual, IsWithinLimits-words, JobEnds-reason, JobEnds-words, Reason-words, lines_for-job}
 use Rattle.lx_top.proofs.jobs.perform.Goals as goal
 
 pub returns-in_err-options : goal.returns-in_err-options
@@ -13,11 +12,6 @@ returns-in_err-options g c =
     let any = sees_any (g.F.Files.held c.args.files.now) in
     let ends = JobEnds-reason (is_run (job_of words)) _ _ _ _ _ _ _ c.from_residual.result _ c.from_residual.ensures.1 (Reason-words (is_run (job_of words)) words any.0 [] _ _ c.in_err-options.ensures) (refl, refl) in
     record { ends = (any.0, [], any.1, ends, Cites-words words c.args.names.now any.0 c.from_residual.result _ c.from_residual.ensures.1 c.in_err-options.ensures c.requires, IfOk-residual c.from_residual.result _ _ c.from_residual.ensures.1) }
-
-pub perform_job-requires-clause-greedy : goal.perform_job-requires-clause-greedy
-perform_job-requires-clause-greedy g c =
-    let words = map string_bytes c.args.words.now in
-    subst (λ (options : Options). IsGreedy options) (sym c.in_ok-options.ensures.1) (IsGreedy-words words)
 
 pub perform_job-requires-clause-limits : goal.perform_job-requires-clause-limits
 perform_job-requires-clause-limits g c =

@@ -2,8 +2,9 @@ use Rattle.std.proofs.Common.{◌≡◌, suc, ◌+◌, ◌≤◌, arith, refl, �
 use Rattle.std.proofs.lemmas.Option.{get_or_from_slice_get, slice_get_past}
 use Rattle.lx_tdfa.specs.Building.{greatest_of}
 use Rattle.lx_tdfa.specs.Edges.{AreEdgesBefore, IsRangeEnd}
+use Rattle.lx_tdfa.specs.Table.{onward_by}
 use Rattle.lx_tdfa.proofs.Loops.EdgeLoops.{edges-start}
-use Rattle.lx_tdfa.proofs.Loops.EdgeSteps.{edge-apart, edge-kept, empty-kept, grows-itself, none-kept}
+use Rattle.lx_tdfa.proofs.Loops.EdgeSteps.{edge-apart, edge-next, empty-next, grows-itself, grows-more, none-next, steps-alike}
 use Rattle.lx_tdfa.proofs.states.Source.edges.Goals as goal
 use Rattle.lx_tdfa.proofs.states.Source.edges.Goals.{in-Some+in_ok-edge+in-Some-2+in_ok-push_edge, in-Some+in_ok-edge+in_default-2, in_default}
 
@@ -12,7 +13,8 @@ loop-index-init c =
     let t = c.args.self.now.t.now in (
       grows-itself t c.args.kernels.now c.requires.listed,
       rw (c.new-edges.ensures.items)
-          (edges-start t (greatest_of t) c.args.is_first c.args.reaches.now c.in_ok-cuts.cuts.items c.in_ok-cuts.ensures.cuts c.in_ok-cuts.ensures.ascending
+          (edges-start t (greatest_of t) c.args.is_first (onward_by t c.args.reaches.now) c.in_ok-cuts.cuts.items
+          (steps-alike t c.args.reaches.now c.in_ok-cuts.cuts.items c.in_ok-cuts.ensures.cuts) c.in_ok-cuts.ensures.ascending
           c.args.kernels.now c.in_ok-cuts.ensures.first),
     )
 
@@ -35,10 +37,11 @@ push_edge-requires c =
     rw (c.deref.ensures.value, c.greatest.ensures) at c.in-Some.ensures in
     let cut : c.index.result.now ≡ range.cut =
     c.index.ensures ∙ get_or_from_slice_get c.in_ok-cuts.cuts.items c.loop-index.index range.cut c.index.result.now range.first in
-    edge-apart t c.args.is_first c.args.reaches.now c.in_ok-cuts.cuts.items c.in_ok-cuts.ensures.cuts c.in_ok-cuts.ensures.ascending
-    c.args.kernels.now c.loop-index.kernels c.loop-index.invariant.0 c.loop-index.index (suc c.loop-index.index) refl c.loop-index.edges.items
-    c.loop-index.invariant.1 c.in-Some.hi c.index.result.now range cut c.edge.new.kernels c.in_ok-edge.ensures.0 c.in_ok-edge.field-0
-    c.in_ok-edge.ensures.1 c.in-Some-2.edge c.in-Some-2.is
+    let makes = rw (c.in-Some-2.is) at c.in_ok-edge.ensures.1 in
+    edge-apart t (greatest_of t) c.args.is_first (onward_by t c.args.reaches.now) c.in_ok-cuts.cuts.items
+    (steps-alike t c.args.reaches.now c.in_ok-cuts.cuts.items c.in_ok-cuts.ensures.cuts) c.in_ok-cuts.ensures.ascending c.loop-index.kernels
+    c.loop-index.index (suc c.loop-index.index) refl c.loop-index.edges.items c.loop-index.invariant.1 c.in-Some.hi c.index.result.now range cut
+    c.edge.new.kernels c.in_ok-edge.ensures.0.later c.in_ok-edge.ensures.0.lists c.in-Some-2.edge makes.0 makes.1 makes.2
 
 pub loop-index-preserved : goal.loop-index-preserved
 loop-index-preserved c =
@@ -50,26 +53,36 @@ loop-index-preserved c =
           rw (c.deref.ensures.value, c.greatest.ensures) at w.in-Some.ensures in
           let cut : w.index.result.now ≡ range.cut =
           w.index.ensures ∙ get_or_from_slice_get c.in_ok-cuts.cuts.items c.loop-index.index range.cut w.index.result.now range.first in
-          rw (w.kernels-is) (rw (w.edges-is)
-          (edge-kept t c.args.is_first c.args.reaches.now c.in_ok-cuts.cuts.items c.in_ok-cuts.ensures.cuts c.in_ok-cuts.ensures.ascending
-          c.args.kernels.now c.loop-index.kernels c.loop-index.invariant.0 c.loop-index.index (c.loop-index.index + 1) step c.loop-index.edges.items
-          c.loop-index.invariant.1 w.in-Some.hi w.index.result.now range cut w.edge.new.kernels w.in_ok-edge.ensures.0 w.in_ok-edge.field-0
-          w.in_ok-edge.ensures.1 w.in-Some-2.edge w.in-Some-2.is w.push_edge.new.edges.items w.in_ok-push_edge.ensures))
+          let makes = rw (w.in-Some-2.is) at w.in_ok-edge.ensures.1 in
+          rw (w.kernels-is) (rw (w.edges-is) (
+            grows-more t c.args.kernels.now c.loop-index.kernels w.edge.new.kernels c.loop-index.invariant.0 w.in_ok-edge.ensures.0,
+            edge-next t (greatest_of t) c.args.is_first (onward_by t c.args.reaches.now) c.in_ok-cuts.cuts.items
+                (steps-alike t c.args.reaches.now c.in_ok-cuts.cuts.items c.in_ok-cuts.ensures.cuts) c.in_ok-cuts.ensures.ascending
+                c.loop-index.kernels c.loop-index.index (c.loop-index.index + 1) step c.loop-index.edges.items c.loop-index.invariant.1
+                w.in-Some.hi w.index.result.now range cut w.edge.new.kernels w.in_ok-edge.ensures.0.later w.in_ok-edge.ensures.0.lists
+                w.in-Some-2.edge makes.0 makes.1 makes.2 w.push_edge.new.edges.items w.in_ok-push_edge.ensures,
+          ))
       | in-Some+in_ok-edge+in_default-2 w ↦
           let range : IsRangeEnd c.in_ok-cuts.cuts.items c.loop-index.index (greatest_of t) w.in-Some.hi =
           rw (c.deref.ensures.value, c.greatest.ensures) at w.in-Some.ensures in
           let cut : w.index.result.now ≡ range.cut =
           w.index.ensures ∙ get_or_from_slice_get c.in_ok-cuts.cuts.items c.loop-index.index range.cut w.index.result.now range.first in
-          rw (w.kernels-is) (rw (w.edges-is)
-          (none-kept t c.args.is_first c.args.reaches.now c.in_ok-cuts.cuts.items c.in_ok-cuts.ensures.cuts c.in_ok-cuts.ensures.ascending
-          c.args.kernels.now c.loop-index.kernels c.loop-index.invariant.0 c.loop-index.index (c.loop-index.index + 1) step c.loop-index.edges.items
-          c.loop-index.invariant.1 w.in-Some.hi w.index.result.now range cut w.edge.new.kernels w.in_ok-edge.ensures.0 w.in_ok-edge.field-0
-          w.in_ok-edge.ensures.1 w.in_default-2.is))
+          rw (w.kernels-is) (rw (w.edges-is) (
+            grows-more t c.args.kernels.now c.loop-index.kernels w.edge.new.kernels c.loop-index.invariant.0 w.in_ok-edge.ensures.0,
+            none-next t (greatest_of t) c.args.is_first (onward_by t c.args.reaches.now) c.in_ok-cuts.cuts.items
+                (steps-alike t c.args.reaches.now c.in_ok-cuts.cuts.items c.in_ok-cuts.ensures.cuts) c.in_ok-cuts.ensures.ascending
+                c.loop-index.kernels c.loop-index.index (c.loop-index.index + 1) step c.loop-index.edges.items c.loop-index.invariant.1
+                w.in-Some.hi w.index.result.now range cut w.edge.new.kernels w.in_ok-edge.ensures.0.later w.in_ok-edge.ensures.0.lists
+                (rw (w.in_default-2.is) at w.in_ok-edge.ensures.1),
+          ))
       | in_default w ↦
-          rw (w.kernels-is) (rw (w.edges-is)
-          (empty-kept t c.args.is_first c.args.reaches.now c.in_ok-cuts.cuts.items c.in_ok-cuts.ensures.cuts c.in_ok-cuts.ensures.ascending
-          c.args.kernels.now c.loop-index.kernels c.loop-index.invariant.0 c.loop-index.index (c.loop-index.index + 1) step c.loop-index.edges.items
-          c.loop-index.invariant.1 (rw (c.deref.ensures.value, c.greatest.ensures, w.in_default.is) at c.last_unit.ensures)))
+          rw (w.kernels-is) (rw (w.edges-is) (
+            c.loop-index.invariant.0,
+            empty-next t (greatest_of t) c.args.is_first (onward_by t c.args.reaches.now) c.in_ok-cuts.cuts.items
+                (steps-alike t c.args.reaches.now c.in_ok-cuts.cuts.items c.in_ok-cuts.ensures.cuts) c.in_ok-cuts.ensures.ascending
+                c.loop-index.kernels c.loop-index.index (c.loop-index.index + 1) step c.loop-index.edges.items c.loop-index.invariant.1
+                (rw (c.deref.ensures.value, c.greatest.ensures, w.in_default.is) at c.last_unit.ensures),
+          ))
     ]
 
 pub returns : goal.returns
@@ -78,6 +91,6 @@ returns c =
     let past : length c.in_ok-cuts.cuts.items ≤ c.loop-index.index = omega (arith, c.loop-index-test.false, c.len-index-end.ensures) in (
       c.loop-index.invariant.0,
       rw (c.from_vec.ensures)
-          (subst (λ o. AreEdgesBefore t (greatest_of t) c.loop-index.kernels c.args.is_first c.args.reaches.now o c.loop-index.edges.items)
+          (subst (λ o. AreEdgesBefore t (greatest_of t) c.loop-index.kernels c.args.is_first (onward_by t c.args.reaches.now) o c.loop-index.edges.items)
           (slice_get_past c.in_ok-cuts.cuts.items c.loop-index.index past) c.loop-index.invariant.1),
     )

@@ -1,4 +1,4 @@
-use Rattle.std.proofs.Common.{List, subst}
+use Rattle.std.proofs.Common.{subst}
 use Rattle.std.proofs.lemmas.List.{map-id}
 use Rattle.std.specs.Bool.{MatchBool}
 use Rattle.std.specs.Prelude.{◌≡◌, ◌++◌, [], ◌∷◌, Contains}
