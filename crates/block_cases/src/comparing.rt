@@ -1,16 +1,13 @@
 //! Texts that were found, beside those that were wanted.
 
 use crate::cases::CaseBlock;
-use anyhow::{Context, Result};
+use case_reports::{CaseError, Difference};
 use std::alloc::Global;
 
-/// The number of a line, and how it differs; nothing where all is as it was wanted.
-pub type Difference = Option<(usize, String)>;
-
 /// How the text of what a block resolves to differs from the one that is wanted: the first line that differs.
-pub fn difference(alloc: Global, block: &CaseBlock, found: &str) -> Result<Difference> {
+pub fn difference(alloc: Global, block: &CaseBlock, found: &str) -> Result<Difference, CaseError> {
     let Some(wanted) = &block.wanted else {
-        return Err(anyhow::Error::msg("nothing is wanted of a block"));
+        return Err(CaseError::Malformed("nothing is wanted of a block"));
     };
     let mut rest = found.split('\n');
     for (place, line) in wanted.text.as_str().split('\n').enumerate() {

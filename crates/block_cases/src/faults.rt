@@ -2,7 +2,7 @@
 ghost use Rattle.std.specs.Prelude.{IsTrue};
 ghost use Rattle.lx_base.specs.Message.{IsPlaced};
 
-use anyhow::{Context, Result, bail};
+use case_reports::CaseError;
 use lx_base::{Fault, FileNames, Pos, message};
 use std::alloc::{AllocError, Global};
 
@@ -17,12 +17,14 @@ fn is_placed(names: &FileNames, fault: &Fault) -> bool
 }
 
 /// The message of a fault, and behind it a line of what else the fault says.
-pub fn fault_text(alloc: Global, names: &FileNames, fault: &Fault) -> Result<String> {
+pub fn fault_text(alloc: Global, names: &FileNames, fault: &Fault) -> Result<String, CaseError> {
     if !is_placed(names, fault) {
-        bail!("a fault in no file");
+        return Err(CaseError::Malformed("a fault in no file"));
     }
     let message = message(alloc, names, fault)?;
-    let line = str::from_utf8(message.as_slice()).context("a message that is no text")?;
+    let Ok(line) = str::from_utf8(message.as_slice()) else {
+        return Err(CaseError::Malformed("a message that is no text"));
+    };
     let mut text = String::from_str(alloc, line)?;
     push_details(&mut text, fault)?;
     Ok(text)

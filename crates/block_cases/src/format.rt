@@ -1,51 +1,39 @@
 //! The format of a file of cases.
 
 use crate::cases::{Case, CaseBlock, Opener, Wanted};
-use anyhow::{Context, Error, Result, bail};
+use crate::running::difference_of_case;
+use case_reports::{CaseError, Difference, FileCase};
 use std::alloc::Global;
 
-/// Why a file is none of cases, and the number of the line where this shows.
-#[derive(Drop)]
-pub struct BadLine {
-    pub line: usize,
-    pub cause: Error,
-}
-
-/// The cases of a text, in order.
-pub fn read_cases(alloc: Global, text: &str) -> Result<Vec<Case>, BadLine> {
-    let mut cases = Vec::new(alloc);
-    for (place, text) in text.split('\n').enumerate() {
-        let line = place.saturating_add(1);
-        read_line(alloc, &mut cases, line, text).map_err(|cause| BadLine { line, cause })?;
+impl FileCase for Case {
+    fn begin(alloc: Global, name: &str, line: usize) -> Result<Case, CaseError> {
+        Ok(Case {
+            name: String::from_str(alloc, name)?,
+            line,
+            options: String::new(alloc),
+            blocks: Vec::new(alloc),
+        })
     }
-    Ok(cases)
-}
 
-fn read_line(alloc: Global, cases: &mut Vec<Case>, line: usize, text: &str) -> Result<()> {
-    if text.is_empty() || text.starts_with('#') {
-        return Ok(());
+    fn take(&mut self, alloc: Global, line: usize, text: &str) -> Result<(), CaseError> {
+        read_order(alloc, self, line, text)
     }
-    if let Some(name) = text.strip_prefix("case ") {
-        cases.push(new_case(alloc, name, line)?)?;
-        return Ok(());
-    }
-    let case = cases
-        .last_mut()
-        .context("this line stands before the first case")?;
-    read_order(alloc, case, line, text)
-}
 
-fn new_case(alloc: Global, name: &str, line: usize) -> Result<Case> {
-    Ok(Case {
-        name: String::from_str(alloc, name)?,
-        line,
-        options: String::new(alloc),
-        blocks: Vec::new(alloc),
-    })
+    fn name(&self) -> &str {
+        self.name.as_str()
+    }
+
+    fn line(&self) -> usize {
+        self.line
+    }
+
+    fn difference(&self, alloc: Global) -> Result<Difference, CaseError> {
+        difference_of_case(alloc, self)
+    }
 }
 
 /// A line of a case: an order, or a line of text.
-fn read_order(alloc: Global, case: &mut Case, line: usize, text: &str) -> Result<()> {
+fn read_order(alloc: Global, case: &mut Case, line: usize, text: &str) -> Result<(), CaseError> {
     if let Some(words) = text.strip_prefix("options ") {
         case.options.push_str(words)?;
         return Ok(());
@@ -55,15 +43,17 @@ fn read_order(alloc: Global, case: &mut Case, line: usize, text: &str) -> Result
         "rules" => begin_block(alloc, case, Opener::Rules),
         "use" => begin_block(alloc, case, Opener::Use),
         "wants" => begin_wanted(alloc, case, line),
-        _ => {
-            let rest = text.strip_prefix('|').context("no order")?;
-            push_text(case, rest)
-        }
+        _ => match text.strip_prefix('|') {
+            Some(rest) => push_text(case, rest),
+            None => Err(CaseError::Malformed("no order")),
+        },
     }
 }
 
-fn begin_block(alloc: Global, case: &mut Case, opener: Opener) -> Result<()> {
-    let file = u32::try_from(case.blocks.len()).context("too many blocks")?;
+fn begin_block(alloc: Global, case: &mut Case, opener: Opener) -> Result<(), CaseError> {
+    let Ok(file) = u32::try_from(case.blocks.len()) else {
+        return Err(CaseError::Malformed("too many blocks"));
+    };
     case.blocks.push(CaseBlock {
         opener,
         file,
@@ -73,10 +63,18 @@ fn begin_block(alloc: Global, case: &mut Case, opener: Opener) -> Result<()> {
     Ok(())
 }
 
-fn begin_wanted(alloc: Global, case: &mut Case, line: usize) -> Result<()> {
-    let block = case.blocks.last_mut().context("no block begins before")?;
+/// The last block, which begins before.
+fn last_block(case: &mut Case) -> Result<&mut CaseBlock, CaseError> {
+    match case.blocks.last_mut() {
+        Some(block) => Ok(block),
+        None => Err(CaseError::Malformed("no block begins before")),
+    }
+}
+
+fn begin_wanted(alloc: Global, case: &mut Case, line: usize) -> Result<(), CaseError> {
+    let block = last_block(case)?;
     if block.wanted.is_some() {
-        bail!("this stands twice");
+        return Err(CaseError::Malformed("this stands twice"));
     }
     block.wanted = Some(Wanted {
         line,
@@ -86,17 +84,28 @@ fn begin_wanted(alloc: Global, case: &mut Case, line: usize) -> Result<()> {
 }
 
 /// What stands behind the `|` of a line of text: nothing, or a blank and the text.
-fn push_text(case: &mut Case, rest: &str) -> Result<()> {
-    let line = match rest {
-        "" => "",
-        _ => rest.strip_prefix(' ').context("no blank behind |")?,
-    };
-    let block = case.blocks.last_mut().context("no block begins before")?;
-    let text = match &mut block.wanted {
-        Some(wanted) => &mut wanted.text,
-        None => &mut block.body,
-    };
+fn push_text(case: &mut Case, rest: &str) -> Result<(), CaseError> {
+    let line = text_of(rest)?;
+    let text = open_text(last_block(case)?);
     text.push_str(line)?;
     text.push('\n')?;
     Ok(())
+}
+
+fn text_of(rest: &str) -> Result<&str, CaseError> {
+    if rest.is_empty() {
+        return Ok(rest);
+    }
+    match rest.strip_prefix(' ') {
+        Some(text) => Ok(text),
+        None => Err(CaseError::Malformed("no blank behind |")),
+    }
+}
+
+/// The text of a block that goes on.
+fn open_text(block: &mut CaseBlock) -> &mut String {
+    match &mut block.wanted {
+        Some(wanted) => &mut wanted.text,
+        None => &mut block.body,
+    }
 }

@@ -4,10 +4,8 @@
 #![tactic(auto)]
 
 use anyhow::Result;
-use lx_files::{Files, RealFiles};
-use report::Report;
-use std::env;
-use std::io::Write;
+use case_reports::run_words;
+use cases::Case;
 use std::process::ExitCode;
 
 mod cases;
@@ -17,19 +15,10 @@ mod faults;
 mod format;
 mod options;
 mod points;
-mod report;
 mod resolving;
 mod running;
 mod scanners;
 
 fn main(rt: HostRuntime) -> Result<ExitCode> {
-    let alloc = rt.alloc();
-    let mut report = Report::new(alloc);
-    let names: Vec<String> = env::args(&rt)?.skip(1).collect(alloc)?;
-    for name in names.iter() {
-        let bytes = RealFiles::new(&rt).read(alloc, name.as_str())?;
-        report.run_file(alloc, name.as_str(), &bytes)?;
-    }
-    rt.stdout().write_all(report.text(alloc)?.as_bytes())?;
-    Ok(report.status())
+    run_words::<Case>(rt)
 }

@@ -1,6 +1,6 @@
 //! The options of a case.
 
-use anyhow::{Result, bail};
+use case_reports::CaseError;
 use lx_base::{EmptyPolicy, Enc, FileName, Job, Options, SurPolicy};
 use std::alloc::Global;
 
@@ -28,7 +28,7 @@ fn usual_options(alloc: Global) -> Options {
 }
 
 /// The options of some words.
-pub fn read_options(alloc: Global, words: &str) -> Result<Options> {
+pub fn read_options(alloc: Global, words: &str) -> Result<Options, CaseError> {
     let mut options = usual_options(alloc);
     for word in words.split_whitespace() {
         set_option(&mut options, word)?;
@@ -36,7 +36,7 @@ pub fn read_options(alloc: Global, words: &str) -> Result<Options> {
     Ok(options)
 }
 
-fn set_option(options: &mut Options, word: &str) -> Result<()> {
+fn set_option(options: &mut Options, word: &str) -> Result<(), CaseError> {
     match word {
         "-c" => options.conds = true,
         "-T" => options.tags = true,
@@ -49,7 +49,7 @@ fn set_option(options: &mut Options, word: &str) -> Result<()> {
 }
 
 /// Sets an encoding or a policy.
-fn set_choice(options: &mut Options, word: &str) -> Result<()> {
+fn set_choice(options: &mut Options, word: &str) -> Result<(), CaseError> {
     match word {
         "-8" => options.enc = Enc::Utf8,
         "-x" => options.enc = Enc::Utf16,
@@ -59,7 +59,7 @@ fn set_choice(options: &mut Options, word: &str) -> Result<()> {
         "--empty-class=error" => options.empty = EmptyPolicy::Error,
         "--encoding-policy=substitute" => options.surrogates = SurPolicy::Substitute,
         "--encoding-policy=fail" => options.surrogates = SurPolicy::Fail,
-        _ => bail!("no option"),
+        _ => return Err(CaseError::Malformed("no option")),
     }
     Ok(())
 }

@@ -4,30 +4,30 @@ ghost use Rattle.lx_rules.specs.Environments.{Environment};
 ghost use Rattle.lx_rules.specs.Represents.{Represents};
 
 use crate::cases::{Case, CaseBlock};
-use crate::comparing::{Difference, difference};
+use crate::comparing::difference;
 use crate::faults::fault_text;
 use crate::options::read_options;
 use crate::resolving::resolve_block;
 use crate::scanners::resolved_text;
-use anyhow::{Result, bail};
+use case_reports::{CaseError, Difference};
 use lx_base::limits::SOURCE_LIMIT;
 use lx_base::{FileNames, Options, Stop};
 use lx_rules::Env;
 use std::alloc::Global;
 
 /// How a case differs from what it wants.
-pub fn difference_of_case(alloc: Global, case: &Case) -> Result<Difference> {
+pub fn difference_of_case(alloc: Global, case: &Case) -> Result<Difference, CaseError> {
     let options = read_options(alloc, case.options.as_str())?;
     let names = file_names(alloc, &case.blocks)?;
     difference_of_blocks(alloc, &options, &names, &case.blocks)
 }
 
 /// The names of the files of some blocks: their numbers, from 0.
-fn file_names(alloc: Global, blocks: &[CaseBlock]) -> Result<FileNames> {
+fn file_names(alloc: Global, blocks: &[CaseBlock]) -> Result<FileNames, CaseError> {
     let mut names = FileNames::new(alloc);
     for number in 0..blocks.len() {
         if names.len() >= 1000 {
-            bail!("too many blocks");
+            return Err(CaseError::Malformed("too many blocks"));
         }
         let name = format!(in alloc; "{number}")?;
         names.add(name.as_str())?;
@@ -41,7 +41,7 @@ fn difference_of_blocks(
     options: &Options,
     names: &FileNames,
     blocks: &[CaseBlock],
-) -> Result<Difference> {
+) -> Result<Difference, CaseError> {
     let mut env = Env::new(alloc);
     for block in blocks {
         let (after, found) = compare_block(alloc, options, names, block, env)?;
@@ -60,7 +60,7 @@ fn compare_block(
     names: &FileNames,
     block: &CaseBlock,
     env: Env,
-) -> Result<(Option<Env>, Difference)>
+) -> Result<(Option<Env>, Difference), CaseError>
     requires { (environment : Environment) × Represents env environment }
     ensures { IfOk result (λ answer. IfSome answer.0 (λ after. (environment : Environment) × Represents after environment)) }
 {
@@ -76,18 +76,18 @@ fn block_text(
     names: &FileNames,
     block: &CaseBlock,
     env: Env,
-) -> Result<(Option<Env>, String)>
+) -> Result<(Option<Env>, String), CaseError>
     requires { (environment : Environment) × Represents env environment }
     ensures { IfOk result (λ answer. IfSome answer.0 (λ after. (environment : Environment) × Represents after environment)) }
 {
     let body = block.body.as_bytes();
     if body.len() > SOURCE_LIMIT {
-        bail!("a block is too long");
+        return Err(CaseError::Malformed("a block is too long"));
     }
     match resolve_block(alloc, block.opener, body, block.file, env, options) {
         Ok((after, resolved)) => Ok((Some(after), resolved_text(alloc, &resolved)?)),
         Err(Stop::Fault(fault)) => Ok((None, fault_text(alloc, names, &fault)?)),
-        Err(Stop::Memory) => bail!("out of memory"),
+        Err(Stop::Memory) => Err(CaseError::Memory),
     }
 }
 
@@ -96,9 +96,9 @@ fn last_difference(
     blocks: &[CaseBlock],
     block: &CaseBlock,
     found: Difference,
-) -> Result<Difference> {
+) -> Result<Difference, CaseError> {
     if found.is_none() && blocks.len() > (block.file as usize).saturating_add(1) {
-        bail!("blocks stand behind a fault");
+        return Err(CaseError::Malformed("blocks stand behind a fault"));
     }
     Ok(found)
 }

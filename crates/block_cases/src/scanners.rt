@@ -3,14 +3,13 @@
 use crate::expressions::expression;
 use crate::faults::push_place;
 use crate::points::push_bytes;
-use anyhow::Result;
-use lx_base::{ByteText, usual_names};
+use lx_base::{ByteText, Memory, usual_names};
 use lx_regex::{Kind, Rule, Tag};
 use lx_rules::{Act, Config, Resolved, Scanner};
 use std::alloc::{AllocError, Global};
 
 /// The text of what a block resolves to.
-pub fn resolved_text(alloc: Global, resolved: &Resolved) -> Result<String> {
+pub fn resolved_text(alloc: Global, resolved: &Resolved) -> Result<String, Memory> {
     let mut text = String::new(alloc);
     push_config(alloc, &mut text, &resolved.config)?;
     push_scanners(alloc, &mut text, resolved.scanners.as_slice())?;
@@ -19,7 +18,7 @@ pub fn resolved_text(alloc: Global, resolved: &Resolved) -> Result<String> {
 }
 
 /// Writes what a configuration has that is not usual.
-fn push_config(alloc: Global, text: &mut String, config: &Config) -> Result<()> {
+fn push_config(alloc: Global, text: &mut String, config: &Config) -> Result<(), Memory> {
     let usual = usual_names(alloc)?;
     push_names(text, usual.as_slice(), config.names.as_slice())?;
     if let Some(unit) = config.eof {

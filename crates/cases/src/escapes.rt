@@ -1,12 +1,12 @@
 //! Content as lines of printable characters.
 ghost use Rattle.std.specs.Prelude.{◌<◌, IfSome};
 
-use anyhow::{Context, Result, bail};
+use case_reports::CaseError;
 use std::alloc::{AllocError, Global};
 
 /// Puts the bytes that a text spells behind others: `%` and two digits of base 16 are a byte, and other printable characters and tabs
 /// stand for themselves.
-pub fn push_spelled(bytes: &mut Vec<u8>, text: &str) -> Result<()> {
+pub fn push_spelled(bytes: &mut Vec<u8>, text: &str) -> Result<(), CaseError> {
     for (place, part) in text.split('%').enumerate() {
         if place == 0 {
             push_plain(bytes, part.as_bytes())?;
@@ -17,10 +17,12 @@ pub fn push_spelled(bytes: &mut Vec<u8>, text: &str) -> Result<()> {
     Ok(())
 }
 
-fn push_plain(bytes: &mut Vec<u8>, part: &[u8]) -> Result<()> {
+fn push_plain(bytes: &mut Vec<u8>, part: &[u8]) -> Result<(), CaseError> {
     for byte in part.iter() {
         if !is_plain(*byte) {
-            bail!("a byte that is no printable character is written %XX");
+            return Err(CaseError::Malformed(
+                "a byte that is no printable character is written %XX",
+            ));
         }
         bytes.push(*byte)?;
     }
@@ -28,13 +30,20 @@ fn push_plain(bytes: &mut Vec<u8>, part: &[u8]) -> Result<()> {
 }
 
 /// What stands behind a sign `%`.
-fn push_escaped(bytes: &mut Vec<u8>, part: &[u8]) -> Result<()> {
+fn push_escaped(bytes: &mut Vec<u8>, part: &[u8]) -> Result<(), CaseError> {
     match part {
         [high, low, rest @ ..] => {
-            bytes.push(byte(*high, *low).context("no digits behind %")?)?;
+            push_byte(bytes, *high, *low)?;
             push_plain(bytes, rest)
         }
-        _ => bail!("no digits behind %"),
+        _ => Err(CaseError::Malformed("no digits behind %")),
+    }
+}
+
+fn push_byte(bytes: &mut Vec<u8>, high: u8, low: u8) -> Result<(), CaseError> {
+    match byte(high, low) {
+        Some(byte) => Ok(bytes.push(byte)?),
+        None => Err(CaseError::Malformed("no digits behind %")),
     }
 }
 

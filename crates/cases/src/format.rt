@@ -2,56 +2,55 @@
 
 use crate::cases::{Case, Item};
 use crate::lines::{order, push_content};
-use anyhow::{Error, Result, bail};
+use crate::scene::difference_of_case;
+use case_reports::{CaseError, Difference, FileCase};
 use std::alloc::Global;
 
-/// Why a file is none of cases, and the number of the line where this shows.
-#[derive(Drop)]
-pub struct BadLine {
-    pub line: usize,
-    pub cause: Error,
-}
-
-/// The cases of a text, in order.
-pub fn read_cases(alloc: Global, text: &str) -> Result<Vec<Case>, BadLine> {
-    let mut cases = Vec::new(alloc);
-    for (place, text) in text.split('\n').enumerate() {
-        let line = place.saturating_add(1);
-        read_line(alloc, &mut cases, line, text).map_err(|cause| BadLine { line, cause })?;
-    }
-    Ok(cases)
-}
-
-fn read_line(alloc: Global, cases: &mut Vec<Case>, line: usize, text: &str) -> Result<()> {
-    if text.is_empty() || text.starts_with('#') {
-        return Ok(());
-    }
-    if let Some(name) = text.strip_prefix("case ") {
+impl FileCase for Case {
+    fn begin(alloc: Global, name: &str, line: usize) -> Result<Case, CaseError> {
         let name = String::from_str(alloc, name)?;
         let items = Vec::new(alloc);
-        cases.push(Case { name, line, items })?;
-        return Ok(());
+        Ok(Case { name, line, items })
     }
-    match cases.last_mut() {
-        Some(case) => read_item(alloc, &mut case.items, line, text),
-        None => bail!("this line stands before the first case"),
+
+    fn take(&mut self, alloc: Global, line: usize, text: &str) -> Result<(), CaseError> {
+        read_item(alloc, &mut self.items, line, text)
+    }
+
+    fn name(&self) -> &str {
+        self.name.as_str()
+    }
+
+    fn line(&self) -> usize {
+        self.line
+    }
+
+    fn difference(&self, alloc: Global) -> Result<Difference, CaseError> {
+        difference_of_case(alloc, self)
     }
 }
 
 /// A line of a case: one of content, or an order.
-fn read_item(alloc: Global, items: &mut Vec<Item>, line: usize, text: &str) -> Result<()> {
+fn read_item(
+    alloc: Global,
+    items: &mut Vec<Item>,
+    line: usize,
+    text: &str,
+) -> Result<(), CaseError> {
     if !text.starts_with(['|', '>', '*']) {
-        let order = order(alloc, text)?;
-        let content = Vec::new(alloc);
-        items.push(Item {
-            line,
-            order,
-            content,
-        })?;
+        items.push(new_item(alloc, line, text)?)?;
         return Ok(());
     }
     match items.last_mut() {
         Some(item) if item.order.has_content() => push_content(&mut item.content, text),
-        _ => bail!("no content belongs here"),
+        _ => Err(CaseError::Malformed("no content belongs here")),
     }
+}
+
+fn new_item(alloc: Global, line: usize, text: &str) -> Result<Item, CaseError> {
+    Ok(Item {
+        line,
+        order: order(alloc, text)?,
+        content: Vec::new(alloc),
+    })
 }

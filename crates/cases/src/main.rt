@@ -3,10 +3,8 @@
 #![tactic(auto)]
 
 use anyhow::Result;
-use lx_files::{Files, RealFiles};
-use report::Report;
-use std::env;
-use std::io::Write;
+use case_reports::run_words;
+use cases::Case;
 use std::process::ExitCode;
 
 mod cases;
@@ -14,19 +12,10 @@ mod escapes;
 mod format;
 mod lines;
 mod outcome;
-mod report;
 mod scene;
 mod seen;
 mod stage;
 
 fn main(rt: HostRuntime) -> Result<ExitCode> {
-    let alloc = rt.alloc();
-    let mut report = Report::new(alloc);
-    let names: Vec<String> = env::args(&rt)?.skip(1).collect(alloc)?;
-    for name in names.iter() {
-        let bytes = RealFiles::new(&rt).read(alloc, name.as_str())?;
-        report.run_file(alloc, name.as_str(), &bytes)?;
-    }
-    rt.stdout().write_all(report.text(alloc)?.as_bytes())?;
-    Ok(report.status())
+    run_words::<Case>(rt)
 }

@@ -4,7 +4,7 @@ use crate::cases::{Alteration, Case, Extent, Item, Order, Outside, Place};
 use crate::outcome::{Difference, difference};
 use crate::seen::Seen;
 use crate::stage::{Failing, NONE, Stage};
-use anyhow::{Result, bail};
+use case_reports::CaseError;
 use std::alloc::{AllocError, Global};
 
 /// The files, what the last run left, its status where this was not compared yet, and the number of its line, which is 0 before a run.
@@ -19,7 +19,10 @@ struct Scene {
 }
 
 /// How a case differs from what it wants, behind the number of the line of the run that differs.
-pub fn difference_of_case(alloc: Global, case: &Case) -> Result<Option<(usize, String)>> {
+pub fn difference_of_case(
+    alloc: Global,
+    case: &Case,
+) -> Result<Option<(usize, String)>, CaseError> {
     let mut scene = Scene::new(alloc)?;
     for item in case.items.iter() {
         if let Some(difference) = scene.step(alloc, item)? {
@@ -27,13 +30,12 @@ pub fn difference_of_case(alloc: Global, case: &Case) -> Result<Option<(usize, S
         }
     }
     if scene.line == 0 {
-        bail!("no run");
+        return Err(CaseError::Malformed("no run"));
     }
-    Ok(
-        scene
-            .close(alloc)?
-            .map(|difference| (scene.line, difference)),
-    )
+    match scene.close(alloc)? {
+        Some(difference) => Ok(Some((scene.line, difference))),
+        None => Ok(None),
+    }
 }
 
 impl Scene {
@@ -49,7 +51,7 @@ impl Scene {
     }
 
     /// Does what an order asks for. Each order that begins the next run first closes the last one.
-    fn step(&mut self, alloc: Global, item: &Item) -> Result<Difference> {
+    fn step(&mut self, alloc: Global, item: &Item) -> Result<Difference, CaseError> {
         match &item.order {
             Order::Status(wanted) => self.compare_status(alloc, *wanted),
             Order::Want(place, extent) => self.compare(
@@ -66,7 +68,7 @@ impl Scene {
         }
     }
 
-    fn prepare(&mut self, alloc: Global, item: &Item) -> Result<()> {
+    fn prepare(&mut self, alloc: Global, item: &Item) -> Result<(), CaseError> {
         match &item.order {
             Order::Given(name) => self.give(alloc, name.as_str(), item.content.as_slice())?,
             Order::Fail(outside, call) => self.fail(*outside, *call),
@@ -101,16 +103,21 @@ impl Scene {
         }
     }
 
-    fn alter(&mut self, alloc: Global, name: &str, alteration: Alteration) -> Result<()> {
+    fn alter(
+        &mut self,
+        alloc: Global,
+        name: &str,
+        alteration: Alteration,
+    ) -> Result<(), CaseError> {
         for seen in self.files.iter_mut() {
             if seen.name.as_str() == name {
                 return seen.alter(alloc, alteration);
             }
         }
-        bail!("no file {name} is there")
+        Err(CaseError::Malformed("no such file is there"))
     }
 
-    fn run(&mut self, alloc: Global, words: &[String]) -> Result<()> {
+    fn run(&mut self, alloc: Global, words: &[String]) -> Result<(), CaseError> {
         self.note_words(alloc, words)?;
         let mut stage = self.stage(alloc)?;
         self.status = Some(stage.run(alloc, words));
@@ -142,7 +149,7 @@ impl Scene {
     }
 
     /// The files as they stand, and empty sinks.
-    fn stage(&self, alloc: Global) -> Result<Stage> {
+    fn stage(&self, alloc: Global) -> Result<Stage, CaseError> {
         let mut stage = Stage::new(alloc, self.failing)?;
         for seen in self.files.iter() {
             if let Some(bytes) = seen.found() {
@@ -153,7 +160,7 @@ impl Scene {
     }
 
     /// Takes note of what a run left.
-    fn look(&mut self, alloc: Global, stage: &mut Stage) -> Result<()> {
+    fn look(&mut self, alloc: Global, stage: &mut Stage) -> Result<(), CaseError> {
         for seen in self.files.iter_mut() {
             let bytes = stage.read(alloc, seen.name.as_str())?;
             seen.leave(bytes);
@@ -167,9 +174,9 @@ impl Scene {
         Ok(())
     }
 
-    fn compare_status(&mut self, alloc: Global, wanted: u8) -> Result<Difference> {
+    fn compare_status(&mut self, alloc: Global, wanted: u8) -> Result<Difference, CaseError> {
         match self.status.take() {
-            None => bail!("a status without a run"),
+            None => Err(CaseError::Malformed("a status without a run")),
             Some(got) => Ok(difference_of_status(alloc, wanted, got)?),
         }
     }
@@ -180,9 +187,9 @@ impl Scene {
         place: &Place,
         extent: Extent,
         content: &[u8],
-    ) -> Result<Difference> {
+    ) -> Result<Difference, CaseError> {
         if self.line == 0 {
-            bail!("nothing is left without a run");
+            return Err(CaseError::Malformed("nothing is left without a run"));
         }
         let difference = match place {
             Place::Out => self.out.compare(alloc, extent, content)?,

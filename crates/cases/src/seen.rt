@@ -2,7 +2,7 @@
 
 use crate::cases::{Alteration, Extent};
 use crate::outcome::{Difference, difference};
-use anyhow::{Result as Try, bail};
+use case_reports::CaseError;
 use std::alloc::{AllocError, Global};
 use std::mem;
 
@@ -36,11 +36,11 @@ impl Seen {
     }
 
     /// Alters what the next run finds there, which is a file that reaches to the place of this.
-    pub fn alter(&mut self, alloc: Global, alteration: Alteration) -> Try<()> {
-        let mut bytes = match self.found() {
-            Some(bytes) => Vec::from_slice(alloc, bytes)?,
-            None => bail!("no file {} is there", self.name),
+    pub fn alter(&mut self, alloc: Global, alteration: Alteration) -> Result<(), CaseError> {
+        let Some(bytes) = self.found() else {
+            return Err(CaseError::Malformed("no such file is there"));
         };
+        let mut bytes = Vec::from_slice(alloc, bytes)?;
         alter(&mut bytes, alteration)?;
         self.altered = Some(bytes);
         Ok(())
@@ -90,7 +90,7 @@ impl Seen {
     }
 }
 
-fn alter(bytes: &mut Vec<u8>, alteration: Alteration) -> Try<()> {
+fn alter(bytes: &mut Vec<u8>, alteration: Alteration) -> Result<(), CaseError> {
     match alteration {
         Alteration::Cut(length) if length <= bytes.len() => {
             bytes.truncate(length);
@@ -100,7 +100,7 @@ fn alter(bytes: &mut Vec<u8>, alteration: Alteration) -> Try<()> {
             bytes[place] = byte;
             Ok(())
         }
-        _ => bail!("the file ends before this place"),
+        _ => Err(CaseError::Malformed("the file ends before this place")),
     }
 }
 

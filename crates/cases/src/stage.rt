@@ -1,6 +1,7 @@
 //! The files and the sinks of one run.
 
-use anyhow::Result as Try;
+use case_reports::CaseError;
+use lx_base::Memory;
 use lx_files::{Files, MemFiles, MemSink, ReadAnswer};
 use lx_top::re2c;
 use std::alloc::Global;
@@ -30,7 +31,7 @@ pub struct Stage {
 
 impl Stage {
     /// No files, and empty sinks.
-    pub fn new(alloc: Global, failing: Failing) -> Try<Stage> {
+    pub fn new(alloc: Global, failing: Failing) -> Result<Stage, Memory> {
         let mut files = MemFiles::new(alloc);
         if let Some(call) = failing.files {
             files.fail_call(call)?;
@@ -46,25 +47,31 @@ impl Stage {
     }
 
     /// The bytes of a file. A read counts as a call, and the call that was to fail may still be ahead, so it is tried twice.
-    pub fn read(&mut self, alloc: Global, name: &str) -> Result<Option<Vec<u8>>, ReadAnswer> {
+    pub fn read(&mut self, alloc: Global, name: &str) -> Result<Option<Vec<u8>>, CaseError> {
         match self.files.read(alloc, name) {
             Ok(bytes) => Ok(Some(bytes)),
-            Err(ReadAnswer::Missing) => Ok(None),
-            Err(ReadAnswer::Memory) => Err(ReadAnswer::Memory),
             Err(ReadAnswer::Failed) => self.read_again(alloc, name),
+            Err(answer) => no_bytes(answer),
         }
     }
 
-    fn read_again(&mut self, alloc: Global, name: &str) -> Result<Option<Vec<u8>>, ReadAnswer> {
+    fn read_again(&mut self, alloc: Global, name: &str) -> Result<Option<Vec<u8>>, CaseError> {
         match self.files.read(alloc, name) {
             Ok(bytes) => Ok(Some(bytes)),
-            Err(ReadAnswer::Missing) => Ok(None),
-            Err(answer) => Err(answer),
+            Err(answer) => no_bytes(answer),
         }
     }
 }
 
-fn sink(alloc: Global, failing: Option<u64>) -> Try<MemSink> {
+fn no_bytes(answer: ReadAnswer) -> Result<Option<Vec<u8>>, CaseError> {
+    match answer {
+        ReadAnswer::Missing => Ok(None),
+        ReadAnswer::Memory => Err(CaseError::Memory),
+        ReadAnswer::Failed => Err(CaseError::Malformed("a call fails behind its run")),
+    }
+}
+
+fn sink(alloc: Global, failing: Option<u64>) -> Result<MemSink, Memory> {
     let mut sink = MemSink::new(alloc);
     if let Some(call) = failing {
         sink.fail_call(call)?;

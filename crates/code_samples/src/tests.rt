@@ -1,3 +1,5 @@
+mod pieces;
 mod reader;
 mod stepper;
+mod timing;
 mod windows;

@@ -1,26 +1,19 @@
 -- Automata by the trees that are meant, where covering words may be asked for, which are of leftmost kernels.
-use Rattle.std.proofs.Common.{◌≡◌, Bool, true, false, List, Result, Ok, Err, MatchResult, ◌⊎◌, inl, inr, sym, subst, ◌∙◌}
+use Rattle.std.proofs.Common.{◌≡◌, Bool, true, false, List, Result, Ok, Err, MatchResult, ◌⊎◌, inl, sym, subst, ◌∙◌}
+use Rattle.std.proofs.Math.Logic.{⊎_elim}
 use Rattle.std.proofs.lemmas.Bool.{true≢false}
 use Rattle.lx_auto.specs.declared.automaton.Auto.{Auto}
 use Rattle.lx_base.specs.declared.faults.Stop.{Stop}
-use Rattle.lx_base.specs.declared.faults.Stop.TheVariants as stop
 use Rattle.lx_base.specs.declared.places.Pos.{Pos}
 use Rattle.lx_base.specs.declared.settings.Enc.{Enc}
 use Rattle.lx_posix.specs.PosixKernel.{HasTooManyPosixKernels}
 use Rattle.lx_regex.specs.Kernel.{HasTooManyKernels}
 use Rattle.lx_regex.specs.Order.{Policy, greedy, posix}
 use Rattle.lx_regex.specs.Term.{Term}
+use Rattle.lx_tdfa.proofs.Loops.Stops.{StopsBy-wider}
 use Rattle.lx_tdfa.specs.Making.{StopsBy}
 use Rattle.lx_compile.specs.Options.{policy_where}
 use Rattle.lx_compile.specs.ScannerFaults.{HasTooMany}
-
-neither : {A B : Type 0} → (A → ⊥) → (B → ⊥) → A ⊎ B → ⊥
-neither no_first no_second (inl first) = no_first first
-neither no_first no_second (inr second) = no_second second
-
-pub StopsBy-wider : {A B : Type 0} (at : Pos) (stopped : Stop) → (A → B) → StopsBy at A stopped → StopsBy at B stopped
-StopsBy-wider at stop.Memory wider stops = tt
-StopsBy-wider at (stop.Fault fault) wider stops = (stops.0, wider stops.1)
 
 module _ (enc : Enc) (rules : List Term) (at : Pos) (IsRight : Policy → Auto → Type 0) where
   abbrev TooMany : (by_posix cover : Bool) → Type 0
@@ -34,7 +27,7 @@ module _ (enc : Enc) (rules : List Term) (at : Pos) (IsRight : Policy → Auto �
   ends-greedy : (cover : Bool) (result : Result Auto Stop)
       → MatchResult result (λ auto. IsRight greedy auto × ¬ HasTooManyKernels enc rules) (StopsBy at (HasTooManyKernels enc rules))
       → Ends false cover result
-  ends-greedy cover (Ok auto) ended = (ended.0, neither ended.1 (λ both. ended.1 both.1))
+  ends-greedy cover (Ok auto) ended = (ended.0, ⊎_elim ended.1 (λ both. ended.1 both.1))
   ends-greedy cover (Err stopped) ended = StopsBy-wider at stopped (λ many. inl many) ended
 
   pub ends_greedily : (by_posix cover : Bool) (result : Result Auto Stop) → by_posix ≡ false
@@ -45,7 +38,7 @@ module _ (enc : Enc) (rules : List Term) (at : Pos) (IsRight : Policy → Auto �
   ends-posix : (cover : Bool) (result : Result Auto Stop) → ((cover ≡ true) × HasTooManyKernels enc rules → ⊥)
       → MatchResult result (λ auto. IsRight posix auto × ¬ HasTooManyPosixKernels enc rules) (StopsBy at (HasTooManyPosixKernels enc rules))
       → Ends true cover result
-  ends-posix cover (Ok auto) few ended = (ended.0, neither ended.1 few)
+  ends-posix cover (Ok auto) few ended = (ended.0, ⊎_elim ended.1 few)
   ends-posix cover (Err stopped) few ended = StopsBy-wider at stopped (λ many. inl many) ended
 
   pub ends_by_posix : (by_posix cover : Bool) (result : Result Auto Stop) → by_posix ≡ true → ((cover ≡ true) × HasTooManyKernels enc rules → ⊥)

@@ -1,6 +1,5 @@
 pub mod BestFronts
 pub mod CoveringWords
-pub mod EdgeFronts
 pub mod EdgeUnits
 pub mod MachineSteps
 pub mod OneCover
@@ -8,6 +7,5 @@ pub mod OpSteps
 pub mod Progress
 pub mod RunEdges
 pub mod RunStarts
-pub mod SearchSteps
 pub mod ToldMatches
 pub mod WordMatches

@@ -7,8 +7,8 @@ use Rattle.lx_base.specs.Spelling.{greatest_unit}
 use Rattle.lx_base.specs.declared.settings.Enc.{Enc}
 use Rattle.lx_base.specs.declared.settings.Enc.TheVariants.{Byte, Ucs2, Utf8, Utf16, Utf32}
 use Rattle.lx_encode.specs.Units.{unit_size}
-use Rattle.lx_cover.proofs.EdgeFronts.{IsPassed, edge-below, edge-on, passed-all}
 use Rattle.lx_cover.specs.Runs.{IsAlike}
+use Rattle.lx_search.proofs.EdgeFronts.{IsPassed, edge-below, edge-on, passed-all}
 use Rattle.lx_tdfa.specs.KernelStates.{next, target_of}
 
 -- the greatest unit, by the size of a unit

@@ -1,6 +1,6 @@
 -- How the first numbers of longest runs are gathered.
 use Rattle.std.proofs.Common.{◌≡◌, ◌≢◌, ◌⊎◌, inl, inr, ℕ, zero, suc, ◌<◌, List, [], ◌∷◌, ◌++◌, length, get_or, Option, Some, None, Bool, true, false, not, nat_eq, eq-eqb, eqb-true, refl, sym, ap, ◌∙◌, subst, arith}
-use Rattle.std.proofs.lemmas.Bool.{cases_lt}
+use Rattle.std.proofs.lemmas.Bool.{cases_lt, true≢false}
 use Rattle.std.proofs.lemmas.List.Elements.{Contains-append_cases, Contains-append_left, Contains-get_or, Contains-push}
 use Rattle.std.proofs.lemmas.List.Quantifiers.{all_pairs_push}
 use Rattle.std.specs.Option.{option_eq}
@@ -105,26 +105,20 @@ pub nil-length : (list : List ℕ) → length list ≡ 0 → list ≡ []
 nil-length [] none = refl
 nil-length (unit ∷ list) none = absurd (omega arith)
 
-both-ways : (b : Bool) → b ≡ false → b ≡ true → ⊥
-both-ways b one other = absurd (at (sym one ∙ other))
-  where
-    at : false ≡ true → ⊥
-    at e = cc
-
 pub options-same : (result : Bool) (one other : Option ℕ) → result ≡ not (option_eq nat_eq one other) → result ≡ false → one ≡ other
 options-same result None None told is = refl
-options-same result None (Some y) told is = absurd (both-ways result is told)
-options-same result (Some x) None told is = absurd (both-ways result is told)
+options-same result None (Some y) told is = absurd (true≢false (sym told ∙ is))
+options-same result (Some x) None told is = absurd (true≢false (sym told ∙ is))
 options-same result (Some x) (Some y) told is = at (nat_eq x y) refl told
   where
     at : (b : Bool) → nat_eq x y ≡ b → result ≡ not b → Some x ≡ Some y
     at true same now = ap Some (eqb-true x y same)
-    at false same now = absurd (both-ways result is now)
+    at false same now = absurd (true≢false (sym now ∙ is))
 
 pub options-apart : (result : Bool) (one other : Option ℕ) → result ≡ not (option_eq nat_eq one other) → result ≡ true → one ≢ other
-options-apart result None None told is same = both-ways result told is
+options-apart result None None told is same = true≢false (sym is ∙ told)
 options-apart result None (Some y) told is same = cc same
 options-apart result (Some x) None told is same = cc same
 options-apart result (Some x) (Some y) told is same =
     let equal : x ≡ y = cc same in
-    both-ways result (told ∙ ap not (eq-eqb x y equal)) is
+    true≢false (sym is ∙ told ∙ ap not (eq-eqb x y equal))

@@ -1,6 +1,5 @@
 pub mod Cover
 pub mod Cursors
-pub mod Found
 pub mod Machine
 pub mod Matches
 pub mod Outcomes

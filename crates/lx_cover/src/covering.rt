@@ -3,16 +3,16 @@ ghost use Rattle.std.specs.Prelude.{◌≡◌, ◌+◌, ◌<◌, ◌≤◌, All,
 ghost use Rattle.lx_auto.specs.Automaton.{IsAuto, state_of};
 ghost use Rattle.lx_auto.specs.declared.automaton.Edge.{Edge as EdgeValue};
 ghost use Rattle.lx_base.specs.Spelling.{greatest_unit as unit_limit};
-ghost use Rattle.lx_cover.specs.Found.{found_at, trace_of};
 ghost use Rattle.lx_cover.specs.Progress.{AreCoveringBefore, IsCounted, IsOver, StopsOver};
+ghost use Rattle.lx_search.specs.Found.{found_at, trace_of};
 ghost use Rattle.lx_tdfa.specs.KernelStates.{next};
 ghost use Rattle.lx_tdfa.specs.Searches.{IsTrace};
 
 use crate::runs::run_starts;
-use crate::search::{Found, word_to};
 use crate::words::{Words, word_on};
 use lx_auto::Auto;
 use lx_base::{Enc, Memory, Word};
+use lx_search::{Found, word_to};
 use std::alloc::Global;
 
 /// How many units the covering words of a scanner may have together.

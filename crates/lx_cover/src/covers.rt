@@ -11,10 +11,10 @@ ghost use Rattle.lx_tdfa.specs.Promise.{IsAutoOf};
 ghost use Rattle.lx_tnfa.specs.Tnfa.{IsTnfaOf};
 
 use crate::covering::{CoverStop, Covering};
-use crate::search::searched;
 use crate::words::Words;
 use lx_auto::Auto;
 use lx_base::{Enc, Memory, Pos, Stop};
+use lx_search::{Scope, searched};
 use lx_tdfa::determinize;
 use lx_tnfa::Tnfa;
 use std::alloc::Global;
@@ -43,7 +43,7 @@ pub fn cover(alloc: Global, t: &Tnfa, enc: Enc) -> Result<Words, CoverStop>
         (StopsCover enc (terms_of patterns)) }
 {
     let auto = kernel_states(alloc, t)?;
-    let found = searched(alloc, &auto)?;
+    let found = searched(alloc, &auto, Scope::Every)?;
     let places = found.as_slice();
     let mut covering = Covering::new(alloc)?;
     for place in 0..places.len() {

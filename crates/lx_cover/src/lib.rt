@@ -10,7 +10,6 @@ mod machine;
 mod matches;
 mod registers;
 mod runs;
-mod search;
 mod values;
 mod words;
 mod writes;

@@ -39,25 +39,57 @@ fn fallback_size(falls: bool) -> u64
     if falls { 1 } else { 0 }
 }
 
+/// Where matches of a scanner end, without what was known of it before.
+#[derive(Drop)]
+struct EndPlaces<'a> {
+    ended: Firsts<'a>,
+    saved: Firsts<'a>,
+    fall: u64,
+    restores: u64,
+    rules: u64,
+}
+
+/// Where matches of a scanner end, by what is known of it.
+fn end_places<'a>(alloc: Global, plans: &PartPlans<'a>) -> Result<EndPlaces<'a>, Memory>
+    requires { ArePlans plans.now }
+    ensures { IfOk result (λ places. ArePartEnds (record {
+      plans = plans.now;
+      ended = places.ended;
+      saved = places.saved;
+      fall = places.fall;
+      restores = places.restores;
+      rules = places.rules;
+    })) }
+{
+    let states = plans.input.auto.states.as_slice();
+    let fall = plans.states_end()?;
+    let restores = sum(fall, fallback_size(plans.marks.any_falls(states)))?;
+    let saved = saved_accepts(alloc, &plans.marks, states)?;
+    let rules = sum(restores, saved.list.len() as u64)?;
+    let ended = ended_accepts(alloc, &plans.marks, states)?;
+    Ok(EndPlaces {
+        ended,
+        saved,
+        fall,
+        restores,
+        rules,
+    })
+}
+
 /// The blocks where matches of a scanner end.
 pub(crate) fn part_ends<'a>(alloc: Global, plans: PartPlans<'a>) -> Result<PartEnds<'a>, Memory>
     requires { ArePlans plans }
     ensures ends { IfOk result ArePartEnds }
     ensures plans { IfOk result (λ ends. ends.plans ≡ plans.entry) }
 {
-    let states = plans.input.auto.states.as_slice();
-    let ended = ended_accepts(alloc, &plans.marks, states)?;
-    let saved = saved_accepts(alloc, &plans.marks, states)?;
-    let fall = plans.states_end()?;
-    let restores = sum(fall, fallback_size(plans.marks.any_falls(states)))?;
-    let rules = sum(restores, saved.list.len() as u64)?;
+    let places = end_places(alloc, &plans)?;
     Ok(PartEnds {
         plans,
-        ended,
-        saved,
-        fall,
-        restores,
-        rules,
+        ended: places.ended,
+        saved: places.saved,
+        fall: places.fall,
+        restores: places.restores,
+        rules: places.rules,
     })
 }
 

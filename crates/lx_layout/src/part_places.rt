@@ -1,5 +1,5 @@
 //! Where the code of each state of a scanner stands.
-ghost use Rattle.std.specs.Prelude.{◌≡◌, ◌<◌, IfOk, length};
+ghost use Rattle.std.specs.Prelude.{◌≡◌, ◌<◌, ◌++◌, IfOk, OnOk, length};
 ghost use Rattle.lx_layout.specs.LaidParts.{ArePartEnds, ArePlaces, begin_at, place_at, places_from};
 
 use crate::blocks::sum;
@@ -35,6 +35,20 @@ fn place_at(ends: &PartEnds<'_>, number: usize, from: u64) -> Result<u64, Memory
     ends.end_block(from, &state.accept)
 }
 
+/// Appends where the code of each state stands.
+fn append_places(places: &mut Vec<u64>, ends: &PartEnds<'_>) -> Result<(), Memory>
+    requires { ArePartEnds ends.now }
+    ensures { OnOk result (places.new.items ≡ places.old.items
+        ++ places_from ends.now.plans 0 (begin_at ends.now.plans) ends.now.plans.input.auto.now.states) }
+{
+    let mut from = ends.plans.states_begin()?;
+    for number in 0..ends.plans.states.len() {
+        places.push(place_at(ends, number, from)?)?;
+        from = sum(from, ends.plans.state_size(number)?)?;
+    }
+    Ok(())
+}
+
 /// Where the code of each state stands.
 fn state_places(alloc: Global, ends: &PartEnds<'_>) -> Result<Vec<u64>, Memory>
     requires { ArePartEnds ends.now }
@@ -42,11 +56,7 @@ fn state_places(alloc: Global, ends: &PartEnds<'_>) -> Result<Vec<u64>, Memory>
         ≡ places_from ends.now.plans 0 (begin_at ends.now.plans) ends.now.plans.input.auto.now.states) }
 {
     let mut places = Vec::new(alloc);
-    let mut from = ends.plans.states_begin()?;
-    for number in 0..ends.plans.states.len() {
-        places.push(place_at(ends, number, from)?)?;
-        from = sum(from, ends.plans.state_size(number)?)?;
-    }
+    append_places(&mut places, ends)?;
     Ok(places)
 }
 

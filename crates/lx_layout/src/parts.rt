@@ -3,12 +3,13 @@ ghost use Rattle.std.specs.Prelude.{◌≡◌, ℕ, ◌+◌, List, ◌++◌, IfO
 ghost use Rattle.lx_auto.specs.Automaton.{IsAuto};
 ghost use Rattle.lx_ccode.specs.declared.piece.CodeBlock.{CodeBlock};
 ghost use Rattle.lx_ccode.specs.declared.piece.Stmt.{Stmt};
-ghost use Rattle.lx_layout.specs.LaidParts.{ArePartEnds, ArePlaces, IsTold, asked_at, codes_at, ended_at, seen_given};
+ghost use Rattle.lx_layout.specs.LaidParts.{ArePartEnds, ArePlaces, ArePlans, IsTold, asked_at, codes_at, ended_at, seen_given};
 ghost use Rattle.lx_layout.specs.Layout.{ending_blocks};
 ghost use Rattle.lx_layout.specs.Parts.{IsPartOf, Part, given_asked, labelled, part_blocks};
 ghost use Rattle.lx_layout.specs.Plans.{unlabelled};
 ghost use Rattle.lx_layout.specs.RuleEnds.{AreEndsIndexed, endings_of};
 ghost use Rattle.lx_layout.specs.SuppliedLayout.{end_rule_part};
+ghost use Rattle.lx_layout.specs.declared.state_plans.PartPlans.{PartPlans};
 
 use crate::blocks::append_block;
 use crate::demands::PartInput;
@@ -63,6 +64,23 @@ fn append_end_rule(
     }
 }
 
+/// Appends the blocks of the ends of all rules.
+fn append_rules(
+    alloc: Global,
+    blocks: &mut Vec<CodeBlock>,
+    ends: &PartEnds<'_>,
+) -> Result<(), Memory>
+    requires ends { ArePartEnds ends.now }
+    requires told { IsTold ends.now.plans.input }
+    ensures { OnOk result (blocks.new.items ≡ blocks.old.items
+        ++ unlabelled (ending_blocks (endings_of ends.now.plans.input.ends.now) (ended_at ends.now.plans)
+        ++ end_rule_part (endings_of ends.now.plans.input.ends.now) ends.now.plans.input.end_rule)) }
+{
+    let index = index_of(alloc, ends.plans.input.ends)?;
+    append_endings(alloc, blocks, &index, ends)?;
+    append_end_rule(alloc, blocks, &index, &ends.plans.input)
+}
+
 /// Appends the blocks of a scanner, of which none begins a condition's, and tells the first number by which what reads is not stored.
 fn append_codes(
     alloc: Global,
@@ -79,10 +97,45 @@ fn append_codes(
     let asked = append_states(alloc, blocks, places)?;
     append_fallback(alloc, blocks, ends)?;
     append_restores(alloc, blocks, ends)?;
-    let index = index_of(alloc, ends.plans.input.ends)?;
-    append_endings(alloc, blocks, &index, ends)?;
-    append_end_rule(alloc, blocks, &index, &ends.plans.input)?;
+    append_rules(alloc, blocks, ends)?;
     Ok(asked)
+}
+
+/// Where the code of a scanner stands whose first block has the number `begin`, and which stores what reads by numbers from `first` on.
+fn input_places<'a>(
+    alloc: Global,
+    input: &PartInput<'a>,
+    begin: u64,
+    first: u64,
+) -> Result<PartPlaces<'a>, Memory>
+    requires { IsAuto input.now.auto.now }
+    ensures places { IfOk result ArePlaces }
+    ensures input { IfOk result (λ places. places.ends.plans.input ≡ input.now) }
+    ensures begin { IfOk result (λ places. places.ends.plans.begin ≡ begin) }
+    ensures first { IfOk result (λ places. places.ends.plans.first ≡ first) }
+{
+    let plans = part_plans(alloc, input, begin, first)?;
+    let ends = part_ends(alloc, plans)?;
+    part_places(alloc, ends)
+}
+
+/// Appends the blocks of a scanner without its label, of which the first one has the number `begin`, and tells the first number behind
+/// those by which what reads is stored.
+fn append_unlabelled(
+    alloc: Global,
+    blocks: &mut Vec<CodeBlock>,
+    input: &PartInput<'_>,
+    begin: u64,
+    first: u64,
+) -> Result<u64, Memory>
+    requires formed { IsAuto input.now.auto.now }
+    requires told { IsTold input.now }
+    ensures laid { OnOk result ((plans : PartPlans) × ArePlans plans × (plans.input ≡ input.now) × (plans.begin ≡ begin) × (plans.first ≡ first)
+        × (blocks.new.items ≡ blocks.old.items ++ unlabelled (codes_at plans))) }
+    ensures asked { IfOk result (λ next. next ≡ first + given_asked (seen_given input.now)) }
+{
+    let places = input_places(alloc, input, begin, first)?;
+    append_codes(alloc, blocks, &places)
 }
 
 /// Makes the block with the number `begin` that at which the scanner of a condition begins.
@@ -119,10 +172,7 @@ pub(crate) fn append_part(
     ensures asked { IfOk result (λ next. next ≡ first + given_asked (seen_given input.now)) }
 {
     let begin = blocks.len();
-    let plans = part_plans(alloc, input, begin as u64, first)?;
-    let ends = part_ends(alloc, plans)?;
-    let places = part_places(alloc, ends)?;
-    let next = append_codes(alloc, blocks, &places)?;
+    let next = append_unlabelled(alloc, blocks, input, begin as u64, first)?;
     label(alloc, blocks, begin, input.cond)?;
     Ok(next)
 }

@@ -1,10 +1,11 @@
 //! The blocks of what reads a unit.
-ghost use Rattle.std.specs.Prelude.{◌≡◌, ◌++◌, [], None, IfOk, OnOk};
+ghost use Rattle.std.specs.Prelude.{◌≡◌, ◌+◌, ◌++◌, ◌∷◌, [], None, IfOk, OnOk};
+ghost use Rattle.lx_ccode.specs.declared.piece.Stmt.TheVariants as stmt;
 ghost use Rattle.lx_layout.specs.Layout.{class_block};
 ghost use Rattle.lx_layout.specs.Plans.{unlabelled};
 ghost use Rattle.lx_layout.specs.SuppliedLayout.{check_blocks, check_size, read_blocks, reader_blocks, reader_size, with_blocks};
 ghost use Rattle.lx_layout.specs.Supplies.{entry, need_code, store_code};
-ghost use Rattle.lx_layout.specs.TestTrees.{inner_blocks, tree_code};
+ghost use Rattle.lx_layout.specs.TestTrees.{inner_blocks, inner_size, tree_code};
 ghost use Rattle.lx_layout.specs.Views.{seen_tree};
 ghost use Rattle.lx_layout.specs.Ways.{constant, way_of};
 
@@ -57,6 +58,36 @@ fn way_of(exits: Exits, class: Option<usize>) -> Result<u64, Memory>
     class_block(exits.first, exits.end, class)
 }
 
+/// Appends the jump to the class at a place.
+fn append_goto(stmts: &mut Vec<Stmt>, exits: Exits, class: Option<usize>) -> Result<(), Memory>
+    ensures { OnOk result (stmts.new.items ≡ stmts.old.items ++ stmt.Goto (way_of exits class) ∷ []) }
+{
+    let block = way_of(exits, class)?;
+    stmts.push(Stmt::Goto(block))?;
+    Ok(())
+}
+
+/// Appends the test that leads units up to a greatest one to the class at a place.
+fn append_test(
+    stmts: &mut Vec<Stmt>,
+    exits: Exits,
+    greatest: u32,
+    class: Option<usize>,
+) -> Result<(), Memory>
+    ensures { OnOk result (stmts.new.items ≡ stmts.old.items ++ stmt.IfUnit greatest (way_of exits class) ∷ []) }
+{
+    let block = way_of(exits, class)?;
+    stmts.push(Stmt::IfUnit(greatest, block))?;
+    Ok(())
+}
+
+/// The block behind that of a lower tree's first tests, which has the number `next`, and those of its lower tests.
+fn block_behind(next: u64, low: &TestTree) -> Result<u64, Memory>
+    ensures { IfOk result (λ block. block ≡ (1 + next) + inner_size (seen_tree low.now)) }
+{
+    sum(sum(1, next)?, inner_size(low)?)
+}
+
 /// Appends the statements of tests. The blocks of the lower tests begin at `next`.
 fn append_tests(
     stmts: &mut Vec<Stmt>,
@@ -67,16 +98,13 @@ fn append_tests(
     ensures { OnOk result (stmts.new.items ≡ stmts.old.items ++ tree_code next (with_blocks (way_of exits) (seen_tree tree.now))) }
 {
     match tree {
-        TestTree::Leaf(class) => {
-            stmts.push(Stmt::Goto(way_of(exits, *class)?))?;
-            Ok(())
-        }
+        TestTree::Leaf(class) => append_goto(stmts, exits, *class),
         TestTree::Test {
             greatest,
             class,
             high,
         } => {
-            stmts.push(Stmt::IfUnit(*greatest, way_of(exits, *class)?))?;
+            append_test(stmts, exits, *greatest, *class)?;
             append_tests(stmts, exits, next, high)
         }
         TestTree::Fork {
@@ -85,10 +113,25 @@ fn append_tests(
             high,
         } => {
             stmts.push(Stmt::IfUnit(*greatest, next))?;
-            let behind = sum(sum(1, next)?, inner_size(low)?)?;
-            append_tests(stmts, exits, behind, high)
+            append_tests(stmts, exits, block_behind(next, low)?, high)
         }
     }
+}
+
+/// Appends the block of a lower tree's first tests. The blocks of its lower tests begin at `next`.
+fn append_root(
+    alloc: Global,
+    blocks: &mut Vec<CodeBlock>,
+    exits: Exits,
+    next: u64,
+    tree: &TestTree,
+) -> Result<(), Memory>
+    ensures { OnOk result (blocks.new.items
+        ≡ blocks.old.items ++ unlabelled (tree_code next (with_blocks (way_of exits) (seen_tree tree.now)) ∷ [])) }
+{
+    let mut stmts = Vec::new(alloc);
+    append_tests(&mut stmts, exits, next, tree)?;
+    append_block(blocks, stmts)
 }
 
 /// Appends the blocks of the lower tests. The first of them has the number `next`.
@@ -107,12 +150,9 @@ fn append_lower(
         TestTree::Test { high, .. } => append_lower(alloc, blocks, exits, next, high),
         TestTree::Fork { low, high, .. } => {
             let inside = sum(1, next)?;
-            let mut stmts = Vec::new(alloc);
-            append_tests(&mut stmts, exits, inside, low)?;
-            append_block(blocks, stmts)?;
+            append_root(alloc, blocks, exits, inside, low)?;
             append_lower(alloc, blocks, exits, inside, low)?;
-            let behind = sum(inside, inner_size(low)?)?;
-            append_lower(alloc, blocks, exits, behind, high)
+            append_lower(alloc, blocks, exits, block_behind(next, low)?, high)
         }
     }
 }

@@ -1,5 +1,5 @@
 //! The blocks for the end of the input.
-ghost use Rattle.std.specs.Prelude.{◌≡◌, ◌++◌, true, IfOk, OnOk};
+ghost use Rattle.std.specs.Prelude.{◌≡◌, ◌∷◌, [], ◌++◌, true, IfOk, OnOk};
 ghost use Rattle.lx_layout.specs.Plans.{unlabelled};
 ghost use Rattle.lx_layout.specs.SuppliedLayout.{refill_blocks};
 ghost use Rattle.lx_layout.specs.Supplies.{back_code, end_test, entry, try_code};
@@ -53,16 +53,43 @@ fn back_code(alloc: Global, block: u64, end: u64) -> Result<Vec<Stmt>, Memory>
     Ok(stmts)
 }
 
+/// Appends the block that tests for the end of the input.
+fn append_test(
+    alloc: Global,
+    blocks: &mut Vec<CodeBlock>,
+    asked: u64,
+    to: u64,
+) -> Result<(), Memory>
+    ensures { OnOk result (blocks.new.items ≡ blocks.old.items ++ unlabelled (end_test asked to ∷ [])) }
+{
+    append_block(blocks, end_test(alloc, asked, to)?)
+}
+
+/// Appends the block that tries a refill.
+fn append_try(alloc: Global, blocks: &mut Vec<CodeBlock>, turn: Turn) -> Result<(), Memory>
+    ensures { OnOk result (blocks.new.items ≡ blocks.old.items
+        ++ unlabelled (try_code (constant turn.stored) entry turn.block turn.end ∷ [])) }
+{
+    append_block(blocks, try_code(alloc, turn.stored, turn.block, turn.end)?)
+}
+
+/// Appends the block of a scanner that comes back after a refill.
+fn append_back(alloc: Global, blocks: &mut Vec<CodeBlock>, turn: Turn) -> Result<(), Memory>
+    ensures { OnOk result (blocks.new.items ≡ blocks.old.items ++ unlabelled (back_code turn.block turn.end ∷ [])) }
+{
+    append_block(blocks, back_code(alloc, turn.block, turn.end)?)
+}
+
 /// Appends the blocks of a refill.
 fn append_refill(alloc: Global, blocks: &mut Vec<CodeBlock>, turn: Turn) -> Result<(), Memory>
     ensures { OnOk result (blocks.new.items ≡ blocks.old.items
         ++ unlabelled (refill_blocks (constant turn.stored) entry true (constant turn.stored) turn.block turn.here turn.to turn.end)) }
 {
     let asked = sum(1, turn.here)?;
-    append_block(blocks, end_test(alloc, asked, turn.to)?)?;
-    append_block(blocks, try_code(alloc, turn.stored, turn.block, turn.end)?)?;
+    append_test(alloc, blocks, asked, turn.to)?;
+    append_try(alloc, blocks, turn)?;
     if turn.stored.is_some() {
-        append_block(blocks, back_code(alloc, turn.block, turn.end)?)?;
+        append_back(alloc, blocks, turn)?;
     }
     Ok(())
 }
@@ -80,5 +107,5 @@ pub(crate) fn append_turn(
     if tries {
         return append_refill(alloc, blocks, turn);
     }
-    append_block(blocks, end_test(alloc, turn.end, turn.to)?)
+    append_test(alloc, blocks, turn.end, turn.to)
 }

@@ -6,6 +6,10 @@ ghost use Rattle.lx_layout.specs.LaidParts.{ArePlans, AreStatePlans, IsStatePlan
 ghost use Rattle.lx_layout.specs.Layout.{end_size, lone_size};
 ghost use Rattle.lx_layout.specs.Plans.{HaveOrder};
 ghost use Rattle.lx_layout.specs.SuppliedLayout.{lone_number};
+ghost use Rattle.lx_layout.specs.TestTrees.{IsTreeOf};
+ghost use Rattle.lx_layout.specs.TransitionClasses.{transition_classes};
+ghost use Rattle.lx_layout.specs.UnitApart.{reader_split};
+ghost use Rattle.lx_layout.specs.Views.{seen_classes, seen_tree};
 
 use crate::blocks::sum;
 use crate::demands::PartInput;
@@ -14,7 +18,7 @@ use crate::readers::reader_size;
 use crate::test_trees::{TestTree, split_tree};
 use crate::transition_classes::{TransitionClasses, transition_classes};
 use crate::unit_splits::reader_split;
-use lx_auto::{Accept, State};
+use lx_auto::{Accept, Edge, State};
 use lx_base::Memory;
 use std::alloc::Global;
 
@@ -42,6 +46,22 @@ pub(crate) struct PartPlans<'a> {
     pub states: Vec<StatePlan<'a>>,
 }
 
+/// The tests for units up to a greatest one, by edges and their classes, where a unit stands at the end of the input or not.
+fn tests_of(
+    alloc: Global,
+    eof: Option<u32>,
+    greatest: u32,
+    classes: &TransitionClasses<'_>,
+    edges: &[Edge],
+) -> Result<TestTree, Memory>
+    requires order { AreApart edges.now }
+    requires classes { seen_classes classes.now.keys ≡ transition_classes edges.now }
+    ensures { IfOk result (λ tests. IsTreeOf (reader_split eof greatest edges.now) (seen_tree tests)) }
+{
+    let split = reader_split(alloc, eof, greatest, classes, edges)?;
+    split_tree(alloc, &split)
+}
+
 /// The transition classes and the tests of a state for units up to a greatest one, where a unit stands at the end of the input or not.
 fn plan_of<'a>(
     alloc: Global,
@@ -55,8 +75,7 @@ fn plan_of<'a>(
 {
     let edges = state.edges.as_slice();
     let classes = transition_classes(alloc, edges)?;
-    let split = reader_split(alloc, eof, greatest, &classes, edges)?;
-    let tests = split_tree(alloc, &split)?;
+    let tests = tests_of(alloc, eof, greatest, &classes, edges)?;
     Ok(StatePlan {
         state,
         classes,

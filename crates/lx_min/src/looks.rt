@@ -80,6 +80,23 @@ fn look_of<'a>(alloc: Global, numbers: &mut Numbers<'a>, state: &'a State) -> Re
     Ok(Look { accept, ways })
 }
 
+/// The looks of states.
+fn looks_in<'a>(
+    alloc: Global,
+    numbers: &mut Numbers<'a>,
+    states: &'a [State],
+) -> Result<Vec<Look>, Memory>
+    requires { AreDistinct numbers.old.lists × AreDistinct numbers.old.accepts }
+    ensures looks { IfOk result (λ looks. AllZip (IsLook numbers.new.lists numbers.new.accepts) states.now looks.items) }
+    ensures distinct { OnOk result (AreDistinct numbers.new.lists × AreDistinct numbers.new.accepts) }
+{
+    let mut looks = Vec::new(alloc);
+    for state in states {
+        looks.push(look_of(alloc, numbers, state)?)?;
+    }
+    Ok(looks)
+}
+
 /// The looks of the states of an automaton, by their numbers.
 pub(crate) fn looks_of(alloc: Global, auto: &Auto) -> Result<Vec<Look>, Memory>
     requires { IsAuto auto.now }
@@ -89,10 +106,5 @@ pub(crate) fn looks_of(alloc: Global, auto: &Auto) -> Result<Vec<Look>, Memory>
         lists: ListNumbers::new(alloc),
         accepts: AcceptNumbers::new(alloc),
     };
-    let mut looks = Vec::new(alloc);
-    for state in auto.states.as_slice() {
-        let look = look_of(alloc, &mut numbers, state)?;
-        looks.push(look)?;
-    }
-    Ok(looks)
+    looks_in(alloc, &mut numbers, auto.states.as_slice())
 }

@@ -43,6 +43,33 @@ impl Round {
         Ok(place as u32)
     }
 
+    /// The classes of states, 0 for those to which no walk comes. If there is no class yet for a state, it is chosen for a new one.
+    fn classes_of(
+        &mut self,
+        alloc: Global,
+        met: &[bool],
+        looks: &[Look],
+        given: &Partition,
+    ) -> Result<Vec<u32>, Memory>
+        requires few { length looks.now < 4294967295 }
+        requires fit { length met.now ≡ length looks.now }
+        requires marked { AreMarked met.now given.now.chosen.items }
+        requires chosen { AreChosen (class_in given.now.class.items) looks.now self.old.signatures.keys self.old.chosen.items }
+        requires same { self.old.chosen.items ≡ given.now.chosen.items }
+        ensures { IfOk result (λ class.
+            IsRefined met.now looks.now given.now (record { class = class; chosen = self.new.chosen })) }
+    {
+        let mut class = Vec::with_capacity(alloc, met.len())?;
+        for (state, is_met) in met.iter().enumerate() {
+            if *is_met {
+                class.push(self.class_of(alloc, given.class.as_slice(), looks, state as u32)?)?;
+            } else {
+                class.push(0)?;
+            }
+        }
+        Ok(class)
+    }
+
     /// The round in which the states that were chosen are chosen for the same classes.
     fn of(alloc: Global, looks: &[Look], given: &Partition) -> Result<Round, Memory>
         requires few { length looks.now < 4294967295 }
@@ -76,14 +103,7 @@ pub(crate) fn refined(
     ensures { IfOk result (IsRefined met.now looks.now given.now) }
 {
     let mut round = Round::of(alloc, looks, given)?;
-    let mut class = Vec::with_capacity(alloc, met.len())?;
-    for (state, is_met) in met.iter().enumerate() {
-        if *is_met {
-            class.push(round.class_of(alloc, given.class.as_slice(), looks, state as u32)?)?;
-        } else {
-            class.push(0)?;
-        }
-    }
+    let class = round.classes_of(alloc, met, looks, given)?;
     Ok(Partition {
         class,
         chosen: round.chosen,

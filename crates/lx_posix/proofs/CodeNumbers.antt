@@ -5,3 +5,4 @@ pub mod WaySymbols
 pub mod WaysCompared
 pub mod ForkedWays
 pub mod FoundNumbers
+pub mod WaySpots

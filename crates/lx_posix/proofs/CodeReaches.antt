@@ -1,5 +1,6 @@
 -- The targets that the code finds go on as the segments of the search do.
 pub mod ReachLoops
+pub mod WayCourses
 pub mod WayEvents
 pub mod LeafPoints
 pub mod PlacesAfter

@@ -2,6 +2,7 @@ pub mod Accepts
 pub mod Beginnings
 pub mod Closures
 pub mod Comparing
+pub mod Courses
 pub mod Determining
 pub mod Examples
 pub mod Finding
@@ -19,6 +20,7 @@ pub mod Paths
 pub mod PosixKernel
 pub mod RankTables
 pub mod Reaching
+pub mod Spots
 pub mod Starts
 pub mod Sweeps
 pub mod Walks

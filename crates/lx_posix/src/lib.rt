@@ -1,9 +1,10 @@
-//! The POSIX order of parses, and the laws by which kernels carry it from one unit to the next.
+//! The POSIX order of parses, the laws by which kernels carry it from one unit to the next, and a determinization under it.
 #![tactic(auto)]
 
 mod automata;
 mod beginnings;
 mod closures;
+mod courses;
 pub mod examples;
 mod kept;
 pub mod laws;
@@ -11,6 +12,7 @@ mod numbers;
 mod points;
 mod reaches;
 mod search;
+mod spots;
 mod starts;
 mod states;
 

@@ -5,6 +5,7 @@ ghost use Rattle.lx_posix.specs.Beginnings.{AreBeginnings, AreByRule};
 ghost use Rattle.lx_posix.specs.Comparing.{Ranked, compared};
 ghost use Rattle.lx_posix.specs.LevelSearch.{ArePlaceDepths};
 ghost use Rattle.lx_posix.specs.Finding.{IsSearchable, beginning_at};
+ghost use Rattle.lx_posix.specs.Spots.{spots_to};
 ghost use Rattle.lx_posix.specs.WayNumbers.{FitsOnWay, IsFound, depth_behind, lowest_on_way, lowest_to, next_state, number_of_fork, number_of_ways, numbers_between, state_number, walk_to};
 ghost use Rattle.lx_regex.specs.Automaton.{automaton};
 ghost use Rattle.lx_regex.specs.Pattern.{Pattern, terms_of};
@@ -12,12 +13,14 @@ ghost use Rattle.lx_tnfa.specs.Live.{state_of};
 ghost use Rattle.lx_tnfa.specs.Moves.{moves_in};
 ghost use Rattle.lx_tnfa.specs.Tnfa.{IsTnfaOf};
 
+use crate::courses::shared;
 use crate::points::{Beginning, Point};
 use crate::search::Found;
+use crate::spots::Spot;
 use lx_tnfa::Tnfa;
 
 /// The state to which the move with this index leads.
-fn next_state(t: &Tnfa, state: u32, index: u32) -> u32
+pub(crate) fn next_state(t: &Tnfa, state: u32, index: u32) -> u32
     requires { index < length (moves_in (state_of t.now.states state)) }
     ensures { result ≡ next_state t.now state index }
 {
@@ -25,7 +28,7 @@ fn next_state(t: &Tnfa, state: u32, index: u32) -> u32
 }
 
 /// How many parts are open behind a state to which a move leads from such a depth: at an even state a part begins, at an odd one it ends.
-fn depth_behind(depth: u32, state: u32) -> u32
+pub(crate) fn depth_behind(depth: u32, state: u32) -> u32
     requires { depth_behind depth state < 2 ^ 32 }
     ensures { result ≡ depth_behind depth state }
 {
@@ -95,7 +98,7 @@ fn number_between(beginnings: &[Beginning], first: u32, last: u32) -> u32
 }
 
 /// The state from which moves lead on; from within a leaf none do.
-fn state_number(at: Point) -> u32
+pub(crate) fn state_number(at: Point) -> u32
     ensures { result ≡ state_number at }
 {
     match at {
@@ -121,29 +124,42 @@ fn lowest_to(t: &Tnfa, beginnings: &[Beginning], found: &Found) -> u32
     )
 }
 
-/// The number of two ways from one beginning. It takes no memory.
-fn number_of_one(t: &Tnfa, beginnings: &[Beginning], found: &Found, other: &Found) -> u32
+/// The number of two ways from one beginning, by the spots of the first. It takes no memory.
+fn number_of_one(
+    t: &Tnfa,
+    beginnings: &[Beginning],
+    spots: &[Spot],
+    found: &Found,
+    other: &Found,
+) -> u32
     requires depths { IsSearchable t.now beginnings.now }
+    requires spots { spots.now ≡ spots_to t.now beginnings.now found.now }
     requires way { IsFound t.now beginnings.now found.now }
     requires other_way { IsFound t.now beginnings.now other.now }
     requires one { found.now.from ≡ other.now.from }
     ensures { let beginning = beginning_at beginnings.now found.now.from
         in result ≡ number_of_fork t.now (state_number beginning.at) beginning.depth found.now.way other.now.way }
 {
-    let beginning = &beginnings[found.from as usize];
-    number_of_fork(
-        t,
-        state_number(beginning.at),
-        beginning.depth,
-        found.way.as_slice(),
-        other.way.as_slice(),
-    )
+    let way = found.way.as_slice();
+    let others = other.way.as_slice();
+    let count = shared(way, others);
+    let spot = spots[count];
+    let left = &way[count..];
+    let behind = &others[count..];
+    number_of_fork(t, spot.state, spot.depth, left, behind)
 }
 
 /// The number of two ways to neighbours of the next kernel, whichever units are read there: how many parts stay open that are open on
-/// both before they part. It takes no memory.
-pub(crate) fn number(t: &Tnfa, beginnings: &[Beginning], found: &Found, other: &Found) -> u32
+/// both before they part. The spots are those of the first way. It takes no memory.
+pub(crate) fn number(
+    t: &Tnfa,
+    beginnings: &[Beginning],
+    spots: &[Spot],
+    found: &Found,
+    other: &Found,
+) -> u32
     requires depths { IsSearchable t.now beginnings.now }
+    requires spots { spots.now ≡ spots_to t.now beginnings.now found.now }
     requires way { IsFound t.now beginnings.now found.now }
     requires other_way { IsFound t.now beginnings.now other.now }
     ensures is { result ≡ number_of_ways t.now beginnings.now found.now other.now }
@@ -154,7 +170,7 @@ pub(crate) fn number(t: &Tnfa, beginnings: &[Beginning], found: &Found, other: &
         other.now.from (walk_to t.now (terms_of patterns) ranks other.now unit second)).number }
 {
     if found.from == other.from {
-        return number_of_one(t, beginnings, found, other);
+        return number_of_one(t, beginnings, spots, found, other);
     }
     let first = found.from.min(other.from);
     let last = found.from.max(other.from);

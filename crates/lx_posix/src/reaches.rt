@@ -1,9 +1,12 @@
 //! The targets to which the ways of a search lead, with the tag events on them.
 ghost use Rattle.std.specs.Prelude.{◌≡◌, ℕ, ◌+◌, ◌<◌, ◌^◌, ◌++◌, All, IfOk, OnOk, length, replicate};
-ghost use Rattle.lx_posix.specs.Finding.{IsFoundAt, IsWay, beginning_at};
-ghost use Rattle.lx_posix.specs.Reaching.{IsBelow, IsWayFrom, events_from, events_on, found_reaches, origins_of, reaches_at, reaches_of, source_of};
+ghost use Rattle.lx_posix.specs.Courses.{moves_on};
+ghost use Rattle.lx_posix.specs.Finding.{IsFoundAt, beginning_at};
+ghost use Rattle.lx_posix.specs.Reaching.{IsBelow, events_from, found_reaches, origins_of, reaches_at, reaches_of, source_of};
+ghost use Rattle.lx_posix.specs.WayNumbers.{state_number};
 ghost use Rattle.lx_posix.specs.declared.points.Point.TheVariants as point;
 
+use crate::courses::{Mark, Way, turn};
 use crate::points::{Beginning, Point};
 use crate::search::Found;
 use lx_base::{Memory, Sequence};
@@ -17,29 +20,21 @@ pub(crate) struct Reaches {
     pub origins: Vec<usize>,
 }
 
-/// The tag events on a way from a state by moves with these indices, in order.
-fn events_on(alloc: Global, t: &Tnfa, state: u32, way: &[u32]) -> Result<Vec<Event>, Memory>
-    requires { (to : ℕ) × IsWay t.now state way.now to }
-    ensures { IfOk result (λ events. events.items ≡ events_on t.now state way.now) }
+/// The way to a point, with the state from which it begins. Within a leaf no move is made.
+fn way_to<'a>(beginnings: &[Beginning], found: &'a Found) -> Way<'a>
+    requires { found.now.from < length beginnings.now }
+    ensures state { result.state ≡ state_number (beginning_at beginnings.now found.now.from).at }
+    ensures moves { result.moves.now ≡ moves_on (beginning_at beginnings.now found.now.from).at found.now.way }
 {
-    let mut events = Vec::new(alloc);
-    let mut at = state;
-    for index in way {
-        let step = &t.moves(at)[*index as usize];
-        events.extend_from_slice(step.events.as_slice())?;
-        at = step.to;
-    }
-    Ok(events)
-}
-
-/// The tag events on a way from a point. Within a leaf no move is made.
-fn events_from(alloc: Global, t: &Tnfa, begin: Point, way: &[u32]) -> Result<Vec<Event>, Memory>
-    requires { IsWayFrom t.now begin way.now }
-    ensures { IfOk result (λ events. events.items ≡ events_from t.now begin way.now) }
-{
-    match begin {
-        Point::State(state) => events_on(alloc, t, state, way),
-        Point::Within(_) => Ok(Vec::new(alloc)),
+    match beginnings[found.from as usize].at {
+        Point::State(state) => Way {
+            state,
+            moves: found.way.as_slice(),
+        },
+        Point::Within(_) => Way {
+            state: 0,
+            moves: &[],
+        },
     }
 }
 
@@ -104,7 +99,7 @@ fn source_of(is_first: bool, from: u32) -> u32
     if is_first { 0 } else { from }
 }
 
-/// Appends the targets of a way.
+/// Appends the targets of a way, on which these are the tag events.
 fn push_reaches(
     alloc: Global,
     t: &Tnfa,
@@ -112,15 +107,15 @@ fn push_reaches(
     is_first: bool,
     beginnings: &[Beginning],
     found: &Found,
+    events: &[Event],
 ) -> Result<(), Memory>
     requires found { (deep : ℕ → ℕ) × IsFoundAt t.now beginnings.now deep found.now }
     requires few { length t.now.states < 2 ^ 32 }
+    requires events { events.now ≡ events_from t.now (beginning_at beginnings.now found.now.from).at found.now.way }
     ensures { OnOk result (reaches.new.items ≡ reaches.old.items ++ found_reaches t.now is_first beginnings.now found.now) }
 {
-    let begin = beginnings[found.from as usize].at;
-    let events = events_from(alloc, t, begin, found.way.as_slice())?;
     let from = source_of(is_first, found.from);
-    push_targets(alloc, t, reaches, from, found.at, events.as_slice())
+    push_targets(alloc, t, reaches, from, found.at, events)
 }
 
 /// Appends the index of a way for each of its targets, of which there are so many.
@@ -134,6 +129,8 @@ fn push_origins(origins: &mut Vec<usize>, index: usize, count: usize) -> Result<
 }
 
 /// The targets of the ways that a search found, in order, and for each the index of its way.
+///
+/// Behind what a way has in common with the one before it, each move is looked at once.
 pub(crate) fn reaches_of(
     alloc: Global,
     t: &Tnfa,
@@ -148,9 +145,27 @@ pub(crate) fn reaches_of(
 {
     let mut reaches = Vec::new(alloc);
     let mut origins = Vec::new(alloc);
+    let mut marks = Vec::new(alloc);
+    let mut events = Vec::new(alloc);
+    marks.push(Mark { state: 0, count: 0 })?;
+    let mut last = Way {
+        state: 0,
+        moves: &[],
+    };
     for (index, found) in founds.iter().enumerate() {
+        let way = way_to(beginnings, found);
+        turn(t, &mut marks, &mut events, last, way)?;
+        last = way;
         let before = reaches.len();
-        push_reaches(alloc, t, &mut reaches, is_first, beginnings, found)?;
+        push_reaches(
+            alloc,
+            t,
+            &mut reaches,
+            is_first,
+            beginnings,
+            found,
+            events.as_slice(),
+        )?;
         let count = reaches.len() - before;
         push_origins(&mut origins, index, count)?;
     }

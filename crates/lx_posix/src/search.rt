@@ -1,5 +1,5 @@
 //! One search from all beginnings over points and levels: depth first, with what it visited kept for all starts together.
-ghost use Rattle.std.specs.Prelude.{◌≡◌, ◌+◌, ◌*◌, ◌^◌, ◌<◌, [], ◌∷◌, ◌++◌, All, Contains, IfOk, OnOk, length, map, option_to_list, reverse, take};
+ghost use Rattle.std.specs.Prelude.{◌≡◌, ◌+◌, ◌^◌, ◌<◌, [], ◌∷◌, ◌++◌, All, Contains, IfOk, OnOk, length, map, reverse, take};
 ghost use Rattle.std.specs.Bool.{MatchBool};
 ghost use Rattle.lx_regex.specs.Pattern.{terms_of};
 ghost use Rattle.lx_regex.specs.Walk.{mark};

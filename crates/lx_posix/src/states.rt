@@ -1,5 +1,5 @@
 //! The state of a kernel.
-ghost use Rattle.std.specs.Prelude.{◌≡◌, ◌<◌, ◌≤◌, All, IfOk, List, MatchResult, None, Some, length, map, option_map, slice_get};
+ghost use Rattle.std.specs.Prelude.{◌≡◌, ◌<◌, ◌≤◌, All, IfOk, List, MatchResult, None, OnOk, Some, length, map, option_map, slice_get};
 ghost use Rattle.lx_auto.specs.Automaton.{AreApart};
 ghost use Rattle.lx_tdfa.specs.Building.{greatest_of};
 ghost use Rattle.lx_tdfa.specs.Edges.{AreEdgesBefore};
@@ -9,6 +9,7 @@ ghost use Rattle.lx_posix.specs.Closures.{HasWay, IsClosureReached, IsFoundIfSom
 ghost use Rattle.lx_posix.specs.Determining.{AreListed, Grows, IsEdgeMade, IsSourceOf, IsStateOf, TooManyUnder};
 ghost use Rattle.lx_posix.specs.Finding.{IsSearchable};
 ghost use Rattle.lx_posix.specs.KeptKernels.{places_in};
+ghost use Rattle.lx_posix.specs.Spots.{AreSpotsIfSome, spots_to};
 ghost use Rattle.lx_posix.specs.WayNumbers.{IsFound};
 ghost use Rattle.lx_posix.specs.declared.kept.Kept.{Kept};
 
@@ -16,6 +17,7 @@ use crate::closures::{Closure, closure_of};
 use crate::kept::Kept;
 use crate::numbers::number;
 use crate::search::{Found, LevelSearch};
+use crate::spots::{Spot, begin, go_over};
 use lx_auto::{Edge, State};
 use lx_base::{Memory, Sequence, Stop};
 use lx_tdfa::{Kernels, Source, Step, first_ending, last_unit, merged_cuts, next_steps, push_edge};
@@ -43,17 +45,30 @@ pub(crate) struct Making<'a> {
 }
 
 impl<'a> Making<'a> {
-    /// The number of a way with the one before it, if there is one.
-    fn number_behind(&self, closure: &Closure, last: Option<&Found>, found: &Found) -> u32
+    /// The number of a way with the one before it, if there is one. The spots go over from that one's to its own.
+    fn number_behind(
+        &self,
+        closure: &Closure,
+        spots: &mut Vec<Spot>,
+        last: Option<&Found>,
+        found: &Found,
+    ) -> Result<u32, Memory>
         requires searchable { IsSearchable self.now.source.t.now closure.now.beginnings.items }
         requires last { IsFoundIfSome self.now.source.t.now closure.now.beginnings.items (option_map (λ last. last.now) last) }
         requires found { IsFound self.now.source.t.now closure.now.beginnings.items found.now }
-        ensures { result ≡ number_behind self.now.source.t.now closure.now.beginnings.items (option_map (λ last. last.now) last.entry) found.now }
+        requires spots { AreSpotsIfSome self.now.source.t.now closure.now.beginnings.items (option_map (λ last. last.now) last) spots.old.items }
+        ensures number { IfOk result (λ number. number ≡ number_behind self.now.source.t.now closure.now.beginnings.items (option_map (λ last. last.now) last.entry) found.now) }
+        ensures spots { OnOk result (spots.new.items ≡ spots_to self.now.source.t.now closure.now.beginnings.items found.now) }
     {
-        match last {
-            None => 0,
-            Some(last) => number(self.source.t, &closure.beginnings, last, found),
-        }
+        let t = self.source.t;
+        let beginnings = closure.beginnings.as_slice();
+        let Some(last) = last else {
+            begin(t, spots, beginnings, found)?;
+            return Ok(0);
+        };
+        let number = number(t, beginnings, spots.as_slice(), last, found);
+        go_over(t, spots, beginnings, last, found)?;
+        Ok(number)
     }
 
     /// The kernel to which steps lead.
@@ -64,13 +79,15 @@ impl<'a> Making<'a> {
         ensures { IfOk result (λ kernel. kernel.items ≡ kept_behind self.now.source.t.now closure.now None (map (λ step. step.to) steps.now) (map (λ step. step.index) steps.now)) }
     {
         let mut kernel = Vec::new(self.source.alloc);
+        let mut spots = Vec::new(self.source.alloc);
         let mut last = None;
         for step in steps {
             let found = &closure.founds[closure.targets.origins[step.index]];
+            let number = self.number_behind(closure, &mut spots, last, found)?;
             kernel.push(Kept {
                 place: step.to,
                 depth: found.depth,
-                number: self.number_behind(closure, last, found),
+                number,
             })?;
             last = Some(found);
         }

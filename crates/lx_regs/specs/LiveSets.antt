@@ -9,6 +9,8 @@ use Rattle.lx_auto.specs.Live.{AtSomePoint, IsLiveBehind}
 use Rattle.lx_regs.specs.declared.items.Item.{Item}
 use Rattle.lx_regs.specs.declared.keys.Key.{Key}
 use Rattle.lx_regs.specs.declared.live.Liveness.{Liveness}
+use Rattle.lx_regs.specs.declared.live.Usage.{Usage}
+use Rattle.lx_regs.specs.declared.reached.Pair.{Pair}
 use Rattle.lx_regs.specs.Items.{AreItems}
 use Rattle.lx_regs.specs.LeftGroups.{AreGroups}
 use Rattle.lx_regs.specs.Liveness.{AreMarked, AreSorted}
@@ -29,6 +31,12 @@ IsBefore (MReg mreg) (MReg other) = mreg < other
 -- in ascending order, each once
 abbrev pub AreAscending : List Held → Type 0
 AreAscending registers = AllPairs IsBefore registers
+
+-- the lists have at each state what is live there
+pub record AreUsages (auto : Auto) (numbers : List ℕ) (lists : List (List Key)) (pairs : List Pair) (usages : List (List Usage)) : Type 0 where
+  pub items : List Item
+  pub live : AreItems auto numbers lists pairs items
+  pub sorted : AreSorted (length auto.states) items usages
 
 -- what is kept comes of a well-formed automaton's groups, pairs and items
 pub record IsLivenessOf (auto : Auto) (liveness : Liveness) : Type 0 where

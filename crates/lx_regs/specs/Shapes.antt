@@ -3,7 +3,8 @@ use Rattle.std.specs.Prelude.{◌≡◌, ℕ, List, map, length, option_map, Boo
 use Rattle.lx_auto.specs.declared.automaton.Accept.{Accept}
 use Rattle.lx_auto.specs.declared.automaton.Auto.{Auto}
 use Rattle.lx_auto.specs.declared.automaton.Edge.{Edge}
-use Rattle.lx_auto.specs.Automaton.{state_of}
+use Rattle.lx_auto.specs.Automaton.{IsAuto, state_of}
+use Rattle.lx_auto.specs.SameRun.{HasSameRun}
 use Rattle.lx_auto.specs.Shapes.{AreAgreed, is_history}
 
 -- an edge without its operations
@@ -31,3 +32,9 @@ pub record KeepsShape (given answer : Auto) : Type 0 where
   pub accepts : (state : ℕ)
       → option_map shape_of_accept (state_of answer.states state).accept ≡ option_map shape_of_accept (state_of given.states state).accept
   pub agreed : AreAgreed given.states → AreAgreed answer.states
+
+-- the answer may stand for the given automaton: it is well formed, runs as that does and keeps its shape
+pub record StandsFor (given answer : Auto) : Type 0 where
+  pub formed : IsAuto answer
+  pub run : HasSameRun answer given
+  pub kept : KeepsShape given answer

@@ -66,6 +66,30 @@ impl Alike {
         }
         Ok(())
     }
+
+    /// The same of the slots of all states.
+    fn note_states(
+        &mut self,
+        flows: &Flows,
+        classes: &Classes,
+        lists: &[Vec<usize>],
+    ) -> Result<(), Memory> {
+        for places in lists {
+            self.note_all(flows, classes, places.as_slice())?;
+        }
+        Ok(())
+    }
+
+    /// The same of all slots, state by state.
+    fn note_slots(
+        &mut self,
+        alloc: Global,
+        flows: &Flows,
+        classes: &Classes,
+    ) -> Result<(), Memory> {
+        let lists = slots_by_state(alloc, flows)?;
+        self.note_states(flows, classes, lists.as_slice())
+    }
 }
 
 /// Which registers are alike, by the classes of those that hold the same at a state.
@@ -74,10 +98,7 @@ pub(crate) fn alike_of(alloc: Global, flows: &Flows, classes: &Classes) -> Resul
         seen: IndexSet::new(alloc),
         numbers: IndexMap::new(alloc),
     };
-    let lists = slots_by_state(alloc, flows)?;
-    for places in lists.as_slice() {
-        alike.note_all(flows, classes, places.as_slice())?;
-    }
+    alike.note_slots(alloc, flows, classes)?;
     alike.note_others(flows, classes)?;
     Ok(alike)
 }

@@ -178,6 +178,34 @@ impl Signs {
         }
         Ok(number)
     }
+
+    /// The same of a state, of which the first flow has this number.
+    fn note_state(
+        &mut self,
+        alloc: Global,
+        first: usize,
+        flows: &Flows,
+        state: usize,
+    ) -> Result<usize, Memory> {
+        let mut number = first;
+        if let Some(edges) = flows.edges.get(state) {
+            number = self.note_edges(alloc, number, edges.as_slice())?;
+        }
+        if let Some(moves) = flows.accepts.get(state) {
+            self.note_all(alloc, number, moves.as_slice())?;
+            number = number.saturating_add(1);
+        }
+        Ok(number)
+    }
+
+    /// The same of all states.
+    fn note_states(&mut self, alloc: Global, flows: &Flows, order: &[Met]) -> Result<(), Memory> {
+        let mut number = 0usize;
+        for met in order {
+            number = self.note_state(alloc, number, flows, met.state)?;
+        }
+        Ok(())
+    }
 }
 
 /// The classes, split where different values come to their members.
@@ -187,20 +215,12 @@ fn split(
     order: &[Met],
     classes: &[usize],
 ) -> Result<Classes, Memory> {
+    let keys = Vec::from_slice(alloc, classes)?;
     let mut signs = Signs {
         seen: IndexSet::new(alloc),
-        keys: Vec::from_slice(alloc, classes)?,
+        keys,
     };
-    let mut number = 0usize;
-    for met in order {
-        if let Some(edges) = flows.edges.get(met.state) {
-            number = signs.note_edges(alloc, number, edges.as_slice())?;
-        }
-        if let Some(moves) = flows.accepts.get(met.state) {
-            signs.note_all(alloc, number, moves.as_slice())?;
-            number = number.saturating_add(1);
-        }
-    }
+    signs.note_states(alloc, flows, order)?;
     numbered(alloc, signs.keys.as_slice())
 }
 

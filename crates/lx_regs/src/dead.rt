@@ -7,6 +7,7 @@ ghost use Rattle.lx_auto.specs.declared.automaton.Held.{Held as HeldValue};
 ghost use Rattle.lx_regs.specs.Dead.{AreEdgesCut, AreStatesCut, IsAcceptCut, IsEdgeCut, IsStateCut};
 ghost use Rattle.lx_regs.specs.KeptLists.{IsListed};
 ghost use Rattle.lx_regs.specs.Leaving.{AddsRead, IsSource};
+ghost use Rattle.lx_regs.specs.LiveSets.{IsLivenessOf};
 ghost use Rattle.lx_regs.specs.Shapes.{KeepsShape};
 
 use crate::held_sets::HeldSet;
@@ -135,6 +136,31 @@ impl<'a> Source<'a> {
     }
 }
 
+/// The states, each with the operations that some walk reads, where it is known what is live.
+fn states_by(alloc: Global, auto: &Auto, liveness: &Liveness) -> Result<Sequence<State>, Memory>
+    requires formed { IsAuto auto.now }
+    requires live { IsLivenessOf auto.now liveness.now }
+    ensures { IfOk result (AreStatesCut auto.now auto.now.states) }
+{
+    let met = met_states(alloc, auto)?;
+    let source = Source {
+        alloc,
+        auto,
+        liveness,
+        met: &met,
+    };
+    source.cut_states()
+}
+
+/// The states, each with the operations that some walk reads.
+fn states_without_dead(alloc: Global, auto: &Auto) -> Result<Sequence<State>, Memory>
+    requires { IsAuto auto.now }
+    ensures { IfOk result (AreStatesCut auto.now auto.now.states) }
+{
+    let liveness = liveness_of(alloc, auto)?;
+    states_by(alloc, auto, &liveness)
+}
+
 /// The automaton without the operations that no walk reads: each that stays writes what is live behind its list, and no later one of the
 /// list takes that away.
 pub fn drop_dead(alloc: Global, auto: Auto) -> Result<Auto, Memory>
@@ -144,15 +170,7 @@ pub fn drop_dead(alloc: Global, auto: Auto) -> Result<Auto, Memory>
     ensures read { IfOk result EachTargetIsRead }
     ensures kept { IfOk result (λ answer. KeepsShape auto answer) }
 {
-    let liveness = liveness_of(alloc, &auto)?;
-    let met = met_states(alloc, &auto)?;
-    let source = Source {
-        alloc,
-        auto: &auto,
-        liveness: &liveness,
-        met: &met,
-    };
-    let states = source.cut_states()?;
+    let states = states_without_dead(alloc, &auto)?;
     Ok(Auto {
         states,
         regs: auto.regs,

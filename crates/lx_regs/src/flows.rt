@@ -159,6 +159,18 @@ impl Flows {
         Ok(moves)
     }
 
+    /// What comes along an edge out of a state to the registers that are live behind it.
+    fn moves_along(
+        &mut self,
+        state: u32,
+        leave: &Effects<'_>,
+        edge: &Edge,
+        registers: &[Held],
+    ) -> Result<Vec<Move>, Memory> {
+        let effects = Effects::of(self.alloc, edge.ops.as_slice())?;
+        self.moves(state, edge.to, (leave, &effects), registers)
+    }
+
     /// The values that go along an edge out of a state to the registers that are live behind it.
     fn along(
         &mut self,
@@ -167,25 +179,37 @@ impl Flows {
         edge: &Edge,
         registers: &[Held],
     ) -> Result<Flow, Memory> {
-        let effects = Effects::of(self.alloc, edge.ops.as_slice())?;
-        let moves = self.moves(state, edge.to, (leave, &effects), registers)?;
+        let moves = self.moves_along(state, leave, edge, registers)?;
         Ok(Flow { to: edge.to, moves })
+    }
+
+    /// What comes to values by a list.
+    fn moves_to(
+        &mut self,
+        state: u32,
+        effects: &Effects<'_>,
+        values: &[Held],
+    ) -> Result<Vec<Move>, Memory> {
+        let none = Effects::of(self.alloc, &[])?;
+        self.moves(state, NO_STATE, (&none, effects), values)
+    }
+
+    /// The values that go to those of what is accepted at a state.
+    fn to_accepted(&mut self, state: u32, accept: &Accept) -> Result<Vec<Move>, Memory> {
+        let effects = Effects::of(self.alloc, accept.ops.as_slice())?;
+        self.moves_to(state, &effects, accept.values.as_slice())
     }
 
     /// The values that go to those of what a state accepts.
     fn to_values(&mut self, state: u32, accept: &Option<Accept>) -> Result<Vec<Move>, Memory> {
-        let accept = match accept {
-            Some(accept) => accept,
-            None => return Ok(Vec::new(self.alloc)),
-        };
-        let none = Effects::of(self.alloc, &[])?;
-        let effects = Effects::of(self.alloc, accept.ops.as_slice())?;
-        let values = accept.values.as_slice();
-        self.moves(state, NO_STATE, (&none, &effects), values)
+        match accept {
+            Some(accept) => self.to_accepted(state, accept),
+            None => Ok(Vec::new(self.alloc)),
+        }
     }
 
-    /// The values that go along the edges out of a state.
-    fn out_of(
+    /// The values that go along the edges out of a state, where this is done on leaving it.
+    fn out_behind(
         &mut self,
         given: &Auto,
         live: &Liveness,
@@ -206,8 +230,24 @@ impl Flows {
         Ok(flows)
     }
 
-    /// Adds a state with its edges.
-    fn add(
+    /// The values that go along the edges out of a state.
+    fn out_of(
+        &mut self,
+        given: &Auto,
+        live: &Liveness,
+        number: u32,
+        state: &State,
+    ) -> Result<Vec<Flow>, Memory>
+        requires live { IsLivenessOf given.now live.now }
+        requires within { number < length given.now.states }
+        requires state { state.now ≡ state_of given.now.states number }
+    {
+        let leave = Effects::of(self.alloc, state.leave.as_slice())?;
+        self.out_behind(given, live, number, state, &leave)
+    }
+
+    /// Adds the edges of a state.
+    fn add_edges(
         &mut self,
         given: &Auto,
         live: &Liveness,
@@ -218,11 +258,27 @@ impl Flows {
         requires within { number < length given.now.states }
         requires state { state.now ≡ state_of given.now.states number }
     {
-        let leave = Effects::of(self.alloc, state.leave.as_slice())?;
-        let flows = self.out_of(given, live, number, state, &leave)?;
+        let flows = self.out_of(given, live, number, state)?;
         self.edges.push(flows)?;
-        let moves = self.to_values(number, &state.accept)?;
+        Ok(())
+    }
+
+    /// Adds what a state accepts.
+    fn add_accept(&mut self, number: u32, accept: &Option<Accept>) -> Result<(), Memory> {
+        let moves = self.to_values(number, accept)?;
         self.accepts.push(moves)?;
+        Ok(())
+    }
+
+    /// Adds the states with their edges.
+    fn add_states(&mut self, given: &Auto, live: &Liveness) -> Result<(), Memory>
+        requires formed { IsAuto given.now }
+        requires live { IsLivenessOf given.now live.now }
+    {
+        for (number, state) in given.states.as_slice().iter().enumerate() {
+            self.add_edges(given, live, number as u32, state)?;
+            self.add_accept(number as u32, &state.accept)?;
+        }
         Ok(())
     }
 }
@@ -233,8 +289,6 @@ pub(crate) fn flows_of(alloc: Global, given: &Auto, live: &Liveness) -> Result<F
     requires live { IsLivenessOf given.now live.now }
 {
     let mut flows = Flows::new(alloc);
-    for (number, state) in given.states.as_slice().iter().enumerate() {
-        flows.add(given, live, number as u32, state)?;
-    }
+    flows.add_states(given, live)?;
     Ok(flows)
 }

@@ -126,6 +126,17 @@ impl Hints {
         }
     }
 
+    /// The hints, as far as a hundred rounds bring them.
+    fn hint_rounds(&mut self, flows: &Flows, order: &[Met]) {
+        for _ in 0..100 {
+            let known = self.known;
+            self.hint_round(flows, order);
+            if self.known == known {
+                return;
+            }
+        }
+    }
+
     /// The hints, as far as a round over all states in the opposite order brings them.
     fn hint_round(&mut self, flows: &Flows, order: &[Met]) {
         for met in order.iter().rev() {
@@ -148,6 +159,19 @@ pub(crate) fn none_kept(alloc: Global, count: usize) -> Result<Vec<Option<Held>>
     Ok(kept)
 }
 
+/// No hints for so many slots.
+fn no_hints(alloc: Global, count: usize) -> Result<Hints, Memory> {
+    let of = none_kept(alloc, count)?;
+    Ok(Hints {
+        table: NameTable::new(alloc),
+        named: IndexMap::new(alloc),
+        free_regs: 0,
+        free_mregs: 0,
+        of,
+        known: 0,
+    })
+}
+
 /// The values to which slots go, as far as a hundred rounds tell.
 pub(crate) fn hints_of(
     alloc: Global,
@@ -156,21 +180,8 @@ pub(crate) fn hints_of(
     order: &[Met],
     alike: &Alike,
 ) -> Result<Hints, Memory> {
-    let mut hints = Hints {
-        table: NameTable::new(alloc),
-        named: IndexMap::new(alloc),
-        free_regs: 0,
-        free_mregs: 0,
-        of: none_kept(alloc, flows.slots.len())?,
-        known: 0,
-    };
+    let mut hints = no_hints(alloc, flows.slots.len())?;
     hints.fix_values(given, alike)?;
-    for _ in 0..100 {
-        let known = hints.known;
-        hints.hint_round(flows, order);
-        if hints.known == known {
-            break;
-        }
-    }
+    hints.hint_rounds(flows, order);
     Ok(hints)
 }

@@ -1,16 +1,18 @@
 //! Which registers are live behind the edges of an automaton.
-ghost use Rattle.std.specs.Prelude.{◌≡◌, ◌↔◌, ◌<◌, [], Contains, IfOk, IsTrue, OnOk, length, map, replicate};
+ghost use Rattle.std.specs.Prelude.{◌≡◌, ◌↔◌, ℕ, ◌<◌, None, [], Contains, IfOk, IsTrue, OnOk, length, map, replicate, slice_index};
 ghost use Rattle.lx_auto.specs.Automaton.{IsAuto, state_of};
 ghost use Rattle.lx_regs.specs.Keys.{held_of};
-ghost use Rattle.lx_regs.specs.LiveSets.{AreAscending, AreLiveBehind, IsLivenessOf};
+ghost use Rattle.lx_regs.specs.LeftGroups.{AreGroups, lists_of};
+ghost use Rattle.lx_regs.specs.LiveSets.{AreAscending, AreLiveBehind, AreUsages, IsLivenessOf};
 ghost use Rattle.lx_regs.specs.Liveness.{AddsUsage, AreKeysBehind, AreMarked, AreSorted, MayBeThere};
+ghost use Rattle.lx_regs.specs.Reached.{ArePairs};
 ghost use Rattle.lx_regs.specs.declared.items.Item.{Item as ItemValue};
 ghost use Rattle.lx_regs.specs.declared.reached.Pair.{Pair as PairValue};
 
 use crate::found::Found;
 use crate::items::{Item, live_items, may_be_left};
 use crate::keys::{Key, held_of};
-use crate::left_groups::groups_of;
+use crate::left_groups::{LeftGroups, groups_of};
 use crate::reached::{Pair, reached_pairs};
 use lx_auto::{Auto, Edge, Held};
 use lx_base::{Memory, Sequence};
@@ -75,17 +77,48 @@ fn marks_of(alloc: Global, count: usize, pairs: &[Pair]) -> Result<Vec<bool>, Me
     Ok(marks)
 }
 
+/// The pairs to which walks come, and for each state, whether some walk comes to it.
+fn pairs_and_marks(
+    alloc: Global,
+    auto: &Auto,
+    numbers: &[u32],
+) -> Result<(Found<Pair>, Vec<bool>), Memory>
+    requires formed { IsAuto auto.now }
+    requires fit { length numbers.now ≡ length auto.now.states }
+    requires some { (state : ℕ) → slice_index numbers.now state ≡ 0 → (state_of auto.now.states state).accept ≡ None }
+    requires none { (state : ℕ) → (state_of auto.now.states state).accept ≡ None → slice_index numbers.now state ≡ 0 }
+    ensures pairs { IfOk result (λ found. ArePairs auto.now numbers.now found.0) }
+    ensures marks { IfOk result (λ found. AreMarked (length auto.now.states) found.0 found.1.items) }
+{
+    let pairs = reached_pairs(alloc, auto, numbers)?;
+    let marks = marks_of(alloc, auto.states.as_slice().len(), pairs.as_slice())?;
+    Ok((pairs, marks))
+}
+
+/// For each state what is live there, by groups and pairs.
+fn usages_of(
+    alloc: Global,
+    auto: &Auto,
+    groups: &LeftGroups,
+    pairs: &Found<Pair>,
+) -> Result<Vec<Sequence<Usage>>, Memory>
+    requires formed { IsAuto auto.now }
+    requires groups { AreGroups auto.now groups.now.numbers.items (lists_of groups.now.lists.keys) }
+    requires pairs { ArePairs auto.now groups.now.numbers.items pairs.now }
+    ensures { IfOk result (λ usages. AreUsages auto.now groups.now.numbers.items (lists_of groups.now.lists.keys) pairs.now usages.items) }
+{
+    let items = live_items(alloc, auto, groups, pairs)?;
+    by_state(alloc, auto.states.as_slice().len(), items.as_slice())
+}
+
 /// What is live in an automaton.
 pub(crate) fn liveness_of(alloc: Global, auto: &Auto) -> Result<Liveness, Memory>
     requires { IsAuto auto.now }
     ensures { IfOk result (IsLivenessOf auto.now) }
 {
     let groups = groups_of(alloc, auto)?;
-    let pairs = reached_pairs(alloc, auto, &groups.numbers)?;
-    let items = live_items(alloc, auto, &groups, &pairs)?;
-    let count = auto.states.as_slice().len();
-    let marks = marks_of(alloc, count, pairs.as_slice())?;
-    let usages = by_state(alloc, count, items.as_slice())?;
+    let (pairs, marks) = pairs_and_marks(alloc, auto, &groups.numbers)?;
+    let usages = usages_of(alloc, auto, &groups, &pairs)?;
     Ok(Liveness {
         numbers: groups.numbers,
         pairs,

@@ -1,11 +1,12 @@
 //! Registers that hold the same wherever a walk stands are one.
 //!
 //! It proposes and tests, as where registers are chosen by state: of the proposal nothing is proved but safety.
-ghost use Rattle.std.specs.Prelude.{IfOk};
+ghost use Rattle.std.specs.Prelude.{IfOk, IfSome, IsTrue};
 ghost use Rattle.lx_auto.specs.Automaton.{IsAuto};
 ghost use Rattle.lx_auto.specs.SameRun.{HasSameRun};
-ghost use Rattle.lx_regs.specs.Shapes.{KeepsShape};
+ghost use Rattle.lx_regs.specs.Shapes.{KeepsShape, StandsFor};
 
+use crate::flows::with_number;
 use crate::kept_lists::target_of;
 use crate::live::liveness_of;
 use crate::name_tables::NameTable;
@@ -97,29 +98,43 @@ impl<'a> Merger<'a> {
         Ok(others)
     }
 
+    /// A state.
+    fn state(&self, state: &State) -> Result<State, Memory> {
+        Ok(State {
+            edges: self.edges(state.edges.as_slice())?,
+            accept: self.accept(&state.accept)?,
+            leave: self.ops(state.leave.as_slice())?,
+        })
+    }
+
     /// The states.
     fn states(&self, states: &[State]) -> Result<Sequence<State>, Memory> {
         let mut others = Sequence::new(self.alloc);
         for state in states {
-            others.push(State {
-                edges: self.edges(state.edges.as_slice())?,
-                accept: self.accept(&state.accept)?,
-                leave: self.ops(state.leave.as_slice())?,
-            })?;
+            others.push(self.state(state)?)?;
         }
         Ok(others)
     }
 }
 
+/// Names registers of the sort of a given one, at all states: each by the number of its class.
+fn fix_each(table: &mut NameTable, sort: Held, classes: &[usize]) -> Result<(), Memory> {
+    for (number, class) in classes.iter().enumerate() {
+        table.fix(with_number(sort, narrow(number)), narrow(*class))?;
+    }
+    Ok(())
+}
+
+/// The same of all registers.
+fn fix_all(table: &mut NameTable, partitions: &Partitions) -> Result<(), Memory> {
+    fix_each(table, Held::Reg(0), partitions.regs.of.as_slice())?;
+    fix_each(table, Held::MReg(0), partitions.mregs.of.as_slice())
+}
+
 /// The names of registers: the number of its class for each, at all states.
 fn names_of(alloc: Global, partitions: &Partitions) -> Result<NameTable, Memory> {
     let mut table = NameTable::new(alloc);
-    for (reg, class) in partitions.regs.of.as_slice().iter().enumerate() {
-        table.fix(Held::Reg(narrow(reg)), narrow(*class))?;
-    }
-    for (mreg, class) in partitions.mregs.of.as_slice().iter().enumerate() {
-        table.fix(Held::MReg(narrow(mreg)), narrow(*class))?;
-    }
+    fix_all(&mut table, partitions)?;
     Ok(table)
 }
 
@@ -152,18 +167,33 @@ fn propose(alloc: Global, auto: &Auto) -> Result<Option<Proposal>, Memory> {
     }
 }
 
-/// The automaton that is proposed, if it may stand for the given one, and else that.
-fn tested(alloc: Global, auto: Auto, proposal: Proposal) -> Result<Auto, Memory>
-    requires { IsAuto auto }
-    ensures formed { IfOk result IsAuto }
-    ensures run { IfOk result (λ answer. HasSameRun answer auto) }
-    ensures kept { IfOk result (λ answer. KeepsShape auto answer) }
+/// Whether the proposal may stand for the given automaton.
+fn stands(alloc: Global, auto: &Auto, proposal: &Proposal) -> Result<bool, Memory>
+    requires { IsAuto auto.now }
+    ensures { IfOk result (λ may. IsTrue may → StandsFor auto.now proposal.now.answer) }
 {
-    let live = liveness_of(alloc, &auto)?;
-    if may_stand(alloc, &auto, &live, &proposal)? {
-        return Ok(proposal.answer);
+    let live = liveness_of(alloc, auto)?;
+    may_stand(alloc, auto, &live, proposal)
+}
+
+/// The automaton that is proposed, if it may stand for the given one.
+fn tested(alloc: Global, auto: &Auto, proposal: Proposal) -> Result<Option<Auto>, Memory>
+    requires { IsAuto auto.now }
+    ensures { IfOk result (λ found. IfSome found (StandsFor auto.now)) }
+{
+    let may = stands(alloc, auto, &proposal)?;
+    Ok(may.then_some(proposal.answer))
+}
+
+/// The automaton in which registers that hold the same are one, if these are many and it may stand for the given one.
+fn with_fewer(alloc: Global, auto: &Auto) -> Result<Option<Auto>, Memory>
+    requires { IsAuto auto.now }
+    ensures { IfOk result (λ found. IfSome found (StandsFor auto.now)) }
+{
+    match propose(alloc, auto)? {
+        Some(proposal) => tested(alloc, auto, proposal),
+        None => Ok(None),
     }
-    Ok(auto)
 }
 
 /// The automaton in which registers that hold the same wherever a walk stands are one, if these are many.
@@ -173,8 +203,8 @@ pub(crate) fn merge_equal(alloc: Global, auto: Auto) -> Result<Auto, Memory>
     ensures run { IfOk result (λ answer. HasSameRun answer auto) }
     ensures kept { IfOk result (λ answer. KeepsShape auto answer) }
 {
-    match propose(alloc, &auto)? {
-        Some(proposal) => tested(alloc, auto, proposal),
+    match with_fewer(alloc, &auto)? {
+        Some(answer) => Ok(answer),
         None => Ok(auto),
     }
 }

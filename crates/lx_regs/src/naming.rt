@@ -6,7 +6,6 @@
 use crate::classes::{Classes, at};
 use crate::flows::{Flow, Flows, Move, Source, code_of, number_of, with_number};
 use crate::hints::{Hints, held_at, none_kept};
-use crate::name_tables::NameTable;
 use crate::order::Met;
 use crate::webs::Webs;
 use indexmap::{IndexMap, IndexSet};
@@ -41,19 +40,20 @@ pub(crate) fn slots_by_state(alloc: Global, flows: &Flows) -> Result<Vec<Vec<usi
 
 /// Names, as they are given.
 #[derive(Drop)]
-struct Namer {
-    hints: Hints,
+struct Namer<'a> {
+    /// The hints, with the table in which names are noted.
+    hints: &'a mut Hints,
+    /// The webs of the classes.
+    webs: &'a mut Webs,
     /// The name of each class, if it has one.
     names: Vec<Option<Held>>,
-    /// The webs of the classes.
-    webs: Webs,
     /// The names that are taken at a state, by their codes.
     taken: IndexSet<u32>,
     /// The class at a state that gets the name of a value, by the code of this.
     first: IndexMap<u32, usize>,
 }
 
-impl Namer {
+impl<'a> Namer<'a> {
     /// Gives a class a name, if it has none and the name is not taken. That of m-register 0, which is never written, is given to none.
     fn claim(&mut self, class: usize, name: Held) -> Result<(), Memory> {
         if held_at(self.names.as_slice(), class).is_some() || name == Held::MReg(0) {
@@ -216,29 +216,54 @@ impl Namer {
         self.claim_free(flows, classes, places)?;
         self.note(flows, classes, places)
     }
+
+    /// Names the registers at all states, by the slots of each.
+    fn name_states(
+        &mut self,
+        flows: &Flows,
+        classes: &[usize],
+        order: &[Met],
+        lists: &[Vec<usize>],
+    ) -> Result<(), Memory> {
+        for met in order {
+            if let Some(places) = lists.get(met.state) {
+                self.name_state(flows, classes, *met, places.as_slice())?;
+            }
+        }
+        Ok(())
+    }
 }
 
-/// The names of registers at all states.
-pub(crate) fn names_of(
+/// Notes the names of registers at all states in the table of the hints, by the slots of each state.
+fn note_names_by(
     alloc: Global,
     flows: &Flows,
     classes: &Classes,
-    webs: Webs,
+    webs: &mut Webs,
     order: &[Met],
-    hints: Hints,
-) -> Result<NameTable, Memory> {
-    let lists = slots_by_state(alloc, flows)?;
+    hints: &mut Hints,
+    lists: &[Vec<usize>],
+) -> Result<(), Memory> {
+    let names = none_kept(alloc, classes.count)?;
     let mut namer = Namer {
         hints,
-        names: none_kept(alloc, classes.count)?,
         webs,
+        names,
         taken: IndexSet::new(alloc),
         first: IndexMap::new(alloc),
     };
-    for met in order {
-        if let Some(places) = lists.get(met.state) {
-            namer.name_state(flows, classes.of.as_slice(), *met, places.as_slice())?;
-        }
-    }
-    Ok(namer.hints.table)
+    namer.name_states(flows, classes.of.as_slice(), order, lists)
+}
+
+/// Notes the names of registers at all states in the table of the hints.
+pub(crate) fn note_names(
+    alloc: Global,
+    flows: &Flows,
+    classes: &Classes,
+    webs: &mut Webs,
+    order: &[Met],
+    hints: &mut Hints,
+) -> Result<(), Memory> {
+    let lists = slots_by_state(alloc, flows)?;
+    note_names_by(alloc, flows, classes, webs, order, hints, lists.as_slice())
 }

@@ -36,6 +36,27 @@ impl Order {
         }
         Ok(())
     }
+
+    /// Meets the states to which edges out of states that were met lead, until there is none any more.
+    fn search(&mut self, flows: &Flows) -> Result<(), Memory> {
+        for index in 0..flows.edges.len() {
+            if let Some(met) = self.met.get(index) {
+                let state = met.state;
+                if let Some(edges) = flows.edges.get(state) {
+                    self.meet_next(state, edges.as_slice())?;
+                }
+            }
+        }
+        Ok(())
+    }
+
+    /// Meets those of so many states that were not met.
+    fn meet_all(&mut self, count: usize) -> Result<(), Memory> {
+        for state in 0..count {
+            self.meet(state, None)?;
+        }
+        Ok(())
+    }
 }
 
 /// All states: those that a breadth-first search from the first one meets, then the others.
@@ -45,16 +66,7 @@ pub(crate) fn order_of(alloc: Global, flows: &Flows) -> Result<Order, Memory> {
         seen: IndexSet::new(alloc),
     };
     order.meet(0, None)?;
-    for index in 0..flows.edges.len() {
-        if let Some(met) = order.met.get(index) {
-            let state = met.state;
-            if let Some(edges) = flows.edges.get(state) {
-                order.meet_next(state, edges.as_slice())?;
-            }
-        }
-    }
-    for state in 0..flows.edges.len() {
-        order.meet(state, None)?;
-    }
+    order.search(flows)?;
+    order.meet_all(flows.edges.len())?;
     Ok(order)
 }

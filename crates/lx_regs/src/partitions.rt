@@ -51,6 +51,28 @@ impl Partition {
             self.kept = self.kept.saturating_add(1);
         }
     }
+
+    /// Puts the register with a number into a class, of which it may be the first.
+    fn put(&mut self, number: usize, class: usize, is_first: bool) -> Result<(), Memory> {
+        self.of.push(class)?;
+        if is_first {
+            self.firsts.push(narrow(number))?;
+        }
+        Ok(())
+    }
+
+    /// Puts registers into one class for each sign, by first occurrence. Signs from a number on are those of registers that are written.
+    fn put_all(&mut self, alloc: Global, signs: &[usize], from: usize) -> Result<(), Memory> {
+        let mut seen: IndexSet<usize> = IndexSet::new(alloc);
+        for (number, sign) in signs.iter().enumerate() {
+            let (class, is_new) = seen.insert_full(*sign)?;
+            self.put(number, class, is_new)?;
+            if from <= *sign {
+                self.note_written(is_new);
+            }
+        }
+        Ok(())
+    }
 }
 
 /// Registers and m-registers in classes.
@@ -80,23 +102,13 @@ fn one_class(alloc: Global, count: u32) -> Result<Vec<usize>, Memory> {
 
 /// One class for each sign, by first occurrence. Signs from a number on are those of registers that are written.
 fn partition_of(alloc: Global, signs: &[usize], from: usize) -> Result<Partition, Memory> {
-    let mut seen: IndexSet<usize> = IndexSet::new(alloc);
     let mut partition = Partition {
         of: Vec::new(alloc),
         firsts: Vec::new(alloc),
         written: 0,
         kept: 0,
     };
-    for (number, sign) in signs.iter().enumerate() {
-        let (class, is_new) = seen.insert_full(*sign)?;
-        partition.of.push(class)?;
-        if is_new {
-            partition.firsts.push(narrow(number))?;
-        }
-        if from <= *sign {
-            partition.note_written(is_new);
-        }
-    }
+    partition.put_all(alloc, signs, from)?;
     Ok(partition)
 }
 

@@ -10,7 +10,7 @@ use crate::flows::{Flows, flows_of};
 use crate::hints::{Hints, hints_of};
 use crate::live::Liveness;
 use crate::name_tables::NameTable;
-use crate::naming::names_of;
+use crate::naming::note_names;
 use crate::order::{Met, order_of};
 use crate::renaming::Proposal;
 use crate::webs::webs_of;
@@ -54,20 +54,44 @@ fn hints_by(
     hints_of(alloc, given, flows, order, &alike)
 }
 
-/// The names of registers at all states by these hints, where registers that hold the same are known.
-fn names_by(
+/// Notes the names of registers at all states by these hints, where classes of registers that go to one value are known.
+fn note_names_of(
+    alloc: Global,
+    flows: &Flows,
+    order: &[Met],
+    classes: &Classes,
+    hints: &mut Hints,
+) -> Result<(), Memory> {
+    let mut webs = webs_of(alloc, flows, classes, hints)?;
+    note_names(alloc, flows, classes, &mut webs, order, hints)
+}
+
+/// Notes the names of registers at all states by these hints, where registers that hold the same are known.
+fn note_names_by(
     alloc: Global,
     flows: &Flows,
     order: &[Met],
     equal: &Classes,
-    hints: Hints,
-) -> Result<NameTable, Memory> {
-    let classes = classes_by_value(alloc, flows, order, &hints, equal)?;
-    let webs = webs_of(alloc, flows, &classes, &hints)?;
-    names_of(alloc, flows, &classes, webs, order, hints)
+    hints: &mut Hints,
+) -> Result<(), Memory> {
+    let classes = classes_by_value(alloc, flows, order, hints, equal)?;
+    note_names_of(alloc, flows, order, &classes, hints)
 }
 
-/// The names of registers at all states.
+/// The names of registers at all states, where registers that hold the same are known.
+fn names_by(
+    alloc: Global,
+    given: &Auto,
+    flows: &Flows,
+    order: &[Met],
+    equal: &Classes,
+) -> Result<NameTable, Memory> {
+    let mut hints = hints_by(alloc, given, flows, order, equal)?;
+    note_names_by(alloc, flows, order, equal, &mut hints)?;
+    Ok(hints.table)
+}
+
+/// The names of registers at all states, in this order.
 fn names_for(
     alloc: Global,
     given: &Auto,
@@ -75,8 +99,13 @@ fn names_for(
     order: &[Met],
 ) -> Result<NameTable, Memory> {
     let equal = classes_of(alloc, flows, order)?;
-    let hints = hints_by(alloc, given, flows, order, &equal)?;
-    names_by(alloc, flows, order, &equal, hints)
+    names_by(alloc, given, flows, order, &equal)
+}
+
+/// The names of registers at all states.
+fn names_of(alloc: Global, given: &Auto, flows: &Flows) -> Result<NameTable, Memory> {
+    let order = order_of(alloc, flows)?;
+    names_for(alloc, given, flows, order.met.as_slice())
 }
 
 /// The automaton by these names.
@@ -99,14 +128,18 @@ fn answer_by(
     })
 }
 
+/// The automaton in which values that go so stay where they are as far as they can, with the names of registers.
+fn proposal_by(alloc: Global, given: &Auto, flows: &Flows) -> Result<Proposal, Memory> {
+    let names = names_of(alloc, given, flows)?;
+    let answer = answer_by(alloc, given, flows, &names)?;
+    Ok(Proposal { answer, names })
+}
+
 /// An automaton in which registers that always hold the same are one, and values stay where they are as far as they can.
 pub(crate) fn propose(alloc: Global, given: &Auto, live: &Liveness) -> Result<Proposal, Memory>
     requires formed { IsAuto given.now }
     requires live { IsLivenessOf given.now live.now }
 {
     let flows = flows_of(alloc, given, live)?;
-    let order = order_of(alloc, &flows)?;
-    let names = names_for(alloc, given, &flows, order.met.as_slice())?;
-    let answer = answer_by(alloc, given, &flows, &names)?;
-    Ok(Proposal { answer, names })
+    proposal_by(alloc, given, &flows)
 }

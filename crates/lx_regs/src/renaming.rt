@@ -1,9 +1,9 @@
 //! Registers chosen by state.
-ghost use Rattle.std.specs.Prelude.{IfOk, IsTrue};
+ghost use Rattle.std.specs.Prelude.{IfOk, IfSome, IsTrue};
 ghost use Rattle.lx_auto.specs.Automaton.{IsAuto};
 ghost use Rattle.lx_auto.specs.SameRun.{HasSameRun};
 ghost use Rattle.lx_regs.specs.LiveSets.{IsLivenessOf};
-ghost use Rattle.lx_regs.specs.Shapes.{KeepsShape};
+ghost use Rattle.lx_regs.specs.Shapes.{KeepsShape, StandsFor};
 
 use crate::live::{Liveness, liveness_of};
 use crate::name_tables::NameTable;
@@ -29,11 +29,29 @@ pub(crate) fn may_stand(
 ) -> Result<bool, Memory>
     requires formed { IsAuto given.now }
     requires live { IsLivenessOf given.now live.now }
-    ensures formed { IfOk result (λ may. IsTrue may → IsAuto proposal.now.answer) }
-    ensures run { IfOk result (λ may. IsTrue may → HasSameRun proposal.now.answer given.now) }
-    ensures kept { IfOk result (λ may. IsTrue may → KeepsShape given.now proposal.now.answer) }
+    ensures { IfOk result (λ may. IsTrue may → StandsFor given.now proposal.now.answer) }
 {
     is_translation(alloc, given, live, &proposal.names, &proposal.answer)
+}
+
+/// The automaton that is proposed, if it may stand for the given one.
+fn proposed(alloc: Global, given: &Auto, live: &Liveness) -> Result<Option<Auto>, Memory>
+    requires formed { IsAuto given.now }
+    requires live { IsLivenessOf given.now live.now }
+    ensures { IfOk result (λ found. IfSome found (StandsFor given.now)) }
+{
+    let proposal = propose(alloc, given, live)?;
+    let may = may_stand(alloc, given, live, &proposal)?;
+    Ok(may.then_some(proposal.answer))
+}
+
+/// The automaton with registers chosen by state, if it may stand for the given one.
+fn chosen_by_state(alloc: Global, given: &Auto) -> Result<Option<Auto>, Memory>
+    requires { IsAuto given.now }
+    ensures { IfOk result (λ found. IfSome found (StandsFor given.now)) }
+{
+    let live = liveness_of(alloc, given)?;
+    proposed(alloc, given, &live)
 }
 
 /// The automaton with registers chosen by state, so that few operations are left: what a register of the given automaton holds
@@ -44,10 +62,8 @@ pub(crate) fn choose_by_state(alloc: Global, auto: Auto) -> Result<Auto, Memory>
     ensures run { IfOk result (λ answer. HasSameRun answer auto) }
     ensures kept { IfOk result (λ answer. KeepsShape auto answer) }
 {
-    let live = liveness_of(alloc, &auto)?;
-    let proposal = propose(alloc, &auto, &live)?;
-    if may_stand(alloc, &auto, &live, &proposal)? {
-        return Ok(proposal.answer);
+    match chosen_by_state(alloc, &auto)? {
+        Some(answer) => Ok(answer),
+        None => Ok(auto),
     }
-    Ok(auto)
 }

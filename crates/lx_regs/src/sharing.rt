@@ -1,16 +1,21 @@
 //! Registers that do not interfere are shared.
-ghost use Rattle.std.specs.Prelude.{◌≡◌, ℕ, ◌+◌, ◌∷◌, ◌<◌, length, map, slice_index, IfOk};
+ghost use Rattle.std.specs.Prelude.{◌≡◌, ℕ, ◌+◌, List, ◌∷◌, ◌<◌, length, map, slice_index, IfOk};
 ghost use Rattle.lx_auto.specs.Automaton.{IsAuto};
 ghost use Rattle.lx_auto.specs.Effects.{Names};
 ghost use Rattle.lx_auto.specs.Live.{EachTargetIsRead};
 ghost use Rattle.lx_auto.specs.SameRun.{HasSameRun};
 ghost use Rattle.lx_auto.specs.Live.{AllInterfere};
 ghost use Rattle.lx_regs.specs.Bounds.{IsBoundOf};
+ghost use Rattle.lx_regs.specs.Colours.{IsSharing};
+ghost use Rattle.lx_regs.specs.Graphs.{IsGraph, size_of};
+ghost use Rattle.lx_regs.specs.Interference.{IsInterferenceOf};
 ghost use Rattle.lx_regs.specs.Shapes.{KeepsShape};
 ghost use Rattle.lx_regs.specs.SharedNames.{AreCounted, AreSharedBelow, names_of};
 
 use crate::copies::copies_of;
 use crate::fitting::states_fit;
+use crate::graphs::Graph;
+use crate::held_graphs::HeldGraph;
 use crate::interference::interference_of;
 use crate::shared_names::SharedNames;
 use crate::shares::shared_colours;
@@ -45,6 +50,47 @@ fn behind_zero(alloc: Global, colours: &[u32]) -> Result<Vec<u32>, Memory>
     Ok(names)
 }
 
+/// The names of m-registers, which share those of their copies where they can.
+fn mreg_names(alloc: Global, interference: &Graph, copies: &Graph) -> Result<Vec<u32>, Memory>
+    requires graph { IsGraph interference.now }
+    requires small { size_of interference.now < 4294967295 }
+    ensures { IfOk result (λ names. (colours : List ℕ) × IsSharing interference.now colours
+        × (names.items ≡ 0 ∷ map (λ colour. colour + 1) colours)) }
+{
+    let colours = shared_colours(alloc, interference, copies)?;
+    behind_zero(alloc, &colours)
+}
+
+/// The names of all registers, where it is known what interferes and what is copied.
+fn names_by(
+    alloc: Global,
+    auto: &Auto,
+    interference: &HeldGraph,
+    copies: &HeldGraph,
+) -> Result<SharedNames, Memory>
+    requires formed { IsAuto auto.now }
+    requires interference { IsInterferenceOf auto.now interference.now }
+    ensures { IfOk result (AreSharedBelow auto.now) }
+{
+    let regs = shared_colours(alloc, &interference.regs, &copies.regs)?;
+    let mregs = mreg_names(alloc, &interference.mregs, &copies.mregs)?;
+    Ok(SharedNames { regs, mregs })
+}
+
+/// The same where it is known what interferes.
+fn names_by_interference(
+    alloc: Global,
+    auto: &Auto,
+    interference: &HeldGraph,
+) -> Result<SharedNames, Memory>
+    requires formed { IsAuto auto.now }
+    requires interference { IsInterferenceOf auto.now interference.now }
+    ensures { IfOk result (AreSharedBelow auto.now) }
+{
+    let copies = copies_of(alloc, auto)?;
+    names_by(alloc, auto, interference, &copies)
+}
+
 /// Names for registers, which are shared by those that do not interfere: any two registers that have different ones interfere with
 /// one another by some of those that share their names.
 fn shared_names(alloc: Global, auto: &Auto) -> Result<SharedNames, Memory>
@@ -52,11 +98,7 @@ fn shared_names(alloc: Global, auto: &Auto) -> Result<SharedNames, Memory>
     ensures { IfOk result (AreSharedBelow auto.now) }
 {
     let interference = interference_of(alloc, auto)?;
-    let copies = copies_of(alloc, auto)?;
-    let regs = shared_colours(alloc, &interference.regs, &copies.regs)?;
-    let colours = shared_colours(alloc, &interference.mregs, &copies.mregs)?;
-    let mregs = behind_zero(alloc, &colours)?;
-    Ok(SharedNames { regs, mregs })
+    names_by_interference(alloc, auto, &interference)
 }
 
 /// How many registers and m-registers there are.

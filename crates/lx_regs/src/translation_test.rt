@@ -166,6 +166,48 @@ impl<'a> Test<'a> {
         Ok(true)
     }
 
+    /// Whether along an edge the same happens to some registers, where lists of the given automaton have an index.
+    fn keeps_by(
+        &self,
+        state: u32,
+        to: u32,
+        lists: Lists<'_>,
+        leave: &Effects<'_>,
+        ops: &[Op],
+        registers: &[Held],
+    ) -> Result<bool, Memory>
+        ensures { IfOk result (λ kept. IsTrue kept → All (KeepsEffect self.now.table.now state to lists.entry.first.now
+            lists.entry.second.now leave.now ops.now) registers.now) }
+    {
+        let effects = Effects::of(self.alloc, ops)?;
+        let new = Lists {
+            first: leave,
+            second: &effects,
+        };
+        self.keeps_effects(state, to, lists, new, registers)
+    }
+
+    /// Whether along an edge the same happens to some registers.
+    fn keeps_registers(
+        &self,
+        state: u32,
+        leaves: Leaves<'_>,
+        edge: &Edge,
+        other: &Edge,
+        registers: &[Held],
+    ) -> Result<bool, Memory>
+        ensures { IfOk result (λ kept. IsTrue kept → All (KeepsEffect self.now.table.now state edge.now.to leaves.entry.given.now
+            edge.now.ops leaves.entry.answer.now other.now.ops) registers.now) }
+    {
+        let effects = Effects::of(self.alloc, edge.ops.as_slice())?;
+        let lists = Lists {
+            first: leaves.given,
+            second: &effects,
+        };
+        let ops = other.ops.as_slice();
+        self.keeps_by(state, edge.to, lists, leaves.answer, ops, registers)
+    }
+
     /// Whether an edge out of a state is kept.
     fn keeps_edge(
         &self,
@@ -187,17 +229,7 @@ impl<'a> Test<'a> {
             return Ok(false);
         }
         let registers = self.live.behind(self.alloc, self.given, number, edge)?;
-        let effects = Effects::of(self.alloc, edge.ops.as_slice())?;
-        let new_effects = Effects::of(self.alloc, other.ops.as_slice())?;
-        let lists = Lists {
-            first: leaves.given,
-            second: &effects,
-        };
-        let new = Lists {
-            first: leaves.answer,
-            second: &new_effects,
-        };
-        self.keeps_effects(number, edge.to, lists, new, registers.as_slice())
+        self.keeps_registers(number, leaves, edge, other, registers.as_slice())
     }
 
     /// Whether the edges out of a state are kept, each by the one at its place.
@@ -225,6 +257,29 @@ impl<'a> Test<'a> {
         Ok(true)
     }
 
+    /// Whether the edges out of a state are kept, where the list on leaving it in the given automaton has an index.
+    fn keeps_edges_by(
+        &self,
+        number: u32,
+        states: Pair<'_>,
+        leave: &Effects<'_>,
+    ) -> Result<bool, Memory>
+        requires live { IsLivenessOf self.now.given.now self.now.live.now }
+        requires within { number < length self.now.given.now.states }
+        requires state { states.given.now ≡ state_of self.now.given.now.states number }
+        ensures { IfOk result (λ kept. IsTrue kept → AllPairs (KeepsEdge self.now.table.now self.now.given.now self.now.counts.regs
+            self.now.counts.mregs number leave.now states.entry.answer.now.leave)
+            states.entry.given.now.edges states.entry.answer.now.edges) }
+    {
+        let new_leave = Effects::of(self.alloc, states.answer.leave.as_slice())?;
+        let leaves = Leaves {
+            given: leave,
+            answer: &new_leave,
+        };
+        let others = states.answer.edges.as_slice();
+        self.keeps_each_edge(number, leaves, states.given.edges.as_slice(), others)
+    }
+
     /// Whether the edges out of a state are kept.
     fn keeps_edges(&self, number: u32, states: Pair<'_>) -> Result<bool, Memory>
         requires live { IsLivenessOf self.now.given.now self.now.live.now }
@@ -235,13 +290,7 @@ impl<'a> Test<'a> {
             states.entry.given.now.edges states.entry.answer.now.edges) }
     {
         let leave = Effects::of(self.alloc, states.given.leave.as_slice())?;
-        let new_leave = Effects::of(self.alloc, states.answer.leave.as_slice())?;
-        let leaves = Leaves {
-            given: &leave,
-            answer: &new_leave,
-        };
-        let others = states.answer.edges.as_slice();
-        self.keeps_each_edge(number, leaves, states.given.edges.as_slice(), others)
+        self.keeps_edges_by(number, states, &leave)
     }
 
     /// Whether a value of what is accepted at a state is kept.
@@ -287,6 +336,22 @@ impl<'a> Test<'a> {
         Ok(true)
     }
 
+    /// Whether values of what is accepted at a state are kept, where its list in the given automaton has an index.
+    fn keeps_values_by(
+        &self,
+        state: u32,
+        effects: &Effects<'_>,
+        ops: &[Op],
+        values: &[Held],
+        others: &[Held],
+    ) -> Result<bool, Memory>
+        ensures { IfOk result (λ kept. IsTrue kept → AllPairs (KeepsValue self.now.table.now self.now.counts.regs self.now.counts.mregs
+            state effects.now ops.now) values.now others.now) }
+    {
+        let new = Effects::of(self.alloc, ops)?;
+        self.keeps_values(state, effects, &new, values, others)
+    }
+
     /// Whether what is accepted at a state is kept.
     fn keeps_accept(&self, state: u32, accept: &Accept, other: &Accept) -> Result<bool, Memory>
         ensures { IfOk result (λ kept. IsTrue kept → KeptAccept self.now.table.now self.now.counts.regs self.now.counts.mregs state
@@ -296,9 +361,8 @@ impl<'a> Test<'a> {
             return Ok(false);
         }
         let effects = Effects::of(self.alloc, accept.ops.as_slice())?;
-        let new = Effects::of(self.alloc, other.ops.as_slice())?;
-        let others = other.values.as_slice();
-        self.keeps_values(state, &effects, &new, accept.values.as_slice(), others)
+        let (values, others) = (accept.values.as_slice(), other.values.as_slice());
+        self.keeps_values_by(state, &effects, other.ops.as_slice(), values, others)
     }
 
     /// Whether a state is kept.

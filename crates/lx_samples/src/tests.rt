@@ -1,12 +1,7 @@
-mod bodies;
 mod classes;
 mod files;
 mod graphs;
-mod includes;
-mod messages;
-mod names;
-mod parsing;
-mod splitting;
-mod tokens;
-mod units;
+mod long;
+mod numbers;
+mod timing;
 mod windows;

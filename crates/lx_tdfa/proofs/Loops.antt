@@ -12,3 +12,4 @@ pub mod RegisterBounds
 pub mod StateLists
 pub mod StatesMade
 pub mod StepLoops
+pub mod Stops

@@ -1,5 +1,5 @@
 //! Edges in ascending order.
-ghost use Rattle.std.specs.Prelude.{◌≡◌, ◌∷◌, [], ◌++◌, OnOk, IsTrue};
+ghost use Rattle.std.specs.Prelude.{◌∷◌, [], ◌++◌, OnOk, IsTrue};
 ghost use Rattle.lx_auto.specs.Automaton.{AreApart};
 ghost use Rattle.lx_tdfa.specs.Edges.{AreSameEdges, GoesOn};
 

@@ -8,7 +8,7 @@ ghost use Rattle.lx_tdfa.specs.Building.{AreListed, AreTargets, Grows, IsEdgeMad
 ghost use Rattle.lx_tdfa.specs.Edges.{AreEdgesBefore};
 ghost use Rattle.lx_tdfa.specs.Making.{StopsBy, seen_ending, seen_step};
 ghost use Rattle.lx_tdfa.specs.Registers.{ending_ops, first_of, held_from, step_ops, widest};
-ghost use Rattle.lx_tdfa.specs.Steps.{IsInLeaf, places_of};
+ghost use Rattle.lx_tdfa.specs.Steps.{places_of};
 ghost use Rattle.lx_tdfa.specs.Table.{IsStateOf, accept_of, is_first, leave_of, onward_by};
 
 use crate::cuts::{last_unit, merged_cuts};

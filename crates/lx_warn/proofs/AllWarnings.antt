@@ -2,7 +2,7 @@
 use Rattle.std.proofs.Common.{◌≡◌, ◌↔◌, ◌⊎◌, inl, inr, ℕ, zero, suc, List, [], ◌∷◌, ◌++◌, length, Option, Some, None, Bool, true, false, Contains, IsTrue, refl, sym, ap, ◌∙◌, subst, arith, slice_get, if◌then◌else◌}
 use Rattle.std.specs.List.Sorted.{IsStrictlyIncreasing}
 use Rattle.std.specs.Option.{MatchOption}
-use Rattle.std.proofs.lemmas.Bool.{eq-eqb, eqb-true}
+use Rattle.std.proofs.lemmas.Bool.{eq-eqb, eqb-true, true≢false}
 use Rattle.std.proofs.lemmas.List.Elements.{Contains-append_cases, Contains-append_left, Contains-append_right}
 use Rattle.lx_auto.proofs.SameLists.{Contains-later}
 use Rattle.lx_auto.specs.Automaton.{state_of}
@@ -18,7 +18,7 @@ use Rattle.lx_tdfa.specs.Promise.{IsAutoUnder}
 use Rattle.lx_warn.proofs.DeadWords.{dead-is-first, dead-stopping, first-dead}
 use Rattle.lx_warn.proofs.EnteredRules.{chosen-entered, entered-chosen}
 use Rattle.lx_warn.proofs.Links.{IsFirstTaker, accepting-taken, one-taker, taken-accepting}
-use Rattle.lx_warn.proofs.NumberLists.{Contains-has_number, has_number-Contains, is-false, not-both}
+use Rattle.lx_warn.proofs.NumberLists.{Contains-has_number, has_number-Contains, is-false}
 use Rattle.lx_warn.proofs.WarningLists.{AreAbove, Tells, by-told, empty-told, increasing-ascend, order-rules, told-by, unreachable-told, warnings_of-tells}
 use Rattle.lx_warn.specs.Entered.{AreEntered, StartEnters, has_number, is_number, number_of, rule_at, rule_warnings, word_warnings}
 use Rattle.lx_warn.specs.Stops.{IsFirstStopping, IsStopping}
@@ -101,7 +101,7 @@ module _ (policy given : Policy) (enc : Enc) (rules : List Rule) (auto : Auto) (
       tells other among (inl (same, not_entered)) =
           let one : other ≡ number = cc same in
           subst (λ n. HasNumber patterns n × (IsChosen policy enc patterns n → ⊥)) one
-          ((are_numbers other).0 among, λ chosen. not-both (has_number entered other) not_entered (chosen-has other chosen))
+          ((are_numbers other).0 among, λ chosen. true≢false (sym (chosen-has other chosen) ∙ not_entered))
       tells other among (inr (same, entering, starting)) = absurd (let h = same in cc)
 
       at : Contains told (Unreachable number) ⊎ Contains (word_warnings word) (Unreachable number)

@@ -13,17 +13,19 @@ use Rattle.lx_regex.specs.Kernel.{IsWord}
 use Rattle.lx_regex.specs.Match.{Takes}
 use Rattle.lx_regex.specs.Order.{Policy}
 use Rattle.lx_regex.specs.Pattern.{Pattern, terms_of}
-use Rattle.lx_tdfa.specs.Promise.{IsAutoUnder}
-use Rattle.lx_warn.proofs.Links.{accepting-taken, begins-walk, quiet-untaken, taken-begins, walk-begins}
-use Rattle.lx_warn.proofs.MetWords.{IsWord-back, IsWord-front, IsWord-push, edge-units}
-use Rattle.lx_warn.proofs.SearchSteps.{quiet-leads}
+use Rattle.lx_search.proofs.Scopes.{quiet-leads}
+use Rattle.lx_search.specs.Scopes.{accepts, next_quiet, quiet}
 use Rattle.lx_tdfa.proofs.LeastWords.SearchedWords.{walk-append, walk-push, walk-pushed}
 use Rattle.lx_tdfa.proofs.LeastWords.WordOrder.{no_later-never}
-use Rattle.lx_warn.specs.Graph.{accepts, edge_from, next, next_quiet, quiet, target_of}
+use Rattle.lx_tdfa.specs.KernelStates.{next, target_of}
+use Rattle.lx_tdfa.specs.Promise.{IsAutoUnder}
 use Rattle.lx_tdfa.specs.Searches.{and_then, walk}
+use Rattle.lx_tdfa.specs.Words.{IsNoLater}
+use Rattle.lx_warn.proofs.Links.{accepting-taken, begins-walk, quiet-untaken, taken-begins, walk-begins}
+use Rattle.lx_warn.proofs.MetWords.{IsWord-back, IsWord-front, IsWord-push, edge-units}
+use Rattle.lx_warn.specs.Graph.{edge_from}
 use Rattle.lx_warn.specs.Stops.{IsFirstStopping, IsStopping}
 use Rattle.lx_warn.specs.Warnings.{IsDead, IsFirstDead}
-use Rattle.lx_tdfa.specs.Words.{IsNoLater}
 
 -- ---- words
 

@@ -20,13 +20,14 @@ use Rattle.lx_regex.specs.Order.{Policy}
 use Rattle.lx_regex.specs.Pattern.{Pattern, end_rule, patterns_of, terms_of, with_terms}
 use Rattle.lx_regex.specs.Values.{Value}
 use Rattle.lx_regex.specs.declared.rules.Rule.{Rule}
+use Rattle.lx_tdfa.specs.KernelStates.{next, target_of}
 use Rattle.lx_tdfa.specs.Promise.{IsAutoUnder}
+use Rattle.lx_tdfa.specs.Searches.{and_then, walk}
 use Rattle.lx_warn.proofs.Chosen.{chosen-before, chosen-end, chosen-whole}
 use Rattle.lx_warn.proofs.Links.{accepting-taken, one-taker, taken-accepting}
 use Rattle.lx_warn.proofs.MetWords.{IsWord-back, IsWord-front, edge-first, edge-units, met-push, met-word, word-met, word-returns}
 use Rattle.lx_warn.specs.Entered.{IsEnteredBelow, MayStopAtOnce, StartEnters, counts, number_of, rule_at}
-use Rattle.lx_warn.specs.Graph.{edge_from, next, target_of}
-use Rattle.lx_tdfa.specs.Searches.{and_then, walk}
+use Rattle.lx_warn.specs.Graph.{edge_from}
 use Rattle.lx_warn.specs.Warnings.{IsChosen}
 
 number_of-some : (accept : Option Accept) (number : ℕ) → number_of accept ≡ Some number → (found : Accept) × (accept ≡ Some found) × (found.rule ≡ number)

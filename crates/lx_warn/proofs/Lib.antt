@@ -1,11 +1,9 @@
 pub mod AllWarnings
 pub mod Chosen
 pub mod DeadWords
-pub mod EdgeFronts
 pub mod EnteredRules
 pub mod Links
 pub mod MetWords
 pub mod NumberLists
-pub mod SearchSteps
 pub mod StoppedWords
 pub mod WarningLists

@@ -15,9 +15,10 @@ use Rattle.lx_regex.specs.Kernel.{IsWord}
 use Rattle.lx_regex.specs.Match.{Takes}
 use Rattle.lx_regex.specs.Order.{Policy}
 use Rattle.lx_regex.specs.Pattern.{Pattern, terms_of, with_terms}
+use Rattle.lx_tdfa.specs.KernelStates.{next, target_of}
 use Rattle.lx_tdfa.specs.Promise.{FindsBest, IsAutoUnder}
-use Rattle.lx_warn.specs.Graph.{edge_from, next, target_of}
 use Rattle.lx_tdfa.specs.Searches.{and_then, walk}
+use Rattle.lx_warn.specs.Graph.{edge_from}
 
 -- ---- runs and walks
 

@@ -16,10 +16,11 @@ use Rattle.lx_base.specs.declared.settings.Enc.{Enc}
 use Rattle.lx_regex.specs.Kernel.{IsWord}
 use Rattle.lx_regex.specs.Pattern.{Pattern, terms_of}
 use Rattle.lx_regex.specs.Term.{Term}
-use Rattle.lx_tdfa.specs.Promise.{FitsRules}
 use Rattle.lx_tdfa.proofs.LeastWords.SearchedWords.{walk-pushed}
-use Rattle.lx_warn.specs.Graph.{edge_from, next, target_of}
+use Rattle.lx_tdfa.specs.KernelStates.{next, target_of}
+use Rattle.lx_tdfa.specs.Promise.{FitsRules}
 use Rattle.lx_tdfa.specs.Searches.{and_then, walk}
+use Rattle.lx_warn.specs.Graph.{edge_from}
 
 -- ---- words
 

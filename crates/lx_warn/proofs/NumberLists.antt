@@ -45,12 +45,6 @@ has_number-Contains numbers number has =
 pub Contains-has_number : (numbers : List ℕ) (number : ℕ) → Contains numbers number → has_number numbers number ≡ true
 Contains-has_number numbers number has = found-any (λ other. other == number) numbers number has (eq-eqb number number refl)
 
-pub not-both : (b : Bool) → b ≡ false → b ≡ true → ⊥
-not-both b one other = never (sym one ∙ other)
-  where
-    never : false ≡ true → ⊥
-    never e = cc
-
 pub is-false : (b : Bool) → (b ≡ true → ⊥) → b ≡ false
 is-false true never = absurd (never refl)
 is-false false never = refl

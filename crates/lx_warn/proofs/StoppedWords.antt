@@ -2,13 +2,14 @@
 use Rattle.std.proofs.Common.{◌≡◌, ℕ, List, [], ◌∷◌, ◌++◌, length, true, false, refl, sym, ◌∙◌, subst}
 use Rattle.lx_auto.specs.declared.automaton.Auto.{Auto}
 use Rattle.lx_base.specs.declared.settings.Enc.{Enc}
+use Rattle.lx_search.specs.Found.{found_at, trace_of}
+use Rattle.lx_search.specs.Scopes.{accepts, next_quiet}
+use Rattle.lx_search.specs.declared.search.Found.{Found}
 use Rattle.lx_tdfa.proofs.LeastWords.SearchedWords.{StandsNoLater, first-least, stands-least, words-lead}
-use Rattle.lx_warn.specs.Found.{found_at, trace_of}
-use Rattle.lx_warn.specs.Graph.{IsGap, accepts, next_quiet}
 use Rattle.lx_tdfa.specs.Searches.{IsSearched, word_at}
-use Rattle.lx_warn.specs.Stops.{HaveNoGap, IsFirstGap, IsFirstStopping, IsStopping}
 use Rattle.lx_tdfa.specs.Words.{IsNoLater}
-use Rattle.lx_warn.specs.declared.search.Found.{Found}
+use Rattle.lx_warn.specs.Graph.{IsGap}
+use Rattle.lx_warn.specs.Stops.{HaveNoGap, IsFirstGap, IsFirstStopping, IsStopping}
 
 module _ (enc : Enc) (auto : Auto) where
   pub accepting-stops : accepts auto 0 ≡ true → (word : List ℕ) → IsStopping enc auto word → ⊥

@@ -7,9 +7,10 @@ use Rattle.lx_auto.specs.declared.automaton.Accept.{Accept}
 use Rattle.lx_auto.specs.declared.automaton.Auto.{Auto}
 use Rattle.lx_auto.specs.declared.automaton.Edge.{Edge}
 use Rattle.lx_base.specs.declared.settings.Enc.{Enc}
-use Rattle.lx_warn.specs.Graph.{IsGap, accepts}
-use Rattle.lx_warn.specs.declared.lists.Warning.{Warning}
+use Rattle.lx_search.specs.Scopes.{accepts}
+use Rattle.lx_warn.specs.Graph.{IsGap}
 use Rattle.lx_warn.specs.declared.lists.Warning.TheVariants.{Unreachable, Empty, Undefined}
+use Rattle.lx_warn.specs.declared.lists.Warning.{Warning}
 
 -- the number of the rule that is accepted
 abbrev pub number_of : Option Accept → Option ℕ

@@ -2,11 +2,12 @@
 use Rattle.std.specs.Prelude.{◌≡◌, ℕ, ◌<◌, List, [], ◌∷◌, ◌++◌, length, Some, false}
 use Rattle.lx_auto.specs.declared.automaton.Auto.{Auto}
 use Rattle.lx_base.specs.declared.settings.Enc.{Enc}
-use Rattle.lx_warn.specs.Found.{found_at}
-use Rattle.lx_warn.specs.Graph.{IsGap, accepts, next_quiet}
+use Rattle.lx_search.specs.Found.{found_at}
+use Rattle.lx_search.specs.Scopes.{accepts, next_quiet}
+use Rattle.lx_search.specs.declared.search.Found.{Found}
 use Rattle.lx_tdfa.specs.Searches.{walk}
 use Rattle.lx_tdfa.specs.Words.{IsNoLater}
-use Rattle.lx_warn.specs.declared.search.Found.{Found}
+use Rattle.lx_warn.specs.Graph.{IsGap}
 
 module _ (enc : Enc) (auto : Auto) where
   -- up to its last unit the word leads through states that accept nothing, and the last unit is on no edge

@@ -4,13 +4,13 @@ ghost use Rattle.std.specs.List.{list_any};
 ghost use Rattle.std.specs.List.Sorted.{IsNonDecreasing};
 ghost use Rattle.lx_auto.specs.Automaton.{IsAuto, state_of};
 ghost use Rattle.lx_auto.specs.declared.automaton.Edge.{Edge as EdgeValue};
+ghost use Rattle.lx_search.specs.Scopes.{accepts as state_accepts};
 ghost use Rattle.lx_warn.specs.Entered.{AreEntered, LeadsToStart, MayStopAtOnce, ReturnsToStart, StartEnters, listed, number_of, rule_at as entered_at};
-ghost use Rattle.lx_warn.specs.Graph.{accepts as state_accepts};
 
 use crate::gaps::least_gap;
-use crate::search::accepts;
 use lx_auto::{Auto, Edge, edges_of};
 use lx_base::{Enc, Memory};
+use lx_search::accepts;
 use std::alloc::Global;
 
 /// Whether one of the edges leads to a state that accepts nothing.

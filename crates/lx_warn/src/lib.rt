@@ -5,6 +5,5 @@ mod dead_words;
 mod entered;
 mod gaps;
 mod lists;
-mod search;
 
 pub use lists::{Warning, WarningList, warnings};

@@ -1,5 +1,5 @@
 //! The options that a line gives.
-ghost use Rattle.std.specs.Prelude.{◌≡◌, IfOk, option_map, string_bytes};
+ghost use Rattle.std.specs.Prelude.{◌≡◌, IfOk};
 ghost use Rattle.clap.specs.Words.{found_of, rows_of};
 ghost use Rattle.lx_words.specs.Line.{value};
 ghost use Rattle.lx_words.specs.Options as spec;

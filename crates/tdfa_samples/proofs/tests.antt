@@ -1,4 +1,3 @@
-pub mod SoundTerms
-pub mod GrowingRules
 pub mod MarkLists
+pub mod OneRuleLists
 pub mod Starts

@@ -1,9 +1,7 @@
 mod automata;
+mod blocks;
 mod checks;
 mod closures;
 mod limits;
-mod machine;
-mod matches;
-mod rules;
 mod terms;
-mod written;
+mod timing;

@@ -1,10 +1,11 @@
 //! The example pieces read back, texts that are none, and how long a large one takes.
 ghost use Rattle.lx_ccode.specs.Validity.{IsValid};
 
+use super::timing::micros_since;
 use lx_ccode::{Piece, print};
 use lx_creader::{PieceStop, read_piece};
 use memchr::memmem;
-use std::alloc::Global;
+use std::alloc::{AllocError, Global};
 use std::test::Fail;
 use std::time::Instant;
 
@@ -20,65 +21,64 @@ const STORED: &[u8] =
 const CHECKED: &[u8] =
     b"/*!begin:re2c 3*/\n/*!names:re2c 2 - 7:YYCTYPE 8:YYCURSOR 7:YYLIMIT 8:YYMARKER 11:YYCTXMARKER 6:YYFILL 10:YYGETSTATE 10:YYSETSTATE 14:YYGETCONDITION 14:YYSETCONDITION 7:YYMTAGP 7:YYMTAGN 4:yych 8:yyaccept 3:yyt 4:yyc_ 3:yyc*/\n{\n\tswitch (YYGETSTATE()) {\n\tcase 7: goto yy3_0;\n\tdefault: goto yy3_0;\n\t}\nyy3_0:\n\tYYSETSTATE(7);\n\tif ((YYLIMIT - YYCURSOR) < 2) YYFILL(2);\n\tyyt1 = YYCURSOR;\n\tyych = *YYCURSOR;\n\tif (yych <= 0x60) goto yy3_2;\n\tif (yych <= 0x100A) goto yy3_1;\n\tgoto yy3_2;\nyy3_1:\n\t++YYCURSOR;\n\tyyt2 = YYCURSOR;\n\t++YYCURSOR;\n\tyynmatch = 1;\n\tyypmatch[0] = yyt1;\n\tyypmatch[1] = yyt2;\n\t/*!code:re2c 1 13*/{ return 1; }\nyy3_2:\n\tgoto yy3_none;\nyy3_none:;\n}\n/*!end:re2c*/";
 
-/// Whether a piece is read at the offset, and prints the bytes that stand there.
-fn is_read(alloc: Global, bytes: &[u8], at: usize) -> Result<bool, Fail> {
-    match read_piece(alloc, bytes, at) {
-        Ok(piece) => is_printed(alloc, &piece, bytes.get(at..).unwrap_or(&[])),
-        Err(PieceStop::NotEmitted(_)) => Ok(false),
-        Err(stop) => Err(stop.into()),
+/// Whether a text begins with a piece that prints it; nothing where memory is wanting.
+fn is_read(alloc: Global, text: &[u8]) -> Option<bool> {
+    match read_piece(alloc, text, 0) {
+        Ok(piece) => is_printed(alloc, &piece, text),
+        Err(PieceStop::NotEmitted(_)) => Some(false),
+        Err(_) => None,
     }
 }
 
-/// Whether the text of a piece stands at the front of some bytes.
-fn is_printed(alloc: Global, piece: &Piece, bytes: &[u8]) -> Result<bool, Fail>
+/// Whether the text of a piece stands at the front of another one; nothing where memory is wanting.
+fn is_printed(alloc: Global, piece: &Piece, text: &[u8]) -> Option<bool>
     requires { IsValid piece.now }
 {
-    let text = print(alloc, piece)?;
-    Ok(bytes.starts_with(text.as_slice()))
+    match print(alloc, piece) {
+        Ok(printed) => Some(text.starts_with(printed.as_slice())),
+        Err(_) => None,
+    }
 }
 
 /// Each statement stands in one of these pieces.
 const EXAMPLES: [&[u8]; 3] = [CONTEXT, STORED, CHECKED];
 
 #[test]
-fn examples_are_read_back(rt: HostRuntime) -> Result<(), Fail> {
+fn examples_are_read_back(rt: HostRuntime) {
     for text in EXAMPLES {
-        assert!(rt; is_read(rt.alloc(), text, 0)?);
+        assert!(rt; is_read(rt.alloc(), text) == Some(true));
     }
-    Ok(())
 }
 
 #[test]
-fn fronts_are_no_pieces(rt: HostRuntime) -> Result<(), Fail> {
+fn fronts_are_no_pieces(rt: HostRuntime) {
     for text in EXAMPLES {
         for end in 0..text.len() {
-            assert!(rt; !is_read(rt.alloc(), &text[..end], 0)?, "{end}");
+            assert!(rt; is_read(rt.alloc(), &text[..end]) == Some(false), "{end}");
         }
     }
-    Ok(())
 }
 
-/// Whether the text is a piece where the byte at a place is 0.
-fn is_read_without(alloc: Global, text: &[u8], place: usize) -> Result<bool, Fail> {
-    let mut bytes = Vec::from_slice(alloc, text)?;
+/// Whether the text is a piece where the byte at a place is 0; nothing where memory is wanting.
+fn is_read_without(alloc: Global, text: &[u8], place: usize) -> Option<bool> {
+    let mut bytes = Vec::from_slice(alloc, text).ok()?;
     if let Some(byte) = bytes.get_mut(place) {
         *byte = 0;
     }
-    is_read(alloc, &bytes, 0)
+    is_read(alloc, &bytes)
 }
 
 #[test]
-fn each_byte_counts_but_in_actions_and_names(rt: HostRuntime) -> Result<(), Fail> {
+fn each_byte_counts_but_in_actions_and_names(rt: HostRuntime) {
     for text in EXAMPLES {
         for place in 0..text.len() {
             let is_free = is_in_action(text, place) || is_in_name(text, place);
             assert!(rt;
-                is_read_without(rt.alloc(), text, place)? == is_free,
+                is_read_without(rt.alloc(), text, place) == Some(is_free),
                 "{place}"
             );
         }
     }
-    Ok(())
 }
 
 /// Whether the place is in one of the actions `{ return N; }`.
@@ -108,27 +108,41 @@ fn is_in_name(text: &[u8], place: usize) -> bool {
     }
 }
 
-/// So many copies of the middle of the text: its blocks and actions.
-fn repeated(alloc: Global, count: u32) -> Result<Vec<u8>, Fail> {
+/// The text of a piece with so many blocks.
+fn repeated(alloc: Global, count: u32) -> Result<Vec<u8>, AllocError> {
     let head = memmem::find(CONTEXT, b"yy1_0:").unwrap_or(0);
     let mut bytes = Vec::from_slice(alloc, CONTEXT.get(..head).unwrap_or(&[]))?;
-    for block in 0..count {
-        let body = format!(in alloc;
-            "yy1_{block}:\n\tyych = *YYCURSOR;\n\tif (yych <= 0x60) goto yy1_{block};\n\tYYCTXMARKER = YYCURSOR;\n\tgoto yy1_{block};\n"
-        )?;
-        bytes.extend_from_slice(body.as_bytes())?;
-    }
-    bytes.extend_from_slice(b"yy1_none:;\n}\n/*!end:re2c*/")?;
+    append_blocks(alloc, &mut bytes, count)?;
     Ok(bytes)
+}
+
+/// Appends so many blocks, of which each goes back to itself, and the end of their piece.
+fn append_blocks(alloc: Global, bytes: &mut Vec<u8>, count: u32) -> Result<(), AllocError> {
+    for block in 0..count {
+        let text = block_text(alloc, block)?;
+        bytes.extend_from_slice(text.as_bytes())?;
+    }
+    bytes.extend_from_slice(b"yy1_none:;\n}\n/*!end:re2c*/")
+}
+
+fn block_text(alloc: Global, block: u32) -> Result<String, AllocError> {
+    format!(in alloc;
+        "yy1_{block}:\n\tyych = *YYCURSOR;\n\tif (yych <= 0x60) goto yy1_{block};\n\tYYCTXMARKER = YYCURSOR;\n\tgoto yy1_{block};\n"
+    )
+}
+
+/// Whether a text begins with a piece, and how many microseconds it takes to read.
+fn measured(rt: &HostRuntime, text: &[u8]) -> Result<(bool, u128), Fail> {
+    let start = Instant::now(rt)?;
+    let is_piece = matches!(read_piece(rt.alloc(), text, 0), Ok(_));
+    Ok((is_piece, micros_since(rt, start)?))
 }
 
 #[test]
 fn time_of_a_large_piece(rt: HostRuntime) -> Result<(), Fail> {
     let bytes = repeated(rt.alloc(), 100_000)?;
-    let start = Instant::now(&rt)?;
-    let read = matches!(read_piece(rt.alloc(), &bytes, 0), Ok(_));
-    let micros = start.elapsed(&rt)?.as_micros();
-    assert!(rt; read);
+    let (is_piece, micros) = measured(&rt, &bytes)?;
+    assert!(rt; is_piece);
     println!(rt; "reading: {} bytes in {micros} us", bytes.len())?;
     Ok(())
 }

@@ -1,6 +1,6 @@
 -- The blocks of a scanner as a whole are those of a part.
 use Rattle.std.specs.Prelude.{◌≡◌, ℕ, suc, ◌+◌, ◌<◌, List, [], ◌∷◌, ◌++◌, length, Option, Some, slice_index_or, slice_set, refl}
-use Rattle.std.proofs.Common.{sym, ap, ◌∙◌, arith, subst}
+use Rattle.std.proofs.Common.{sym, ap, ◌∙◌, append_assoc, arith, subst}
 use Rattle.lx_auto.specs.Automaton.{state_of}
 use Rattle.lx_auto.specs.declared.automaton.State.{State}
 use Rattle.lx_ccode.specs.declared.piece.CodeBlock.{CodeBlock}
@@ -16,6 +16,7 @@ use Rattle.lx_layout.specs.UnitApart.{reader_split}
 use Rattle.lx_layout.specs.declared.demands.PartInput.{PartInput}
 use Rattle.lx_layout.specs.declared.state_plans.PartPlans.{PartPlans}
 use Rattle.lx_layout.specs.declared.state_plans.StatePlan.{StatePlan}
+use Rattle.lx_layout.proofs.BlockLayouts.BlockLoops.{unlabelled-append}
 use Rattle.lx_layout.proofs.Laying.Planned.{states_length}
 
 -- ---- a label
@@ -38,6 +39,23 @@ labelled-set blocks front codes begin block name put at within is =
     ∙ labelled-here front codes block name
     (subst (λ n. n < length (front ++ unlabelled codes)) at (subst (λ (l : List CodeBlock). begin < length l) put within))
     (subst (λ n. block ≡ slice_index_or (front ++ unlabelled codes) n block) at (subst (λ (l : List CodeBlock). block ≡ slice_index_or l begin block) put is))
+
+-- ---- parts, one behind another
+
+unlabelled-more : (front : List CodeBlock) (codes more : List (List Stmt)) → (front ++ unlabelled codes) ++ unlabelled more ≡ front ++ unlabelled (codes ++ more)
+unlabelled-more front codes more =
+    append_assoc front (unlabelled codes) (unlabelled more) ∙ ap (λ l. front ++ l) (sym (unlabelled-append codes more))
+
+pub unlabelled-parts : (front : List CodeBlock) (first states fallback restores rules : List (List Stmt))
+    → ((((front ++ unlabelled first) ++ unlabelled states) ++ unlabelled fallback) ++ unlabelled restores) ++ unlabelled rules
+    ≡ front ++ unlabelled (first ++ (states ++ (fallback ++ (restores ++ rules))))
+unlabelled-parts front first states fallback restores rules =
+    let begun : List CodeBlock = front ++ unlabelled first in
+    let stated : List CodeBlock = begun ++ unlabelled states in
+    unlabelled-more (stated ++ unlabelled fallback) restores rules
+    ∙ unlabelled-more stated fallback (restores ++ rules)
+    ∙ unlabelled-more begun states (fallback ++ (restores ++ rules))
+    ∙ unlabelled-more front first (states ++ (fallback ++ (restores ++ rules)))
 
 -- ---- the trees
 

@@ -10,8 +10,10 @@ use Rattle.lx_tnfa.specs.declared.closure.Reach.{Reach}
 use Rattle.lx_tnfa.specs.declared.states.Event.{Event}
 use Rattle.lx_tnfa.specs.declared.states.Move.{Move}
 use Rattle.lx_tnfa.proofs.Construction.NthLists.{nth_read}
+use Rattle.lx_posix.specs.Courses.{marks_on}
 use Rattle.lx_posix.specs.Finding.{IsWay}
 use Rattle.lx_posix.specs.Reaching.{events_on, found_reaches, move_of, origins_of, reaches_of}
+use Rattle.lx_posix.specs.declared.courses.Mark.{Mark}
 use Rattle.lx_posix.specs.declared.points.Beginning.{Beginning}
 use Rattle.lx_posix.specs.declared.search.Found.{Found}
 
@@ -54,6 +56,24 @@ module _ (tnfa : Tnfa) (at : ℕ) (way : List ℕ) (index : ℕ) (within : index
         ∙ append_assoc events move.events (events_on tnfa move.to (drop (index + 1) way))
         ∙ ap (λ (m : Move). events ++ (m.events ++ events_on tnfa m.to (drop (index + 1) way))) (sym same)
         ∙ ap (λ l. events ++ events_on tnfa at l) (sym (drop_more way index 0 within))
+        ∙ before
+
+    pub marks_on-move : (marks more whole : List Mark) (count next : ℕ)
+        → marks ++ marks_on tnfa at count (drop index way) ≡ whole
+        → more ≡ marks ++ record { state = at; count = count } ∷ []
+        → next ≡ count + length move.events
+        → more ++ marks_on tnfa move.to next (drop (index + 1) way) ≡ whole
+    marks_on-move marks more whole count next before added counted =
+        let follow = next_move to w in
+        let behind = drop (index + 1) way in
+        let mark : Mark = record { state = at; count = count } in
+        let same : move_of tnfa at (get_or way index 0) ≡ move =
+        nth_read (moves_in (state_of tnfa.states at)) (get_or way index 0) follow.0 (record { to = 0; events = [] }) follow.1 ∙ sym move_is in
+        ap (λ l. l ++ marks_on tnfa move.to next behind) added
+        ∙ append_assoc marks (mark ∷ []) (marks_on tnfa move.to next behind)
+        ∙ ap (λ n. marks ++ (mark ∷ marks_on tnfa move.to n behind)) counted
+        ∙ ap (λ (m : Move). marks ++ (mark ∷ marks_on tnfa m.to (count + length m.events) behind)) (sym same)
+        ∙ ap (λ l. marks ++ marks_on tnfa at count l) (sym (drop_more way index 0 within))
         ∙ before
 
 -- the targets of one more way

@@ -9,7 +9,7 @@ use Rattle.lx_regex.specs.Automaton.{automaton}
 use Rattle.lx_regex.specs.Pattern.{terms_of}
 use Rattle.lx_regex.specs.Walk.{mark}
 use Rattle.lx_tnfa.specs.DepthFirst as searched
-use Rattle.lx_tnfa.specs.DepthFirst.{IsIn, search_from, successors, visited}
+use Rattle.lx_tnfa.specs.DepthFirst.{IsIn, successors, visited}
 use Rattle.lx_tnfa.specs.LeafReadings.{IsNth}
 use Rattle.lx_tnfa.specs.Live.{state_of}
 use Rattle.lx_tnfa.specs.Moves.{moves_in}

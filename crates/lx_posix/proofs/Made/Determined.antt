@@ -6,7 +6,6 @@ use Rattle.lx_auto.specs.Automaton.{AreApart, IsAuto, IsState}
 use Rattle.lx_auto.specs.declared.automaton.Auto.{Auto}
 use Rattle.lx_auto.specs.declared.automaton.State.{State}
 use Rattle.lx_base.specs.declared.faults.Stop.{Stop}
-use Rattle.lx_base.specs.declared.faults.Stop.TheVariants as stop
 use Rattle.lx_base.specs.declared.places.Pos.{Pos}
 use Rattle.lx_base.specs.declared.settings.Enc.{Enc}
 use Rattle.lx_regex.specs.ClassLimits.{AllClassesFit}
@@ -31,6 +30,7 @@ use Rattle.lx_tdfa.proofs.Tables.TableBounds.{most_places-within}
 use Rattle.lx_tdfa.proofs.Tables.TableFormed.{auto-formed, length-most, state-formed}
 use Rattle.lx_tdfa.proofs.Walks.ClosureSearches.{RulesKept, SearchesAlike}
 use Rattle.lx_tdfa.proofs.Walks.Searches.{searches_alike}
+use Rattle.lx_tdfa.proofs.Loops.Stops.{StopsBy-wider}
 use Rattle.lx_posix.specs.Closures.{IsClosureReached, onward_of}
 use Rattle.lx_posix.specs.Determining.{AreListed, AreStatesOf, IsStateOf, TooManyUnder}
 use Rattle.lx_posix.specs.KeptKernels as kept_kernels
@@ -58,8 +58,7 @@ start_listed tnfa = record {
 
 pub too_many-kernels : (tnfa : Tnfa) (enc : Enc) (patterns : List Pattern) → IsTnfaOf enc patterns tnfa → AllClassesFit enc (terms_of patterns)
     → (at : Pos) (why : Stop) → StopsBy at (TooManyUnder tnfa) why → StopsBy at (HasTooManyPosixKernels enc (terms_of patterns)) why
-too_many-kernels tnfa enc patterns of fits pos stop.Memory reason = tt
-too_many-kernels tnfa enc patterns of fits pos (stop.Fault fault) reason = (reason.0, reason.1 enc patterns of fits)
+too_many-kernels tnfa enc patterns of fits pos why = StopsBy-wider pos why (λ many. many enc patterns of fits)
 
 module _ (tnfa : Tnfa) (built : IsBuilt tnfa) (kernels : List (List Kept)) (listed : AreListed tnfa kernels) (auto : Auto)
     (regs : auto.regs ≡ (most_places kernels + 1) * widest tnfa.rules) (mregs : auto.mregs ≡ auto.regs + 1)

@@ -5,7 +5,6 @@ use Rattle.std.proofs.lemmas.Option.{slice_get_within}
 use Rattle.std.specs.Prelude.{All, AllPairs, Contains, if◌then◌else◌, slice_get, slice_index_or}
 use Rattle.lx_auto.specs.declared.automaton.Edge.{Edge}
 use Rattle.lx_base.specs.declared.faults.Stop.{Stop}
-use Rattle.lx_base.specs.declared.faults.Stop.TheVariants as stop
 use Rattle.lx_base.specs.declared.places.Pos.{Pos}
 use Rattle.lx_base.specs.declared.settings.Enc.{Enc}
 use Rattle.lx_regex.specs.ClassLimits.{AllClassesFit}
@@ -34,6 +33,7 @@ use Rattle.lx_tdfa.proofs.Loops.ListSets.{apart-push}
 use Rattle.lx_tdfa.proofs.Rules.StepPlaces.{first_steps-each}
 use Rattle.lx_tdfa.proofs.Walks.ClosureSearches.{AreAlike}
 use Rattle.lx_tdfa.proofs.Walks.ListReads.{slice_get-behind, slice_get-front}
+use Rattle.lx_tdfa.proofs.Loops.Stops.{StopsBy-wider}
 use Rattle.lx_posix.specs.Closures.{AreWaysOf, HasWay, IsClosure, IsClosureReached, Under, kept_behind, next_kernel}
 use Rattle.lx_posix.specs.Determining.{AreListed, Grows, TooManyUnder}
 use Rattle.lx_posix.specs.Finding.{IsFoundAt, IsSearchable}
@@ -334,14 +334,11 @@ module _ (tnfa : Tnfa) (built : IsBuilt tnfa) (first : Bool) (closure : Closure)
 
       pub too_many-under : (at : Pos) (why : Stop) → StopsBy at (AreMany (kernels ++ list ∷ []) × ¬ Contains kernels list) why
           → StopsBy at (TooManyUnder tnfa) why
-      too_many-under pos stop.Memory reason = tt
-      too_many-under pos (stop.Fault fault) reason = (
-        reason.0,
-        λ enc patterns of fits.
-            many_kernels enc patterns tnfa of fits (kernels ++ list ∷ []) (behind-reached enc patterns of fits)
-            (slice_get-front kernels (list ∷ []) 0 start_kernel listed.start)
-            (apart-push kernels list reason.1.1 listed.apart) reason.1.0,
-      )
+      too_many-under pos why =
+          StopsBy-wider pos why
+          (λ many enc patterns of fits.
+          many_kernels enc patterns tnfa of fits (kernels ++ list ∷ []) (behind-reached enc patterns of fits)
+          (slice_get-front kernels (list ∷ []) 0 start_kernel listed.start) (apart-push kernels list many.1 listed.apart) many.0)
 
     -- it leads to the kernel
     pub edge-made : (new : List (List Kept)) (edge : Edge) → steps ≢ [] → slice_get new edge.to ≡ Some list

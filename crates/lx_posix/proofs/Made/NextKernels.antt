@@ -24,7 +24,7 @@ use Rattle.lx_posix.specs.Comparing.{Ranked, compared, ranked_at}
 use Rattle.lx_posix.specs.Finding.{IsFoundAt}
 use Rattle.lx_posix.specs.KeptKernels.{IsAfter, places_in, rank_of, rule_at}
 use Rattle.lx_posix.specs.KernelLists as lists
-use Rattle.lx_posix.specs.KernelLists.{comparison_of, ranks_after, ranks_behind, ranks_to, walk_of}
+use Rattle.lx_posix.specs.KernelLists.{ranks_after, ranks_behind, ranks_to, walk_of}
 use Rattle.lx_posix.specs.LevelSearch.{ranks_by}
 use Rattle.lx_posix.specs.Reaching.{AreByWays, IsByWay, segments_by}
 use Rattle.lx_posix.specs.Walks as walks

@@ -1,15 +1,27 @@
 -- What is kept goes through two passes, and no edge of the answer holds a unit that no edge of what was given holds.
-use Rattle.std.proofs.Common.{◌≡◌, ℕ, ◌≤◌, Contains, Option, Some, None, true, option_map, nat_le, ◌&&◌, refl, sym, ap, ◌∙◌, subst}
+use Rattle.std.proofs.Common.{◌≡◌, ℕ, ◌≤◌, Contains, Option, Some, None, Bool, true, false, option_map, nat_le, ◌&&◌, refl, sym, ap, ◌∙◌, subst}
+use Rattle.std.specs.Bool.{IsTrue, then_some}
+use Rattle.std.specs.Option.{IfSome}
 use Rattle.lx_auto.specs.declared.automaton.Accept.{Accept}
 use Rattle.lx_auto.specs.declared.automaton.Auto.{Auto}
 use Rattle.lx_auto.specs.declared.automaton.Edge.{Edge}
 use Rattle.lx_auto.specs.Automaton.{has_unit, state_of}
 use Rattle.lx_auto.specs.Shapes.{HasAcceptLike, HasEdgeOn, StaysWithin}
 use Rattle.lx_auto.proofs.SameLists.{Contains-images}
-use Rattle.lx_regs.specs.Shapes.{AcceptShape, EdgeShape, KeepsShape, shape_of_accept, shape_of_edge}
+use Rattle.lx_regs.specs.Shapes.{AcceptShape, EdgeShape, KeepsShape, StandsFor, shape_of_accept, shape_of_edge}
 
 pub KeepsShape-itself : (auto : Auto) → KeepsShape auto auto
 KeepsShape-itself auto = record { count = refl; edges = λ state. refl; accepts = λ state. refl; agreed = λ agreed. agreed }
+
+-- an answer that is given if it may stand for the given automaton
+StandsFor-told : (given answer : Auto) (may : Bool) → (IsTrue may → StandsFor given answer) → IfSome (then_some may answer) (StandsFor given)
+StandsFor-told given answer true holds = holds refl
+StandsFor-told given answer false holds = tt
+
+pub StandsFor-then_some : (given answer : Auto) (may : Bool) (found : Option Auto) → found ≡ then_some may answer
+    → (IsTrue may → StandsFor given answer) → IfSome found (StandsFor given)
+StandsFor-then_some given answer may found is holds =
+    subst (λ (f : Option Auto). IfSome f (StandsFor given)) (sym is) (StandsFor-told given answer may holds)
 
 pub KeepsShape-through : (given middle answer : Auto) → KeepsShape given middle → KeepsShape middle answer → KeepsShape given answer
 KeepsShape-through given middle answer one other = record {

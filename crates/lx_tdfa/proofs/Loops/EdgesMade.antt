@@ -7,7 +7,6 @@ use Rattle.std.specs.List.{cons_option}
 use Rattle.std.specs.Option.{option_map}
 use Rattle.std.specs.Prelude.{All, AllPairs, Contains, slice_get, sum_by}
 use Rattle.lx_base.specs.declared.faults.Stop.{Stop}
-use Rattle.lx_base.specs.declared.faults.Stop.TheVariants as stop
 use Rattle.lx_base.specs.declared.places.Pos.{Pos}
 use Rattle.lx_base.specs.declared.settings.Enc.{Enc}
 use Rattle.lx_auto.specs.declared.automaton.Edge.{Edge}
@@ -26,6 +25,7 @@ use Rattle.lx_tdfa.specs.Steps.{IsFound, IsInLeaf, Step, at_start, next_steps, o
 use Rattle.lx_tdfa.specs.Table.{IsEdgeOf}
 use Rattle.lx_tdfa.specs.declared.steps.Step as held
 use Rattle.lx_tdfa.proofs.Loops.ListSets.{apart-push}
+use Rattle.lx_tdfa.proofs.Loops.Stops.{StopsBy-wider}
 use Rattle.lx_tdfa.proofs.Walks.ListReads.{slice_get-behind, slice_get-front}
 use Rattle.lx_tdfa.proofs.Rules.StepPlaces.{first_steps-each, next_steps-in_leaf, start_place-place}
 
@@ -137,11 +137,9 @@ module _ (enc : Enc) (patterns : List Pattern) (tnfa : Tnfa) (of : IsTnfaOf enc 
 
       pub too_many-found : (at : Pos) (why : Stop) → StopsBy at (AreMany (lists ++ places ∷ []) × ¬ Contains lists places) why
           → StopsBy at (TooManyFound tnfa) why
-      too_many-found at stop.Memory reason = tt
-      too_many-found at (stop.Fault fault) reason = (
-        reason.0,
-        (lists ++ places ∷ [], all_found, record { apart = apart-push lists places reason.1.1 listed.apart; many = reason.1.0 }),
-      )
+      too_many-found at why =
+          StopsBy-wider at why
+          (λ many. (lists ++ places ∷ [], all_found, record { apart = apart-push lists places many.1 listed.apart; many = many.0 }))
 
     -- the edge leads to the list of the places
     pub edge-made : (new : List (List Place)) (first : Bool) (edge : Edge) (places : List Place) → steps ≢ []

@@ -5,7 +5,6 @@ use Rattle.std.specs.Prelude.{All, AllPairs}
 use Rattle.lx_regex.specs.ClassLimits.{AllClassesFit}
 use Rattle.lx_base.specs.Spelling.{greatest_unit}
 use Rattle.lx_base.specs.declared.faults.Stop.{Stop}
-use Rattle.lx_base.specs.declared.faults.Stop.TheVariants as stop
 use Rattle.lx_base.specs.declared.places.Pos.{Pos}
 use Rattle.lx_base.specs.declared.settings.Enc.{Enc}
 use Rattle.lx_auto.specs.Automaton.{IsAuto}
@@ -23,6 +22,7 @@ use Rattle.lx_tdfa.specs.Registers.{widest}
 use Rattle.lx_tdfa.specs.Steps.{IsFound, at_start, start_place}
 use Rattle.lx_tdfa.specs.Table.{IsStateOf, IsTable, is_first}
 use Rattle.lx_tnfa.proofs.Construction.ApartNumbers.{numbers_apart}
+use Rattle.lx_tdfa.proofs.Loops.Stops.{StopsBy-wider}
 use Rattle.lx_tdfa.proofs.Rules.ApartNumbers.{widest_bound}
 use Rattle.lx_tdfa.proofs.Walks.ClosureSearches.{RulesKept, SearchesAlike}
 use Rattle.lx_tdfa.proofs.WordKernels.FewKernels.{few_found}
@@ -61,12 +61,11 @@ module _ (tnfa : Tnfa) (built : IsBuilt tnfa) where
     greatest_same = ap (λ e. greatest_unit e) of.enc
 
     pub built-too_many : (at : Pos) (why : Stop) → StopsBy at (TooManyFound tnfa) why → StopsBy at (HasTooManyKernels enc (terms_of patterns)) why
-    built-too_many at stop.Memory reason = tt
-    built-too_many at (stop.Fault fault) reason = (
-      reason.0,
-      many_found enc patterns tnfa of fits kept alike reason.1.0
-          (subst (λ greatest. All (IsFound tnfa greatest) reason.1.0) greatest_same reason.1.1) reason.1.2.apart reason.1.2.many,
-    )
+    built-too_many at why =
+        StopsBy-wider at why
+        (λ found.
+        many_found enc patterns tnfa of fits kept alike found.0
+        (subst (λ greatest. All (IsFound tnfa greatest) found.0) greatest_same found.1) found.2.apart found.2.many)
 
     built-table : (kernels : List (List Place)) (auto : Auto) → AreListed tnfa kernels → IsAuto auto → length auto.states ≡ length kernels
         → AreStatesOf tnfa kernels auto.states → IsTable tnfa (greatest_unit enc) kernels auto

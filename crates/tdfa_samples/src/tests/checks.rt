@@ -53,82 +53,98 @@ fn checks_of(alloc: Global, last: u16, edges: &[(u32, u32)]) -> Result<CheckList
     checks(alloc, &automaton(alloc, last, edges)?)
 }
 
+/// Whether these are the checks of such an automaton.
+fn are_checks(
+    alloc: Global,
+    last: u16,
+    edges: &[(u32, u32)],
+    numbers: &[u32],
+) -> Result<bool, Memory> {
+    Ok(checks_of(alloc, last, edges)?.as_slice() == numbers)
+}
+
+/// An automaton: what it shows, its last state, and its edges; and the checks of its states.
+type Row = (&'static str, u16, &'static [(u32, u32)], &'static [u32]);
+
+const ROWS: [Row; 9] = [
+    ("no edge", 0, &[], &[0]),
+    ("a chain", 3, &[(0, 1), (1, 2), (2, 3)], &[3, 0, 0, 0]),
+    ("a loop", 2, &[(0, 1), (1, 2), (2, 0)], &[3, 0, 0]),
+    ("a loop of one edge", 1, &[(0, 1), (1, 1)], &[1, 1]),
+    (
+        "two loops that share a state",
+        3,
+        &[(0, 1), (1, 2), (2, 1), (1, 3), (3, 1)],
+        &[1, 2, 0, 0],
+    ),
+    (
+        "a loop in a loop",
+        3,
+        &[(0, 1), (1, 2), (2, 3), (3, 2), (3, 1)],
+        &[1, 1, 2, 0],
+    ),
+    (
+        "a state that is reached by the start's loop alone",
+        2,
+        &[(0, 1), (1, 0), (1, 2)],
+        &[2, 0, 0],
+    ),
+    (
+        "states that no walk reaches",
+        3,
+        &[(0, 1), (2, 3), (3, 2), (3, 1)],
+        &[1, 0, 2, 0],
+    ),
+    (
+        "the rules \"abc\" and *",
+        4,
+        &[(0, 1), (0, 4), (1, 2), (2, 3)],
+        &[3, 0, 0, 0, 0],
+    ),
+];
+
 #[test]
 fn numbers_are_those_of_the_longest_walks(rt: HostRuntime) -> Result<(), Fail> {
-    let cases = [
-        ("no edge", 0, [].as_slice(), [0].as_slice()),
-        (
-            "a chain",
-            3,
-            [(0, 1), (1, 2), (2, 3)].as_slice(),
-            [3, 0, 0, 0].as_slice(),
-        ),
-        (
-            "a loop",
-            2,
-            [(0, 1), (1, 2), (2, 0)].as_slice(),
-            [3, 0, 0].as_slice(),
-        ),
-        (
-            "a loop of one edge",
-            1,
-            [(0, 1), (1, 1)].as_slice(),
-            [1, 1].as_slice(),
-        ),
-        (
-            "two loops that share a state",
-            3,
-            [(0, 1), (1, 2), (2, 1), (1, 3), (3, 1)].as_slice(),
-            [1, 2, 0, 0].as_slice(),
-        ),
-        (
-            "a loop in a loop",
-            3,
-            [(0, 1), (1, 2), (2, 3), (3, 2), (3, 1)].as_slice(),
-            [1, 1, 2, 0].as_slice(),
-        ),
-        (
-            "a state that is reached by the start's loop alone",
-            2,
-            [(0, 1), (1, 0), (1, 2)].as_slice(),
-            [2, 0, 0].as_slice(),
-        ),
-        (
-            "states that no walk reaches",
-            3,
-            [(0, 1), (2, 3), (3, 2), (3, 1)].as_slice(),
-            [1, 0, 2, 0].as_slice(),
-        ),
-        (
-            "the rules \"abc\" and *",
-            4,
-            [(0, 1), (0, 4), (1, 2), (2, 3)].as_slice(),
-            [3, 0, 0, 0, 0].as_slice(),
-        ),
-    ];
-    for (name, last, edges, numbers) in cases {
-        let found = checks_of(rt.alloc(), last, edges)?;
-        assert_eq!(rt; found.as_slice(), numbers, "{name}");
+    for (name, last, edges, numbers) in ROWS {
+        assert!(rt; are_checks(rt.alloc(), last, edges, numbers)?, "{name}");
     }
     Ok(())
 }
 
-#[test]
-fn many_states_need_no_deep_calls(rt: HostRuntime) -> Result<(), Fail> {
-    let mut edges = Vec::new(rt.alloc());
+/// How many checks such an automaton of 4096 states has, those of two states, and the greatest.
+fn told_of(
+    alloc: Global,
+    edges: &[(u32, u32)],
+    first: usize,
+    second: usize,
+) -> Result<(usize, Option<u32>, Option<u32>, u32), Memory> {
+    let list = checks_of(alloc, 4095, edges)?;
+    let numbers = list.as_slice();
+    let (one, other) = (numbers.get(first).copied(), numbers.get(second).copied());
+    Ok((numbers.len(), one, other, max_fill(&list)))
+}
+
+/// Edges from each state to the next one, up to the last of 4096.
+fn chain(alloc: Global) -> Result<Vec<(u32, u32)>, Memory> {
+    let mut edges = Vec::new(alloc);
     for state in 0..4095 {
         edges.push((state, state + 1))?;
     }
-    let chain = checks_of(rt.alloc(), 4095, &edges)?;
-    assert_eq!(rt; chain.as_slice().len(), 4096);
-    assert_eq!(rt; chain.get(0), 4095);
-    assert_eq!(rt; chain.get(4095), 0);
-    assert_eq!(rt; max_fill(&chain), 4095);
+    Ok(edges)
+}
+
+/// Edges from each state to the next one, and from the last of 4096 to the second.
+fn ring(alloc: Global) -> Result<Vec<(u32, u32)>, Memory> {
+    let mut edges = chain(alloc)?;
     edges.push((4095, 1))?;
-    let ring = checks_of(rt.alloc(), 4095, &edges)?;
-    assert_eq!(rt; ring.as_slice().len(), 4096);
-    assert_eq!(rt; ring.get(0), 1);
-    assert_eq!(rt; ring.get(1), 4095);
-    assert_eq!(rt; max_fill(&ring), 4095);
+    Ok(edges)
+}
+
+#[test]
+fn many_states_need_no_deep_calls(rt: HostRuntime) -> Result<(), Fail> {
+    let told = told_of(rt.alloc(), &chain(rt.alloc())?, 0, 4095)?;
+    assert!(rt; told == (4096, Some(4095), Some(0), 4095));
+    let told = told_of(rt.alloc(), &ring(rt.alloc())?, 0, 1)?;
+    assert!(rt; told == (4096, Some(1), Some(4095), 4095));
     Ok(())
 }

@@ -2,8 +2,9 @@ use Rattle.std.proofs.Common.{◌≡◌, true, inr}
 use Rattle.std.proofs.lemmas.Result.{err_from_is_err_and}
 use Rattle.lx_regex.specs.Kernel.{HasTooManyKernels}
 use Rattle.lx_regex.specs.Pattern.{terms_of}
+use Rattle.lx_tdfa.proofs.Loops.Stops.{StopsBy-wider}
 use Rattle.lx_tdfa.specs.Promise.{IsAutoUnder}
-use Rattle.lx_compile.proofs.LeftmostToo.{StopsBy-wider, ends_by_posix, ends_greedily, uncovered}
+use Rattle.lx_compile.proofs.LeftmostToo.{ends_by_posix, ends_greedily, uncovered}
 use Rattle.lx_compile.proofs.determinized.determinized.Goals as goal
 use Rattle.lx_compile.proofs.determinized.determinized.Goals.{then-options+in_ok-determinize, else-options}
 

@@ -5,14 +5,14 @@ use Rattle.lx_auto.specs.Automaton.{state_of}
 use Rattle.lx_auto.specs.declared.automaton.Edge.{Edge}
 use Rattle.lx_base.specs.Spelling.{greatest_unit}
 use Rattle.lx_regex.specs.Pattern.{patterns_of}
+use Rattle.lx_search.specs.Found.{found_at, trace_of}
+use Rattle.lx_search.specs.declared.search.Found.{Found}
 use Rattle.lx_tdfa.specs.KernelStates.{next}
 use Rattle.lx_tdfa.specs.Searches.{AreApart, IsSearched}
 use Rattle.lx_cover.proofs.CoveringWords.{covering-cover, stops-cover}
 use Rattle.lx_cover.proofs.EdgeUnits.{goes-within, state-units}
 use Rattle.lx_cover.proofs.Progress.{covering-start}
-use Rattle.lx_cover.specs.Found.{found_at, trace_of}
 use Rattle.lx_cover.specs.Progress.{AreCoveringBefore}
-use Rattle.lx_cover.specs.declared.search.Found.{Found}
 use Rattle.lx_cover.proofs.covers.cover.Goals as goal
 
 pub searched-requires : goal.searched-requires

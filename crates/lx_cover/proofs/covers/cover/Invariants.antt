@@ -1,5 +1,5 @@
-use Rattle.lx_cover.specs.Found.{trace_of}
 use Rattle.lx_cover.specs.Progress.{AreCoveringBefore, IsCounted}
+use Rattle.lx_search.specs.Found.{trace_of}
 use Rattle.lx_cover.proofs.covers.cover.Given as goal
 
 abbrev pub invariant-loop-place : goal.invariant-loop-place

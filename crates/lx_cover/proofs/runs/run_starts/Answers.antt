@@ -3,10 +3,10 @@ use Rattle.lx_auto.proofs.States.{state_formed}
 use Rattle.lx_auto.specs.Automaton.{state_of}
 use Rattle.lx_auto.specs.declared.automaton.Edge.{Edge}
 use Rattle.lx_base.specs.Spelling.{greatest_unit}
-use Rattle.lx_cover.proofs.EdgeFronts.{IsPassed, edge-high, edge-low, edges-more, passed-none}
 use Rattle.lx_cover.proofs.RunEdges.{edge-alike, gap-alike, greatest_is, rest-alike}
 use Rattle.lx_cover.proofs.RunStarts.{runs-none}
 use Rattle.lx_cover.specs.Runs.{AreRuns}
+use Rattle.lx_search.proofs.EdgeFronts.{IsPassed, edge-high, edge-low, edges-more, passed-none}
 use Rattle.lx_tdfa.specs.KernelStates.{next}
 use Rattle.lx_cover.proofs.runs.run_starts.Goals.{then-end-from+in_ok-take, else-end-from, then-end-from-2+in_ok-take-3, else-end-from-2}
 use Rattle.lx_cover.proofs.runs.run_starts.Goals as goal

@@ -1,8 +1,8 @@
 use Rattle.std.proofs.Common.{◌+◌, ◌≤◌}
 use Rattle.lx_auto.specs.Automaton.{state_of}
 use Rattle.lx_base.specs.Spelling.{greatest_unit}
-use Rattle.lx_cover.proofs.EdgeFronts.{IsPassed}
 use Rattle.lx_cover.specs.Runs.{AreRuns}
+use Rattle.lx_search.proofs.EdgeFronts.{IsPassed}
 use Rattle.lx_tdfa.specs.KernelStates.{next}
 use Rattle.lx_cover.proofs.runs.run_starts.Given as goal
 

@@ -1,39 +1,21 @@
-use Rattle.std.proofs.Common.{◌+◌, ◌∙◌, List, take, sym, subst}
+use Rattle.std.proofs.Common.{IfOk, List, OnOk, Result, Ok, Err, subst}
 use Rattle.std.specs.List.{AllZip}
-use Rattle.std.proofs.lemmas.List.{take_all}
 use Rattle.lx_auto.specs.declared.automaton.State.{State}
-use Rattle.lx_min.specs.declared.looks.Look.{Look}
 use Rattle.lx_min.specs.Numbers.{IsLook}
-use Rattle.lx_min.proofs.KeptNumbers.{AllZip-more, AllZip-where, IsLook-kept}
 use Rattle.lx_min.proofs.NumberedLooks.{AreLooks-numbered}
 use Rattle.lx_min.proofs.looks.looks_of.Goals as goal
 
-pub loop-state-preserved : goal.loop-state-preserved
-loop-state-preserved c =
-    let states = c.as_slice-state-items.result.now in
-    let index = c.loop-state.state-index in
-    let old = c.loop-state.numbers in
-    let new = c.look_of.new.numbers in
-    let told = c.in_ok-look.ensures in
-    let state = c.state-item.result in
-    let look = c.in_ok-look.look in
-    let looks = c.loop-state.looks.items in
-    let before = AllZip-where (IsLook old.lists old.accepts) (IsLook new.lists new.accepts) (take index states) looks
-    (IsLook-kept old.lists new.lists told.lists.0 old.accepts new.accepts told.accepts.0) c.loop-state.invariant.looks in
-    let more = AllZip-more (IsLook new.lists new.accepts) states looks index state look c.loop-state-test.true before
-    (subst (λ (s : State). IsLook new.lists new.accepts s look) c.state-item.is told.look) in
-    record {
-      looks = subst (λ (l : List Look). AllZip (IsLook new.lists new.accepts) (take (index + 1) states) l)
-          (sym c.in_ok-push.ensures.items) more;
-      lists = told.lists.1;
-      accepts = told.accepts.1;
-    }
+-- what follows from a fact on an answer, and from another one where there is an answer
+IfOk-then : {A E : Type 0} (P Q : A → Type 0) (Holds : Type 0) (result : Result A E) → ((answer : A) → P answer → Holds → Q answer)
+    → IfOk result P → OnOk result Holds → IfOk result Q
+IfOk-then P Q Holds (Ok answer) step fact holds = step answer fact holds
+IfOk-then P Q Holds (Err error) step fact holds = tt
 
 pub returns : goal.returns
 returns c =
-    let numbers = c.loop-state.numbers in
-    let all = take_all c.loop-state.state-index c.as_slice-state-items.result.now c.loop-state-test.false
-    ∙ c.as_slice-state-items.ensures in
-    let looks = c.loop-state.looks.items in
-    AreLooks-numbered c.args.auto.now looks numbers.lists numbers.accepts c.loop-state.invariant.lists c.loop-state.invariant.accepts
-    (subst (λ (states : List State). AllZip (IsLook numbers.lists numbers.accepts) states looks) all c.loop-state.invariant.looks)
+    let numbers = c.looks_in.new.numbers in
+    IfOk-then _ _ _ c.looks_in.result
+    (λ looks are distinct.
+    AreLooks-numbered c.args.auto.now looks.items numbers.lists numbers.accepts distinct.0 distinct.1
+    (subst (λ (states : List State). AllZip (IsLook numbers.lists numbers.accepts) states looks.items) c.as_slice.ensures are))
+    c.looks_in.ensures.looks c.looks_in.ensures.distinct

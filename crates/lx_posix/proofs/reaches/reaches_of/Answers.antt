@@ -28,4 +28,5 @@ loop-index-preserved c =
       origins =
           origins_of-found t first beginnings founds at.index c.loop-index-test.true found c.index-founds-index.is at.origins.items
           c.push_origins.new.origins.items _ _ at.invariant.origins counted c.in_ok-push_origins.ensures;
+      course = c.in_ok-turn.ensures;
     }

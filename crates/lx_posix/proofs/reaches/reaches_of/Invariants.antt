@@ -1,4 +1,5 @@
 use Rattle.std.proofs.Common.{◌≡◌, ◌++◌, drop}
+use Rattle.lx_posix.specs.Courses.{IsCourse}
 use Rattle.lx_posix.specs.Reaching.{origins_of, reaches_of}
 use Rattle.lx_posix.proofs.reaches.reaches_of.Given as goal
 
@@ -8,4 +9,5 @@ invariant-loop-index l = record {
       ≡ reaches_of l.t l.is_first l.beginnings l.founds;
   origins : l.origins.items ++ origins_of l.t l.is_first l.beginnings l.index (drop l.index l.founds)
       ≡ origins_of l.t l.is_first l.beginnings 0 l.founds;
+  course : IsCourse l.t l.last.state l.last.moves.now l.marks.items l.events.items;
 }

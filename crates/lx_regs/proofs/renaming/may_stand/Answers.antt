@@ -4,23 +4,15 @@ use Rattle.lx_regs.specs.NameTables.{names_at}
 use Rattle.lx_regs.proofs.Translations.TestedTranslations.{IsTested-formed, IsTested-shape, IsTested-translation}
 use Rattle.lx_regs.proofs.renaming.may_stand.Goals as goal
 
-pub returns-clause-formed : goal.returns-clause-formed
-returns-clause-formed c =
+pub returns : goal.returns
+returns c =
+    let given = c.args.given.now in
+    let answer = c.args.proposal.now.answer in
+    let names = c.args.proposal.now.names in
     IfOk-weaker c.is_translation.result _ _
-    (λ may tested is.
-    IsTested-formed c.args.given.now c.args.proposal.now.answer c.args.proposal.now.names (tested is) c.requires.formed)
-    c.is_translation.ensures
-
-pub returns-clause-run : goal.returns-clause-run
-returns-clause-run c =
-    IfOk-weaker c.is_translation.result _ _
-    (λ may tested is.
-    translation-same_run c.args.given.now c.args.proposal.now.answer (names_at c.args.proposal.now.names)
-    (IsTested-translation c.args.given.now c.args.proposal.now.answer c.args.proposal.now.names (tested is)))
-    c.is_translation.ensures
-
-pub returns-clause-kept : goal.returns-clause-kept
-returns-clause-kept c =
-    IfOk-weaker c.is_translation.result _ _
-    (λ may tested is. IsTested-shape c.args.given.now c.args.proposal.now.answer c.args.proposal.now.names (tested is))
+    (λ may tested is. record {
+      formed = IsTested-formed given answer names (tested is) c.requires.formed;
+      run = translation-same_run given answer (names_at names) (IsTested-translation given answer names (tested is));
+      kept = IsTested-shape given answer names (tested is);
+    })
     c.is_translation.ensures

@@ -1,4 +1,5 @@
-use Rattle.std.proofs.Common.{◌≡◌, Bool, true, false, sym, ◌∙◌}
+use Rattle.std.proofs.Common.{◌≡◌, true, sym, ◌∙◌}
+use Rattle.std.proofs.lemmas.Bool.{true≢false}
 use Rattle.lx_tdfa.proofs.LeastWords.SearchedWords.{first-least, word-least, word_at-parent, words-ascend, words-lead}
 use Rattle.lx_tdfa.proofs.laws.searches_find_least_words.Goals as goal
 
@@ -14,14 +15,8 @@ returns-clause-lead c step trace place is lt = words-lead step trace is place lt
 pub returns-clause-least : goal.returns-clause-least
 returns-clause-least c step trace place word is apart lt comes = word-least step trace place word is apart lt comes
 
-never : (b : Bool) → b ≡ false → b ≡ true → ⊥
-never b one other = both (sym one ∙ other)
-  where
-    both : false ≡ true → ⊥
-    both e = cc
-
 pub returns-clause-first : goal.returns-clause-first
 returns-clause-first c step trace good place unit front last state is lt none least comes ends =
     first-least step trace is (λ s u. good s u ≡ true) place unit lt
-    (λ earlier other less found. never (good (trace.state earlier) other) (none earlier other less) found)
-    (λ other less found. never (good (trace.state place) other) (least other less) found) front last state comes ends
+    (λ earlier other less found. true≢false (sym found ∙ none earlier other less))
+    (λ other less found. true≢false (sym found ∙ least other less)) front last state comes ends

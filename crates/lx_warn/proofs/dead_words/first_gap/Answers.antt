@@ -1,7 +1,7 @@
 use Rattle.std.proofs.Common.{sym, subst}
 use Rattle.lx_auto.specs.Automaton.{AreApart}
 use Rattle.lx_auto.proofs.States.{state_formed}
-use Rattle.lx_warn.specs.Found.{found_at}
+use Rattle.lx_search.specs.Found.{found_at}
 use Rattle.lx_warn.proofs.dead_words.first_gap.Goals as goal
 
 pub least_gap-requires : goal.least_gap-requires

@@ -2,9 +2,9 @@ use Rattle.std.proofs.Common.{◌≡◌, inl, inr, None, IsSome, not, sym, ap, �
 use Rattle.std.specs.List.{list_any}
 use Rattle.lx_auto.specs.Automaton.{edge_on, state_of}
 use Rattle.lx_auto.specs.declared.automaton.Edge.{Edge}
+use Rattle.lx_search.specs.Scopes.{accepts}
 use Rattle.lx_warn.proofs.NumberLists.{any-found, found-any, turned-true}
 use Rattle.lx_warn.specs.Entered.{MayStopAtOnce}
-use Rattle.lx_warn.specs.Graph.{accepts}
 use Rattle.lx_warn.proofs.entered.may_stop_at_once.Goals as goal
 
 nothing : IsSome {T = Edge} None → ⊥

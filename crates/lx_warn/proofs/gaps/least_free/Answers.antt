@@ -1,5 +1,5 @@
 use Rattle.std.proofs.Common.{arith}
-use Rattle.lx_warn.proofs.EdgeFronts.{edge-below}
+use Rattle.lx_search.proofs.EdgeFronts.{edge-below}
 use Rattle.lx_warn.proofs.gaps.least_free.Goals as goal
 
 pub returns-then-least-from-clause-free : goal.returns-then-least-from-clause-free

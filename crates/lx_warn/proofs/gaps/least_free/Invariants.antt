@@ -1,6 +1,6 @@
 use Rattle.std.proofs.Common.{ℕ, ◌<◌, IsSome}
 use Rattle.lx_auto.specs.Automaton.{edge_on}
-use Rattle.lx_warn.proofs.EdgeFronts.{IsPassed}
+use Rattle.lx_search.proofs.EdgeFronts.{IsPassed}
 use Rattle.lx_warn.proofs.gaps.least_free.Given as goal
 
 abbrev pub invariant-loop-edge : goal.invariant-loop-edge

@@ -2,9 +2,9 @@ use Rattle.std.proofs.Common.{◌≡◌, ◌+◌, ◌<◌, [], ◌∷◌, ◌++�
 use Rattle.std.proofs.lemmas.Result.{err_from_is_err_and}
 use Rattle.lx_base.specs.Spelling.{greatest_unit}
 use Rattle.lx_cover.proofs.Progress.{bound_at, covering-all, covering-taken, over-stops}
-use Rattle.lx_cover.specs.Found.{trace_of}
 use Rattle.lx_cover.specs.Progress.{AreCoveringBefore}
 use Rattle.lx_cover.specs.Runs.{AreStarts}
+use Rattle.lx_search.specs.Found.{trace_of}
 use Rattle.lx_tdfa.specs.KernelStates.{next}
 use Rattle.lx_tdfa.specs.Searches.{word_at}
 use Rattle.lx_cover.proofs.covering.Covering.pass.Goals as goal

@@ -1,7 +1,7 @@
 use Rattle.std.proofs.Common.{◌≤◌, length}
 use Rattle.lx_cover.proofs.Progress.{bound_at}
-use Rattle.lx_cover.specs.Found.{trace_of}
 use Rattle.lx_cover.specs.Progress.{AreCoveringBefore, IsCounted}
+use Rattle.lx_search.specs.Found.{trace_of}
 use Rattle.lx_cover.proofs.covering.Covering.pass.Given as goal
 
 abbrev pub invariant-loop-unit : goal.invariant-loop-unit

@@ -7,15 +7,13 @@ use Rattle.lx_regs.proofs.translation_test.Test.keeps_edge.Goals as goal
 pub returns : goal.returns
 returns c =
     let ops : c.as_slice.result.now ≡ c.args.other.now.ops = search rules in
-    let second : c.in_ok-effects.effects ≡ c.args.edge.now.ops = search rules in
-    let new_second : c.in_ok-new_effects.new_effects ≡ c.args.other.now.ops = search rules in
-    IfOk-weaker c.keeps_effects.result _ _
+    IfOk-weaker c.keeps_registers.result _ _
     (λ kept all is.
     KeepsEdge-registers c.args.self.now.table.now c.args.self.now.given.now c.args.self.now.counts.regs c.args.self.now.counts.mregs
     c.args.number c.args.leaves.given.now c.args.leaves.answer.now c.args.edge.now c.args.other.now c.in_ok-registers.registers.items
-    c.args.leaves.given.now c.in_ok-effects.effects c.args.leaves.answer.now c.in_ok-new_effects.new_effects c.as_slice.result.now refl
-    second refl new_second ops c.if-edge-other.false c.if-edge-other-2.false c.if-edge-other-3.false
-    (c.allow_all.ensures c.if-not-allow_all.false) c.in_ok-registers.ensures.live
-    (subst (All (KeepsEffect c.args.self.now.table.now c.args.number c.args.edge.now.to c.args.leaves.given.now c.in_ok-effects.effects
-    c.args.leaves.answer.now c.in_ok-new_effects.new_effects)) c.as_slice-4.ensures.value (all is)))
-    c.keeps_effects.ensures
+    c.args.leaves.given.now c.args.edge.now.ops c.args.leaves.answer.now c.args.other.now.ops c.as_slice.result.now refl refl refl refl ops
+    c.if-edge-other.false c.if-edge-other-2.false c.if-edge-other-3.false (c.allow_all.ensures c.if-not-allow_all.false)
+    c.in_ok-registers.ensures.live
+    (subst (All (KeepsEffect c.args.self.now.table.now c.args.number c.args.edge.now.to c.args.leaves.given.now c.args.edge.now.ops
+    c.args.leaves.answer.now c.args.other.now.ops)) c.as_slice-2.ensures.value (all is)))
+    c.keeps_registers.ensures

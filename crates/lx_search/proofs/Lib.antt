@@ -1,0 +1,4 @@
+pub mod EdgeFronts
+pub mod EdgeSteps
+pub mod Scopes
+pub mod SearchSteps
