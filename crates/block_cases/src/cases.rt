@@ -2,7 +2,6 @@
 use lx_base::{BlockKind, Pos};
 
 /// A case: its name, the number of its line, the words of its options, and its blocks.
-#[derive(Drop)]
 pub struct Case {
     pub name: String,
     pub line: usize,
@@ -10,8 +9,18 @@ pub struct Case {
     pub blocks: Vec<CaseBlock>,
 }
 
+impl Drop for Case {
+    fn drop(self) {
+        let Self {
+            name: _,
+            line: _,
+            options: _,
+            blocks: _,
+        } = self;
+    }
+}
+
 /// A block of a case.
-#[derive(Drop)]
 pub struct CaseBlock {
     pub opener: Opener,
     /// Its number in the case, from 0, which is that of its file.
@@ -20,6 +29,17 @@ pub struct CaseBlock {
     pub body: String,
     /// What the block is to resolve to; none where the case does not say so yet.
     pub wanted: Option<Wanted>,
+}
+
+impl Drop for CaseBlock {
+    fn drop(self) {
+        let Self {
+            opener: _,
+            file: _,
+            body: _,
+            wanted: _,
+        } = self;
+    }
 }
 
 /// What a block is to resolve to, and the number of the line where this begins.

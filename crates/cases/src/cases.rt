@@ -17,7 +17,6 @@ pub struct Item {
 }
 
 /// What an order of a case asks for.
-#[derive(Drop)]
 pub enum Order {
     /// The content is put under this name.
     Given(String),
@@ -31,6 +30,19 @@ pub enum Order {
     Status(u8),
     /// The last run left this at this place.
     Want(Place, Extent),
+}
+
+impl Drop for Order {
+    fn drop(self) {
+        match self {
+            Self::Given(_) => {}
+            Self::Fail(_, _) => {}
+            Self::Alter(_, _) => {}
+            Self::Run(_) => {}
+            Self::Status(_) => {}
+            Self::Want(_, _) => {}
+        }
+    }
 }
 
 /// Whose calls fail.

@@ -8,7 +8,6 @@ use case_reports::CaseError;
 use std::alloc::{AllocError, Global};
 
 /// The files, what the last run left, its status where this was not compared yet, and the number of its line, which is 0 before a run.
-#[derive(Drop)]
 struct Scene {
     files: Vec<Seen>,
     out: Seen,
@@ -16,6 +15,19 @@ struct Scene {
     status: Option<u8>,
     failing: Failing,
     line: usize,
+}
+
+impl Drop for Scene {
+    fn drop(self) {
+        let Self {
+            files: _,
+            out: _,
+            err: _,
+            status: _,
+            failing: _,
+            line: _,
+        } = self;
+    }
 }
 
 /// How a case differs from what it wants, behind the number of the line of the run that differs.

@@ -8,13 +8,24 @@ use std::mem;
 
 /// A sink or a file: its name, what stood there before the last run, what that run left there, what the next run finds in the place of
 /// this, and whether what was left was compared.
-#[derive(Drop)]
 pub struct Seen {
     pub name: String,
     before: Option<Vec<u8>>,
     bytes: Option<Vec<u8>>,
     altered: Option<Vec<u8>>,
     compared: bool,
+}
+
+impl Drop for Seen {
+    fn drop(self) {
+        let Self {
+            name: _,
+            before: _,
+            bytes: _,
+            altered: _,
+            compared: _,
+        } = self;
+    }
 }
 
 impl Seen {

@@ -22,11 +22,20 @@ pub const NONE: Failing = Failing {
 };
 
 /// The files in memory, the standard output and the standard error of a run.
-#[derive(Drop)]
 pub struct Stage {
     pub files: MemFiles,
     pub out: MemSink,
     pub err: MemSink,
+}
+
+impl Drop for Stage {
+    fn drop(self) {
+        let Self {
+            files: _,
+            out: _,
+            err: _,
+        } = self;
+    }
 }
 
 impl Stage {

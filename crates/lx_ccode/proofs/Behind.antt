@@ -2,8 +2,7 @@
 use Rattle.std.proofs.Common.{[], ◌++◌, ◌+◌, ◌<◌, ◌∙◌, ◌∷◌, ◌≡◌, Bor, IsTrue, List, MatchOption, None, Option, Some, ap, drop, get_or, length, refl, sym, ℕ, ◌↔◌}
 use Rattle.std.proofs.lemmas.Bool.{false≢true}
 use Rattle.std.proofs.lemmas.List.{append_cancel_left, drop_more}
-use Rattle.std.specs.Prelude.{Bool, codes, is_some}
-use Rattle.lx_base.specs.Names.{Spellings}
+use Rattle.std.specs.Prelude.{codes, is_some}
 use Rattle.lx_base.specs.Text.{joined}
 use Rattle.lx_ccode.specs.declared.piece.CodeBlock.{CodeBlock}
 use Rattle.lx_ccode.specs.declared.piece.Piece.{Piece}

@@ -1,7 +1,7 @@
 -- The head line is read again.
-use Rattle.std.proofs.Common.{[], ◌++◌, ◌<◌, ◌^◌, ◌∙◌, ◌∷◌, ◌≡◌, Bool, List, None, Option, Some, ap, false, refl, true, ℕ}
+use Rattle.std.proofs.Common.{◌++◌, ◌<◌, ◌^◌, ◌∷◌, ◌≡◌, Bool, List, None, Option, Some, false, refl, true, ℕ}
 use Rattle.std.specs.Fmt.{decimal}
-use Rattle.std.specs.Prelude.{◌==◌, IfSome, codes}
+use Rattle.std.specs.Prelude.{◌==◌, IfSome}
 use Rattle.lx_base.specs.Letters.{EachLetter, is_digit, is_in_identifier}
 use Rattle.lx_base.specs.declared.settings.Enc.{Enc}
 use Rattle.lx_base.specs.declared.settings.Enc.TheVariants.{Byte, Ucs2, Utf8, Utf16, Utf32}

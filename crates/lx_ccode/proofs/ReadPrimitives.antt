@@ -1,20 +1,20 @@
 -- Lines of input primitives of the user's are read again, and no other line is taken for one of them.
-use Rattle.std.proofs.Common.{[], ◌++◌, ◌+◌, ◌<◌, ◌^◌, ◌∙◌, ◌∷◌, ◌≡◌, Bool, List, ap, append_assoc, arith, drop, false, length, refl, subst, sym, true, ℕ}
+use Rattle.std.proofs.Common.{[], ◌++◌, ◌<◌, ◌^◌, ◌∙◌, ◌∷◌, ◌≡◌, Bool, List, ap, append_assoc, arith, false, length, refl, subst, sym, true, ℕ}
 use Rattle.std.proofs.lemmas.Bool.{eq-eqb, eqb-true, false≢true}
 use Rattle.std.proofs.lemmas.Fmt.{decimal_is_IsNumeral}
-use Rattle.std.proofs.lemmas.List.{length-append, reverse-append, reverse-reverse}
+use Rattle.std.proofs.lemmas.List.{reverse-append, reverse-reverse}
 use Rattle.std.specs.Fmt.{decimal}
-use Rattle.std.specs.Prelude.{◌==◌, ◌||◌, codes, if◌then◌else◌, reverse}
-use Rattle.lx_base.specs.Letters.{EachLetter, IsIdentifier, IsSpelling, begins_with, equal_words, is_digit, is_in_identifier, is_in_spelling, after_letters}
+use Rattle.std.specs.Prelude.{◌==◌, ◌||◌, codes, if◌then◌else◌}
+use Rattle.lx_base.specs.Letters.{EachLetter, IsIdentifier, IsSpelling, begins_with, equal_words, is_digit, is_in_identifier, is_in_spelling}
 use Rattle.lx_base.specs.Names.{AreAllowed, DoNotClash, Spellings, append_negative, append_offset, refill, set_condition, set_state, tag_prefix}
 use Rattle.lx_base.specs.Names.{calls_name, calls_primitive, name_primitives}
 use Rattle.lx_ccode.specs.declared.piece.Stmt.TheVariants.{Back, Backup, IfEnd, Need, Restore, Set, Skip, Unset}
-use Rattle.lx_ccode.specs.Reading.{argument, byte_at, called, callee, enclosed, goto_block, goto_tail, if_at, primitive_called, primitive_if_at, statement_at, test_at}
+use Rattle.lx_ccode.specs.Reading.{argument, byte_at, called, enclosed, if_at, primitive_called, primitive_if_at, statement_at, test_at}
 use Rattle.lx_ccode.specs.Registers.{history_text, register_by}
 use Rattle.lx_ccode.specs.Text.{goto_then}
 use Rattle.lx_ccode.proofs.Assignments.{is_context_marker-register, register_of-register, register_spelling, statement_at-call}
 use Rattle.lx_ccode.proofs.Jumps.{goto_block-goto, goto_tail-goto}
-use Rattle.lx_ccode.proofs.Words.{EachLetter-append, EachLetter-spelling, argument-call, behind-stop, behind-word, callee-call, decimal_digits, decimal_identifier, decimal_value, drop-front, equal_words-false, front-stop, front-word, is_false}
+use Rattle.lx_ccode.proofs.Words.{EachLetter-append, EachLetter-spelling, argument-call, behind-stop, behind-word, callee-call, decimal_digits, decimal_identifier, decimal_value, drop-front, equal_words-false, front-stop, is_false}
 
 -- ---- words that are not empty
 

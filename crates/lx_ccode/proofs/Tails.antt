@@ -244,6 +244,15 @@ appended_next one all xs index a was now total tails step lt is e h =
     ap (λ (l : List ℕ). l ++ all (drop (index + 1) xs)) e ∙ tails was (all (drop (index + 1) xs))
     ∙ ap (λ (l : List ℕ). was ++ l) (sym (step (drop (index + 1) xs)) ∙ ap all (sym rest)) ∙ h
 
+-- the same, where an item stands for its own text
+pub appended_word : {A : Type 0} (word : A → List ℕ) (all : List A → List ℕ) (xs : List A) (index : ℕ) (none : A) (was now total : List ℕ)
+    → ((a : A) (l : List A) → all (a ∷ l) ≡ word a ++ all l) → index < length xs → now ≡ was ++ word (get_or xs index none)
+    → was ++ all (drop index xs) ≡ total → now ++ all (drop (index + 1) xs) ≡ total
+appended_word word all xs index none was now total step lt e h =
+    let a = get_or xs index none in
+    ap (λ (l : List ℕ). l ++ all (drop (index + 1) xs)) e ∙ append_assoc was (word a) (all (drop (index + 1) xs))
+    ∙ ap (λ (l : List ℕ). was ++ l) (sym (step a (drop (index + 1) xs)) ∙ ap all (sym (drop_more xs index none lt))) ∙ h
+
 -- the same, where the text of an item depends on its place
 pub appended_next_at : {A : Type 0} (one : ℕ → A → List ℕ → List ℕ) (all : ℕ → List A → List ℕ) (xs : List A) (index : ℕ) (a : A) (was now total : List ℕ)
     → ((b tail : List ℕ) → (b ++ one index a []) ++ tail ≡ b ++ one index a tail)
@@ -296,15 +305,14 @@ switch_written names cases before o1 o2 o3 end law e1 e2 e3 =
     let head : List (List ℕ) = codes "\tswitch (" ∷ get_state names ∷ codes "()) {\n" ∷ [] in
     e3 ∙ part_written {f = cases} o2 o1 end e2 law ∙ part_written {f = joined head} o1 before (cases end) e1 (joined-nil head)
 
-pub cond_switch_written : (number : ℕ) (names : Spellings) (conds : List CondCase) (before o1 o2 o3 d name : List ℕ) → (length conds ≡ 0 → ⊥)
-    → d ≡ decimal number → name ≡ get_condition names
-    → o1 ≡ before ++ joined (codes "yy" ∷ d ∷ codes "_cond:\n\tswitch (" ∷ name ∷ codes "()) {\n" ∷ []) []
+pub cond_switch_written : (number : ℕ) (names : Spellings) (conds : List CondCase) (before o1 o2 o3 name : List ℕ) → (length conds ≡ 0 → ⊥)
+    → name ≡ get_condition names
+    → o1 ≡ before ++ joined (codes "yy" ∷ decimal number ∷ codes "_cond:\n\tswitch (" ∷ name ∷ codes "()) {\n" ∷ []) []
     → o2 ≡ o1 ++ cond_cases_then number names conds [] → o3 ≡ o2 ++ joined (codes "\t}\n" ∷ []) []
     → o3 ≡ before ++ cond_switch_then number names conds []
-cond_switch_written number names [] before o1 o2 o3 d name some hd hg e1 e2 e3 = absurd (some refl)
-cond_switch_written number names (c ∷ conds) before o1 o2 o3 d name some hd hg e1 e2 e3 =
+cond_switch_written number names [] before o1 o2 o3 name some hg e1 e2 e3 = absurd (some refl)
+cond_switch_written number names (c ∷ conds) before o1 o2 o3 name some hg e1 e2 e3 =
     let first : o1 ≡ before ++ joined (codes "yy" ∷ decimal number ∷ codes "_cond:\n\tswitch (" ∷ get_condition names ∷ codes "()) {\n" ∷ []) [] = e1
-    ∙ ap (λ (b : List ℕ). before ++ joined (codes "yy" ∷ b ∷ codes "_cond:\n\tswitch (" ∷ name ∷ codes "()) {\n" ∷ []) []) hd
     ∙ ap (λ (b : List ℕ). before ++ joined (codes "yy" ∷ decimal number ∷ codes "_cond:\n\tswitch (" ∷ b ∷ codes "()) {\n" ∷ []) []) hg in
     e3 ∙ ap (λ (l : List ℕ). l ++ joined (codes "\t}\n" ∷ []) []) (e2 ∙ ap (λ (l : List ℕ). l ++ cond_cases_then number names (c ∷ conds) []) first)
     ∙ cond_switch_parts number names c conds before

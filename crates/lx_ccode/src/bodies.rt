@@ -7,7 +7,7 @@ ghost use Rattle.lx_ccode.specs.Bodies.{body_piece_text, body_then, conditions_t
 ghost use Rattle.lx_ccode.specs.Registers.{variable_text};
 ghost use Rattle.lx_ccode.specs.Text.{start_then};
 
-use crate::numerals::{decimal, variable_text};
+use crate::numerals::{Part, append_line_parts, variable_text};
 use crate::piece::{CondCase, LineMark, StateCase};
 use crate::printing::{append_begin, append_end};
 use crate::sections::{append_default, append_state_case, append_state_head};
@@ -35,7 +35,6 @@ pub struct FileState {
 /// What stands in a piece without a scanner. It may speak of all scanners of the output.
 ///
 /// How each body is spelled is said in `specs/Bodies.antt`.
-#[derive(Drop)]
 pub enum Body {
     /// That of a block without rules, of a block of rules to use, and around an included file.
     Empty,
@@ -64,6 +63,30 @@ pub enum Body {
     },
 }
 
+impl Drop for Body {
+    fn drop(self) {
+        match self {
+            Self::Empty => {}
+            Self::MaxFill(_) => {}
+            Self::MaxGroups(_) => {}
+            Self::Registers {
+                format: _,
+                numbers: _,
+            } => {}
+            Self::Histories {
+                format: _,
+                numbers: _,
+            } => {}
+            Self::Conditions(_) => {}
+            Self::StateSwitch {
+                states: _,
+                start: _,
+                conds: _,
+            } => {}
+        }
+    }
+}
+
 /// The text of a body, by the spellings that hold at the end of the source.
 pub fn print_body(alloc: Global, names: &Names, body: &Body) -> Result<ByteText, Memory>
     ensures { IfOk result (λ text. text ≡ body_then names.now body.now []) }
@@ -85,9 +108,9 @@ pub fn print_body_piece(
     ensures { IfOk result (λ text. text ≡ body_piece_text number names.now body.now line.now) }
 {
     let mut text = Vec::new(alloc);
-    append_begin(alloc, &mut text, number)?;
+    append_begin(&mut text, number)?;
     append_body(alloc, &mut text, names, body)?;
-    append_end(alloc, &mut text, line)?;
+    append_end(&mut text, line)?;
     Ok(ByteText::from_vec(text))
 }
 
@@ -96,8 +119,8 @@ fn append_body(alloc: Global, text: &mut Vec<u8>, names: &Names, body: &Body) ->
 {
     match body {
         Body::Empty => Ok(()),
-        Body::MaxFill(units) => append_definition(alloc, text, b"YYMAXFILL", *units),
-        Body::MaxGroups(groups) => append_definition(alloc, text, b"YYMAXNMATCH", *groups),
+        Body::MaxFill(units) => append_definition(text, b"YYMAXFILL", *units),
+        Body::MaxGroups(groups) => append_definition(text, b"YYMAXNMATCH", *groups),
         Body::Registers { format, numbers } => {
             append_list(alloc, text, names, false, format, numbers.as_slice())
         }
@@ -109,28 +132,24 @@ fn append_body(alloc: Global, text: &mut Vec<u8>, names: &Names, body: &Body) ->
             states,
             start,
             conds,
-        } => append_file_switch(
-            alloc,
-            text,
-            names,
-            states.as_slice(),
-            *start,
-            conds.as_slice(),
-        ),
+        } => append_file_switch(text, names, states.as_slice(), *start, conds.as_slice()),
     }
 }
 
 /// Appends a macro with a number for its value.
-fn append_definition(
-    alloc: Global,
-    text: &mut Vec<u8>,
-    name: &[u8],
-    value: u64,
-) -> Result<(), Memory>
+fn append_definition(text: &mut Vec<u8>, name: &[u8], value: u64) -> Result<(), Memory>
     ensures { OnOk result (text.new.items ≡ text.old.items ++ joined (codes "#define " ∷ name.now ∷ codes " " ∷ decimal value ∷ codes "\n" ∷ []) []) }
 {
-    let value = decimal(alloc, value)?;
-    append_parts(text, &[b"#define ", name, b" ", value.as_bytes(), b"\n"])
+    append_line_parts(
+        text,
+        &[
+            Part::Bytes(b"#define "),
+            Part::Bytes(name),
+            Part::Bytes(b" "),
+            Part::Number(value),
+            Part::Bytes(b"\n"),
+        ],
+    )
 }
 
 /// Appends histories where `history` says so, else registers, each in the format.
@@ -217,7 +236,6 @@ fn append_condition(text: &mut Vec<u8>, names: &Names, cond: &ByteText) -> Resul
 }
 
 fn append_file_switch(
-    alloc: Global,
     text: &mut Vec<u8>,
     names: &Names,
     states: &[FileState],
@@ -228,16 +246,16 @@ fn append_file_switch(
         joined (codes "\tdefault: goto " ∷ []) (start_then start conds.now (joined (codes ";\n\t}\n" ∷ []) []))))) }
 {
     append_state_head(text, names)?;
-    append_file_states(alloc, text, states)?;
-    append_default(alloc, text, start, conds)?;
+    append_file_states(text, states)?;
+    append_default(text, start, conds)?;
     Ok(())
 }
 
-fn append_file_states(alloc: Global, text: &mut Vec<u8>, states: &[FileState]) -> Result<(), Memory>
+fn append_file_states(text: &mut Vec<u8>, states: &[FileState]) -> Result<(), Memory>
     ensures { OnOk result (text.new.items ≡ text.old.items ++ file_states_then states.now []) }
 {
     for state in states {
-        append_state_case(alloc, text, state.number, &state.case)?;
+        append_state_case(text, state.number, &state.case)?;
     }
     Ok(())
 }

@@ -3,9 +3,10 @@
 //! Each line is written into one small text, and compared with what stands next in the bytes.
 ghost use Rattle.std.specs.Prelude.{◌≡◌, ◌↔◌, ◌++◌, IsTrue, IfOk, MatchOption};
 ghost use Rattle.lx_ccode.specs.Front.{BeginsWithPiece, IsNoFront};
+ghost use Rattle.lx_ccode.specs.Parts.{closing_then, opening_then};
 ghost use Rattle.lx_ccode.specs.Text.{blocks_then, code_block_then, piece_then, statement_then, statements_then};
 ghost use Rattle.lx_ccode.specs.Validity.{IsValid};
-ghost use Rattle.lx_ccode.specs.Wording.{scope_wording};
+ghost use Rattle.lx_ccode.specs.Wording.{scope_wording, wording_of};
 
 use crate::lines::Scope;
 use crate::piece::{CodeBlock, Piece, Stmt};
@@ -34,17 +35,66 @@ fn behind_piece<'a>(
     ensures { IfOk result (λ found. MatchOption found (IsNoFront (piece_then piece.now) bytes.now) (λ rest. bytes.now ≡ piece_then piece.now rest.now)) }
 {
     let mut text = Vec::new(alloc);
-    append_opening(alloc, &mut text, piece)?;
-    let Some(rest) = behind(bytes, text.as_slice()) else {
-        return Ok(None);
-    };
+    behind_parts(alloc, &mut text, bytes, piece)
+}
+
+/// What comes behind the text of a piece, whose parts are written into a text. What stood there is lost.
+fn behind_parts<'a>(
+    alloc: Global,
+    text: &mut Vec<u8>,
+    bytes: &'a [u8],
+    piece: &Piece,
+) -> Result<Option<&'a [u8]>, Memory>
+    ensures { IfOk result (λ found. MatchOption found (IsNoFront (piece_then piece.now) bytes.now) (λ rest. bytes.now ≡ piece_then piece.now rest.now)) }
+{
+    match behind_opening(alloc, text, bytes, piece)? {
+        None => Ok(None),
+        Some(rest) => behind_others(alloc, text, rest, piece),
+    }
+}
+
+/// What comes behind the blocks of a piece and what stands behind them.
+fn behind_others<'a>(
+    alloc: Global,
+    text: &mut Vec<u8>,
+    bytes: &'a [u8],
+    piece: &Piece,
+) -> Result<Option<&'a [u8]>, Memory>
+    ensures { IfOk result (λ found. MatchOption found
+        (IsNoFront (λ tail. blocks_then (wording_of piece.now) 0 piece.now.blocks (closing_then piece.now tail)) bytes.now)
+        (λ rest. bytes.now ≡ blocks_then (wording_of piece.now) 0 piece.now.blocks (closing_then piece.now rest.now))) }
+{
     let scope = Scope::of(alloc, piece);
-    let Some(closing) = scope.behind_blocks(&mut text, piece.blocks.as_slice(), rest)? else {
-        return Ok(None);
-    };
+    match scope.behind_blocks(text, piece.blocks.as_slice(), bytes)? {
+        None => Ok(None),
+        Some(closing) => behind_closing(alloc, text, closing, piece),
+    }
+}
+
+fn behind_opening<'a>(
+    alloc: Global,
+    text: &mut Vec<u8>,
+    bytes: &'a [u8],
+    piece: &Piece,
+) -> Result<Option<&'a [u8]>, Memory>
+    ensures { IfOk result (λ found. MatchOption found (IsNoFront (opening_then piece.now) bytes.now) (λ rest. bytes.now ≡ opening_then piece.now rest.now)) }
+{
     text.clear();
-    append_closing(alloc, &mut text, piece)?;
-    Ok(behind(closing, text.as_slice()))
+    append_opening(alloc, text, piece)?;
+    Ok(behind(bytes, text.as_slice()))
+}
+
+fn behind_closing<'a>(
+    alloc: Global,
+    text: &mut Vec<u8>,
+    bytes: &'a [u8],
+    piece: &Piece,
+) -> Result<Option<&'a [u8]>, Memory>
+    ensures { IfOk result (λ found. MatchOption found (IsNoFront (closing_then piece.now) bytes.now) (λ rest. bytes.now ≡ closing_then piece.now rest.now)) }
+{
+    text.clear();
+    append_closing(alloc, text, piece)?;
+    Ok(behind(bytes, text.as_slice()))
 }
 
 /// What comes behind the text, where it stands at the front of the bytes.

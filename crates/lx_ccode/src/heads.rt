@@ -4,9 +4,9 @@ ghost use Rattle.std.specs.Fmt.{decimal};
 ghost use Rattle.lx_base.specs.Text.{joined};
 ghost use Rattle.lx_ccode.specs.Heads.{custom_word, encoding_word, head_then, is_custom, mode_word};
 
-use crate::numerals::decimal;
+use crate::numerals::{Part, append_line_parts};
 use crate::piece::{Head, Mode};
-use lx_base::{Enc, Memory, append_parts};
+use lx_base::{Enc, Memory};
 use std::alloc::Global;
 
 /// Whether a piece with this head reads its input by primitives of the user's. One without a head does not.
@@ -49,40 +49,33 @@ fn mode_word(mode: Mode) -> &'static [u8]
 }
 
 /// Appends the head line, where there is one. Where memory runs out a part of it may stand there.
-pub(crate) fn append_head(
-    alloc: Global,
-    text: &mut Vec<u8>,
-    head: &Option<Head>,
-) -> Result<(), Memory>
+pub(crate) fn append_head(text: &mut Vec<u8>, head: &Option<Head>) -> Result<(), Memory>
     ensures { OnOk result (text.new.items ≡ text.old.items ++ head_then head.now []) }
 {
     match head {
         None => Ok(()),
-        Some(head) => append_head_line(alloc, text, head),
+        Some(head) => append_head_line(text, head),
     }
 }
 
-fn append_head_line(alloc: Global, text: &mut Vec<u8>, head: &Head) -> Result<(), Memory>
+fn append_head_line(text: &mut Vec<u8>, head: &Head) -> Result<(), Memory>
     ensures { OnOk result (text.new.items ≡ text.old.items ++ head_then (Some head.now) []) }
 {
-    let regs = decimal(alloc, u64::from(head.regs))?;
-    let mregs = decimal(alloc, u64::from(head.mregs))?;
-    let states = decimal(alloc, head.states)?;
-    append_parts(
+    append_line_parts(
         text,
         &[
-            b"/*!head:re2c 2 ",
-            custom_word(head.custom),
-            encoding_word(head.enc),
-            b" ",
-            mode_word(head.mode),
-            b" ",
-            regs.as_bytes(),
-            b" ",
-            mregs.as_bytes(),
-            b" ",
-            states.as_bytes(),
-            b"*/\n",
+            Part::Bytes(b"/*!head:re2c 2 "),
+            Part::Bytes(custom_word(head.custom)),
+            Part::Bytes(encoding_word(head.enc)),
+            Part::Bytes(b" "),
+            Part::Bytes(mode_word(head.mode)),
+            Part::Bytes(b" "),
+            Part::Number(u64::from(head.regs)),
+            Part::Bytes(b" "),
+            Part::Number(u64::from(head.mregs)),
+            Part::Bytes(b" "),
+            Part::Number(head.states),
+            Part::Bytes(b"*/\n"),
         ],
     )
 }

@@ -9,9 +9,9 @@ ghost use Rattle.lx_ccode.specs.Text.{custom_then, pointer_then, statement_then,
 ghost use Rattle.lx_ccode.specs.Wording.{scope_wording};
 
 use crate::heads::is_custom;
-use crate::numerals::{decimal, hexadecimal, history_text, register_text};
+use crate::numerals::{Part, append_line_parts, hexadecimal, history_text, register_text};
 use crate::piece::{LineMark, Piece, Stmt};
-use lx_base::{Memory, Names, append_parts, names};
+use lx_base::{ByteText, Memory, Names, append_parts, names};
 use std::alloc::Global;
 
 /// What the lines of a piece depend on beside their statements.
@@ -97,6 +97,7 @@ impl Scope<'_> {
         let last_accept = names::last_accept(self.names);
         let append_offset = names::append_offset(self.names);
         let append_negative = names::append_negative(self.names);
+        let prefix = names::label_prefix(self.names);
         match statement {
             Stmt::Peek => self.append_peek(text),
             Stmt::Skip => append_parts(text, &[b"\t++", cursor, b";\n"]),
@@ -124,7 +125,7 @@ impl Scope<'_> {
             Stmt::Goto(block) => self.append_jump(text, *block),
             Stmt::Leave => self.append_leave(text),
             Stmt::Code(rule, line, code) => self.append_code(text, *rule, line, code.as_slice()),
-            Stmt::Jump(cond, rule) => self.append_cond_jump(text, cond.as_slice(), *rule),
+            Stmt::Jump(cond, rule) => append_cond_jump(text, prefix, cond, *rule),
         }
     }
 
@@ -161,18 +162,16 @@ impl Scope<'_> {
         ensures { OnOk result (text.new.items ≡ text.old.items ++ custom_then (scope_wording self.now) (Stmt.Need units) []) }
     {
         let refill = names::refill(self.names);
-        let units = decimal(self.alloc, u64::from(units))?;
-        let units = units.as_bytes();
-        append_parts(
+        append_line_parts(
             text,
             &[
-                b"\tif (YYLESSTHAN(",
-                units,
-                b")) ",
-                refill,
-                b"(",
-                units,
-                b");\n",
+                Part::Bytes(b"\tif (YYLESSTHAN("),
+                Part::Number(u64::from(units)),
+                Part::Bytes(b")) "),
+                Part::Bytes(refill),
+                Part::Bytes(b"("),
+                Part::Number(u64::from(units)),
+                Part::Bytes(b");\n"),
             ],
         )
     }
@@ -180,16 +179,14 @@ impl Scope<'_> {
     fn append_custom_if_end(&self, text: &mut Vec<u8>, block: u64) -> Result<(), Memory>
         ensures { OnOk result (text.new.items ≡ text.old.items ++ custom_then (scope_wording self.now) (Stmt.IfEnd block) []) }
     {
-        let number = decimal(self.alloc, u64::from(self.number))?;
-        let block = decimal(self.alloc, block)?;
-        append_parts(
+        append_line_parts(
             text,
             &[
-                b"\tif (YYLESSTHAN(1)) goto yy",
-                number.as_bytes(),
-                b"_",
-                block.as_bytes(),
-                b";\n",
+                Part::Bytes(b"\tif (YYLESSTHAN(1)) goto yy"),
+                Part::Number(u64::from(self.number)),
+                Part::Bytes(b"_"),
+                Part::Number(block),
+                Part::Bytes(b";\n"),
             ],
         )
     }
@@ -197,8 +194,16 @@ impl Scope<'_> {
     fn append_number(&self, text: &mut Vec<u8>, target: &[u8], number: u32) -> Result<(), Memory>
         ensures { OnOk result (text.new.items ≡ text.old.items ++ joined (codes "\t" ∷ target.now ∷ codes " = " ∷ decimal number ∷ codes ";\n" ∷ []) []) }
     {
-        let number = decimal(self.alloc, u64::from(number))?;
-        append_assignment(text, target, number.as_bytes())
+        append_line_parts(
+            text,
+            &[
+                Part::Bytes(b"\t"),
+                Part::Bytes(target),
+                Part::Bytes(b" = "),
+                Part::Number(u64::from(number)),
+                Part::Bytes(b";\n"),
+            ],
+        )
     }
 
     fn append_to_register(
@@ -235,11 +240,16 @@ impl Scope<'_> {
     fn append_group_end(&self, text: &mut Vec<u8>, place: u32, register: u32) -> Result<(), Memory>
         ensures { OnOk result (text.new.items ≡ text.old.items ++ pointer_then (scope_wording self.now) (Stmt.End place register) []) }
     {
-        let place = decimal(self.alloc, u64::from(place))?;
         let register = register_text(self.alloc, self.names, self.ctx, register)?;
-        append_parts(
+        append_line_parts(
             text,
-            &[b"\tyypmatch[", place.as_bytes(), b"] = ", &register, b";\n"],
+            &[
+                Part::Bytes(b"\tyypmatch["),
+                Part::Number(u64::from(place)),
+                Part::Bytes(b"] = "),
+                Part::Bytes(&register),
+                Part::Bytes(b";\n"),
+            ],
         )
     }
 
@@ -279,43 +289,25 @@ impl Scope<'_> {
     {
         let current_unit = names::current_unit(self.names);
         let greatest = hexadecimal(self.alloc, greatest)?;
-        let number = decimal(self.alloc, u64::from(self.number))?;
-        let block = decimal(self.alloc, block)?;
-        append_parts(
-            text,
-            &[
-                b"\tif (",
-                current_unit,
-                b" <= 0x",
-                greatest.as_bytes(),
-                b") goto yy",
-                number.as_bytes(),
-                b"_",
-                block.as_bytes(),
-                b";\n",
-            ],
-        )
+        append_unit_test(text, self.number, current_unit, greatest.as_bytes(), block)
     }
 
     fn append_if_accept(&self, text: &mut Vec<u8>, accept: u32, block: u64) -> Result<(), Memory>
         ensures { OnOk result (text.new.items ≡ text.old.items ++ pointer_then (scope_wording self.now) (Stmt.IfAccept accept block) []) }
     {
         let last_accept = names::last_accept(self.names);
-        let accept = decimal(self.alloc, u64::from(accept))?;
-        let number = decimal(self.alloc, u64::from(self.number))?;
-        let block = decimal(self.alloc, block)?;
-        append_parts(
+        append_line_parts(
             text,
             &[
-                b"\tif (",
-                last_accept,
-                b" == ",
-                accept.as_bytes(),
-                b") goto yy",
-                number.as_bytes(),
-                b"_",
-                block.as_bytes(),
-                b";\n",
+                Part::Bytes(b"\tif ("),
+                Part::Bytes(last_accept),
+                Part::Bytes(b" == "),
+                Part::Number(u64::from(accept)),
+                Part::Bytes(b") goto yy"),
+                Part::Number(u64::from(self.number)),
+                Part::Bytes(b"_"),
+                Part::Number(block),
+                Part::Bytes(b";\n"),
             ],
         )
     }
@@ -325,20 +317,18 @@ impl Scope<'_> {
     {
         let cursor = names::cursor(self.names);
         let limit = names::limit(self.names);
-        let number = decimal(self.alloc, u64::from(self.number))?;
-        let block = decimal(self.alloc, block)?;
-        append_parts(
+        append_line_parts(
             text,
             &[
-                b"\tif (",
-                cursor,
-                b" >= ",
-                limit,
-                b") goto yy",
-                number.as_bytes(),
-                b"_",
-                block.as_bytes(),
-                b";\n",
+                Part::Bytes(b"\tif ("),
+                Part::Bytes(cursor),
+                Part::Bytes(b" >= "),
+                Part::Bytes(limit),
+                Part::Bytes(b") goto yy"),
+                Part::Number(u64::from(self.number)),
+                Part::Bytes(b"_"),
+                Part::Number(block),
+                Part::Bytes(b";\n"),
             ],
         )
     }
@@ -346,8 +336,16 @@ impl Scope<'_> {
     fn append_state(&self, text: &mut Vec<u8>, state: u64) -> Result<(), Memory>
         ensures { OnOk result (text.new.items ≡ text.old.items ++ pointer_then (scope_wording self.now) (Stmt.State state) []) }
     {
-        let state = decimal(self.alloc, state)?;
-        append_call(text, names::set_state(self.names), state.as_bytes())
+        append_line_parts(
+            text,
+            &[
+                Part::Bytes(b"\t"),
+                Part::Bytes(names::set_state(self.names)),
+                Part::Bytes(b"("),
+                Part::Number(state),
+                Part::Bytes(b");\n"),
+            ],
+        )
     }
 
     fn append_need(&self, text: &mut Vec<u8>, units: u32) -> Result<(), Memory>
@@ -356,13 +354,20 @@ impl Scope<'_> {
         let limit = names::limit(self.names);
         let cursor = names::cursor(self.names);
         let refill = names::refill(self.names);
-        let units = decimal(self.alloc, u64::from(units))?;
-        let units = units.as_bytes();
-        append_parts(
+        append_line_parts(
             text,
             &[
-                b"\tif ((", limit, b" - ", cursor, b") < ", units, b") ", refill, b"(", units,
-                b");\n",
+                Part::Bytes(b"\tif (("),
+                Part::Bytes(limit),
+                Part::Bytes(b" - "),
+                Part::Bytes(cursor),
+                Part::Bytes(b") < "),
+                Part::Number(u64::from(units)),
+                Part::Bytes(b") "),
+                Part::Bytes(refill),
+                Part::Bytes(b"("),
+                Part::Number(u64::from(units)),
+                Part::Bytes(b");\n"),
             ],
         )
     }
@@ -371,9 +376,18 @@ impl Scope<'_> {
         ensures { OnOk result (text.new.items ≡ text.old.items ++ pointer_then (scope_wording self.now) (Stmt.Try block) []) }
     {
         let refill = names::refill(self.names);
-        let number = decimal(self.alloc, u64::from(self.number))?;
-        let block = decimal(self.alloc, block)?;
-        append_refill_test(text, refill, number.as_bytes(), block.as_bytes())
+        append_line_parts(
+            text,
+            &[
+                Part::Bytes(b"\tif ("),
+                Part::Bytes(refill),
+                Part::Bytes(b"() == 0) goto yy"),
+                Part::Number(u64::from(self.number)),
+                Part::Bytes(b"_"),
+                Part::Number(block),
+                Part::Bytes(b";\n"),
+            ],
+        )
     }
 
     fn append_cond(&self, text: &mut Vec<u8>, cond: &[u8]) -> Result<(), Memory>
@@ -390,16 +404,14 @@ impl Scope<'_> {
     fn append_jump(&self, text: &mut Vec<u8>, block: u64) -> Result<(), Memory>
         ensures { OnOk result (text.new.items ≡ text.old.items ++ pointer_then (scope_wording self.now) (Stmt.Goto block) []) }
     {
-        let number = decimal(self.alloc, u64::from(self.number))?;
-        let block = decimal(self.alloc, block)?;
-        append_parts(
+        append_line_parts(
             text,
             &[
-                b"\tgoto yy",
-                number.as_bytes(),
-                b"_",
-                block.as_bytes(),
-                b";\n",
+                Part::Bytes(b"\tgoto yy"),
+                Part::Number(u64::from(self.number)),
+                Part::Bytes(b"_"),
+                Part::Number(block),
+                Part::Bytes(b";\n"),
             ],
         )
     }
@@ -407,8 +419,14 @@ impl Scope<'_> {
     fn append_leave(&self, text: &mut Vec<u8>) -> Result<(), Memory>
         ensures { OnOk result (text.new.items ≡ text.old.items ++ pointer_then (scope_wording self.now) Stmt.Leave []) }
     {
-        let number = decimal(self.alloc, u64::from(self.number))?;
-        append_parts(text, &[b"\tgoto yy", number.as_bytes(), b"_none;\n"])
+        append_line_parts(
+            text,
+            &[
+                Part::Bytes(b"\tgoto yy"),
+                Part::Number(u64::from(self.number)),
+                Part::Bytes(b"_none;\n"),
+            ],
+        )
     }
 
     fn append_code(
@@ -420,27 +438,55 @@ impl Scope<'_> {
     ) -> Result<(), Memory>
         ensures { OnOk result (text.new.items ≡ text.old.items ++ pointer_then (scope_wording self.now) (Stmt.Code rule line.now action.now) []) }
     {
-        append_line(self.alloc, text, line)?;
-        append_action(self.alloc, text, rule, action)
+        append_line(text, line)?;
+        append_action(text, rule, action)
     }
+}
 
-    fn append_cond_jump(&self, text: &mut Vec<u8>, cond: &[u8], rule: u32) -> Result<(), Memory>
-        ensures { OnOk result (text.new.items ≡ text.old.items ++ pointer_then (scope_wording self.now) (Stmt.Jump cond.now rule) []) }
-    {
-        let label_prefix = names::label_prefix(self.names);
-        let rule = decimal(self.alloc, u64::from(rule))?;
-        append_parts(
-            text,
-            &[
-                b"\tgoto ",
-                label_prefix,
-                cond,
-                b"; /* ",
-                rule.as_bytes(),
-                b" */\n",
-            ],
-        )
-    }
+fn append_cond_jump<'a>(
+    text: &mut Vec<u8>,
+    prefix: &'a [u8],
+    cond: &'a ByteText,
+    rule: u32,
+) -> Result<(), Memory>
+    ensures { OnOk result (text.new.items ≡ text.old.items ++ joined (codes "\tgoto " ∷ (prefix.now ++ cond.now) ∷ codes "; /* " ∷ decimal rule ∷ codes " */\n" ∷ []) []) }
+{
+    append_line_parts(
+        text,
+        &[
+            Part::Bytes(b"\tgoto "),
+            Part::Bytes(prefix),
+            Part::Bytes(cond.as_slice()),
+            Part::Bytes(b"; /* "),
+            Part::Number(u64::from(rule)),
+            Part::Bytes(b" */\n"),
+        ],
+    )
+}
+
+fn append_unit_test<'a>(
+    text: &mut Vec<u8>,
+    number: u32,
+    current_unit: &'a [u8],
+    greatest: &'a [u8],
+    block: u64,
+) -> Result<(), Memory>
+    ensures { OnOk result (text.new.items ≡ text.old.items ++ joined (codes "\tif (" ∷ current_unit.now ∷ codes " <= 0x" ∷ greatest.now ∷ codes ") goto yy" ∷ decimal number ∷ codes "_" ∷ decimal block ∷ codes ";\n" ∷ []) []) }
+{
+    append_line_parts(
+        text,
+        &[
+            Part::Bytes(b"\tif ("),
+            Part::Bytes(current_unit),
+            Part::Bytes(b" <= 0x"),
+            Part::Bytes(greatest),
+            Part::Bytes(b") goto yy"),
+            Part::Number(u64::from(number)),
+            Part::Bytes(b"_"),
+            Part::Number(block),
+            Part::Bytes(b";\n"),
+        ],
+    )
 }
 
 fn append_assignment(text: &mut Vec<u8>, target: &[u8], source: &[u8]) -> Result<(), Memory>
@@ -455,37 +501,15 @@ fn append_call(text: &mut Vec<u8>, name: &[u8], value: &[u8]) -> Result<(), Memo
     append_parts(text, &[b"\t", name, b"(", value, b");\n"])
 }
 
-fn append_refill_test(
-    text: &mut Vec<u8>,
-    refill: &[u8],
-    number: &[u8],
-    block: &[u8],
-) -> Result<(), Memory>
-    ensures { OnOk result (text.new.items ≡ text.old.items ++ joined (codes "\tif (" ∷ refill.now ∷ codes "() == 0) goto yy" ∷ number.now ∷ codes "_" ∷ block.now ∷ codes ";\n" ∷ []) []) }
-{
-    append_parts(
-        text,
-        &[
-            b"\tif (",
-            refill,
-            b"() == 0) goto yy",
-            number,
-            b"_",
-            block,
-            b";\n",
-        ],
-    )
-}
-
 /// Appends the line `#line L "FILE"`, where there is one. Where memory runs out a part of it may stand there.
-pub fn append_line(alloc: Global, text: &mut Vec<u8>, line: &Option<LineMark>) -> Result<(), Memory>
+pub fn append_line(text: &mut Vec<u8>, line: &Option<LineMark>) -> Result<(), Memory>
     ensures { OnOk result (text.new.items ≡ text.old.items ++ line_then line.now []) }
 {
     match line {
         None => Ok(()),
         Some(mark) => {
-            let line = decimal(alloc, u64::from(mark.line))?;
-            append_parts(text, &[b"#line ", line.as_bytes(), b" \""])?;
+            let number = Part::Number(u64::from(mark.line));
+            append_line_parts(text, &[Part::Bytes(b"#line "), number, Part::Bytes(b" \"")])?;
             append_escaped(text, mark.file.as_slice())?;
             append_parts(text, &[b"\"\n"])
         }
@@ -496,29 +520,35 @@ fn append_escaped(text: &mut Vec<u8>, file: &[u8]) -> Result<(), Memory>
     ensures { OnOk result (text.new.items ≡ text.old.items ++ escaped file.now) }
 {
     for letter in file {
-        if *letter == b'"' || *letter == b'\\' {
-            text.push(b'\\')?;
-        }
-        text.push(*letter)?;
+        append_letter(text, *letter)?;
     }
     Ok(())
 }
 
-fn append_action(alloc: Global, text: &mut Vec<u8>, rule: u32, action: &[u8]) -> Result<(), Memory>
+/// Appends a letter of a C string.
+fn append_letter(text: &mut Vec<u8>, letter: u8) -> Result<(), Memory>
+    ensures { OnOk result (text.new.items ≡ text.old.items ++ escaped (letter ∷ [])) }
+{
+    if letter == b'"' || letter == b'\\' {
+        append_parts(text, &[&[b'\\', letter]])
+    } else {
+        Ok(text.push(letter)?)
+    }
+}
+
+fn append_action(text: &mut Vec<u8>, rule: u32, action: &[u8]) -> Result<(), Memory>
     ensures { OnOk result (text.new.items ≡ text.old.items ++ joined (codes "\t/*!code:re2c " ∷ decimal rule ∷ codes " " ∷ decimal (length action.now) ∷ codes "*/" ∷ action.now ∷ codes "\n" ∷ []) []) }
 {
-    let rule = decimal(alloc, u64::from(rule))?;
-    let size = decimal(alloc, action.len() as u64)?;
-    append_parts(
+    append_line_parts(
         text,
         &[
-            b"\t/*!code:re2c ",
-            rule.as_bytes(),
-            b" ",
-            size.as_bytes(),
-            b"*/",
-            action,
-            b"\n",
+            Part::Bytes(b"\t/*!code:re2c "),
+            Part::Number(u64::from(rule)),
+            Part::Bytes(b" "),
+            Part::Number(action.len() as u64),
+            Part::Bytes(b"*/"),
+            Part::Bytes(action),
+            Part::Bytes(b"\n"),
         ],
     )
 }

@@ -11,9 +11,14 @@ use std::alloc::Global;
 use std::marker::Model;
 
 /// Different names, in the order in which they came. Contracts see them as a list.
-#[derive(Drop)]
 pub struct NameSet {
     names: IndexSet<Vec<u8>>,
+}
+
+impl Drop for NameSet {
+    fn drop(self) {
+        let Self { names: _ } = self;
+    }
 }
 
 impl Model for NameSet {

@@ -1,12 +1,51 @@
-//! How registers, histories and numbers are spelled.
-ghost use Rattle.std.specs.Prelude.{◌≡◌, IfOk, string_bytes};
+//! Writes the parts of lines, and how registers, histories and numbers are spelled.
+ghost use Rattle.std.specs.Prelude.{◌≡◌, ◌++◌, [], map, IfOk, OnOk, string_bytes};
 ghost use Rattle.std.specs.Fmt.{decimal};
+ghost use Rattle.lx_base.specs.Text.{joined};
+ghost use Rattle.lx_ccode.specs.LineParts.{spelled};
 ghost use Rattle.lx_ccode.specs.Registers.{register_text, history_text, variable_text};
 ghost use Rattle.lx_ccode.specs.Text.{hexadecimal};
 
+use itoa::Buffer;
 use lx_base::names::{context_marker, tag_prefix};
-use lx_base::{Memory, Names, append_parts};
+use lx_base::{Memory, Names};
 use std::alloc::Global;
+
+/// A part of a line.
+#[derive(Clone, Copy)]
+pub enum Part<'a> {
+    /// Bytes as they are.
+    Bytes(&'a [u8]),
+    /// A number in decimal digits.
+    Number(u64),
+}
+
+/// Appends the parts of a line, one behind another. Where memory runs out some of them may stand there.
+pub fn append_line_parts(text: &mut Vec<u8>, parts: &[Part<'_>]) -> Result<(), Memory>
+    ensures { OnOk result (text.new.items ≡ text.old.items ++ joined (map spelled parts.now) []) }
+{
+    for part in parts {
+        append_part(text, *part)?;
+    }
+    Ok(())
+}
+
+fn append_part(text: &mut Vec<u8>, part: Part<'_>) -> Result<(), Memory>
+    ensures { OnOk result (text.new.items ≡ text.old.items ++ spelled part.entry) }
+{
+    match part {
+        Part::Bytes(bytes) => Ok(text.extend_from_slice(bytes)?),
+        Part::Number(number) => append_digits(text, number),
+    }
+}
+
+fn append_digits(text: &mut Vec<u8>, number: u64) -> Result<(), Memory>
+    ensures { OnOk result (text.new.items ≡ text.old.items ++ decimal number) }
+{
+    let mut digits = Buffer::new();
+    text.extend_from_slice(digits.format(number).as_bytes())?;
+    Ok(())
+}
 
 /// A register, counted from 1: the context marker where `ctx` says so of register 1, else the prefix and
 /// the number.
@@ -19,13 +58,24 @@ pub fn register_text(
     ensures { IfOk result (λ text. text.items ≡ register_text names.now ctx register) }
 {
     let mut text = Vec::new(alloc);
-    if ctx && register == 1 {
-        append_parts(&mut text, &[context_marker(names)])?;
-    } else {
-        let register = decimal(alloc, u64::from(register))?;
-        append_parts(&mut text, &[tag_prefix(names), register.as_bytes()])?;
-    }
+    append_register(&mut text, names, ctx, register)?;
     Ok(text)
+}
+
+fn append_register(
+    text: &mut Vec<u8>,
+    names: &Names,
+    ctx: bool,
+    register: u32,
+) -> Result<(), Memory>
+    ensures { OnOk result (text.new.items ≡ text.old.items ++ register_text names.now ctx register) }
+{
+    if ctx && register == 1 {
+        append_line_parts(text, &[Part::Bytes(context_marker(names))])
+    } else {
+        let number = Part::Number(u64::from(register));
+        append_line_parts(text, &[Part::Bytes(tag_prefix(names)), number])
+    }
 }
 
 /// A history, counted from 0: the prefix, `m` and the number.
@@ -33,8 +83,12 @@ pub fn history_text(alloc: Global, names: &Names, history: u32) -> Result<Vec<u8
     ensures { IfOk result (λ text. text.items ≡ history_text names.now history) }
 {
     let mut text = Vec::new(alloc);
-    let history = decimal(alloc, u64::from(history))?;
-    append_parts(&mut text, &[tag_prefix(names), b"m", history.as_bytes()])?;
+    let parts = [
+        Part::Bytes(tag_prefix(names)),
+        Part::Bytes(b"m"),
+        Part::Number(u64::from(history)),
+    ];
+    append_line_parts(&mut text, &parts)?;
     Ok(text)
 }
 
@@ -52,13 +106,6 @@ pub fn variable_text(
     } else {
         register_text(alloc, names, false, number)
     }
-}
-
-/// A number in decimal digits.
-pub fn decimal(alloc: Global, number: u64) -> Result<String, Memory>
-    ensures { IfOk result (λ text. string_bytes text ≡ decimal number) }
-{
-    Ok(format!(in alloc; "{number}")?)
 }
 
 /// A number in hexadecimal digits in upper case, at least two of them.

@@ -5,7 +5,6 @@ use lx_base::{ByteText, Enc, Names, Sequence};
 ///
 /// Which pieces are valid is said in `specs/Validity.antt`, how a piece is spelled in `specs/Text.antt`,
 /// and what it does in `specs/Machine.antt` and `specs/Runs.antt`.
-#[derive(Drop)]
 pub struct Piece {
     /// The number of the piece in its output, counted from 1. Its labels begin with it.
     pub number: u32,
@@ -29,6 +28,24 @@ pub struct Piece {
     pub blocks: Sequence<CodeBlock>,
     /// The place in the source behind the block, told to the C compiler where there is one.
     pub line: Option<LineMark>,
+}
+
+impl Drop for Piece {
+    fn drop(self) {
+        let Self {
+            number: _,
+            head: _,
+            names: _,
+            unit: _,
+            eof: _,
+            declares: _,
+            ctx: _,
+            states: _,
+            conds: _,
+            blocks: _,
+            line: _,
+        } = self;
+    }
 }
 
 /// How a scanner finds the end of its input.
@@ -77,10 +94,15 @@ pub struct CondCase {
 }
 
 /// Statements under one label, and a condition's name where they are the start of its scanner.
-#[derive(Drop)]
 pub struct CodeBlock {
     pub cond: Option<ByteText>,
     pub stmts: Sequence<Stmt>,
+}
+
+impl Drop for CodeBlock {
+    fn drop(self) {
+        let Self { cond: _, stmts: _ } = self;
+    }
 }
 
 /// A line of a file, counted from 1, as a `#line` names it.
@@ -94,7 +116,6 @@ pub struct LineMark {
 ///
 /// A register holds an offset or nothing, and is counted from 1. A history holds the offsets and the
 /// negative events of a tag that may match often, and is counted from 0; history 0 is never written.
-#[derive(Drop)]
 pub enum Stmt {
     /// Reads the unit at the cursor.
     Peek,
@@ -148,4 +169,37 @@ pub enum Stmt {
     Code(u32, Option<LineMark>, ByteText),
     /// Ends the match by the rule with this number, and goes on at the condition's start.
     Jump(ByteText, u32),
+}
+
+impl Drop for Stmt {
+    fn drop(self) {
+        match self {
+            Self::Peek => {}
+            Self::Skip => {}
+            Self::Backup => {}
+            Self::Restore => {}
+            Self::Accept(_) => {}
+            Self::Set(_) => {}
+            Self::Unset(_) => {}
+            Self::Copy(_, _) => {}
+            Self::MSet(_) => {}
+            Self::MUnset(_) => {}
+            Self::MCopy(_, _) => {}
+            Self::IfUnit(_, _) => {}
+            Self::IfAccept(_, _) => {}
+            Self::IfEnd(_) => {}
+            Self::State(_) => {}
+            Self::Need(_) => {}
+            Self::Try(_) => {}
+            Self::Cond(_) => {}
+            Self::Tag(_, _, _) => {}
+            Self::Count(_) => {}
+            Self::End(_, _) => {}
+            Self::Back(_) => {}
+            Self::Goto(_) => {}
+            Self::Leave => {}
+            Self::Code(_, _, _) => {}
+            Self::Jump(_, _) => {}
+        }
+    }
 }

@@ -10,7 +10,7 @@ ghost use Rattle.lx_ccode.specs.Validity.{IsValid};
 
 use crate::heads::append_head;
 use crate::lines::{Scope, append_line};
-use crate::numerals::decimal;
+use crate::numerals::{Part, append_line_parts};
 use crate::piece::{CodeBlock, LineMark, Piece};
 use lx_base::limits::STATEMENT_LIMIT;
 use lx_base::{ByteText, Memory, append_parts};
@@ -35,11 +35,11 @@ pub(crate) fn append_opening(alloc: Global, text: &mut Vec<u8>, piece: &Piece) -
 {
     let scope = Scope::of(alloc, piece);
     let conds = piece.conds.as_slice();
-    append_begin(alloc, text, piece.number)?;
-    append_head(alloc, text, &piece.head)?;
-    append_unit(alloc, text, piece.unit)?;
-    append_eof(alloc, text, piece.eof)?;
-    append_names(alloc, text, piece.names.as_slice())?;
+    append_begin(text, piece.number)?;
+    append_head(text, &piece.head)?;
+    append_unit(text, piece.unit)?;
+    append_eof(text, piece.eof)?;
+    append_names(text, piece.names.as_slice())?;
     append_parts(text, &[b"*/\n{\n"])?;
     scope.append_declarations(text, piece.declares)?;
     scope.append_state_switch(text, conds, &piece.states)?;
@@ -53,20 +53,16 @@ pub(crate) fn append_closing(alloc: Global, text: &mut Vec<u8>, piece: &Piece) -
 {
     let scope = Scope::of(alloc, piece);
     scope.append_none(text)?;
-    append_end(alloc, text, &piece.line)?;
+    append_end(text, &piece.line)?;
     Ok(())
 }
 
 /// Appends the `#line` behind a piece, where there is one, and the end mark. Where memory runs out a part of
 /// it may stand there.
-pub(crate) fn append_end(
-    alloc: Global,
-    text: &mut Vec<u8>,
-    line: &Option<LineMark>,
-) -> Result<(), Memory>
+pub(crate) fn append_end(text: &mut Vec<u8>, line: &Option<LineMark>) -> Result<(), Memory>
     ensures { OnOk result (text.new.items ≡ text.old.items ++ line_then line.now (joined (codes "/*!end:re2c*/" ∷ []) [])) }
 {
-    append_line(alloc, text, line)?;
+    append_line(text, line)?;
     append_parts(text, &[b"/*!end:re2c*/"])?;
     Ok(())
 }
@@ -96,44 +92,60 @@ pub fn count_statements(blocks: &[CodeBlock]) -> Option<u64>
 }
 
 /// Appends the begin mark of the piece with this number. Where memory runs out a part of it may stand there.
-pub(crate) fn append_begin(alloc: Global, text: &mut Vec<u8>, number: u32) -> Result<(), Memory>
+pub(crate) fn append_begin(text: &mut Vec<u8>, number: u32) -> Result<(), Memory>
     ensures { OnOk result (text.new.items ≡ text.old.items ++ joined (codes "/*!begin:re2c " ∷ decimal number ∷ codes "*/\n" ∷ []) []) }
 {
-    let number = decimal(alloc, u64::from(number))?;
-    append_parts(text, &[b"/*!begin:re2c ", number.as_bytes(), b"*/\n"])
+    append_line_parts(
+        text,
+        &[
+            Part::Bytes(b"/*!begin:re2c "),
+            Part::Number(u64::from(number)),
+            Part::Bytes(b"*/\n"),
+        ],
+    )
 }
 
-fn append_unit(alloc: Global, text: &mut Vec<u8>, unit: u32) -> Result<(), Memory>
+fn append_unit(text: &mut Vec<u8>, unit: u32) -> Result<(), Memory>
     ensures { OnOk result (text.new.items ≡ text.old.items ++ joined (codes "/*!names:re2c " ∷ decimal unit ∷ codes " " ∷ []) []) }
 {
-    let unit = decimal(alloc, u64::from(unit))?;
-    append_parts(text, &[b"/*!names:re2c ", unit.as_bytes(), b" "])
+    append_line_parts(
+        text,
+        &[
+            Part::Bytes(b"/*!names:re2c "),
+            Part::Number(u64::from(unit)),
+            Part::Bytes(b" "),
+        ],
+    )
 }
 
-fn append_eof(alloc: Global, text: &mut Vec<u8>, eof: Option<u32>) -> Result<(), Memory>
+fn append_eof(text: &mut Vec<u8>, eof: Option<u32>) -> Result<(), Memory>
     ensures { OnOk result (text.new.items ≡ text.old.items ++ eof_then eof []) }
 {
     match eof {
         None => append_parts(text, &[b"-"]),
-        Some(unit) => {
-            let unit = decimal(alloc, u64::from(unit))?;
-            append_parts(text, &[unit.as_bytes()])
-        }
+        Some(unit) => append_line_parts(text, &[Part::Number(u64::from(unit))]),
     }
 }
 
-fn append_names(alloc: Global, text: &mut Vec<u8>, names: &[ByteText]) -> Result<(), Memory>
+fn append_names(text: &mut Vec<u8>, names: &[ByteText]) -> Result<(), Memory>
     ensures { OnOk result (text.new.items ≡ text.old.items ++ names_then names.now []) }
 {
     for name in names {
-        append_name(alloc, text, name)?;
+        append_name(text, name)?;
     }
     Ok(())
 }
 
-fn append_name(alloc: Global, text: &mut Vec<u8>, name: &ByteText) -> Result<(), Memory>
+fn append_name(text: &mut Vec<u8>, name: &ByteText) -> Result<(), Memory>
     ensures { OnOk result (text.new.items ≡ text.old.items ++ name_then name.now []) }
 {
-    let size = decimal(alloc, name.as_slice().len() as u64)?;
-    append_parts(text, &[b" ", size.as_bytes(), b":", name.as_slice()])
+    append_line_parts(
+        text,
+        &[
+            Part::Bytes(b" "),
+            Part::Number(name.as_slice().len() as u64),
+            Part::Bytes(b":"),
+            Part::Bytes(name.as_slice()),
+        ],
+    )
 }

@@ -3,11 +3,11 @@ ghost use Rattle.std.specs.Prelude.{◌≡◌, ◌++◌, [], ◌∷◌, length, 
 ghost use Rattle.std.specs.Fmt.{decimal};
 ghost use Rattle.lx_base.specs.Names.{get_state};
 ghost use Rattle.lx_base.specs.Text.{joined};
-ghost use Rattle.lx_ccode.specs.Text.{label_then, block_then, code_block_then, blocks_then, declarations_then, state_case_then, state_cases_then, start_then, state_switch_then, cond_case_then, cond_cases_then, cond_switch_then};
+ghost use Rattle.lx_ccode.specs.Text.{label_then, block_then, code_block_then, blocks_then, declarations_then, state_case_then, state_cases_then, start_then, state_switch_then, cond_cases_then, cond_switch_then};
 ghost use Rattle.lx_ccode.specs.Wording.{scope_wording};
 
 use crate::lines::Scope;
-use crate::numerals::decimal;
+use crate::numerals::{Part, append_line_parts};
 use crate::piece::{CodeBlock, CondCase, StateCase};
 use lx_base::{ByteText, Memory, Names, Sequence, append_parts, names};
 use std::alloc::Global;
@@ -56,7 +56,7 @@ impl Scope<'_> {
     {
         append_state_head(text, self.names)?;
         self.append_state_cases(text, cases)?;
-        append_default(self.alloc, text, self.number, conds)?;
+        append_default(text, self.number, conds)?;
         Ok(())
     }
 
@@ -64,7 +64,7 @@ impl Scope<'_> {
         ensures { OnOk result (text.new.items ≡ text.old.items ++ state_cases_then self.now.number cases.now []) }
     {
         for case in cases {
-            append_state_case(self.alloc, text, self.number, case)?;
+            append_state_case(text, self.number, case)?;
         }
         Ok(())
     }
@@ -76,8 +76,7 @@ impl Scope<'_> {
         if conds.is_empty() {
             return Ok(());
         }
-        let number = decimal(self.alloc, u64::from(self.number))?;
-        append_cond_head(text, number.as_bytes(), names::get_condition(self.names))?;
+        append_cond_head(text, self.number, names::get_condition(self.names))?;
         self.append_cond_cases(text, conds)?;
         append_parts(text, &[b"\t}\n"])?;
         Ok(())
@@ -86,31 +85,11 @@ impl Scope<'_> {
     fn append_cond_cases(&self, text: &mut Vec<u8>, cases: &[CondCase]) -> Result<(), Memory>
         ensures { OnOk result (text.new.items ≡ text.old.items ++ cond_cases_then self.now.number self.now.names.now cases.now []) }
     {
+        let prefix = names::condition_prefix(self.names);
         for case in cases {
-            self.append_cond_case(text, case)?;
+            append_cond_case(text, self.number, prefix, case)?;
         }
         Ok(())
-    }
-
-    fn append_cond_case(&self, text: &mut Vec<u8>, case: &CondCase) -> Result<(), Memory>
-        ensures { OnOk result (text.new.items ≡ text.old.items ++ cond_case_then self.now.number self.now.names.now case.now []) }
-    {
-        let prefix = names::condition_prefix(self.names);
-        let number = decimal(self.alloc, u64::from(self.number))?;
-        let block = decimal(self.alloc, case.block)?;
-        append_parts(
-            text,
-            &[
-                b"\tcase ",
-                prefix,
-                case.cond.as_slice(),
-                b": goto yy",
-                number.as_bytes(),
-                b"_",
-                block.as_bytes(),
-                b";\n",
-            ],
-        )
     }
 
     /// Appends blocks, of which the first is block 0.
@@ -159,11 +138,15 @@ impl Scope<'_> {
     pub fn append_label(&self, text: &mut Vec<u8>, place: u64) -> Result<(), Memory>
         ensures { OnOk result (text.new.items ≡ text.old.items ++ block_then self.now.number place (joined (codes ":\n" ∷ []) [])) }
     {
-        let number = decimal(self.alloc, u64::from(self.number))?;
-        let place = decimal(self.alloc, place)?;
-        append_parts(
+        append_line_parts(
             text,
-            &[b"yy", number.as_bytes(), b"_", place.as_bytes(), b":\n"],
+            &[
+                Part::Bytes(b"yy"),
+                Part::Number(u64::from(self.number)),
+                Part::Bytes(b"_"),
+                Part::Number(place),
+                Part::Bytes(b":\n"),
+            ],
         )
     }
 
@@ -171,8 +154,14 @@ impl Scope<'_> {
     pub fn append_none(&self, text: &mut Vec<u8>) -> Result<(), Memory>
         ensures { OnOk result (text.new.items ≡ text.old.items ++ joined (codes "yy" ∷ decimal self.now.number ∷ codes "_none:;\n}\n" ∷ []) []) }
     {
-        let number = decimal(self.alloc, u64::from(self.number))?;
-        append_parts(text, &[b"yy", number.as_bytes(), b"_none:;\n}\n"])
+        append_line_parts(
+            text,
+            &[
+                Part::Bytes(b"yy"),
+                Part::Number(u64::from(self.number)),
+                Part::Bytes(b"_none:;\n}\n"),
+            ],
+        )
     }
 }
 
@@ -185,70 +174,81 @@ pub fn append_state_head(text: &mut Vec<u8>, names: &Names) -> Result<(), Memory
 
 /// Appends a case of a switch over states, which goes to a block of the piece with this number. Where memory
 /// runs out a part of it may stand there.
-pub fn append_state_case(
-    alloc: Global,
-    text: &mut Vec<u8>,
-    number: u32,
-    case: &StateCase,
-) -> Result<(), Memory>
+pub fn append_state_case(text: &mut Vec<u8>, number: u32, case: &StateCase) -> Result<(), Memory>
     ensures { OnOk result (text.new.items ≡ text.old.items ++ state_case_then number case.now []) }
 {
-    let state = decimal(alloc, case.state)?;
-    let number = decimal(alloc, u64::from(number))?;
-    let block = decimal(alloc, case.block)?;
-    append_parts(
+    append_line_parts(
         text,
         &[
-            b"\tcase ",
-            state.as_bytes(),
-            b": goto yy",
-            number.as_bytes(),
-            b"_",
-            block.as_bytes(),
-            b";\n",
+            Part::Bytes(b"\tcase "),
+            Part::Number(case.state),
+            Part::Bytes(b": goto yy"),
+            Part::Number(u64::from(number)),
+            Part::Bytes(b"_"),
+            Part::Number(case.block),
+            Part::Bytes(b";\n"),
         ],
     )
 }
 
 /// Appends the end of a switch over states. Without a stored state it goes to the start of the piece with
 /// this number and these conditions. Where memory runs out a part of it may stand there.
-pub fn append_default(
-    alloc: Global,
-    text: &mut Vec<u8>,
-    number: u32,
-    conds: &[CondCase],
-) -> Result<(), Memory>
+pub fn append_default(text: &mut Vec<u8>, number: u32, conds: &[CondCase]) -> Result<(), Memory>
     ensures { OnOk result (text.new.items ≡ text.old.items ++ joined (codes "\tdefault: goto " ∷ []) (start_then number conds.now (joined (codes ";\n\t}\n" ∷ []) []))) }
 {
     append_parts(text, &[b"\tdefault: goto "])?;
-    append_start(alloc, text, number, conds)?;
+    append_start(text, number, conds)?;
     Ok(())
 }
 
-fn append_start(
-    alloc: Global,
-    text: &mut Vec<u8>,
-    number: u32,
-    conds: &[CondCase],
-) -> Result<(), Memory>
+fn append_start(text: &mut Vec<u8>, number: u32, conds: &[CondCase]) -> Result<(), Memory>
     ensures { OnOk result (text.new.items ≡ text.old.items ++ start_then number conds.now (joined (codes ";\n\t}\n" ∷ []) [])) }
 {
-    let number = decimal(alloc, u64::from(number))?;
     if conds.is_empty() {
-        let first = decimal(alloc, 0)?;
-        append_parts(
+        append_line_parts(
             text,
             &[
-                b"yy",
-                number.as_bytes(),
-                b"_",
-                first.as_bytes(),
-                b";\n\t}\n",
+                Part::Bytes(b"yy"),
+                Part::Number(u64::from(number)),
+                Part::Bytes(b"_"),
+                Part::Number(0),
+                Part::Bytes(b";\n\t}\n"),
             ],
         )
     } else {
-        append_parts(text, &[b"yy", number.as_bytes(), b"_cond;\n\t}\n"])
+        append_line_parts(
+            text,
+            &[
+                Part::Bytes(b"yy"),
+                Part::Number(u64::from(number)),
+                Part::Bytes(b"_cond;\n\t}\n"),
+            ],
+        )
     }
+}
+
+fn append_cond_case<'a>(
+    text: &mut Vec<u8>,
+    number: u32,
+    prefix: &'a [u8],
+    case: &'a CondCase,
+) -> Result<(), Memory>
+    ensures { OnOk result (text.new.items ≡ text.old.items
+        ++ joined (codes "\tcase " ∷ (prefix.now ++ case.now.cond) ∷ codes ": goto yy" ∷ decimal number ∷ codes "_" ∷ decimal case.now.block ∷ codes ";\n" ∷ []) []) }
+{
+    append_line_parts(
+        text,
+        &[
+            Part::Bytes(b"\tcase "),
+            Part::Bytes(prefix),
+            Part::Bytes(case.cond.as_slice()),
+            Part::Bytes(b": goto yy"),
+            Part::Number(u64::from(number)),
+            Part::Bytes(b"_"),
+            Part::Number(case.block),
+            Part::Bytes(b";\n"),
+        ],
+    )
 }
 
 fn append_two_variables(
@@ -273,17 +273,17 @@ fn append_two_variables(
     )
 }
 
-fn append_cond_head(text: &mut Vec<u8>, number: &[u8], get_condition: &[u8]) -> Result<(), Memory>
-    ensures { OnOk result (text.new.items ≡ text.old.items ++ joined (codes "yy" ∷ number.now ∷ codes "_cond:\n\tswitch (" ∷ get_condition.now ∷ codes "()) {\n" ∷ []) []) }
+fn append_cond_head(text: &mut Vec<u8>, number: u32, get_condition: &[u8]) -> Result<(), Memory>
+    ensures { OnOk result (text.new.items ≡ text.old.items ++ joined (codes "yy" ∷ decimal number ∷ codes "_cond:\n\tswitch (" ∷ get_condition.now ∷ codes "()) {\n" ∷ []) []) }
 {
-    append_parts(
+    append_line_parts(
         text,
         &[
-            b"yy",
-            number,
-            b"_cond:\n\tswitch (",
-            get_condition,
-            b"()) {\n",
+            Part::Bytes(b"yy"),
+            Part::Number(u64::from(number)),
+            Part::Bytes(b"_cond:\n\tswitch ("),
+            Part::Bytes(get_condition),
+            Part::Bytes(b"()) {\n"),
         ],
     )
 }

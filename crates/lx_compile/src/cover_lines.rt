@@ -1,7 +1,9 @@
 //! The lines that tell covering words, each with its match.
-ghost use Rattle.std.specs.Prelude.{◌≡◌, ◌++◌, None, OnOk, drop, length, map};
+ghost use Rattle.std.specs.Prelude.{◌≡◌, ◌∷◌, ◌++◌, [], None, OnOk, codes, drop, length, map};
+ghost use Rattle.std.specs.Fmt.{decimal};
+ghost use Rattle.lx_base.specs.Text.{joined};
 ghost use Rattle.lx_cover.specs.Matches.{value_of};
-ghost use Rattle.lx_layout.specs.Endings.{is_slash};
+ghost use Rattle.lx_layout.specs.Endings.{Ending, is_slash};
 ghost use Rattle.lx_layout.specs.RuleEnds.{AreEndsIndexed, endings_of};
 ghost use Rattle.lx_layout.specs.Rules.{names_of};
 ghost use Rattle.lx_run.specs.Values.{entries_text, history_text, offset_text};
@@ -211,6 +213,33 @@ fn append_values(
     Ok(())
 }
 
+/// Appends the number of a rule and where its match begins and ends.
+fn append_place(alloc: Global, text: &mut Vec<u8>, number: u32, cursor: u64) -> Result<(), Memory>
+    ensures { OnOk result (text.new.items ≡ text.old.items ++ joined (decimal number ∷ codes " 0 " ∷ decimal cursor ∷ []) []) }
+{
+    let number = format!(in alloc; "{number}")?;
+    let cursor = format!(in alloc; "{cursor}")?;
+    append_parts(text, &[number.as_bytes(), b" 0 ", cursor.as_bytes()])
+}
+
+/// Appends a match by the rule with a number, of whose end this is told.
+fn append_told(
+    alloc: Global,
+    text: &mut Vec<u8>,
+    end: &ToldEnd<'_>,
+    number: u32,
+    cursor: u64,
+    values: &[TagValue],
+) -> Result<(), Memory>
+    ensures { (ending : Ending) → TellsEnd end.now ending
+        → OnOk result (text.new.items ≡ text.old.items ++ rule_text ending number cursor (map value_of values.now)) }
+{
+    append_parts(text, &[entry_text(end.action)])?;
+    append_place(alloc, text, number, cursor)?;
+    append_values(alloc, text, end, values)?;
+    append_goes(text, end.goes)
+}
+
 /// Appends a match by the rule with a number, where the ends of rules stand in an index.
 pub(crate) fn append_rule(
     alloc: Global,
@@ -226,12 +255,7 @@ pub(crate) fn append_rule(
 {
     let none = None;
     let end = told_end(index, number, &none);
-    let number = format!(in alloc; "{number}")?;
-    let cursor = format!(in alloc; "{cursor}")?;
-    append_parts(text, &[entry_text(end.action)])?;
-    append_parts(text, &[number.as_bytes(), b" 0 ", cursor.as_bytes()])?;
-    append_values(alloc, text, &end, values)?;
-    append_goes(text, end.goes)
+    append_told(alloc, text, &end, number, cursor, values)
 }
 
 /// Appends the line above the words of a scanner.

@@ -6,6 +6,7 @@ ghost use Rattle.lx_base.specs.declared.faults.Stop.{Stop};
 ghost use Rattle.lx_exprs.specs.Seen.{points_of};
 ghost use Rattle.lx_forms.specs.Seen.{lexeme_view, lexemes_view};
 ghost use Rattle.lx_forms.specs.Lexemes.{lexemes_of};
+ghost use Rattle.lx_parse.specs.Blocks.{has_tokens};
 ghost use Rattle.lx_parse.specs.declared.items.Item.{Item};
 ghost use Rattle.lx_rules.specs.Environments.{Environment};
 ghost use Rattle.lx_token.specs.declared.list.Token.{Token};
@@ -17,8 +18,8 @@ use crate::parts::Directive;
 use lx_base::{BlockKind, ByteText, Memory, Pos, Stop};
 use lx_ccode::Format;
 use lx_forms::lexemes::{Lexeme, Lexemes};
-use lx_parse::{Item, parse};
-use lx_token::{Character, characters_of, tokens};
+use lx_parse::{BlockTree, Item, parse};
+use lx_token::{Character, TokenList, characters_of, tokens};
 use std::alloc::Global;
 
 /// The bytes of characters, if each of them is one.
@@ -90,6 +91,24 @@ fn directive_of(alloc: Global, kind: BlockKind, strings: Vec<Option<ByteText>>) 
     }
 }
 
+/// The tokens and the items of a block's body, which begins at `start`; or the first fault of it.
+pub(crate) fn read(
+    alloc: Global,
+    kind: BlockKind,
+    body: &[u8],
+    start: Pos,
+) -> Result<(TokenList, BlockTree), Stop>
+    requires near { IsNear body.now start }
+    requires kind { has_tokens kind ≡ true }
+    ensures { MatchResult result
+        (λ read. IsRead kind body.now start read.0 read.1.items)
+        (λ stopped. (options : Options) (environment : Environment) (at : Pos) → StopsAt options environment kind body.now at start stopped) }
+{
+    let tokens = tokens(alloc, body, start)?;
+    let tree = parse(alloc, body, &tokens, kind, start)?;
+    Ok((tokens, tree))
+}
+
 /// What a directive asks for, whose body begins at `start`.
 ///
 /// It refuses with the first fault of the body; `Memory` may be answered, and no clause ties it to a cause.
@@ -106,8 +125,7 @@ pub(crate) fn read_directive(
         × (directive ≡ directive_of kind (strings_of (lexemes_of body.now tokens) items)))
         (λ stopped. (options : Options) (environment : Environment) (at : Pos) → StopsAt options environment kind body.now at start stopped) }
 {
-    let tokens = tokens(alloc, body, start)?;
-    let tree = parse(alloc, body, &tokens, kind, start)?;
+    let (tokens, tree) = read(alloc, kind, body, start)?;
     let lexemes = Lexemes {
         body,
         tokens: tokens.as_slice(),

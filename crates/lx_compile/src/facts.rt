@@ -26,7 +26,6 @@ pub(crate) struct Start {
 }
 
 /// What directives may ask of all pieces of an output.
-#[derive(Drop)]
 pub(crate) struct Facts {
     /// The greatest number of units that a check asks for, at least 1.
     pub units: u32,
@@ -42,6 +41,20 @@ pub(crate) struct Facts {
     pub states: Sequence<FileState>,
     /// The start of the first piece.
     pub start: Option<Start>,
+}
+
+impl Drop for Facts {
+    fn drop(self) {
+        let Self {
+            units: _,
+            groups: _,
+            registers: _,
+            histories: _,
+            conds: _,
+            states: _,
+            start: _,
+        } = self;
+    }
 }
 
 /// The pieces of scanners.
@@ -302,19 +315,56 @@ fn start_of(alloc: Global, pieces: &[&Piece]) -> Result<Option<Start>, Memory>
     }
 }
 
+/// The registers and the histories that are listed.
+fn listed_numbers(
+    alloc: Global,
+    pieces: &[&Piece],
+) -> Result<(Sequence<u32>, Sequence<u32>), Memory>
+    requires { history_count (seen_pieces pieces.now) ≤ 2 ^ 32 }
+    ensures { IfOk result (λ lists. (lists.0 ≡ registers_of (seen_pieces pieces.now)) × (lists.1 ≡ histories_of (seen_pieces pieces.now))) }
+{
+    let registers = registers_of(alloc, pieces)?;
+    let histories = histories_of(alloc, pieces)?;
+    Ok((registers, histories))
+}
+
+/// The states of all pieces, and the start of the first one.
+fn states_and_start(
+    alloc: Global,
+    pieces: &[&Piece],
+) -> Result<(Sequence<FileState>, Option<Start>), Memory>
+    ensures { IfOk result (λ both. (both.0 ≡ file_states (seen_pieces pieces.now)) × (both.1 ≡ start_of (seen_pieces pieces.now))) }
+{
+    let states = file_states(alloc, pieces)?;
+    let start = start_of(alloc, pieces)?;
+    Ok((states, start))
+}
+
+/// The facts of all that is made, whose pieces of scanners are these.
+fn facts_among(alloc: Global, made: &[Made], pieces: &[&Piece]) -> Result<Facts, Memory>
+    requires printable { All IsPrintable made.now }
+    requires pieces { seen_pieces pieces.now ≡ pieces_among made.now }
+    ensures { IfOk result (λ facts. AreFacts facts made.now) }
+{
+    let conds = conditions_of(alloc, pieces)?;
+    let (registers, histories) = listed_numbers(alloc, pieces)?;
+    let (states, start) = states_and_start(alloc, pieces)?;
+    Ok(Facts {
+        units: units_of(made),
+        groups: groups_of(pieces),
+        registers,
+        histories,
+        conds,
+        states,
+        start,
+    })
+}
+
 /// The facts of all that is made.
 pub(crate) fn facts_of(alloc: Global, made: &[Made]) -> Result<Facts, Memory>
     requires { All IsPrintable made.now }
     ensures { IfOk result (λ facts. AreFacts facts made.now) }
 {
     let pieces = pieces_among(alloc, made)?;
-    Ok(Facts {
-        units: units_of(made),
-        groups: groups_of(&pieces),
-        registers: registers_of(alloc, &pieces)?,
-        histories: histories_of(alloc, &pieces)?,
-        conds: conditions_of(alloc, &pieces)?,
-        states: file_states(alloc, &pieces)?,
-        start: start_of(alloc, &pieces)?,
-    })
+    facts_among(alloc, made, &pieces)
 }

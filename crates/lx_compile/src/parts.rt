@@ -4,7 +4,6 @@ use lx_ccode::Format;
 use lx_rules::Resolved;
 
 /// What stands in an output in the place of a block without scanners (re2c manual, "Blocks and directives").
-#[derive(Drop)]
 pub enum Directive {
     /// Nothing: the block has no rules, or rules that other blocks use, or it is ignored, or stands around an included file.
     Nothing,
@@ -20,6 +19,20 @@ pub enum Directive {
     Types,
     /// A switch over the states of all scanners.
     GetState,
+}
+
+impl Drop for Directive {
+    fn drop(self) {
+        match self {
+            Self::Nothing => {}
+            Self::Max => {}
+            Self::MaxNmatch => {}
+            Self::Stags(_) => {}
+            Self::Mtags(_) => {}
+            Self::Types => {}
+            Self::GetState => {}
+        }
+    }
 }
 
 /// What a block gives.

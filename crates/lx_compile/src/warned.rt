@@ -18,13 +18,22 @@ use lx_warn::{Warning, warnings};
 use std::alloc::Global;
 
 /// A warning of a scanner.
-#[derive(Drop)]
 pub struct PlacedWarning {
     /// The place of the rule's action, or that of the block's opener.
     pub at: Pos,
     /// The name of the scanner's condition.
     pub cond: Option<ByteText>,
     pub warning: Warning,
+}
+
+impl Drop for PlacedWarning {
+    fn drop(self) {
+        let Self {
+            at: _,
+            cond: _,
+            warning: _,
+        } = self;
+    }
 }
 
 /// Whether warnings are asked for.

@@ -1,7 +1,6 @@
 -- One step of each reading function that makes a list.
 use Rattle.std.proofs.Common.{◌≡◌, ◌<◌, ◌≤◌, ◌-◌, ◌∷◌, ◌++◌, ◌∙◌, ℕ, zero, suc, Bool, true, false, List, [], Option, map, take, drop, length, refl, sym, ap, subst, append_assoc, arith, inl, inr}
 use Rattle.std.specs.Prelude.{◌==◌, ◌||◌}
-use Rattle.std.specs.List.{AllByRecursion}
 use Rattle.std.proofs.lemmas.Bool.Decides.{eqb_tells}
 use Rattle.std.proofs.lemmas.Grind.{common_steps}
 use Rattle.lx_base.specs.Letters.{is_digit, is_in_identifier, front_letters, after_letters}
@@ -14,6 +13,7 @@ use Rattle.lx_ccode.specs.declared.piece.Stmt.{Stmt}
 use Rattle.lx_ccode.specs.Heads.{is_custom}
 use Rattle.lx_ccode.specs.Reading.{begins_statement, blocks_at, byte_at, code_block_at, cond_cases_at, cond_switch_at, declarations_at, eof_at, goto_block, goto_tail, head_at, names_at, number_at, piece_at, reading, state_cases_at, state_switch_at, statement_at, statements_at}
 use Rattle.lx_ccode.specs.Validity.{EachBlockHasSpelling, IsValid}
+use Rattle.lx_creader.specs.BlockParts.{AreFilled}
 use Rattle.lx_creader.specs.Fitted.{fitted_block, fitted_cond, fitted_state, fitted_statement, long}
 
 -- what was read so far, with one element more before what is still to be read
@@ -143,10 +143,6 @@ blocks_at-value zero fuel custom names bytes some is = absurd (omega arith)
 blocks_at-value (suc k) fuel custom names bytes some is =
     let one : suc k - 1 ≡ k = omega arith in
     let other = not_equal (byte_at (after_letters is_in_identifier bytes) 1) 59 is in rw (one, other) refl
-
--- each block has a statement
-abbrev pub AreFilled : List CodeBlock → Type 0
-AreFilled blocks = AllByRecursion (λ block. 0 < length block.stmts) blocks
 
 pub blocks_at-filled : (left fuel : ℕ) (custom : Bool) (names : Spellings) (bytes : List ℕ) → 0 < left → (byte_at (after_letters is_in_identifier bytes) 1 ≡ 59 → ⊥)
     → AreFilled (blocks_at left fuel custom names bytes).0 → 0 < length (code_block_at fuel custom names bytes).0.stmts

@@ -1,3 +1,4 @@
+pub mod BlockParts
 pub mod Cut
 pub mod ValidParts
 pub mod Fitted

@@ -2,6 +2,7 @@
 ghost use Rattle.std.specs.Prelude.{◌≡◌, IfOk, MatchOption};
 ghost use Rattle.lx_ccode.specs.Reading.{piece_at};
 ghost use Rattle.lx_ccode.specs.Validity.{IsValid};
+ghost use Rattle.lx_creader.specs.BlockParts.{AreFilled, IsBlockPart, blocks_behind};
 ghost use Rattle.lx_creader.specs.Fitted.{fitted};
 
 use crate::heads::head_at;
@@ -9,9 +10,41 @@ use crate::lines::Scope;
 use crate::marks::{block_at, line_at};
 use crate::sections::{declarations_at, eof_at, names_at, state_switch_at};
 use crate::words::{after_digits, short_at, skip};
-use lx_base::Memory;
-use lx_ccode::{Piece, is_custom};
+use lx_base::{Memory, Sequence};
+use lx_ccode::{CodeBlock, CondCase, LineMark, Piece, is_custom};
 use std::alloc::Global;
+
+/// What stands in a piece from the switch over conditions on.
+#[derive(Drop)]
+struct BlockPart {
+    /// The cases of the switch over conditions.
+    conds: Sequence<CondCase>,
+    blocks: Sequence<CodeBlock>,
+    /// Whether a block names the context marker as register 1.
+    ctx: bool,
+    /// The place in the source behind the block.
+    line: Option<LineMark>,
+}
+
+/// What stands from the switch over conditions on; `None` where a block has no statement.
+fn block_part_at(scope: &Scope<'_>, fuel: usize, bytes: &[u8]) -> Result<Option<BlockPart>, Memory>
+    ensures { IfOk result (λ found. MatchOption found (AreFilled (blocks_behind fuel scope.now.custom scope.now.names.now bytes.now).0 → ⊥)
+        (IsBlockPart fuel scope.now.custom scope.now.names.now bytes.now)) }
+{
+    let (conds, rest) = scope.cond_switch_at(fuel, bytes)?;
+    match scope.blocks_at(fuel, rest)? {
+        None => Ok(None),
+        Some((blocks, ctx, rest)) => {
+            let (line, _) = line_at(scope.alloc, skip(block_at(rest), 9))?;
+            Ok(Some(BlockPart {
+                conds,
+                blocks,
+                ctx,
+                line,
+            }))
+        }
+    }
+}
 
 /// The piece that is read at the front of the bytes, where its text may stand or not; `None` only where no
 /// piece's text stands there.
@@ -32,24 +65,27 @@ pub(crate) fn reading(alloc: Global, bytes: &[u8]) -> Result<Option<Piece>, Memo
         names: &names,
         custom: is_custom(&head),
     };
-    let (conds, rest) = scope.cond_switch_at(fuel, rest)?;
-    match scope.blocks_at(fuel, rest)? {
+    match block_part_at(&scope, fuel, rest)? {
         None => Ok(None),
-        Some((blocks, ctx, rest)) => {
-            let (line, _) = line_at(alloc, skip(block_at(rest), 9))?;
-            Ok(Some(Piece {
-                number: short_at(number),
-                head,
-                names,
-                unit: short_at(unit),
-                eof,
-                declares,
-                ctx,
-                states,
+        Some(
+            BlockPart {
                 conds,
                 blocks,
+                ctx,
                 line,
-            }))
-        }
+            },
+        ) => Ok(Some(Piece {
+            number: short_at(number),
+            head,
+            names,
+            unit: short_at(unit),
+            eof,
+            declares,
+            ctx,
+            states,
+            conds,
+            blocks,
+            line,
+        })),
     }
 }

@@ -12,10 +12,15 @@ use std::marker::Model;
 /// The rows of a graph, which contracts see as a list: no two are equal, the first has no runs, and each
 /// leads to rows before it. The place of a row is found by its runs in time linear in them, whatever the
 /// number of rows.
-#[derive(Drop)]
 pub(crate) struct Table {
     /// The runs of each row, with the units at which its targets may change.
     rows: IndexMap<Vec<Run>, Vec<u32>>,
+}
+
+impl Drop for Table {
+    fn drop(self) {
+        let Self { rows: _ } = self;
+    }
 }
 
 impl Model for Table {

@@ -12,7 +12,6 @@ use lx_regex::Expr;
 use std::alloc::Global;
 
 /// What is kept of a definition.
-#[derive(Drop)]
 pub struct Kept {
     /// Where its name stands.
     pub at: Pos,
@@ -28,10 +27,28 @@ pub struct Kept {
     pub expr: Option<Expr>,
 }
 
+impl Drop for Kept {
+    fn drop(self) {
+        let Self {
+            at: _,
+            size: _,
+            nesting: _,
+            tags: _,
+            groups: _,
+            expr: _,
+        } = self;
+    }
+}
+
 /// The definitions so far, by name, in the order of the source. Contracts see them as a list, by `definitions_view`.
-#[derive(Drop)]
 pub struct Definitions {
     by_name: IndexMap<Vec<u8>, Kept>,
+}
+
+impl Drop for Definitions {
+    fn drop(self) {
+        let Self { by_name: _ } = self;
+    }
 }
 
 impl Definitions {

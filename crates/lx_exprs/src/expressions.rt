@@ -31,7 +31,6 @@ use lx_token::{Repeat, repeat_of};
 use std::alloc::Global;
 
 /// What is read of an expression so far: operands that are not yet put together, in order, and all tags.
-#[derive(Drop)]
 pub struct Operands {
     values: Vec<Operand>,
     seen: SeenTags,
@@ -39,6 +38,17 @@ pub struct Operands {
     groups: u64,
     /// How many groups there are before each one that is open, the innermost last.
     open_groups: Vec<u64>,
+}
+
+impl Drop for Operands {
+    fn drop(self) {
+        let Self {
+            values: _,
+            seen: _,
+            groups: _,
+            open_groups: _,
+        } = self;
+    }
 }
 
 /// What is read of a whole expression, with its tags, in order.
@@ -174,6 +184,19 @@ impl Operands {
     ghost use Rattle.lx_forms.specs.Steps.{reads, repeats, subtracts};
     ghost use Rattle.lx_exprs.specs.Values.{IsRoom};
     ghost use Rattle.lx_exprs.specs.declared.values.Room.{Room};
+
+    /// All tags that are read.
+    fn into_seen(self) -> SeenTags
+        ensures { result ≡ self.seen }
+    {
+        let Self {
+            values: _,
+            seen,
+            groups: _,
+            open_groups: _,
+        } = self;
+        seen
+    }
 
     /// Nothing is read behind some tags and so many groups.
     fn behind(alloc: Global, seen: SeenTags, groups: u64) -> Operands
@@ -446,7 +469,7 @@ pub fn read_behind(
     let steps = expression_steps(alloc, lexemes, from, until, are_groups(reader.options))?;
     let mut operands = take_steps(alloc, reader, lexemes, seen, groups, &steps)?;
     let value = operands.pop().settled(alloc, reader.room)?;
-    let tags = operands.seen.into_shared(alloc)?;
+    let tags = operands.into_seen().into_shared(alloc)?;
     Ok(Reading { value, tags })
 }
 

@@ -24,12 +24,20 @@ pub struct Holed {
 }
 
 /// What is read of an operand.
-#[derive(Drop)]
 pub enum Operand {
     /// All of it.
     Whole(Value),
     /// A difference that is put off.
     Holed(Holed),
+}
+
+impl Drop for Operand {
+    fn drop(self) {
+        match self {
+            Self::Whole(_) => {}
+            Self::Holed(_) => {}
+        }
+    }
 }
 
 impl Holed {

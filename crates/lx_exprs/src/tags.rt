@@ -20,10 +20,15 @@ use std::rc::Rc;
 const MOST_COPIED: usize = 64;
 
 /// Tags, in order, and an index of their names. Contracts see the tags.
-#[derive(Drop)]
 pub struct TagNames {
     tags: Vec<Tag>,
     index: IndexMap<Vec<u8>, ()>,
+}
+
+impl Drop for TagNames {
+    fn drop(self) {
+        let Self { tags: _, index: _ } = self;
+    }
 }
 
 impl Model for TagNames {

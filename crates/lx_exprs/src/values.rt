@@ -37,7 +37,6 @@ impl Room {
 }
 
 /// What stands in an expression.
-#[derive(Drop)]
 pub enum Content {
     /// One expression.
     One(Expr),
@@ -47,6 +46,17 @@ pub enum Content {
     Choice(Vec<Expr>),
     /// What is past a limit and not built: the ranges of its class, if it is one, and whether it has alternatives.
     Past(Option<Collected>, bool),
+}
+
+impl Drop for Content {
+    fn drop(self) {
+        match self {
+            Self::One(_) => {}
+            Self::Row(_) => {}
+            Self::Choice(_) => {}
+            Self::Past(_, _) => {}
+        }
+    }
 }
 
 /// What is read of an expression. 2^40 stands for itself and for more in its numbers.
@@ -140,9 +150,11 @@ fn joined(front: Vec<Expr>, back: Vec<Expr>) -> Result<Vec<Expr>, Memory>
 
 impl Content {
     ghost use Rattle.std.specs.Prelude.{◌≡◌, ◌<◌, ◌≤◌, ◌+◌, ◌*◌, ℕ, suc, Bool, IfOk, IfSome, IfNone, false, not, true, map, sum};
+    ghost use Rattle.std.specs.Option.{option_map};
     ghost use Rattle.lx_base.specs.declared.limits.TheConstants.{TAG_LIMIT};
     ghost use Rattle.lx_regex.specs.Expr.{members_of, size_of, term_of, times};
-    ghost use Rattle.lx_exprs.specs.Defined.{Meaning, kept, meant_class, term_of_meaning};
+    ghost use Rattle.lx_exprs.specs.Defined.{IsTermKept, Meaning, kept, meant_class, term_of_meaning};
+    ghost use Rattle.lx_exprs.specs.FitDefinitions.{FitsKept};
     ghost use Rattle.lx_exprs.specs.Meanings.{alternated, enclosed, followed, grouped, in_choice, in_row, repeated_by};
     ghost use Rattle.lx_exprs.specs.Values.{AreTagsBelow, HasPoints, HasTagsBelow, HaveTagsBelow, IsContent, content_size, is_choice_content, is_past};
 
@@ -190,6 +202,21 @@ impl Content {
             Content::Row(members) => Some(Expr::Cat(members)),
             Content::Choice(members) => Some(Expr::Alt(members)),
             Content::Past(_class, _) => None,
+        }
+    }
+
+    /// What is kept of it for a definition: the expression, where it is built, and else its class, if it is one.
+    fn into_kept(self, alloc: Global) -> Result<Option<Expr>, Memory>
+        ensures term { (is_built : Bool) (meaning : Meaning) → IsContent is_built meaning self → is_past self ≡ not is_built
+            → IfOk result (λ found. IsTermKept is_built meaning (option_map (term_of 0) found)) }
+        ensures kept { (size tags : ℕ) → 1 ≤ size → content_size self ≤ size → AreTagsBelow tags self → IfOk result (λ found. FitsKept 1 found size tags) }
+    {
+        match self {
+            Content::Past(class, _) => match class {
+                Some(collected) => Ok(Some(Expr::Class(collected.into_set(alloc)?))),
+                None => Ok(None),
+            },
+            content => Ok(content.into_expr()),
         }
     }
 
@@ -467,13 +494,7 @@ impl Value {
             → IfOk result (λ found. IsTermKept (is_built whole_room meaning) meaning (option_map (term_of 0) found)) }
         ensures kept { IsBounded self → IfOk result (λ found. FitsKept 1 found self.size self.tags) }
     {
-        match self.content {
-            Content::Past(class, _) => match class {
-                Some(collected) => Ok(Some(Expr::Class(collected.into_set(alloc)?))),
-                None => Ok(None),
-            },
-            content => Ok(content.into_expr()),
-        }
+        self.content.into_kept(alloc)
     }
 
     /// The expression, where it is built.

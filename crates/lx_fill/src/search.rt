@@ -22,7 +22,6 @@ pub(crate) enum Colour {
 }
 
 /// A depth-first search over the states of an automaton.
-#[derive(Drop)]
 pub(crate) struct Search {
     /// For each state, how far the search has come with it.
     colours: Vec<Colour>,
@@ -34,6 +33,18 @@ pub(crate) struct Search {
     path: Vec<u32>,
     /// The closed states, in the order in which they were closed.
     pub order: Vec<u32>,
+}
+
+impl Drop for Search {
+    fn drop(self) {
+        let Self {
+            colours: _,
+            passed: _,
+            chosen: _,
+            path: _,
+            order: _,
+        } = self;
+    }
 }
 
 /// The edges out of the state with this number.

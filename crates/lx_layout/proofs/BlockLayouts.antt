@@ -1,5 +1,6 @@
 -- Which blocks a layout has, where they stand, and that they serve the automaton.
 pub mod AcceptLoops
+pub mod ApartLoops
 pub mod SplitTrees
 pub mod BlockLoops
 pub mod FirstAccepts

@@ -7,10 +7,15 @@ use lx_base::Memory;
 use std::alloc::Global;
 
 /// Places in a list by numbers.
-#[derive(Drop)]
 pub struct NumberIndex {
     /// The places of the numbers that have one.
     pub places: IndexMap<u32, usize>,
+}
+
+impl Drop for NumberIndex {
+    fn drop(self) {
+        let Self { places: _ } = self;
+    }
 }
 
 impl NumberIndex {

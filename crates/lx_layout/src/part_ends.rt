@@ -17,7 +17,6 @@ use lx_ccode::Stmt;
 use std::alloc::Global;
 
 /// The blocks where matches of a scanner end.
-#[derive(Drop)]
 pub(crate) struct PartEnds<'a> {
     pub plans: PartPlans<'a>,
     /// The first accept of each rule by which a match can end.
@@ -30,6 +29,19 @@ pub(crate) struct PartEnds<'a> {
     pub restores: u64,
     /// The block of the end of the first rule.
     pub rules: u64,
+}
+
+impl Drop for PartEnds<'_> {
+    fn drop(self) {
+        let Self {
+            plans: _,
+            ended: _,
+            saved: _,
+            fall: _,
+            restores: _,
+            rules: _,
+        } = self;
+    }
 }
 
 /// How many blocks the fallback has.

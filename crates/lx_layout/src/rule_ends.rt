@@ -21,10 +21,15 @@ pub struct RuleEnd<'a> {
 }
 
 /// The ends of rules, with their places by the numbers of the rules.
-#[derive(Drop)]
 pub struct EndIndex<'a> {
     pub ends: &'a [RuleEnd<'a>],
     pub places: NumberIndex,
+}
+
+impl Drop for EndIndex<'_> {
+    fn drop(self) {
+        let Self { ends: _, places: _ } = self;
+    }
 }
 
 /// The places of ends by the numbers of their rules; of several with one number the first counts.

@@ -31,7 +31,6 @@ pub(crate) struct StatePlan<'a> {
 }
 
 /// What is known of a scanner.
-#[derive(Drop)]
 pub(crate) struct PartPlans<'a> {
     pub input: PartInput<'a>,
     /// The number of its first block.
@@ -44,6 +43,19 @@ pub(crate) struct PartPlans<'a> {
     pub marks: Marks,
     /// The transition classes and the tests of all states. Those of state 0 are those of the entry, too.
     pub states: Vec<StatePlan<'a>>,
+}
+
+impl Drop for PartPlans<'_> {
+    fn drop(self) {
+        let Self {
+            input: _,
+            begin: _,
+            first: _,
+            entered: _,
+            marks: _,
+            states: _,
+        } = self;
+    }
 }
 
 /// The tests for units up to a greatest one, by edges and their classes, where a unit stands at the end of the input or not.

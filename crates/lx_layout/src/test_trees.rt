@@ -9,7 +9,6 @@ use lx_base::Memory;
 use std::alloc::Global;
 
 /// How units go: by the class at a place, or by none.
-#[derive(Drop)]
 pub(crate) enum TestTree {
     /// All of them by one class.
     Leaf(Option<usize>),
@@ -25,6 +24,24 @@ pub(crate) enum TestTree {
         low: Box<TestTree>,
         high: Box<TestTree>,
     },
+}
+
+impl Drop for TestTree {
+    fn drop(self) {
+        match self {
+            Self::Leaf(_) => {}
+            Self::Test {
+                greatest: _,
+                class: _,
+                high: _,
+            } => {}
+            Self::Fork {
+                greatest: _,
+                low: _,
+                high: _,
+            } => {}
+        }
+    }
 }
 
 /// The units behind which a test is wished for, each before the next ones: the last ones before the digits, before the small

@@ -35,13 +35,7 @@ fn stretches(
     let mut found = Vec::new(alloc);
     let mut low = 0;
     for edge in edges {
-        if low < u64::from(edge.lo) {
-            let greatest = edge.lo - 1;
-            found.push(Stretch {
-                greatest,
-                class: None,
-            })?;
-        }
+        push_before(&mut found, low, edge.lo, None)?;
         let greatest = edge.hi;
         let class = Some(class_place(classes, edge));
         found.push(Stretch { greatest, class })?;

@@ -21,9 +21,14 @@ pub(crate) struct AcceptKey<'a> {
 }
 
 /// What states accept, all different, which contracts see in the order of their numbers.
-#[derive(Drop)]
 pub(crate) struct AcceptNumbers<'a> {
     keys: IndexSet<Option<AcceptKey<'a>>>,
+}
+
+impl Drop for AcceptNumbers<'_> {
+    fn drop(self) {
+        let Self { keys: _ } = self;
+    }
 }
 
 impl<'a> Model for AcceptNumbers<'a> {

@@ -11,12 +11,20 @@ use std::marker::Model;
 
 /// Canonical lists, all different, which contracts see in the order of their numbers. The number of a list that was met before is
 /// found by its operations in time linear in them, as far as hashes differ.
-#[derive(Drop)]
 pub(crate) struct ListNumbers<'a> {
     /// The canonical lists, by their numbers.
     lists: IndexSet<Vec<Op>>,
     /// The number of each list that was met.
     numbers: IndexMap<&'a [Op], usize>,
+}
+
+impl Drop for ListNumbers<'_> {
+    fn drop(self) {
+        let Self {
+            lists: _,
+            numbers: _,
+        } = self;
+    }
 }
 
 impl<'a> Model for ListNumbers<'a> {

@@ -36,10 +36,18 @@ pub(crate) struct Look {
 }
 
 /// The numbers of all that was met.
-#[derive(Drop)]
 struct Numbers<'a> {
     lists: ListNumbers<'a>,
     accepts: AcceptNumbers<'a>,
+}
+
+impl Drop for Numbers<'_> {
+    fn drop(self) {
+        let Self {
+            lists: _,
+            accepts: _,
+        } = self;
+    }
 }
 
 /// The edges out of a state, where lists of operations have numbers.

@@ -10,7 +10,6 @@ use lx_base::Memory;
 use std::alloc::Global;
 
 /// Classes of states, numbered from 0.
-#[derive(Drop)]
 pub(crate) struct Numbering {
     /// The class of each state in the partition.
     pub class: Vec<u32>,
@@ -18,6 +17,16 @@ pub(crate) struct Numbering {
     pub rank: Vec<u32>,
     /// The state that is chosen for each number.
     pub chosen: Vec<u32>,
+}
+
+impl Drop for Numbering {
+    fn drop(self) {
+        let Self {
+            class: _,
+            rank: _,
+            chosen: _,
+        } = self;
+    }
 }
 
 /// The number at a place, or 0 where there is none. It takes no memory.

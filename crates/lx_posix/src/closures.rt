@@ -15,7 +15,6 @@ use lx_tnfa::Tnfa;
 use std::alloc::Global;
 
 /// The first walks from the places of a kernel to all targets, in order.
-#[derive(Drop)]
 pub(crate) struct Closure {
     /// Where the walks begin.
     pub beginnings: Vec<Beginning>,
@@ -23,6 +22,16 @@ pub(crate) struct Closure {
     pub founds: Vec<Found>,
     /// Their targets.
     pub targets: Reaches,
+}
+
+impl Drop for Closure {
+    fn drop(self) {
+        let Self {
+            beginnings: _,
+            founds: _,
+            targets: _,
+        } = self;
+    }
 }
 
 /// The closure of a kernel, by a search in buffers that the caller lends.

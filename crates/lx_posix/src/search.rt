@@ -51,11 +51,20 @@ pub(crate) struct Entry {
 ///
 /// They may hold anything from call to call: no answer depends on what they held. They are kept, and grow to what the largest call
 /// needed.
-#[derive(Drop)]
 pub(crate) struct LevelSearch {
     visited: Visited<Node>,
     waiting: Vec<Entry>,
     trail: Vec<u32>,
+}
+
+impl Drop for LevelSearch {
+    fn drop(self) {
+        let Self {
+            visited: _,
+            waiting: _,
+            trail: _,
+        } = self;
+    }
 }
 
 impl LevelSearch {

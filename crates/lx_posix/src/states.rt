@@ -24,11 +24,20 @@ use lx_tdfa::{Kernels, Source, Step, first_ending, last_unit, merged_cuts, next_
 use lx_tnfa::{Place, Search, Visited};
 
 /// Buffers for the work on one state after another.
-#[derive(Drop)]
 pub(crate) struct Buffers {
     pub levels: LevelSearch,
     pub ends: Search,
     pub seen: Visited<Place>,
+}
+
+impl Drop for Buffers {
+    fn drop(self) {
+        let Self {
+            levels: _,
+            ends: _,
+            seen: _,
+        } = self;
+    }
 }
 
 /// Units, from the least to the greatest one.

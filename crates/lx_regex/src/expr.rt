@@ -8,7 +8,6 @@ ghost use Rattle.lx_regex.specs.Term.{IsAtMost};
 use lx_class::ClassSet;
 
 /// An expression. `term_of` in `specs/Expr.antt` says which term it stands for, and so what it matches.
-#[derive(Drop)]
 pub enum Expr {
     /// Matches the empty word.
     Empty,
@@ -28,6 +27,22 @@ pub enum Expr {
     MTag(u32),
     /// Matches its body, and gives the two ends of the group with this number their offsets.
     Group(u32, Box<Expr>),
+}
+
+impl Drop for Expr {
+    fn drop(self) {
+        match self {
+            Self::Empty => {}
+            Self::Class(_) => {}
+            Self::AnyUnit => {}
+            Self::Cat(_) => {}
+            Self::Alt(_) => {}
+            Self::Rep(_, _, _) => {}
+            Self::STag(_) => {}
+            Self::MTag(_) => {}
+            Self::Group(_, _) => {}
+        }
+    }
 }
 
 /// The size that stands for itself and every greater one, 2^40.

@@ -15,10 +15,18 @@ struct Sign {
 }
 
 /// Numbers of registers, by their codes: those that are alike have the same.
-#[derive(Drop)]
 pub(crate) struct Alike {
     seen: IndexSet<Sign>,
     numbers: IndexMap<u32, usize>,
+}
+
+impl Drop for Alike {
+    fn drop(self) {
+        let Self {
+            seen: _,
+            numbers: _,
+        } = self;
+    }
 }
 
 impl Alike {

@@ -1,10 +1,11 @@
 //! For each state the edges that lead to it.
-ghost use Rattle.std.specs.Prelude.{◌≡◌, ◌<◌, All, IfOk, OnOk, [], length, map, replicate};
+ghost use Rattle.std.specs.Prelude.{◌≡◌, ◌<◌, All, IfOk, OnOk, length, map};
 ghost use Rattle.lx_auto.specs.Automaton.{IsAuto};
 ghost use Rattle.lx_auto.specs.declared.automaton.Edge.{Edge as EdgeValue};
 ghost use Rattle.lx_auto.specs.declared.automaton.State.{State as StateValue};
 ghost use Rattle.lx_regs.specs.Arrows.{AreArrows, Notes, with_arrow};
 
+use crate::lists::empty_lists;
 use crate::readers::Reader;
 use lx_auto::{Auto, Edge};
 use lx_base::{Memory, Sequence};
@@ -16,17 +17,6 @@ pub(crate) struct Arrow<'a> {
     pub state: u32,
     pub edge: &'a Edge,
     pub reader: Reader<'a>,
-}
-
-/// So many empty lists.
-fn empty_lists<'a>(alloc: Global, count: usize) -> Result<Vec<Sequence<Arrow<'a>>>, Memory>
-    ensures { IfOk result (λ lists. lists.items ≡ replicate count []) }
-{
-    let mut lists = Vec::new(alloc);
-    for _ in 0..count {
-        lists.push(Sequence::new(alloc))?;
-    }
-    Ok(lists)
 }
 
 /// Notes an arrow in the list of its target.

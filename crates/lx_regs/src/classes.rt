@@ -9,6 +9,7 @@ use indexmap::IndexSet;
 use lx_auto::Held;
 use lx_base::Memory;
 use std::alloc::Global;
+use std::hash::Hash;
 
 /// What is known of a register from its class and what came to it along the edges so far.
 #[derive(Clone, Copy, PartialEq, Eq, Hash)]
@@ -34,18 +35,48 @@ pub(crate) fn at(numbers: &[usize], place: usize) -> usize {
     }
 }
 
+/// Classes of slots, as they are told by items: slots with one item are of one class. Classes have numbers from 0, without gaps.
+struct Numbering<T: Eq + Hash + Drop> {
+    seen: IndexSet<T>,
+    of: Vec<usize>,
+}
+
+impl<T: Eq + Hash + Drop> Drop for Numbering<T> {
+    fn drop(self) {
+        let Self { seen: _, of: _ } = self;
+    }
+}
+
+impl<T: Eq + Hash + Drop> Numbering<T> {
+    fn new(alloc: Global) -> Numbering<T> {
+        Numbering {
+            seen: IndexSet::new(alloc),
+            of: Vec::new(alloc),
+        }
+    }
+
+    /// Puts the next slot into the class of an item.
+    fn put(&mut self, item: T) -> Result<(), Memory> {
+        let (class, _) = self.seen.insert_full(item)?;
+        self.of.push(class)?;
+        Ok(())
+    }
+
+    /// The classes.
+    fn into_classes(self) -> Classes {
+        let count = self.seen.len();
+        let Self { seen: _, of } = self;
+        Classes { of, count }
+    }
+}
+
 /// The classes with numbers from 0, without gaps.
 fn numbered(alloc: Global, keys: &[usize]) -> Result<Classes, Memory> {
-    let mut seen: IndexSet<usize> = IndexSet::new(alloc);
-    let mut of = Vec::new(alloc);
+    let mut numbering = Numbering::new(alloc);
     for key in keys {
-        let (class, _) = seen.insert_full(*key)?;
-        of.push(class)?;
+        numbering.put(*key)?;
     }
-    Ok(Classes {
-        of,
-        count: seen.len(),
-    })
+    Ok(numbering.into_classes())
 }
 
 /// What the registers of a class have in common at first: the state, and whether they are m-registers.
@@ -57,20 +88,15 @@ struct Common {
 
 /// One class for the registers of one sort at a state.
 fn first_classes(alloc: Global, flows: &Flows) -> Result<Classes, Memory> {
-    let mut seen: IndexSet<Common> = IndexSet::new(alloc);
-    let mut of = Vec::new(alloc);
+    let mut numbering = Numbering::new(alloc);
     for slot in flows.slots.as_slice() {
         let common = Common {
             state: slot.state,
             is_history: matches!(slot.held, Held::MReg(_)),
         };
-        let (class, _) = seen.insert_full(common)?;
-        of.push(class)?;
+        numbering.put(common)?;
     }
-    Ok(Classes {
-        of,
-        count: seen.len(),
-    })
+    Ok(numbering.into_classes())
 }
 
 /// A class, and the value to which some of its registers go.
@@ -87,8 +113,7 @@ fn parts_by_value(
     hints: &Hints,
     classes: &[usize],
 ) -> Result<Classes, Memory> {
-    let mut seen: IndexSet<Part> = IndexSet::new(alloc);
-    let mut of = Vec::new(alloc);
+    let mut numbering = Numbering::new(alloc);
     for (place, class) in classes.iter().enumerate() {
         let part = Part {
             class: *class,
@@ -97,13 +122,9 @@ fn parts_by_value(
                 None => None,
             },
         };
-        let (number, _) = seen.insert_full(part)?;
-        of.push(number)?;
+        numbering.put(part)?;
     }
-    Ok(Classes {
-        of,
-        count: seen.len(),
-    })
+    Ok(numbering.into_classes())
 }
 
 /// A class of its own for each slot.
@@ -117,11 +138,16 @@ fn own_classes(alloc: Global, flows: &Flows) -> Result<Classes, Memory> {
 }
 
 /// What is known of slots, while it is gathered.
-#[derive(Drop)]
 struct Signs {
     seen: IndexSet<Sign>,
     /// The sign of each slot, or its class before anything came to it.
     keys: Vec<usize>,
+}
+
+impl Drop for Signs {
+    fn drop(self) {
+        let Self { seen: _, keys: _ } = self;
+    }
 }
 
 impl Signs {

@@ -22,7 +22,6 @@ pub(crate) enum Single {
 }
 
 /// What a list does, by registers.
-#[derive(Drop)]
 struct Index {
     /// What each register gets that is written.
     singles: IndexMap<u32, Single>,
@@ -30,6 +29,16 @@ struct Index {
     origins: IndexMap<u32, u32>,
     /// The marks that are put at the ends of m-registers.
     marks: IndexMap<u32, Sequence<bool>>,
+}
+
+impl Drop for Index {
+    fn drop(self) {
+        let Self {
+            singles: _,
+            origins: _,
+            marks: _,
+        } = self;
+    }
 }
 
 /// Operations that act at once, with an index where there are many of them: what they do to a register is told without a look at all of

@@ -52,7 +52,6 @@ pub(crate) struct Flow {
 }
 
 /// The values that go along all edges, and to what is accepted.
-#[derive(Drop)]
 pub(crate) struct Flows {
     alloc: Global,
     keys: IndexSet<u64>,
@@ -62,6 +61,19 @@ pub(crate) struct Flows {
     pub(crate) edges: Vec<Vec<Flow>>,
     /// Those to the values of what each state accepts, which are slots of no state.
     pub(crate) accepts: Vec<Vec<Move>>,
+}
+
+impl Drop for Flows {
+    fn drop(self) {
+        let Self {
+            alloc: _,
+            keys: _,
+            slots: _,
+            marks: _,
+            edges: _,
+            accepts: _,
+        } = self;
+    }
 }
 
 /// A number for a register or an m-register: that of a register is even.
@@ -118,22 +130,32 @@ impl Flows {
         Ok(place)
     }
 
+    /// From where a value comes that an outcome at a state takes from there.
+    fn source(&mut self, state: u32, outcome: &Outcome) -> Result<Source, Memory> {
+        let held = match outcome {
+            Outcome::Offset => return Ok(Source::Offset),
+            Outcome::Unset => return Ok(Source::Nothing),
+            Outcome::Register(reg) => Held::Reg(*reg),
+            Outcome::History(mreg, _) => Held::MReg(*mreg),
+        };
+        let place = self.slot(state, held)?;
+        Ok(Source::Slot(place))
+    }
+
+    /// The place of the marks of an outcome among the lists of marks.
+    fn marks_of(&mut self, outcome: Outcome) -> Result<usize, Memory> {
+        let marks = match outcome {
+            Outcome::History(_, marks) => marks.into_vec(),
+            _ => Vec::new(self.alloc),
+        };
+        let (place, _) = self.marks.insert_full(marks)?;
+        Ok(place)
+    }
+
     /// What comes to a slot by an outcome at a state.
     fn step(&mut self, state: u32, target: usize, outcome: Outcome) -> Result<Move, Memory> {
-        let alloc = self.alloc;
-        let (source, marks) = match outcome {
-            Outcome::Offset => (Source::Offset, Vec::new(alloc)),
-            Outcome::Unset => (Source::Nothing, Vec::new(alloc)),
-            Outcome::Register(reg) => (
-                Source::Slot(self.slot(state, Held::Reg(reg))?),
-                Vec::new(alloc),
-            ),
-            Outcome::History(mreg, marks) => (
-                Source::Slot(self.slot(state, Held::MReg(mreg))?),
-                marks.into_vec(),
-            ),
-        };
-        let (marks, _) = self.marks.insert_full(marks)?;
+        let source = self.source(state, &outcome)?;
+        let marks = self.marks_of(outcome)?;
         Ok(Move {
             target,
             source,
@@ -141,7 +163,20 @@ impl Flows {
         })
     }
 
-    /// What comes to some registers at a state by two lists, of which one is that of the state before.
+    /// What comes to a register at a state by two lists, of which one is that of the state before.
+    fn move_to(
+        &mut self,
+        state: u32,
+        to: u32,
+        lists: (&Effects<'_>, &Effects<'_>),
+        held: Held,
+    ) -> Result<Move, Memory> {
+        let target = self.slot(to, held)?;
+        let outcome = outcome_of(self.alloc, lists.0, lists.1, held)?;
+        self.step(state, target, outcome)
+    }
+
+    /// The same of some registers.
     fn moves(
         &mut self,
         state: u32,
@@ -151,10 +186,7 @@ impl Flows {
     ) -> Result<Vec<Move>, Memory> {
         let mut moves = Vec::new(self.alloc);
         for held in registers {
-            let outcome = outcome_of(self.alloc, lists.0, lists.1, *held)?;
-            let target = self.slot(to, *held)?;
-            let step = self.step(state, target, outcome)?;
-            moves.push(step)?;
+            moves.push(self.move_to(state, to, lists, *held)?)?;
         }
         Ok(moves)
     }

@@ -1,13 +1,13 @@
 //! Graphs over numbers.
-ghost use Rattle.std.specs.Prelude.{◌≡◌, ℕ, ◌<◌, [], length, replicate, IfOk, OnOk};
+ghost use Rattle.std.specs.Prelude.{◌≡◌, ℕ, ◌<◌, length, IfOk, OnOk};
 ghost use Rattle.lx_regs.specs.Graphs.{AreNeighbours, IsGraph, Joins, list_at, put_at, size_of};
 
+use crate::lists::empty_lists;
 use indexmap::IndexSet;
 use lx_base::{Memory, Sequence};
 use std::alloc::Global;
 
 /// A graph over the numbers from 0 to below a bound.
-#[derive(Drop)]
 pub(crate) struct Graph {
     /// The pairs of neighbours, the lesser one first.
     pairs: IndexSet<(u32, u32)>,
@@ -15,15 +15,13 @@ pub(crate) struct Graph {
     neighbours: Vec<Sequence<u32>>,
 }
 
-/// So many empty lists.
-fn empty_lists(alloc: Global, count: usize) -> Result<Vec<Sequence<u32>>, Memory>
-    ensures { IfOk result (λ lists. lists.items ≡ replicate count []) }
-{
-    let mut lists = Vec::new(alloc);
-    for _ in 0..count {
-        lists.push(Sequence::new(alloc))?;
+impl Drop for Graph {
+    fn drop(self) {
+        let Self {
+            pairs: _,
+            neighbours: _,
+        } = self;
     }
-    Ok(lists)
 }
 
 /// Puts an item at the end of the list with this number.

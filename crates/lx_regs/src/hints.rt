@@ -10,7 +10,6 @@ use lx_base::Memory;
 use std::alloc::Global;
 
 /// The names of values at all states, and for slots the names of values to which they go.
-#[derive(Drop)]
 pub(crate) struct Hints {
     /// The names of values.
     pub(crate) table: NameTable,
@@ -23,6 +22,19 @@ pub(crate) struct Hints {
     pub(crate) of: Vec<Option<Held>>,
     /// Of how many slots it is known.
     known: usize,
+}
+
+impl Drop for Hints {
+    fn drop(self) {
+        let Self {
+            table: _,
+            named: _,
+            free_regs: _,
+            free_mregs: _,
+            of: _,
+            known: _,
+        } = self;
+    }
 }
 
 /// What is kept at a place, if something is.
@@ -48,6 +60,19 @@ impl Hints {
                 name
             }
         }
+    }
+
+    /// The names.
+    pub(crate) fn into_table(self) -> NameTable {
+        let Self {
+            table,
+            named: _,
+            free_regs: _,
+            free_mregs: _,
+            of: _,
+            known: _,
+        } = self;
+        table
     }
 
     /// Gives a register its name for all states, if it has none yet: that of one that is alike, or a new one.

@@ -12,12 +12,20 @@ use lx_base::Memory;
 use std::alloc::Global;
 
 /// The groups of an automaton's accepting states.
-#[derive(Drop)]
 pub(crate) struct LeftGroups {
     /// For each state the number of its group, counted from 1, or 0 where it does not accept.
     pub numbers: Vec<u32>,
     /// For each group what holds the values.
     lists: IndexSet<Vec<Key>>,
+}
+
+impl Drop for LeftGroups {
+    fn drop(self) {
+        let Self {
+            numbers: _,
+            lists: _,
+        } = self;
+    }
 }
 
 /// What holds values, as keys.
@@ -66,6 +74,14 @@ pub(crate) fn groups_of(alloc: Global, auto: &Auto) -> Result<LeftGroups, Memory
 }
 
 impl LeftGroups {
+    /// The group of each state.
+    pub(crate) fn into_numbers(self) -> Vec<u32>
+        ensures { result ≡ self.numbers }
+    {
+        let Self { numbers, lists: _ } = self;
+        numbers
+    }
+
     /// What holds the values of a group, as keys. It takes no memory.
     pub(crate) fn keys(&self, group: u32) -> &[Key]
         ensures { result.now ≡ keys_in (lists_of self.now.lists.keys) group }

@@ -22,6 +22,7 @@ mod kept_lists;
 mod keys;
 pub mod laws;
 mod left_groups;
+mod lists;
 mod live;
 mod merging;
 mod name_tables;

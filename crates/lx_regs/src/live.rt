@@ -1,5 +1,5 @@
 //! Which registers are live behind the edges of an automaton.
-ghost use Rattle.std.specs.Prelude.{◌≡◌, ◌↔◌, ℕ, ◌<◌, None, [], Contains, IfOk, IsTrue, OnOk, length, map, replicate, slice_index};
+ghost use Rattle.std.specs.Prelude.{◌≡◌, ◌↔◌, ℕ, ◌<◌, None, Contains, IfOk, IsTrue, OnOk, length, map, slice_index};
 ghost use Rattle.lx_auto.specs.Automaton.{IsAuto, state_of};
 ghost use Rattle.lx_regs.specs.Keys.{held_of};
 ghost use Rattle.lx_regs.specs.LeftGroups.{AreGroups, lists_of};
@@ -13,6 +13,7 @@ use crate::found::Found;
 use crate::items::{Item, live_items, may_be_left};
 use crate::keys::{Key, held_of};
 use crate::left_groups::{LeftGroups, groups_of};
+use crate::lists::empty_lists;
 use crate::reached::{Pair, reached_pairs};
 use lx_auto::{Auto, Edge, Held};
 use lx_base::{Memory, Sequence};
@@ -27,7 +28,6 @@ pub(crate) struct Usage {
 }
 
 /// What is live in an automaton.
-#[derive(Drop)]
 pub(crate) struct Liveness {
     /// For each state the number of its group, counted from 1, or 0 where it does not accept.
     numbers: Vec<u32>,
@@ -39,15 +39,15 @@ pub(crate) struct Liveness {
     usages: Vec<Sequence<Usage>>,
 }
 
-/// So many empty lists.
-fn empty_lists(alloc: Global, count: usize) -> Result<Vec<Sequence<Usage>>, Memory>
-    ensures { IfOk result (λ lists. lists.items ≡ replicate count []) }
-{
-    let mut lists = Vec::new(alloc);
-    for _ in 0..count {
-        lists.push(Sequence::new(alloc))?;
+impl Drop for Liveness {
+    fn drop(self) {
+        let Self {
+            numbers: _,
+            pairs: _,
+            marks: _,
+            usages: _,
+        } = self;
     }
-    Ok(lists)
 }
 
 /// For each state what is live there.
@@ -120,7 +120,7 @@ pub(crate) fn liveness_of(alloc: Global, auto: &Auto) -> Result<Liveness, Memory
     let (pairs, marks) = pairs_and_marks(alloc, auto, &groups.numbers)?;
     let usages = usages_of(alloc, auto, &groups, &pairs)?;
     Ok(Liveness {
-        numbers: groups.numbers,
+        numbers: groups.into_numbers(),
         pairs,
         marks,
         usages,

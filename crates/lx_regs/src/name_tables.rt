@@ -10,7 +10,6 @@ use lx_base::Memory;
 use std::alloc::Global;
 
 /// Names for registers: some have one name at all states, others a name at each state. Who has none keeps its number.
-#[derive(Drop)]
 pub(crate) struct NameTable {
     /// The names of registers at all states.
     pub(crate) fixed_regs: IndexMap<u32, u32>,
@@ -20,6 +19,17 @@ pub(crate) struct NameTable {
     pub(crate) regs: IndexMap<u64, u32>,
     /// The names of m-registers, by state and number.
     pub(crate) mregs: IndexMap<u64, u32>,
+}
+
+impl Drop for NameTable {
+    fn drop(self) {
+        let Self {
+            fixed_regs: _,
+            fixed_mregs: _,
+            regs: _,
+            mregs: _,
+        } = self;
+    }
 }
 
 /// Where the name of a register at a state is kept.

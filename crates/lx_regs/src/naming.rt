@@ -39,7 +39,6 @@ pub(crate) fn slots_by_state(alloc: Global, flows: &Flows) -> Result<Vec<Vec<usi
 }
 
 /// Names, as they are given.
-#[derive(Drop)]
 struct Namer<'a> {
     /// The hints, with the table in which names are noted.
     hints: &'a mut Hints,
@@ -51,6 +50,18 @@ struct Namer<'a> {
     taken: IndexSet<u32>,
     /// The class at a state that gets the name of a value, by the code of this.
     first: IndexMap<u32, usize>,
+}
+
+impl Drop for Namer<'_> {
+    fn drop(self) {
+        let Self {
+            hints: _,
+            webs: _,
+            names: _,
+            taken: _,
+            first: _,
+        } = self;
+    }
 }
 
 impl<'a> Namer<'a> {

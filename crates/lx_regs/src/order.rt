@@ -13,10 +13,15 @@ pub(crate) struct Met {
 }
 
 /// The states as a search meets them.
-#[derive(Drop)]
 pub(crate) struct Order {
     pub(crate) met: Vec<Met>,
     seen: IndexSet<usize>,
+}
+
+impl Drop for Order {
+    fn drop(self) {
+        let Self { met: _, seen: _ } = self;
+    }
 }
 
 impl Order {

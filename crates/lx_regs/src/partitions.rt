@@ -31,7 +31,6 @@ struct Step {
 }
 
 /// The registers of one sort in classes.
-#[derive(Drop)]
 pub(crate) struct Partition {
     /// The class of each register, by its number.
     pub(crate) of: Vec<usize>,
@@ -41,6 +40,17 @@ pub(crate) struct Partition {
     written: usize,
     /// How many classes these have.
     kept: usize,
+}
+
+impl Drop for Partition {
+    fn drop(self) {
+        let Self {
+            of: _,
+            firsts: _,
+            written: _,
+            kept: _,
+        } = self;
+    }
 }
 
 impl Partition {
@@ -62,8 +72,12 @@ impl Partition {
     }
 
     /// Puts registers into one class for each sign, by first occurrence. Signs from a number on are those of registers that are written.
-    fn put_all(&mut self, alloc: Global, signs: &[usize], from: usize) -> Result<(), Memory> {
-        let mut seen: IndexSet<usize> = IndexSet::new(alloc);
+    fn put_all(
+        &mut self,
+        seen: &mut IndexSet<usize>,
+        signs: &[usize],
+        from: usize,
+    ) -> Result<(), Memory> {
         for (number, sign) in signs.iter().enumerate() {
             let (class, is_new) = seen.insert_full(*sign)?;
             self.put(number, class, is_new)?;
@@ -76,10 +90,15 @@ impl Partition {
 }
 
 /// Registers and m-registers in classes.
-#[derive(Drop)]
 pub(crate) struct Partitions {
     pub(crate) regs: Partition,
     pub(crate) mregs: Partition,
+}
+
+impl Drop for Partitions {
+    fn drop(self) {
+        let Self { regs: _, mregs: _ } = self;
+    }
 }
 
 /// A number as one of 32 bits, or the greatest of these.
@@ -91,13 +110,13 @@ pub(crate) fn narrow(number: usize) -> u32 {
     }
 }
 
-/// As many registers as there are, in one class.
-fn one_class(alloc: Global, count: u32) -> Result<Vec<usize>, Memory> {
-    let mut of = Vec::new(alloc);
+/// So many zeros.
+fn zeros(alloc: Global, count: u32) -> Result<Vec<usize>, Memory> {
+    let mut numbers = Vec::new(alloc);
     for _ in 0..count {
-        of.push(0)?;
+        numbers.push(0)?;
     }
-    Ok(of)
+    Ok(numbers)
 }
 
 /// One class for each sign, by first occurrence. Signs from a number on are those of registers that are written.
@@ -108,7 +127,8 @@ fn partition_of(alloc: Global, signs: &[usize], from: usize) -> Result<Partition
         written: 0,
         kept: 0,
     };
-    partition.put_all(alloc, signs, from)?;
+    let mut seen = IndexSet::new(alloc);
+    partition.put_all(&mut seen, signs, from)?;
     Ok(partition)
 }
 
@@ -170,7 +190,6 @@ fn put(signs: &mut Vec<usize>, place: usize, sign: usize) {
 }
 
 /// A round over the lists of an automaton.
-#[derive(Drop)]
 struct Round<'a> {
     alloc: Global,
     /// The classes before the round.
@@ -180,6 +199,18 @@ struct Round<'a> {
     mregs: Vec<usize>,
     /// More than all signs that were given before the current list.
     next: usize,
+}
+
+impl Drop for Round<'_> {
+    fn drop(self) {
+        let Self {
+            alloc: _,
+            partitions: _,
+            regs: _,
+            mregs: _,
+            next: _,
+        } = self;
+    }
 }
 
 impl<'a> Round<'a> {
@@ -226,6 +257,35 @@ impl<'a> Round<'a> {
             None => Ok(()),
         }
     }
+
+    /// The same by the lists of all states.
+    fn split_by_states(&mut self, states: &[State]) -> Result<(), Memory> {
+        for state in states {
+            self.split_by_state(state)?;
+        }
+        Ok(())
+    }
+
+    /// The classes behind the round.
+    fn classes(&self) -> Result<Partitions, Memory> {
+        let from = self.partitions.count();
+        let regs = partition_of(self.alloc, self.regs.as_slice(), from)?;
+        let mregs = partition_of(self.alloc, self.mregs.as_slice(), from)?;
+        Ok(Partitions { regs, mregs })
+    }
+}
+
+/// A round before which registers are told by their classes.
+fn round_of(alloc: Global, partitions: &Partitions) -> Result<Round<'_>, Memory> {
+    let regs = Vec::from_slice(alloc, partitions.regs.of.as_slice())?;
+    let mregs = Vec::from_slice(alloc, partitions.mregs.of.as_slice())?;
+    Ok(Round {
+        alloc,
+        partitions,
+        regs,
+        mregs,
+        next: partitions.count(),
+    })
 }
 
 /// The classes behind a round.
@@ -234,21 +294,9 @@ fn classes_behind(
     auto: &Auto,
     partitions: &Partitions,
 ) -> Result<Partitions, Memory> {
-    let from = partitions.count();
-    let mut round = Round {
-        alloc,
-        partitions,
-        regs: Vec::from_slice(alloc, partitions.regs.of.as_slice())?,
-        mregs: Vec::from_slice(alloc, partitions.mregs.of.as_slice())?,
-        next: from,
-    };
-    for state in auto.states.as_slice() {
-        round.split_by_state(state)?;
-    }
-    Ok(Partitions {
-        regs: partition_of(alloc, round.regs.as_slice(), from)?,
-        mregs: partition_of(alloc, round.mregs.as_slice(), from)?,
-    })
+    let mut round = round_of(alloc, partitions)?;
+    round.split_by_states(auto.states.as_slice())?;
+    round.classes()
 }
 
 /// Splits classes until they are told. The answer is whether that is so soon, and at most half of what is written is left.
@@ -267,14 +315,17 @@ fn settle(alloc: Global, auto: &Auto, partitions: &mut Partitions) -> Result<boo
     Ok(false)
 }
 
+/// As many registers as there are, in one class.
+fn one_class(alloc: Global, count: u32) -> Result<Partition, Memory> {
+    let signs = zeros(alloc, count)?;
+    partition_of(alloc, signs.as_slice(), 1)
+}
+
 /// All registers of a sort in one class.
 fn one_class_each(alloc: Global, auto: &Auto) -> Result<Partitions, Memory> {
     let regs = one_class(alloc, auto.regs)?;
     let mregs = one_class(alloc, auto.mregs)?;
-    Ok(Partitions {
-        regs: partition_of(alloc, regs.as_slice(), 1)?,
-        mregs: partition_of(alloc, mregs.as_slice(), 1)?,
-    })
+    Ok(Partitions { regs, mregs })
 }
 
 /// The registers in classes of which the members hold the same, if rounds tell them soon and at most half of what is written is left.

@@ -88,7 +88,7 @@ fn names_by(
 ) -> Result<NameTable, Memory> {
     let mut hints = hints_by(alloc, given, flows, order, equal)?;
     note_names_by(alloc, flows, order, equal, &mut hints)?;
-    Ok(hints.table)
+    Ok(hints.into_table())
 }
 
 /// The names of registers at all states, in this order.

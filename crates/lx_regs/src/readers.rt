@@ -17,11 +17,16 @@ const SHORT: usize = 8;
 
 /// Operations that act at once, with an index where there are many of them: what they read for a register is told without a look at
 /// all of them. Contracts see the list.
-#[derive(Drop)]
 pub(crate) struct Reader<'a> {
     ops: &'a [Op],
     /// For each register that is written what is read for it, if something is.
     index: Option<IndexMap<Key, Option<Key>>>,
+}
+
+impl Drop for Reader<'_> {
+    fn drop(self) {
+        let Self { ops: _, index: _ } = self;
+    }
 }
 
 impl<'a> Model for Reader<'a> {

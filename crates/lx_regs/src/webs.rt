@@ -18,10 +18,15 @@ struct Cell {
 }
 
 /// The cells of classes, and how many classes each cell has.
-#[derive(Drop)]
 struct Cells {
     of: Vec<Option<Cell>>,
     counts: IndexMap<Cell, usize>,
+}
+
+impl Drop for Cells {
+    fn drop(self) {
+        let Self { of: _, counts: _ } = self;
+    }
 }
 
 impl Cells {

@@ -60,16 +60,22 @@ impl<'a> Writer<'a> {
         })
     }
 
+    /// Notes what a register of the answer gets by a move, unless something is noted of it.
+    fn note(&self, settings: &mut Settings, step: Move) -> Result<(), Memory> {
+        if let Some(setting) = self.setting(step) {
+            let code = code_of(setting.target);
+            if settings.get(&code).is_none() {
+                settings.insert(code, setting)?;
+            }
+        }
+        Ok(())
+    }
+
     /// What registers of the answer get by moves, each once.
     fn settings(&self, moves: &[Move]) -> Result<Settings, Memory> {
         let mut settings = IndexMap::new(self.alloc);
         for step in moves {
-            if let Some(setting) = self.setting(*step) {
-                let code = code_of(setting.target);
-                if settings.get(&code).is_none() {
-                    settings.insert(code, setting)?;
-                }
-            }
+            self.note(&mut settings, *step)?;
         }
         Ok(settings)
     }
@@ -107,9 +113,8 @@ impl<'a> Writer<'a> {
         }
     }
 
-    /// The operations by which registers of the answer get what they get by moves.
-    fn ops(&self, moves: &[Move]) -> Result<Ops, Memory> {
-        let settings = self.settings(moves)?;
+    /// The operations by which registers of the answer get this.
+    fn ops_by(&self, settings: &Settings) -> Result<Ops, Memory> {
         let mut ops = Ops::new(self.alloc);
         for index in 0..settings.len() {
             if let Some((_, setting)) = settings.get_index(index) {
@@ -119,20 +124,35 @@ impl<'a> Writer<'a> {
         Ok(ops)
     }
 
+    /// The operations by which registers of the answer get what they get by moves.
+    fn ops(&self, moves: &[Move]) -> Result<Ops, Memory> {
+        let settings = self.settings(moves)?;
+        self.ops_by(&settings)
+    }
+
+    /// The operations of an edge of the answer.
+    fn ops_along(&self, flow: Option<&Flow>) -> Result<Ops, Memory> {
+        match flow {
+            Some(flow) => self.ops(flow.moves.as_slice()),
+            None => Ok(Ops::new(self.alloc)),
+        }
+    }
+
+    /// An edge of the answer.
+    fn edge(&self, edge: &Edge, flow: Option<&Flow>) -> Result<Edge, Memory> {
+        Ok(Edge {
+            lo: edge.lo,
+            hi: edge.hi,
+            ops: self.ops_along(flow)?,
+            to: edge.to,
+        })
+    }
+
     /// The edges of a state of the answer.
     fn edges(&self, edges: &[Edge], flows: &[Flow]) -> Result<Sequence<Edge>, Memory> {
         let mut others = Sequence::new(self.alloc);
         for (place, edge) in edges.iter().enumerate() {
-            let ops = match flows.get(place) {
-                Some(flow) => self.ops(flow.moves.as_slice())?,
-                None => Ops::new(self.alloc),
-            };
-            others.push(Edge {
-                lo: edge.lo,
-                hi: edge.hi,
-                ops,
-                to: edge.to,
-            })?;
+            others.push(self.edge(edge, flows.get(place))?)?;
         }
         Ok(others)
     }
@@ -147,7 +167,7 @@ impl<'a> Writer<'a> {
     }
 
     /// What a state of the answer accepts.
-    fn accept(&self, accept: &Accept, moves: &[Move]) -> Result<Accept, Memory> {
+    fn accepted(&self, accept: &Accept, moves: &[Move]) -> Result<Accept, Memory> {
         Ok(Accept {
             rule: accept.rule,
             ops: self.ops(moves)?,
@@ -155,14 +175,19 @@ impl<'a> Writer<'a> {
         })
     }
 
+    /// The same, if it accepts.
+    fn accept(&self, accept: &Option<Accept>, moves: &[Move]) -> Result<Option<Accept>, Memory> {
+        match accept {
+            Some(accept) => Ok(Some(self.accepted(accept, moves)?)),
+            None => Ok(None),
+        }
+    }
+
     /// A state of the answer.
     fn state(&self, state: &State, flows: &[Flow], moves: &[Move]) -> Result<State, Memory> {
         Ok(State {
             edges: self.edges(state.edges.as_slice(), flows)?,
-            accept: match &state.accept {
-                Some(accept) => Some(self.accept(accept, moves)?),
-                None => None,
-            },
+            accept: self.accept(&state.accept, moves)?,
             leave: Ops::new(self.alloc),
         })
     }

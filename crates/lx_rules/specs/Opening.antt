@@ -1,13 +1,27 @@
 -- What the code knows before the items of a block.
-use Rattle.std.specs.Prelude.{ℕ, ◌≤◌, length}
+use Rattle.std.specs.Prelude.{ℕ, ◌≤◌, length, true}
 use Rattle.lx_base.specs.declared.blocks.BlockKind.{BlockKind}
 use Rattle.lx_base.specs.declared.blocks.BlockKind.TheVariants as block
 use Rattle.lx_base.specs.declared.limits.TheConstants.{SOURCE_LIMIT}
+use Rattle.lx_rules.specs.declared.environment.Env.{Env}
+use Rattle.lx_rules.specs.declared.environment.KeptBlock.{KeptBlock}
 use Rattle.lx_rules.specs.declared.items.Known.{Known}
 use Rattle.lx_rules.specs.Environments.{Environment}
 use Rattle.lx_rules.specs.Items.{first_state}
 use Rattle.lx_rules.specs.Keeping.{Holds}
 use Rattle.lx_rules.specs.Represents.{IsBefore}
+
+-- what is known before the items of a block that takes this over from a rules block
+abbrev pub known_over : (before : Env) → (taken : KeptBlock) → Known
+known_over before taken = record {
+  before = before;
+  is_use = true;
+  own = taken.definitions;
+  settings = taken.settings;
+  rules = taken.rules;
+  acts = taken.acts;
+  conds = taken.conds;
+}
 
 -- so many rules a block of this kind has at most before its items
 abbrev pub most_before : BlockKind → ℕ

@@ -206,12 +206,20 @@ pub(crate) enum Conds {
 }
 
 /// The conditions so far, each with a number: its place in the order in which they first appear, from 0. That of `<*>` has none.
-#[derive(Drop)]
 pub(crate) struct Conditions {
     /// Their names, and what is kept of the rules of each.
     named: IndexMap<Vec<u8>, KeptCondition>,
     /// What is kept of the rules of `<*>`.
     shared: KeptCondition,
+}
+
+impl Drop for Conditions {
+    fn drop(self) {
+        let Self {
+            named: _,
+            shared: _,
+        } = self;
+    }
 }
 
 impl Conditions {

@@ -5,6 +5,7 @@ ghost use Rattle.lx_rules.specs.Environments.{Environment, config_of, first_envi
 ghost use Rattle.lx_rules.specs.Represents.{Represents};
 
 use crate::conditions::Conditions;
+use crate::items::Known;
 use crate::kept::KeptRule;
 use crate::resolved::Act;
 use lx_base::{ByteText, Memory, Names, usual_names};
@@ -137,7 +138,6 @@ impl Settings {
 }
 
 /// What is kept of a rules block.
-#[derive(Drop)]
 pub(crate) struct KeptBlock {
     pub definitions: Definitions,
     pub settings: Settings,
@@ -149,16 +149,78 @@ pub(crate) struct KeptBlock {
     pub conds: Conditions,
 }
 
+impl Drop for KeptBlock {
+    fn drop(self) {
+        let Self {
+            definitions: _,
+            settings: _,
+            rules: _,
+            acts: _,
+            conds: _,
+        } = self;
+    }
+}
+
+impl KeptBlock {
+    ghost use Rattle.std.specs.Prelude.{◌≡◌};
+    ghost use Rattle.lx_rules.specs.Opening.{known_over};
+
+    /// What is known before the items of a block that takes this over.
+    pub fn into_known(self, before: Env) -> Known
+        ensures { result ≡ known_over before self }
+    {
+        let Self {
+            definitions,
+            settings,
+            rules,
+            acts,
+            conds,
+        } = self;
+        Known {
+            before,
+            is_use: true,
+            own: definitions,
+            settings,
+            rules,
+            acts,
+            conds,
+        }
+    }
+}
+
 /// What holds behind a block for the blocks after it: its definitions, its configuration, and the last rules block. Contracts see
 /// what it represents.
-#[derive(Drop)]
 pub struct Env {
     pub(crate) definitions: Definitions,
     pub(crate) settings: Settings,
     pub(crate) kept: Option<KeptBlock>,
 }
 
+impl Drop for Env {
+    fn drop(self) {
+        let Self {
+            definitions: _,
+            settings: _,
+            kept: _,
+        } = self;
+    }
+}
+
 impl Env {
+    /// The definitions, the settings, and the last rules block, if there is one.
+    pub(crate) fn into_parts(self) -> (Definitions, Settings, Option<KeptBlock>)
+        ensures definitions { result.0 ≡ self.definitions }
+        ensures settings { result.1 ≡ self.settings }
+        ensures kept { result.2 ≡ self.kept }
+    {
+        let Self {
+            definitions,
+            settings,
+            kept,
+        } = self;
+        (definitions, settings, kept)
+    }
+
     /// What holds before the first block: no definitions, and the default configuration. It takes no memory.
     pub fn new(alloc: Global) -> Env
         ensures { Represents result first_environment }

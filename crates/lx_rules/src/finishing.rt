@@ -7,7 +7,7 @@ ghost use Rattle.lx_rules.specs.Blocks.{BlockChecks, HasRules, IsResolvedAs, May
 ghost use Rattle.lx_rules.specs.Conditions.{cond_names};
 ghost use Rattle.lx_rules.specs.Environments.{Environment, config_of};
 ghost use Rattle.lx_rules.specs.FitScanners.{FitsLimits};
-ghost use Rattle.lx_rules.specs.Finishing.{IsFinished, IsBuiltScanner, WholeChecks, env_keeping, env_left, kept_targets_fault};
+ghost use Rattle.lx_rules.specs.Finishing.{IsFinished, IsBuiltScanner, WholeChecks, kept_targets_fault};
 ghost use Rattle.lx_rules.specs.Items.{State};
 ghost use Rattle.lx_rules.specs.Keeping.{Holds};
 ghost use Rattle.lx_rules.specs.Opening.{most_before};
@@ -17,7 +17,7 @@ ghost use Rattle.lx_rules.specs.Seen.{rules_view, settings_view};
 ghost use Rattle.lx_exprs.specs.Checks.{Finds, StopsAt};
 
 use crate::conditions::Conditions;
-use crate::environment::{Env, KeptBlock, Settings};
+use crate::environment::{Env, Settings};
 use crate::items::Known;
 use crate::kept::KeptRule;
 use crate::resolved::{Act, Config, Resolved, Scanner};
@@ -178,32 +178,6 @@ fn config(alloc: Global, known: &Known) -> Result<Config, Memory>
     Ok(Config { names, eof, fill })
 }
 
-/// What holds behind a rules block, with what is kept of it.
-fn keep(known: Known) -> Env
-    ensures { result ≡ env_keeping known }
-{
-    let Known {
-        before,
-        own,
-        settings,
-        rules,
-        acts,
-        conds,
-        ..
-    } = known;
-    Env {
-        definitions: before.definitions,
-        settings: before.settings,
-        kept: Some(KeptBlock {
-            definitions: own,
-            settings,
-            rules,
-            acts,
-            conds,
-        }),
-    }
-}
-
 /// What a rules block resolves to.
 fn rules_resolved(alloc: Global, known: &Known, at: Pos) -> Result<Resolved, Stop>
     ensures { (state : State) → Holds known.now state → MatchResult result
@@ -235,21 +209,7 @@ fn finish_rules(
         (StopsAt (BlockChecks options.now.custom block.Rules at state)) }
 {
     let resolved = rules_resolved(alloc, &known, at)?;
-    Ok((keep(known), resolved))
-}
-
-/// What holds behind a block of scanners: what it knows, or what held before a block that uses a rules block.
-fn leave(before: Env, is_use: bool, own: Definitions, settings: Settings) -> Env
-    ensures { result ≡ env_left before is_use own settings }
-{
-    if is_use {
-        return before;
-    }
-    Env {
-        definitions: own,
-        settings,
-        kept: before.kept,
-    }
+    Ok((known.into_kept(), resolved))
 }
 
 /// What a block of scanners resolves to, and what holds behind it.
@@ -270,20 +230,13 @@ fn finish_scanners(
 {
     let config = config(alloc, &known)?;
     let scanners = checked_scanners(alloc, &known, &config.names, options, at)?;
-    let Known {
-        before,
-        is_use,
-        own,
-        settings,
-        acts,
-        ..
-    } = known;
+    let (env, acts) = known.into_left();
     let resolved = Resolved {
         scanners,
         acts: Sequence::from_vec(acts),
         config,
     };
-    Ok((leave(before, is_use, own, settings), resolved))
+    Ok((env, resolved))
 }
 
 /// What the block of this kind resolves to whose opener stands at this place, and what holds behind it.

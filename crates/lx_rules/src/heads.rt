@@ -30,7 +30,6 @@ use lx_regex::Kind;
 use std::alloc::Global;
 
 /// The head of a rule.
-#[derive(Drop)]
 pub(crate) enum Head {
     /// `*`
     Default(RuleExpr),
@@ -38,6 +37,16 @@ pub(crate) enum Head {
     End,
     /// An expression.
     Plain(RuleExpr),
+}
+
+impl Drop for Head {
+    fn drop(self) {
+        match self {
+            Self::Default(_) => {}
+            Self::End => {}
+            Self::Plain(_) => {}
+        }
+    }
 }
 
 impl Head {

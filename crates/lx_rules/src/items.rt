@@ -5,7 +5,7 @@ ghost use Rattle.lx_base.specs.declared.limits.TheConstants.{SOURCE_LIMIT};
 use crate::acts::{act, check_target, target_place};
 use crate::conditions::Conditions;
 use crate::configurations::read_config;
-use crate::environment::{Env, Settings};
+use crate::environment::{Env, KeptBlock, Settings};
 use crate::heads::{Head, read_head};
 use crate::kept::KeptRule;
 use crate::lists::{check_list, rule_conditions};
@@ -29,7 +29,6 @@ pub(crate) struct Block<'b> {
 }
 
 /// What is known behind some items of a block.
-#[derive(Drop)]
 pub(crate) struct Known {
     /// What holds before the block, but for definitions that it takes over.
     pub before: Env,
@@ -44,6 +43,20 @@ pub(crate) struct Known {
     pub acts: Vec<Act>,
     /// Their conditions.
     pub conds: Conditions,
+}
+
+impl Drop for Known {
+    fn drop(self) {
+        let Self {
+            before: _,
+            is_use: _,
+            own: _,
+            settings: _,
+            rules: _,
+            acts: _,
+            conds: _,
+        } = self;
+    }
 }
 
 impl Known {
@@ -63,6 +76,60 @@ impl Known {
     ghost use Rattle.lx_rules.specs.Environments.{config_of};
     ghost use Rattle.lx_rules.specs.Seen.{known_definitions, settings_view, used_definitions};
     ghost use Rattle.lx_rules.specs.FitScanners.{HasFitDefinitions};
+    ghost use Rattle.lx_rules.specs.Finishing.{env_keeping, env_left};
+
+    /// What holds behind a rules block, with what is kept of it.
+    pub fn into_kept(self) -> Env
+        ensures { result ≡ env_keeping self }
+    {
+        let Self {
+            before,
+            is_use: _,
+            own,
+            settings,
+            rules,
+            acts,
+            conds,
+        } = self;
+        let (earlier, defaults, _kept) = before.into_parts();
+        Env {
+            definitions: earlier,
+            settings: defaults,
+            kept: Some(KeptBlock {
+                definitions: own,
+                settings,
+                rules,
+                acts,
+                conds,
+            }),
+        }
+    }
+
+    /// What holds behind a block of scanners: what it knows, or what held before a block that uses a rules block. With it comes what the rules do.
+    pub fn into_left(self) -> (Env, Vec<Act>)
+        ensures env { result.0 ≡ env_left self.before self.is_use self.own self.settings }
+        ensures acts { result.1 ≡ self.acts }
+    {
+        let Self {
+            before,
+            is_use,
+            own,
+            settings,
+            rules: _,
+            acts,
+            conds: _,
+        } = self;
+        if is_use {
+            return (before, acts);
+        }
+        let (_definitions, _settings, kept) = before.into_parts();
+        let env = Env {
+            definitions: own,
+            settings,
+            kept,
+        };
+        (env, acts)
+    }
 
     /// The definitions of the rules block that is used, if there is one.
     fn used(&self) -> Option<&Definitions>
@@ -201,13 +268,14 @@ impl Known {
         ensures added { (state : State) (rule : RuleOf) → Holds self.old state → IsNew self.old (map (λ cond. cond.now) conds.now) head at target act rule
             → OnOk result (Holds self.new (with_rule state rule)) }
     {
-        let standing = head.standing(act.number, at);
+        let number = act.number;
+        self.acts.push(act)?;
         let place = self.rules.len();
+        let standing = head.standing(number, at);
         let listed = self.conds.enter(alloc, conds, place, standing)?;
-        let mut rule = head.into_rule(alloc, act.number, listed, at);
+        let mut rule = head.into_rule(alloc, number, listed, at);
         rule.target = target;
         self.rules.push(Rc::new(alloc, rule)?)?;
-        self.acts.push(act)?;
         Ok(())
     }
 

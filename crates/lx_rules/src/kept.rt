@@ -8,7 +8,6 @@ use lx_exprs::tags::SharedTags;
 use lx_regex::{Expr, Kind};
 
 /// What is kept of a rule.
-#[derive(Drop)]
 pub(crate) struct KeptRule {
     /// Its number, which is its place in the block, from 1.
     pub number: u32,
@@ -33,6 +32,25 @@ pub(crate) struct KeptRule {
     pub slash: Option<u64>,
     /// Its expression. There is none where the rules of each of its conditions are past a limit.
     pub expr: Option<Expr>,
+}
+
+impl Drop for KeptRule {
+    fn drop(self) {
+        let Self {
+            number: _,
+            conds: _,
+            kind: _,
+            at: _,
+            target: _,
+            size: _,
+            nesting: _,
+            tags: _,
+            groups: _,
+            count: _,
+            slash: _,
+            expr: _,
+        } = self;
+    }
 }
 
 impl KeptRule {

@@ -1,15 +1,16 @@
 //! What is known before the items of a block.
-ghost use Rattle.std.specs.Prelude.{◌≡◌, IfOk, MatchResult, None};
+ghost use Rattle.std.specs.Prelude.{◌≡◌, [], IfOk, List, MatchResult, None, ℕ};
 ghost use Rattle.lx_base.specs.declared.blocks.BlockKind.TheVariants.{Code, Rules, Use};
 ghost use Rattle.lx_exprs.specs.Seen.{IsStop};
 ghost use Rattle.lx_rules.specs.Blocks.{HasRules, opening_fault};
-ghost use Rattle.lx_rules.specs.Environments.{Environment};
+ghost use Rattle.lx_rules.specs.Conditions.{cond_names, kept_of};
+ghost use Rattle.lx_rules.specs.Environments.{Environment, settings_over};
 ghost use Rattle.lx_rules.specs.Opening.{IsOpened};
 ghost use Rattle.lx_rules.specs.Represents.{Represents};
-ghost use Rattle.lx_rules.specs.Seen.{rules_view};
+ghost use Rattle.lx_rules.specs.Seen.{rules_view, settings_view};
 
 use crate::conditions::Conditions;
-use crate::environment::{Env, Settings};
+use crate::environment::{Env, KeptBlock, Settings};
 use crate::items::Known;
 use crate::kept::KeptRule;
 use crate::resolved::Act;
@@ -61,11 +62,7 @@ fn open_code(alloc: Global, env: Env) -> Known
     requires { (environment : Environment) × Represents env environment }
     ensures { (environment : Environment) → Represents env environment → IsOpened Code environment result }
 {
-    let Env {
-        definitions,
-        settings,
-        kept,
-    } = env;
+    let (definitions, settings, kept) = env.into_parts();
     Known {
         before: Env {
             definitions: Definitions::new(alloc),
@@ -97,6 +94,29 @@ fn open_rules(alloc: Global, env: Env) -> Known
     }
 }
 
+/// What a block that uses the last rules block takes over of it: its configuration over the one that holds, its rules, what they do, and
+/// their conditions. It has no definitions.
+fn taken_over(alloc: Global, held: &KeptBlock, settings: &Settings) -> Result<KeptBlock, Memory>
+    ensures definitions { IfOk result (λ taken. taken.definitions.by_name.entries ≡ []) }
+    ensures settings { IfOk result (λ taken. settings_view taken.settings ≡ settings_over (settings_view held.now.settings) (settings_view settings.now)) }
+    ensures rules { IfOk result (λ taken. rules_view taken.rules ≡ rules_view held.now.rules) }
+    ensures acts { IfOk result (λ taken. taken.acts.items ≡ held.now.acts.items) }
+    ensures names { IfOk result (λ taken. cond_names taken.conds ≡ cond_names held.now.conds) }
+    ensures kept { IfOk result (λ taken. (cond : List ℕ) → kept_of taken.conds cond ≡ kept_of held.now.conds cond) }
+{
+    let settings = held.settings.over(alloc, settings)?;
+    let rules = shared_rules(alloc, &held.rules)?;
+    let acts = act_copies(alloc, held.acts.as_slice())?;
+    let conds = held.conds.copy(alloc)?;
+    Ok(KeptBlock {
+        definitions: Definitions::new(alloc),
+        settings,
+        rules,
+        acts,
+        conds,
+    })
+}
+
 /// What is known before the items of a block that uses the last rules block.
 fn open_use(alloc: Global, env: Env, at: Pos) -> Result<Known, Stop>
     requires { (environment : Environment) × Represents env environment }
@@ -107,19 +127,8 @@ fn open_use(alloc: Global, env: Env, at: Pos) -> Result<Known, Stop>
     let Some(held) = &env.kept else {
         return Err(Stop::Fault(Fault::NoRulesToUse { at }));
     };
-    let settings = held.settings.over(alloc, &env.settings)?;
-    let rules = shared_rules(alloc, &held.rules)?;
-    let acts = act_copies(alloc, held.acts.as_slice())?;
-    let conds = held.conds.copy(alloc)?;
-    Ok(Known {
-        before: env,
-        is_use: true,
-        own: Definitions::new(alloc),
-        settings,
-        rules,
-        acts,
-        conds,
-    })
+    let taken = taken_over(alloc, held, &env.settings)?;
+    Ok(taken.into_known(env))
 }
 
 /// What is known before the items of a block of this kind, whose opener stands at this place. A block that uses the last rules

@@ -6,15 +6,19 @@ use lx_base::{ByteText, Names, Pos, Sequence};
 use lx_regex::RuleSet;
 
 /// A scanner: the rules that stand under one condition, or all rules of a block where conditions are not in use.
-#[derive(Drop)]
 pub struct Scanner {
     /// The name of the condition.
     pub cond: Option<ByteText>,
     pub set: RuleSet,
 }
 
+impl Drop for Scanner {
+    fn drop(self) {
+        let Self { cond: _, set: _ } = self;
+    }
+}
+
 /// What a rule does where it is entered.
-#[derive(Drop)]
 pub struct Act {
     /// The number of the rule, which is its place in the block, from 1.
     pub number: u32,
@@ -24,6 +28,17 @@ pub struct Act {
     pub code: Option<ByteText>,
     /// The place of the action's `{`, or that of `:=>`.
     pub at: Pos,
+}
+
+impl Drop for Act {
+    fn drop(self) {
+        let Self {
+            number: _,
+            goes: _,
+            code: _,
+            at: _,
+        } = self;
+    }
 }
 
 /// What the rule with a number does, if there is one; rules are numbered from 1, in the order of their actions.

@@ -21,7 +21,6 @@ pub(crate) struct CopyOp {
 }
 
 /// Copies that wait for their turn, by their places in a list.
-#[derive(Drop)]
 struct WaitingCopies {
     copies: Vec<CopyOp>,
     /// The place of the copy into each register.
@@ -34,6 +33,19 @@ struct WaitingCopies {
     readers: BTreeMap<u32, usize>,
     /// The registers whose content is in the spare by now.
     moved: BTreeSet<u32>,
+}
+
+impl Drop for WaitingCopies {
+    fn drop(self) {
+        let Self {
+            copies: _,
+            places: _,
+            waiting: _,
+            ready: _,
+            readers: _,
+            moved: _,
+        } = self;
+    }
 }
 
 /// How many copies read a register.

@@ -55,13 +55,22 @@ impl From<Stop> for ExpandStop {
 }
 
 /// An include, and what it asks for.
-#[derive(Drop)]
 pub struct WantedFile {
     include: IncludeBlock,
     /// The name of its file.
     name: FileName,
     /// The names under which the file is looked for, in order.
     looked_for: Vec<FileName>,
+}
+
+impl Drop for WantedFile {
+    fn drop(self) {
+        let Self {
+            include: _,
+            name: _,
+            looked_for: _,
+        } = self;
+    }
 }
 
 /// A name with these characters.

@@ -21,9 +21,14 @@ pub struct FoundFile<'a> {
 }
 
 /// What is known of files by their names: their bytes, or that there is no such file. What was read once is not read again.
-#[derive(Drop)]
 pub struct Library {
     by_name: IndexMap<Vec<u8>, Option<ByteText>>,
+}
+
+impl Drop for Library {
+    fn drop(self) {
+        let Self { by_name: _ } = self;
+    }
 }
 
 impl Library {

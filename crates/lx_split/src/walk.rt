@@ -15,7 +15,6 @@ use std::alloc::Global;
 use std::collections::VecDeque;
 
 /// A file of which pieces are still to be taken.
-#[derive(Drop)]
 pub struct OpenFile {
     /// These pieces, in order.
     rest: VecDeque<SourcePiece>,
@@ -23,6 +22,30 @@ pub struct OpenFile {
     folder: FileName,
     /// The piece that stands behind its last one, if one does.
     leave: Option<SourcePiece>,
+}
+
+impl Drop for OpenFile {
+    fn drop(self) {
+        let Self {
+            rest: _,
+            folder: _,
+            leave: _,
+        } = self;
+    }
+}
+
+impl OpenFile {
+    /// The piece that stands behind its last one, if one does.
+    fn into_leave(self) -> Option<SourcePiece>
+        ensures { result ≡ self.leave }
+    {
+        let Self {
+            rest: _,
+            folder: _,
+            leave,
+        } = self;
+        leave
+    }
 }
 
 /// The pieces of a source so far, and the files that are open: the main file, then the one that it includes, and so on.
@@ -158,7 +181,7 @@ impl Walk {
     {
         while let Some(mut file) = self.stack.pop() {
             let Some(piece) = file.rest.pop_front() else {
-                self.push_if(file.leave)?;
+                self.push_if(file.into_leave())?;
                 continue;
             };
             self.stack.push(file)?;

@@ -38,7 +38,6 @@ use std::marker::Model;
 ///
 /// A match is made over a window, call by call: the steps of the machine that `specs/Machine.antt` of lx_ccode defines,
 /// where each refill that they ask is answered by a source.
-#[derive(Drop)]
 pub struct Lexer<'p> {
     program: Program<'p>,
     spent: bool,
@@ -49,6 +48,22 @@ pub struct Lexer<'p> {
     tags: TagTable,
     assigned: IndexSet<StmtAt>,
     firsts: Vec<First>,
+}
+
+impl Drop for Lexer<'_> {
+    fn drop(self) {
+        let Self {
+            program: _,
+            spent: _,
+            start: _,
+            steps: _,
+            scanner: _,
+            slots: _,
+            tags: _,
+            assigned: _,
+            firsts: _,
+        } = self;
+    }
 }
 
 impl<'p> Model for Lexer<'p> {
@@ -177,18 +192,29 @@ impl<'p> Lexer<'p> {
         ensures fits { Fits self.entry.piece result }
         ensures back { resumed self.entry.piece result ≡ self.entry }
     {
+        let Self {
+            program,
+            spent,
+            start,
+            steps,
+            scanner,
+            slots,
+            tags,
+            assigned,
+            firsts,
+        } = self;
         Saved {
-            alloc: self.program.alloc,
-            conds: self.program.piece.conds.as_slice().len() as u64,
-            assignments: self.program.assignments,
-            spent: self.spent,
-            start: self.start,
-            steps: self.steps,
-            scanner: self.scanner,
-            slots: self.slots,
-            tags: self.tags,
-            assigned: self.assigned,
-            firsts: self.firsts,
+            alloc: program.alloc,
+            conds: program.piece.conds.as_slice().len() as u64,
+            assignments: program.assignments,
+            spent,
+            start,
+            steps,
+            scanner,
+            slots,
+            tags,
+            assigned,
+            firsts,
         }
     }
 

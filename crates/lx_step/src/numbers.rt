@@ -17,10 +17,18 @@ pub(crate) enum Sort {
 }
 
 /// The registers and the histories of a piece, each once, in the order in which the piece names them.
-#[derive(Drop)]
 pub(crate) struct Numbering {
     pub(crate) registers: IndexSet<u32>,
     pub(crate) histories: IndexSet<u32>,
+}
+
+impl Drop for Numbering {
+    fn drop(self) {
+        let Self {
+            registers: _,
+            histories: _,
+        } = self;
+    }
 }
 
 impl Numbering {

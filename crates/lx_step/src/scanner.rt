@@ -27,7 +27,6 @@ pub(crate) enum Going {
 
 /// What the machine holds: the registers and histories by their places, and the condition by its number. Offsets
 /// count units from the stream's beginning.
-#[derive(Drop)]
 pub(crate) struct Scanner {
     pub(crate) cursor: u64,
     pub(crate) marker: u64,
@@ -39,6 +38,23 @@ pub(crate) struct Scanner {
     pub(crate) histories: Histories,
     pub(crate) cond: u64,
     pub(crate) state: Option<u64>,
+}
+
+impl Drop for Scanner {
+    fn drop(self) {
+        let Self {
+            cursor: _,
+            marker: _,
+            limit: _,
+            unit: _,
+            accept: _,
+            numbering: _,
+            registers: _,
+            histories: _,
+            cond: _,
+            state: _,
+        } = self;
+    }
 }
 
 impl Scanner {

@@ -8,12 +8,22 @@ use std::alloc::Global;
 use std::marker::Model;
 
 /// What is kept of the values that were given: those of tags by the tags' numbers.
-#[derive(Drop)]
 pub(crate) struct Slots {
     offsets: Vec<Option<u64>>,
     histories: Vec<Sequence<Option<u64>>>,
     entries: Vec<Group>,
     groups: u64,
+}
+
+impl Drop for Slots {
+    fn drop(self) {
+        let Self {
+            offsets: _,
+            histories: _,
+            entries: _,
+            groups: _,
+        } = self;
+    }
 }
 
 impl Model for Slots {

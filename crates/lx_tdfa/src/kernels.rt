@@ -12,13 +12,22 @@ use std::marker::Model;
 
 /// Lists of places, or of places with what else is kept of them, all different, each by its number. A list is found by its places in
 /// constant time, as far as hashes differ. Contracts see them as a list of lists.
-#[derive(Drop)]
 pub struct Kernels<P: Eq + Hash + Drop> {
     lists: IndexSet<Vec<P>>,
     /// How many places all of them have together.
     places: usize,
     /// How many places the longest one has.
     most: usize,
+}
+
+impl<P: Eq + Hash + Drop> Drop for Kernels<P> {
+    fn drop(self) {
+        let Self {
+            lists: _,
+            places: _,
+            most: _,
+        } = self;
+    }
 }
 
 impl<P: Eq + Hash + Drop> Model for Kernels<P> {
@@ -38,13 +47,14 @@ impl<P: Eq + Hash + Drop> Kernels<P> {
     pub fn of(alloc: Global, places: Vec<P>) -> Result<Kernels<P>, Memory>
         ensures { IfOk result (λ kernels. kernels ≡ places.items ∷ []) }
     {
-        let mut kernels = Kernels {
-            lists: IndexSet::new(alloc),
-            places: places.len(),
-            most: places.len(),
-        };
-        kernels.lists.insert(places)?;
-        Ok(kernels)
+        let count = places.len();
+        let mut lists = IndexSet::new(alloc);
+        lists.insert(places)?;
+        Ok(Kernels {
+            lists,
+            places: count,
+            most: count,
+        })
     }
 
     /// How many lists there are. It takes no memory.

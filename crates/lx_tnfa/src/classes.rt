@@ -10,10 +10,15 @@ use std::alloc::Global;
 use std::collections::HashMap;
 
 /// A class and its graph.
-#[derive(Drop)]
 pub(crate) struct ClassGraph {
     pub set: ClassSet,
     pub graph: UnitGraph,
+}
+
+impl Drop for ClassGraph {
+    fn drop(self) {
+        let Self { set: _, graph: _ } = self;
+    }
 }
 
 /// The classes that were met, each once but for those whose digests collide.

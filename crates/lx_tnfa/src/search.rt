@@ -55,11 +55,20 @@ impl Branch {
 ///
 /// It may hold anything from call to call: no answer depends on what it held. Its buffers are kept, and grow to what the largest
 /// call needed.
-#[derive(Drop)]
 pub struct Search {
     pub(crate) visited: Visited<Stop>,
     pub(crate) waiting: Vec<Entry>,
     pub(crate) trail: Vec<Event>,
+}
+
+impl Drop for Search {
+    fn drop(self) {
+        let Self {
+            visited: _,
+            waiting: _,
+            trail: _,
+        } = self;
+    }
 }
 
 impl Search {

@@ -28,7 +28,6 @@ pub(crate) struct RuleTags {
 /// The tagged automaton of a rule list, for one encoding. State 2 p is the beginning of part p and state 2 p + 1 its end.
 ///
 /// `IsTnfaOf` in `specs/Tnfa.antt` says what its states, their moves and its leaves are.
-#[derive(Drop)]
 pub struct Tnfa {
     pub(crate) enc: Enc,
     pub(crate) states: Vec<State>,
@@ -38,6 +37,20 @@ pub struct Tnfa {
     pub(crate) rules: Vec<RuleTags>,
     pub(crate) begins: Vec<u32>,
     pub(crate) live: Vec<bool>,
+}
+
+impl Drop for Tnfa {
+    fn drop(self) {
+        let Self {
+            enc: _,
+            states: _,
+            classes: _,
+            owners: _,
+            rules: _,
+            begins: _,
+            live: _,
+        } = self;
+    }
 }
 
 impl Model for Tnfa {

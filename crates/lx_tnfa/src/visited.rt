@@ -11,9 +11,14 @@ use std::marker::Model;
 
 /// Different items, in the order in which they were visited. Whether one is among them is told in constant time, as far as
 /// hashes differ. Contracts see them as a list.
-#[derive(Drop)]
 pub struct Visited<T: Eq + Hash + Drop> {
     items: IndexSet<T>,
+}
+
+impl<T: Eq + Hash + Drop> Drop for Visited<T> {
+    fn drop(self) {
+        let Self { items: _ } = self;
+    }
 }
 
 impl<T: Eq + Hash + Drop> Model for Visited<T> {

@@ -17,12 +17,13 @@ returns-in-None c =
     let rest = c.in_ok-names.ensures.1 ∙ ap (λ b. (names_at 17 b).1) eof in
     let declared = c.declarations_at-declares.ensures.1 ∙ ap (λ b. (declarations_at b).1) (c.skip-3.ensures ∙ ap (drop 5) rest) in
     let states = c.in_ok-states.ensures.1 ∙ ap (λ b. (state_switch_at (length bytes) b).1) declared in
-    unfilled bytes c.is_custom.result c.in_ok-names.names c.in_ok-conds.rest.now custom (c.in_ok-names.ensures.0 ∙ ap (λ b. (names_at 17 b).0) eof)
-    (c.in_ok-conds.ensures.1 ∙ ap (λ b. (cond_switch_at (length bytes) c.in_ok-names.names b).1) states) (rw c.in-None.is at c.in_ok-blocks_at.ensures)
+    unfilled bytes c.is_custom.result c.in_ok-names.names (cond_switch_at (length bytes) c.in_ok-names.names c.in_ok-states.rest.now).1 custom
+    (c.in_ok-names.ensures.0 ∙ ap (λ b. (names_at 17 b).0) eof) (ap (λ b. (cond_switch_at (length bytes) c.in_ok-names.names b).1) states)
+    (rw c.in-None.is at c.in_ok-block_part_at.ensures)
 
-pub returns-in_ok-line-in-Some : goal.returns-in_ok-line-in-Some
+pub returns-in-Some : goal.returns-in-Some
 unfolding piece_at reading
-returns-in_ok-line-in-Some c =
+returns-in-Some c =
     let bytes = c.args.bytes.now in
     let size = length bytes in
     let line : c.skip.result.now ≡ drop 3 (after_letters is_digit (drop 14 bytes)) = cc (c.skip.ensures, c.after_digits.ensures, c.skip-number.ensures) in
@@ -37,21 +38,21 @@ returns-in_ok-line-in-Some c =
     let declared = c.declarations_at-declares.ensures.1 ∙ ap (λ b. (declarations_at b).1) declares in
     let states = c.in_ok-states.ensures.1 ∙ ap (λ b. (state_switch_at size b).1) declared in
     let conds = ap (λ n. cond_switch_at size n c.in_ok-states.rest.now) named ∙ ap (λ b. cond_switch_at size (read_names bytes).0 b) states in
-    let found = rw c.in-Some.is at c.in_ok-blocks_at.ensures in
-    let blocks = ap (λ t. blocks_at size size t c.in_ok-names.names c.in_ok-conds.rest.now) custom
-    ∙ ap (λ n. blocks_at size size (is_custom (read_head bytes).0) n c.in_ok-conds.rest.now) named
-    ∙ ap (λ b. blocks_at size size (is_custom (read_head bytes).0) (read_names bytes).0 b) (c.in_ok-conds.ensures.1 ∙ ap (λ r. r.1) conds) in
-    let last = c.skip-in-Some.ensures ∙ ap (drop 9) (c.block_at.ensures ∙ ap block_at (found.2 ∙ ap (λ r. r.2) blocks)) in
+    let found = rw c.in-Some.is at c.in_ok-block_part_at.ensures in
+    let behind_conds = (cond_switch_at size c.in_ok-names.names c.in_ok-states.rest.now).1 in
+    let blocks = ap (λ t. blocks_at size size t c.in_ok-names.names behind_conds) custom
+    ∙ ap (λ n. blocks_at size size (is_custom (read_head bytes).0) n behind_conds) named
+    ∙ ap (λ b. blocks_at size size (is_custom (read_head bytes).0) (read_names bytes).0 b) (ap (λ r. r.1) conds) in
     let number_is = c.short_at.ensures ∙ ap (λ b. short (number_at b)) c.skip-number.ensures in
     let head_is = c.head_at-head.ensures.head ∙ ap (λ b. fitted_head (head_at b).0) line in
     let unit_is = c.short_at-in-Some.ensures ∙ ap (λ b. short (number_at b)) unit in
     let eof_is = c.eof_at-eof.ensures.0 ∙ ap (λ b. fitted_eof (eof_at b).0) start in
     let declares_is = c.declarations_at-declares.ensures.0 ∙ ap (λ b. (declarations_at b).0) declares in
     let states_is = c.in_ok-states.ensures.0 ∙ ap (λ b. fitted_states (state_switch_at size b).0) declared in
-    let conds_is = c.in_ok-conds.ensures.0 ∙ ap (λ r. map fitted_cond r.0) conds in
-    let blocks_is = found.0 ∙ ap (λ r. map fitted_block r.0) blocks in
-    let ctx_is = found.1 ∙ ap (λ r. r.1) blocks in
-    let line_is = c.in_ok-line-in-Some.ensures.0 ∙ ap (λ b. fitted_line (line_at b).0) last in
+    let conds_is = found.conds_are ∙ ap (λ r. map fitted_cond r.0) conds in
+    let blocks_is = found.blocks_are ∙ ap (λ r. map fitted_block r.0) blocks in
+    let ctx_is = found.ctx_is ∙ ap (λ r. r.1) blocks in
+    let line_is = found.line_is ∙ ap (λ r. fitted_line (line_at (drop 9 (block_at r.2))).0) blocks in
     λ i. record {
       number = number_is i;
       head = head_is i;

@@ -39,4 +39,4 @@ returns-clause-read c =
     (map view c.in_ok-steps.steps.items) (steps_are options definitions c.are_groups.result (c.are_groups.ensures definitions) c.in_ok-steps.ensures) before c.args.reader.room c.in_ok-operands.operands c.pop.new.self.values.items c.pop.result
     (record { value = c.in_ok-value.value; tags = c.in_ok-tags.tags })
     (subst (λ l. AreTaken options definitions c.args.reader.room (operands_behind before) (map view l) c.in_ok-operands.operands) c.deref.ensures.value c.in_ok-operands.ensures.taken)
-    c.pop.ensures.values (c.in_ok-tags.ensures ∙ c.pop.ensures.seen) c.in_ok-value.ensures.stands
+    c.pop.ensures.values (c.in_ok-tags.ensures ∙ c.into_seen.ensures ∙ c.pop.ensures.seen) c.in_ok-value.ensures.stands

@@ -2,7 +2,7 @@ use Rattle.std.proofs.Common.{◌+◌, ◌++◌, ◌∙◌, ap, drop}
 use Rattle.std.proofs.lemmas.List.{map-append}
 use Rattle.lx_layout.specs.Views.{seen_stretch, seen_stretches}
 use Rattle.lx_layout.specs.TransitionClasses.{split_of}
-use Rattle.lx_layout.proofs.BlockLayouts.SplitLoops.{split_of-added, split_of-saved}
+use Rattle.lx_layout.proofs.BlockLayouts.SplitLoops.{split_of-added, split_of-ended, split_of-reached, split_of-saved}
 use Rattle.lx_layout.proofs.unit_splits.split_of.Goals as goal
 use Rattle.lx_layout.proofs.unit_splits.split_of.Goals.{then-not-same_place+in_ok-push, else-not-same_place}
 
@@ -24,3 +24,15 @@ loop-index-preserved c =
           _ _ c.loop-index.invariant.0 c.loop-index.invariant.1 c.if-greatest-stretch.false
           c.class_at.result c.class_at.ensures w.if-not-same_place.ensures)
     ]
+
+pub returns-then-greatest-stretch : goal.returns-then-greatest-stretch
+returns-then-greatest-stretch c =
+    let same = split_of-reached c.args.greatest c.args.stretches.now c.loop-index.index _ c.loop-index-test.true (seen_stretches c.loop-index.tests.items)
+    _ _ c.loop-index.invariant.0 c.loop-index.invariant.1 c.if-greatest-stretch.true in
+    λ i. record { tests = same.0 i; last = same.1 i }
+
+pub returns : goal.returns
+returns c =
+    let same = split_of-ended c.args.greatest c.args.stretches.now c.loop-index.index (seen_stretches c.loop-index.tests.items)
+    _ _ c.loop-index-test.false c.loop-index.invariant.0 c.loop-index.invariant.1 in
+    λ i. record { tests = same.0 i; last = same.1 i }

@@ -15,7 +15,7 @@ pub returns : goal.returns
 returns c = λ state environment holds before.
     let done = c.in_ok-resolved.ensures state holds in (
       sym done.0,
-      subst (λ env. Represents env (environment_behind Rules environment state)) (sym c.keep.ensures)
+      subst (λ env. Represents env (environment_behind Rules environment state)) (sym c.into_kept.ensures)
           (keeping_represents c.args.known state holds environment c.requires.few before),
       done.1 c.args.options.now.conds,
       done.2,

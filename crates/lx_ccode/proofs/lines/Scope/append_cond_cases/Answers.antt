@@ -9,4 +9,4 @@ loop-case-preserved c =
     (λ cases. cond_cases_then c.args.self.now.number c.args.self.now.names.now cases [])
     c.args.cases.now c.loop-case.case-index c.case-item.result _ _ _
     (joined-nil (cond_parts c.args.self.now.number c.args.self.now.names.now c.case-item.result)) (λ cases. refl)
-    c.loop-case-test.true c.case-item.is c.in_ok-append_cond_case.ensures c.loop-case.invariant
+    c.loop-case-test.true c.case-item.is (rw c.condition_prefix-prefix.ensures at c.in_ok-append_cond_case.ensures) c.loop-case.invariant

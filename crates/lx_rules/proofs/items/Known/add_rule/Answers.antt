@@ -15,13 +15,13 @@ returns-clause-added c = λ state rule holds new.
     let known = c.args.self.now in
     let conds = map (λ cond. cond.now) c.args.conds.now in
     let after = c.enter.new.self in
-    let next : Known = record known { rules = c.push.new.self; acts = c.push-2.new.self; conds = after } in
+    let next : Known = record known { rules = c.push-2.new.self; acts = c.push.new.self; conds = after } in
     let counted : c.len-place.result ≡ length known.rules.items = let held = known.rules.ok in omega (arith, held, c.len-place.ensures) in
     let entered = c.in_ok-listed.ensures in
     let made = c.into_rule-rule.ensures in
     let one = record c.into_rule-rule.result { target = c.args.target } in
-    holds_more known state holds conds c.args.head c.args.at c.args.target c.args.act rule new next one refl refl holds.fit c.in_ok-push-2.ensures.items
-    (ap (map (λ (held : Rc KeptRule Global). held.value)) c.in_ok-push.ensures.items
+    holds_more known state holds conds c.args.head c.args.at c.args.target c.args.act rule new next one refl refl holds.fit c.in_ok-push.ensures.items
+    (ap (map (λ (held : Rc KeptRule Global). held.value)) c.in_ok-push-2.ensures.items
     ∙ map-append (λ (held : Rc KeptRule Global). held.value) known.rules.items _ ∙ ap (λ (value : KeptRule). rules_view known.rules ++ value ∷ []) c.in_ok-new.ensures.ok)
     entered.names (ap (conds_seen (cond_names after)) made.conds ∙ entered.conds) (subst (AreNumbers _) (sym made.conds) entered.within)
     (λ cond. entered.kept cond
