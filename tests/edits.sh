@@ -16,7 +16,8 @@ cd "$work"
 git init -q
 failed=0
 for name; do
-    mv "crates/$name/edits" "crates/$name/must-fail"
+    mkdir -p "crates/$name/must-fail"
+    mv "crates/$name/edits/"* "crates/$name/must-fail/"
     (cd "crates/$name" && rt check > check.log 2>&1) || { echo "$name: not proved" >&2; exit 1; }
     rt must-fail "$name" || failed=1
 done

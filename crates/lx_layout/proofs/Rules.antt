@@ -3,6 +3,7 @@ pub mod EndCodes
 pub mod EndPlaces
 pub mod EndingLoops
 pub mod FirstPlaces
+pub mod NotedPlaces
 pub mod RuleBlocks
 pub mod RuleEndings
 pub mod RuleEnds

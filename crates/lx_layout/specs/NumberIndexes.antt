@@ -1,11 +1,18 @@
 -- Places in a list by numbers, as a map holds them.
 use Rattle.std.specs.Prelude.{ℕ, suc, List, [], ◌∷◌, Option, Some, None, nat_eq, option_map, if◌then◌else◌}
+use Rattle.std.specs.Option.{option_or}
 use Rattle.indexmap.specs.IndexMap.{get}
+use Rattle.lx_layout.specs.declared.number_index.NotedPlace.{NotedPlace}
 use Rattle.lx_layout.specs.declared.number_index.NumberIndex.{NumberIndex}
+
+-- the place of a number among some that have one
+abbrev pub place_among : List NotedPlace → (number : ℕ) → Option ℕ
+place_among [] number = None
+place_among (one ∷ noted) number = if nat_eq number one.number then Some one.place else place_among noted number
 
 -- the place of a number
 abbrev pub noted_place : NumberIndex → (number : ℕ) → Option ℕ
-noted_place index number = get nat_eq index.places number
+noted_place index number = option_or (place_among index.first.items number) (get nat_eq index.others number)
 
 -- the place of a number once a place has been noted for one; a place that it had before stays
 abbrev pub with_place : (before : Option ℕ) → (noted place number : ℕ) → Option ℕ

@@ -1,21 +1,48 @@
 //! Places by numbers.
 ghost use Rattle.std.specs.Prelude.{◌≡◌, ℕ, None, OnOk};
-ghost use Rattle.lx_layout.specs.NumberIndexes.{noted_place, with_place};
+ghost use Rattle.lx_layout.specs.NumberIndexes.{noted_place, place_among, with_place};
 
 use indexmap::IndexMap;
 use lx_base::Memory;
 use std::alloc::Global;
 
+/// How many numbers are looked at one by one, without a hash: most scanners have no more rules.
+const FEW: usize = 8;
+
+/// A number and its place.
+#[derive(Clone, Copy)]
+pub struct NotedPlace {
+    pub number: u32,
+    pub place: usize,
+}
+
 /// Places in a list by numbers.
 pub struct NumberIndex {
-    /// The places of the numbers that have one.
-    pub places: IndexMap<u32, usize>,
+    /// The places of the first numbers that got one, which are few.
+    pub first: Vec<NotedPlace>,
+    /// The places of the other numbers that have one.
+    pub others: IndexMap<u32, usize>,
 }
 
 impl Drop for NumberIndex {
     fn drop(self) {
-        let Self { places: _ } = self;
+        let Self {
+            first: _,
+            others: _,
+        } = self;
     }
+}
+
+/// The place of a number among some that have one.
+fn place_among(noted: &[NotedPlace], number: u32) -> Option<usize>
+    ensures { result ≡ place_among noted.now number }
+{
+    for one in noted {
+        if one.number == number {
+            return Some(one.place);
+        }
+    }
+    None
 }
 
 impl NumberIndex {
@@ -24,7 +51,8 @@ impl NumberIndex {
         ensures { (number : ℕ) → noted_place result number ≡ None }
     {
         NumberIndex {
-            places: IndexMap::new(alloc),
+            first: Vec::new(alloc),
+            others: IndexMap::new(alloc),
         }
     }
 
@@ -32,15 +60,31 @@ impl NumberIndex {
     pub fn find(&self, number: u32) -> Option<usize>
         ensures { result ≡ noted_place self.now number }
     {
-        self.places.get(&number).copied()
+        match place_among(&self.first, number) {
+            Some(place) => Some(place),
+            None => self.others.get(&number).copied(),
+        }
+    }
+
+    /// Notes the place of a number that has none.
+    fn append(&mut self, number: u32, place: usize) -> Result<(), Memory>
+        requires { noted_place self.old number ≡ None }
+        ensures { OnOk result ((other : ℕ) → noted_place self.new other ≡ with_place (noted_place self.old other) number place other) }
+    {
+        if self.first.len() < FEW {
+            self.first.push(NotedPlace { number, place })?;
+        } else {
+            self.others.insert(number, place)?;
+        }
+        Ok(())
     }
 
     /// Notes the place of a number, unless it has one.
     pub fn note(&mut self, number: u32, place: usize) -> Result<(), Memory>
         ensures { OnOk result ((other : ℕ) → noted_place self.new other ≡ with_place (noted_place self.old other) number place other) }
     {
-        if self.places.get(&number).is_none() {
-            self.places.insert(number, place)?;
+        if self.find(number).is_none() {
+            self.append(number, place)?;
         }
         Ok(())
     }

@@ -1,6 +1,8 @@
 pub mod AcceptNumbers
+pub mod ApartAlready
 pub mod CanonicalLists
 pub mod CanonicalSteps
+pub mod DifferentNumbers
 pub mod Interned
 pub mod JoinedSteps
 pub mod KeptNumbers

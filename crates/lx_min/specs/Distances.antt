@@ -1,9 +1,10 @@
 -- How far states are from accepting ones.
-use Rattle.std.specs.Prelude.{◌≡◌, ◌≢◌, ℕ, suc, ◌<◌, List, [], ◌∷◌, length, Option, Some, None, nat_lt, if◌then◌else◌}
+use Rattle.std.specs.Prelude.{◌≡◌, ◌≢◌, ℕ, suc, ◌<◌, Bool, true, List, [], ◌∷◌, length, Option, Some, None, nat_lt, if◌then◌else◌}
 use Rattle.lx_auto.specs.declared.automaton.Accept.{Accept}
 use Rattle.lx_auto.specs.declared.automaton.Auto.{Auto}
 use Rattle.lx_auto.specs.declared.automaton.Edge.{Edge}
 use Rattle.lx_auto.specs.Automaton.{state_of}
+use Rattle.lx_auto.specs.MetStates.{is_marked}
 use Rattle.lx_auto.specs.ToldApart.{AreToldApart}
 use Rattle.lx_min.specs.Joined.{class_in}
 
@@ -34,3 +35,13 @@ abbrev pub TellApart : Auto → (numbers : List ℕ) → Type 0
 TellApart auto numbers =
     (state other : ℕ) → state < length auto.states → other < length auto.states → class_in numbers state ≢ class_in numbers other
     → (word : List ℕ) × AreToldApart auto state other word
+
+-- no two of the numbers are equal
+abbrev pub AllDiffer : (numbers : List ℕ) → Type 0
+AllDiffer numbers =
+    (state other : ℕ) → state < length numbers → other < length numbers → class_in numbers state ≡ class_in numbers other → state ≡ other
+
+-- each of the first so many numbers is marked, and no two of them are equal
+pub record AreSeen (count : ℕ) (numbers : List ℕ) (marks : List Bool) : Type 0 where
+  pub marked : (state : ℕ) → state < count → is_marked marks (class_in numbers state) ≡ true
+  pub differ : (state other : ℕ) → state < count → other < count → class_in numbers state ≡ class_in numbers other → state ≡ other

@@ -1,9 +1,9 @@
 //! How far states are from accepting ones, by a breadth-first search backwards (Moore 1959).
 //!
 //! No clause says that the search finds the distances: what it found is tested by their definition, in one look at each edge.
-ghost use Rattle.std.specs.Prelude.{◌≡◌, IfOk, IsTrue};
+ghost use Rattle.std.specs.Prelude.{◌≡◌, IfOk, IsTrue, length};
 ghost use Rattle.lx_auto.specs.Automaton.{IsAuto};
-ghost use Rattle.lx_min.specs.Distances.{AreDistances, TellApart, distance_of, nearest};
+ghost use Rattle.lx_min.specs.Distances.{AllDiffer, AreDistances, TellApart, distance_of, nearest};
 
 use crate::joined::class_in;
 use lx_auto::{Auto, Edge, State};
@@ -145,12 +145,28 @@ fn are_right(auto: &Auto, far: u32, distances: &[u32]) -> bool
 /// A number for each state: how far it is from an accepting one.
 pub(crate) fn distances_of(alloc: Global, auto: &Auto) -> Result<Vec<u32>, Memory>
     requires { IsAuto auto.now }
-    ensures { IfOk result (λ distances. TellApart auto.now distances.items) }
+    ensures apart { IfOk result (λ distances. TellApart auto.now distances.items) }
+    ensures fit { IfOk result (λ distances. length distances.items ≡ length auto.now.states) }
 {
     let count = auto.states.as_slice().len();
     let distances = searched(alloc, auto, count as u32)?;
-    if are_right(auto, count as u32, distances.as_slice()) {
+    if distances.len() == count && are_right(auto, count as u32, distances.as_slice()) {
         return Ok(distances);
     }
     Ok(vec![in alloc; 0; count]?)
+}
+
+/// Whether no two of the numbers are equal, in time linear in them where none is greater than one more than their count.
+pub(crate) fn all_differ(alloc: Global, numbers: &[u32]) -> Result<bool, Memory>
+    ensures { IfOk result (λ differ. IsTrue differ → AllDiffer numbers.now) }
+{
+    let mut seen = vec![in alloc; false; numbers.len().saturating_add(2)]?;
+    for number in numbers {
+        let place = *number as usize;
+        if place >= seen.len() || seen[place] {
+            return Ok(false);
+        }
+        seen[place] = true;
+    }
+    Ok(true)
 }

@@ -2,11 +2,11 @@
 ghost use Rattle.std.specs.Prelude.{IfOk};
 ghost use Rattle.lx_auto.specs.Automaton.{IsAuto};
 ghost use Rattle.lx_auto.specs.MetStates.{AreMet};
+ghost use Rattle.lx_min.specs.Distances.{TellApart};
 ghost use Rattle.lx_min.specs.Looks.{AreLooks};
 ghost use Rattle.lx_min.specs.Partitions.{IsMinimal};
 ghost use Rattle.lx_min.specs.Rounds.{IsPartition};
 
-use crate::distances::distances_of;
 use crate::looks::Look;
 use crate::rounds::refined;
 use lx_auto::Auto;
@@ -29,14 +29,16 @@ fn first_partition(
     auto: &Auto,
     met: &[bool],
     looks: &[Look],
+    distances: Vec<u32>,
 ) -> Result<Partition, Memory>
     requires formed { IsAuto auto.now }
     requires met { AreMet auto.now met.now }
     requires looks { AreLooks auto.now looks.now }
+    requires apart { TellApart auto.now distances.items }
     ensures { IfOk result (IsPartition auto.now) }
 {
     let start = Partition {
-        class: distances_of(alloc, auto)?,
+        class: distances,
         chosen: vec![in alloc; 0]?,
     };
     refined(alloc, met, looks, &start)
@@ -48,13 +50,15 @@ pub(crate) fn partition_of(
     auto: &Auto,
     met: &[bool],
     looks: &[Look],
+    distances: Vec<u32>,
 ) -> Result<Partition, Memory>
     requires formed { IsAuto auto.now }
     requires met { AreMet auto.now met.now }
     requires looks { AreLooks auto.now looks.now }
+    requires apart { TellApart auto.now distances.items }
     ensures { IfOk result (λ partition. IsMinimal auto.now partition) }
 {
-    let mut partition = first_partition(alloc, auto, met, looks)?;
+    let mut partition = first_partition(alloc, auto, met, looks, distances)?;
     loop {
         let next = refined(alloc, met, looks, &partition)?;
         if next.chosen.len() == partition.chosen.len() {

@@ -1,5 +1,9 @@
 -- Automata by other names are translations.
 pub mod FittingSteps
+pub mod KeptByLists
+pub mod KeptLists
+pub mod NameMembers
+pub mod OrderedOps
 pub mod Pairs
 pub mod RenamedAutomata
 pub mod RenamedEffects

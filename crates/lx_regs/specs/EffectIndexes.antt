@@ -4,8 +4,11 @@ use Rattle.indexmap.specs.IndexMap.{IndexMap, get}
 use Rattle.lx_auto.specs.declared.ops.Op.{Op}
 use Rattle.lx_auto.specs.Effects.{Effect, here, nothing, held_by, effect_after, origin_after, marks_by}
 use Rattle.lx_regs.specs.declared.effects.Index.{Index}
+use Rattle.lx_regs.specs.declared.effects.Look.{Look}
+use Rattle.lx_regs.specs.declared.effects.Look.TheVariants.{Each, Halves, Indexed}
 use Rattle.lx_regs.specs.declared.effects.Single.{Single}
 use Rattle.lx_regs.specs.declared.effects.Single.TheVariants.{Now, Never, From}
+use Rattle.lx_regs.specs.OrderedOps.{Ascend}
 
 -- the effect on a register
 abbrev pub single_effect : Single → Effect
@@ -46,7 +49,8 @@ pub record AreIndexed (ops : List Op) (index : Index) : Type 0 where
   pub origins : (mreg : ℕ) → origin_in index.origins mreg ≡ origin_after ops mreg mreg
   pub marks : (mreg : ℕ) → marks_in index.marks mreg ≡ marks_by ops mreg
 
--- the same of an index that may not be there
-abbrev pub IsIndex : List Op → Option Index → Type 0
-IsIndex ops None = Unit {0}
-IsIndex ops (Some index) = AreIndexed ops index
+-- it can be found so what the list does
+abbrev pub CanLook : List Op → Look → Type 0
+CanLook ops Each = Unit {0}
+CanLook ops Halves = Ascend ops
+CanLook ops (Indexed index) = AreIndexed ops index

@@ -13,9 +13,11 @@ pub mod KeptLists
 pub mod Keys
 pub mod Leaving
 pub mod LeftGroups
+pub mod ListRenamings
 pub mod LiveSets
 pub mod Liveness
 pub mod NameTables
+pub mod OrderedOps
 pub mod Outcomes
 pub mod Pairs
 pub mod Reached

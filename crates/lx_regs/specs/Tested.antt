@@ -10,7 +10,11 @@ use Rattle.lx_auto.specs.Automaton.{AreOps, IsHeld, state_of}
 use Rattle.lx_auto.specs.Effects.{effect_of, effect_of_both, renamed, renamed_effect}
 use Rattle.lx_auto.specs.Live.{AtSomePoint, IsLiveBehind}
 use Rattle.lx_regs.specs.NameTables.{fixed_name, fixed_names, names_at}
+use Rattle.lx_regs.specs.ListRenamings.{IsRenaming}
+use Rattle.lx_regs.specs.LiveSets.{IsLivenessOf}
 use Rattle.lx_regs.specs.Pairs.{AllPairs}
+use Rattle.lx_regs.specs.declared.translation_test.Looked.{Looked}
+use Rattle.lx_regs.specs.declared.translation_test.Looked.TheVariants.{Live, All}
 use Rattle.lx_regs.specs.declared.name_tables.NameTable.{NameTable}
 
 -- by the names of a table
@@ -42,6 +46,12 @@ module _ (table : NameTable) where
   KeepsAccept regs mregs state (Some accept) None = ⊥
   KeepsAccept regs mregs state (Some accept) (Some other) = KeptAccept regs mregs state accept other
 
+  -- along an edge out of a state they do it to all that is live behind the edge
+  abbrev pub KeepsLive : (given : Auto) → (state : ℕ) → (leave new_leave : List Op) → (edge other : Edge) → Type 0
+  KeepsLive given state leave new_leave edge other =
+      (held : Held) → AtSomePoint given state (λ point. IsLiveBehind given point edge held)
+      → KeepsEffect state edge.to leave edge.ops new_leave other.ops held
+
   -- in an answer with so many registers
   module _ (given : Auto) (regs mregs : ℕ) where
     -- an edge out of a state
@@ -50,14 +60,18 @@ module _ (table : NameTable) where
       pub high : other.hi ≡ edge.hi
       pub target : other.to ≡ edge.to
       pub ops : AreOps regs mregs other.ops
-      pub effects : (held : Held) → AtSomePoint given state (λ point. IsLiveBehind given point edge held)
-          → KeepsEffect state edge.to leave edge.ops new_leave other.ops held
+      pub effects : KeepsLive given state leave new_leave edge other
 
     -- a state
     pub record KeepsState (number : ℕ) (state other : State) : Type 0 where
       pub edges : AllPairs (KeepsEdge number state.leave other.leave) state.edges other.edges
       pub accept : KeepsAccept regs mregs number state.accept other.accept
       pub leave : AreOps regs mregs other.leave
+
+-- what is looked at is known: what is live, or the one name of each register
+abbrev pub CanTest : (given : Auto) → NameTable → Looked → Type 0
+CanTest given table (Live live) = IsLivenessOf given live.now
+CanTest given table (All renaming) = IsRenaming given table renaming.now
 
 -- The test is passed: the answer has the states of the given automaton, and each keeps what is live.
 pub record IsTested (given answer : Auto) (table : NameTable) : Type 0 where

@@ -5,8 +5,8 @@ ghost use Rattle.lx_auto.specs.declared.automaton.Edge.{Edge as EdgeValue};
 ghost use Rattle.lx_auto.specs.declared.automaton.State.{State as StateValue};
 ghost use Rattle.lx_regs.specs.Arrows.{AreArrows, Notes, with_arrow};
 
+use crate::effects::Effects;
 use crate::lists::empty_lists;
-use crate::readers::Reader;
 use lx_auto::{Auto, Edge};
 use lx_base::{Memory, Sequence};
 use std::alloc::Global;
@@ -16,7 +16,7 @@ use std::alloc::Global;
 pub(crate) struct Arrow<'a> {
     pub state: u32,
     pub edge: &'a Edge,
-    pub reader: Reader<'a>,
+    pub reader: Effects<'a>,
 }
 
 /// Notes an arrow in the list of its target.
@@ -38,7 +38,7 @@ fn note_edges<'a>(
     ensures { OnOk result (Notes state edges.now lists.old.items lists.new.items) }
 {
     for edge in edges {
-        let reader = Reader::of(alloc, edge.ops.as_slice())?;
+        let reader = Effects::of(alloc, edge.ops.as_slice())?;
         note(
             lists,
             Arrow {
@@ -52,12 +52,12 @@ fn note_edges<'a>(
 }
 
 /// For each state what its list reads where it is left.
-pub(crate) fn leaves_of(alloc: Global, auto: &Auto) -> Result<Vec<Reader<'_>>, Memory>
+pub(crate) fn leaves_of(alloc: Global, auto: &Auto) -> Result<Vec<Effects<'_>>, Memory>
     ensures { IfOk result (λ leaves. leaves.items ≡ map (λ (state : StateValue). state.leave) auto.now.states) }
 {
     let mut leaves = Vec::new(alloc);
     for state in auto.states.as_slice() {
-        leaves.push(Reader::of(alloc, state.leave.as_slice())?)?;
+        leaves.push(Effects::of(alloc, state.leave.as_slice())?)?;
     }
     Ok(leaves)
 }

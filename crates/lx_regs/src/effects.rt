@@ -1,9 +1,10 @@
-//! What lists of operations do to registers, by an index where a list is long.
+//! What lists of operations do to registers, by halves or by an index where a list is long.
 ghost use Rattle.std.specs.Prelude.{◌≡◌, ℕ, [], ◌∷◌, ◌++◌, if◌then◌else◌, IfOk, nat_eq, OnOk};
 ghost use Rattle.lx_auto.specs.Effects.{effect_after, effect_behind, effect_of, held_by, mark_by, marks_by, origin_after, origin_behind};
 ghost use Rattle.lx_auto.specs.declared.automaton.Held.TheVariants.{Reg};
-ghost use Rattle.lx_regs.specs.EffectIndexes.{AreIndexed, effect_in, marks_in, origin_in, single_effect};
+ghost use Rattle.lx_regs.specs.EffectIndexes.{AreIndexed, CanLook, effect_in, marks_in, origin_in, single_effect};
 
+use crate::ordered::{ascend, single_by_halves};
 use indexmap::IndexMap;
 use lx_auto::Op;
 use lx_base::{Memory, Sequence};
@@ -41,28 +42,39 @@ impl Drop for Index {
     }
 }
 
-/// Operations that act at once, with an index where there are many of them: what they do to a register is told without a look at all of
-/// them. Contracts see the list.
+/// How it is found what a list does to a register.
+#[derive(Drop)]
+enum Look {
+    /// By a look at each operation of a short list.
+    Each,
+    /// By halves, in a list in ascending order.
+    Halves,
+    /// By an index.
+    Indexed(Index),
+}
+
+/// Operations that act at once: what they do to a register is told without a look at all of them, where they are many. Contracts see the
+/// list.
 #[derive(Drop)]
 pub(crate) struct Effects<'a> {
     ops: &'a [Op],
-    index: Option<Index>,
+    look: Look,
 }
 
 impl<'a> Model for Effects<'a> {
     ghost use Rattle.std.specs.Prelude.{List};
     ghost use Rattle.lx_auto.specs.declared.ops.Op.{Op};
-    ghost use Rattle.lx_regs.specs.EffectIndexes.{IsIndex};
+    ghost use Rattle.lx_regs.specs.EffectIndexes.{CanLook};
 
     ghost Value = { List Op };
 
     ghost view = { λ effects. effects.ops.now };
 
-    ghost invariant = { λ effects. IsIndex effects.ops.now effects.index };
+    ghost invariant = { λ effects. CanLook effects.ops.now effects.look };
 }
 
 /// What a list does to a register.
-fn single_of(ops: &[Op], reg: u32) -> Single
+pub(crate) fn single_of(ops: &[Op], reg: u32) -> Single
     ensures { single_effect result ≡ effect_of ops.now (Reg reg) }
 {
     let mut single = Single::From(reg);
@@ -73,7 +85,7 @@ fn single_of(ops: &[Op], reg: u32) -> Single
 }
 
 /// What a register has behind one more operation.
-fn single_behind(op: Op, reg: u32, single: Single) -> Single
+pub(crate) fn single_behind(op: Op, reg: u32, single: Single) -> Single
     ensures { single_effect result ≡ effect_behind op reg (single_effect single) }
 {
     match op {
@@ -85,7 +97,7 @@ fn single_behind(op: Op, reg: u32, single: Single) -> Single
 }
 
 /// Whose history an m-register has behind a list.
-fn origin_of(ops: &[Op], mreg: u32) -> u32
+pub(crate) fn origin_of(ops: &[Op], mreg: u32) -> u32
     ensures { result ≡ origin_after ops.now mreg mreg }
 {
     let mut origin = mreg;
@@ -255,28 +267,43 @@ impl Index {
     }
 }
 
+/// How it is found what a list does to registers.
+fn look_of(alloc: Global, ops: &[Op]) -> Result<Look, Memory>
+    ensures { IfOk result (CanLook ops.now) }
+{
+    if ops.len() <= SHORT {
+        return Ok(Look::Each);
+    }
+    if ascend(ops) {
+        return Ok(Look::Halves);
+    }
+    Ok(Look::Indexed(index_of(alloc, ops)?))
+}
+
 impl<'a> Effects<'a> {
     /// The effects of a list, in time linear in its operations.
     pub(crate) fn of(alloc: Global, ops: &'a [Op]) -> Result<Effects<'a>, Memory>
         ensures { IfOk result (λ effects. effects ≡ ops.now) }
     {
-        if ops.len() <= SHORT {
-            return Ok(Effects { ops, index: None });
-        }
-        let index = index_of(alloc, ops)?;
-        Ok(Effects {
-            ops,
-            index: Some(index),
-        })
+        let look = look_of(alloc, ops)?;
+        Ok(Effects { ops, look })
+    }
+
+    /// The operations. It takes no memory.
+    pub(crate) fn as_slice(&self) -> &'a [Op]
+        ensures { result.now ≡ self.now }
+    {
+        self.ops
     }
 
     /// What the list does to a register.
     pub(crate) fn single(&self, reg: u32) -> Single
         ensures { single_effect result ≡ effect_of self.now (Reg reg) }
     {
-        match &self.index {
-            Some(index) => index.single(reg),
-            None => single_of(self.ops, reg),
+        match &self.look {
+            Look::Each => single_of(self.ops, reg),
+            Look::Halves => single_by_halves(self.ops, reg),
+            Look::Indexed(index) => index.single(reg),
         }
     }
 
@@ -284,9 +311,10 @@ impl<'a> Effects<'a> {
     pub(crate) fn origin(&self, mreg: u32) -> u32
         ensures { result ≡ origin_after self.now mreg mreg }
     {
-        match &self.index {
-            Some(index) => index.origin(mreg),
-            None => origin_of(self.ops, mreg),
+        match &self.look {
+            Look::Each => origin_of(self.ops, mreg),
+            Look::Halves => mreg,
+            Look::Indexed(index) => index.origin(mreg),
         }
     }
 
@@ -294,9 +322,10 @@ impl<'a> Effects<'a> {
     pub(crate) fn push_marks(&self, marks: &mut Sequence<bool>, mreg: u32) -> Result<(), Memory>
         ensures { OnOk result (marks.new ≡ marks.old ++ marks_by self.now mreg) }
     {
-        match &self.index {
-            Some(index) => index.push_marks(marks, mreg),
-            None => push_marks(marks, self.ops, mreg),
+        match &self.look {
+            Look::Each => push_marks(marks, self.ops, mreg),
+            Look::Halves => Ok(()),
+            Look::Indexed(index) => index.push_marks(marks, mreg),
         }
     }
 }

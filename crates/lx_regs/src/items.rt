@@ -10,11 +10,12 @@ ghost use Rattle.lx_regs.specs.declared.items.Item.{Item as ItemValue};
 ghost use Rattle.lx_regs.specs.declared.reached.Pair.{Pair as PairValue};
 
 use crate::arrows::{Arrow, arrows_of, leaves_of};
+use crate::effects::Effects;
 use crate::found::Found;
 use crate::keys::{Key, key_of};
 use crate::left_groups::LeftGroups;
 use crate::reached::Pair;
-use crate::readers::{Reader, read_of, read_of_both};
+use crate::readers::{read_of, read_of_both};
 use lx_auto::{Accept, Auto, Held, Op};
 use lx_base::Memory;
 use std::alloc::Global;
@@ -150,7 +151,7 @@ fn prior_by(
     numbers: &[u32],
     pairs: &Found<Pair>,
     item: Item,
-    leave: &Reader<'_>,
+    leave: &Effects<'_>,
     arrow: &Arrow<'_>,
 ) -> Option<Item>
     requires { arrow.now.state < length numbers.now }
@@ -177,7 +178,7 @@ fn add_prior(
     numbers: &[u32],
     pairs: &Found<Pair>,
     item: Item,
-    leave: &Reader<'_>,
+    leave: &Effects<'_>,
     arrow: &Arrow<'_>,
 ) -> Result<(), Memory>
     requires { arrow.now.state < length numbers.now }
@@ -198,7 +199,7 @@ fn add_priors(
     numbers: &[u32],
     pairs: &Found<Pair>,
     item: Item,
-    leaves: &[Reader<'_>],
+    leaves: &[Effects<'_>],
     arrows: &[Arrow<'_>],
 ) -> Result<(), Memory>
     requires within { (arrow : ArrowValue) → Contains arrows.now arrow → arrow.state < length numbers.now }

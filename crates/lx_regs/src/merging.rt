@@ -8,10 +8,12 @@ ghost use Rattle.lx_regs.specs.Shapes.{KeepsShape, StandsFor};
 
 use crate::flows::with_number;
 use crate::kept_lists::target_of;
+use crate::list_renaming::renaming_of;
 use crate::live::liveness_of;
 use crate::name_tables::NameTable;
 use crate::partitions::{Partition, Partitions, narrow, partitions_of};
 use crate::renaming::{Proposal, may_stand};
+use crate::translation_test::Looked;
 use lx_auto::{Accept, Auto, Edge, Held, Op, Ops, State};
 use lx_base::{Memory, Sequence};
 use std::alloc::Global;
@@ -167,13 +169,36 @@ fn propose(alloc: Global, auto: &Auto) -> Result<Option<Proposal>, Memory> {
     }
 }
 
-/// Whether the proposal may stand for the given automaton.
-fn stands(alloc: Global, auto: &Auto, proposal: &Proposal) -> Result<bool, Memory>
+/// Whether the proposal may stand for the given automaton, by a look at each operation of its lists.
+fn stands_by_lists(alloc: Global, auto: &Auto, proposal: &Proposal) -> Result<bool, Memory>
+    requires { IsAuto auto.now }
+    ensures { IfOk result (λ may. IsTrue may → StandsFor auto.now proposal.now.answer) }
+{
+    let count = proposal.answer.regs as usize;
+    match renaming_of(alloc, auto, &proposal.names, count)? {
+        Some(renaming) => may_stand(alloc, auto, Looked::All(&renaming), proposal),
+        None => Ok(false),
+    }
+}
+
+/// The same by what is live.
+fn stands_by_live(alloc: Global, auto: &Auto, proposal: &Proposal) -> Result<bool, Memory>
     requires { IsAuto auto.now }
     ensures { IfOk result (λ may. IsTrue may → StandsFor auto.now proposal.now.answer) }
 {
     let live = liveness_of(alloc, auto)?;
-    may_stand(alloc, auto, &live, proposal)
+    may_stand(alloc, auto, Looked::Live(&live), proposal)
+}
+
+/// Whether the proposal may stand for the given automaton: by its lists, for which it need not be known what is live, or else by that.
+fn stands(alloc: Global, auto: &Auto, proposal: &Proposal) -> Result<bool, Memory>
+    requires { IsAuto auto.now }
+    ensures { IfOk result (λ may. IsTrue may → StandsFor auto.now proposal.now.answer) }
+{
+    if stands_by_lists(alloc, auto, proposal)? {
+        return Ok(true);
+    }
+    stands_by_live(alloc, auto, proposal)
 }
 
 /// The automaton that is proposed, if it may stand for the given one.

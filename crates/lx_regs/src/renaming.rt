@@ -4,11 +4,12 @@ ghost use Rattle.lx_auto.specs.Automaton.{IsAuto};
 ghost use Rattle.lx_auto.specs.SameRun.{HasSameRun};
 ghost use Rattle.lx_regs.specs.LiveSets.{IsLivenessOf};
 ghost use Rattle.lx_regs.specs.Shapes.{KeepsShape, StandsFor};
+ghost use Rattle.lx_regs.specs.Tested.{CanTest};
 
 use crate::live::{Liveness, liveness_of};
 use crate::name_tables::NameTable;
 use crate::proposed::propose;
-use crate::translation_test::is_translation;
+use crate::translation_test::{Looked, is_translation};
 use lx_auto::Auto;
 use lx_base::Memory;
 use std::alloc::Global;
@@ -24,14 +25,14 @@ pub(crate) struct Proposal {
 pub(crate) fn may_stand(
     alloc: Global,
     given: &Auto,
-    live: &Liveness,
+    looked: Looked<'_>,
     proposal: &Proposal,
 ) -> Result<bool, Memory>
     requires formed { IsAuto given.now }
-    requires live { IsLivenessOf given.now live.now }
+    requires looked { CanTest given.now proposal.now.names looked }
     ensures { IfOk result (λ may. IsTrue may → StandsFor given.now proposal.now.answer) }
 {
-    is_translation(alloc, given, live, &proposal.names, &proposal.answer)
+    is_translation(alloc, given, looked, &proposal.names, &proposal.answer)
 }
 
 /// The automaton that is proposed, if it may stand for the given one.
@@ -41,7 +42,7 @@ fn proposed(alloc: Global, given: &Auto, live: &Liveness) -> Result<Option<Auto>
     ensures { IfOk result (λ found. IfSome found (StandsFor given.now)) }
 {
     let proposal = propose(alloc, given, live)?;
-    let may = may_stand(alloc, given, live, &proposal)?;
+    let may = may_stand(alloc, given, Looked::Live(live), &proposal)?;
     Ok(may.then_some(proposal.answer))
 }
 

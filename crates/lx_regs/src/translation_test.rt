@@ -6,9 +6,10 @@ ghost use Rattle.lx_regs.specs.LiveSets.{IsLivenessOf};
 ghost use Rattle.lx_regs.specs.NameTables.{names_at};
 ghost use Rattle.lx_regs.specs.Outcomes.{effect_seen};
 ghost use Rattle.lx_regs.specs.Pairs.{AllPairs};
-ghost use Rattle.lx_regs.specs.Tested.{IsTested, KeepsAccept, KeepsEdge, KeepsEffect, KeepsState, KeepsValue, KeptAccept};
+ghost use Rattle.lx_regs.specs.Tested.{CanTest, IsTested, KeepsAccept, KeepsEdge, KeepsEffect, KeepsLive, KeepsState, KeepsValue, KeptAccept};
 
 use crate::effects::Effects;
+use crate::list_renaming::ListRenaming;
 use crate::live::Liveness;
 use crate::name_tables::NameTable;
 use crate::outcomes::{Outcome, outcome_of, outcome_of_one};
@@ -117,12 +118,21 @@ struct Leaves<'a> {
     answer: &'a Effects<'a>,
 }
 
+/// Which registers are looked at on an edge.
+#[derive(Clone, Copy)]
+pub(crate) enum Looked<'a> {
+    /// Those that are live behind it.
+    Live(&'a Liveness),
+    /// All, list by list, where each has one name at all states.
+    All(&'a ListRenaming),
+}
+
 /// What a test goes by.
 #[derive(Clone, Copy)]
 struct Test<'a> {
     alloc: Global,
     given: &'a Auto,
-    live: &'a Liveness,
+    looked: Looked<'a>,
     table: &'a NameTable,
     counts: Counts,
 }
@@ -208,6 +218,51 @@ impl<'a> Test<'a> {
         self.keeps_by(state, edge.to, lists, leaves.answer, ops, registers)
     }
 
+    /// Whether along an edge the same happens to all that is live behind it.
+    fn keeps_live(
+        &self,
+        live: &Liveness,
+        number: u32,
+        leaves: Leaves<'_>,
+        edge: &Edge,
+        other: &Edge,
+    ) -> Result<bool, Memory>
+        requires live { IsLivenessOf self.now.given.now live.now }
+        requires within { number < length self.now.given.now.states }
+        requires edge { Contains (state_of self.now.given.now.states number).edges edge.now }
+        ensures { IfOk result (λ kept. IsTrue kept → KeepsLive self.now.table.now self.now.given.now number leaves.entry.given.now
+            leaves.entry.answer.now edge.now other.now) }
+    {
+        let registers = live.behind(self.alloc, self.given, number, edge)?;
+        self.keeps_registers(number, leaves, edge, other, registers.as_slice())
+    }
+
+    /// The same, by those registers that are looked at.
+    fn keeps_lists(
+        &self,
+        number: u32,
+        leaves: Leaves<'_>,
+        edge: &Edge,
+        other: &Edge,
+    ) -> Result<bool, Memory>
+        requires formed { IsAuto self.now.given.now }
+        requires looked { CanTest self.now.given.now self.now.table.now self.now.looked }
+        requires within { number < length self.now.given.now.states }
+        requires edge { Contains (state_of self.now.given.now.states number).edges edge.now }
+        requires leave { leaves.given.now ≡ (state_of self.now.given.now.states number).leave }
+        ensures { IfOk result (λ kept. IsTrue kept → KeepsLive self.now.table.now self.now.given.now number leaves.entry.given.now
+            leaves.entry.answer.now edge.now other.now) }
+    {
+        match self.looked {
+            Looked::Live(live) => self.keeps_live(live, number, leaves, edge, other),
+            Looked::All(renaming) => {
+                let (leave, new_leave) = (leaves.given.as_slice(), leaves.answer.as_slice());
+                let (ops, others) = (edge.ops.as_slice(), other.ops.as_slice());
+                Ok(renaming.keeps_both(leave, new_leave, ops, others))
+            }
+        }
+    }
+
     /// Whether an edge out of a state is kept.
     fn keeps_edge(
         &self,
@@ -216,9 +271,11 @@ impl<'a> Test<'a> {
         edge: &Edge,
         other: &Edge,
     ) -> Result<bool, Memory>
-        requires live { IsLivenessOf self.now.given.now self.now.live.now }
+        requires formed { IsAuto self.now.given.now }
+        requires looked { CanTest self.now.given.now self.now.table.now self.now.looked }
         requires within { number < length self.now.given.now.states }
         requires edge { Contains (state_of self.now.given.now.states number).edges edge.now }
+        requires leave { leaves.given.now ≡ (state_of self.now.given.now.states number).leave }
         ensures { IfOk result (λ kept. IsTrue kept → KeepsEdge self.now.table.now self.now.given.now self.now.counts.regs
             self.now.counts.mregs number leaves.entry.given.now leaves.entry.answer.now edge.now other.now) }
     {
@@ -228,8 +285,7 @@ impl<'a> Test<'a> {
         if !self.counts.allow_all(other.ops.as_slice()) {
             return Ok(false);
         }
-        let registers = self.live.behind(self.alloc, self.given, number, edge)?;
-        self.keeps_registers(number, leaves, edge, other, registers.as_slice())
+        self.keeps_lists(number, leaves, edge, other)
     }
 
     /// Whether the edges out of a state are kept, each by the one at its place.
@@ -240,9 +296,11 @@ impl<'a> Test<'a> {
         edges: &[Edge],
         others: &[Edge],
     ) -> Result<bool, Memory>
-        requires live { IsLivenessOf self.now.given.now self.now.live.now }
+        requires formed { IsAuto self.now.given.now }
+        requires looked { CanTest self.now.given.now self.now.table.now self.now.looked }
         requires within { number < length self.now.given.now.states }
         requires edges { edges.now ≡ (state_of self.now.given.now.states number).edges }
+        requires leave { leaves.given.now ≡ (state_of self.now.given.now.states number).leave }
         ensures { IfOk result (λ kept. IsTrue kept → AllPairs (KeepsEdge self.now.table.now self.now.given.now self.now.counts.regs
             self.now.counts.mregs number leaves.entry.given.now leaves.entry.answer.now) edges.now others.now) }
     {
@@ -264,9 +322,11 @@ impl<'a> Test<'a> {
         states: Pair<'_>,
         leave: &Effects<'_>,
     ) -> Result<bool, Memory>
-        requires live { IsLivenessOf self.now.given.now self.now.live.now }
+        requires formed { IsAuto self.now.given.now }
+        requires looked { CanTest self.now.given.now self.now.table.now self.now.looked }
         requires within { number < length self.now.given.now.states }
         requires state { states.given.now ≡ state_of self.now.given.now.states number }
+        requires leave { leave.now ≡ (state_of self.now.given.now.states number).leave }
         ensures { IfOk result (λ kept. IsTrue kept → AllPairs (KeepsEdge self.now.table.now self.now.given.now self.now.counts.regs
             self.now.counts.mregs number leave.now states.entry.answer.now.leave)
             states.entry.given.now.edges states.entry.answer.now.edges) }
@@ -282,7 +342,8 @@ impl<'a> Test<'a> {
 
     /// Whether the edges out of a state are kept.
     fn keeps_edges(&self, number: u32, states: Pair<'_>) -> Result<bool, Memory>
-        requires live { IsLivenessOf self.now.given.now self.now.live.now }
+        requires formed { IsAuto self.now.given.now }
+        requires looked { CanTest self.now.given.now self.now.table.now self.now.looked }
         requires within { number < length self.now.given.now.states }
         requires state { states.given.now ≡ state_of self.now.given.now.states number }
         ensures { IfOk result (λ kept. IsTrue kept → AllPairs (KeepsEdge self.now.table.now self.now.given.now self.now.counts.regs
@@ -367,7 +428,8 @@ impl<'a> Test<'a> {
 
     /// Whether a state is kept.
     fn keeps_state(&self, number: u32, states: Pair<'_>) -> Result<bool, Memory>
-        requires live { IsLivenessOf self.now.given.now self.now.live.now }
+        requires formed { IsAuto self.now.given.now }
+        requires looked { CanTest self.now.given.now self.now.table.now self.now.looked }
         requires within { number < length self.now.given.now.states }
         requires state { states.given.now ≡ state_of self.now.given.now.states number }
         ensures { IfOk result (λ kept. IsTrue kept → KeepsState self.now.table.now self.now.given.now self.now.counts.regs
@@ -390,12 +452,12 @@ impl<'a> Test<'a> {
 pub(crate) fn is_translation(
     alloc: Global,
     given: &Auto,
-    live: &Liveness,
+    looked: Looked<'_>,
     table: &NameTable,
     answer: &Auto,
 ) -> Result<bool, Memory>
     requires formed { IsAuto given.now }
-    requires live { IsLivenessOf given.now live.now }
+    requires looked { CanTest given.now table.now looked }
     ensures { IfOk result (λ is. IsTrue is → IsTested given.now answer.now table.now) }
 {
     let (states, others) = (given.states.as_slice(), answer.states.as_slice());
@@ -413,7 +475,7 @@ pub(crate) fn is_translation(
     let test = Test {
         alloc,
         given,
-        live,
+        looked,
         table,
         counts,
     };

@@ -1,12 +1,12 @@
 -- Histories of scanners one behind another have numbers of 32 bits.
-use Rattle.std.specs.Prelude.{◌≡◌, ℕ, ◌+◌, ◌≤◌, List, length}
+use Rattle.std.specs.Prelude.{◌≡◌, ◌+◌, ◌≤◌, List, length}
 use Rattle.std.proofs.Common.{ap, arith, subst, sym}
 use Rattle.std.proofs.lemmas.List.Elements.{recursion_from_All}
 use Rattle.std.specs.List.{AllByRecursion}
 use Rattle.lx_base.specs.Spelling.{greatest_unit}
 use Rattle.lx_base.specs.declared.limits.TheConstants.{STATEMENT_LIMIT}
 use Rattle.lx_ccode.specs.Counts.{mregs_of}
-use Rattle.lx_ccode.specs.Statements.{all_statements, statement_count}
+use Rattle.lx_ccode.specs.Statements.{statement_count}
 use Rattle.lx_ccode.specs.Validity.{IsLong, IsShort}
 use Rattle.lx_ccode.specs.declared.piece.CodeBlock.{CodeBlock}
 use Rattle.lx_layout.specs.FormedParts as formed

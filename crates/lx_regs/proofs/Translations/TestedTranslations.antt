@@ -27,7 +27,7 @@ use Rattle.lx_regs.specs.declared.name_tables.NameTable.{NameTable}
 
 -- ---- names that are the same at each state
 
-first_name-fixed : (fixed chosen other : Option ℕ) (number : ℕ) → IsSome fixed
+pub first_name-fixed : (fixed chosen other : Option ℕ) (number : ℕ) → IsSome fixed
     → first_name fixed chosen number ≡ first_name fixed other number
 first_name-fixed (Some name) chosen other number is = refl
 first_name-fixed None chosen other number is = absurd (cc is)
