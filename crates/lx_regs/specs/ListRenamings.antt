@@ -51,10 +51,9 @@ pub record AreFixedNames (table : NameTable) (count regs : ℕ) (names : List �
   pub fit : length names ≡ regs
   pub each : (reg : ℕ) → reg < regs → IsFixedName table count reg (slice_index_or names reg reg)
 
--- A table gives the registers of an automaton these names, at all states, and m-register 0 one name; there is no other m-register.
+-- A table gives the registers of an automaton these names, and each of its m-registers one name, at all states.
 pub record IsRenaming (given : Auto) (table : NameTable) (renaming : ListRenaming) : Type 0 where
   pub count : ℕ
   pub members : AreMembers given.regs count renaming.names.items renaming.members.items
   pub fixed : (reg : ℕ) → reg < given.regs → IsFixedName table count reg (slice_index_or renaming.names.items reg reg)
-  pub none : IsSome (fixed_name table (MReg 0))
-  pub few : given.mregs ≤ 1
+  pub histories : (mreg : ℕ) → mreg < given.mregs → IsSome (fixed_name table (MReg mreg))

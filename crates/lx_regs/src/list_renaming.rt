@@ -1,11 +1,13 @@
 //! Whether lists of operations do the same where registers have other names, which may be one name for several.
 //!
 //! All registers are looked at, not only those that are live, so that it need not be known which are.
-ghost use Rattle.std.specs.Prelude.{◌≡◌, ℕ, ◌<◌, ◌≤◌, All, IfOk, IfSome, IsTrue, OnOk, length, slice_index_or};
+ghost use Rattle.std.specs.Prelude.{◌≡◌, ℕ, ◌<◌, ◌≤◌, All, IfOk, IfSome, IsSome, IsTrue, OnOk, length, slice_index_or};
 ghost use Rattle.lx_auto.specs.Effects.{renamed_effect};
+ghost use Rattle.lx_auto.specs.declared.automaton.Held.TheVariants.{MReg};
 ghost use Rattle.lx_auto.specs.declared.ops.Op.TheVariants.{Here};
 ghost use Rattle.lx_regs.specs.EffectIndexes.{single_effect};
 ghost use Rattle.lx_regs.specs.ListRenamings.{AreFixedNames, AreMembers, IsFixedName, IsKept, IsListKept, IsNoted, IsRenaming, members_at, names_by};
+ghost use Rattle.lx_regs.specs.NameTables.{fixed_name};
 ghost use Rattle.lx_regs.specs.OrderedOps.{Ascend, number_of};
 
 use crate::effects::Single;
@@ -197,7 +199,20 @@ fn fixed_names(
     Ok(Some(names))
 }
 
-/// The renaming by a table of the registers of an automaton that has no histories, if each has one name at all states, below a count.
+/// Whether so many m-registers have one name each at all states.
+fn all_are_fixed(table: &NameTable, mregs: u32) -> bool
+    ensures { IsTrue result → (mreg : ℕ) → mreg < mregs → IsSome (fixed_name table.now (MReg mreg)) }
+{
+    for mreg in 0..mregs {
+        if table.fixed(Held::MReg(mreg)).is_none() {
+            return false;
+        }
+    }
+    true
+}
+
+/// The renaming by a table of the registers of an automaton, if each register has one name at all states, below a count, and each
+/// m-register one name.
 pub(crate) fn renaming_of(
     alloc: Global,
     given: &Auto,
@@ -206,7 +221,7 @@ pub(crate) fn renaming_of(
 ) -> Result<Option<ListRenaming>, Memory>
     ensures { IfOk result (λ found. IfSome found (IsRenaming given.now table.now)) }
 {
-    if given.mregs > 1 || table.fixed(Held::MReg(0)).is_none() {
+    if !all_are_fixed(table, given.mregs) {
         return Ok(None);
     }
     match fixed_names(alloc, table, given.regs, count)? {

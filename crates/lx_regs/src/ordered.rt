@@ -1,6 +1,6 @@
 //! Lists that write registers in ascending order, in which what happens to a register is found by halves, without an index.
 ghost use Rattle.std.specs.Prelude.{◌≡◌, IsTrue};
-ghost use Rattle.lx_auto.specs.Effects.{effect_behind, effect_of, held_by};
+ghost use Rattle.lx_auto.specs.Effects.{effect_of};
 ghost use Rattle.lx_auto.specs.declared.automaton.Held.TheVariants.{Reg};
 ghost use Rattle.lx_regs.specs.EffectIndexes.{single_effect};
 ghost use Rattle.lx_regs.specs.OrderedOps.{Ascend, number_of, writes_register};

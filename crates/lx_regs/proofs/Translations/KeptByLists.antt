@@ -62,9 +62,10 @@ module _ (given : Auto) (table : NameTable) (renaming : ListRenaming) (is : IsRe
       first_name-fixed (get nat_eq table.fixed_regs reg) (get nat_eq table.regs (state * 4294967296 + reg)) None reg (is.fixed reg within).0
       ∙ (is.fixed reg within).1
 
-  none-named : (state : ℕ) → (names_at table state).mregs 0 ≡ (fixed_names table).mregs 0
-  none-named state =
-      first_name-fixed (get nat_eq table.fixed_mregs 0) (get nat_eq table.mregs (state * 4294967296 + 0)) None 0 is.none
+  history-named : (state mreg : ℕ) → mreg < given.mregs → (names_at table state).mregs mreg ≡ (fixed_names table).mregs mreg
+  history-named state mreg within =
+      first_name-fixed (get nat_eq table.fixed_mregs mreg) (get nat_eq table.mregs (state * 4294967296 + mreg)) None mreg
+      (is.histories mreg within)
 
   -- an effect on a register, by either names
   effect-named : (state : ℕ) (effect : Effect) → IsSingle effect
@@ -95,12 +96,6 @@ module _ (given : Auto) (table : NameTable) (renaming : ListRenaming) (is : IsRe
         (read-held given.regs given.mregs leave (Reg reg) allowed within)
     upon-kept (history_of mreg marks) single reads = absurd single
 
-    none-kept : KeepsEffect table state to leave ops new_leave new_ops (MReg 0)
-    none-kept =
-        both-untouched new_leave new_ops ((names_at table to).mregs 0) kept_leave.also kept.also
-        ∙ ap (λ mreg. history_of mreg []) (none-named to ∙ sym (none-named state))
-        ∙ sym (ap (renamed_effect (names_at table state)) (both-untouched leave ops 0 kept_leave.order kept.order))
-
     pub KeepsEffect-lists : (held : Held) → IsHeld given.regs given.mregs held → KeepsEffect table state to leave ops new_leave new_ops held
     KeepsEffect-lists (Reg reg) within =
         ap (λ name. effect_upon new_leave (effect_of new_ops (Reg name))) (named-at to reg within)
@@ -108,5 +103,6 @@ module _ (given : Auto) (table : NameTable) (renaming : ListRenaming) (is : IsRe
         ∙ upon-kept (effect_of ops (Reg reg)) (IsSingle-after ops reg (held_by reg) tt)
         (read-held given.regs given.mregs ops (Reg reg) also within)
     KeepsEffect-lists (MReg mreg) within =
-        let none : mreg ≡ 0 = (let few = is.few in omega (arith, few, within)) in
-        subst (λ m. KeepsEffect table state to leave ops new_leave new_ops (MReg m)) (sym none) none-kept
+        both-untouched new_leave new_ops ((names_at table to).mregs mreg) kept_leave.also kept.also
+        ∙ ap (λ name. history_of name []) (history-named to mreg within ∙ sym (history-named state mreg within))
+        ∙ sym (ap (renamed_effect (names_at table state)) (both-untouched leave ops mreg kept_leave.order kept.order))
