@@ -1,7 +1,7 @@
 #!/usr/bin/env python3
-"""Measures where the processor time of the gate goes: clones the last commit, runs `rt ci --anew` there, and prints its last line, the
-wall time, the processor minutes in all, and a table by crate: proofs, tests, programs (built from what was proved), and must-fail
-edits with the proof that they begin with. A quiet machine is wanted: processes beside it lengthen each of its own,
+"""Measures where the processor time of the gate goes: clones the last commit, runs `rt ci` there from nothing, and prints
+its last line, the wall time, the processor minutes in all, and a table by crate: proofs, tests, programs (built from what was proved), and
+must-fail edits with the proof that they begin with. A quiet machine is wanted: processes beside it lengthen each of its own,
 and edits that another run tries are counted too.
 
 Usage: bench/gate.py [FOLDER], where FOLDER is to have the clone and the log (none: a new folder below /tmp).
@@ -54,6 +54,12 @@ def sample(clone, found, ended):
                 continue
 
 
+def gate_words():
+    """The words of a gate from nothing: some kits keep what passed, and begin anew only where they are asked to."""
+    told = subprocess.run(["rt", "help"], stdout=subprocess.PIPE, stderr=subprocess.STDOUT, text=True, check=False).stdout
+    return ["rt", "ci", "--anew"] if "--anew" in told else ["rt", "ci"]
+
+
 def table(found):
     """Prints the processor minutes by crate and kind."""
     sums = collections.defaultdict(lambda: dict.fromkeys(KINDS, 0.0))
@@ -76,7 +82,7 @@ def main(words):
     sampler.start()
     begun = time.time()
     with open(f"{folder}/log", "w", encoding="utf-8") as log:
-        status = subprocess.run(["rt", "ci", "--anew"], cwd=clone, stdout=log, stderr=subprocess.STDOUT).returncode
+        status = subprocess.run(gate_words(), cwd=clone, stdout=log, stderr=subprocess.STDOUT).returncode
     wall, used = time.time() - begun, resource.getrusage(resource.RUSAGE_CHILDREN)
     ended.set()
     sampler.join()

@@ -12,8 +12,10 @@
 #   conditions (2 s).
 #
 # The second has for each limit a source that has as much as is accepted, which is done, and one that has one more, which is refused.
-# The third has sources of 16 MiB of one form repeated, which are refused or done. Each may take 10 s and 1 GiB, and so may those that
-# are a quarter as long, which show how it grows.
+# Each may take 10 s and 1 GiB. Behind it stand sources that meet two limits at once. They are run with 1 GiB of memory and no more, and
+# are done or end for want of it, within 10 s.
+# The third has sources of 16 MiB of one form repeated, which are refused or done. Each may take 10 s, and so may those that are a quarter
+# as long, which show how it grows. What memory they take is told.
 cd "$(dirname "$0")/.." || exit 1
 work=$(mktemp -d) || exit 1
 trap 'rm -rf "$work"' EXIT
@@ -109,9 +111,10 @@ _, status, usage = os.wait4(child, 0)
 print(os.waitstatus_to_exitcode(status), usage.ru_utime + usage.ru_stime, usage.ru_maxrss)
 """
 
-def measured(words):
-    """The status, the seconds of processor time, the MiB and the message with which it ends; a run much past its limits is ended."""
-    limits = [str(3 * int(SECONDS)), str(3 * MEMORY * MIB)]
+def measured(words, memory=16 * MEMORY):
+    """The status, the seconds of processor time, the MiB and the message with which it ends; a run much past its limits is ended, and one
+    gets no more MiB than that."""
+    limits = [str(6 * int(SECONDS)), str(memory * MIB)]
     ran = subprocess.run([sys.executable, '-c', BEGUN, *limits, program, *words], stdout=subprocess.PIPE, check=True, text=True)
     status, seconds, peak = ran.stdout.split()
     with open('err', errors='replace') as told:
@@ -157,6 +160,10 @@ def excess(result, seconds=SECONDS, memory=MEMORY):
     if result[1] >= seconds:
         return 'time'
     return 'memory' if result[2] > memory else '' if result[0] in (0, 1) else f'status {result[0]}'
+
+def late(result):
+    """The same where memory is not limited."""
+    return excess(result, memory=result[2])
 
 # ---- small inputs
 
@@ -226,8 +233,6 @@ LIMITS = {
     'places': (lambda n: rules(f'("a" | "aa"){{1,{n}}} {{ }}\n'), 835, 'too many states'),
     'places, by letters': (lambda n: rules('"a"? ' * n + '{ }\n'), 1447, 'too many states'),
     'places, with one tag': (lambda n: rules(f'@t ("a" | "aa"){{1,{n}}} {{ }}\n', '-T'), 835, 'too many states'),
-    'places, with 16 tags': (lambda n: rules(each(16, '@t%d ') + f'("a" | "aa"){{1,{n}}} {{ }}\n', '-T'), 835, 'too many states'),
-    'places, with 128 tags': (lambda n: rules(each(128, '@t%d ') + f'("a" | "aa"){{1,{n}}} {{ }}\n', '-T'), 835, 'too many states'),
     'places of a trailing context': (lambda n: rules(f'[a-z]{{0,{n}}} / [a-z]{{0,{n}}} "!" {{ }}\n'), 1022, 'too many states'),
     'code points': (lambda n: rules(f'[\\U{n:08X}] {{ }}\n', '-8'), 0x10FFFF, 'code point too large'),
     'units at the end': (lambda n: rules(f're2c:eof = {n}; [a] {{ }} $ {{ }}\n', '-u', head='/*!re2c\n'), 0xFFFFFFFF, 'wrong value'),
@@ -243,6 +248,17 @@ for name, (make, most, message) in LIMITS.items():
     told = 'refused' if taken[0] else '' if refused[0] == 1 and refused[3] == message else 'not refused'
     wrong = excess(taken) or excess(refused) or told
     tell(f'{name}, {most}', [taken, refused], wrong)
+
+# ---- two limits at once
+
+def tagged(count):
+    return rules(each(count, '@t%d ') + '("a" | "aa"){1,835} { }\n', '-T')
+
+print('\ntwo limits at once: with 1 GiB of memory, and the status')
+for count in (16, 128):
+    result = measured(tagged(count), MEMORY)
+    wrong = 'time' if result[1] >= SECONDS else '' if result[0] in (0, 4) else f'status {result[0]}'
+    tell(f'places, with {count} tags', [result], wrong)
 
 # ---- sources of one form
 
@@ -304,12 +320,12 @@ file('empty.re', '')
 print('\nsources of one form: 4 MiB, and 16 MiB, with the status of this')
 for name, (options, head, form, foot) in FORMS.items():
     results = [measured(['-i', *options.split(), '-o', 'made.c', repeated('a.re', head, form, foot, size * MIB)]) for size in (4, 16)]
-    tell(name, results, excess(results[0]) or excess(results[1]))
+    tell(name, results, late(results[0]) or late(results[1]))
 for size in (4_000, 16_000):
     repeated(f'{size}.re', '', '// a line of an included text\n', '', size)
     file(f'a{size}.re', f'/*!include:re2c "{size}.re" */' * 1000)
 results = [measured(['-i', '-o', 'made.c', f'a{size}.re']) for size in (4_000, 16_000)]
-tell('1000 includes of one file', results, excess(results[0]) or excess(results[1]))
+tell('1000 includes of one file', results, late(results[0]) or late(results[1]))
 
 print(f'\nhostile: {len(failed)} failed' + ''.join(f'\n- {name}' for name in failed))
 sys.exit(bool(failed))

@@ -45,11 +45,11 @@ const USUAL_NAMES: [&[u8]; 17] = [
 fn copies_of(alloc: Global, words: &[&[u8]]) -> Result<Names, Memory>
     ensures { IfOk result (λ copies. copies ≡ map (λ word. word.now) words.now) }
 {
-    let mut copies = Names::new(alloc);
+    let mut copies = Vec::with_capacity(alloc, words.len())?;
     for word in words {
         copies.push(ByteText::copy_of(alloc, word)?)?;
     }
-    Ok(copies)
+    Ok(Names::from_vec(copies))
 }
 
 /// The spellings of a source that configures none.

@@ -339,9 +339,9 @@ pub closing_written : (piece : Piece) (o0 o1 o2 : List ℕ) → o1 ≡ o0 ++ joi
 closing_written piece o0 o1 o2 e1 e2 = e2 ∙ part_written {f = joined (none_parts piece)} o1 o0 _ e1 (joined-nil (none_parts piece))
 
 -- the three parts of a piece
-pub piece_written : (piece : Piece) (o0 o1 o2 o3 : List ℕ) → o0 ≡ [] → o1 ≡ o0 ++ opening_then piece []
-    → o2 ≡ o1 ++ blocks_then (wording_of piece) 0 piece.blocks [] → o3 ≡ o2 ++ closing_then piece [] → o3 ≡ piece_text piece
-piece_written piece o0 o1 o2 o3 e0 e1 e2 e3 =
+pub piece_written : (piece : Piece) (o0 o1 o2 o3 : List ℕ) → o1 ≡ o0 ++ opening_then piece []
+    → o2 ≡ o1 ++ blocks_then (wording_of piece) 0 piece.blocks [] → o3 ≡ o2 ++ closing_then piece [] → o3 ≡ o0 ++ piece_text piece
+piece_written piece o0 o1 o2 o3 e1 e2 e3 =
     e3 ∙ part_written {f = blocks_then (wording_of piece) 0 piece.blocks} o2 o1 _ e2 (blocks_then-nil (wording_of piece) 0 piece.blocks)
-    ∙ ap (λ (l : List ℕ). l ++ blocks_then (wording_of piece) 0 piece.blocks (closing_then piece [])) (e1 ∙ ap (λ (l : List ℕ). l ++ opening_then piece []) e0)
-    ∙ opening_then-append piece [] (blocks_then (wording_of piece) 0 piece.blocks (closing_then piece []))
+    ∙ part_written {f = opening_then piece} o1 o0 _ e1 (λ before tail. append_assoc before (opening_then piece []) tail
+    ∙ ap (λ (l : List ℕ). before ++ l) (opening_then-append piece [] tail))

@@ -5,7 +5,6 @@ pub mod Effects
 pub mod Examples
 pub mod Front
 pub mod Heads
-pub mod LineParts
 pub mod Machine
 pub mod Marks
 pub mod NameSets

@@ -7,7 +7,7 @@ ghost use Rattle.lx_ccode.specs.Bodies.{body_piece_text, body_then, conditions_t
 ghost use Rattle.lx_ccode.specs.Registers.{variable_text};
 ghost use Rattle.lx_ccode.specs.Text.{start_then};
 
-use crate::numerals::{Part, append_line_parts, variable_text};
+use crate::numerals::{append_number, append_word, variable_text};
 use crate::piece::{CondCase, LineMark, StateCase};
 use crate::printing::{append_begin, append_end};
 use crate::sections::{append_default, append_state_case, append_state_head};
@@ -140,16 +140,8 @@ fn append_body(alloc: Global, text: &mut Vec<u8>, names: &Names, body: &Body) ->
 fn append_definition(text: &mut Vec<u8>, name: &[u8], value: u64) -> Result<(), Memory>
     ensures { OnOk result (text.new.items ≡ text.old.items ++ joined (codes "#define " ∷ name.now ∷ codes " " ∷ decimal value ∷ codes "\n" ∷ []) []) }
 {
-    append_line_parts(
-        text,
-        &[
-            Part::Bytes(b"#define "),
-            Part::Bytes(name),
-            Part::Bytes(b" "),
-            Part::Number(value),
-            Part::Bytes(b"\n"),
-        ],
-    )
+    append_word(text, b"#define ", name, b" ")?;
+    append_number(text, b"", value, b"\n")
 }
 
 /// Appends histories where `history` says so, else registers, each in the format.

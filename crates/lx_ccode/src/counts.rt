@@ -1,7 +1,7 @@
 //! How many registers and histories a piece has.
 ghost use Rattle.std.specs.Prelude.{◌≡◌, max};
 ghost use Rattle.lx_ccode.specs.Counts.{greatest_of, history_in, mregs_of, register_in, regs_of};
-ghost use Rattle.lx_ccode.specs.Statements.{all_statements};
+ghost use Rattle.lx_ccode.specs.Statements.{all_statements, has_register_one};
 
 use crate::piece::{CodeBlock, Stmt};
 
@@ -17,6 +17,21 @@ fn register_in(statement: &Stmt) -> u32
         | Stmt::Back(register) => *register,
         Stmt::Copy(register, source) => (*register).max(*source),
         _ => 0,
+    }
+}
+
+/// Whether the statement names register 1. It takes no memory.
+pub fn has_register_one(statement: &Stmt) -> bool
+    ensures { result ≡ has_register_one statement.now }
+{
+    match statement {
+        Stmt::Set(register)
+        | Stmt::Unset(register)
+        | Stmt::Tag(_, false, register)
+        | Stmt::End(_, register)
+        | Stmt::Back(register) => *register == 1,
+        Stmt::Copy(register, source) => *register == 1 || *source == 1,
+        _ => false,
     }
 }
 

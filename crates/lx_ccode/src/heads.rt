@@ -1,13 +1,10 @@
 //! Writes the head line of a piece.
-ghost use Rattle.std.specs.Prelude.{◌≡◌, ◌++◌, [], ◌∷◌, OnOk, Some, codes};
-ghost use Rattle.std.specs.Fmt.{decimal};
-ghost use Rattle.lx_base.specs.Text.{joined};
+ghost use Rattle.std.specs.Prelude.{◌≡◌, ◌++◌, [], OnOk, Some};
 ghost use Rattle.lx_ccode.specs.Heads.{custom_word, encoding_word, head_then, is_custom, mode_word};
 
-use crate::numerals::{Part, append_line_parts};
+use crate::numerals::{append_number, append_word};
 use crate::piece::{Head, Mode};
 use lx_base::{Enc, Memory};
-use std::alloc::Global;
 
 /// Whether a piece with this head reads its input by primitives of the user's. One without a head does not.
 pub fn is_custom(head: &Option<Head>) -> bool
@@ -61,21 +58,10 @@ pub(crate) fn append_head(text: &mut Vec<u8>, head: &Option<Head>) -> Result<(),
 fn append_head_line(text: &mut Vec<u8>, head: &Head) -> Result<(), Memory>
     ensures { OnOk result (text.new.items ≡ text.old.items ++ head_then (Some head.now) []) }
 {
-    append_line_parts(
-        text,
-        &[
-            Part::Bytes(b"/*!head:re2c 2 "),
-            Part::Bytes(custom_word(head.custom)),
-            Part::Bytes(encoding_word(head.enc)),
-            Part::Bytes(b" "),
-            Part::Bytes(mode_word(head.mode)),
-            Part::Bytes(b" "),
-            Part::Number(u64::from(head.regs)),
-            Part::Bytes(b" "),
-            Part::Number(u64::from(head.mregs)),
-            Part::Bytes(b" "),
-            Part::Number(head.states),
-            Part::Bytes(b"*/\n"),
-        ],
-    )
+    let custom = custom_word(head.custom);
+    append_word(text, b"/*!head:re2c 2 ", custom, encoding_word(head.enc))?;
+    append_word(text, b" ", mode_word(head.mode), b" ")?;
+    append_number(text, b"", u64::from(head.regs), b" ")?;
+    append_number(text, b"", u64::from(head.mregs), b" ")?;
+    append_number(text, b"", head.states, b"*/\n")
 }

@@ -15,10 +15,10 @@ pub mod printing;
 mod sections;
 
 pub use bodies::{Body, FileState, Format, print_body, print_body_piece};
-pub use counts::{mregs_of, regs_of};
+pub use counts::{has_register_one, mregs_of, regs_of};
 pub use fronts::begins_with_piece;
 pub use heads::is_custom;
 pub use name_sets::NameSet;
 pub use numerals::hexadecimal;
 pub use piece::{CodeBlock, CondCase, Head, LineMark, Mode, Piece, StateCase, Stmt};
-pub use printing::{count_statements, print, statements};
+pub use printing::{append_piece, count_statements, print, statements};

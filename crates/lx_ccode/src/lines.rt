@@ -1,17 +1,20 @@
 //! Writes the lines of statements.
-ghost use Rattle.std.specs.Prelude.{◌≡◌, ◌++◌, [], ◌∷◌, length, map, OnOk, codes};
+ghost use Rattle.std.specs.Prelude.{◌≡◌, ◌++◌, [], ◌∷◌, length, OnOk, codes};
 ghost use Rattle.std.specs.Fmt.{decimal};
 ghost use Rattle.lx_base.specs.Text.{joined};
 ghost use Rattle.lx_base.specs.Names.{cursor, limit, refill, current_unit, last_accept, set_condition, condition_prefix, label_prefix};
 ghost use Rattle.lx_ccode.specs.Registers.{register_text, history_text};
 ghost use Rattle.lx_ccode.specs.Heads.{is_custom};
-ghost use Rattle.lx_ccode.specs.Text.{custom_then, pointer_then, statement_then, statements_then, line_by, line_then, goto_then, block_then, escaped, hexadecimal};
+ghost use Rattle.lx_ccode.specs.Text.{custom_then, pointer_then, statement_then, statements_then, line_then, escaped};
 ghost use Rattle.lx_ccode.specs.Wording.{scope_wording};
 
 use crate::heads::is_custom;
-use crate::numerals::{Part, append_line_parts, hexadecimal, history_text, register_text};
+use crate::numerals::{
+    append_block, append_bytes, append_hexadecimal, append_history, append_number, append_register,
+    append_word,
+};
 use crate::piece::{LineMark, Piece, Stmt};
-use lx_base::{ByteText, Memory, Names, append_parts, names};
+use lx_base::{Memory, Names, append_parts, names};
 use std::alloc::Global;
 
 /// What the lines of a piece depend on beside their statements.
@@ -92,23 +95,20 @@ impl Scope<'_> {
     fn append_pointer(&self, text: &mut Vec<u8>, statement: &Stmt) -> Result<(), Memory>
         ensures { OnOk result (text.new.items ≡ text.old.items ++ pointer_then (scope_wording self.now) statement.now []) }
     {
-        let cursor = names::cursor(self.names);
-        let marker = names::marker(self.names);
-        let last_accept = names::last_accept(self.names);
-        let append_offset = names::append_offset(self.names);
-        let append_negative = names::append_negative(self.names);
-        let prefix = names::label_prefix(self.names);
+        let names = self.names;
         match statement {
             Stmt::Peek => self.append_peek(text),
-            Stmt::Skip => append_parts(text, &[b"\t++", cursor, b";\n"]),
-            Stmt::Backup => append_assignment(text, marker, cursor),
-            Stmt::Restore => append_assignment(text, cursor, marker),
-            Stmt::Accept(accept) => self.append_number(text, last_accept, *accept),
-            Stmt::Set(register) => self.append_to_register(text, *register, cursor),
+            Stmt::Skip => append_skip(text, names::cursor(names)),
+            Stmt::Backup => append_assignment(text, names::marker(names), names::cursor(names)),
+            Stmt::Restore => append_assignment(text, names::cursor(names), names::marker(names)),
+            Stmt::Accept(accept) => append_value(text, names::last_accept(names), *accept),
+            Stmt::Set(register) => self.append_to_register(text, *register, names::cursor(names)),
             Stmt::Unset(register) => self.append_to_register(text, *register, b"NULL"),
             Stmt::Copy(register, source) => self.append_copy(text, *register, *source),
-            Stmt::MSet(history) => self.append_event(text, append_offset, *history),
-            Stmt::MUnset(history) => self.append_event(text, append_negative, *history),
+            Stmt::MSet(history) => self.append_event(text, names::append_offset(names), *history),
+            Stmt::MUnset(history) => {
+                self.append_event(text, names::append_negative(names), *history)
+            }
             Stmt::MCopy(history, source) => self.append_history_copy(text, *history, *source),
             Stmt::IfUnit(greatest, block) => self.append_if_unit(text, *greatest, *block),
             Stmt::IfAccept(accept, block) => self.append_if_accept(text, *accept, *block),
@@ -119,30 +119,52 @@ impl Scope<'_> {
             Stmt::Cond(cond) => self.append_cond(text, cond.as_slice()),
             Stmt::Tag(tag, true, from) => self.append_from_history(text, tag.as_slice(), *from),
             Stmt::Tag(tag, false, from) => self.append_from_register(text, tag.as_slice(), *from),
-            Stmt::Count(groups) => self.append_number(text, b"yynmatch", *groups),
+            Stmt::Count(groups) => append_value(text, b"yynmatch", *groups),
             Stmt::End(place, register) => self.append_group_end(text, *place, *register),
-            Stmt::Back(register) => self.append_from_register(text, cursor, *register),
+            Stmt::Back(register) => self.append_back(text, *register),
             Stmt::Goto(block) => self.append_jump(text, *block),
             Stmt::Leave => self.append_leave(text),
             Stmt::Code(rule, line, code) => self.append_code(text, *rule, line, code.as_slice()),
-            Stmt::Jump(cond, rule) => append_cond_jump(text, prefix, cond, *rule),
+            Stmt::Jump(cond, rule) => self.append_cond_jump(text, cond.as_slice(), *rule),
         }
+    }
+
+    /// Appends a register between two words.
+    fn append_register(
+        &self,
+        text: &mut Vec<u8>,
+        before: &[u8],
+        register: u32,
+        behind: &[u8],
+    ) -> Result<(), Memory>
+        ensures { OnOk result (text.new.items ≡ text.old.items ++ joined (before.now ∷ register_text self.now.names.now self.now.ctx register ∷ behind.now ∷ []) []) }
+    {
+        append_bytes(text, before)?;
+        append_register(text, self.names, self.ctx, register)?;
+        append_bytes(text, behind)
+    }
+
+    /// Appends a history between two words.
+    fn append_history(
+        &self,
+        text: &mut Vec<u8>,
+        before: &[u8],
+        history: u32,
+        behind: &[u8],
+    ) -> Result<(), Memory>
+        ensures { OnOk result (text.new.items ≡ text.old.items ++ joined (before.now ∷ history_text self.now.names.now history ∷ behind.now ∷ []) []) }
+    {
+        append_bytes(text, before)?;
+        append_history(text, self.names, history)?;
+        append_bytes(text, behind)
     }
 
     fn append_peek(&self, text: &mut Vec<u8>) -> Result<(), Memory>
         ensures { OnOk result (text.new.items ≡ text.old.items ++ pointer_then (scope_wording self.now) Stmt.Peek []) }
     {
         let current_unit = names::current_unit(self.names);
-        append_parts(
-            text,
-            &[
-                b"\t",
-                current_unit,
-                b" = *",
-                names::cursor(self.names),
-                b";\n",
-            ],
-        )
+        append_word(text, b"\t", current_unit, b" = *")?;
+        append_word(text, b"", names::cursor(self.names), b";\n")
     }
 
     /// Appends a call of a primitive of the user's with a register.
@@ -154,55 +176,27 @@ impl Scope<'_> {
     ) -> Result<(), Memory>
         ensures { OnOk result (text.new.items ≡ text.old.items ++ joined (codes "\t" ∷ name.now ∷ codes "(" ∷ register_text self.now.names.now self.now.ctx register ∷ codes ");\n" ∷ []) []) }
     {
-        let register = register_text(self.alloc, self.names, self.ctx, register)?;
-        append_call(text, name, &register)
+        append_word(text, b"\t", name, b"(")?;
+        self.append_register(text, b"", register, b");\n")
     }
 
     fn append_custom_need(&self, text: &mut Vec<u8>, units: u32) -> Result<(), Memory>
         ensures { OnOk result (text.new.items ≡ text.old.items ++ custom_then (scope_wording self.now) (Stmt.Need units) []) }
     {
-        let refill = names::refill(self.names);
-        append_line_parts(
-            text,
-            &[
-                Part::Bytes(b"\tif (YYLESSTHAN("),
-                Part::Number(u64::from(units)),
-                Part::Bytes(b")) "),
-                Part::Bytes(refill),
-                Part::Bytes(b"("),
-                Part::Number(u64::from(units)),
-                Part::Bytes(b");\n"),
-            ],
-        )
+        append_number(text, b"\tif (YYLESSTHAN(", u64::from(units), b")) ")?;
+        append_word(text, b"", names::refill(self.names), b"(")?;
+        append_number(text, b"", u64::from(units), b");\n")
     }
 
     fn append_custom_if_end(&self, text: &mut Vec<u8>, block: u64) -> Result<(), Memory>
         ensures { OnOk result (text.new.items ≡ text.old.items ++ custom_then (scope_wording self.now) (Stmt.IfEnd block) []) }
     {
-        append_line_parts(
+        append_block(
             text,
-            &[
-                Part::Bytes(b"\tif (YYLESSTHAN(1)) goto yy"),
-                Part::Number(u64::from(self.number)),
-                Part::Bytes(b"_"),
-                Part::Number(block),
-                Part::Bytes(b";\n"),
-            ],
-        )
-    }
-
-    fn append_number(&self, text: &mut Vec<u8>, target: &[u8], number: u32) -> Result<(), Memory>
-        ensures { OnOk result (text.new.items ≡ text.old.items ++ joined (codes "\t" ∷ target.now ∷ codes " = " ∷ decimal number ∷ codes ";\n" ∷ []) []) }
-    {
-        append_line_parts(
-            text,
-            &[
-                Part::Bytes(b"\t"),
-                Part::Bytes(target),
-                Part::Bytes(b" = "),
-                Part::Number(u64::from(number)),
-                Part::Bytes(b";\n"),
-            ],
+            b"\tif (YYLESSTHAN(1)) goto yy",
+            self.number,
+            block,
+            b";\n",
         )
     }
 
@@ -214,8 +208,8 @@ impl Scope<'_> {
     ) -> Result<(), Memory>
         ensures { OnOk result (text.new.items ≡ text.old.items ++ joined (codes "\t" ∷ register_text self.now.names.now self.now.ctx register ∷ codes " = " ∷ source.now ∷ codes ";\n" ∷ []) []) }
     {
-        let register = register_text(self.alloc, self.names, self.ctx, register)?;
-        append_assignment(text, &register, source)
+        self.append_register(text, b"\t", register, b" = ")?;
+        append_word(text, b"", source, b";\n")
     }
 
     fn append_from_register(
@@ -226,38 +220,35 @@ impl Scope<'_> {
     ) -> Result<(), Memory>
         ensures { OnOk result (text.new.items ≡ text.old.items ++ joined (codes "\t" ∷ target.now ∷ codes " = " ∷ register_text self.now.names.now self.now.ctx register ∷ codes ";\n" ∷ []) []) }
     {
-        let register = register_text(self.alloc, self.names, self.ctx, register)?;
-        append_assignment(text, target, &register)
+        append_word(text, b"\t", target, b" = ")?;
+        self.append_register(text, b"", register, b";\n")
+    }
+
+    fn append_back(&self, text: &mut Vec<u8>, register: u32) -> Result<(), Memory>
+        ensures { OnOk result (text.new.items ≡ text.old.items ++ pointer_then (scope_wording self.now) (Stmt.Back register) []) }
+    {
+        self.append_from_register(text, names::cursor(self.names), register)
     }
 
     fn append_copy(&self, text: &mut Vec<u8>, register: u32, source: u32) -> Result<(), Memory>
         ensures { OnOk result (text.new.items ≡ text.old.items ++ pointer_then (scope_wording self.now) (Stmt.Copy register source) []) }
     {
-        let source = register_text(self.alloc, self.names, self.ctx, source)?;
-        self.append_to_register(text, register, &source)
+        self.append_register(text, b"\t", register, b" = ")?;
+        self.append_register(text, b"", source, b";\n")
     }
 
     fn append_group_end(&self, text: &mut Vec<u8>, place: u32, register: u32) -> Result<(), Memory>
         ensures { OnOk result (text.new.items ≡ text.old.items ++ pointer_then (scope_wording self.now) (Stmt.End place register) []) }
     {
-        let register = register_text(self.alloc, self.names, self.ctx, register)?;
-        append_line_parts(
-            text,
-            &[
-                Part::Bytes(b"\tyypmatch["),
-                Part::Number(u64::from(place)),
-                Part::Bytes(b"] = "),
-                Part::Bytes(&register),
-                Part::Bytes(b";\n"),
-            ],
-        )
+        append_number(text, b"\tyypmatch[", u64::from(place), b"] = ")?;
+        self.append_register(text, b"", register, b";\n")
     }
 
     fn append_event(&self, text: &mut Vec<u8>, name: &[u8], history: u32) -> Result<(), Memory>
         ensures { OnOk result (text.new.items ≡ text.old.items ++ joined (codes "\t" ∷ name.now ∷ codes "(" ∷ history_text self.now.names.now history ∷ codes ");\n" ∷ []) []) }
     {
-        let history = history_text(self.alloc, self.names, history)?;
-        append_call(text, name, &history)
+        append_word(text, b"\t", name, b"(")?;
+        self.append_history(text, b"", history, b");\n")
     }
 
     fn append_from_history(
@@ -268,8 +259,8 @@ impl Scope<'_> {
     ) -> Result<(), Memory>
         ensures { OnOk result (text.new.items ≡ text.old.items ++ joined (codes "\t" ∷ target.now ∷ codes " = " ∷ history_text self.now.names.now history ∷ codes ";\n" ∷ []) []) }
     {
-        let history = history_text(self.alloc, self.names, history)?;
-        append_assignment(text, target, &history)
+        append_word(text, b"\t", target, b" = ")?;
+        self.append_history(text, b"", history, b";\n")
     }
 
     fn append_history_copy(
@@ -280,153 +271,82 @@ impl Scope<'_> {
     ) -> Result<(), Memory>
         ensures { OnOk result (text.new.items ≡ text.old.items ++ pointer_then (scope_wording self.now) (Stmt.MCopy history source) []) }
     {
-        let history = history_text(self.alloc, self.names, history)?;
-        self.append_from_history(text, &history, source)
+        self.append_history(text, b"\t", history, b" = ")?;
+        self.append_history(text, b"", source, b";\n")
     }
 
     fn append_if_unit(&self, text: &mut Vec<u8>, greatest: u32, block: u64) -> Result<(), Memory>
         ensures { OnOk result (text.new.items ≡ text.old.items ++ pointer_then (scope_wording self.now) (Stmt.IfUnit greatest block) []) }
     {
-        let current_unit = names::current_unit(self.names);
-        let greatest = hexadecimal(self.alloc, greatest)?;
-        append_unit_test(text, self.number, current_unit, greatest.as_bytes(), block)
+        append_word(text, b"\tif (", names::current_unit(self.names), b" <= 0x")?;
+        append_hexadecimal(self.alloc, text, greatest)?;
+        append_block(text, b") goto yy", self.number, block, b";\n")
     }
 
     fn append_if_accept(&self, text: &mut Vec<u8>, accept: u32, block: u64) -> Result<(), Memory>
         ensures { OnOk result (text.new.items ≡ text.old.items ++ pointer_then (scope_wording self.now) (Stmt.IfAccept accept block) []) }
     {
-        let last_accept = names::last_accept(self.names);
-        append_line_parts(
-            text,
-            &[
-                Part::Bytes(b"\tif ("),
-                Part::Bytes(last_accept),
-                Part::Bytes(b" == "),
-                Part::Number(u64::from(accept)),
-                Part::Bytes(b") goto yy"),
-                Part::Number(u64::from(self.number)),
-                Part::Bytes(b"_"),
-                Part::Number(block),
-                Part::Bytes(b";\n"),
-            ],
-        )
+        append_word(text, b"\tif (", names::last_accept(self.names), b" == ")?;
+        append_number(text, b"", u64::from(accept), b"")?;
+        append_block(text, b") goto yy", self.number, block, b";\n")
     }
 
     fn append_if_end(&self, text: &mut Vec<u8>, block: u64) -> Result<(), Memory>
         ensures { OnOk result (text.new.items ≡ text.old.items ++ pointer_then (scope_wording self.now) (Stmt.IfEnd block) []) }
     {
-        let cursor = names::cursor(self.names);
-        let limit = names::limit(self.names);
-        append_line_parts(
-            text,
-            &[
-                Part::Bytes(b"\tif ("),
-                Part::Bytes(cursor),
-                Part::Bytes(b" >= "),
-                Part::Bytes(limit),
-                Part::Bytes(b") goto yy"),
-                Part::Number(u64::from(self.number)),
-                Part::Bytes(b"_"),
-                Part::Number(block),
-                Part::Bytes(b";\n"),
-            ],
-        )
+        append_word(text, b"\tif (", names::cursor(self.names), b" >= ")?;
+        append_word(text, b"", names::limit(self.names), b"")?;
+        append_block(text, b") goto yy", self.number, block, b";\n")
     }
 
     fn append_state(&self, text: &mut Vec<u8>, state: u64) -> Result<(), Memory>
         ensures { OnOk result (text.new.items ≡ text.old.items ++ pointer_then (scope_wording self.now) (Stmt.State state) []) }
     {
-        append_line_parts(
-            text,
-            &[
-                Part::Bytes(b"\t"),
-                Part::Bytes(names::set_state(self.names)),
-                Part::Bytes(b"("),
-                Part::Number(state),
-                Part::Bytes(b");\n"),
-            ],
-        )
+        append_word(text, b"\t", names::set_state(self.names), b"(")?;
+        append_number(text, b"", state, b");\n")
     }
 
     fn append_need(&self, text: &mut Vec<u8>, units: u32) -> Result<(), Memory>
         ensures { OnOk result (text.new.items ≡ text.old.items ++ pointer_then (scope_wording self.now) (Stmt.Need units) []) }
     {
-        let limit = names::limit(self.names);
-        let cursor = names::cursor(self.names);
-        let refill = names::refill(self.names);
-        append_line_parts(
-            text,
-            &[
-                Part::Bytes(b"\tif (("),
-                Part::Bytes(limit),
-                Part::Bytes(b" - "),
-                Part::Bytes(cursor),
-                Part::Bytes(b") < "),
-                Part::Number(u64::from(units)),
-                Part::Bytes(b") "),
-                Part::Bytes(refill),
-                Part::Bytes(b"("),
-                Part::Number(u64::from(units)),
-                Part::Bytes(b");\n"),
-            ],
-        )
+        append_word(text, b"\tif ((", names::limit(self.names), b" - ")?;
+        append_word(text, b"", names::cursor(self.names), b") < ")?;
+        append_number(text, b"", u64::from(units), b") ")?;
+        append_word(text, b"", names::refill(self.names), b"(")?;
+        append_number(text, b"", u64::from(units), b");\n")
     }
 
     fn append_try(&self, text: &mut Vec<u8>, block: u64) -> Result<(), Memory>
         ensures { OnOk result (text.new.items ≡ text.old.items ++ pointer_then (scope_wording self.now) (Stmt.Try block) []) }
     {
-        let refill = names::refill(self.names);
-        append_line_parts(
-            text,
-            &[
-                Part::Bytes(b"\tif ("),
-                Part::Bytes(refill),
-                Part::Bytes(b"() == 0) goto yy"),
-                Part::Number(u64::from(self.number)),
-                Part::Bytes(b"_"),
-                Part::Number(block),
-                Part::Bytes(b";\n"),
-            ],
-        )
+        append_word(text, b"\tif (", names::refill(self.names), b"() == 0")?;
+        append_block(text, b") goto yy", self.number, block, b";\n")
     }
 
     fn append_cond(&self, text: &mut Vec<u8>, cond: &[u8]) -> Result<(), Memory>
         ensures { OnOk result (text.new.items ≡ text.old.items ++ pointer_then (scope_wording self.now) (Stmt.Cond cond.now) []) }
     {
-        let set_condition = names::set_condition(self.names);
-        let condition_prefix = names::condition_prefix(self.names);
-        append_parts(
-            text,
-            &[b"\t", set_condition, b"(", condition_prefix, cond, b");\n"],
-        )
+        append_word(text, b"\t", names::set_condition(self.names), b"(")?;
+        append_word(text, names::condition_prefix(self.names), cond, b");\n")
     }
 
     fn append_jump(&self, text: &mut Vec<u8>, block: u64) -> Result<(), Memory>
         ensures { OnOk result (text.new.items ≡ text.old.items ++ pointer_then (scope_wording self.now) (Stmt.Goto block) []) }
     {
-        append_line_parts(
-            text,
-            &[
-                Part::Bytes(b"\tgoto yy"),
-                Part::Number(u64::from(self.number)),
-                Part::Bytes(b"_"),
-                Part::Number(block),
-                Part::Bytes(b";\n"),
-            ],
-        )
+        append_block(text, b"\tgoto yy", self.number, block, b";\n")
+    }
+
+    fn append_cond_jump(&self, text: &mut Vec<u8>, cond: &[u8], rule: u32) -> Result<(), Memory>
+        ensures { OnOk result (text.new.items ≡ text.old.items ++ pointer_then (scope_wording self.now) (Stmt.Jump cond.now rule) []) }
+    {
+        append_word(text, b"\tgoto ", names::label_prefix(self.names), cond)?;
+        append_number(text, b"; /* ", u64::from(rule), b" */\n")
     }
 
     fn append_leave(&self, text: &mut Vec<u8>) -> Result<(), Memory>
         ensures { OnOk result (text.new.items ≡ text.old.items ++ pointer_then (scope_wording self.now) Stmt.Leave []) }
     {
-        append_line_parts(
-            text,
-            &[
-                Part::Bytes(b"\tgoto yy"),
-                Part::Number(u64::from(self.number)),
-                Part::Bytes(b"_none;\n"),
-            ],
-        )
+        append_number(text, b"\tgoto yy", u64::from(self.number), b"_none;\n")
     }
 
     fn append_code(
@@ -443,62 +363,25 @@ impl Scope<'_> {
     }
 }
 
-fn append_cond_jump<'a>(
-    text: &mut Vec<u8>,
-    prefix: &'a [u8],
-    cond: &'a ByteText,
-    rule: u32,
-) -> Result<(), Memory>
-    ensures { OnOk result (text.new.items ≡ text.old.items ++ joined (codes "\tgoto " ∷ (prefix.now ++ cond.now) ∷ codes "; /* " ∷ decimal rule ∷ codes " */\n" ∷ []) []) }
+fn append_skip(text: &mut Vec<u8>, cursor: &[u8]) -> Result<(), Memory>
+    ensures { OnOk result (text.new.items ≡ text.old.items ++ joined (codes "\t++" ∷ cursor.now ∷ codes ";\n" ∷ []) []) }
 {
-    append_line_parts(
-        text,
-        &[
-            Part::Bytes(b"\tgoto "),
-            Part::Bytes(prefix),
-            Part::Bytes(cond.as_slice()),
-            Part::Bytes(b"; /* "),
-            Part::Number(u64::from(rule)),
-            Part::Bytes(b" */\n"),
-        ],
-    )
+    append_word(text, b"\t++", cursor, b";\n")
 }
 
-fn append_unit_test<'a>(
-    text: &mut Vec<u8>,
-    number: u32,
-    current_unit: &'a [u8],
-    greatest: &'a [u8],
-    block: u64,
-) -> Result<(), Memory>
-    ensures { OnOk result (text.new.items ≡ text.old.items ++ joined (codes "\tif (" ∷ current_unit.now ∷ codes " <= 0x" ∷ greatest.now ∷ codes ") goto yy" ∷ decimal number ∷ codes "_" ∷ decimal block ∷ codes ";\n" ∷ []) []) }
+/// Appends the line that gives the target a number.
+fn append_value(text: &mut Vec<u8>, target: &[u8], number: u32) -> Result<(), Memory>
+    ensures { OnOk result (text.new.items ≡ text.old.items ++ joined (codes "\t" ∷ target.now ∷ codes " = " ∷ decimal number ∷ codes ";\n" ∷ []) []) }
 {
-    append_line_parts(
-        text,
-        &[
-            Part::Bytes(b"\tif ("),
-            Part::Bytes(current_unit),
-            Part::Bytes(b" <= 0x"),
-            Part::Bytes(greatest),
-            Part::Bytes(b") goto yy"),
-            Part::Number(u64::from(number)),
-            Part::Bytes(b"_"),
-            Part::Number(block),
-            Part::Bytes(b";\n"),
-        ],
-    )
+    append_word(text, b"\t", target, b" = ")?;
+    append_number(text, b"", u64::from(number), b";\n")
 }
 
 fn append_assignment(text: &mut Vec<u8>, target: &[u8], source: &[u8]) -> Result<(), Memory>
     ensures { OnOk result (text.new.items ≡ text.old.items ++ joined (codes "\t" ∷ target.now ∷ codes " = " ∷ source.now ∷ codes ";\n" ∷ []) []) }
 {
-    append_parts(text, &[b"\t", target, b" = ", source, b";\n"])
-}
-
-fn append_call(text: &mut Vec<u8>, name: &[u8], value: &[u8]) -> Result<(), Memory>
-    ensures { OnOk result (text.new.items ≡ text.old.items ++ joined (codes "\t" ∷ name.now ∷ codes "(" ∷ value.now ∷ codes ");\n" ∷ []) []) }
-{
-    append_parts(text, &[b"\t", name, b"(", value, b");\n"])
+    append_word(text, b"\t", target, b" = ")?;
+    append_word(text, b"", source, b";\n")
 }
 
 /// Appends the line `#line L "FILE"`, where there is one. Where memory runs out a part of it may stand there.
@@ -508,8 +391,7 @@ pub fn append_line(text: &mut Vec<u8>, line: &Option<LineMark>) -> Result<(), Me
     match line {
         None => Ok(()),
         Some(mark) => {
-            let number = Part::Number(u64::from(mark.line));
-            append_line_parts(text, &[Part::Bytes(b"#line "), number, Part::Bytes(b" \"")])?;
+            append_number(text, b"#line ", u64::from(mark.line), b" \"")?;
             append_escaped(text, mark.file.as_slice())?;
             append_parts(text, &[b"\"\n"])
         }
@@ -539,16 +421,7 @@ fn append_letter(text: &mut Vec<u8>, letter: u8) -> Result<(), Memory>
 fn append_action(text: &mut Vec<u8>, rule: u32, action: &[u8]) -> Result<(), Memory>
     ensures { OnOk result (text.new.items ≡ text.old.items ++ joined (codes "\t/*!code:re2c " ∷ decimal rule ∷ codes " " ∷ decimal (length action.now) ∷ codes "*/" ∷ action.now ∷ codes "\n" ∷ []) []) }
 {
-    append_line_parts(
-        text,
-        &[
-            Part::Bytes(b"\t/*!code:re2c "),
-            Part::Number(u64::from(rule)),
-            Part::Bytes(b" "),
-            Part::Number(action.len() as u64),
-            Part::Bytes(b"*/"),
-            Part::Bytes(action),
-            Part::Bytes(b"\n"),
-        ],
-    )
+    append_number(text, b"\t/*!code:re2c ", u64::from(rule), b" ")?;
+    append_number(text, b"", action.len() as u64, b"*/")?;
+    append_word(text, b"", action, b"\n")
 }

@@ -1,8 +1,7 @@
-//! Writes the parts of lines, and how registers, histories and numbers are spelled.
-ghost use Rattle.std.specs.Prelude.{◌≡◌, ◌++◌, [], map, IfOk, OnOk, string_bytes};
-ghost use Rattle.std.specs.Fmt.{decimal};
+//! Writes words, numbers, registers and histories, of which lines consist.
+ghost use Rattle.std.specs.Prelude.{◌≡◌, ◌<◌, ◌++◌, [], ◌∷◌, codes, true, IfOk, OnOk, string_bytes};
+ghost use Rattle.std.specs.Fmt.{decimal, digit_glyph};
 ghost use Rattle.lx_base.specs.Text.{joined};
-ghost use Rattle.lx_ccode.specs.LineParts.{spelled};
 ghost use Rattle.lx_ccode.specs.Registers.{register_text, history_text, variable_text};
 ghost use Rattle.lx_ccode.specs.Text.{hexadecimal};
 
@@ -11,58 +10,109 @@ use lx_base::names::{context_marker, tag_prefix};
 use lx_base::{Memory, Names};
 use std::alloc::Global;
 
-/// A part of a line.
-#[derive(Clone, Copy)]
-pub enum Part<'a> {
-    /// Bytes as they are.
-    Bytes(&'a [u8]),
-    /// A number in decimal digits.
-    Number(u64),
+/// Appends a word between two others. It stands in its callers, where constant bytes are not copied by a call.
+#[inline(always)]
+pub fn append_word(
+    text: &mut Vec<u8>,
+    before: &[u8],
+    word: &[u8],
+    behind: &[u8],
+) -> Result<(), Memory>
+    ensures { OnOk result (text.new.items ≡ text.old.items ++ joined (before.now ∷ word.now ∷ behind.now ∷ []) []) }
+{
+    append_bytes(text, before)?;
+    text.extend_from_slice(word)?;
+    append_bytes(text, behind)
 }
 
-/// Appends the parts of a line, one behind another. Where memory runs out some of them may stand there.
-pub fn append_line_parts(text: &mut Vec<u8>, parts: &[Part<'_>]) -> Result<(), Memory>
-    ensures { OnOk result (text.new.items ≡ text.old.items ++ joined (map spelled parts.now) []) }
+/// Appends a number in decimal digits between two words.
+#[inline(always)]
+pub fn append_number(
+    text: &mut Vec<u8>,
+    before: &[u8],
+    number: u64,
+    behind: &[u8],
+) -> Result<(), Memory>
+    ensures { OnOk result (text.new.items ≡ text.old.items ++ joined (before.now ∷ decimal number ∷ behind.now ∷ []) []) }
 {
-    for part in parts {
-        append_part(text, *part)?;
-    }
-    Ok(())
+    append_bytes(text, before)?;
+    append_digits(text, number)?;
+    append_bytes(text, behind)
 }
 
-fn append_part(text: &mut Vec<u8>, part: Part<'_>) -> Result<(), Memory>
-    ensures { OnOk result (text.new.items ≡ text.old.items ++ spelled part.entry) }
+/// Appends the numbers of a piece and of its block, with `_` between them, between two words.
+#[inline(always)]
+pub fn append_block(
+    text: &mut Vec<u8>,
+    before: &[u8],
+    number: u32,
+    block: u64,
+    behind: &[u8],
+) -> Result<(), Memory>
+    ensures { OnOk result (text.new.items ≡ text.old.items ++ joined (before.now ∷ decimal number ∷ codes "_" ∷ decimal block ∷ behind.now ∷ []) []) }
 {
-    match part {
-        Part::Bytes(bytes) => Ok(text.extend_from_slice(bytes)?),
-        Part::Number(number) => append_digits(text, number),
+    append_number(text, before, u64::from(number), b"_")?;
+    append_digits(text, block)?;
+    append_bytes(text, behind)
+}
+
+/// Appends bytes, of which one or two are pushed, since to push a byte costs less than to copy bytes.
+#[inline(always)]
+pub fn append_bytes(text: &mut Vec<u8>, bytes: &[u8]) -> Result<(), Memory>
+    ensures { OnOk result (text.new.items ≡ text.old.items ++ bytes.now) }
+{
+    match bytes {
+        [] => Ok(()),
+        [one] => Ok(text.push(*one)?),
+        [one, two] => {
+            text.push(*one)?;
+            Ok(text.push(*two)?)
+        }
+        _ => Ok(text.extend_from_slice(bytes)?),
     }
 }
 
 fn append_digits(text: &mut Vec<u8>, number: u64) -> Result<(), Memory>
     ensures { OnOk result (text.new.items ≡ text.old.items ++ decimal number) }
 {
+    if number < 10 {
+        return Ok(text.push(b'0' + number as u8)?);
+    }
+    if number < 100 {
+        text.push(b'0' + (number / 10) as u8)?;
+        return Ok(text.push(b'0' + (number % 10) as u8)?);
+    }
     let mut digits = Buffer::new();
     text.extend_from_slice(digits.format(number).as_bytes())?;
     Ok(())
 }
 
-/// A register, counted from 1: the context marker where `ctx` says so of register 1, else the prefix and
-/// the number.
-pub fn register_text(
-    alloc: Global,
-    names: &Names,
-    ctx: bool,
-    register: u32,
-) -> Result<Vec<u8>, Memory>
-    ensures { IfOk result (λ text. text.items ≡ register_text names.now ctx register) }
+/// Appends a number in hexadecimal digits, of which those of a byte are pushed.
+pub fn append_hexadecimal(alloc: Global, text: &mut Vec<u8>, number: u32) -> Result<(), Memory>
+    ensures { OnOk result (text.new.items ≡ text.old.items ++ hexadecimal number) }
 {
-    let mut text = Vec::new(alloc);
-    append_register(&mut text, names, ctx, register)?;
-    Ok(text)
+    if number < 256 {
+        text.push(hexadecimal_digit(number / 16))?;
+        return Ok(text.push(hexadecimal_digit(number % 16))?);
+    }
+    let digits = hexadecimal(alloc, number)?;
+    Ok(text.extend_from_slice(digits.as_bytes())?)
 }
 
-fn append_register(
+fn hexadecimal_digit(digit: u32) -> u8
+    requires { digit < 16 }
+    ensures { result ≡ digit_glyph true digit }
+{
+    if digit < 10 {
+        b'0' + digit as u8
+    } else {
+        b'7' + digit as u8
+    }
+}
+
+/// A register, counted from 1: the context marker where `ctx` says so of register 1, else the prefix and
+/// the number.
+pub fn append_register(
     text: &mut Vec<u8>,
     names: &Names,
     ctx: bool,
@@ -71,25 +121,20 @@ fn append_register(
     ensures { OnOk result (text.new.items ≡ text.old.items ++ register_text names.now ctx register) }
 {
     if ctx && register == 1 {
-        append_line_parts(text, &[Part::Bytes(context_marker(names))])
+        Ok(text.extend_from_slice(context_marker(names))?)
     } else {
-        let number = Part::Number(u64::from(register));
-        append_line_parts(text, &[Part::Bytes(tag_prefix(names)), number])
+        text.extend_from_slice(tag_prefix(names))?;
+        append_digits(text, u64::from(register))
     }
 }
 
 /// A history, counted from 0: the prefix, `m` and the number.
-pub fn history_text(alloc: Global, names: &Names, history: u32) -> Result<Vec<u8>, Memory>
-    ensures { IfOk result (λ text. text.items ≡ history_text names.now history) }
+pub fn append_history(text: &mut Vec<u8>, names: &Names, history: u32) -> Result<(), Memory>
+    ensures { OnOk result (text.new.items ≡ text.old.items ++ history_text names.now history) }
 {
-    let mut text = Vec::new(alloc);
-    let parts = [
-        Part::Bytes(tag_prefix(names)),
-        Part::Bytes(b"m"),
-        Part::Number(u64::from(history)),
-    ];
-    append_line_parts(&mut text, &parts)?;
-    Ok(text)
+    text.extend_from_slice(tag_prefix(names))?;
+    text.push(b'm')?;
+    append_digits(text, u64::from(history))
 }
 
 /// A history where `history` says so, else a register, which is never the context marker.
@@ -101,11 +146,13 @@ pub fn variable_text(
 ) -> Result<Vec<u8>, Memory>
     ensures { IfOk result (λ text. text.items ≡ variable_text names.now history number) }
 {
+    let mut text = Vec::new(alloc);
     if history {
-        history_text(alloc, names, number)
+        append_history(&mut text, names, number)?;
     } else {
-        register_text(alloc, names, false, number)
+        append_register(&mut text, names, false, number)?;
     }
+    Ok(text)
 }
 
 /// A number in hexadecimal digits in upper case, at least two of them.

@@ -1,5 +1,5 @@
 //! Writes pieces, and counts their statements.
-ghost use Rattle.std.specs.Prelude.{◌≡◌, ◌<◌, ◌≤◌, ◌++◌, [], ◌∷◌, length, MatchOption, OnOk, IfOk, Some, codes};
+ghost use Rattle.std.specs.Prelude.{◌≡◌, ◌<◌, ◌≤◌, ◌++◌, [], ◌∷◌, MatchOption, OnOk, IfOk, Some, codes};
 ghost use Rattle.std.specs.Fmt.{decimal};
 ghost use Rattle.lx_base.specs.declared.limits.TheConstants.{STATEMENT_LIMIT};
 ghost use Rattle.lx_base.specs.Text.{joined};
@@ -10,7 +10,7 @@ ghost use Rattle.lx_ccode.specs.Validity.{IsValid};
 
 use crate::heads::append_head;
 use crate::lines::{Scope, append_line};
-use crate::numerals::{Part, append_line_parts};
+use crate::numerals::append_number;
 use crate::piece::{CodeBlock, LineMark, Piece};
 use lx_base::limits::STATEMENT_LIMIT;
 use lx_base::{ByteText, Memory, append_parts};
@@ -21,12 +21,22 @@ pub fn print(alloc: Global, piece: &Piece) -> Result<ByteText, Memory>
     requires { IsValid piece.now }
     ensures { IfOk result (λ text. text ≡ piece_text piece.now) }
 {
-    let scope = Scope::of(alloc, piece);
     let mut text = Vec::new(alloc);
-    append_opening(alloc, &mut text, piece)?;
-    scope.append_blocks(&mut text, piece.blocks.as_slice())?;
-    append_closing(alloc, &mut text, piece)?;
+    append_piece(alloc, &mut text, piece)?;
     Ok(ByteText::from_vec(text))
+}
+
+/// Appends the text of a valid piece, from its begin mark to its end mark. Where memory runs out a part of it
+/// may stand there.
+pub fn append_piece(alloc: Global, text: &mut Vec<u8>, piece: &Piece) -> Result<(), Memory>
+    requires { IsValid piece.now }
+    ensures { OnOk result (text.new.items ≡ text.old.items ++ piece_text piece.now) }
+{
+    let scope = Scope::of(alloc, piece);
+    append_opening(alloc, text, piece)?;
+    scope.append_blocks(text, piece.blocks.as_slice())?;
+    append_closing(alloc, text, piece)?;
+    Ok(())
 }
 
 /// Appends what stands before the blocks. Where memory runs out a part of it may stand there.
@@ -95,35 +105,21 @@ pub fn count_statements(blocks: &[CodeBlock]) -> Option<u64>
 pub(crate) fn append_begin(text: &mut Vec<u8>, number: u32) -> Result<(), Memory>
     ensures { OnOk result (text.new.items ≡ text.old.items ++ joined (codes "/*!begin:re2c " ∷ decimal number ∷ codes "*/\n" ∷ []) []) }
 {
-    append_line_parts(
-        text,
-        &[
-            Part::Bytes(b"/*!begin:re2c "),
-            Part::Number(u64::from(number)),
-            Part::Bytes(b"*/\n"),
-        ],
-    )
+    append_number(text, b"/*!begin:re2c ", u64::from(number), b"*/\n")
 }
 
 fn append_unit(text: &mut Vec<u8>, unit: u32) -> Result<(), Memory>
     ensures { OnOk result (text.new.items ≡ text.old.items ++ joined (codes "/*!names:re2c " ∷ decimal unit ∷ codes " " ∷ []) []) }
 {
-    append_line_parts(
-        text,
-        &[
-            Part::Bytes(b"/*!names:re2c "),
-            Part::Number(u64::from(unit)),
-            Part::Bytes(b" "),
-        ],
-    )
+    append_number(text, b"/*!names:re2c ", u64::from(unit), b" ")
 }
 
 fn append_eof(text: &mut Vec<u8>, eof: Option<u32>) -> Result<(), Memory>
     ensures { OnOk result (text.new.items ≡ text.old.items ++ eof_then eof []) }
 {
     match eof {
-        None => append_parts(text, &[b"-"]),
-        Some(unit) => append_line_parts(text, &[Part::Number(u64::from(unit))]),
+        None => Ok(text.push(b'-')?),
+        Some(unit) => append_number(text, b"", u64::from(unit), b""),
     }
 }
 
@@ -139,13 +135,6 @@ fn append_names(text: &mut Vec<u8>, names: &[ByteText]) -> Result<(), Memory>
 fn append_name(text: &mut Vec<u8>, name: &ByteText) -> Result<(), Memory>
     ensures { OnOk result (text.new.items ≡ text.old.items ++ name_then name.now []) }
 {
-    append_line_parts(
-        text,
-        &[
-            Part::Bytes(b" "),
-            Part::Number(name.as_slice().len() as u64),
-            Part::Bytes(b":"),
-            Part::Bytes(name.as_slice()),
-        ],
-    )
+    append_number(text, b" ", name.as_slice().len() as u64, b":")?;
+    Ok(text.extend_from_slice(name.as_slice())?)
 }

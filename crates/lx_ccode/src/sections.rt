@@ -1,5 +1,5 @@
 //! Writes the parts of a piece that hold statements and switches.
-ghost use Rattle.std.specs.Prelude.{◌≡◌, ◌++◌, [], ◌∷◌, length, OnOk, Some, codes};
+ghost use Rattle.std.specs.Prelude.{◌≡◌, ◌++◌, [], ◌∷◌, OnOk, Some, codes};
 ghost use Rattle.std.specs.Fmt.{decimal};
 ghost use Rattle.lx_base.specs.Names.{get_state};
 ghost use Rattle.lx_base.specs.Text.{joined};
@@ -7,10 +7,9 @@ ghost use Rattle.lx_ccode.specs.Text.{label_then, block_then, code_block_then, b
 ghost use Rattle.lx_ccode.specs.Wording.{scope_wording};
 
 use crate::lines::Scope;
-use crate::numerals::{Part, append_line_parts};
+use crate::numerals::{append_block, append_number, append_word};
 use crate::piece::{CodeBlock, CondCase, StateCase};
 use lx_base::{ByteText, Memory, Names, Sequence, append_parts, names};
-use std::alloc::Global;
 
 impl Scope<'_> {
     /// Appends the declarations of the two variables, where the piece has them.
@@ -127,10 +126,14 @@ impl Scope<'_> {
     {
         match cond {
             None => Ok(()),
-            Some(cond) => append_parts(
-                text,
-                &[names::label_prefix(self.names), cond.as_slice(), b":\n"],
-            ),
+            Some(cond) => {
+                append_word(
+                    text,
+                    names::label_prefix(self.names),
+                    cond.as_slice(),
+                    b":\n",
+                )
+            }
         }
     }
 
@@ -138,30 +141,14 @@ impl Scope<'_> {
     pub fn append_label(&self, text: &mut Vec<u8>, place: u64) -> Result<(), Memory>
         ensures { OnOk result (text.new.items ≡ text.old.items ++ block_then self.now.number place (joined (codes ":\n" ∷ []) [])) }
     {
-        append_line_parts(
-            text,
-            &[
-                Part::Bytes(b"yy"),
-                Part::Number(u64::from(self.number)),
-                Part::Bytes(b"_"),
-                Part::Number(place),
-                Part::Bytes(b":\n"),
-            ],
-        )
+        append_block(text, b"yy", self.number, place, b":\n")
     }
 
     /// Appends the label behind the blocks and the closing brace.
     pub fn append_none(&self, text: &mut Vec<u8>) -> Result<(), Memory>
         ensures { OnOk result (text.new.items ≡ text.old.items ++ joined (codes "yy" ∷ decimal self.now.number ∷ codes "_none:;\n}\n" ∷ []) []) }
     {
-        append_line_parts(
-            text,
-            &[
-                Part::Bytes(b"yy"),
-                Part::Number(u64::from(self.number)),
-                Part::Bytes(b"_none:;\n}\n"),
-            ],
-        )
+        append_number(text, b"yy", u64::from(self.number), b"_none:;\n}\n")
     }
 }
 
@@ -169,7 +156,7 @@ impl Scope<'_> {
 pub fn append_state_head(text: &mut Vec<u8>, names: &Names) -> Result<(), Memory>
     ensures { OnOk result (text.new.items ≡ text.old.items ++ joined (codes "\tswitch (" ∷ get_state names.now ∷ codes "()) {\n" ∷ []) []) }
 {
-    append_parts(text, &[b"\tswitch (", names::get_state(names), b"()) {\n"])
+    append_word(text, b"\tswitch (", names::get_state(names), b"()) {\n")
 }
 
 /// Appends a case of a switch over states, which goes to a block of the piece with this number. Where memory
@@ -177,18 +164,8 @@ pub fn append_state_head(text: &mut Vec<u8>, names: &Names) -> Result<(), Memory
 pub fn append_state_case(text: &mut Vec<u8>, number: u32, case: &StateCase) -> Result<(), Memory>
     ensures { OnOk result (text.new.items ≡ text.old.items ++ state_case_then number case.now []) }
 {
-    append_line_parts(
-        text,
-        &[
-            Part::Bytes(b"\tcase "),
-            Part::Number(case.state),
-            Part::Bytes(b": goto yy"),
-            Part::Number(u64::from(number)),
-            Part::Bytes(b"_"),
-            Part::Number(case.block),
-            Part::Bytes(b";\n"),
-        ],
-    )
+    append_number(text, b"\tcase ", case.state, b"")?;
+    append_block(text, b": goto yy", number, case.block, b";\n")
 }
 
 /// Appends the end of a switch over states. Without a stored state it goes to the start of the piece with
@@ -205,50 +182,23 @@ fn append_start(text: &mut Vec<u8>, number: u32, conds: &[CondCase]) -> Result<(
     ensures { OnOk result (text.new.items ≡ text.old.items ++ start_then number conds.now (joined (codes ";\n\t}\n" ∷ []) [])) }
 {
     if conds.is_empty() {
-        append_line_parts(
-            text,
-            &[
-                Part::Bytes(b"yy"),
-                Part::Number(u64::from(number)),
-                Part::Bytes(b"_"),
-                Part::Number(0),
-                Part::Bytes(b";\n\t}\n"),
-            ],
-        )
+        append_block(text, b"yy", number, 0, b";\n\t}\n")
     } else {
-        append_line_parts(
-            text,
-            &[
-                Part::Bytes(b"yy"),
-                Part::Number(u64::from(number)),
-                Part::Bytes(b"_cond;\n\t}\n"),
-            ],
-        )
+        append_number(text, b"yy", u64::from(number), b"_cond;\n\t}\n")
     }
 }
 
-fn append_cond_case<'a>(
+fn append_cond_case(
     text: &mut Vec<u8>,
     number: u32,
-    prefix: &'a [u8],
-    case: &'a CondCase,
+    prefix: &[u8],
+    case: &CondCase,
 ) -> Result<(), Memory>
     ensures { OnOk result (text.new.items ≡ text.old.items
         ++ joined (codes "\tcase " ∷ (prefix.now ++ case.now.cond) ∷ codes ": goto yy" ∷ decimal number ∷ codes "_" ∷ decimal case.now.block ∷ codes ";\n" ∷ []) []) }
 {
-    append_line_parts(
-        text,
-        &[
-            Part::Bytes(b"\tcase "),
-            Part::Bytes(prefix),
-            Part::Bytes(case.cond.as_slice()),
-            Part::Bytes(b": goto yy"),
-            Part::Number(u64::from(number)),
-            Part::Bytes(b"_"),
-            Part::Number(case.block),
-            Part::Bytes(b";\n"),
-        ],
-    )
+    append_word(text, b"\tcase ", prefix, case.cond.as_slice())?;
+    append_block(text, b": goto yy", number, case.block, b";\n")
 }
 
 fn append_two_variables(
@@ -259,31 +209,14 @@ fn append_two_variables(
 ) -> Result<(), Memory>
     ensures { OnOk result (text.new.items ≡ text.old.items ++ joined (codes "\t" ∷ unit_type.now ∷ codes " " ∷ current_unit.now ∷ codes ";\n\tunsigned int " ∷ last_accept.now ∷ codes " = 0;\n" ∷ []) []) }
 {
-    append_parts(
-        text,
-        &[
-            b"\t",
-            unit_type,
-            b" ",
-            current_unit,
-            b";\n\tunsigned int ",
-            last_accept,
-            b" = 0;\n",
-        ],
-    )
+    append_word(text, b"\t", unit_type, b" ")?;
+    append_word(text, b"", current_unit, b";\n\tunsigned int ")?;
+    append_word(text, b"", last_accept, b" = 0;\n")
 }
 
 fn append_cond_head(text: &mut Vec<u8>, number: u32, get_condition: &[u8]) -> Result<(), Memory>
     ensures { OnOk result (text.new.items ≡ text.old.items ++ joined (codes "yy" ∷ decimal number ∷ codes "_cond:\n\tswitch (" ∷ get_condition.now ∷ codes "()) {\n" ∷ []) []) }
 {
-    append_line_parts(
-        text,
-        &[
-            Part::Bytes(b"yy"),
-            Part::Number(u64::from(number)),
-            Part::Bytes(b"_cond:\n\tswitch ("),
-            Part::Bytes(get_condition),
-            Part::Bytes(b"()) {\n"),
-        ],
-    )
+    append_number(text, b"yy", u64::from(number), b"_cond:\n\tswitch (")?;
+    append_word(text, b"", get_condition, b"()) {\n")
 }

@@ -2,6 +2,7 @@ pub mod ActionSlices
 pub mod BlockStops
 pub mod Compilations
 pub mod ConditionNames
+pub mod CopiedAutomata
 pub mod FaultsPlaced
 pub mod FoundPieces
 pub mod GreatestNumbers

@@ -1,5 +1,5 @@
 -- The automata of a block's scanners, and their checks, one behind another.
-use Rattle.std.proofs.Common.{◌≡◌, ℕ, suc, ◌<◌, ◌+◌, add-one, List, [], ◌∷◌, ◌++◌, length, drop, get_or, inl, inr, refl, sym, ap, subst, append_assoc, append-nil, ◌∙◌}
+use Rattle.std.proofs.Common.{◌≡◌, ◌≢◌, ℕ, suc, ◌<◌, ◌+◌, add-one, List, [], ◌∷◌, ◌++◌, length, drop, get_or, inl, inr, refl, sym, ap, subst, append_assoc, append-nil, ◌∙◌}
 use Rattle.std.proofs.Math.Seq.{drop-cons}
 use Rattle.std.specs.List.{AllByRecursion}
 use Rattle.lx_auto.specs.Automaton.{IsAuto}
@@ -20,6 +20,7 @@ use Rattle.lx_rules.specs.declared.resolved.Scanner.{Scanner}
 use Rattle.lx_tdfa.specs.Making.{StopsBy}
 use Rattle.lx_compile.specs.Covering.{AreCoveredBy, IsCoveredWhere}
 use Rattle.lx_compile.specs.Emittable.{AreAutosOf, AreChecksOf, IsMadeFor}
+use Rattle.lx_compile.specs.Models.{HasFirst, Serves}
 use Rattle.lx_compile.specs.Options.{asks_for_cover, policy_of}
 use Rattle.lx_compile.specs.Reduced.{IsReduced}
 use Rattle.lx_compile.specs.ScannerFaults.{AreFaultless, IsFaultOfScanners, IsFaultless, IsScannerFault, IsTooLarge, IsTooLong, StopsWithFault}
@@ -32,10 +33,29 @@ elements_from {A = A} elements i element lt at =
 
 -- ---- automata
 
+-- the automaton of a scanner without a fault serves for its rules
+pub Serves-of : (options : Options) (scanner : Scanner) (auto : Auto) → IsMadeFor options scanner auto → IsFaultless options scanner
+    → Serves options scanner.set.rules auto
+Serves-of options scanner auto is faultless = record { automaton = is.0; reduced = is.1; few = faultless.0 }
+
+-- one more automaton behind others, which are none where its scanner is the first one
+HasFirst-next : (options : Options) (scanners rest : List Scanner) (scanner : Scanner) (autos : List Auto) (auto : Auto) → HasFirst options scanners autos
+    → (autos ≡ [] → scanner ∷ rest ≡ scanners) → Serves options scanner.set.rules auto → HasFirst options scanners (autos ++ auto ∷ [])
+HasFirst-next options scanners rest scanner [] auto first begins serves =
+    subst (λ all. HasFirst options all (auto ∷ [])) (begins refl) serves
+HasFirst-next options [] rest scanner (one ∷ autos) auto first begins serves = tt
+HasFirst-next options (other ∷ scanners) rest scanner (one ∷ autos) auto first begins serves = first
+
+some_behind : (autos : List Auto) (auto : Auto) → autos ++ auto ∷ [] ≢ []
+some_behind [] auto is = cc
+some_behind (one ∷ autos) auto is = cc
+
 module _ (options : Options) (number : ℕ) (at : Pos) (acts : List Act) where
   -- what holds behind some scanners, which have these automata and this text of covering words, where the others are left
   pub record HaveAutos (scanners rest : List Scanner) (autos : List Auto) (text : List ℕ) : Type 0 where
     pub within : AllByRecursion (IsScannerWithin options.enc) rest
+    pub first : HasFirst options scanners autos
+    pub begins : autos ≡ [] → rest ≡ scanners
     pub continues : (more : List Auto) → AreAutosOf options rest more → AreAutosOf options scanners (autos ++ more)
     pub covered : (more : List ℕ) → AreCoveredBy options number acts rest more → AreCoveredBy options number acts scanners (text ++ more)
     pub faultless : AreFaultless options rest → AreFaultless options scanners
@@ -44,6 +64,8 @@ module _ (options : Options) (number : ℕ) (at : Pos) (acts : List Act) where
   pub HaveAutos-start : (scanners : List Scanner) → AllByRecursion (IsScannerWithin options.enc) scanners → HaveAutos scanners scanners [] []
   HaveAutos-start scanners within = record {
     within = within;
+    first = tt;
+    begins = λ none. refl;
     continues = λ more are. are;
     covered = λ more are. are;
     faultless = λ are. are;
@@ -56,6 +78,8 @@ module _ (options : Options) (number : ℕ) (at : Pos) (acts : List Act) where
       → HaveAutos scanners rest (autos ++ auto ∷ []) after
   HaveAutos-next scanners scanner rest autos auto text after own have is faultless covered text_is = record {
     within = have.within.1;
+    first = HasFirst-next options scanners rest scanner autos auto have.first have.begins (Serves-of options scanner auto is faultless);
+    begins = λ none. absurd (some_behind autos auto none);
     continues = λ more are. rw append_assoc (have.continues (auto ∷ more) (is, are));
     covered = λ more are.
         subst (AreCoveredBy options number acts scanners) (sym (append_assoc text own more) ∙ ap (λ (front : List ℕ). front ++ more) (sym text_is))
@@ -65,11 +89,12 @@ module _ (options : Options) (number : ℕ) (at : Pos) (acts : List Act) where
   }
 
   pub HaveAutos-end : (scanners : List Scanner) (autos : List Auto) (text : List ℕ) → HaveAutos scanners [] autos text
-      → AreAutosOf options scanners autos × AreFaultless options scanners × AreCoveredBy options number acts scanners text
+      → AreAutosOf options scanners autos × AreFaultless options scanners × AreCoveredBy options number acts scanners text × HasFirst options scanners autos
   HaveAutos-end scanners autos text have = (
     subst (AreAutosOf options scanners) (append-nil autos) (have.continues [] tt),
     have.faultless tt,
     subst (AreCoveredBy options number acts scanners) (append-nil text) (have.covered [] refl),
+    have.first,
   )
 
   -- what stops one of the scanners stops the block

@@ -1,12 +1,12 @@
 -- Directives: what each asks for.
-use Rattle.std.specs.Prelude.{ℕ, Bool, true, false, List, [], ◌∷◌, Option, Some, None, nat_lt, if◌then◌else◌}
-use Rattle.std.specs.List.{list_any}
+use Rattle.std.specs.Prelude.{ℕ, Bool, true, false, List, [], ◌∷◌, Option, Some, None}
 use Rattle.lx_base.specs.declared.blocks.BlockKind.{BlockKind}
 use Rattle.lx_base.specs.declared.blocks.BlockKind.TheVariants as block
 use Rattle.lx_ccode.specs.declared.bodies.Format.{Format}
 use Rattle.lx_forms.specs.Lexemes.{Lexeme, nth_lexeme, points_in}
 use Rattle.lx_parse.specs.declared.items.Item.{Item}
 use Rattle.lx_parse.specs.declared.items.Item.TheVariants.{Text}
+use Rattle.lx_rules.specs.Seen.{bytes_of_points}
 use Rattle.lx_compile.specs.declared.parts.Directive.{Directive}
 use Rattle.lx_compile.specs.declared.parts.Directive.TheVariants.{Nothing, Max, MaxNmatch, Stags, Mtags, Types, GetState}
 
@@ -19,10 +19,6 @@ is_directive block.Mtags = true
 is_directive block.Types = true
 is_directive block.GetState = true
 is_directive kind = false
-
--- the bytes of code points, if each of them is one
-abbrev pub bytes_of_points : List ℕ → Option (List ℕ)
-bytes_of_points points = if list_any (λ point. nat_lt 255 point) points then None else Some points
 
 -- the bytes of a string, if each of its characters is one
 abbrev pub string_bytes : Lexeme → Option (List ℕ)

@@ -7,6 +7,7 @@ pub mod Facts
 pub mod FirstFault
 pub mod Made
 pub mod Making
+pub mod Models
 pub mod Options
 pub mod Output
 pub mod Parts

@@ -3,7 +3,6 @@ ghost use Rattle.std.specs.Prelude.{◌≡◌, ℕ, List, IfOk, MatchResult, map
 ghost use Rattle.lx_base.specs.declared.settings.Options.{Options};
 ghost use Rattle.lx_base.specs.declared.places.Pos.{Pos};
 ghost use Rattle.lx_base.specs.declared.faults.Stop.{Stop};
-ghost use Rattle.lx_exprs.specs.Seen.{points_of};
 ghost use Rattle.lx_forms.specs.Seen.{lexeme_view, lexemes_view};
 ghost use Rattle.lx_forms.specs.Lexemes.{lexemes_of};
 ghost use Rattle.lx_parse.specs.Blocks.{has_tokens};
@@ -11,7 +10,7 @@ ghost use Rattle.lx_parse.specs.declared.items.Item.{Item};
 ghost use Rattle.lx_rules.specs.Environments.{Environment};
 ghost use Rattle.lx_token.specs.declared.list.Token.{Token};
 ghost use Rattle.lx_compile.specs.Blocks.{IsRead, StopsAt};
-ghost use Rattle.lx_compile.specs.Directives.{bytes_of_points, directive_of, format_of, is_directive, string_bytes, strings_of};
+ghost use Rattle.lx_compile.specs.Directives.{directive_of, format_of, is_directive, string_bytes, strings_of};
 ghost use Rattle.lx_compile.specs.Emittable.{IsNear};
 
 use crate::parts::Directive;
@@ -19,22 +18,9 @@ use lx_base::{BlockKind, ByteText, Memory, Pos, Stop};
 use lx_ccode::Format;
 use lx_forms::lexemes::{Lexeme, Lexemes};
 use lx_parse::{BlockTree, Item, parse};
-use lx_token::{Character, TokenList, characters_of, tokens};
+use lx_rules::bytes_of;
+use lx_token::{TokenList, characters_of, tokens};
 use std::alloc::Global;
-
-/// The bytes of characters, if each of them is one.
-fn bytes_of(alloc: Global, characters: &[Character]) -> Result<Option<ByteText>, Memory>
-    ensures { IfOk result (λ bytes. bytes ≡ bytes_of_points (points_of characters.now)) }
-{
-    let mut bytes = Vec::new(alloc);
-    for character in characters {
-        if character.point > 255 {
-            return Ok(None);
-        }
-        bytes.push(character.point as u8)?;
-    }
-    Ok(Some(ByteText::from_vec(bytes)))
-}
 
 /// The bytes of a string, if each of its characters is one.
 fn string_bytes(alloc: Global, value: &Lexeme<'_>) -> Result<Option<ByteText>, Memory>

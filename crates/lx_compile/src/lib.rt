@@ -1,6 +1,7 @@
 //! The compilation of one source: its texts outside of blocks, with an emitted piece in the place of each block.
 #![tactic(auto)]
 
+mod automata;
 mod blocks;
 mod bodies;
 mod compiling;

@@ -1,33 +1,29 @@
 //! The pieces of the scanners of a source.
-ghost use Rattle.std.specs.Prelude.{◌≡◌, ◌++◌, ◌<◌, ◌+◌, ℕ, List, [], All, IfOk, IfSome, IsSome, MatchResult, length, None, slice_index_or};
+ghost use Rattle.std.specs.Prelude.{◌≡◌, ◌<◌, ◌+◌, [], All, IfOk, IfSome, IsSome, MatchResult, OnOk, length, None, slice_index_or};
 ghost use Rattle.std.specs.List.{AllByRecursion};
 ghost use Rattle.lx_auto.specs.Automaton.{IsAuto};
 ghost use Rattle.lx_ccode.specs.Counts.{state_count};
 ghost use Rattle.lx_ccode.specs.Validity.{IsLine};
-ghost use Rattle.lx_rules.specs.FitScanners.{IsFit};
-ghost use Rattle.lx_rules.specs.Within.{IsScannerWithin};
-ghost use Rattle.lx_compile.specs.Covering.{AreCovered, AreCoveredBy, IsCoveredWhere};
-ghost use Rattle.lx_compile.specs.Emittable.{AreAutosOf, AreChecksOf, CanBeMade, HasMakeable, IsMadeFor, IsMakeable};
+ghost use Rattle.lx_compile.specs.Covering.{AreCovered};
+ghost use Rattle.lx_compile.specs.Emittable.{AreChecksOf, CanBeMade, HasMakeable, IsMakeable};
 ghost use Rattle.lx_compile.specs.Made.{AreMade, IsMadeOf, IsScannerPiece, line_mark};
 ghost use Rattle.lx_compile.specs.Making.{seen_frame};
-ghost use Rattle.lx_compile.specs.Options.{asks_for_cover};
+ghost use Rattle.lx_compile.specs.Models.{HasFirst, IsKept, IsModel};
 ghost use Rattle.lx_compile.specs.Warnings.{AreWarned};
 ghost use Rattle.lx_compile.specs.Parts.{IsScanningFault, StopsByScanners};
-ghost use Rattle.lx_compile.specs.ScannerFaults.{AreFaultless, IsFaultOfContent, IsFaultOfScanners, IsFaultless, IsFaultlessContent, IsScannerFault, StopsWithFault};
+ghost use Rattle.lx_compile.specs.ScannerFaults.{AreFaultless, IsFaultOfContent, IsFaultOfScanners, IsFaultlessContent, StopsWithFault};
 
-use crate::covered::{BlockFrame, append_cover};
-use crate::determinized::determinized;
+use crate::automata::{Automata, Kept, Model, automata_of, first_kept, kept_model};
+use crate::covered::BlockFrame;
 use crate::made::Made;
 use crate::parts::{Content, Part};
-use crate::reduction::reduced;
 use crate::warned::{PlacedWarning, block_warnings};
 use lx_auto::Auto;
 use lx_base::{ByteText, FileNames, Memory, Options, Pos, Sequence, Stop};
 use lx_ccode::{LineMark, Piece};
 use lx_fill::{CheckList, checks};
 use lx_gen::generate;
-use lx_rules::{Resolved, Scanner};
-use lx_tnfa::Tnfa;
+use lx_rules::Resolved;
 use std::alloc::Global;
 
 /// The greatest number that the first state of a piece may have.
@@ -77,58 +73,6 @@ fn line_mark(
     Ok(Some(LineMark { line, file }))
 }
 
-/// The automaton of a scanner, with few states, registers and operations; or the scanner's fault. The text of its covering words is appended,
-/// where they are asked for.
-fn automaton_of(
-    alloc: Global,
-    frame: &BlockFrame<'_>,
-    scanner: &Scanner,
-    cover: &mut Vec<u8>,
-) -> Result<Auto, Stop>
-    requires fit { IsFit (length frame.now.acts.now) scanner.now }
-    requires within { IsScannerWithin frame.now.options.now.enc scanner.now }
-    ensures { MatchResult result
-        (λ auto. IsMadeFor frame.now.options.now scanner.now auto × IsFaultless frame.now.options.now scanner.now
-        × ((own : List ℕ) × IsCoveredWhere frame.now.options.now frame.now.acts.now scanner.now (asks_for_cover frame.now.options.now) frame.now.number own
-        × (cover.new.items ≡ cover.old.items ++ own)))
-        (StopsWithFault (IsScannerFault frame.now.options.now frame.now.at scanner.now)) }
-{
-    let automaton = Tnfa::of(alloc, &scanner.set, frame.options.enc)?;
-    let found = determinized(alloc, frame.options, &automaton, frame.at)?;
-    let few = reduced(alloc, found)?;
-    append_cover(alloc, frame, scanner, &automaton, &few, cover)?;
-    Ok(few)
-}
-
-/// What the scanners of a block give.
-#[derive(Drop)]
-struct Automata {
-    autos: Sequence<Auto>,
-    /// The text of their covering words.
-    cover: Vec<u8>,
-}
-
-/// The automata of scanners, with the text of their covering words, where they are asked for; or the fault of the first scanner that has one.
-fn automata_of(
-    alloc: Global,
-    frame: &BlockFrame<'_>,
-    scanners: &[Scanner],
-) -> Result<Automata, Stop>
-    requires fit { All (IsFit (length frame.now.acts.now)) scanners.now }
-    requires within { AllByRecursion (IsScannerWithin frame.now.options.now.enc) scanners.now }
-    ensures { MatchResult result
-        (λ answer. AreAutosOf frame.now.options.now scanners.now answer.autos × AreFaultless frame.now.options.now scanners.now
-        × AreCoveredBy frame.now.options.now frame.now.number frame.now.acts.now scanners.now answer.cover.items)
-        (StopsWithFault (IsFaultOfScanners frame.now.options.now frame.now.at scanners.now)) }
-{
-    let mut autos = Sequence::new(alloc);
-    let mut cover = Vec::new(alloc);
-    for scanner in scanners {
-        autos.push(automaton_of(alloc, frame, scanner, &mut cover)?)?;
-    }
-    Ok(Automata { autos, cover })
-}
-
 /// The checks of automata.
 fn checks_of(alloc: Global, autos: &[Auto]) -> Result<Sequence<CheckList>, Memory>
     requires { AllByRecursion IsAuto autos.now }
@@ -144,6 +88,7 @@ fn checks_of(alloc: Global, autos: &[Auto]) -> Result<Sequence<CheckList>, Memor
 /// What is made of a block's scanners.
 #[derive(Drop)]
 struct Scanned {
+    autos: Sequence<Auto>,
     piece: Piece,
     checks: Sequence<CheckList>,
     warnings: Sequence<PlacedWarning>,
@@ -159,15 +104,18 @@ fn scanner_piece(
     numbers: Numbers,
     at: Pos,
     line: Option<LineMark>,
+    before: Option<Model<'_>>,
     resolved: &Resolved,
 ) -> Result<Scanned, Stop>
     requires makeable { CanBeMade frame.now.options.now resolved.now }
     requires line { IsLine line }
+    requires before { IfSome before (IsModel frame.now.options.now) }
     ensures { MatchResult result
         (λ answer. IsScannerPiece (seen_frame frame.now) numbers.piece numbers.state line resolved.now answer.piece answer.checks
         × AreWarned frame.now.options.now at resolved.now answer.warnings
         × AreCovered frame.now.options.now numbers.piece resolved.now answer.cover
-        × AreFaultless frame.now.options.now resolved.now.scanners)
+        × AreFaultless frame.now.options.now resolved.now.scanners
+        × HasFirst frame.now.options.now resolved.now.scanners answer.autos)
         (StopsWithFault (IsFaultOfScanners frame.now.options.now at resolved.now.scanners)) }
 {
     let options = frame.options;
@@ -177,7 +125,12 @@ fn scanner_piece(
         at,
         acts: resolved.acts.as_slice(),
     };
-    let Automata { autos, cover } = automata_of(alloc, &block, resolved.scanners.as_slice())?;
+    let Automata { autos, cover } = automata_of(
+        alloc,
+        &block,
+        before,
+        resolved.scanners.as_slice(),
+    )?;
     let checks = checks_of(alloc, autos.as_slice())?;
     if numbers.state > STATE_LIMIT {
         return Err(Stop::Memory);
@@ -196,6 +149,7 @@ fn scanner_piece(
     )?;
     let warnings = block_warnings(alloc, options, at, resolved, autos.as_slice())?;
     Ok(Scanned {
+        autos,
         piece,
         checks,
         warnings,
@@ -214,7 +168,7 @@ fn next_state(first_state: u64, piece: &Piece) -> Result<u64, Memory>
     first_state.checked_add(head.states).ok_or(Memory)
 }
 
-/// What is made of a block whose opener stands at `at`, and the number of the next state.
+/// What is made of a block whose opener stands at `at`, and the number of the next state. The block's first scanner is kept.
 fn make_block(
     alloc: Global,
     frame: &Frame<'_>,
@@ -222,12 +176,15 @@ fn make_block(
     at: Pos,
     line: u32,
     content: Content,
+    kept: &mut Option<Kept>,
 ) -> Result<(Made, u64), Stop>
-    requires { HasMakeable frame.now.options.now content }
-    ensures { MatchResult result
+    requires makeable { HasMakeable frame.now.options.now content }
+    requires kept { IfSome kept.old (IsKept frame.now.options.now) }
+    ensures made { MatchResult result
         (λ answer. IsMadeOf (seen_frame frame.now) numbers.piece numbers.state answer.1 at line content answer.0
         × IsFaultlessContent frame.now.options.now content)
         (StopsWithFault (IsFaultOfContent frame.now.options.now at content)) }
+    ensures kept { OnOk result (IfSome kept.new (IsKept frame.now.options.now)) }
 {
     let line = line_mark(alloc, frame, at, line)?;
     match content {
@@ -240,13 +197,16 @@ fn make_block(
             Ok((made, numbers.state))
         }
         Content::Scanners(resolved) => {
+            let before = kept_model(kept);
             let Scanned {
+                autos,
                 piece,
                 checks,
                 warnings,
                 cover,
-            } = scanner_piece(alloc, frame, numbers, at, line, &resolved)?;
+            } = scanner_piece(alloc, frame, numbers, at, line, before, &resolved)?;
             let next = next_state(numbers.state, &piece)?;
+            *kept = first_kept(resolved, autos);
             let made = Made::Scanners {
                 piece,
                 checks,
@@ -276,11 +236,12 @@ pub(crate) fn make(
 {
     let mut all = Sequence::new(alloc);
     let mut numbers = Numbers { piece: 1, state: 0 };
+    let mut kept = None;
     for part in parts.into_vec() {
         match part {
             Part::Outside(text) => all.push(Made::Outside(text))?,
             Part::Block { at, line, content } => {
-                let (made, next) = make_block(alloc, frame, numbers, at, line, content)?;
+                let (made, next) = make_block(alloc, frame, numbers, at, line, content, &mut kept)?;
                 all.push(made)?;
                 numbers = Numbers {
                     piece: numbers.piece + 1,

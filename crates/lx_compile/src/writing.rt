@@ -2,8 +2,6 @@
 ghost use Rattle.std.specs.Prelude.{◌≡◌, ◌<◌, ◌++◌, All, IfOk, List, MatchResult, OnOk, length, None, Some};
 ghost use Rattle.lx_base.specs.declared.faults.Stop.{Stop};
 ghost use Rattle.lx_ccode.specs.Bodies.{body_piece_text};
-ghost use Rattle.lx_ccode.specs.Text.{piece_text};
-ghost use Rattle.lx_ccode.specs.Validity.{IsValid};
 ghost use Rattle.lx_compile.specs.Facts.{body_of, directive_fault, directives_fault};
 ghost use Rattle.lx_compile.specs.Making.{AreFacts};
 ghost use Rattle.lx_compile.specs.Writing.{IsPrintable, StopsAs, StopsByDirectives, output_text};
@@ -14,7 +12,7 @@ use crate::facts::{Facts, facts_of};
 use crate::made::Made;
 use crate::parts::Directive;
 use lx_base::{Fault, Memory, Names, Pos, Stop};
-use lx_ccode::{Body, LineMark, Piece, print, print_body, print_body_piece};
+use lx_ccode::{Body, LineMark, append_piece, print_body, print_body_piece};
 use std::alloc::Global;
 
 /// The fault of a directive whose opener stands at `at`, and which has this body.
@@ -94,16 +92,6 @@ fn append_directive(
     append_faultless(
         alloc, output, names, facts, number, at, line, directive, &body,
     )
-}
-
-/// Appends the piece of scanners. Where it is refused a part of it may stand there.
-fn append_piece(alloc: Global, output: &mut Vec<u8>, piece: &Piece) -> Result<(), Memory>
-    requires { IsValid piece.now }
-    ensures { OnOk result (output.new.items ≡ output.old.items ++ piece_text piece.now) }
-{
-    let text = print(alloc, piece)?;
-    output.extend_from_slice(text.as_slice())?;
-    Ok(())
 }
 
 /// Appends the text of all that is made, of which these are the facts, or refuses with the fault of the first directive that has one.

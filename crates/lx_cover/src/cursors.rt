@@ -3,39 +3,17 @@ ghost use Rattle.std.specs.Prelude.{◌≡◌, map, option_copied};
 ghost use Rattle.std.specs.Option.{option_map};
 ghost use Rattle.lx_cover.specs.Cursors.{cursor_at, end_at, offset_in, slash_of};
 ghost use Rattle.lx_cover.specs.Matches.{value_of};
-ghost use Rattle.lx_regex.specs.Pattern.{end_rule, is_end as is_end_kind, patterns_of};
 
 use crate::values::TagValue;
-use lx_regex::{Kind, Rule};
-
-/// Whether a kind is that of the rule `$`.
-fn is_end(kind: Kind) -> bool
-    ensures { result ≡ is_end_kind kind }
-{
-    match kind {
-        Kind::Plain | Kind::Default => false,
-        Kind::Eof => true,
-    }
-}
-
-/// The number of the rule `$`, if there is one.
-fn end_number(rules: &[Rule]) -> Option<u32>
-    ensures { result ≡ end_rule (patterns_of rules.now) }
-{
-    for rule in rules {
-        if is_end(rule.kind) {
-            return Some(rule.number);
-        }
-    }
-    None
-}
+use lx_regex::Rule;
+use lx_rules::end_rule;
 
 /// The number of the rule `$`, if there is one and the word is empty.
 pub(crate) fn end_at(rules: &[Rule], word: &[u32]) -> Option<u32>
     ensures { result ≡ end_at rules.now word.now }
 {
     if word.is_empty() {
-        end_number(rules)
+        end_rule(rules)
     } else {
         None
     }

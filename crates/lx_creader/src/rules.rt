@@ -8,12 +8,12 @@ ghost use Rattle.lx_ccode.specs.Validity.{IsLabel, ends_once, last_statements, r
 ghost use Rattle.lx_creader.specs.ValidParts.{IsValidBlock, IsValidStatement};
 
 use crate::statements::{
-    has_few_groups, has_register_one, has_spelling, is_ending, is_need, is_peek, is_refill,
-    is_state, is_try, jumps_below, names_one_of,
+    has_few_groups, has_spelling, is_ending, is_need, is_peek, is_refill, is_state, is_try,
+    jumps_below, names_one_of,
 };
 use lx_base::letters::is_identifier;
 use lx_base::{ByteText, Names};
-use lx_ccode::{CodeBlock, NameSet, Stmt};
+use lx_ccode::{CodeBlock, NameSet, Stmt, has_register_one};
 
 /// What the rules of statements and blocks depend on.
 #[derive(Clone, Copy)]

@@ -1,7 +1,7 @@
 //! Decides which statements a valid piece may have.
 ghost use Rattle.std.specs.Prelude.{◌≡◌, ◌↔◌, IsTrue};
 ghost use Rattle.lx_ccode.specs.Counts.{is_peek};
-ghost use Rattle.lx_ccode.specs.Statements.{has_register_one, is_ending, is_need, is_refill, is_state, is_try};
+ghost use Rattle.lx_ccode.specs.Statements.{is_ending, is_need, is_refill, is_state, is_try};
 ghost use Rattle.lx_ccode.specs.Validity.{HasFewGroups, HasSpelling, IsLine, IsLong, IsRegister, IsShort, JumpsBelow, NamesOneOf};
 
 use lx_base::Names;
@@ -154,19 +154,4 @@ pub(crate) fn is_refill(statement: &Stmt) -> bool
     ensures { result ≡ is_refill statement.now }
 {
     is_need(statement) || is_try(statement)
-}
-
-/// Whether the statement names register 1.
-pub(crate) fn has_register_one(statement: &Stmt) -> bool
-    ensures { result ≡ has_register_one statement.now }
-{
-    match statement {
-        Stmt::Set(register)
-        | Stmt::Unset(register)
-        | Stmt::Tag(_, false, register)
-        | Stmt::End(_, register)
-        | Stmt::Back(register) => *register == 1,
-        Stmt::Copy(register, source) => *register == 1 || *source == 1,
-        _ => false,
-    }
 }

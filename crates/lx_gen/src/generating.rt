@@ -8,7 +8,6 @@ ghost use Rattle.lx_rules.specs.FitScanners.{FitsLimits};
 ghost use Rattle.lx_rules.specs.WellFormed.{IsWellFormed};
 ghost use Rattle.lx_rules.specs.declared.resolved.Scanner.{Scanner as scanner_type};
 ghost use Rattle.lx_regex.specs.Order.{Policy};
-ghost use Rattle.lx_regex.specs.Pattern.{end_rule, patterns_of};
 ghost use Rattle.lx_gen.specs.Generated.{AreAutomata, AreAutomataUnder, AreRightUnder, IsGenerated, endings_by, form_of, marks_of};
 ghost use Rattle.lx_gen.specs.Seen.{HaveShortLines, seen_marks, source_with, sources_with};
 
@@ -19,21 +18,8 @@ use lx_base::{FileNames, Memory, Options};
 use lx_ccode::{LineMark, Piece};
 use lx_fill::CheckList;
 use lx_layout::{PieceForm, RuleEnd, ScannerInput, piece_of};
-use lx_regex::{Kind, Rule};
-use lx_rules::{Resolved, Scanner};
+use lx_rules::{Resolved, Scanner, end_rule};
 use std::alloc::Global;
-
-/// The number of the rule at the end of the input, if there is one.
-fn end_rule(rules: &[Rule]) -> Option<u32>
-    ensures { result ≡ end_rule (patterns_of rules.now) }
-{
-    for rule in rules {
-        if rule.kind == Kind::Eof {
-            return Some(rule.number);
-        }
-    }
-    None
-}
 
 /// The ends of the rules of each scanner.
 fn ends_of<'a>(
@@ -46,8 +32,9 @@ fn ends_of<'a>(
         ≡ map (λ (scanner : scanner_type). endings_by (seen_marks marks.entry) resolved.now.acts scanner.set.rules) resolved.now.scanners) }
     ensures lines { IfOk result (λ all. AllByRecursion HaveShortLines (map (λ one. endings_of one.items) all.items)) }
 {
-    let mut all = Vec::new(alloc);
-    for scanner in resolved.scanners.as_slice() {
+    let scanners = resolved.scanners.as_slice();
+    let mut all = Vec::with_capacity(alloc, scanners.len())?;
+    for scanner in scanners {
         let rules = scanner.set.rules.as_slice();
         all.push(rule_ends(alloc, marks, rules, resolved.acts.as_slice())?)?;
     }
@@ -86,7 +73,7 @@ fn inputs<'a, 'b>(
     ensures { IfOk result (λ inputs. seen_sources inputs.items
         ≡ sources_with (map (λ one. endings_of one.items) ends.now) scanners.now autos.now checks.now) }
 {
-    let mut inputs = Vec::new(alloc);
+    let mut inputs = Vec::with_capacity(alloc, scanners.len())?;
     for place in 0..scanners.len() {
         let ends = ends[place].as_slice();
         inputs.push(input(&scanners[place], &autos[place], &checks[place], ends))?;

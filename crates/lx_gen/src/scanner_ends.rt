@@ -74,7 +74,7 @@ pub fn rule_ends<'a>(
     ensures endings { IfOk result (λ ends. endings_of ends.items ≡ endings_by (seen_marks marks.entry) acts.now rules.now) }
     ensures lines { IfOk result (λ ends. HaveShortLines (endings_of ends.items)) }
 {
-    let mut ends = Vec::new(alloc);
+    let mut ends = Vec::with_capacity(alloc, rules.len())?;
     for rule in rules {
         let Some(act) = numbered_act(acts, rule.number) else {
             unreachable!()

@@ -18,7 +18,7 @@ use Rattle.lx_layout.specs.Supplies.{Reader, Supply, entry, state}
 use Rattle.lx_layout.specs.TestTrees.{IsTreeOf, TestTree, leaf}
 use Rattle.lx_layout.specs.TransitionClasses.{transition_classes}
 use Rattle.lx_layout.specs.UnitApart.{reader_split}
-use Rattle.lx_layout.specs.Views.{seen_classes, seen_tree}
+use Rattle.lx_layout.specs.Views.{class_list, seen_classes, seen_tree}
 use Rattle.lx_layout.specs.declared.demands.Demand.{Demand}
 use Rattle.lx_layout.specs.declared.demands.PartInput.{PartInput}
 use Rattle.lx_layout.specs.declared.part_ends.PartEnds.{PartEnds}
@@ -52,7 +52,7 @@ planned_states plans = map (λ plan. plan.state.now) plans
 
 -- the transition classes are those of the state, and the tests are a tree of its tests
 pub record IsStatePlan (eof : Option ℕ) (greatest : ℕ) (plan : StatePlan) : Type 0 where
-  pub classes : seen_classes plan.classes.keys ≡ transition_classes plan.state.now.edges
+  pub classes : seen_classes (class_list plan.classes) ≡ transition_classes plan.state.now.edges
   pub tests : IsTreeOf (reader_split eof greatest plan.state.now.edges) (seen_tree plan.tests)
 
 abbrev pub AreStatePlans : (eof : Option ℕ) → (greatest : ℕ) → List StatePlan → Type 0

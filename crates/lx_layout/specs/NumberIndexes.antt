@@ -10,9 +10,15 @@ abbrev pub place_among : List NotedPlace → (number : ℕ) → Option ℕ
 place_among [] number = None
 place_among (one ∷ noted) number = if nat_eq number one.number then Some one.place else place_among noted number
 
+-- the place of a number, if it is the one that has one
+abbrev pub place_in : Option NotedPlace → (number : ℕ) → Option ℕ
+place_in None number = None
+place_in (Some one) number = if nat_eq number one.number then Some one.place else None
+
 -- the place of a number
 abbrev pub noted_place : NumberIndex → (number : ℕ) → Option ℕ
-noted_place index number = option_or (place_among index.first.items number) (get nat_eq index.others number)
+noted_place index number =
+    option_or (place_in index.first number) (option_or (place_among index.few.items number) (get nat_eq index.others number))
 
 -- the place of a number once a place has been noted for one; a place that it had before stays
 abbrev pub with_place : (before : Option ℕ) → (noted place number : ℕ) → Option ℕ

@@ -9,9 +9,15 @@ use Rattle.lx_layout.specs.declared.test_trees.TestTree.TheFolds.{fold-TestTree}
 use Rattle.lx_layout.specs.declared.unit_splits.Split as held_split
 use Rattle.lx_layout.specs.declared.unit_splits.Stretch as held_stretch
 use Rattle.lx_layout.specs.declared.transition_classes.TransitionClass.{TransitionClass}
+use Rattle.lx_layout.specs.declared.transition_classes.TransitionClasses.{TransitionClasses}
+use Rattle.lx_layout.specs.declared.transition_classes.TransitionClasses.TheVariants.{Few, Many}
 
 abbrev pub seen_classes : List TransitionClass → List Edge
 seen_classes classes = map (λ class. class.edge.now) classes
+
+abbrev pub class_list : TransitionClasses → List TransitionClass
+class_list (Few classes) = classes.items
+class_list (Many classes) = classes.value.keys
 
 abbrev pub seen_stretch : held_stretch.Stretch → Stretch
 seen_stretch stretch = record { greatest = stretch.greatest; class = stretch.class }

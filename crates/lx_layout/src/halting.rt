@@ -10,6 +10,9 @@ use lx_auto::{Auto, Edge, State};
 use lx_base::Memory;
 use std::alloc::Global;
 
+/// How many states are marked round by round alone: most scanners have no more.
+const FEW: usize = 8;
+
 /// Of each state by its number whether a match can end in it, and whether one falls back from it.
 #[derive(Drop)]
 pub(crate) struct Marks {
@@ -142,7 +145,7 @@ fn halts_of(
 ) -> Result<Vec<bool>, Memory>
     ensures { IfOk result (λ halts. halts.items ≡ halts_from greatest stands entered 0 states.now) }
 {
-    let mut halts = Vec::new(alloc);
+    let mut halts = Vec::with_capacity(alloc, states.len())?;
     for (number, state) in states.iter().enumerate() {
         let at_end = stands && (entered || number != 0);
         halts.push(halts_in(greatest, at_end, state.edges.as_slice()))?;
@@ -207,7 +210,7 @@ fn none_marked(alloc: Global, count: usize) -> Result<Vec<bool>, Memory>
     ensures long { IfOk result (λ marks. length marks.items ≡ count) }
     ensures none { IfOk result (λ marks. (number : ℕ) → slice_index_or marks.items number false ≡ false) }
 {
-    let mut marks = Vec::new(alloc);
+    let mut marks = Vec::with_capacity(alloc, count)?;
     for _number in 0..count {
         marks.push(false)?;
     }
@@ -231,7 +234,7 @@ fn mark_at(falls: &mut Vec<bool>, halts: &[bool], states: &[State], number: usiz
 
 /// So many empty lists.
 fn empty_lists(alloc: Global, count: usize) -> Result<Vec<Vec<usize>>, Memory> {
-    let mut lists = Vec::new(alloc);
+    let mut lists = Vec::with_capacity(alloc, count)?;
     for _number in 0..count {
         lists.push(Vec::new(alloc))?;
     }
@@ -283,7 +286,7 @@ fn mark_each(
 
 /// The numbers of so many states.
 fn all_numbers(alloc: Global, count: usize) -> Result<Vec<usize>, Memory> {
-    let mut numbers = Vec::new(alloc);
+    let mut numbers = Vec::with_capacity(alloc, count)?;
     for number in 0..count {
         numbers.push(number)?;
     }
@@ -321,8 +324,10 @@ fn falls_of(alloc: Global, halts: &[bool], states: &[State]) -> Result<Vec<bool>
     ensures { IfOk result (λ falls. AreFalls halts.now states.now falls.items) }
 {
     let mut falls = none_marked(alloc, states.len())?;
-    mark_behind(alloc, &mut falls, halts, states)?;
-    // All are found by now, which a round shows that finds no other one.
+    if FEW < states.len() {
+        mark_behind(alloc, &mut falls, halts, states)?;
+    }
+    // Of many states all are found by now, which a round shows that finds no other one.
     while mark_round(&mut falls, halts, states) {}
     Ok(falls)
 }

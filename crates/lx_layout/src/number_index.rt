@@ -18,8 +18,10 @@ pub struct NotedPlace {
 
 /// Places in a list by numbers.
 pub struct NumberIndex {
-    /// The places of the first numbers that got one, which are few.
-    pub first: Vec<NotedPlace>,
+    /// The place of the first number that got one: small scanners have no other rule, and need no list.
+    pub first: Option<NotedPlace>,
+    /// The places of the next numbers that got one, which are few.
+    pub few: Vec<NotedPlace>,
     /// The places of the other numbers that have one.
     pub others: IndexMap<u32, usize>,
 }
@@ -28,6 +30,7 @@ impl Drop for NumberIndex {
     fn drop(self) {
         let Self {
             first: _,
+            few: _,
             others: _,
         } = self;
     }
@@ -51,7 +54,8 @@ impl NumberIndex {
         ensures { (number : ℕ) → noted_place result number ≡ None }
     {
         NumberIndex {
-            first: Vec::new(alloc),
+            first: None,
+            few: Vec::new(alloc),
             others: IndexMap::new(alloc),
         }
     }
@@ -60,8 +64,13 @@ impl NumberIndex {
     pub fn find(&self, number: u32) -> Option<usize>
         ensures { result ≡ noted_place self.now number }
     {
-        match place_among(&self.first, number) {
+        match self.first {
+            Some(first) if first.number == number => return Some(first.place),
+            _ => {}
+        }
+        match place_among(&self.few, number) {
             Some(place) => Some(place),
+            None if self.others.is_empty() => None,
             None => self.others.get(&number).copied(),
         }
     }
@@ -71,8 +80,10 @@ impl NumberIndex {
         requires { noted_place self.old number ≡ None }
         ensures { OnOk result ((other : ℕ) → noted_place self.new other ≡ with_place (noted_place self.old other) number place other) }
     {
-        if self.first.len() < FEW {
-            self.first.push(NotedPlace { number, place })?;
+        if self.first.is_none() {
+            self.first = Some(NotedPlace { number, place });
+        } else if self.few.len() < FEW {
+            self.few.push(NotedPlace { number, place })?;
         } else {
             self.others.insert(number, place)?;
         }

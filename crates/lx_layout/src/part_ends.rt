@@ -2,7 +2,7 @@
 ghost use Rattle.std.specs.Prelude.{◌≡◌, ◌<◌, IfOk, length};
 ghost use Rattle.lx_auto.specs.Automaton.{AreOps};
 ghost use Rattle.lx_layout.specs.Codes.{accept_code};
-ghost use Rattle.lx_layout.specs.LaidParts.{ArePartEnds, ArePlans, IsExits, end_at, end_rule_at, first_at, own_at, rule_at, saved_at};
+ghost use Rattle.lx_layout.specs.LaidParts.{ArePartEnds, ArePlans, IsExits, end_at, end_rule_at, first_at, own_at, rule_at, saved_at, turn_begin_at};
 ghost use Rattle.lx_layout.specs.Layout.{saved_number};
 ghost use Rattle.lx_layout.specs.SuppliedLayout.{sized};
 
@@ -153,9 +153,10 @@ impl PartEnds<'_> {
             ≡ accept_code self.now.plans.input.auto.now accept.now.ops (rule_at self.now.plans accept.now.rule)) }
     {
         let block = self.rule_block(accept.rule)?;
-        let mut stmts = Vec::new(alloc);
+        let ops = accept.ops.as_slice();
+        let mut stmts = Vec::with_capacity(alloc, ops.len() + 1)?;
         let auto = self.plans.input.auto;
-        append_list(alloc, &mut stmts, auto, accept.ops.as_slice())?;
+        append_list(alloc, &mut stmts, auto, ops)?;
         stmts.push(Stmt::Goto(block))?;
         Ok(stmts)
     }
@@ -173,18 +174,19 @@ impl PartEnds<'_> {
         sum(from, self.plans.tests_size(number)?)
     }
 
-    /// The block of a state where a match ends in it, whose blocks begin with `from`, if it has one of its own.
-    fn own_end(&self, number: usize, from: u64) -> Result<u64, Memory>
+    /// The block of a state where a match ends in it, whose blocks begin with `from`, if it has one of its own. The blocks for the end of
+    /// the input begin with `turn`.
+    fn own_end(&self, number: usize, from: u64, turn: u64) -> Result<u64, Memory>
         requires ends { ArePartEnds self.now }
         requires within { number < length self.now.plans.states.items }
+        requires turn { turn ≡ turn_begin_at self.now.plans number from }
         ensures { IfOk result (λ block. block ≡ own_at self.now.plans number from) }
     {
         let plan = &self.plans.states[number];
         if plan.state.edges.as_slice().is_empty() {
             return Ok(from);
         }
-        let behind = sum(self.first_class(number, from)?, plan.classes.len() as u64)?;
-        sum(behind, self.plans.turn_size(number))
+        sum(turn, self.plans.turn_size(number))
     }
 
     /// Where the tests of a state lead, whose blocks begin with `from`.
@@ -194,10 +196,10 @@ impl PartEnds<'_> {
         ensures { IfOk result (IsExits self.now.plans number from) }
     {
         let plan = &self.plans.states[number];
-        let count = plan.classes.len();
+        let count = plan.classes.as_slice().len();
         let start = self.first_class(number, from)?;
         let turn = sum(start, count as u64)?;
-        let own = self.own_end(number, from)?;
+        let own = self.own_end(number, from, turn)?;
         let end = self.end_block(own, &plan.state.accept)?;
         let first = start;
         Ok(Exits {

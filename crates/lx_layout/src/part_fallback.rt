@@ -41,7 +41,7 @@ fn fallback_code(alloc: Global, ends: &PartEnds<'_>, leaves: bool) -> Result<Vec
     ensures { IfOk result (λ stmts. stmts.items
         ≡ fallback_code leaves (choices_from 1 (restores_at ends.now.plans) (saved_at ends.now.plans))) }
 {
-    let mut stmts = Vec::new(alloc);
+    let mut stmts = Vec::with_capacity(alloc, ends.saved.list.len() + 1)?;
     append_choices(&mut stmts, ends, leaves)?;
     Ok(stmts)
 }

@@ -55,7 +55,7 @@ fn state_places(alloc: Global, ends: &PartEnds<'_>) -> Result<Vec<u64>, Memory>
     ensures { IfOk result (λ places. places.items
         ≡ places_from ends.now.plans 0 (begin_at ends.now.plans) ends.now.plans.input.auto.now.states) }
 {
-    let mut places = Vec::new(alloc);
+    let mut places = Vec::with_capacity(alloc, ends.plans.states.len())?;
     append_places(&mut places, ends)?;
     Ok(places)
 }

@@ -63,10 +63,14 @@ fn edge_code(
     requires ops { AreOps auto.now.regs auto.now.mregs edge.now.ops }
     ensures { IfOk result (λ stmts. stmts.items ≡ edge_code (seen_marks marks.now) auto.now state.now saved edge.now block) }
 {
-    let mut stmts = Vec::new(alloc);
-    append_save(&mut stmts, marks.saves_on(state, edge), saved)?;
-    append_list(alloc, &mut stmts, auto, state.leave.as_slice())?;
-    append_list(alloc, &mut stmts, auto, edge.ops.as_slice())?;
+    let leave = state.leave.as_slice();
+    let ops = edge.ops.as_slice();
+    let saves = marks.saves_on(state, edge);
+    let fixed = if saves { 4 } else { 2 };
+    let mut stmts = Vec::with_capacity(alloc, leave.len() + ops.len() + fixed)?;
+    append_save(&mut stmts, saves, saved)?;
+    append_list(alloc, &mut stmts, auto, leave)?;
+    append_list(alloc, &mut stmts, auto, ops)?;
     stmts.push(Stmt::Skip)?;
     stmts.push(Stmt::Goto(block))?;
     Ok(stmts)

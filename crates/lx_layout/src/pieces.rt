@@ -1,5 +1,5 @@
 //! The blocks of scanners, one behind another.
-ghost use Rattle.std.specs.Prelude.{◌≡◌, ◌≤◌, ◌&&◌, List, IfOk, IfSome, is_some};
+ghost use Rattle.std.specs.Prelude.{◌≡◌, ◌≤◌, ◌&&◌, [], List, false, IfOk, IfSome, is_some};
 ghost use Rattle.std.specs.List.{list_any};
 ghost use Rattle.lx_base.specs.Spelling.{greatest_unit};
 ghost use Rattle.lx_base.specs.declared.limits.TheConstants.{STATEMENT_LIMIT};
@@ -121,6 +121,7 @@ pub(crate) fn scanner_blocks(
     if count_statements(&blocks).is_none() {
         return Err(Memory);
     }
+    blocks.shrink_to_fit();
     Ok(blocks)
 }
 
@@ -128,7 +129,7 @@ pub(crate) fn scanner_blocks(
 fn copied_names(alloc: Global, names: &[ByteText]) -> Result<Names, Memory>
     ensures { IfOk result (λ copy. copy ≡ names.now) }
 {
-    let mut copies = Vec::new(alloc);
+    let mut copies = Vec::with_capacity(alloc, names.len())?;
     for name in names {
         copies.push(ByteText::copy_of(alloc, name.as_slice())?)?;
     }
@@ -170,20 +171,32 @@ fn switch_of(switches: bool, cases: Vec<StateCase>) -> Option<Sequence<StateCase
     None
 }
 
+/// The cases of the states that blocks store, if they store any.
+fn stored_cases(alloc: Global, stores: bool, blocks: &[CodeBlock]) -> Result<Vec<StateCase>, Memory>
+    requires { stores ≡ false → states_from 0 blocks.now ≡ [] }
+    ensures { IfOk result (λ cases. cases.items ≡ states_from 0 blocks.now) }
+{
+    if stores {
+        return state_cases(alloc, blocks);
+    }
+    Ok(Vec::new(alloc))
+}
+
 /// The piece of these blocks, whose histories have numbers of 32 bits.
 pub(crate) fn piece_with(
     alloc: Global,
     form: PieceForm<'_>,
     blocks: Vec<CodeBlock>,
 ) -> Result<Piece, Memory>
-    requires { IsShort (mregs_of blocks.items) }
+    requires short { IsShort (mregs_of blocks.items) }
+    requires stored { form.stores ≡ false → states_from 0 blocks.items ≡ [] }
     ensures fields { IfOk result (λ piece. HasFields (seen_form form.entry) (labels blocks.items) piece) }
     ensures blocks { IfOk result (λ piece. piece.blocks ≡ blocks.items) }
     ensures states { IfOk result (λ piece. IfSome piece.states (λ cases. cases ≡ states_from 0 blocks.items)) }
     ensures conds { IfOk result (λ piece. piece.conds ≡ cond_cases 0 blocks.items) }
 {
     let names = copied_names(alloc, form.names.as_slice())?;
-    let cases = state_cases(alloc, &blocks)?;
+    let cases = stored_cases(alloc, form.stores, &blocks)?;
     let conds = cond_cases(alloc, &blocks)?;
     let head = head_of(&form, &blocks, cases.len() as u64);
     let ctx = has_context(form.context, &blocks);

@@ -129,7 +129,7 @@ fn append_root(
     ensures { OnOk result (blocks.new.items
         ≡ blocks.old.items ++ unlabelled (tree_code next (with_blocks (way_of exits) (seen_tree tree.now)) ∷ [])) }
 {
-    let mut stmts = Vec::new(alloc);
+    let mut stmts = Vec::with_capacity(alloc, test_count(tree))?;
     append_tests(&mut stmts, exits, next, tree)?;
     append_block(blocks, stmts)
 }
@@ -167,11 +167,31 @@ pub(crate) fn append_store(stmts: &mut Vec<Stmt>, stored: Option<u64>) -> Result
     Ok(())
 }
 
-/// The statements of a check for units, if there is one.
-fn need_code(alloc: Global, reading: Reading) -> Result<Vec<Stmt>, Memory>
+/// How many statements a check for units has.
+fn need_count(reading: Reading) -> usize {
+    match (reading.units, reading.stored) {
+        (0, _) => 0,
+        (_, None) => 1,
+        (_, Some(_)) => 2,
+    }
+}
+
+/// How many statements the first tests of a tree have.
+fn test_count(tree: &TestTree) -> usize {
+    match tree {
+        TestTree::Leaf(_) => 1,
+        TestTree::Test { high, .. } | TestTree::Fork { high, .. } => {
+            test_count(high).saturating_add(1)
+        }
+    }
+}
+
+/// The statements of a check for units, if there is one, with room for so many others.
+fn need_code(alloc: Global, reading: Reading, others: usize) -> Result<Vec<Stmt>, Memory>
     ensures { IfOk result (λ stmts. stmts.items ≡ need_code (constant reading.stored) entry reading.units []) }
 {
-    let mut stmts = Vec::new(alloc);
+    let count = others.saturating_add(need_count(reading));
+    let mut stmts = Vec::with_capacity(alloc, count)?;
     if reading.units != 0 {
         append_store(&mut stmts, reading.stored)?;
         stmts.push(Stmt::Need(reading.units))?;
@@ -192,7 +212,8 @@ fn append_read(
         ++ unlabelled (read_blocks (constant reading.stored) entry reading.units from (with_blocks (way_of exits) (seen_tree tree.now)))) }
 {
     let next = sum(1, from)?;
-    let mut stmts = need_code(alloc, reading)?;
+    let tests = test_count(tree).saturating_add(1);
+    let mut stmts = need_code(alloc, reading, tests)?;
     stmts.push(Stmt::Peek)?;
     append_tests(&mut stmts, exits, next, tree)?;
     append_block(blocks, stmts)?;
@@ -211,7 +232,7 @@ fn append_check(
     if reading.units == 0 {
         return Ok(());
     }
-    let mut stmts = need_code(alloc, reading)?;
+    let mut stmts = need_code(alloc, reading, 1)?;
     stmts.push(Stmt::Goto(block))?;
     append_block(blocks, stmts)
 }

@@ -38,7 +38,8 @@ fn end_test(alloc: Global, asked: u64, to: u64) -> Result<Vec<Stmt>, Memory>
 fn try_code(alloc: Global, stored: Option<u64>, block: u64, end: u64) -> Result<Vec<Stmt>, Memory>
     ensures { IfOk result (λ stmts. stmts.items ≡ try_code (constant stored) entry block end) }
 {
-    let mut stmts = Vec::new(alloc);
+    let count = if stored.is_some() { 3 } else { 2 };
+    let mut stmts = Vec::with_capacity(alloc, count)?;
     append_store(&mut stmts, stored)?;
     stmts.push(Stmt::Try(block))?;
     stmts.push(Stmt::Goto(end))?;

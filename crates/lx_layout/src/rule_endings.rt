@@ -173,7 +173,8 @@ fn end_code(alloc: Global, end: &RuleEnd<'_>, values: &[Held]) -> Result<Vec<Stm
     requires few { length values.now ≤ length end.now.rule.now.tags + 130 }
     ensures { IfOk result (λ stmts. stmts.items ≡ ending_code (λ number. ending_of end.now) end.now.rule.now.number values.now) }
 {
-    let mut stmts = Vec::new(alloc);
+    let fixed = if end.goes.is_some() { 2 } else { 1 };
+    let mut stmts = Vec::with_capacity(alloc, values.len() + fixed)?;
     append_tags(alloc, &mut stmts, end, values)?;
     append_back(&mut stmts, slash_held(end.rule.slash, values))?;
     append_cond(alloc, &mut stmts, end.goes)?;

@@ -9,7 +9,7 @@ ghost use Rattle.lx_layout.specs.SuppliedLayout.{lone_number};
 ghost use Rattle.lx_layout.specs.TestTrees.{IsTreeOf};
 ghost use Rattle.lx_layout.specs.TransitionClasses.{transition_classes};
 ghost use Rattle.lx_layout.specs.UnitApart.{reader_split};
-ghost use Rattle.lx_layout.specs.Views.{seen_classes, seen_tree};
+ghost use Rattle.lx_layout.specs.Views.{class_list, seen_classes, seen_tree};
 
 use crate::blocks::sum;
 use crate::demands::PartInput;
@@ -67,7 +67,7 @@ fn tests_of(
     edges: &[Edge],
 ) -> Result<TestTree, Memory>
     requires order { AreApart edges.now }
-    requires classes { seen_classes classes.now.keys ≡ transition_classes edges.now }
+    requires classes { seen_classes (class_list classes.now) ≡ transition_classes edges.now }
     ensures { IfOk result (λ tests. IsTreeOf (reader_split eof greatest edges.now) (seen_tree tests)) }
 {
     let split = reader_split(alloc, eof, greatest, classes, edges)?;
@@ -106,7 +106,7 @@ fn plans_of<'a>(
     ensures states { IfOk result (λ plans. planned_states plans.items ≡ states.now) }
     ensures planned { IfOk result (λ plans. AreStatePlans eof greatest plans.items) }
 {
-    let mut plans = Vec::new(alloc);
+    let mut plans = Vec::with_capacity(alloc, states.len())?;
     for state in states {
         plans.push(plan_of(alloc, eof, greatest, state)?)?;
     }
@@ -205,7 +205,7 @@ impl PartPlans<'_> {
         if plan.state.edges.as_slice().is_empty() {
             return Ok(lone_size(self.input.end_rule, number, accept));
         }
-        let classes = plan.classes.len() as u64;
+        let classes = plan.classes.as_slice().len() as u64;
         let end = end_size(self.marks.halts(number), accept);
         let behind = sum(classes, sum(self.turn_size(number), end)?)?;
         sum(self.tests_size(number)?, behind)

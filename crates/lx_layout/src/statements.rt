@@ -48,6 +48,9 @@ pub(crate) fn append_list(
     requires there { AreOps auto.now.regs auto.now.mregs ops.now }
     ensures { OnOk result (stmts.new.items ≡ stmts.old.items ++ list_code auto.now ops.now []) }
 {
+    if ops.is_empty() {
+        return Ok(());
+    }
     let list = sequence(alloc, ops, auto.regs, auto.mregs)?;
     append_ops(stmts, &list)
 }

@@ -7,7 +7,7 @@ ghost use Rattle.lx_ccode.specs.Statements.{all_statements, has_register_one};
 ghost use Rattle.lx_layout.specs.Switches.{cond_cases};
 
 use lx_base::{ByteText, Memory};
-use lx_ccode::{CodeBlock, CondCase, StateCase, Stmt};
+use lx_ccode::{CodeBlock, CondCase, StateCase, Stmt, has_register_one};
 use std::alloc::Global;
 
 /// Whether a refill is tried first.
@@ -45,6 +45,7 @@ pub fn state_cases(alloc: Global, blocks: &[CodeBlock]) -> Result<Vec<StateCase>
     for (block, code) in blocks.iter().enumerate() {
         append_states(&mut cases, block as u64, code.stmts.as_slice())?;
     }
+    cases.shrink_to_fit();
     Ok(cases)
 }
 
@@ -61,22 +62,8 @@ pub(crate) fn cond_cases(alloc: Global, blocks: &[CodeBlock]) -> Result<Vec<Cond
             })?;
         }
     }
+    cases.shrink_to_fit();
     Ok(cases)
-}
-
-/// Whether a statement names register 1.
-fn has_register_one(stmt: &Stmt) -> bool
-    ensures { result ≡ has_register_one stmt.now }
-{
-    match stmt {
-        Stmt::Set(register)
-        | Stmt::Unset(register)
-        | Stmt::Tag(_, false, register)
-        | Stmt::End(_, register)
-        | Stmt::Back(register) => *register == 1,
-        Stmt::Copy(register, source) => *register == 1 || *source == 1,
-        _ => false,
-    }
 }
 
 fn any_register_one(stmts: &[Stmt]) -> bool

@@ -10,13 +10,16 @@ ghost use Rattle.lx_auto.specs.contracts.ops.OpHash.TheImpl.{hash_input-value};
 ghost use Rattle.lx_auto.specs.contracts.ops.OpHash.TheImpl.Laws.{respects_eq-law};
 ghost use Rattle.lx_auto.specs.contracts.ops.OpPartialEq.TheImpl.{eq-value};
 ghost use Rattle.lx_layout.specs.TransitionClasses.{class_place, transition_classes};
-ghost use Rattle.lx_layout.specs.Views.{seen_classes};
+ghost use Rattle.lx_layout.specs.Views.{class_list, seen_classes};
 
 use indexmap::IndexSet;
 use lx_auto::Edge;
 use lx_base::Memory;
 use std::alloc::Global;
 use std::hash::{Hash, Hasher};
+
+/// How many edges are compared one by one, without a hash: most states have no more.
+const FEW: usize = 8;
 
 /// A transition class: the first edge of it. Two are equal where their edges are of one class.
 #[derive(Clone, Copy)]
@@ -51,23 +54,68 @@ impl Hash for TransitionClass<'_> {
 
 /// Different transition classes, in the order in which they are found. The place of one is told in time linear in its operations,
 /// whatever the number of classes, as far as hashes differ.
-pub(crate) type TransitionClasses<'a> = IndexSet<TransitionClass<'a>>;
+#[derive(Drop)]
+pub(crate) enum TransitionClasses<'a> {
+    /// Those of few edges.
+    Few(Vec<TransitionClass<'a>>),
+    Many(Box<IndexSet<TransitionClass<'a>>>),
+}
 
-/// The place of an edge's class among classes, counted from 0, or how many classes there are.
-pub(crate) fn class_place(classes: &TransitionClasses<'_>, edge: &Edge) -> usize
-    ensures { result ≡ class_place (seen_classes classes.now.keys) edge.now }
-{
-    match classes.get_index_of(&TransitionClass { edge }) {
-        Some(place) => place,
-        None => classes.len(),
+impl<'a> TransitionClasses<'a> {
+    pub fn as_slice(&self) -> &[TransitionClass<'a>]
+        ensures { result.now ≡ class_list self.now }
+    {
+        match self {
+            Self::Few(classes) => classes.as_slice(),
+            Self::Many(classes) => classes.as_slice(),
+        }
     }
 }
 
-/// The transition classes of edges, in the order in which they are found.
-pub(crate) fn transition_classes<'a>(
+/// The place of an edge's class among some, counted from 0, or how many these are.
+fn place_among(classes: &[TransitionClass<'_>], edge: &Edge) -> usize
+    ensures { result ≡ class_place (seen_classes classes.now) edge.now }
+{
+    let wanted = TransitionClass { edge };
+    for (place, class) in classes.iter().enumerate() {
+        if wanted == *class {
+            return place;
+        }
+    }
+    classes.len()
+}
+
+/// The place of an edge's class among classes, counted from 0, or how many classes there are.
+pub(crate) fn class_place(classes: &TransitionClasses<'_>, edge: &Edge) -> usize
+    ensures { result ≡ class_place (seen_classes (class_list classes.now)) edge.now }
+{
+    match classes {
+        TransitionClasses::Few(classes) => place_among(classes, edge),
+        TransitionClasses::Many(classes) => match classes.get_index_of(&TransitionClass { edge }) {
+            Some(place) => place,
+            None => classes.len(),
+        },
+    }
+}
+
+/// The transition classes of few edges, in the order in which they are found.
+fn few_classes<'a>(alloc: Global, edges: &'a [Edge]) -> Result<Vec<TransitionClass<'a>>, Memory>
+    ensures { IfOk result (λ classes. seen_classes classes.items ≡ transition_classes edges.now) }
+{
+    let mut classes = Vec::new(alloc);
+    for edge in edges {
+        if classes.len() <= place_among(&classes, edge) {
+            classes.push(TransitionClass { edge })?;
+        }
+    }
+    Ok(classes)
+}
+
+/// The transition classes of many edges, in the order in which they are found.
+fn many_classes<'a>(
     alloc: Global,
     edges: &'a [Edge],
-) -> Result<TransitionClasses<'a>, Memory>
+) -> Result<IndexSet<TransitionClass<'a>>, Memory>
     ensures { IfOk result (λ classes. seen_classes classes.keys ≡ transition_classes edges.now) }
 {
     let mut classes = IndexSet::new(alloc);
@@ -75,4 +123,18 @@ pub(crate) fn transition_classes<'a>(
         classes.insert(TransitionClass { edge })?;
     }
     Ok(classes)
+}
+
+/// The transition classes of edges, in the order in which they are found.
+pub(crate) fn transition_classes<'a>(
+    alloc: Global,
+    edges: &'a [Edge],
+) -> Result<TransitionClasses<'a>, Memory>
+    ensures { IfOk result (λ classes. seen_classes (class_list classes) ≡ transition_classes edges.now) }
+{
+    if edges.len() <= FEW {
+        return Ok(TransitionClasses::Few(few_classes(alloc, edges)?));
+    }
+    let classes = Box::new(alloc, many_classes(alloc, edges)?)?;
+    Ok(TransitionClasses::Many(classes))
 }

@@ -1,7 +1,7 @@
 //! The tests of a unit that choose its transition class.
 ghost use Rattle.std.specs.Prelude.{◌≡◌, ◌++◌, ◌∷◌, IfOk, OnOk, None, drop, length};
 ghost use Rattle.lx_layout.specs.UnitApart.{apart_from, reader_split, stretch_behind, tests_before, unit_stretch};
-ghost use Rattle.lx_layout.specs.Views.{seen_split, seen_stretch, seen_stretches, seen_classes};
+ghost use Rattle.lx_layout.specs.Views.{seen_split, seen_stretch, seen_stretches, class_list, seen_classes};
 ghost use Rattle.lx_layout.specs.TransitionClasses.{edge_split, first_class, same_place, split_of, stretches, transition_classes};
 
 use crate::transition_classes::{TransitionClasses, class_place};
@@ -30,7 +30,7 @@ fn stretches(
     classes: &TransitionClasses<'_>,
     edges: &[Edge],
 ) -> Result<Vec<Stretch>, Memory>
-    ensures { IfOk result (λ found. seen_stretches found.items ≡ stretches (seen_classes classes.now.keys) 0 edges.now) }
+    ensures { IfOk result (λ found. seen_stretches found.items ≡ stretches (seen_classes (class_list classes.now)) 0 edges.now) }
 {
     let mut found = Vec::new(alloc);
     let mut low = 0;
@@ -89,7 +89,7 @@ pub(crate) fn edge_split(
     classes: &TransitionClasses<'_>,
     edges: &[Edge],
 ) -> Result<Split, Memory>
-    requires { seen_classes classes.now.keys ≡ transition_classes edges.now }
+    requires { seen_classes (class_list classes.now) ≡ transition_classes edges.now }
     ensures { IfOk result (λ split. seen_split split ≡ edge_split greatest edges.now) }
 {
     let found = stretches(alloc, classes, edges)?;
@@ -187,12 +187,12 @@ pub(crate) fn reader_split(
     classes: &TransitionClasses<'_>,
     edges: &[Edge],
 ) -> Result<Split, Memory>
-    requires { seen_classes classes.now.keys ≡ transition_classes edges.now }
+    requires { seen_classes (class_list classes.now) ≡ transition_classes edges.now }
     ensures { IfOk result (λ split. seen_split split ≡ reader_split eof greatest edges.now) }
 {
     let split = edge_split(alloc, greatest, classes, edges)?;
     match eof {
         None => Ok(split),
-        Some(unit) => apart_from(alloc, greatest, unit, classes.len(), &split),
+        Some(unit) => apart_from(alloc, greatest, unit, classes.as_slice().len(), &split),
     }
 }

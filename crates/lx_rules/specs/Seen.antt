@@ -1,5 +1,5 @@
 -- What the definitions see of the code's values.
-use Rattle.std.specs.Prelude.{◌≡◌, ℕ, true, false, List, [], ◌++◌, map, nat_lt, Bool, Option, Some, None}
+use Rattle.std.specs.Prelude.{◌≡◌, ℕ, true, false, List, [], ◌++◌, map, nat_lt, Bool, Option, Some, None, if◌then◌else◌}
 use Rattle.std.specs.List.{list_any}
 use Rattle.std.specs.declared.rc.Rc.{Rc}
 use Rattle.std.specs.Global.{Global, Vec}
@@ -15,6 +15,10 @@ use Rattle.lx_rules.specs.Environments.{Settings}
 -- what is set
 abbrev pub settings_view : code.Settings → Settings
 settings_view settings = record { names = settings.names.items; eof = settings.eof; fill = settings.fill }
+
+-- the bytes of code points, if each of them is one
+abbrev pub bytes_of_points : List ℕ → Option (List ℕ)
+bytes_of_points points = if list_any (λ point. nat_lt 255 point) points then None else Some points
 
 -- the text of these code points, if each of them is a byte
 abbrev pub IsSaid : (points : List ℕ) → Option (List ℕ) → Type 0

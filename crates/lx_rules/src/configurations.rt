@@ -7,7 +7,7 @@ ghost use Rattle.lx_base.specs.declared.faults.Fault.TheVariants.{UnknownConfig}
 ghost use Rattle.lx_exprs.specs.Seen.{IsStop, points_of};
 ghost use Rattle.lx_forms.specs.Seen.{lexeme_view};
 ghost use Rattle.lx_rules.specs.Configurations.{config_fault, config_kind, eof_number, eof_of, number_switch, said, set_by, setting_of, spelling_of, spelling_words, switch_of};
-ghost use Rattle.lx_rules.specs.Seen.{IsSaid};
+ghost use Rattle.lx_rules.specs.Seen.{IsSaid, bytes_of_points};
 
 use crate::environment::Setting;
 use crate::words::is_among;
@@ -138,9 +138,10 @@ fn eof_of(enc: Enc, kind: TokenKind, text: &[u8]) -> Option<Option<u32>>
     }
 }
 
-/// The bytes of characters, if each of them is a byte.
-fn bytes_of(alloc: Global, characters: &[Character]) -> Result<Option<ByteText>, Memory>
-    ensures { IfOk result (IsSaid (points_of characters.now)) }
+/// The bytes of characters, if each of them is one.
+pub fn bytes_of(alloc: Global, characters: &[Character]) -> Result<Option<ByteText>, Memory>
+    ensures bytes { IfOk result (λ bytes. bytes ≡ bytes_of_points (points_of characters.now)) }
+    ensures said { IfOk result (IsSaid (points_of characters.now)) }
 {
     let mut bytes = Vec::new(alloc);
     for character in characters {

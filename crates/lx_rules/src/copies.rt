@@ -68,7 +68,7 @@ pub(crate) fn rule_copies(alloc: Global, held: &[&KeptRule]) -> Result<Vec<Rule>
     requires { AllByRecursion IsBuilt (map (λ one. one.now) held.now) }
     ensures { IfOk result (λ rules. AllZip IsCopyOf (map (λ one. one.now) held.now) rules.items) }
 {
-    let mut rules = Vec::new(alloc);
+    let mut rules = Vec::with_capacity(alloc, held.len())?;
     for one in held {
         rules.push(rule_copy(alloc, one)?)?;
     }

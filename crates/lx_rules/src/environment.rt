@@ -127,6 +127,9 @@ impl Settings {
         ensures { IfOk result (λ names. names ≡ (config_of (settings_view self.now)).names) }
     {
         let usual = usual_names(alloc)?;
+        if self.names.is_empty() {
+            return Ok(usual);
+        }
         let usual = usual.as_slice();
         let mut names = Names::new(alloc);
         for place in 0..usual.len() {

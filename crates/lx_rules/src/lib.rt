@@ -19,10 +19,11 @@ mod rule_exprs;
 mod scanners;
 mod words;
 
+pub use configurations::bytes_of;
 pub use environment::Env;
 pub use laws::{
     block_faults_stand_in_the_file_of_the_opener, blocks_resolve_in_one_way,
     blocks_resolve_or_have_a_fault, resolved_blocks_are_well_formed,
 };
-pub use resolved::{Act, Config, Resolved, Scanner, numbered_act};
+pub use resolved::{Act, Config, Resolved, Scanner, end_rule, numbered_act};
 pub use resolving::resolve;

@@ -1,9 +1,10 @@
 //! What a block resolves to.
 ghost use Rattle.std.specs.Prelude.{◌≡◌, option_copied};
+ghost use Rattle.lx_regex.specs.Pattern.{end_rule, patterns_of};
 ghost use Rattle.lx_rules.specs.Numbered.{numbered_act};
 
 use lx_base::{ByteText, Names, Pos, Sequence};
-use lx_regex::RuleSet;
+use lx_regex::{Kind, Rule, RuleSet};
 
 /// A scanner: the rules that stand under one condition, or all rules of a block where conditions are not in use.
 pub struct Scanner {
@@ -49,6 +50,18 @@ pub fn numbered_act(acts: &[Act], number: u32) -> Option<&Act>
         None => None,
         Some(place) => acts.get(place as usize),
     }
+}
+
+/// The number of the rule `$`, which stands at the end of the input, if there is one.
+pub fn end_rule(rules: &[Rule]) -> Option<u32>
+    ensures { result ≡ end_rule (patterns_of rules.now) }
+{
+    for rule in rules {
+        if rule.kind == Kind::Eof {
+            return Some(rule.number);
+        }
+    }
+    None
 }
 
 /// The configuration that holds for a block.

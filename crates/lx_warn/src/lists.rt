@@ -3,7 +3,7 @@ ghost use Rattle.std.specs.Prelude.{◌≡◌, ◌↔◌, ℕ, ◌++◌, Contain
 ghost use Rattle.std.specs.List.Sorted.{IsNonDecreasing, IsStrictlyIncreasing};
 ghost use Rattle.lx_regex.specs.Limits.{IsWithinLimits};
 ghost use Rattle.lx_regex.specs.Order.{Policy as PolicyValue};
-ghost use Rattle.lx_regex.specs.Pattern.{end_rule, is_end as is_end_kind, patterns_of};
+ghost use Rattle.lx_regex.specs.Pattern.{patterns_of};
 ghost use Rattle.lx_rules.specs.Within.{IsScannerWithin};
 ghost use Rattle.lx_tdfa.specs.Promise.{IsAutoUnder};
 ghost use Rattle.lx_warn.specs.Entered.{has_number, is_number, rule_warnings as warnings_by, warnings_of, word_warnings};
@@ -13,8 +13,8 @@ use crate::dead_words::first_stopping;
 use crate::entered::{accepted_rule, entered_rules, start_enters};
 use lx_auto::{Auto, met_states};
 use lx_base::{Enc, Memory, Sequence, Word};
-use lx_regex::{Kind, Rule, RuleSet};
-use lx_rules::Scanner;
+use lx_regex::{Rule, RuleSet};
+use lx_rules::{Scanner, end_rule};
 use std::alloc::Global;
 
 /// What a scanner is warned of.
@@ -30,28 +30,6 @@ pub enum Warning {
 
 /// Warnings, in the order of the rules' numbers, and behind them the one of a word.
 pub type WarningList = Sequence<Warning>;
-
-/// Whether a kind is that of the rule `$`.
-fn is_end(kind: Kind) -> bool
-    ensures { result ≡ is_end_kind kind }
-{
-    match kind {
-        Kind::Plain | Kind::Default => false,
-        Kind::Eof => true,
-    }
-}
-
-/// The number of the rule `$`, if there is one.
-fn end_number(rules: &[Rule]) -> Option<u32>
-    ensures { result ≡ end_rule (patterns_of rules.now) }
-{
-    for rule in rules {
-        if is_end(rule.kind) {
-            return Some(rule.number);
-        }
-    }
-    None
-}
 
 /// The numbers of rules, in ascending order.
 fn rule_numbers(alloc: Global, rules: &[Rule]) -> Result<Vec<u32>, Memory>
@@ -148,7 +126,7 @@ fn warnings_of_set(
     ensures { IfOk result (λ list. (policy : PolicyValue) → AreWarnings policy enc (patterns_of set.now.rules) list) }
 {
     let rules = set.rules.as_slice();
-    let at_end = end_number(rules);
+    let at_end = end_rule(rules);
     let marks = met_states(alloc, auto)?;
     let start = start_enters(auto, enc, &marks, at_end);
     let entered = entered_rules(alloc, auto, &marks, start, at_end)?;

@@ -1,6 +1,7 @@
 -- Each edge's class is found among the classes of edges, and leads as the edge does.
-use Rattle.std.specs.Prelude.{◌≡◌, ℕ, suc, List, [], ◌∷◌, ◌++◌, Some, Bool, true, false, nat_eq, ◌&&◌, refl, slice_get, if◌then◌else◌}
-use Rattle.std.proofs.Common.{sym, ap, ap₂, subst, eqb-true, eq-eqb, true≢false}
+use Rattle.std.specs.Prelude.{◌≡◌, ◌<◌, ◌≤◌, ℕ, suc, length, List, [], ◌∷◌, ◌++◌, ◌+◌, Some, Bool, true, false, nat_eq, ◌&&◌, refl, slice_get, drop, if◌then◌else◌}
+use Rattle.std.proofs.Common.{◌∙◌, sym, ap, ap₂, subst, arith, get_or, eqb-true, eq-eqb, true≢false}
+use Rattle.std.proofs.lemmas.List.{drop_more}
 use Rattle.lx_auto.specs.Automaton.{edge_on, has_unit}
 use Rattle.lx_auto.specs.declared.automaton.Edge.{Edge}
 use Rattle.lx_auto.specs.declared.ops.Op.{Op}
@@ -88,6 +89,34 @@ has_class-last (class ∷ classes) edge = by (same_class class edge) (has_class-
     by : (t : Bool) → has_class (classes ++ edge ∷ []) edge ≡ true → (if t then true else has_class (classes ++ edge ∷ []) edge) ≡ true
     by true e = refl
     by false e = e
+
+-- an edge has a class among some where the class has a place
+pub has_class-none : (classes : List Edge) (edge : Edge) → length classes ≤ class_place classes edge → has_class classes edge ≡ false
+has_class-none [] edge past = refl
+has_class-none (class ∷ classes) edge past = by (same_class class edge) past (λ h. has_class-none classes edge h)
+  where
+    by : (t : Bool) → suc (length classes) ≤ (if t then 0 else suc (class_place classes edge))
+        → (length classes ≤ class_place classes edge → has_class classes edge ≡ false) → (if t then true else has_class classes edge) ≡ false
+    by true past again = absurd (omega (arith, past))
+    by false past again = again (omega (arith, past))
+
+pub has_class-some : (classes : List Edge) (edge : Edge) → class_place classes edge < length classes → has_class classes edge ≡ true
+has_class-some [] edge within = absurd (omega (arith, within))
+has_class-some (class ∷ classes) edge within = by (same_class class edge) within (λ h. has_class-some classes edge h)
+  where
+    by : (t : Bool) → (if t then 0 else suc (class_place classes edge)) < suc (length classes)
+        → (class_place classes edge < length classes → has_class classes edge ≡ true) → (if t then true else has_class classes edge) ≡ true
+    by true within again = refl
+    by false within again = again (omega (arith, within))
+
+-- the classes behind one more edge, where it is known whether its class is one of them
+pub classes_onto-looked : (edges : List Edge) (index : ℕ) (edge : Edge) → index < length edges → edge ≡ get_or edges index edge
+    → (found new whole : List Edge) → classes_onto found (drop index edges) ≡ whole → (t : Bool) → has_class found edge ≡ t
+    → new ≡ (if t then found else found ++ edge ∷ []) → classes_onto new (drop (index + 1) edges) ≡ whole
+classes_onto-looked edges index edge within is found new whole before t has put =
+    ap (λ l. classes_onto l (drop (index + 1) edges)) (put ∙ ap (λ (b : Bool). if b then found else found ++ edge ∷ []) (sym has))
+    ∙ ap (λ l. classes_onto found l) (sym (drop_more edges index edge within ∙ ap (λ e. e ∷ drop (index + 1) edges) (sym is)))
+    ∙ before
 
 -- what was found stays found
 pub has_class-onto : (edges found : List Edge) (edge : Edge) → has_class found edge ≡ true → has_class (classes_onto found edges) edge ≡ true

@@ -1,6 +1,6 @@
 -- Transition classes in a table: they are equal there where their edges are of one class.
 use Rattle.std.specs.Prelude.{◌≡◌, ℕ, suc, ◌+◌, Bool, true, false, List, [], ◌∷◌, ◌++◌, Some, None, length, drop, position, if◌then◌else◌, not, cond, ◌||◌, refl, nat_lt, ◌<◌}
-use Rattle.std.proofs.Common.{sym, ap, ap₂, ◌∙◌, arith, eqb, get_or, ltb-false, ◌&&◌}
+use Rattle.std.proofs.Common.{sym, subst, ap, ap₂, ◌∙◌, arith, eqb, get_or, ltb-false, ◌&&◌}
 use Rattle.std.specs.List.{list_any, position_or_len}
 use Rattle.std.proofs.lemmas.List.{map_push, drop_more}
 use Rattle.std.proofs.lemmas.List.Sums.{prefix_len-le-length}
@@ -11,7 +11,7 @@ use Rattle.lx_layout.specs.TransitionClasses.{class_place, classes_onto, has_cla
 use Rattle.lx_layout.specs.Views.{seen_classes}
 use Rattle.lx_layout.specs.contracts.transition_classes.TransitionClassPartialEq.TheImpl.{eq-value}
 use Rattle.lx_layout.specs.declared.transition_classes.TransitionClass.{TransitionClass}
-use Rattle.lx_layout.proofs.BlockLayouts.ClassLists.{same_class-itself, same_class-ops, same_class-to}
+use Rattle.lx_layout.proofs.BlockLayouts.ClassLists.{classes_onto-looked, same_class-itself, same_class-ops, same_class-to}
 use Rattle.lx_layout.proofs.Operations.OpsAlike.{pointwise-same_ops}
 
 same_class-turned : (edge other : Edge) → same_class edge other ≡ true → same_class other edge ≡ true
@@ -70,10 +70,8 @@ module _ (class : TransitionClass) where
       → (classes new : List TransitionClass) (whole : List Edge) → classes_onto (seen_classes classes) (drop index edges) ≡ whole
       → new ≡ insert_key eq-value.it classes class → classes_onto (seen_classes new) (drop (index + 1) edges) ≡ whole
   classes_onto-inserted edges index within is classes new whole before inserted =
-      ap (λ l. classes_onto l (drop (index + 1) edges)) (ap seen_classes inserted ∙ seen_classes-inserted classes)
-      ∙ ap (λ l. classes_onto (seen_classes classes) l)
-      (sym (drop_more edges index class.edge.now within ∙ ap (λ e. e ∷ drop (index + 1) edges) (sym is)))
-      ∙ before
+      classes_onto-looked edges index class.edge.now within is (seen_classes classes) (seen_classes new) whole before
+      (has_class (seen_classes classes) class.edge.now) refl (ap seen_classes inserted ∙ seen_classes-inserted classes)
 
   pub place_found : (classes : List TransitionClass) (place : ℕ) → Some place ≡ position (eq-value.it class) classes
       → place ≡ class_place (seen_classes classes) class.edge.now
@@ -94,3 +92,17 @@ module _ (class : TransitionClass) where
           let past = ltb-false (position_or_len (eq-value.it class) classes) (length classes) is in
           let most = prefix_len-le-length (λ other. not (eq-value.it class other)) classes in
           omega (arith, past, most)
+
+  -- the place of a class, where so many have been passed
+  pub place_next : (classes : List TransitionClass) (place : ℕ) (other : TransitionClass) → place < length classes → other ≡ get_or classes place other → (t : Bool)
+      → t ≡ eq-value.it class other → (whole : ℕ) → place + class_place (seen_classes (drop place classes)) class.edge.now ≡ whole
+      → (if t then place else (place + 1) + class_place (seen_classes (drop (place + 1) classes)) class.edge.now) ≡ whole
+  place_next classes place other within is t equal whole before =
+      by t (equal ∙ equal-same_class other)
+      (ap (λ l. place + class_place (seen_classes l) class.edge.now) (sym (drop_more classes place other within ∙ ap (λ e. e ∷ drop (place + 1) classes) (sym is))) ∙ before)
+    where
+      by : (t : Bool) → t ≡ same_class other.edge.now class.edge.now
+          → place + (if same_class other.edge.now class.edge.now then 0 else suc (class_place (seen_classes (drop (place + 1) classes)) class.edge.now)) ≡ whole
+          → (if t then place else (place + 1) + class_place (seen_classes (drop (place + 1) classes)) class.edge.now) ≡ whole
+      by true e put = omega (arith, subst (λ b. place + (if b then 0 else suc (class_place (seen_classes (drop (place + 1) classes)) class.edge.now)) ≡ whole) (sym e) put)
+      by false e put = omega (arith, subst (λ b. place + (if b then 0 else suc (class_place (seen_classes (drop (place + 1) classes)) class.edge.now)) ≡ whole) (sym e) put)

@@ -5,14 +5,14 @@ use Rattle.std.proofs.lemmas.List.{get_or-map, length-map}
 use Rattle.std.specs.List.{AllByRecursion}
 use Rattle.lx_auto.specs.declared.automaton.Edge.{Edge}
 use Rattle.lx_auto.specs.declared.automaton.State.{State}
-use Rattle.lx_layout.specs.LaidParts.{ArePlans, IsStatePlan, given_at, halting_at, size_at, supply_at, tests_at, trees_at, turn_at}
+use Rattle.lx_layout.specs.LaidParts.{ArePlans, IsStatePlan, first_at, given_at, halting_at, size_at, supply_at, tests_at, trees_at, turn_at}
 use Rattle.lx_layout.specs.Halting.{halted_accept}
 use Rattle.lx_layout.specs.Layout.{end_size, lone_size}
-use Rattle.lx_layout.specs.SuppliedLayout.{lone_number, size_in}
+use Rattle.lx_layout.specs.SuppliedLayout.{classes_begin, lone_number, size_in}
 use Rattle.lx_layout.specs.Supplies.{state}
 use Rattle.lx_layout.specs.TestTrees.{leaf}
 use Rattle.lx_layout.specs.TransitionClasses.{transition_classes}
-use Rattle.lx_layout.specs.Views.{seen_classes, seen_tree}
+use Rattle.lx_layout.specs.Views.{class_list, seen_classes, seen_tree}
 use Rattle.lx_layout.specs.declared.state_plans.PartPlans.{PartPlans}
 use Rattle.lx_layout.specs.declared.state_plans.StatePlan.{StatePlan}
 use Rattle.lx_layout.specs.declared.transition_classes.TransitionClass.{TransitionClass}
@@ -43,12 +43,12 @@ module _ (plans : PartPlans) (are : ArePlans plans) (number : ℕ) (within : num
   plan_planned =
       each_at (IsStatePlan plans.input.demand.eof plans.input.greatest) plans.states.items number plan are.planned within is
 
-  pub plan_classes : seen_classes plan.classes.keys ≡ transition_classes (given_at plans number).edges
+  pub plan_classes : seen_classes (class_list plan.classes) ≡ transition_classes (given_at plans number).edges
   plan_classes = plan_planned.classes ∙ ap (λ (s : State). transition_classes s.edges) plan_given
 
-  pub plan_count : length plan.classes.keys ≡ length (transition_classes (given_at plans number).edges)
+  pub plan_count : length (class_list plan.classes) ≡ length (transition_classes (given_at plans number).edges)
   plan_count =
-      sym (length-map plan.classes.keys (λ (class : TransitionClass). class.edge.now)) ∙ ap length plan_classes
+      sym (length-map (class_list plan.classes) (λ (class : TransitionClass). class.edge.now)) ∙ ap length plan_classes
 
 -- the size of a state with edges
 size_some : (plans : PartPlans) (number : ℕ) (given : State) (edges : List Edge) → 0 < length edges
@@ -76,3 +76,15 @@ size_of-none plans number given is none =
         ≡ size_in (supply_at plans) (halting_at plans) plans.input.end_rule (trees_at plans) plans.input.auto.now number given edges
     by [] none = refl
     by (edge ∷ edges) none = absurd (omega (arith, none))
+
+-- where the classes of a state with edges begin
+pub first_of-some : (plans : PartPlans) (number from : ℕ) (given : State) → given ≡ given_at plans number → 0 < length given.edges
+    → from + tests_at plans number ≡ first_at plans number from
+first_of-some plans number from given is some =
+    by given.edges some
+    ∙ ap (λ (s : State). classes_begin (supply_at plans) (halting_at plans) plans.input.end_rule (trees_at plans) plans.input.auto.now number from s.edges) is
+  where
+    by : (edges : List Edge) → 0 < length edges → from + tests_at plans number
+        ≡ classes_begin (supply_at plans) (halting_at plans) plans.input.end_rule (trees_at plans) plans.input.auto.now number from edges
+    by [] some = absurd (omega (arith, some))
+    by (edge ∷ edges) some = refl

@@ -1,28 +1,30 @@
--- Histories of scanners one behind another have numbers of 32 bits.
-use Rattle.std.specs.Prelude.{◌≡◌, ◌+◌, ◌≤◌, List, length}
+-- Histories of scanners one behind another have numbers of 32 bits, and no state is stored where none is to be.
+use Rattle.std.specs.Prelude.{◌≡◌, ◌+◌, ◌≤◌, [], List, false, length}
 use Rattle.std.proofs.Common.{ap, arith, subst, sym}
 use Rattle.std.proofs.lemmas.List.Elements.{recursion_from_All}
 use Rattle.std.specs.List.{AllByRecursion}
 use Rattle.lx_base.specs.Spelling.{greatest_unit}
 use Rattle.lx_base.specs.declared.limits.TheConstants.{STATEMENT_LIMIT}
 use Rattle.lx_ccode.specs.Counts.{mregs_of}
+use Rattle.lx_ccode.specs.States.{states_from}
 use Rattle.lx_ccode.specs.Statements.{statement_count}
 use Rattle.lx_ccode.specs.Validity.{IsLong, IsShort}
 use Rattle.lx_ccode.specs.declared.piece.CodeBlock.{CodeBlock}
 use Rattle.lx_layout.specs.FormedParts as formed
-use Rattle.lx_layout.specs.FormedParts.{AreFormed, all_asked}
+use Rattle.lx_layout.specs.FormedParts.{AllStore, AreFormed, all_asked}
 use Rattle.lx_layout.specs.Parts.{Part, parts_blocks}
 use Rattle.lx_layout.specs.Pieces.{AreFit, ArePartsOf, Form, Source, conds_of}
 use Rattle.lx_layout.specs.Writable.{PartsCanBeWritten}
 use Rattle.lx_layout.proofs.PartLayouts.ClosedParts.{all_end}
 use Rattle.lx_layout.proofs.PartLayouts.PartBlocks.{OfBlocks, of_statements}
+use Rattle.lx_layout.proofs.PartLayouts.PartStates.{no_states}
 use Rattle.lx_layout.proofs.PartLayouts.ShortNumbers.{blocks_few, mregs_short}
 use Rattle.lx_layout.proofs.PartLayouts.Spelled.{IsFine}
 use Rattle.lx_layout.proofs.PartLayouts.ValidParts.{greatest_short}
 use Rattle.lx_layout.proofs.PartLayouts.WrittenParts.{blocks_fine}
 use Rattle.lx_layout.proofs.PieceLaws.AskedFew.{all_few}
 use Rattle.lx_layout.proofs.PieceLaws.EachPart.{AreFitScanners}
-use Rattle.lx_layout.proofs.PieceLaws.FitParts.{all_written, are_formed}
+use Rattle.lx_layout.proofs.PieceLaws.FitParts.{all_store, all_written, are_formed}
 use Rattle.lx_layout.proofs.PieceLaws.StandingParts.{same_conds}
 
 module _ (form : Form) (scanners : List Source) (parts : List Part) (blocks : List CodeBlock) (fit : AreFit form scanners) (are : ArePartsOf form scanners parts)
@@ -52,3 +54,8 @@ module _ (form : Form) (scanners : List Source) (parts : List Part) (blocks : Li
       (of_statements (IsFine form.names (formed.conds_of parts)) blocks
       (subst (λ l. OfBlocks (λ code. AllByRecursion (IsFine form.names (formed.conds_of parts)) code) l) (sym is)
       (blocks_fine form.names (formed.conds_of parts) (greatest_unit form.enc) form.first_state parts formed_parts (greatest_short form.enc) written room)))
+
+  pub states_none : form.stores ≡ false → states_from 0 blocks ≡ []
+  states_none none =
+      no_states (greatest_unit form.enc) form.first_state parts blocks formed_parts
+      (subst (λ stores. AllStore stores parts) none (all_store form (conds_of scanners) scanners parts each are)) is

@@ -32,7 +32,7 @@ with_place-or : (before : Option ℕ) (noted place number : ℕ)
 with_place-or (Some before) noted place number = refl
 with_place-or None noted place number = refl
 
-other-none : (noted other : Option ℕ) → option_or noted other ≡ None → other ≡ None
+pub other-none : (noted other : Option ℕ) → option_or noted other ≡ None → other ≡ None
 other-none None other none = none
 other-none (Some before) other none = absurd (cc none)
 
@@ -63,3 +63,9 @@ module _ (noted : List NotedPlace) (others : ℕ → Option ℕ) (fresh place : 
       at None true other none = ap (λ (o : Option ℕ). option_or o (Some place)) (sym (none refl))
       at None false (Some other) none = refl
       at None false None none = refl
+
+-- one that is noted behind a first place
+pub noted-behind : (before other : Option ℕ) (fresh place number : ℕ)
+    → option_or before (with_place other fresh place number) ≡ with_place (option_or before other) fresh place number
+noted-behind (Some before) other fresh place number = refl
+noted-behind None other fresh place number = refl

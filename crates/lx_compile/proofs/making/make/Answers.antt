@@ -17,6 +17,7 @@ loop-part-init c =
     let items = gives.0 ∙ c.into_vec-part-items.ensures in record {
       made = rw (items, c.new-all.ensures) (HasMade-start setting c.args.parts);
       none = rw items (HasNoneBefore-start options c.args.parts);
+      kept = tt;
       makeable = rw items c.requires.makeable;
       small = let same = ap length items in omega arith;
       count = let held = c.into_vec-part-items.result.ok in gives.1 ∙ held.0 ∙ ap length (sym gives.0);
@@ -36,6 +37,7 @@ loop-part-preserved-in-Continue-1 c =
           rw c.in_ok-push-in-Outside.ensures.pushed
           (HasMade-outside setting c.args.parts rest at.numbers.piece at.numbers.state at.all c.in-Outside.text (rw (steps, c.in-Outside.is) at before.made));
       none = HasNoneBefore-outside options c.args.parts rest c.in-Outside.text (rw (steps, c.in-Outside.is) at before.none);
+      kept = before.kept;
       makeable = All-tail (IsMakeable c.args.frame.now.options.now) c.in-Some.part rest (rw steps at before.makeable);
       small = let was = before.small in omega arith;
       count = let was = before.count in omega arith;
@@ -47,7 +49,7 @@ make_block-requires c =
     let rest = into_iter_items c.next.new.self in
     let steps : into_iter_items at.part-iterator ≡ c.in-Some.part ∷ rest = c.in-Some.ensures.steps.0 in
     let makeable = All-head (IsMakeable c.args.frame.now.options.now) c.in-Some.part rest (rw steps at at.invariant.makeable) in
-    rw c.in-Block.is at makeable
+    record { makeable = rw c.in-Block.is at makeable; kept = at.invariant.kept }
 
 pub loop-part-preserved : goal.loop-part-preserved
 loop-part-preserved c =
@@ -64,8 +66,9 @@ loop-part-preserved c =
       made =
           rw c.in_ok-push-in-Block.ensures.pushed
           (HasMade-block setting c.args.parts rest at.numbers.piece at.numbers.state answer.next at.all block.at block.line block.content answer.made
-          (rw (steps, block.is) at before.made) answer.ensures.0);
-      none = HasNoneBefore-block options c.args.parts rest block.at block.line block.content (rw (steps, block.is) at before.none) answer.ensures.1;
+          (rw (steps, block.is) at before.made) answer.ensures.made.0);
+      none = HasNoneBefore-block options c.args.parts rest block.at block.line block.content (rw (steps, block.is) at before.none) answer.ensures.made.1;
+      kept = answer.ensures.kept;
       makeable = All-tail (IsMakeable c.args.frame.now.options.now) c.in-Some.part rest (rw steps at before.makeable);
       small = let was = before.small in omega arith;
       count = let was = before.count in omega arith;
@@ -80,7 +83,7 @@ returns-in_err-made-in-Block c =
     let none = rw (steps, c.in-Block.is) at at.invariant.none in
     let p = err_from_is_err_and c.from_residual-in_err-made-in-Block.result c.from_residual-in_err-made-in-Block.ensures.1 in
     rw (p.1, p.2)
-    (StopsByScanners-block options c.args.parts rest c.in-Block.at c.in-Block.line c.in-Block.content c.in_err-made-in-Block.field-0.0 none c.in_err-made-in-Block.ensures)
+    (StopsByScanners-block options c.args.parts rest c.in-Block.at c.in-Block.line c.in-Block.content c.in_err-made-in-Block.field-0.0 none c.in_err-made-in-Block.ensures.made)
 
 pub returns : goal.returns
 returns c =

@@ -35,4 +35,5 @@ returns c =
       c.in_ok-warnings.ensures,
       rw c.from_vec.ensures made.2,
       made.1,
+      made.3,
     )

@@ -14,7 +14,7 @@ loop-scanner-preserved c =
     let marks = seen_marks c.args.marks in
     let acts = c.args.resolved.now.acts in
     let scanners = c.args.resolved.now.scanners in
-    let items = c.as_slice-scanner-items.ensures in
+    let items = c.as_slice-scanners.ensures in
     let is = subst (λ (list : List Scanner). c.scanner-item.result ≡ get_or list c.loop-scanner.scanner-index c.scanner-item.result) items c.scanner-item.is in
     let lt = subst (λ (list : List Scanner). c.loop-scanner.scanner-index < length list) items c.loop-scanner-test.true in
     record {
@@ -34,6 +34,6 @@ returns c = record {
   endings = c.loop-scanner.invariant.endings
       ∙ ap (map (λ (scanner : Scanner). endings_by (seen_marks c.args.marks) c.args.resolved.now.acts scanner.set.rules))
       (take_all c.loop-scanner.scanner-index c.args.resolved.now.scanners
-      (subst (λ (list : List Scanner). length list ≤ c.loop-scanner.scanner-index) c.as_slice-scanner-items.ensures c.loop-scanner-test.false));
+      (subst (λ (list : List Scanner). length list ≤ c.loop-scanner.scanner-index) c.as_slice-scanners.ensures c.loop-scanner-test.false));
   lines = c.loop-scanner.invariant.lines;
 }

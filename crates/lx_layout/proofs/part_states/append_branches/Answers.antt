@@ -26,7 +26,7 @@ append_classes-requires-clause-lead c =
     let plans = c.args.places.now.ends.plans in
     let auto = plans.input.auto.now in
     let number = c.args.spot.number in
-    let classes = ap (λ (l : List TransitionClass). seen_classes l) c.as_slice.ensures.keys
+    let classes = ap (λ (l : List TransitionClass). seen_classes l) c.as_slice.ensures
     ∙ plan_classes plans c.requires.places.ends.plans number c.requires.spot.within c.index-plan.result.now c.index-plan.ensures in
     let formed = state_formed auto number c.requires.places.ends.plans.formed in
     subst (λ l. LeadWithin auto.regs auto.mregs (length auto.states) l) (sym classes)
@@ -48,7 +48,7 @@ returns c =
     let are = c.requires.places.ends.plans in
     let plan = c.index-plan.result.now in
     let given = plan_given plans are spot.number c.requires.spot.within plan c.index-plan.ensures in
-    let classes = ap (λ (l : List TransitionClass). seen_classes l) c.as_slice.ensures.keys
+    let classes = ap (λ (l : List TransitionClass). seen_classes l) c.as_slice.ensures
     ∙ (plan_planned plans are spot.number c.requires.spot.within plan c.index-plan.ensures).classes in
     let front = c.append_tests_of.new.blocks.items in
     let turn = c.append_turn_of.new.blocks.items in

@@ -7,14 +7,20 @@ use Rattle.lx_ccode.specs.Validity.{labels}
 use Rattle.lx_layout.specs.PieceViews.{seen_form, seen_sources}
 use Rattle.lx_layout.specs.Pieces.{HasFields}
 use Rattle.lx_layout.specs.Switches.{cond_cases}
-use Rattle.lx_layout.proofs.PieceLaws.ShortHistories.{histories_short}
+use Rattle.lx_layout.proofs.PieceLaws.ShortHistories.{histories_short, states_none}
 use Rattle.lx_layout.proofs.PieceLaws.WholePieces.{is_piece}
 use Rattle.lx_layout.proofs.pieces.piece_of.Goals as goal
 
-pub piece_with-requires : goal.piece_with-requires
-piece_with-requires c =
+pub piece_with-requires-clause-short : goal.piece_with-requires-clause-short
+piece_with-requires-clause-short c =
     let laid = c.in_ok-blocks.ensures.parts in
     histories_short (seen_form c.args.form) (seen_sources c.args.scanners.now) laid.0 c.in_ok-blocks.blocks.items c.requires laid.1 laid.2
+    c.in_ok-blocks.ensures.few
+
+pub piece_with-requires-clause-stored : goal.piece_with-requires-clause-stored
+piece_with-requires-clause-stored c =
+    let laid = c.in_ok-blocks.ensures.parts in
+    states_none (seen_form c.args.form) (seen_sources c.args.scanners.now) laid.0 c.in_ok-blocks.blocks.items c.requires laid.1 laid.2
     c.in_ok-blocks.ensures.few
 
 pub returns : goal.returns

@@ -17,7 +17,7 @@ returns c =
     let end = c.args.end.now in
     let values = c.args.values.now in
     let tags = c.in_ok-append_tags.ensures
-    ∙ ap (λ l. l ++ tags_code (ending_of end) 0 (names_of end.rule.now.tags) values []) c.new-stmts.ensures.items in
+    ∙ ap (λ l. l ++ tags_code (ending_of end) 0 (names_of end.rule.now.tags) values []) c.in_ok-stmts.ensures.items in
     let back = c.in_ok-append_back.ensures ∙ ap₂ (λ l o. l ++ back_code o []) tags c.slash_held.ensures in
     let cond = c.in_ok-append_cond.ensures ∙ ap (λ l. l ++ cond_code end.goes.now []) back in
     c.in_ok-push.ensures.items ∙ ap₂ (λ l last. l ++ last) cond c.in_ok-action_code.ensures

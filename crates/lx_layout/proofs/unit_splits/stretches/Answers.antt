@@ -1,13 +1,13 @@
 use Rattle.std.proofs.Common.{◌+◌, ◌++◌, ◌∷◌, [], ◌∙◌, Some, ap, drop}
 use Rattle.std.proofs.lemmas.List.{map-append}
-use Rattle.lx_layout.specs.Views.{seen_classes, seen_stretch, seen_stretches}
+use Rattle.lx_layout.specs.Views.{class_list, seen_classes, seen_stretch, seen_stretches}
 use Rattle.lx_layout.specs.TransitionClasses.{stretches}
 use Rattle.lx_layout.proofs.BlockLayouts.SplitLoops.{stretches-next}
 use Rattle.lx_layout.proofs.unit_splits.stretches.Goals as goal
 
 pub loop-edge-preserved : goal.loop-edge-preserved
 loop-edge-preserved c =
-    let classes = seen_classes c.args.classes.now.keys in
+    let classes = seen_classes (class_list c.args.classes.now) in
     let edge = c.edge-item.result in
     let middle = seen_stretches c.push_before.new.tests.items in
     let next = stretches-next classes c.args.edges.now c.loop-edge.edge-index edge c.loop-edge.low (seen_stretches c.loop-edge.found.items)

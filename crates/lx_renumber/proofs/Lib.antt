@@ -1,0 +1,7 @@
+pub mod EqualValues
+pub mod Images
+pub mod RenumberedReads
+pub mod RenumberedRules
+pub mod RenumberedRuns
+pub mod RenumberedStates
+pub mod SameExpressions

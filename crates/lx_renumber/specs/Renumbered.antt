@@ -1,0 +1,24 @@
+-- Rules and automata with greater numbers of rules.
+use Rattle.std.specs.Prelude.{ℕ, ◌+◌, map, option_map}
+use Rattle.lx_auto.specs.declared.automaton.Accept.{Accept}
+use Rattle.lx_auto.specs.declared.automaton.Auto.{Auto}
+use Rattle.lx_auto.specs.declared.automaton.State.{State}
+use Rattle.lx_regex.specs.Pattern.{Pattern}
+
+-- each number of a rule is greater by so much
+module _ (by : ℕ) where
+  -- the rule
+  abbrev pub renumbered_pattern : Pattern → Pattern
+  renumbered_pattern pattern = record pattern { number = pattern.number + by }
+
+  -- what a state accepts
+  abbrev pub renumbered_accept : Accept → Accept
+  renumbered_accept accept = record accept { rule = accept.rule + by }
+
+  -- the state, with the same edges and lists
+  abbrev pub renumbered_state : State → State
+  renumbered_state state = record state { accept = option_map renumbered_accept state.accept }
+
+  -- the automaton
+  abbrev pub renumbered : Auto → Auto
+  renumbered auto = record auto { states = map renumbered_state auto.states }

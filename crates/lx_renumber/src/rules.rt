@@ -1,0 +1,69 @@
+//! Whether rules are those of another list, but for their numbers.
+ghost use Rattle.std.specs.Prelude.{◌≡◌, IfSome, IsTrue, map};
+ghost use Rattle.lx_regex.specs.Pattern.{pattern_of, patterns_of};
+ghost use Rattle.lx_regex.specs.declared.rules.Tag.{Tag as TagValue};
+ghost use Rattle.lx_renumber.specs.Renumbered.{renumbered_pattern};
+
+use crate::expressions::is_same;
+use lx_regex::{Rule, Tag};
+
+/// Whether tags are of the same sorts, whatever their names.
+fn have_same_sorts(before: &[Tag], tags: &[Tag]) -> bool
+    ensures { IsTrue result → map (λ (tag : TagValue). tag.many) tags.now ≡ map (λ (tag : TagValue). tag.many) before.now }
+{
+    if before.len() != tags.len() {
+        return false;
+    }
+    for (place, tag) in before.iter().enumerate() {
+        if tag.many != tags[place].many {
+            return false;
+        }
+    }
+    true
+}
+
+/// Whether a rule is another one, but for its number, which is greater by so much.
+fn is_renumbered(before: &Rule, rule: &Rule, by: u32) -> bool
+    ensures { IsTrue result → pattern_of rule.now ≡ renumbered_pattern by (pattern_of before.now) }
+{
+    if rule.kind != before.kind {
+        return false;
+    }
+    if rule.slash != before.slash {
+        return false;
+    }
+    if rule.groups != before.groups {
+        return false;
+    }
+    if u64::from(rule.number) != u64::from(before.number) + u64::from(by) {
+        return false;
+    }
+    if !have_same_sorts(before.tags.as_slice(), rule.tags.as_slice()) {
+        return false;
+    }
+    is_same(&before.expr, &rule.expr)
+}
+
+/// By how much the number of the first rule is greater; nothing where it is less.
+fn first_difference(before: &[Rule], rules: &[Rule]) -> Option<u32> {
+    match (before.first(), rules.first()) {
+        (Some(before), Some(rule)) => rule.number.checked_sub(before.number),
+        _ => Some(0),
+    }
+}
+
+/// By how much the numbers of rules are greater than those of others, where the rules are those but for that.
+pub(crate) fn difference(before: &[Rule], rules: &[Rule]) -> Option<u32>
+    ensures { IfSome result (λ by. patterns_of rules.now ≡ map (renumbered_pattern by) (patterns_of before.now)) }
+{
+    let by = first_difference(before, rules)?;
+    if before.len() != rules.len() {
+        return None;
+    }
+    for (place, rule) in before.iter().enumerate() {
+        if !is_renumbered(rule, &rules[place], by) {
+            return None;
+        }
+    }
+    Some(by)
+}

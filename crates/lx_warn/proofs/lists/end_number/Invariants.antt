@@ -1,6 +1,0 @@
-use Rattle.std.proofs.Common.{◌≡◌, drop}
-use Rattle.lx_regex.specs.Pattern.{end_rule, patterns_of}
-use Rattle.lx_warn.proofs.lists.end_number.Given as goal
-
-abbrev pub invariant-loop-rule : goal.invariant-loop-rule
-invariant-loop-rule l = end_rule (patterns_of (drop l.rule-index l.rules)) ≡ end_rule (patterns_of l.rules)
