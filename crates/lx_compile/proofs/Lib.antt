@@ -4,6 +4,7 @@ pub mod Compilations
 pub mod ConditionNames
 pub mod CopiedAutomata
 pub mod FaultsPlaced
+pub mod FirstAutos
 pub mod FoundPieces
 pub mod GreatestNumbers
 pub mod HistoryBounds
@@ -20,9 +21,11 @@ pub mod OneSyntax
 pub mod OutputCuts
 pub mod OutsideTexts
 pub mod PieceActions
+pub mod RenumberedChecks
 pub mod ScannerRuns
 pub mod ScanningRuns
 pub mod SomeFault
+pub mod TakenLists
 pub mod TargetPlaces
 pub mod UnmarkedTexts
 pub mod WalkRuns

@@ -22,6 +22,13 @@ AreAutosOf-length options [] (auto ∷ autos) are = absurd are
 AreAutosOf-length options (scanner ∷ scanners) [] are = absurd are
 AreAutosOf-length options (scanner ∷ scanners) (auto ∷ autos) are = ap suc (AreAutosOf-length options scanners autos are.1)
 
+-- where there is none, nothing is warned of
+pub AreWarningsOf-none : (options : Options) (at : Pos) (acts : List Act) (scanners : List Scanner) (autos : List Auto) (all : List PlacedWarning)
+    → AreAutosOf options scanners autos → autos ≡ [] → all ≡ [] → AreWarningsOf options at acts scanners all
+AreWarningsOf-none options at acts [] autos all are none is = is
+AreWarningsOf-none options at acts (scanner ∷ scanners) [] all are none is = absurd are
+AreWarningsOf-none options at acts (scanner ∷ scanners) (auto ∷ autos) all are none is = absurd (let some = none in cc)
+
 -- one warning more, at its place
 pub placed-more : (at : Pos) (acts : List Act) (cond : Option (List ℕ)) (all : List PlacedWarning) (warning : Warning) (rest : List Warning) (whole : List PlacedWarning)
     → all ++ map (placed at acts cond) (warning ∷ rest) ≡ whole → (all ++ placed at acts cond warning ∷ []) ++ map (placed at acts cond) rest ≡ whole

@@ -1,12 +1,13 @@
 //! The automata of the scanners of a block.
-ghost use Rattle.std.specs.Prelude.{◌≡◌, ◌++◌, ℕ, List, All, IfOk, IfSome, MatchResult, false, length};
+ghost use Rattle.std.specs.Prelude.{◌≡◌, ◌++◌, ℕ, List, All, IfOk, IfSome, MatchResult, false, length, option_copied};
 ghost use Rattle.std.specs.List.{AllByRecursion};
 ghost use Rattle.lx_base.specs.declared.settings.Options.{Options as options_type};
+ghost use Rattle.lx_gen.specs.Automata.{seen_checks};
 ghost use Rattle.lx_rules.specs.FitScanners.{IsFit};
 ghost use Rattle.lx_rules.specs.Within.{IsScannerWithin};
 ghost use Rattle.lx_compile.specs.Covering.{AreCoveredBy, IsCoveredWhere};
-ghost use Rattle.lx_compile.specs.Emittable.{AreAutosOf, IsMadeFor};
-ghost use Rattle.lx_compile.specs.Models.{HasFirst, IsKept, IsModel};
+ghost use Rattle.lx_compile.specs.Emittable.{IsMadeFor};
+ghost use Rattle.lx_compile.specs.Models.{AreMadeFor, BeginOwn, Differs, HasFirst, IsFirst, IsItemFor, IsKept, IsModel, first_auto};
 ghost use Rattle.lx_compile.specs.Options.{asks_for_cover};
 ghost use Rattle.lx_compile.specs.ScannerFaults.{AreFaultless, IsFaultOfScanners, IsFaultless, IsScannerFault, StopsWithFault};
 
@@ -15,8 +16,10 @@ use crate::determinized::determinized;
 use crate::reduction::reduced;
 use lx_auto::Auto;
 use lx_base::{Memory, Options, Sequence, Stop};
+use lx_fill::{CheckList, checks};
+use lx_gen::ScannerAuto;
 use lx_regex::Rule;
-use lx_renumber::renumbered;
+use lx_renumber::{Repeats, copied, difference};
 use lx_rules::{Resolved, Scanner};
 use lx_tnfa::Tnfa;
 use std::alloc::Global;
@@ -49,36 +52,56 @@ pub(crate) fn kept_model(kept: &Option<Kept>) -> Option<Model<'_>>
 }
 
 /// The first scanner of a block with its automaton, if it has one.
-pub(crate) fn first_kept(resolved: Resolved, autos: Sequence<Auto>) -> Option<Kept>
-    ensures { (options : options_type) → HasFirst options resolved.scanners autos → IfSome result (IsKept options) }
+pub(crate) fn first_kept(scanners: Sequence<Scanner>, auto: Option<Auto>) -> Option<Kept>
+    ensures { (options : options_type) → HasFirst options scanners auto → IfSome result (IsKept options) }
 {
-    let scanner = resolved.scanners.into_vec().into_iter().next();
-    let auto = autos.into_vec().into_iter().next();
+    let scanner = scanners.into_vec().into_iter().next();
     match (scanner, auto) {
         (Some(scanner), Some(auto)) => Some(Kept { scanner, auto }),
         _ => None,
     }
 }
 
-/// The first scanner of a block as a model, where its automaton is made already; else the one from before the block.
-fn block_model<'a>(
-    scanners: &'a [Scanner],
-    autos: &'a [Auto],
-    before: Option<Model<'a>>,
-) -> Option<Model<'a>>
-    ensures { (options : options_type) → HasFirst options scanners.now autos.now → IfSome before.entry (IsModel options) → IfSome result (IsModel options) }
+/// The automaton of the first scanner of a block, if there is one.
+pub(crate) fn first_of(autos: &[ScannerAuto]) -> Option<&Auto>
+    ensures { option_copied result ≡ first_auto autos.now }
 {
-    match (scanners.first(), autos.first()) {
-        (Some(scanner), Some(auto)) => Some(Model {
-            rules: scanner.set.rules.as_slice(),
-            auto,
-        }),
-        _ => before,
+    match autos.first() {
+        None => None,
+        Some(ScannerAuto::Own { auto, .. }) => Some(auto),
+        Some(ScannerAuto::AsFirst(_)) => None,
     }
 }
 
-/// The automaton of a scanner by a model, where its rules are those of the model but for their numbers, and no covering words are asked for,
-/// which are found while it is made.
+/// The first scanner of a block as a model, where its automaton is made already.
+fn block_model<'a>(scanners: &'a [Scanner], autos: &'a [ScannerAuto]) -> Option<Model<'a>>
+    ensures model { (options : options_type) → HasFirst options scanners.now (first_auto autos.now) → IfSome result (IsModel options) }
+    ensures first { IfSome result (IsFirst scanners.now autos.now) }
+{
+    match (scanners.first(), autos.first()) {
+        (Some(scanner), Some(ScannerAuto::Own { auto, .. })) => Some(Model {
+            rules: scanner.set.rules.as_slice(),
+            auto,
+        }),
+        _ => None,
+    }
+}
+
+/// By how much the numbers of a scanner's rules are greater than those of a model, where its rules are those of the model but for their
+/// numbers, and no covering words are asked for, which are found while an automaton is made.
+fn difference_by(options: &Options, model: Option<Model<'_>>, scanner: &Scanner) -> Option<u32>
+    requires { IfSome model (IsModel options.now) }
+    ensures { IfSome result (Differs options.now model.entry scanner.now) }
+{
+    match model {
+        Some(model) if !asks_for_cover(options) => {
+            difference(model.rules, model.auto, scanner.set.rules.as_slice())
+        }
+        _ => None,
+    }
+}
+
+/// The automaton of a scanner by a model, where that serves.
 fn automaton_by(
     alloc: Global,
     options: &Options,
@@ -89,10 +112,8 @@ fn automaton_by(
     ensures { IfOk result (λ answer. IfSome answer (λ auto. IsMadeFor options.now scanner.now auto × IsFaultless options.now scanner.now
         × (asks_for_cover options.now ≡ false))) }
 {
-    match model {
-        Some(model) if !asks_for_cover(options) => {
-            renumbered(alloc, model.rules, model.auto, scanner.set.rules.as_slice())
-        }
+    match (difference_by(options, model, scanner), model) {
+        (Some(by), Some(model)) => copied(alloc, model.auto, by),
         _ => Ok(None),
     }
 }
@@ -143,10 +164,37 @@ fn automaton_of(
     }
 }
 
+/// The automaton of a scanner of a block, by that of the block's first scanner, where that serves, or else by the one from before the block.
+fn scanner_auto(
+    alloc: Global,
+    frame: &BlockFrame<'_>,
+    first: Option<Model<'_>>,
+    before: Option<Model<'_>>,
+    scanner: &Scanner,
+    cover: &mut Vec<u8>,
+) -> Result<ScannerAuto, Stop>
+    requires fit { IsFit (length frame.now.acts.now) scanner.now }
+    requires within { IsScannerWithin frame.now.options.now.enc scanner.now }
+    requires first { IfSome first (IsModel frame.now.options.now) }
+    requires before { IfSome before (IsModel frame.now.options.now) }
+    ensures { MatchResult result
+        (λ item. IsItemFor frame.now.options.now first.entry scanner.now item × IsFaultless frame.now.options.now scanner.now
+        × ((own : List ℕ) × IsCoveredWhere frame.now.options.now frame.now.acts.now scanner.now (asks_for_cover frame.now.options.now) frame.now.number own
+        × (cover.new.items ≡ cover.old.items ++ own)))
+        (StopsWithFault (IsScannerFault frame.now.options.now frame.now.at scanner.now)) }
+{
+    if let Some(by) = difference_by(frame.options, first, scanner) {
+        return Ok(ScannerAuto::AsFirst(by));
+    }
+    let auto = automaton_of(alloc, frame, before, scanner, cover)?;
+    let checks = checks(alloc, &auto)?;
+    Ok(ScannerAuto::Own { auto, checks })
+}
+
 /// What the scanners of a block give.
 #[derive(Drop)]
 pub(crate) struct Automata {
-    pub autos: Sequence<Auto>,
+    pub autos: Sequence<ScannerAuto>,
     /// The text of their covering words.
     pub cover: Vec<u8>,
 }
@@ -162,17 +210,41 @@ pub(crate) fn automata_of(
     requires within { AllByRecursion (IsScannerWithin frame.now.options.now.enc) scanners.now }
     requires before { IfSome before (IsModel frame.now.options.now) }
     ensures { MatchResult result
-        (λ answer. AreAutosOf frame.now.options.now scanners.now answer.autos × AreFaultless frame.now.options.now scanners.now
-        × AreCoveredBy frame.now.options.now frame.now.number frame.now.acts.now scanners.now answer.cover.items
-        × HasFirst frame.now.options.now scanners.now answer.autos)
+        (λ answer. AreMadeFor frame.now.options.now scanners.now answer.autos × AreFaultless frame.now.options.now scanners.now
+        × AreCoveredBy frame.now.options.now frame.now.number frame.now.acts.now scanners.now answer.cover.items)
         (StopsWithFault (IsFaultOfScanners frame.now.options.now frame.now.at scanners.now)) }
 {
     let mut autos = Sequence::new(alloc);
     let mut cover = Vec::new(alloc);
     for scanner in scanners {
-        let model = block_model(scanners, autos.as_slice(), before);
-        let auto = automaton_of(alloc, frame, model, scanner, &mut cover)?;
+        let first = block_model(scanners, autos.as_slice());
+        let auto = scanner_auto(alloc, frame, first, before, scanner, &mut cover)?;
         autos.push(auto)?;
     }
     Ok(Automata { autos, cover })
+}
+
+/// The first automaton of a block, if there is one, and the checks of all.
+pub(crate) fn taken_apart(
+    alloc: Global,
+    autos: Sequence<ScannerAuto>,
+) -> Result<(Option<Auto>, Repeats<CheckList>), Memory>
+    requires { BeginOwn autos }
+    ensures first { IfOk result (λ parts. parts.0 ≡ first_auto autos) }
+    ensures checks { IfOk result (λ parts. parts.1 ≡ seen_checks autos) }
+{
+    let mut first = None;
+    let mut lists = Repeats::new(alloc);
+    for item in autos.into_vec() {
+        match item {
+            ScannerAuto::Own { auto, checks } => {
+                lists.push(checks)?;
+                if first.is_none() {
+                    first = Some(auto);
+                }
+            }
+            ScannerAuto::AsFirst(_) => lists.repeat_first()?,
+        }
+    }
+    Ok((first, lists))
 }

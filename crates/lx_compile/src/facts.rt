@@ -14,6 +14,7 @@ use lx_base::{ByteText, Memory, Sequence};
 use lx_ccode::{CodeBlock, CondCase, FileState, Piece, Stmt, mregs_of, regs_of};
 use lx_fill::{CheckList, max_fill};
 use lx_layout::{names_register_one, state_cases};
+use lx_renumber::Repeats;
 use std::alloc::Global;
 
 /// The start of a piece.
@@ -71,12 +72,12 @@ fn pieces_among<'a>(alloc: Global, made: &'a [Made]) -> Result<Vec<&'a Piece>, M
 }
 
 /// The greatest number of units that checks ask for, or the least one that it may be.
-fn greatest_in(least: u32, lists: &[CheckList]) -> u32
+fn greatest_in(least: u32, lists: &Repeats<CheckList>) -> u32
     ensures { result ≡ greatest_in least lists.now }
 {
     let mut most = least;
-    for list in lists {
-        most = most.max(max_fill(list));
+    for place in 0..lists.len() {
+        most = most.max(max_fill(lists.get(place)));
     }
     most
 }
@@ -88,7 +89,7 @@ fn units_of(made: &[Made]) -> u32
     let mut most = 1;
     for one in made {
         if let Made::Scanners { checks, .. } = one {
-            most = greatest_in(most, checks.as_slice());
+            most = greatest_in(most, checks);
         }
     }
     most

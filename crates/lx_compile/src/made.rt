@@ -4,6 +4,7 @@ use crate::warned::PlacedWarning;
 use lx_base::{ByteText, Pos, Sequence};
 use lx_ccode::{LineMark, Piece};
 use lx_fill::CheckList;
+use lx_renumber::Repeats;
 
 /// What is made of a part of a source.
 #[derive(Drop)]
@@ -14,7 +15,7 @@ pub enum Made {
     Scanners {
         piece: Piece,
         /// The checks of the automaton of each scanner.
-        checks: Sequence<CheckList>,
+        checks: Repeats<CheckList>,
         /// What the scanners are warned of, one scanner behind another; none where warnings are not asked for.
         warnings: Sequence<PlacedWarning>,
         /// The text that tells the covering words of the scanners; empty where they are not asked for.

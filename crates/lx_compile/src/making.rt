@@ -1,28 +1,26 @@
 //! The pieces of the scanners of a source.
 ghost use Rattle.std.specs.Prelude.{◌≡◌, ◌<◌, ◌+◌, [], All, IfOk, IfSome, IsSome, MatchResult, OnOk, length, None, slice_index_or};
-ghost use Rattle.std.specs.List.{AllByRecursion};
-ghost use Rattle.lx_auto.specs.Automaton.{IsAuto};
 ghost use Rattle.lx_ccode.specs.Counts.{state_count};
 ghost use Rattle.lx_ccode.specs.Validity.{IsLine};
 ghost use Rattle.lx_compile.specs.Covering.{AreCovered};
-ghost use Rattle.lx_compile.specs.Emittable.{AreChecksOf, CanBeMade, HasMakeable, IsMakeable};
+ghost use Rattle.lx_compile.specs.Emittable.{CanBeMade, HasMakeable, IsMakeable};
 ghost use Rattle.lx_compile.specs.Made.{AreMade, IsMadeOf, IsScannerPiece, line_mark};
 ghost use Rattle.lx_compile.specs.Making.{seen_frame};
-ghost use Rattle.lx_compile.specs.Models.{HasFirst, IsKept, IsModel};
+ghost use Rattle.lx_compile.specs.Models.{AreMadeFor, IsKept, IsModel};
 ghost use Rattle.lx_compile.specs.Warnings.{AreWarned};
 ghost use Rattle.lx_compile.specs.Parts.{IsScanningFault, StopsByScanners};
 ghost use Rattle.lx_compile.specs.ScannerFaults.{AreFaultless, IsFaultOfContent, IsFaultOfScanners, IsFaultlessContent, StopsWithFault};
 
-use crate::automata::{Automata, Kept, Model, automata_of, first_kept, kept_model};
+use crate::automata::{Automata, Kept, Model, automata_of, first_kept, kept_model, taken_apart};
 use crate::covered::BlockFrame;
 use crate::made::Made;
 use crate::parts::{Content, Part};
 use crate::warned::{PlacedWarning, block_warnings};
-use lx_auto::Auto;
 use lx_base::{ByteText, FileNames, Memory, Options, Pos, Sequence, Stop};
 use lx_ccode::{LineMark, Piece};
-use lx_fill::{CheckList, checks};
-use lx_gen::generate;
+use lx_fill::CheckList;
+use lx_gen::{Generated, generate};
+use lx_renumber::Repeats;
 use lx_rules::Resolved;
 use std::alloc::Global;
 
@@ -73,29 +71,43 @@ fn line_mark(
     Ok(Some(LineMark { line, file }))
 }
 
-/// The checks of automata.
-fn checks_of(alloc: Global, autos: &[Auto]) -> Result<Sequence<CheckList>, Memory>
-    requires { AllByRecursion IsAuto autos.now }
-    ensures { IfOk result (AreChecksOf autos.now) }
+/// The automata of a block whose opener stands at `at`.
+fn block_automata(
+    alloc: Global,
+    options: &Options,
+    numbers: Numbers,
+    at: Pos,
+    before: Option<Model<'_>>,
+    resolved: &Resolved,
+) -> Result<Automata, Stop>
+    requires makeable { CanBeMade options.now resolved.now }
+    requires before { IfSome before (IsModel options.now) }
+    ensures { MatchResult result
+        (λ answer. AreMadeFor options.now resolved.now.scanners answer.autos × AreFaultless options.now resolved.now.scanners
+        × AreCovered options.now numbers.piece resolved.now answer.cover.items)
+        (StopsWithFault (IsFaultOfScanners options.now at resolved.now.scanners)) }
 {
-    let mut lists = Sequence::new(alloc);
-    for auto in autos {
-        lists.push(checks(alloc, auto)?)?;
-    }
-    Ok(lists)
+    let frame = BlockFrame {
+        options,
+        number: numbers.piece,
+        at,
+        acts: resolved.acts.as_slice(),
+    };
+    automata_of(alloc, &frame, before, resolved.scanners.as_slice())
 }
 
 /// What is made of a block's scanners.
 #[derive(Drop)]
 struct Scanned {
-    autos: Sequence<Auto>,
+    kept: Option<Kept>,
     piece: Piece,
-    checks: Sequence<CheckList>,
+    checks: Repeats<CheckList>,
     warnings: Sequence<PlacedWarning>,
     cover: ByteText,
 }
 
-/// The piece of a block's scanners, whose opener stands at `at`, the checks of its automata, the warnings, and the text of the covering words.
+/// The piece of a block's scanners, whose opener stands at `at`, the checks of its automata, the warnings, and the text of the covering words;
+/// the first scanner is kept.
 ///
 /// A number over 2^62 counts as want of memory.
 fn scanner_piece(
@@ -105,41 +117,29 @@ fn scanner_piece(
     at: Pos,
     line: Option<LineMark>,
     before: Option<Model<'_>>,
-    resolved: &Resolved,
+    resolved: Resolved,
 ) -> Result<Scanned, Stop>
-    requires makeable { CanBeMade frame.now.options.now resolved.now }
+    requires makeable { CanBeMade frame.now.options.now resolved }
     requires line { IsLine line }
     requires before { IfSome before (IsModel frame.now.options.now) }
     ensures { MatchResult result
-        (λ answer. IsScannerPiece (seen_frame frame.now) numbers.piece numbers.state line resolved.now answer.piece answer.checks
-        × AreWarned frame.now.options.now at resolved.now answer.warnings
-        × AreCovered frame.now.options.now numbers.piece resolved.now answer.cover
-        × AreFaultless frame.now.options.now resolved.now.scanners
-        × HasFirst frame.now.options.now resolved.now.scanners answer.autos)
-        (StopsWithFault (IsFaultOfScanners frame.now.options.now at resolved.now.scanners)) }
+        (λ answer. IsScannerPiece (seen_frame frame.now) numbers.piece numbers.state line resolved answer.piece answer.checks
+        × AreWarned frame.now.options.now at resolved answer.warnings
+        × AreCovered frame.now.options.now numbers.piece resolved answer.cover
+        × AreFaultless frame.now.options.now resolved.scanners
+        × IfSome answer.kept (IsKept frame.now.options.now))
+        (StopsWithFault (IsFaultOfScanners frame.now.options.now at resolved.scanners)) }
 {
     let options = frame.options;
-    let block = BlockFrame {
-        options,
-        number: numbers.piece,
-        at,
-        acts: resolved.acts.as_slice(),
-    };
-    let Automata { autos, cover } = automata_of(
-        alloc,
-        &block,
-        before,
-        resolved.scanners.as_slice(),
-    )?;
-    let checks = checks_of(alloc, autos.as_slice())?;
+    let Automata { autos, cover } = block_automata(alloc, options, numbers, at, before, &resolved)?;
     if numbers.state > STATE_LIMIT {
         return Err(Stop::Memory);
     }
-    let piece = generate(
+    let warnings = block_warnings(alloc, options, at, &resolved, autos.as_slice())?;
+    let Generated { piece, scanners } = generate(
         alloc,
         resolved,
         autos.as_slice(),
-        checks.as_slice(),
         options,
         frame.names,
         numbers.piece,
@@ -147,9 +147,9 @@ fn scanner_piece(
         frame.own_switch,
         line,
     )?;
-    let warnings = block_warnings(alloc, options, at, resolved, autos.as_slice())?;
+    let (first, checks) = taken_apart(alloc, autos)?;
     Ok(Scanned {
-        autos,
+        kept: first_kept(scanners, first),
         piece,
         checks,
         warnings,
@@ -199,14 +199,14 @@ fn make_block(
         Content::Scanners(resolved) => {
             let before = kept_model(kept);
             let Scanned {
-                autos,
+                kept: first,
                 piece,
                 checks,
                 warnings,
                 cover,
-            } = scanner_piece(alloc, frame, numbers, at, line, before, &resolved)?;
+            } = scanner_piece(alloc, frame, numbers, at, line, before, resolved)?;
             let next = next_state(numbers.state, &piece)?;
-            *kept = first_kept(resolved, autos);
+            *kept = first;
             let made = Made::Scanners {
                 piece,
                 checks,

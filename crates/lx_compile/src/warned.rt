@@ -1,6 +1,7 @@
 //! What the scanners of a source are warned of.
 ghost use Rattle.std.specs.Prelude.{◌≡◌, ◌++◌, List, IfOk, OnOk, map};
 ghost use Rattle.std.specs.List.{AllByRecursion};
+ghost use Rattle.lx_gen.specs.Automata.{auto_by, seen_autos};
 ghost use Rattle.lx_rules.specs.Numbered.{numbered_act};
 ghost use Rattle.lx_regex.specs.Pattern.{patterns_of};
 ghost use Rattle.lx_rules.specs.Within.{IsScannerWithin};
@@ -10,9 +11,12 @@ ghost use Rattle.lx_compile.specs.Emittable.{AreAutosOf, IsMadeFor};
 ghost use Rattle.lx_compile.specs.Options.{policy_of, tells_warnings};
 ghost use Rattle.lx_compile.specs.Warnings.{AreWarned, act_place, placed, told_warnings, warning_place, warnings_in, warnings_of};
 
+use crate::automata::first_of;
 use crate::made::Made;
 use lx_auto::Auto;
 use lx_base::{ByteText, Memory, Options, Pos, Sequence};
+use lx_gen::ScannerAuto;
+use lx_renumber::copied;
 use lx_rules::{Act, Resolved, Scanner, numbered_act};
 use lx_warn::{Warning, warnings};
 use std::alloc::Global;
@@ -110,25 +114,58 @@ fn append_warnings(
     Ok(())
 }
 
+/// Appends the warnings of a scanner, where the first one of its block has an automaton.
+///
+/// A number of a rule that does not fit into 32 bits counts as want of memory; no rule has one.
+fn append_item_warnings(
+    alloc: Global,
+    options: &Options,
+    at: Pos,
+    acts: &[Act],
+    scanner: &Scanner,
+    first: &Auto,
+    item: &ScannerAuto,
+    all: &mut Sequence<PlacedWarning>,
+) -> Result<(), Memory>
+    requires within { IsScannerWithin options.now.enc scanner.now }
+    requires automaton { IsMadeFor options.now scanner.now (auto_by first.now item.now) }
+    ensures { OnOk result ((own : List warning_type) × AreWarnings (policy_of options.now) options.now.enc (patterns_of scanner.now.set.rules) own
+        × (all.new ≡ all.old ++ map (placed at acts.now scanner.now.cond) own)) }
+{
+    match item {
+        ScannerAuto::Own { auto, .. } => {
+            append_warnings(alloc, options, at, acts, scanner, auto, all)
+        }
+        ScannerAuto::AsFirst(by) => {
+            let auto = copied(alloc, first, *by)?.ok_or(Memory)?;
+            append_warnings(alloc, options, at, acts, scanner, &auto, all)
+        }
+    }
+}
+
 /// The warnings of a block's scanners, whose opener stands at `at`, by their automata; none where they are not asked for.
 pub(crate) fn block_warnings(
     alloc: Global,
     options: &Options,
     at: Pos,
     resolved: &Resolved,
-    autos: &[Auto],
+    autos: &[ScannerAuto],
 ) -> Result<Sequence<PlacedWarning>, Memory>
     requires within { AllByRecursion (IsScannerWithin options.now.enc) resolved.now.scanners }
-    requires automata { AreAutosOf options.now resolved.now.scanners autos.now }
+    requires automata { AreAutosOf options.now resolved.now.scanners (seen_autos autos.now) }
     ensures { IfOk result (AreWarned options.now at resolved.now) }
 {
     let mut all = Sequence::new(alloc);
     if !tells_warnings(options) {
         return Ok(all);
     }
+    let Some(first) = first_of(autos) else {
+        return Ok(all);
+    };
     let acts = resolved.acts.as_slice();
     for (place, scanner) in resolved.scanners.as_slice().iter().enumerate() {
-        append_warnings(alloc, options, at, acts, scanner, &autos[place], &mut all)?;
+        let item = &autos[place];
+        append_item_warnings(alloc, options, at, acts, scanner, first, item, &mut all)?;
     }
     Ok(all)
 }

@@ -1,2 +1,3 @@
+pub mod Automata
 pub mod Generated
 pub mod Seen

@@ -1,59 +1,98 @@
 //! The emitted piece of a block of scanners.
-ghost use Rattle.std.specs.Prelude.{◌≡◌, ◌<◌, ◌≤◌, IfOk, length, map};
+ghost use Rattle.std.specs.Prelude.{◌≡◌, ◌<◌, ◌≤◌, All, IfOk, IfSome, length, map};
 ghost use Rattle.std.specs.List.{AllByRecursion};
 ghost use Rattle.lx_ccode.specs.Validity.{IsLine};
+ghost use Rattle.lx_layout.specs.LikeScanners.{AreLike};
 ghost use Rattle.lx_layout.specs.PieceViews.{seen_form, seen_source, seen_sources};
 ghost use Rattle.lx_layout.specs.RuleEnds.{endings_of};
-ghost use Rattle.lx_rules.specs.FitScanners.{FitsLimits};
+ghost use Rattle.lx_renumber.specs.Renumbered.{based};
+ghost use Rattle.lx_rules.specs.FitScanners.{IsFit};
 ghost use Rattle.lx_rules.specs.WellFormed.{IsWellFormed};
+ghost use Rattle.lx_rules.specs.declared.resolved.Resolved.{Resolved as resolved_type};
 ghost use Rattle.lx_rules.specs.declared.resolved.Scanner.{Scanner as scanner_type};
 ghost use Rattle.lx_regex.specs.Order.{Policy};
+ghost use Rattle.lx_regex.specs.Pattern.{end_rule, patterns_of};
+ghost use Rattle.lx_gen.specs.Automata.{AreAlike, auto_by, by_of, checks_by, seen_autos, seen_checks};
 ghost use Rattle.lx_gen.specs.Generated.{AreAutomata, AreAutomataUnder, AreRightUnder, IsGenerated, endings_by, form_of, marks_of};
 ghost use Rattle.lx_gen.specs.Seen.{HaveShortLines, seen_marks, source_with, sources_with};
 
+use crate::automata::ScannerAuto;
 use crate::contexts::has_context_marker;
 use crate::scanner_ends::{Marks, rule_ends};
 use lx_auto::Auto;
-use lx_base::{FileNames, Memory, Options};
+use lx_base::{FileNames, Memory, Options, Sequence};
 use lx_ccode::{LineMark, Piece};
 use lx_fill::CheckList;
 use lx_layout::{PieceForm, RuleEnd, ScannerInput, piece_of};
-use lx_rules::{Resolved, Scanner, end_rule};
+use lx_rules::{Act, Config, Resolved, Scanner, end_rule};
 use std::alloc::Global;
 
 /// The ends of the rules of each scanner.
 fn ends_of<'a>(
     alloc: Global,
     marks: Marks<'_>,
-    resolved: &'a Resolved,
+    scanners: &'a [Scanner],
+    acts: &'a [Act],
 ) -> Result<Vec<Vec<RuleEnd<'a>>>, Memory>
-    requires { FitsLimits resolved.now }
+    requires { All (IsFit (length acts.now)) scanners.now }
     ensures endings { IfOk result (λ all. map (λ one. endings_of one.items) all.items
-        ≡ map (λ (scanner : scanner_type). endings_by (seen_marks marks.entry) resolved.now.acts scanner.set.rules) resolved.now.scanners) }
+        ≡ map (λ (scanner : scanner_type). endings_by (seen_marks marks.entry) acts.now scanner.set.rules) scanners.now) }
     ensures lines { IfOk result (λ all. AllByRecursion HaveShortLines (map (λ one. endings_of one.items) all.items)) }
 {
-    let scanners = resolved.scanners.as_slice();
     let mut all = Vec::with_capacity(alloc, scanners.len())?;
     for scanner in scanners {
         let rules = scanner.set.rules.as_slice();
-        all.push(rule_ends(alloc, marks, rules, resolved.acts.as_slice())?)?;
+        all.push(rule_ends(alloc, marks, rules, acts)?)?;
     }
     Ok(all)
+}
+
+/// An automaton with its checks, and by how much the numbers of rules are greater than there, where it is that of the first scanner.
+#[derive(Clone, Copy)]
+struct GivenAuto<'a> {
+    auto: &'a Auto,
+    checks: &'a CheckList,
+    by: Option<u32>,
+}
+
+/// What a scanner is given, by the automaton of the first scanner and its checks.
+fn given_auto<'a>(auto: &'a Auto, checks: &'a CheckList, item: &'a ScannerAuto) -> GivenAuto<'a>
+    ensures by { result.by ≡ by_of item.now }
+    ensures auto { based result.by result.auto.now ≡ auto_by auto.now item.now }
+    ensures checks { result.checks.now ≡ checks_by checks.now item.now }
+    ensures first { IfSome result.by (λ by. result.auto.now ≡ auto.now) }
+{
+    match item {
+        ScannerAuto::Own { auto, checks } => GivenAuto {
+            auto,
+            checks,
+            by: None,
+        },
+        ScannerAuto::AsFirst(by) => GivenAuto {
+            auto,
+            checks,
+            by: Some(*by),
+        },
+    }
 }
 
 /// What is given of a scanner.
 fn input<'a, 'b>(
     scanner: &'a Scanner,
-    auto: &'a Auto,
-    checks: &'a CheckList,
+    given: GivenAuto<'a>,
     ends: &'b [RuleEnd<'a>],
 ) -> ScannerInput<'a, 'b>
-    ensures { seen_source result ≡ source_with (endings_of ends.now) scanner.now auto.now checks.now }
+    ensures source { seen_source result ≡ source_with (endings_of ends.now) scanner.now (based given.entry.by given.entry.auto.now) given.entry.checks.now }
+    ensures by { result.by ≡ given.entry.by }
+    ensures auto { result.auto.now ≡ given.entry.auto.now }
+    ensures checks { result.checks.now ≡ given.entry.checks.now }
+    ensures end_rule { result.end_rule ≡ end_rule (patterns_of scanner.now.set.rules) }
 {
     ScannerInput {
         cond: &scanner.cond,
-        auto,
-        checks: checks.as_slice(),
+        auto: given.auto,
+        by: given.by,
+        checks: given.checks.as_slice(),
         ends,
         end_rule: end_rule(scanner.set.rules.as_slice()),
     }
@@ -63,20 +102,29 @@ fn input<'a, 'b>(
 fn inputs<'a, 'b>(
     alloc: Global,
     scanners: &'a [Scanner],
-    autos: &'a [Auto],
-    checks: &'a [CheckList],
+    autos: &'a [ScannerAuto],
     ends: &'b [Vec<RuleEnd<'a>>],
 ) -> Result<Vec<ScannerInput<'a, 'b>>, Memory>
-    requires autos { length autos.now ≡ length scanners.now }
-    requires checks { length checks.now ≡ length scanners.now }
+    requires autos { length (seen_autos autos.now) ≡ length scanners.now }
     requires ends { length ends.now ≡ length scanners.now }
-    ensures { IfOk result (λ inputs. seen_sources inputs.items
-        ≡ sources_with (map (λ one. endings_of one.items) ends.now) scanners.now autos.now checks.now) }
+    requires alike { AreAlike scanners.now autos.now }
+    ensures sources { IfOk result (λ inputs. seen_sources inputs.items
+        ≡ sources_with (map (λ one. endings_of one.items) ends.now) scanners.now (seen_autos autos.now) (seen_checks autos.now)) }
+    ensures like { IfOk result (λ inputs. AreLike inputs.items) }
 {
     let mut inputs = Vec::with_capacity(alloc, scanners.len())?;
+    let Some(
+        ScannerAuto::Own {
+            auto: first,
+            checks,
+        },
+    ) = autos.first()
+    else {
+        return Ok(inputs);
+    };
     for place in 0..scanners.len() {
-        let ends = ends[place].as_slice();
-        inputs.push(input(&scanners[place], &autos[place], &checks[place], ends))?;
+        let given = given_auto(first, checks, &autos[place]);
+        inputs.push(input(&scanners[place], given, ends[place].as_slice()))?;
     }
     Ok(inputs)
 }
@@ -96,32 +144,42 @@ fn marks_of<'a>(line: &Option<LineMark>, names: &'a FileNames) -> Marks<'a>
 }
 
 /// What the piece is beside its scanners.
-fn piece_form<'a>(
+fn piece_form(
     options: &Options,
-    resolved: &'a Resolved,
+    scanners: &[Scanner],
+    config: Config,
     number: u32,
     first_state: u64,
     own_switch: bool,
     line: Option<LineMark>,
-) -> PieceForm<'a>
-    ensures { seen_form result ≡ form_of options.now resolved.now number first_state own_switch line }
+) -> PieceForm
+    ensures { (resolved : resolved_type) → resolved.scanners ≡ scanners.now → resolved.config ≡ config
+        → seen_form result ≡ form_of options.now resolved number first_state own_switch line }
 {
     PieceForm {
         number,
-        names: &resolved.config.names,
+        names: config.names,
         enc: options.enc,
         custom: options.custom,
-        eof: resolved.config.eof,
-        fill: resolved.config.fill,
+        eof: config.eof,
+        fill: config.fill,
         stores: options.states,
         first_state,
         switches: options.states && own_switch,
-        context: has_context_marker(options, resolved.scanners.as_slice()),
+        context: has_context_marker(options, scanners),
         line,
     }
 }
 
-/// The piece of a block of scanners, with an automaton and a list of checks for each.
+/// The piece of a block of scanners.
+#[derive(Drop)]
+pub struct Generated {
+    pub piece: Piece,
+    /// The scanners of the block.
+    pub scanners: Sequence<Scanner>,
+}
+
+/// The piece of a block of scanners, with an automaton and a list of checks for each, and the scanners again.
 ///
 /// The number is the piece's in its output, counted from 1. The states that it stores are numbered from `first_state` on. It has the
 /// switch over its states where states are stored and `own_switch` is true. The line is that behind the block; where it is told, those
@@ -130,26 +188,45 @@ fn piece_form<'a>(
 /// It may answer want of memory, which no clause ties to a cause; a piece that would have more than 2^62 statements counts as that.
 pub fn generate(
     alloc: Global,
-    resolved: &Resolved,
-    autos: &[Auto],
-    checks: &[CheckList],
+    resolved: Resolved,
+    autos: &[ScannerAuto],
     options: &Options,
     names: &FileNames,
     number: u32,
     first_state: u64,
     own_switch: bool,
     line: Option<LineMark>,
-) -> Result<Piece, Memory>
-    requires formed { IsWellFormed options.now resolved.now }
-    requires automata { AreAutomata options.now.enc resolved.now.scanners autos.now checks.now }
-    requires some { 0 < length resolved.now.scanners }
+) -> Result<Generated, Memory>
+    requires formed { IsWellFormed options.now resolved }
+    requires automata { AreAutomata options.now.enc resolved.scanners (seen_autos autos.now) (seen_checks autos.now) }
+    requires alike { AreAlike resolved.scanners autos.now }
+    requires some { 0 < length resolved.scanners }
     requires first_state { first_state ≤ 4611686018427387904 }
-    ensures piece { IfOk result (IsGenerated options.now resolved.now autos.now checks.now names.now number first_state own_switch line) }
-    ensures right { (policy : Policy) → AreAutomataUnder policy options.now.enc resolved.now.scanners autos.now checks.now
-        → IfOk result (AreRightUnder policy options.now (marks_of line names.now) resolved.now) }
+    ensures scanners { IfOk result (λ made. made.scanners ≡ resolved.scanners) }
+    ensures piece { IfOk result (λ made. IsGenerated options.now resolved (seen_autos autos.now) (seen_checks autos.now) names.now number first_state
+        own_switch line made.piece) }
+    ensures right { (policy : Policy) → AreAutomataUnder policy options.now.enc resolved.scanners (seen_autos autos.now) (seen_checks autos.now)
+        → IfOk result (λ made. AreRightUnder policy options.now (marks_of line names.now) resolved made.piece) }
 {
-    let ends = ends_of(alloc, marks_of(&line, names), resolved)?;
-    let inputs = inputs(alloc, resolved.scanners.as_slice(), autos, checks, &ends)?;
-    let form = piece_form(options, resolved, number, first_state, own_switch, line);
-    piece_of(alloc, form, &inputs)
+    let Resolved {
+        scanners,
+        acts,
+        config,
+    } = resolved;
+    let piece = {
+        let items = scanners.as_slice();
+        let ends = ends_of(alloc, marks_of(&line, names), items, acts.as_slice())?;
+        let inputs = inputs(alloc, items, autos, &ends)?;
+        let form = piece_form(
+            options,
+            items,
+            config,
+            number,
+            first_state,
+            own_switch,
+            line,
+        );
+        piece_of(alloc, form, &inputs)?
+    };
+    Ok(Generated { piece, scanners })
 }

@@ -1,9 +1,11 @@
 //! The emitted piece of a block of scanners.
 #![tactic(auto)]
 
+mod automata;
 mod contexts;
 mod generating;
 mod scanner_ends;
 
-pub use generating::generate;
+pub use automata::ScannerAuto;
+pub use generating::{Generated, generate};
 pub use scanner_ends::{Marks, rule_ends};

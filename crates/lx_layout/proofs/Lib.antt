@@ -10,3 +10,4 @@ pub mod PartLayouts
 pub mod Laying
 pub mod PieceLaws
 pub mod ScannerLaws
+pub mod Fronts

@@ -3,6 +3,7 @@ pub mod CarriedExamples
 pub mod Carries
 pub mod CheckedStates
 pub mod Codes
+pub mod Copies
 pub mod EndedRules
 pub mod Endings
 pub mod Examples
@@ -11,6 +12,7 @@ pub mod FewTests
 pub mod FormedParts
 pub mod Halting
 pub mod LaidParts
+pub mod LikeScanners
 pub mod Layout
 pub mod Marks
 pub mod NumberIndexes

@@ -4,11 +4,12 @@ use Rattle.lx_layout.specs.Pieces.{Form, Source}
 use Rattle.lx_layout.specs.RuleEnds.{endings_of}
 use Rattle.lx_layout.specs.declared.pieces.PieceForm.{PieceForm}
 use Rattle.lx_layout.specs.declared.pieces.ScannerInput.{ScannerInput}
+use Rattle.lx_renumber.specs.Renumbered.{based}
 
 abbrev pub seen_form : PieceForm → Form
 seen_form form = record {
   number = form.number;
-  names = form.names.now;
+  names = form.names;
   enc = form.enc;
   custom = form.custom;
   eof = form.eof;
@@ -23,7 +24,7 @@ seen_form form = record {
 abbrev pub seen_source : ScannerInput → Source
 seen_source scanner = record {
   cond = scanner.cond.now;
-  auto = scanner.auto.now;
+  auto = based scanner.by scanner.auto.now;
   checks = scanner.checks.now;
   endings = endings_of scanner.ends.now;
   end_rule = scanner.end_rule;

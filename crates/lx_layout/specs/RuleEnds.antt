@@ -1,6 +1,7 @@
 -- What the rules of a scanner do at their ends, as the code has it.
 use Rattle.std.specs.Prelude.{◌≡◌, ℕ, ◌+◌, ◌*◌, ◌≤◌, List, [], ◌∷◌, length, Option, None, IsSome, nat_eq, if◌then◌else◌}
 use Rattle.lx_auto.specs.declared.automaton.Accept.{Accept}
+use Rattle.lx_auto.specs.declared.automaton.Held.{Held}
 use Rattle.lx_layout.specs.Endings.{Ending}
 use Rattle.lx_layout.specs.NumberIndexes.{first_place, noted_place}
 use Rattle.lx_layout.specs.Rules.{names_of}
@@ -38,8 +39,12 @@ HasEnd ends number = IsSome (end_place ends number)
 abbrev pub AreEndsIndexed : EndIndex → Type 0
 AreEndsIndexed index = (number : ℕ) → noted_place index.places number ≡ end_place index.ends.now number
 
--- the end of an accept's rule is told, and each of its tags and groups has a value
-pub record HasToldEnd (ends : List RuleEnd) (accept : Accept) : Type 0 where
-  pub end : HasEnd ends accept.rule
-  pub groups : (endings_of ends accept.rule).groups ≤ 65
-  pub values : length accept.values ≡ length (endings_of ends accept.rule).tags + 2 * (endings_of ends accept.rule).groups
+-- the end of a rule is told, and each of its tags and groups has a value
+pub record IsToldRule (ends : List RuleEnd) (rule : ℕ) (held : List Held) : Type 0 where
+  pub end : HasEnd ends rule
+  pub groups : (endings_of ends rule).groups ≤ 65
+  pub values : length held ≡ length (endings_of ends rule).tags + 2 * (endings_of ends rule).groups
+
+-- so is that of an accept's rule
+abbrev pub HasToldEnd : List RuleEnd → Accept → Type 0
+HasToldEnd ends accept = IsToldRule ends accept.rule accept.values

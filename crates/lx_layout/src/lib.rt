@@ -3,6 +3,7 @@
 
 mod accepts;
 mod blocks;
+mod copies;
 mod demands;
 pub mod examples;
 mod halting;

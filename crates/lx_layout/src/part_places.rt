@@ -14,6 +14,16 @@ pub(crate) struct PartPlaces<'a> {
     pub states: Vec<u64>,
 }
 
+impl<'a> PartPlaces<'a> {
+    /// The blocks where matches end.
+    pub fn into_ends(self) -> PartEnds<'a>
+        ensures { result ≡ self.entry.ends }
+    {
+        let Self { ends, states: _ } = self;
+        ends
+    }
+}
+
 /// Where the code of a state stands, whose blocks begin with `from`.
 fn place_at(ends: &PartEnds<'_>, number: usize, from: u64) -> Result<u64, Memory>
     requires ends { ArePartEnds ends.now }

@@ -3,7 +3,8 @@ ghost use Rattle.std.specs.Prelude.{◌≡◌, ℕ, ◌+◌, List, ◌++◌, IfO
 ghost use Rattle.lx_auto.specs.Automaton.{IsAuto};
 ghost use Rattle.lx_ccode.specs.declared.piece.CodeBlock.{CodeBlock};
 ghost use Rattle.lx_ccode.specs.declared.piece.Stmt.{Stmt};
-ghost use Rattle.lx_layout.specs.LaidParts.{ArePartEnds, ArePlaces, ArePlans, IsTold, asked_at, codes_at, ended_at, seen_given};
+ghost use Rattle.lx_layout.specs.Copies.{front_at};
+ghost use Rattle.lx_layout.specs.LaidParts.{ArePartEnds, ArePlaces, ArePlans, EndIsTold, IsTold, asked_at, codes_at, ended_at, seen_given};
 ghost use Rattle.lx_layout.specs.Layout.{ending_blocks};
 ghost use Rattle.lx_layout.specs.Parts.{IsPartOf, Part, given_asked, labelled, part_blocks};
 ghost use Rattle.lx_layout.specs.Plans.{unlabelled};
@@ -40,25 +41,28 @@ fn append_endings(
         ++ unlabelled (ending_blocks (endings_of ends.now.plans.input.ends.now) (ended_at ends.now.plans))) }
 {
     for first in &ends.ended.list {
-        append_block(blocks, ending_code(alloc, index, first.accept)?)?;
+        let accept = first.accept;
+        append_block(
+            blocks,
+            ending_code(alloc, index, accept.rule, accept.values.as_slice())?,
+        )?;
     }
     Ok(())
 }
 
 /// Appends the block of the end of the rule that stands at the end of the input, if there is one.
-fn append_end_rule(
+pub(crate) fn append_end_rule(
     alloc: Global,
     blocks: &mut Vec<CodeBlock>,
     index: &EndIndex<'_>,
-    input: &PartInput<'_>,
+    end_rule: Option<u32>,
 ) -> Result<(), Memory>
-    requires told { IsTold input.now }
+    requires told { EndIsTold index.now.ends.now end_rule }
     requires indexed { AreEndsIndexed index.now }
-    requires same { index.now.ends.now ≡ input.now.ends.now }
     ensures { OnOk result (blocks.new.items ≡ blocks.old.items
-        ++ unlabelled (end_rule_part (endings_of input.now.ends.now) input.now.end_rule)) }
+        ++ unlabelled (end_rule_part (endings_of index.now.ends.now) end_rule)) }
 {
-    match input.end_rule {
+    match end_rule {
         None => Ok(()),
         Some(rule) => append_block(blocks, end_rule_code(alloc, index, rule)?),
     }
@@ -78,7 +82,25 @@ fn append_rules(
 {
     let index = index_of(alloc, ends.plans.input.ends)?;
     append_endings(alloc, blocks, &index, ends)?;
-    append_end_rule(alloc, blocks, &index, &ends.plans.input)
+    append_end_rule(alloc, blocks, &index, ends.plans.input.end_rule)
+}
+
+/// Appends the blocks of a scanner up to the ends of its rules, and tells the first number by which what reads is not stored.
+pub(crate) fn append_front(
+    alloc: Global,
+    blocks: &mut Vec<CodeBlock>,
+    places: &PartPlaces<'_>,
+) -> Result<u64, Memory>
+    requires places { ArePlaces places.now }
+    ensures laid { OnOk result (blocks.new.items ≡ blocks.old.items ++ unlabelled (front_at places.now.ends.plans)) }
+    ensures asked { IfOk result (λ asked. asked ≡ asked_at places.now.ends.plans (length places.now.ends.plans.input.auto.now.states)) }
+{
+    let ends = &places.ends;
+    append_entry(alloc, blocks, ends)?;
+    let asked = append_states(alloc, blocks, places)?;
+    append_fallback(alloc, blocks, ends)?;
+    append_restores(alloc, blocks, ends)?;
+    Ok(asked)
 }
 
 /// Appends the blocks of a scanner, of which none begins a condition's, and tells the first number by which what reads is not stored.
@@ -92,17 +114,13 @@ fn append_codes(
     ensures laid { OnOk result (blocks.new.items ≡ blocks.old.items ++ unlabelled (codes_at places.now.ends.plans)) }
     ensures asked { IfOk result (λ asked. asked ≡ asked_at places.now.ends.plans (length places.now.ends.plans.input.auto.now.states)) }
 {
-    let ends = &places.ends;
-    append_entry(alloc, blocks, ends)?;
-    let asked = append_states(alloc, blocks, places)?;
-    append_fallback(alloc, blocks, ends)?;
-    append_restores(alloc, blocks, ends)?;
-    append_rules(alloc, blocks, ends)?;
+    let asked = append_front(alloc, blocks, places)?;
+    append_rules(alloc, blocks, &places.ends)?;
     Ok(asked)
 }
 
 /// Where the code of a scanner stands whose first block has the number `begin`, and which stores what reads by numbers from `first` on.
-fn input_places<'a>(
+pub(crate) fn input_places<'a>(
     alloc: Global,
     input: &PartInput<'a>,
     begin: u64,
@@ -139,7 +157,7 @@ fn append_unlabelled(
 }
 
 /// Makes the block with the number `begin` that at which the scanner of a condition begins.
-fn label(
+pub(crate) fn label(
     alloc: Global,
     blocks: &mut Vec<CodeBlock>,
     begin: usize,

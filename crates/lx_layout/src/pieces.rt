@@ -1,5 +1,5 @@
 //! The blocks of scanners, one behind another.
-ghost use Rattle.std.specs.Prelude.{◌≡◌, ◌≤◌, ◌&&◌, [], List, false, IfOk, IfSome, is_some};
+ghost use Rattle.std.specs.Prelude.{◌≡◌, ◌+◌, ◌≤◌, ◌&&◌, ◌++◌, ℕ, [], ◌∷◌, List, false, true, IfOk, IfSome, OnOk, is_some, length};
 ghost use Rattle.std.specs.List.{list_any};
 ghost use Rattle.lx_base.specs.Spelling.{greatest_unit};
 ghost use Rattle.lx_base.specs.declared.limits.TheConstants.{STATEMENT_LIMIT};
@@ -7,12 +7,16 @@ ghost use Rattle.lx_ccode.specs.Counts.{mregs_of, state_count};
 ghost use Rattle.lx_ccode.specs.States.{states_from};
 ghost use Rattle.lx_ccode.specs.Statements.{all_statements, has_register_one, statement_count};
 ghost use Rattle.lx_ccode.specs.Validity.{IsShort, labels};
+ghost use Rattle.lx_layout.specs.Copies.{given_by};
 ghost use Rattle.lx_layout.specs.LaidParts.{seen_given};
-ghost use Rattle.lx_layout.specs.Parts.{Part, parts_blocks};
+ghost use Rattle.lx_layout.specs.LikeScanners.{AreLike, HasFront, IsFrontOf, is_like};
+ghost use Rattle.lx_layout.specs.Parts.{IsPartOf, Part, given_asked, part_blocks, parts_blocks};
 ghost use Rattle.lx_layout.specs.PieceViews.{seen_form, seen_source, seen_sources};
-ghost use Rattle.lx_layout.specs.Pieces.{AreFit, ArePartsOf, HasFields, IsPieceOf, given_of, head_of, mode_of};
+ghost use Rattle.lx_layout.specs.Pieces.{AreFit, ArePartsOf, HasFields, IsFitScanner, IsPieceOf, given_of, head_of, mode_of};
 ghost use Rattle.lx_layout.specs.Switches.{cond_cases};
+ghost use Rattle.lx_layout.specs.declared.pieces.ScannerInput.{ScannerInput};
 
+use crate::copies::{Front, append_like, front_of};
 use crate::demands::{Demand, PartInput};
 use crate::parts::append_part;
 use crate::rule_ends::RuleEnd;
@@ -27,10 +31,10 @@ use std::alloc::Global;
 
 /// What a piece is beside its scanners.
 #[derive(Drop)]
-pub struct PieceForm<'a> {
+pub struct PieceForm {
     /// The number in its output, counted from 1.
     pub number: u32,
-    pub names: &'a Names,
+    pub names: Names,
     pub enc: Enc,
     /// Whether it reads its input by primitives of the user's, and not through pointers.
     pub custom: bool,
@@ -56,6 +60,8 @@ pub struct ScannerInput<'a, 'b> {
     /// The name of its condition, if it has one.
     pub cond: &'a Option<ByteText>,
     pub auto: &'a Auto,
+    /// By how much the numbers of its rules are greater than those of its automaton, where that is the automaton of the first scanner.
+    pub by: Option<u32>,
     /// For how many units each state checks where units are counted, by its number; 0 where it does not.
     pub checks: &'a [u32],
     /// What its rules do at their ends.
@@ -77,8 +83,8 @@ pub(crate) fn mode_of(eof: Option<u32>, fill: bool) -> Mode
 }
 
 /// What the layout of a scanner is made of.
-fn part_input<'b>(form: &PieceForm<'_>, scanner: &ScannerInput<'b, 'b>) -> PartInput<'b>
-    ensures given { seen_given result ≡ given_of (seen_form form.now) (seen_source scanner.now) }
+fn part_input<'b>(form: &PieceForm, scanner: &ScannerInput<'b, 'b>) -> PartInput<'b>
+    ensures given { given_by scanner.now.by (seen_given result) ≡ given_of (seen_form form.now) (seen_source scanner.now) }
     ensures greatest { result.greatest ≡ greatest_unit form.now.enc }
     ensures ends { result.ends.now ≡ scanner.now.ends.now }
     ensures auto { result.auto.now ≡ scanner.now.auto.now }
@@ -100,24 +106,91 @@ fn part_input<'b>(form: &PieceForm<'_>, scanner: &ScannerInput<'b, 'b>) -> PartI
     }
 }
 
+/// The front of the first scanner, if another one is like it.
+fn shared_front<'a>(
+    alloc: Global,
+    form: &PieceForm,
+    scanners: &[ScannerInput<'a, 'a>],
+) -> Result<Option<Front<'a>>, Memory>
+    requires fit { AreFit (seen_form form.now) (seen_sources scanners.now) }
+    requires like { AreLike scanners.now }
+    ensures there { IfOk result (λ front. list_any is_like scanners.now ≡ true → is_some front ≡ true) }
+    ensures front { IfOk result (λ front. IfSome front (λ one. (first : ScannerInput) (others : List ScannerInput) → scanners.now ≡ first ∷ others
+        → IsFrontOf (seen_form form.now) first one)) }
+{
+    for scanner in scanners {
+        if scanner.by.is_some() {
+            return Ok(Some(front_of(alloc, &part_input(form, &scanners[0]))?));
+        }
+    }
+    Ok(None)
+}
+
+/// Appends the blocks of a scanner, and tells the first number behind those by which what reads is stored. Where it is like the first one,
+/// they are copies of the front of that.
+fn append_scanner(
+    alloc: Global,
+    blocks: &mut Vec<CodeBlock>,
+    form: &PieceForm,
+    front: &Option<Front<'_>>,
+    scanner: &ScannerInput<'_, '_>,
+    first: u64,
+) -> Result<u64, Memory>
+    requires fit { (conds : List (List ℕ)) × IsFitScanner (seen_form form.now) conds (seen_source scanner.now) }
+    requires like { IfSome scanner.now.by (λ by. HasFront (seen_form form.now) front.now scanner.now) }
+    ensures laid { OnOk result ((part : Part) × IsPartOf (greatest_unit form.now.enc) (given_of (seen_form form.now) (seen_source scanner.now)) part
+        × (blocks.new.items ≡ blocks.old.items ++ part_blocks part (length blocks.old.items) first)) }
+    ensures asked { IfOk result (λ next. next ≡ first + given_asked (given_of (seen_form form.now) (seen_source scanner.now))) }
+{
+    let input = part_input(form, scanner);
+    match (scanner.by, front) {
+        (None, _) => append_part(alloc, blocks, &input, first),
+        (Some(by), Some(front)) => append_like(alloc, blocks, front, &input, by, first),
+        (Some(_), None) => unreachable!(),
+    }
+}
+
+/// Appends the blocks of scanners one behind another, where this is the front of the first one, if there is one that is like it.
+fn append_scanners(
+    alloc: Global,
+    blocks: &mut Vec<CodeBlock>,
+    form: &PieceForm,
+    front: &Option<Front<'_>>,
+    scanners: &[ScannerInput<'_, '_>],
+) -> Result<(), Memory>
+    requires fit { AreFit (seen_form form.now) (seen_sources scanners.now) }
+    requires like { AreLike scanners.now }
+    requires there { list_any is_like scanners.now ≡ true → is_some front.now ≡ true }
+    requires front { IfSome front.now (λ one. (first : ScannerInput) (others : List ScannerInput) → scanners.now ≡ first ∷ others
+        → IsFrontOf (seen_form form.now) first one) }
+    requires empty { blocks.old.items ≡ [] }
+    ensures { OnOk result ((parts : List Part) × ArePartsOf (seen_form form.now) (seen_sources scanners.now) parts
+        × (blocks.new.items ≡ parts_blocks 0 form.now.first_state parts)) }
+{
+    let mut next = form.first_state;
+    for scanner in scanners {
+        next = append_scanner(alloc, blocks, form, front, scanner, next)?;
+    }
+    Ok(())
+}
+
 /// The blocks of scanners one behind another.
 ///
 /// Blocks with more than 2^62 statements count as want of memory.
 pub(crate) fn scanner_blocks(
     alloc: Global,
-    form: &PieceForm<'_>,
+    form: &PieceForm,
     scanners: &[ScannerInput<'_, '_>],
 ) -> Result<Vec<CodeBlock>, Memory>
-    requires { AreFit (seen_form form.now) (seen_sources scanners.now) }
+    requires fit { AreFit (seen_form form.now) (seen_sources scanners.now) }
+    requires like { AreLike scanners.now }
     ensures parts { IfOk result (λ blocks. (parts : List Part) × ArePartsOf (seen_form form.now) (seen_sources scanners.now) parts
         × (blocks.items ≡ parts_blocks 0 form.now.first_state parts)) }
     ensures few { IfOk result (λ blocks. statement_count blocks.items ≤ STATEMENT_LIMIT) }
 {
+    let front = shared_front(alloc, form, scanners)?;
     let mut blocks = Vec::new(alloc);
-    let mut next = form.first_state;
-    for scanner in scanners {
-        next = append_part(alloc, &mut blocks, &part_input(form, scanner), next)?;
-    }
+    append_scanners(alloc, &mut blocks, form, &front, scanners)?;
     if count_statements(&blocks).is_none() {
         return Err(Memory);
     }
@@ -125,19 +198,8 @@ pub(crate) fn scanner_blocks(
     Ok(blocks)
 }
 
-/// A copy of the spellings.
-fn copied_names(alloc: Global, names: &[ByteText]) -> Result<Names, Memory>
-    ensures { IfOk result (λ copy. copy ≡ names.now) }
-{
-    let mut copies = Vec::with_capacity(alloc, names.len())?;
-    for name in names {
-        copies.push(ByteText::copy_of(alloc, name.as_slice())?)?;
-    }
-    Ok(Names::from_vec(copies))
-}
-
 /// What a piece of these blocks tells of itself, where they store so many states.
-fn head_of(form: &PieceForm<'_>, blocks: &[CodeBlock], states: u64) -> Head
+fn head_of(form: &PieceForm, blocks: &[CodeBlock], states: u64) -> Head
     requires short { IsShort (mregs_of blocks.now) }
     requires states { states ≡ state_count blocks.now }
     ensures { result ≡ head_of (seen_form form.now) blocks.now }
@@ -185,17 +247,16 @@ fn stored_cases(alloc: Global, stores: bool, blocks: &[CodeBlock]) -> Result<Vec
 /// The piece of these blocks, whose histories have numbers of 32 bits.
 pub(crate) fn piece_with(
     alloc: Global,
-    form: PieceForm<'_>,
+    form: PieceForm,
     blocks: Vec<CodeBlock>,
 ) -> Result<Piece, Memory>
     requires short { IsShort (mregs_of blocks.items) }
     requires stored { form.stores ≡ false → states_from 0 blocks.items ≡ [] }
-    ensures fields { IfOk result (λ piece. HasFields (seen_form form.entry) (labels blocks.items) piece) }
+    ensures fields { IfOk result (λ piece. HasFields (seen_form form) (labels blocks.items) piece) }
     ensures blocks { IfOk result (λ piece. piece.blocks ≡ blocks.items) }
     ensures states { IfOk result (λ piece. IfSome piece.states (λ cases. cases ≡ states_from 0 blocks.items)) }
     ensures conds { IfOk result (λ piece. piece.conds ≡ cond_cases 0 blocks.items) }
 {
-    let names = copied_names(alloc, form.names.as_slice())?;
     let cases = stored_cases(alloc, form.stores, &blocks)?;
     let conds = cond_cases(alloc, &blocks)?;
     let head = head_of(&form, &blocks, cases.len() as u64);
@@ -204,7 +265,7 @@ pub(crate) fn piece_with(
     Ok(Piece {
         number: form.number,
         head: Some(head),
-        names,
+        names: form.names,
         unit: unit_bytes(form.enc),
         eof: form.eof,
         declares: !form.stores,
@@ -221,11 +282,12 @@ pub(crate) fn piece_with(
 /// It may answer want of memory, which no clause ties to a cause; a piece that would have more than 2^62 statements counts as that.
 pub fn piece_of(
     alloc: Global,
-    form: PieceForm<'_>,
+    form: PieceForm,
     scanners: &[ScannerInput<'_, '_>],
 ) -> Result<Piece, Memory>
-    requires { AreFit (seen_form form) (seen_sources scanners.now) }
-    ensures { IfOk result (IsPieceOf (seen_form form.entry) (seen_sources scanners.now)) }
+    requires fit { AreFit (seen_form form) (seen_sources scanners.now) }
+    requires like { AreLike scanners.now }
+    ensures { IfOk result (IsPieceOf (seen_form form) (seen_sources scanners.now)) }
 {
     let blocks = scanner_blocks(alloc, &form, scanners)?;
     let piece = piece_with(alloc, form, blocks)?;

@@ -2,11 +2,11 @@
 ghost use Rattle.std.specs.Prelude.{◌≡◌, ℕ, ◌+◌, ◌≤◌, List, ◌∷◌, [], ◌++◌, IfOk, IfSome, OnOk, length};
 ghost use Rattle.lx_auto.specs.Automaton.{AreHeld, IsHeld};
 ghost use Rattle.lx_layout.specs.Endings.{action_code, back_code, cond_code, ending_code, ends_code, groups_code, is_slash, name_or_none, slash_held, tag_code, tags_code, unless};
-ghost use Rattle.lx_layout.specs.RuleEnds.{AreEndsIndexed, HasEnd, HasToldEnd, ending_of, endings_of};
+ghost use Rattle.lx_layout.specs.RuleEnds.{AreEndsIndexed, HasEnd, IsToldRule, ending_of, endings_of};
 ghost use Rattle.lx_layout.specs.Rules.{names_of};
 
 use crate::rule_ends::{EndIndex, RuleEnd};
-use lx_auto::{Accept, Held};
+use lx_auto::Held;
 use lx_base::{ByteText, Memory};
 use lx_ccode::{LineMark, Stmt};
 use lx_regex::Tag;
@@ -131,7 +131,7 @@ fn append_cond(alloc: Global, stmts: &mut Vec<Stmt>, goes: &Option<ByteText>) ->
 }
 
 /// A copy of where an action stands.
-fn line_copy(alloc: Global, line: &Option<LineMark>) -> Result<Option<LineMark>, Memory>
+pub(crate) fn line_copy(alloc: Global, line: &Option<LineMark>) -> Result<Option<LineMark>, Memory>
     ensures { IfOk result (λ copy. copy ≡ line.now) }
 {
     match line {
@@ -182,21 +182,22 @@ fn end_code(alloc: Global, end: &RuleEnd<'_>, values: &[Held]) -> Result<Vec<Stm
     Ok(stmts)
 }
 
-/// The statements of the end of an accept's rule.
+/// The statements of the end of a rule, where its values are held so.
 pub(crate) fn ending_code(
     alloc: Global,
     index: &EndIndex<'_>,
-    accept: &Accept,
+    rule: u32,
+    values: &[Held],
 ) -> Result<Vec<Stmt>, Memory>
     requires indexed { AreEndsIndexed index.now }
-    requires held { AreHeld 1073741824 1073741824 accept.now.values }
-    requires told { HasToldEnd index.now.ends.now accept.now }
-    ensures { IfOk result (λ stmts. stmts.items ≡ ending_code (endings_of index.now.ends.now) accept.now.rule accept.now.values) }
+    requires held { AreHeld 1073741824 1073741824 values.now }
+    requires told { IsToldRule index.now.ends.now rule values.now }
+    ensures { IfOk result (λ stmts. stmts.items ≡ ending_code (endings_of index.now.ends.now) rule values.now) }
 {
-    let Some(end) = index.find(accept.rule) else {
+    let Some(end) = index.find(rule) else {
         unreachable!()
     };
-    end_code(alloc, end, accept.values.as_slice())
+    end_code(alloc, end, values)
 }
 
 /// The statements of the end of the rule at the end of the input, where no tag and no group has a value.

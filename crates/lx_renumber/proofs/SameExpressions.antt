@@ -1,5 +1,5 @@
 -- Expressions of one form that hold the same have the same term.
-use Rattle.std.proofs.Common.{◌≡◌, ℕ, ◌+◌, ◌*◌, ◌&&◌, List, Bool, true, Option, map, Vec, Box, Global, sym, ap, ◌∙◌, arith}
+use Rattle.std.proofs.Common.{◌≡◌, ℕ, ◌+◌, ◌*◌, Option, map, Vec, Box, Global, sym, ap, ◌∙◌}
 use Rattle.lx_regex.specs.Expr.{members_of, term_of}
 use Rattle.lx_regex.specs.Term.{alt, cat, group, repeat}
 use Rattle.lx_regex.specs.declared.expr.Expr.{Expr}

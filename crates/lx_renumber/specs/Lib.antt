@@ -1,1 +1,2 @@
 pub mod Renumbered
+pub mod Repeated

@@ -1,5 +1,5 @@
 -- Rules and automata with greater numbers of rules.
-use Rattle.std.specs.Prelude.{ℕ, ◌+◌, map, option_map}
+use Rattle.std.specs.Prelude.{ℕ, ◌+◌, map, option_map, Option, Some, None}
 use Rattle.lx_auto.specs.declared.automaton.Accept.{Accept}
 use Rattle.lx_auto.specs.declared.automaton.Auto.{Auto}
 use Rattle.lx_auto.specs.declared.automaton.State.{State}
@@ -22,3 +22,8 @@ module _ (by : ℕ) where
   -- the automaton
   abbrev pub renumbered : Auto → Auto
   renumbered auto = record auto { states = map renumbered_state auto.states }
+
+-- the automaton itself, or with greater numbers if it is said by how much
+abbrev pub based : Option ℕ → Auto → Auto
+based None auto = auto
+based (Some by) auto = renumbered by auto

@@ -57,8 +57,8 @@ fn copied_state(alloc: Global, state: &State, by: u32) -> Result<Option<State>, 
     }))
 }
 
-/// The automaton with greater numbers of rules, if they fit.
-pub(crate) fn copied(alloc: Global, auto: &Auto, by: u32) -> Result<Option<Auto>, Memory>
+/// A copy of an automaton in which each number of a rule is greater by so much. `None` where one does not fit into 32 bits.
+pub fn copied(alloc: Global, auto: &Auto, by: u32) -> Result<Option<Auto>, Memory>
     ensures { IfOk result (λ answer. IfSome answer (λ copy. copy ≡ renumbered by auto.now)) }
 {
     let states = auto.states.as_slice();

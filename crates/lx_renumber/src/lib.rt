@@ -3,7 +3,9 @@
 
 mod copies;
 mod expressions;
-mod renumbering;
+mod repeats;
 mod rules;
 
-pub use renumbering::renumbered;
+pub use copies::copied;
+pub use repeats::Repeats;
+pub use rules::difference;

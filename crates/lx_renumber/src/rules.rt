@@ -1,10 +1,16 @@
 //! Whether rules are those of another list, but for their numbers.
 ghost use Rattle.std.specs.Prelude.{◌≡◌, IfSome, IsTrue, map};
-ghost use Rattle.lx_regex.specs.Pattern.{pattern_of, patterns_of};
+ghost use Rattle.lx_auto.specs.Live.{AllInterfere, EachTargetIsRead};
+ghost use Rattle.lx_auto.specs.ToldApart.{AllAreToldApart};
+ghost use Rattle.lx_base.specs.declared.settings.Enc.{Enc};
+ghost use Rattle.lx_regex.specs.Order.{Policy};
+ghost use Rattle.lx_regex.specs.Pattern.{pattern_of, patterns_of, terms_of};
 ghost use Rattle.lx_regex.specs.declared.rules.Tag.{Tag as TagValue};
-ghost use Rattle.lx_renumber.specs.Renumbered.{renumbered_pattern};
+ghost use Rattle.lx_renumber.specs.Renumbered.{renumbered, renumbered_pattern};
+ghost use Rattle.lx_tdfa.specs.Promise.{IsAutoUnder};
 
 use crate::expressions::is_same;
+use lx_auto::Auto;
 use lx_regex::{Rule, Tag};
 
 /// Whether tags are of the same sorts, whatever their names.
@@ -52,10 +58,21 @@ fn first_difference(before: &[Rule], rules: &[Rule]) -> Option<u32> {
     }
 }
 
-/// By how much the numbers of rules are greater than those of others, where the rules are those but for that.
-pub(crate) fn difference(before: &[Rule], rules: &[Rule]) -> Option<u32>
-    ensures { IfSome result (λ by. patterns_of rules.now ≡ map (renumbered_pattern by) (patterns_of before.now)) }
+/// By how much the numbers of rules are greater than those of others, where the rules are those but for that. `None` where they are
+/// not so. It takes no memory.
+///
+/// Then the automaton of the rules before, with numbers that are greater by so much, serves the rules. The automaton is here for the
+/// clauses alone.
+pub fn difference(before: &[Rule], auto: &Auto, rules: &[Rule]) -> Option<u32>
+    ensures patterns { IfSome result (λ by. patterns_of rules.now ≡ map (renumbered_pattern by) (patterns_of before.now)) }
+    ensures promised { (policy : Policy) (enc : Enc) → IsAutoUnder policy enc (patterns_of before.now) auto.now
+        → IfSome result (λ by. IsAutoUnder policy enc (patterns_of rules.now) (renumbered by auto.now)) }
+    ensures terms { IfSome result (λ by. terms_of (patterns_of rules.now) ≡ terms_of (patterns_of before.now)) }
+    ensures apart { AllAreToldApart auto.now → IfSome result (λ by. AllAreToldApart (renumbered by auto.now)) }
+    ensures read { EachTargetIsRead auto.now → IfSome result (λ by. EachTargetIsRead (renumbered by auto.now)) }
+    ensures interfere { AllInterfere auto.now → IfSome result (λ by. AllInterfere (renumbered by auto.now)) }
 {
+    let _auto = auto;
     let by = first_difference(before, rules)?;
     if before.len() != rules.len() {
         return None;

@@ -42,20 +42,19 @@ labelled-set blocks front codes begin block name put at within is =
 
 -- ---- parts, one behind another
 
-unlabelled-more : (front : List CodeBlock) (codes more : List (List Stmt)) → (front ++ unlabelled codes) ++ unlabelled more ≡ front ++ unlabelled (codes ++ more)
+pub unlabelled-more : (front : List CodeBlock) (codes more : List (List Stmt))
+    → (front ++ unlabelled codes) ++ unlabelled more ≡ front ++ unlabelled (codes ++ more)
 unlabelled-more front codes more =
     append_assoc front (unlabelled codes) (unlabelled more) ∙ ap (λ l. front ++ l) (sym (unlabelled-append codes more))
 
-pub unlabelled-parts : (front : List CodeBlock) (first states fallback restores rules : List (List Stmt))
-    → ((((front ++ unlabelled first) ++ unlabelled states) ++ unlabelled fallback) ++ unlabelled restores) ++ unlabelled rules
-    ≡ front ++ unlabelled (first ++ (states ++ (fallback ++ (restores ++ rules))))
-unlabelled-parts front first states fallback restores rules =
+pub unlabelled-parts : (front : List CodeBlock) (first states fallback restores : List (List Stmt))
+    → (((front ++ unlabelled first) ++ unlabelled states) ++ unlabelled fallback) ++ unlabelled restores
+    ≡ front ++ unlabelled (first ++ (states ++ (fallback ++ restores)))
+unlabelled-parts front first states fallback restores =
     let begun : List CodeBlock = front ++ unlabelled first in
-    let stated : List CodeBlock = begun ++ unlabelled states in
-    unlabelled-more (stated ++ unlabelled fallback) restores rules
-    ∙ unlabelled-more stated fallback (restores ++ rules)
-    ∙ unlabelled-more begun states (fallback ++ (restores ++ rules))
-    ∙ unlabelled-more front first (states ++ (fallback ++ (restores ++ rules)))
+    unlabelled-more (begun ++ unlabelled states) fallback restores
+    ∙ unlabelled-more begun states (fallback ++ restores)
+    ∙ unlabelled-more front first (states ++ (fallback ++ restores))
 
 -- ---- the trees
 
@@ -76,7 +75,7 @@ entry_planned eof greatest [] are some = absurd (omega (arith, some))
 entry_planned eof greatest (plan ∷ plans) are some = are.0.tests
 
 module _ (plans : PartPlans) (are : ArePlans plans) where
-  trees_planned : EachReader IsTreeOf plans.input.demand.eof plans.input.greatest (trees_at plans) plans.input.auto.now
+  pub trees_planned : EachReader IsTreeOf plans.input.demand.eof plans.input.greatest (trees_at plans) plans.input.auto.now
   trees_planned =
       let eof = plans.input.demand.eof in
       let greatest = plans.input.greatest in

@@ -4,9 +4,9 @@ use Rattle.std.proofs.lemmas.Result.{err_from_is_err_and}
 use Rattle.lx_compile.proofs.ScannerRuns.{HaveAutos-end, HaveAutos-next, StopsWithFault-scanner, elements_from}
 use Rattle.lx_compile.proofs.automata.automata_of.Goals as goal
 
-pub automaton_of-requires-clause-model : goal.automaton_of-requires-clause-model
-automaton_of-requires-clause-model c =
-    c.block_model-model.ensures c.args.frame.now.options.now (rw c.as_slice.ensures c.loop-scanner.invariant.first) c.requires.before
+pub scanner_auto-requires-clause-first : goal.scanner_auto-requires-clause-first
+scanner_auto-requires-clause-first c =
+    c.block_model-first.ensures.model c.args.frame.now.options.now (rw c.as_slice.ensures c.loop-scanner.invariant.first)
 
 pub loop-scanner-preserved : goal.loop-scanner-preserved
 loop-scanner-preserved c =
@@ -15,10 +15,12 @@ loop-scanner-preserved c =
     let i = c.loop-scanner.scanner-index in
     let scanner = c.scanner-item.result in
     let have = rw (elements_from scanners i scanner (omega arith) c.scanner-item.is) at c.loop-scanner.invariant in
+    let first = rw c.as_slice.ensures at c.block_model-first.ensures.first in
     let answer = c.in_ok-auto.ensures in
     rw c.in_ok-push.ensures.pushed
     (HaveAutos-next frame.options.now frame.number frame.at frame.acts.now scanners scanner (drop (i + 1) scanners) c.loop-scanner.autos
-    c.in_ok-auto.auto c.loop-scanner.cover.items c.automaton_of.new.cover.items answer.2.0 have answer.0 answer.1 answer.2.1 answer.2.2)
+    c.loop-scanner.cover.items c.scanner_auto.new.cover.items answer.2.0 have answer.1 answer.2.1 answer.2.2 c.block_model-first.result
+    c.in_ok-auto.auto first answer.0)
 
 pub returns : goal.returns
 returns c =

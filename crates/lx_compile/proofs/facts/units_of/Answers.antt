@@ -23,7 +23,7 @@ loop-one-preserved c =
           let checks = w.in-Scanners.checks in
           let warnings = w.in-Scanners.warnings in
           let is : c.match-one.most ≡ greatest_in most checks =
-          w.most-is ∙ w.greatest_in-most.ensures ∙ ap (greatest_in most) w.as_slice.ensures in record {
+          w.most-is ∙ w.greatest_in-most.ensures in record {
             most =
                 ap (λ n. max n (units_of rest)) is ∙ units_of-more most piece checks warnings w.in-Scanners.cover rest
                 ∙ ap (λ first. max most (units_of (first ∷ rest))) (sym w.in-Scanners.is) ∙ from;

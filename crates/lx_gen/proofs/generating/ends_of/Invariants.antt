@@ -9,6 +9,6 @@ use Rattle.lx_gen.proofs.generating.ends_of.Given as goal
 abbrev pub invariant-loop-scanner : goal.invariant-loop-scanner
 invariant-loop-scanner l = record {
   endings : map (λ one. endings_of one.items) l.all.items
-      ≡ map (λ (scanner : Scanner). endings_by (seen_marks l.marks) l.resolved.acts scanner.set.rules) (take l.scanner-index l.resolved.scanners);
+      ≡ map (λ (scanner : Scanner). endings_by (seen_marks l.marks) l.acts scanner.set.rules) (take l.scanner-index l.scanners);
   lines : AllByRecursion HaveShortLines (map (λ one. endings_of one.items) l.all.items);
 }

@@ -1,10 +1,10 @@
-use Rattle.std.proofs.Common.{◌∙◌, ◌++◌, ap}
-use Rattle.lx_layout.specs.LaidParts.{begin_at, ended_at, entry_blocks, halting_at, restores_at, rule_at, saved_at, states_blocks}
-use Rattle.lx_layout.specs.Layout.{ending_blocks, restore_blocks}
+use Rattle.std.proofs.Common.{◌∙◌, ◌++◌, ap, sym}
+use Rattle.lx_layout.specs.Copies.{back_layout, front_at}
+use Rattle.lx_layout.specs.LaidParts.{halting_at, supply_at, trees_at}
 use Rattle.lx_layout.specs.Plans.{unlabelled}
 use Rattle.lx_layout.specs.RuleEnds.{endings_of}
-use Rattle.lx_layout.specs.SuppliedLayout.{end_rule_part, fallback_part}
-use Rattle.lx_layout.proofs.Laying.LaidWhole.{unlabelled-parts}
+use Rattle.lx_layout.proofs.Fronts.MovedFronts.{supplied-parts}
+use Rattle.lx_layout.proofs.Laying.LaidWhole.{unlabelled-more}
 use Rattle.lx_layout.proofs.parts.append_codes.Goals as goal
 
 pub returns-clause-laid : goal.returns-clause-laid
@@ -12,12 +12,9 @@ returns-clause-laid c =
     let plans = c.args.places.now.ends.plans in
     let auto = plans.input.auto.now in
     let endings = endings_of plans.input.ends.now in
-    let states = states_blocks plans 0 (begin_at plans) auto.states in
-    let fallback = fallback_part (halting_at plans) auto (restores_at plans) in
-    let restores = restore_blocks (rule_at plans) (saved_at plans) in
-    let rules = ending_blocks endings (ended_at plans) ++ end_rule_part endings plans.input.end_rule in
-    let stated = c.in_ok-asked.ensures.laid ∙ ap (λ l. l ++ unlabelled states) c.in_ok-append_entry.ensures in
-    let fallen = c.in_ok-append_fallback.ensures ∙ ap (λ l. l ++ unlabelled fallback) stated in
-    let restored = c.in_ok-append_restores.ensures ∙ ap (λ l. l ++ unlabelled restores) fallen in
-    c.in_ok-append_rules.ensures ∙ ap (λ l. l ++ unlabelled rules) restored
-    ∙ unlabelled-parts c.args.blocks.now.items (entry_blocks plans) states fallback restores rules
+    let end_rule = plans.input.end_rule in
+    let back = back_layout (halting_at plans) endings end_rule auto in
+    let old = c.args.blocks.now.items in
+    c.in_ok-append_rules.ensures ∙ ap (λ l. l ++ unlabelled back) c.in_ok-asked.ensures.laid
+    ∙ unlabelled-more old (front_at plans) back
+    ∙ ap (λ l. old ++ unlabelled l) (sym (supplied-parts (supply_at plans) (halting_at plans) endings end_rule (trees_at plans) auto plans.begin))

@@ -14,13 +14,13 @@ use Rattle.lx_layout.proofs.pieces.piece_of.Goals as goal
 pub piece_with-requires-clause-short : goal.piece_with-requires-clause-short
 piece_with-requires-clause-short c =
     let laid = c.in_ok-blocks.ensures.parts in
-    histories_short (seen_form c.args.form) (seen_sources c.args.scanners.now) laid.0 c.in_ok-blocks.blocks.items c.requires laid.1 laid.2
+    histories_short (seen_form c.args.form) (seen_sources c.args.scanners.now) laid.0 c.in_ok-blocks.blocks.items c.requires.fit laid.1 laid.2
     c.in_ok-blocks.ensures.few
 
 pub piece_with-requires-clause-stored : goal.piece_with-requires-clause-stored
 piece_with-requires-clause-stored c =
     let laid = c.in_ok-blocks.ensures.parts in
-    states_none (seen_form c.args.form) (seen_sources c.args.scanners.now) laid.0 c.in_ok-blocks.blocks.items c.requires laid.1 laid.2
+    states_none (seen_form c.args.form) (seen_sources c.args.scanners.now) laid.0 c.in_ok-blocks.blocks.items c.requires.fit laid.1 laid.2
     c.in_ok-blocks.ensures.few
 
 pub returns : goal.returns
@@ -30,7 +30,7 @@ returns c =
     let piece = c.in_ok-piece.piece in
     let told = c.in_ok-piece.ensures in
     let same = sym told.blocks in
-    is_piece form (seen_sources c.args.scanners.now) laid.0 piece c.requires laid.1
+    is_piece form (seen_sources c.args.scanners.now) laid.0 piece c.requires.fit laid.1
     (let h = c.well_formed in search rules)
     (told.blocks ∙ laid.2)
     (subst (λ blocks. statement_count blocks ≤ STATEMENT_LIMIT) same c.in_ok-blocks.ensures.few)

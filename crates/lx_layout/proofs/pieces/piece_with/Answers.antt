@@ -19,7 +19,7 @@ returns-clause-fields c =
     record {
       number = refl;
       head = ap (λ (head : Head). Some head) (c.head_of-head.ensures ∙ ap (λ (l : List CodeBlock). head_of form l) (c.deref-3.ensures.value ∙ sym same));
-      names = c.in_ok-names.ensures ∙ c.as_slice.ensures;
+      names = refl;
       unit = c.unit_bytes.ensures;
       eof = refl;
       declares = declares-not c.args.form.stores;

@@ -3,7 +3,7 @@ use Rattle.lx_layout.specs.FormedParts.{all_asked}
 use Rattle.lx_layout.specs.Parts.{Part, parts_blocks}
 use Rattle.lx_layout.specs.PieceViews.{seen_form, seen_sources}
 use Rattle.lx_layout.specs.Pieces.{ArePartsOf}
-use Rattle.lx_layout.proofs.pieces.scanner_blocks.Given as goal
+use Rattle.lx_layout.proofs.pieces.append_scanners.Given as goal
 
 abbrev pub invariant-loop-scanner : goal.invariant-loop-scanner
 invariant-loop-scanner l =

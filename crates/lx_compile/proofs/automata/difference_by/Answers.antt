@@ -1,8 +1,8 @@
 use Rattle.std.proofs.Common.{◌≡◌, arith, false}
 use Rattle.lx_compile.specs.Models.{Serves}
 use Rattle.lx_compile.specs.Options.{asks_for_cover, policy_of}
-use Rattle.lx_compile.proofs.CopiedAutomata.{IsMadeFor-copied}
-use Rattle.lx_compile.proofs.automata.automaton_by.Goals as goal
+use Rattle.lx_compile.proofs.CopiedAutomata.{DiffersBy-renumbered}
+use Rattle.lx_compile.proofs.automata.difference_by.Goals as goal
 
 pub returns-in-Some : goal.returns-in-Some
 returns-in-Some c =
@@ -10,8 +10,9 @@ returns-in-Some c =
     let model = c.in-Some.model in
     let serves : Serves options model.rules.now model.auto.now = rw c.in-Some.is at c.requires in
     let unasked : asks_for_cover options ≡ false = grind (arith, c.asks_for_cover.ensures, c.if-not-asks_for_cover.true) in
-    let clauses = c.renumbered.ensures in
-    IsMadeFor-copied options c.args.scanner.now model.rules.now model.auto.now serves unasked c.renumbered.result
-    ((rw c.as_slice.ensures at clauses.promised) (policy_of options) options.enc serves.automaton)
+    let clauses = c.difference.ensures in
+    rw c.in-Some.is
+    (DiffersBy-renumbered options c.args.scanner.now model serves unasked c.difference.result
+    (rw c.as_slice.ensures at clauses.patterns) ((rw c.as_slice.ensures at clauses.promised) (policy_of options) options.enc serves.automaton)
     (rw c.as_slice.ensures at clauses.terms) (clauses.apart serves.reduced.states) (clauses.read serves.reduced.operations)
-    (clauses.interfere serves.reduced.registers)
+    (clauses.interfere serves.reduced.registers))
