@@ -3,7 +3,7 @@
 use crate::expressions::expression;
 use crate::faults::push_place;
 use crate::points::push_bytes;
-use lx_base::{ByteText, Memory, usual_names};
+use lx_base::{Memory, Names};
 use lx_regex::{Kind, Rule, Tag};
 use lx_rules::{Act, Config, Resolved, Scanner};
 use std::alloc::{AllocError, Global};
@@ -11,16 +11,15 @@ use std::alloc::{AllocError, Global};
 /// The text of what a block resolves to.
 pub fn resolved_text(alloc: Global, resolved: &Resolved) -> Result<String, Memory> {
     let mut text = String::new(alloc);
-    push_config(alloc, &mut text, &resolved.config)?;
+    push_config(&mut text, &resolved.config)?;
     push_scanners(alloc, &mut text, resolved.scanners.as_slice())?;
     push_acts(&mut text, resolved.acts.as_slice())?;
     Ok(text)
 }
 
 /// Writes what a configuration has that is not usual.
-fn push_config(alloc: Global, text: &mut String, config: &Config) -> Result<(), Memory> {
-    let usual = usual_names(alloc)?;
-    push_names(text, usual.as_slice(), config.names.as_slice())?;
+fn push_config(text: &mut String, config: &Config) -> Result<(), AllocError> {
+    push_names(text, &config.names)?;
     if let Some(unit) = config.eof {
         write!(text, "config eof=0x{unit:X}\n")?;
     }
@@ -31,15 +30,18 @@ fn push_config(alloc: Global, text: &mut String, config: &Config) -> Result<(), 
 }
 
 /// Writes the spellings that are not usual, each with the usual one.
-fn push_names(text: &mut String, usual: &[ByteText], names: &[ByteText]) -> Result<(), AllocError> {
-    for (usual, name) in usual.iter().zip(names.iter()) {
-        if usual.as_slice() == name.as_slice() {
+fn push_names(text: &mut String, names: &Names) -> Result<(), AllocError> {
+    let usual = Names::usual();
+    for place in 0..names.len() {
+        let word = usual.spelling(place);
+        let name = names.spelling(place);
+        if word == name {
             continue;
         }
         text.push_str("config ")?;
-        push_bytes(text, usual.as_slice())?;
+        push_bytes(text, word)?;
         text.push('=')?;
-        push_bytes(text, name.as_slice())?;
+        push_bytes(text, name)?;
         text.push('\n')?;
     }
     Ok(())

@@ -1,5 +1,6 @@
 -- The seventeen spellings of a scanner's names: which are allowed, and which clash.
-use Rattle.std.specs.Prelude.{◌≡◌, ℕ, ◌<◌, ◌^◌, Bool, true, false, List, [], ◌∷◌, ◌++◌, length, codes, slice_index_or, ◌==◌, ◌||◌}
+use Rattle.std.specs.Prelude.{◌≡◌, ℕ, ◌<◌, ◌^◌, Bool, true, false, List, [], ◌∷◌, ◌++◌, Option, None, Some, length, codes, slice_index_or, ◌==◌, ◌||◌}
+use Rattle.std.specs.Global.{Vec}
 use Rattle.lx_base.specs.Letters.{IsIdentifier, IsSpelling, is_in_identifier, begins_with, equal_words, is_register, is_history_register}
 
 -- the list of a scanner's spellings
@@ -12,6 +13,11 @@ usual_names =
     codes "YYCTYPE" ∷ codes "YYCURSOR" ∷ codes "YYLIMIT" ∷ codes "YYMARKER" ∷ codes "YYCTXMARKER" ∷ codes "YYFILL" ∷ codes "YYGETSTATE"
     ∷ codes "YYSETSTATE" ∷ codes "YYGETCONDITION" ∷ codes "YYSETCONDITION" ∷ codes "YYMTAGP" ∷ codes "YYMTAGN" ∷ codes "yych" ∷ codes "yyaccept"
     ∷ codes "yyt" ∷ codes "yyc_" ∷ codes "yyc" ∷ []
+
+-- the spellings that are held: the usual ones where none are
+abbrev pub held_names : Option (Vec (List ℕ)) → Spellings
+held_names None = usual_names
+held_names (Some words) = words.items
 
 -- a spelling by its place, counted from 0
 abbrev pub spelling_at : ℕ → Spellings → List ℕ

@@ -18,6 +18,6 @@ pub use faults::{Fault, Stop};
 pub use letters::Letters;
 pub use lists::{ByteText, Memory, Sequence, Word, append_parts};
 pub use messages::message;
-pub use names::{Names, usual_names};
+pub use names::Names;
 pub use places::{FileName, FileNames, Pos, place_after};
 pub use settings::{EmptyPolicy, Enc, Job, Options, SurPolicy};

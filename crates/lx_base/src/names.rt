@@ -1,5 +1,5 @@
 //! The spellings of a scanner's names: which are allowed, and which clash.
-ghost use Rattle.std.specs.Prelude.{◌≡◌, ◌↔◌, ◌++◌, IsTrue, true, map, IfOk, OnOk};
+ghost use Rattle.std.specs.Prelude.{◌≡◌, ◌↔◌, IsTrue, true, map, length, slice_index_or, []};
 ghost use Rattle.std.specs.List.{AllByRecursion};
 ghost use Rattle.lx_base.specs.Letters.{IsIdentifier, IsSpelling, begins_with, is_digit, is_history_numeral, is_history_register, is_letter_of, is_numeral, is_register, each_letter};
 ghost use Rattle.lx_base.specs.Names.{AreAllowed, DoNotClash, EachIsFree, EachIsNoRegister, EachIsShort, IsFree, IsNoRegister, IsTagName, append_negative, append_offset, calls, calls_primitive, condition_prefix, context_marker, current_unit, cursor, get_condition, get_state, label_prefix, last_accept, limit, marker, name_primitives, refill, set_condition, set_state, spelling_at, tag_prefix, unit_type, usual_names, variables};
@@ -8,8 +8,8 @@ use crate::letters::{
     Letters, are_distinct, are_letters, begins_with, equal_words, is_identifier, is_none_of,
     is_spelling, is_words,
 };
-use crate::lists::{ByteText, Memory, Sequence};
-use std::alloc::Global;
+use crate::lists::ByteText;
+use std::marker::Model;
 
 /// The seventeen spellings of a scanner's names, in this order: the type of a code unit, the cursor,
 /// the limit, the marker, the context marker, the refill, the reading and the writing of the stored
@@ -17,8 +17,22 @@ use std::alloc::Global;
 /// current code unit, the last accepting state, and the prefixes of tag registers, of condition labels
 /// and of condition numbers.
 ///
-/// Which spellings are allowed and which clash is said in `specs/Names.antt`.
-pub type Names = Sequence<ByteText>;
+/// Which spellings are allowed and which clash is said in `specs/Names.antt`. Contracts see the list of all
+/// seventeen.
+#[derive(Drop)]
+pub struct Names {
+    /// All of them; none where they are the usual ones.
+    own: Option<Vec<ByteText>>,
+}
+
+impl Model for Names {
+    ghost use Rattle.std.specs.Prelude.{List, ℕ};
+    ghost use Rattle.lx_base.specs.Names.{held_names};
+
+    ghost Value = { List (List ℕ) };
+
+    ghost view = { λ names. held_names names.own };
+}
 
 /// The spellings of a source that configures none, in order.
 const USUAL_NAMES: [&[u8]; 17] = [
@@ -41,31 +55,52 @@ const USUAL_NAMES: [&[u8]; 17] = [
     b"yyc",
 ];
 
-/// Texts with these bytes.
-fn copies_of(alloc: Global, words: &[&[u8]]) -> Result<Names, Memory>
-    ensures { IfOk result (λ copies. copies ≡ map (λ word. word.now) words.now) }
+/// The word at a place, counted from 0; nothing where the list is shorter.
+fn word_at<'a>(words: &'a [&'a [u8]], place: usize) -> &'a [u8]
+    ensures { result.now ≡ slice_index_or (map (λ word. word.now) words.now) place [] }
 {
-    let mut copies = Vec::with_capacity(alloc, words.len())?;
-    for word in words {
-        copies.push(ByteText::copy_of(alloc, word)?)?;
-    }
-    Ok(Names::from_vec(copies))
-}
-
-/// The spellings of a source that configures none.
-pub fn usual_names(alloc: Global) -> Result<Names, Memory>
-    ensures { IfOk result (λ names. names ≡ usual_names) }
-{
-    copies_of(alloc, &USUAL_NAMES)
-}
-
-/// The spelling at a place, counted from 0; nothing where the list is shorter.
-fn spelling(names: &Names, place: usize) -> &[u8]
-    ensures { result.now ≡ spelling_at place names.now }
-{
-    match names.as_slice().get(place) {
-        Some(word) => word.as_slice(),
+    match words.get(place) {
+        Some(word) => word,
         None => &[],
+    }
+}
+
+impl Names {
+    /// The spellings of a source that configures none. They take no memory.
+    pub fn usual() -> Names
+        ensures { result ≡ usual_names }
+    {
+        Names { own: None }
+    }
+
+    /// These spellings, in order.
+    pub fn of(words: Vec<ByteText>) -> Names
+        ensures { result ≡ words.items }
+    {
+        Names { own: Some(words) }
+    }
+
+    /// How many spellings there are.
+    pub fn len(&self) -> usize
+        ensures { result ≡ length self.now }
+    {
+        match &self.own {
+            Some(words) => words.len(),
+            None => USUAL_NAMES.len(),
+        }
+    }
+
+    /// The spelling at a place, counted from 0; nothing where there are fewer.
+    pub fn spelling(&self, place: usize) -> &[u8]
+        ensures { result.now ≡ spelling_at place self.now }
+    {
+        match &self.own {
+            Some(words) => match words.get(place) {
+                Some(word) => word.as_slice(),
+                None => &[],
+            },
+            None => word_at(&USUAL_NAMES, place),
+        }
     }
 }
 
@@ -73,119 +108,119 @@ fn spelling(names: &Names, place: usize) -> &[u8]
 pub fn unit_type(names: &Names) -> &[u8]
     ensures { result.now ≡ unit_type names.now }
 {
-    spelling(names, 0)
+    names.spelling(0)
 }
 
 /// The cursor.
 pub fn cursor(names: &Names) -> &[u8]
     ensures { result.now ≡ cursor names.now }
 {
-    spelling(names, 1)
+    names.spelling(1)
 }
 
 /// The limit.
 pub fn limit(names: &Names) -> &[u8]
     ensures { result.now ≡ limit names.now }
 {
-    spelling(names, 2)
+    names.spelling(2)
 }
 
 /// The marker.
 pub fn marker(names: &Names) -> &[u8]
     ensures { result.now ≡ marker names.now }
 {
-    spelling(names, 3)
+    names.spelling(3)
 }
 
 /// The context marker.
 pub fn context_marker(names: &Names) -> &[u8]
     ensures { result.now ≡ context_marker names.now }
 {
-    spelling(names, 4)
+    names.spelling(4)
 }
 
 /// The refill.
 pub fn refill(names: &Names) -> &[u8]
     ensures { result.now ≡ refill names.now }
 {
-    spelling(names, 5)
+    names.spelling(5)
 }
 
 /// The reading of the stored state.
 pub fn get_state(names: &Names) -> &[u8]
     ensures { result.now ≡ get_state names.now }
 {
-    spelling(names, 6)
+    names.spelling(6)
 }
 
 /// The storing of a state.
 pub fn set_state(names: &Names) -> &[u8]
     ensures { result.now ≡ set_state names.now }
 {
-    spelling(names, 7)
+    names.spelling(7)
 }
 
 /// The reading of the condition.
 pub fn get_condition(names: &Names) -> &[u8]
     ensures { result.now ≡ get_condition names.now }
 {
-    spelling(names, 8)
+    names.spelling(8)
 }
 
 /// The setting of the condition.
 pub fn set_condition(names: &Names) -> &[u8]
     ensures { result.now ≡ set_condition names.now }
 {
-    spelling(names, 9)
+    names.spelling(9)
 }
 
 /// What appends the cursor to a history.
 pub fn append_offset(names: &Names) -> &[u8]
     ensures { result.now ≡ append_offset names.now }
 {
-    spelling(names, 10)
+    names.spelling(10)
 }
 
 /// What appends a negative event to a history.
 pub fn append_negative(names: &Names) -> &[u8]
     ensures { result.now ≡ append_negative names.now }
 {
-    spelling(names, 11)
+    names.spelling(11)
 }
 
 /// The current code unit.
 pub fn current_unit(names: &Names) -> &[u8]
     ensures { result.now ≡ current_unit names.now }
 {
-    spelling(names, 12)
+    names.spelling(12)
 }
 
 /// The last accepting state.
 pub fn last_accept(names: &Names) -> &[u8]
     ensures { result.now ≡ last_accept names.now }
 {
-    spelling(names, 13)
+    names.spelling(13)
 }
 
 /// The prefix of registers and histories.
 pub fn tag_prefix(names: &Names) -> &[u8]
     ensures { result.now ≡ tag_prefix names.now }
 {
-    spelling(names, 14)
+    names.spelling(14)
 }
 
 /// The prefix of the labels of conditions.
 pub fn label_prefix(names: &Names) -> &[u8]
     ensures { result.now ≡ label_prefix names.now }
 {
-    spelling(names, 15)
+    names.spelling(15)
 }
 
 /// The prefix of the numbers of conditions.
 pub fn condition_prefix(names: &Names) -> &[u8]
     ensures { result.now ≡ condition_prefix names.now }
 {
-    spelling(names, 16)
+    names.spelling(16)
 }
 
 fn each_is_short(words: &[ByteText]) -> bool
@@ -225,6 +260,9 @@ fn all_identifiers(words: &[&[u8]]) -> bool
 pub fn are_allowed(names: &Names) -> bool
     ensures { IsTrue result ↔ AreAllowed names.now }
 {
+    let Some(own) = &names.own else {
+        return true;
+    };
     let spelled = all_spellings(&[
         cursor(names),
         limit(names),
@@ -246,8 +284,8 @@ pub fn are_allowed(names: &Names) -> bool
         condition_prefix(names),
     ]);
     let words = is_words(unit_type(names));
-    let short = each_is_short(names.as_slice());
-    let count = names.as_slice().len() == 17;
+    let short = each_is_short(own.as_slice());
+    let count = own.len() == 17;
     count && short && words && spelled && identifiers
 }
 
@@ -349,6 +387,9 @@ fn calls(names: &Names) -> [&[u8]; 7]
 pub fn do_not_clash(names: &Names) -> bool
     ensures { IsTrue result ↔ DoNotClash names.now }
 {
+    if names.own.is_none() {
+        return true;
+    }
     let variables = variables(names);
     let variables_differ = are_distinct(&variables);
     let variables_are_free = all_free(&variables);

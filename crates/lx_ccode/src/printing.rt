@@ -13,7 +13,7 @@ use crate::lines::{Scope, append_line};
 use crate::numerals::append_number;
 use crate::piece::{CodeBlock, LineMark, Piece};
 use lx_base::limits::STATEMENT_LIMIT;
-use lx_base::{ByteText, Memory, append_parts};
+use lx_base::{ByteText, Memory, Names, append_parts};
 use std::alloc::Global;
 
 /// The text of a valid piece, from its begin mark to its end mark.
@@ -49,7 +49,7 @@ pub(crate) fn append_opening(alloc: Global, text: &mut Vec<u8>, piece: &Piece) -
     append_head(text, &piece.head)?;
     append_unit(text, piece.unit)?;
     append_eof(text, piece.eof)?;
-    append_names(text, piece.names.as_slice())?;
+    append_names(text, &piece.names)?;
     append_parts(text, &[b"*/\n{\n"])?;
     scope.append_declarations(text, piece.declares)?;
     scope.append_state_switch(text, conds, &piece.states)?;
@@ -123,18 +123,18 @@ fn append_eof(text: &mut Vec<u8>, eof: Option<u32>) -> Result<(), Memory>
     }
 }
 
-fn append_names(text: &mut Vec<u8>, names: &[ByteText]) -> Result<(), Memory>
+fn append_names(text: &mut Vec<u8>, names: &Names) -> Result<(), Memory>
     ensures { OnOk result (text.new.items ≡ text.old.items ++ names_then names.now []) }
 {
-    for name in names {
-        append_name(text, name)?;
+    for place in 0..names.len() {
+        append_name(text, names.spelling(place))?;
     }
     Ok(())
 }
 
-fn append_name(text: &mut Vec<u8>, name: &ByteText) -> Result<(), Memory>
+fn append_name(text: &mut Vec<u8>, name: &[u8]) -> Result<(), Memory>
     ensures { OnOk result (text.new.items ≡ text.old.items ++ name_then name.now []) }
 {
-    append_number(text, b" ", name.as_slice().len() as u64, b":")?;
-    Ok(text.extend_from_slice(name.as_slice())?)
+    append_number(text, b" ", name.len() as u64, b":")?;
+    Ok(text.extend_from_slice(name)?)
 }

@@ -19,7 +19,7 @@ use std::alloc::Global;
 pub(crate) fn names_at(alloc: Global, count: usize, bytes: &[u8]) -> Result<(Names, &[u8]), Memory>
     ensures { IfOk result (λ names. (names.0 ≡ (names_at count bytes.now).0) × (names.1.now ≡ (names_at count bytes.now).1)) }
 {
-    let mut names = Names::new(alloc);
+    let mut words = Vec::new(alloc);
     let mut left = count;
     let mut bytes = bytes;
     while left > 0 {
@@ -28,10 +28,10 @@ pub(crate) fn names_at(alloc: Global, count: usize, bytes: &[u8]) -> Result<(Nam
         let size = count_at(number);
         let text = skip(after_digits(number), 1);
         let name = Vec::from_slice(alloc, taken(text, size))?;
-        names.push(ByteText::from_vec(name))?;
+        words.push(ByteText::from_vec(name))?;
         bytes = skip(text, size);
     }
-    Ok((names, bytes))
+    Ok((Names::of(words), bytes))
 }
 
 /// The unit that the buffer holds at its end, or nothing for `-`, and what comes behind it.

@@ -8,7 +8,7 @@ use crate::conditions::Conditions;
 use crate::items::Known;
 use crate::kept::KeptRule;
 use crate::resolved::Act;
-use lx_base::{ByteText, Memory, Names, usual_names};
+use lx_base::{ByteText, Memory, Names};
 use lx_exprs::definitions::Definitions;
 use std::alloc::Global;
 use std::rc::Rc;
@@ -126,17 +126,16 @@ impl Settings {
     pub fn names(&self, alloc: Global) -> Result<Names, Memory>
         ensures { IfOk result (λ names. names ≡ (config_of (settings_view self.now)).names) }
     {
-        let usual = usual_names(alloc)?;
+        let usual = Names::usual();
         if self.names.is_empty() {
             return Ok(usual);
         }
-        let usual = usual.as_slice();
-        let mut names = Names::new(alloc);
+        let mut words = Vec::with_capacity(alloc, usual.len())?;
         for place in 0..usual.len() {
-            let word = name_at(&self.names, place, usual[place].as_slice());
-            names.push(ByteText::copy_of(alloc, word)?)?;
+            let word = name_at(&self.names, place, usual.spelling(place));
+            words.push(ByteText::copy_of(alloc, word)?)?;
         }
-        Ok(names)
+        Ok(Names::of(words))
     }
 }
 

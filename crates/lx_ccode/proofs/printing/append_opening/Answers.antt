@@ -1,5 +1,3 @@
-use Rattle.std.proofs.Common.{List, ℕ, ◌++◌, [], ◌∙◌, ap}
-use Rattle.lx_ccode.specs.Text.{names_then}
 use Rattle.lx_ccode.proofs.Tails.{opening_written}
 use Rattle.lx_ccode.proofs.printing.append_opening.Goals as goal
 
@@ -7,7 +5,6 @@ pub returns : goal.returns
 returns c =
     let scope = c.of-scope.ensures in
     opening_written c.args.piece.now _ _ _ _ _ _ _ _ _ _ c.in_ok-append_begin.ensures c.in_ok-append_head.ensures c.in_ok-append_unit.ensures c.in_ok-append_eof.ensures
-    (c.in_ok-append_names.ensures ∙ ap (λ (words : List (List ℕ)). c.append_eof.new.text.items ++ names_then words []) c.as_slice.ensures)
-    c.in_ok-append_parts.ensures (rw scope.names at c.in_ok-append_declarations.ensures)
+    c.in_ok-append_names.ensures c.in_ok-append_parts.ensures (rw scope.names at c.in_ok-append_declarations.ensures)
     (rw (scope.number, scope.names, c.as_slice-conds.ensures) at c.in_ok-append_state_switch.ensures)
     (rw (scope.number, scope.names, c.as_slice-conds.ensures) at c.in_ok-append_cond_switch.ensures)
