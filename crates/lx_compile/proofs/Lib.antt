@@ -1,4 +1,5 @@
 pub mod ActionSlices
+pub mod AskedFacts
 pub mod BlockStops
 pub mod Compilations
 pub mod ConditionNames

@@ -3,10 +3,12 @@ use Rattle.std.proofs.Common.{◌≡◌, ◌∙◌, ℕ, suc, ◌+◌, List, ◌
 use Rattle.std.specs.Option.{option_or}
 use Rattle.lx_base.specs.Names.{Spellings}
 use Rattle.lx_base.specs.declared.faults.Fault.{Fault}
+use Rattle.lx_base.specs.declared.faults.Stop.{Stop}
+use Rattle.lx_base.specs.declared.faults.Stop.TheVariants as stop
 use Rattle.lx_base.specs.declared.places.Pos.{Pos}
 use Rattle.lx_ccode.specs.declared.piece.LineMark.{LineMark}
 use Rattle.lx_compile.specs.Facts.{directive_fault, fault_among}
-use Rattle.lx_compile.specs.Writing.{text_among}
+use Rattle.lx_compile.specs.Writing.{StopsAs, text_among}
 use Rattle.lx_compile.specs.declared.made.Made.{Made}
 use Rattle.lx_compile.specs.declared.made.Made.TheVariants.{Bare}
 use Rattle.lx_compile.specs.declared.parts.Directive.{Directive}
@@ -31,3 +33,8 @@ module _ (names : Spellings) (all : List Made) (at : Pos) (line : Option LineMar
   pub fault_among-none : (whole : Option Fault) → fault_among names all (Bare at line directive ∷ rest) ≡ whole
       → directive_fault names all at directive ≡ None → fault_among names all rest ≡ whole
   fault_among-none whole before none = ap (λ one. option_or one (fault_among names all rest)) (sym none) ∙ before
+
+-- a call that stops with the fault of the first directive
+pub StopsAs-first : (found rest whole : Option Fault) (stopped : Stop) → option_or found rest ≡ whole → StopsAs found stopped → StopsAs whole stopped
+StopsAs-first found rest whole stop.Memory is stops = stops
+StopsAs-first found rest whole (stop.Fault fault) is stops = sym is ∙ ap (λ first. option_or first rest) stops

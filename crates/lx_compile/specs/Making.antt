@@ -1,5 +1,6 @@
 -- What the definitions see of the making of pieces, and of what directives ask for.
-use Rattle.std.specs.Prelude.{◌≡◌, ℕ, List, [], ◌∷◌, map, Option, Some, None}
+use Rattle.std.specs.Prelude.{◌≡◌, ℕ, Bool, true, false, List, [], ◌∷◌, map, Option, Some, None}
+use Rattle.std.specs.List.{list_any}
 use Rattle.std.specs.Borrow.{Bor}
 use Rattle.std.specs.Global.{Vec}
 use Rattle.indexmap.specs.IndexSet.{IndexSet}
@@ -9,6 +10,9 @@ use Rattle.lx_compile.specs.Made.{Setting}
 use Rattle.lx_compile.specs.declared.facts.Facts.{Facts}
 use Rattle.lx_compile.specs.declared.facts.Start.{Start}
 use Rattle.lx_compile.specs.declared.made.Made.{Made}
+use Rattle.lx_compile.specs.declared.made.Made.TheVariants.{Bare}
+use Rattle.lx_compile.specs.declared.parts.Directive.{Directive}
+use Rattle.lx_compile.specs.declared.parts.Directive.TheVariants as directive
 use Rattle.lx_compile.specs.declared.making.Frame.{Frame}
 
 -- what holds for all pieces of an output
@@ -37,3 +41,19 @@ pub record AreFacts (facts : Facts) (made : List Made) : Type 0 where
   pub conds : facts.conds ≡ conditions_of (pieces_among made)
   pub states : facts.states ≡ file_states (pieces_among made)
   pub start : facts.start ≡ start_of (pieces_among made)
+
+-- it stands in the place of a directive that asks for something
+abbrev pub asks : Made → Bool
+asks (Bare at line directive.Nothing) = false
+asks (Bare at line other) = true
+asks other = false
+
+-- the facts are those of all that is made; there may be none where no directive asks for any
+abbrev pub AreAsked : Option Facts → List Made → Type 0
+AreAsked None made = list_any asks made ≡ false
+AreAsked (Some facts) made = AreFacts facts made
+
+-- the directive can be answered by the facts of all that is made, or without any
+abbrev pub CanAnswer : Option Facts → List Made → Directive → Type 0
+CanAnswer None made asked = asked ≡ directive.Nothing
+CanAnswer (Some facts) made asked = AreFacts facts made

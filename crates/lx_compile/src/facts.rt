@@ -4,11 +4,12 @@ ghost use Rattle.std.specs.List.{list_any};
 ghost use Rattle.lx_ccode.specs.Counts.{greatest_of};
 ghost use Rattle.lx_ccode.specs.Statements.{all_statements};
 ghost use Rattle.lx_compile.specs.Facts.{conditions_of, file_states, greatest_in, groups_in, groups_of, histories_of, history_count, is_marker_alone, last_register, piece_states, pieces_among, registers_of, spells_first, units_of, with_conditions};
-ghost use Rattle.lx_compile.specs.Making.{AreFacts, seen_conditions, seen_pieces, start_of};
+ghost use Rattle.lx_compile.specs.Making.{AreAsked, AreFacts, asks, seen_conditions, seen_pieces, start_of};
 ghost use Rattle.lx_compile.specs.Writing.{IsPrintable};
 ghost use Rattle.lx_ccode.specs.declared.piece.Piece.{Piece as piece_type};
 
 use crate::made::Made;
+use crate::parts::Directive;
 use indexmap::IndexSet;
 use lx_base::{ByteText, Memory, Sequence};
 use lx_ccode::{CodeBlock, CondCase, FileState, Piece, Stmt, mregs_of, regs_of};
@@ -362,10 +363,47 @@ fn facts_among(alloc: Global, made: &[Made], pieces: &[&Piece]) -> Result<Facts,
 }
 
 /// The facts of all that is made.
-pub(crate) fn facts_of(alloc: Global, made: &[Made]) -> Result<Facts, Memory>
+fn facts_of(alloc: Global, made: &[Made]) -> Result<Facts, Memory>
     requires { All IsPrintable made.now }
     ensures { IfOk result (λ facts. AreFacts facts made.now) }
 {
     let pieces = pieces_among(alloc, made)?;
     facts_among(alloc, made, &pieces)
+}
+
+/// Whether it stands in the place of a directive that asks for something.
+fn asks(one: &Made) -> bool
+    ensures { result ≡ asks one.now }
+{
+    match one {
+        Made::Bare {
+            directive: Directive::Nothing,
+            ..
+        } => false,
+        Made::Bare { .. } => true,
+        _ => false,
+    }
+}
+
+/// Whether some directive asks for something.
+fn any_asks(made: &[Made]) -> bool
+    ensures { result ≡ list_any asks made.now }
+{
+    for one in made {
+        if asks(one) {
+            return true;
+        }
+    }
+    false
+}
+
+/// The facts of all that is made, where some directive asks for any: they are gathered from each statement of all pieces.
+pub(crate) fn facts_asked(alloc: Global, made: &[Made]) -> Result<Option<Facts>, Memory>
+    requires { All IsPrintable made.now }
+    ensures { IfOk result (λ facts. AreAsked facts made.now) }
+{
+    if !any_asks(made) {
+        return Ok(None);
+    }
+    Ok(Some(facts_of(alloc, made)?))
 }

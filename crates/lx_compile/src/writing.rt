@@ -3,12 +3,12 @@ ghost use Rattle.std.specs.Prelude.{◌≡◌, ◌<◌, ◌++◌, All, IfOk, Lis
 ghost use Rattle.lx_base.specs.declared.faults.Stop.{Stop};
 ghost use Rattle.lx_ccode.specs.Bodies.{body_piece_text};
 ghost use Rattle.lx_compile.specs.Facts.{body_of, directive_fault, directives_fault};
-ghost use Rattle.lx_compile.specs.Making.{AreFacts};
+ghost use Rattle.lx_compile.specs.Making.{AreAsked, AreFacts, CanAnswer};
 ghost use Rattle.lx_compile.specs.Writing.{IsPrintable, StopsAs, StopsByDirectives, output_text};
 ghost use Rattle.lx_compile.specs.declared.made.Made.{Made};
 
 use crate::bodies::{body_of, directive_fault};
-use crate::facts::{Facts, facts_of};
+use crate::facts::{Facts, facts_asked};
 use crate::made::Made;
 use crate::parts::Directive;
 use lx_base::{Fault, Memory, Names, Pos, Stop};
@@ -73,7 +73,7 @@ fn append_faultless(
 }
 
 /// The same by the directive alone.
-fn append_directive(
+fn append_answer(
     alloc: Global,
     output: &mut Vec<u8>,
     names: &Names,
@@ -94,17 +94,40 @@ fn append_directive(
     )
 }
 
-/// Appends the text of all that is made, of which these are the facts, or refuses with the fault of the first directive that has one.
+/// The same where facts are there if the directive asks for any.
+fn append_directive(
+    alloc: Global,
+    output: &mut Vec<u8>,
+    names: &Names,
+    facts: &Option<Facts>,
+    number: u32,
+    at: Pos,
+    line: &Option<LineMark>,
+    directive: &Directive,
+) -> Result<(), Stop>
+    ensures { (made : List Made) → CanAnswer facts.now made directive.now → MatchResult result
+        (λ _. (output.new.items ≡ output.old.items ++ body_piece_text number names.now (body_of made directive.now) line.now)
+        × (directive_fault names.now made at directive.now ≡ None))
+        (StopsAs (directive_fault names.now made at directive.now)) }
+{
+    match facts {
+        Some(facts) => append_answer(alloc, output, names, facts, number, at, line, directive),
+        None => Ok(append_body(alloc, output, names, number, &Body::Empty, line)?),
+    }
+}
+
+/// Appends the text of all that is made, of which these are the facts if a directive asks for any, or refuses with the fault of the first
+/// directive that has one.
 fn append_all(
     alloc: Global,
     output: &mut Vec<u8>,
     names: &Names,
-    facts: &Facts,
+    facts: &Option<Facts>,
     made: &[Made],
 ) -> Result<(), Stop>
     requires valid { All IsPrintable made.now }
     requires few { length made.now < 4294967295 }
-    requires facts { AreFacts facts.now made.now }
+    requires facts { AreAsked facts.now made.now }
     ensures { MatchResult result
         (λ _. (output.new.items ≡ output.old.items ++ output_text names.now made.now) × (directives_fault names.now made.now ≡ None))
         (StopsByDirectives names.now made.now) }
@@ -130,16 +153,16 @@ fn append_all(
     Ok(())
 }
 
-/// The text of all that is made, of which these are the facts, one behind another.
+/// The text of all that is made, of which these are the facts if a directive asks for any, one behind another.
 fn text_by_facts(
     alloc: Global,
     names: &Names,
-    facts: &Facts,
+    facts: &Option<Facts>,
     made: &[Made],
 ) -> Result<Vec<u8>, Stop>
     requires valid { All IsPrintable made.now }
     requires few { length made.now < 4294967295 }
-    requires facts { AreFacts facts.now made.now }
+    requires facts { AreAsked facts.now made.now }
     ensures { MatchResult result
         (λ output. (output.items ≡ output_text names.now made.now) × (directives_fault names.now made.now ≡ None))
         (StopsByDirectives names.now made.now) }
@@ -159,6 +182,6 @@ pub(crate) fn write(alloc: Global, names: &Names, made: &[Made]) -> Result<Vec<u
         (λ output. (output.items ≡ output_text names.now made.now) × (directives_fault names.now made.now ≡ None))
         (StopsByDirectives names.now made.now) }
 {
-    let facts = facts_of(alloc, made)?;
+    let facts = facts_asked(alloc, made)?;
     text_by_facts(alloc, names, &facts, made)
 }

@@ -1,4 +1,4 @@
-use Rattle.lx_compile.proofs.writing.append_directive.Goals as goal
+use Rattle.lx_compile.proofs.writing.append_answer.Goals as goal
 
 pub returns : goal.returns
 returns c = λ made are.
