@@ -1,5 +1,9 @@
 //! Emitted pieces: what stands in an output in the place of a block with rules.
-use lx_base::{ByteText, Enc, Names, Sequence};
+ghost use Rattle.std.specs.Prelude.{◌≡◌, [], IfOk, slice_index_or};
+
+use lx_base::{Enc, Memory, Names, Sequence};
+use lx_shared::SharedText;
+use std::alloc::Global;
 
 /// A scanner as it is emitted: a brace block of C between a begin mark and an end mark.
 ///
@@ -89,13 +93,13 @@ pub struct StateCase {
 /// A condition's name, and the block where its scanner starts.
 #[derive(Drop)]
 pub struct CondCase {
-    pub cond: ByteText,
+    pub cond: SharedText,
     pub block: u64,
 }
 
 /// Statements under one label, and a condition's name where they are the start of its scanner.
 pub struct CodeBlock {
-    pub cond: Option<ByteText>,
+    pub cond: Option<SharedText>,
     pub stmts: Sequence<Stmt>,
 }
 
@@ -109,7 +113,21 @@ impl Drop for CodeBlock {
 #[derive(Drop)]
 pub struct LineMark {
     pub line: u32,
-    pub file: ByteText,
+    pub file: SharedText,
+}
+
+impl LineMark {
+    /// The line of the file whose name stands at this place, counted from 0; past the names the file's name is empty.
+    pub fn of(alloc: Global, names: &[SharedText], file: u32, line: u32) -> Result<LineMark, Memory>
+        ensures line { IfOk result (λ mark. mark.line ≡ line) }
+        ensures file { IfOk result (λ mark. mark.file ≡ slice_index_or names.now file []) }
+    {
+        let file = match names.get(file as usize) {
+            None => SharedText::copy_of(alloc, b"")?,
+            Some(name) => name.share()?,
+        };
+        Ok(LineMark { line, file })
+    }
 }
 
 /// A statement: one line of a piece. The values stand in the order in which the line has them.
@@ -152,9 +170,9 @@ pub enum Stmt {
     /// Asks for a refill, and jumps to a block where it added units.
     Try(u64),
     /// Sets the condition.
-    Cond(ByteText),
+    Cond(SharedText),
     /// Gives a user's tag the content of a register, or of a history where the truth value says so.
-    Tag(ByteText, bool, u32),
+    Tag(SharedText, bool, u32),
     /// Tells how many groups the rule has.
     Count(u32),
     /// Gives an end of a group the content of a register.
@@ -166,9 +184,9 @@ pub enum Stmt {
     /// Ends the match without a rule.
     Leave,
     /// Ends the match by the rule with this number, and does the user's action.
-    Code(u32, Option<LineMark>, ByteText),
+    Code(u32, Option<LineMark>, SharedText),
     /// Ends the match by the rule with this number, and goes on at the condition's start.
-    Jump(ByteText, u32),
+    Jump(SharedText, u32),
 }
 
 impl Drop for Stmt {

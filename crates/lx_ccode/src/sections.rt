@@ -9,7 +9,8 @@ ghost use Rattle.lx_ccode.specs.Wording.{scope_wording};
 use crate::lines::Scope;
 use crate::numerals::{append_block, append_number, append_word};
 use crate::piece::{CodeBlock, CondCase, StateCase};
-use lx_base::{ByteText, Memory, Names, Sequence, append_parts, names};
+use lx_base::{Memory, Names, Sequence, append_parts, names};
+use lx_shared::SharedText;
 
 impl Scope<'_> {
     /// Appends the declarations of the two variables, where the piece has them.
@@ -120,7 +121,7 @@ impl Scope<'_> {
     pub fn append_cond_label(
         &self,
         text: &mut Vec<u8>,
-        cond: &Option<ByteText>,
+        cond: &Option<SharedText>,
     ) -> Result<(), Memory>
         ensures { OnOk result (text.new.items ≡ text.old.items ++ label_then self.now.names.now cond.now []) }
     {

@@ -19,8 +19,9 @@ use lx_base::{Memory, Options, Sequence, Stop};
 use lx_fill::{CheckList, checks};
 use lx_gen::ScannerAuto;
 use lx_regex::Rule;
-use lx_renumber::{Repeats, copied, difference};
+use lx_renumber::{Repeats, difference, renumbered};
 use lx_rules::{Resolved, Scanner};
+use lx_shared::Shared;
 use lx_tnfa::Tnfa;
 use std::alloc::Global;
 
@@ -28,14 +29,14 @@ use std::alloc::Global;
 #[derive(Clone, Copy)]
 pub(crate) struct Model<'a> {
     pub rules: &'a [Rule],
-    pub auto: &'a Auto,
+    pub auto: &'a Shared<Auto>,
 }
 
 /// A scanner with its automaton, which is kept as a model for the blocks behind its own.
 #[derive(Drop)]
 pub(crate) struct Kept {
     scanner: Scanner,
-    auto: Auto,
+    auto: Shared<Auto>,
 }
 
 /// What is kept, as a model.
@@ -52,7 +53,7 @@ pub(crate) fn kept_model(kept: &Option<Kept>) -> Option<Model<'_>>
 }
 
 /// The first scanner of a block with its automaton, if it has one.
-pub(crate) fn first_kept(scanners: Sequence<Scanner>, auto: Option<Auto>) -> Option<Kept>
+pub(crate) fn first_kept(scanners: Sequence<Scanner>, auto: Option<Shared<Auto>>) -> Option<Kept>
     ensures { (options : options_type) → HasFirst options scanners auto → IfSome result (IsKept options) }
 {
     let scanner = scanners.into_vec().into_iter().next();
@@ -63,7 +64,7 @@ pub(crate) fn first_kept(scanners: Sequence<Scanner>, auto: Option<Auto>) -> Opt
 }
 
 /// The automaton of the first scanner of a block, if there is one.
-pub(crate) fn first_of(autos: &[ScannerAuto]) -> Option<&Auto>
+pub(crate) fn first_of(autos: &[ScannerAuto]) -> Option<&Shared<Auto>>
     ensures { option_copied result ≡ first_auto autos.now }
 {
     match autos.first() {
@@ -95,7 +96,7 @@ fn difference_by(options: &Options, model: Option<Model<'_>>, scanner: &Scanner)
 {
     match model {
         Some(model) if !asks_for_cover(options) => {
-            difference(model.rules, model.auto, scanner.set.rules.as_slice())
+            difference(model.rules, model.auto.get(), scanner.set.rules.as_slice())
         }
         _ => None,
     }
@@ -107,13 +108,13 @@ fn automaton_by(
     options: &Options,
     model: Option<Model<'_>>,
     scanner: &Scanner,
-) -> Result<Option<Auto>, Memory>
+) -> Result<Option<Shared<Auto>>, Memory>
     requires { IfSome model (IsModel options.now) }
     ensures { IfOk result (λ answer. IfSome answer (λ auto. IsMadeFor options.now scanner.now auto × IsFaultless options.now scanner.now
         × (asks_for_cover options.now ≡ false))) }
 {
     match (difference_by(options, model, scanner), model) {
-        (Some(by), Some(model)) => copied(alloc, model.auto, by),
+        (Some(by), Some(model)) => renumbered(alloc, model.auto, by),
         _ => Ok(None),
     }
 }
@@ -148,7 +149,7 @@ fn automaton_of(
     model: Option<Model<'_>>,
     scanner: &Scanner,
     cover: &mut Vec<u8>,
-) -> Result<Auto, Stop>
+) -> Result<Shared<Auto>, Stop>
     requires fit { IsFit (length frame.now.acts.now) scanner.now }
     requires within { IsScannerWithin frame.now.options.now.enc scanner.now }
     requires model { IfSome model (IsModel frame.now.options.now) }
@@ -160,7 +161,10 @@ fn automaton_of(
 {
     match automaton_by(alloc, frame.options, model, scanner)? {
         Some(auto) => Ok(auto),
-        None => made_automaton(alloc, frame, scanner, cover),
+        None => {
+            let auto = made_automaton(alloc, frame, scanner, cover)?;
+            Ok(Shared::of(alloc, auto)?)
+        }
     }
 }
 
@@ -187,7 +191,7 @@ fn scanner_auto(
         return Ok(ScannerAuto::AsFirst(by));
     }
     let auto = automaton_of(alloc, frame, before, scanner, cover)?;
-    let checks = checks(alloc, &auto)?;
+    let checks = checks(alloc, auto.get())?;
     Ok(ScannerAuto::Own { auto, checks })
 }
 
@@ -228,7 +232,7 @@ pub(crate) fn automata_of(
 pub(crate) fn taken_apart(
     alloc: Global,
     autos: Sequence<ScannerAuto>,
-) -> Result<(Option<Auto>, Repeats<CheckList>), Memory>
+) -> Result<(Option<Shared<Auto>>, Repeats<CheckList>), Memory>
     requires { BeginOwn autos }
     ensures first { IfOk result (λ parts. parts.0 ≡ first_auto autos) }
     ensures checks { IfOk result (λ parts. parts.1 ≡ seen_checks autos) }

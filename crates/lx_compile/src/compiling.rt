@@ -19,6 +19,7 @@ use crate::warned::{PlacedWarning, told_warnings};
 use crate::writing::write;
 use lx_base::{FileNames, Memory, Options, Sequence, Stop};
 use lx_files::Files;
+use lx_shared::SharedText;
 use lx_split::{ExpandStop, Pieces, expand};
 use std::alloc::Global;
 
@@ -47,6 +48,23 @@ fn given_text(
     }
 }
 
+/// The names, each of which many lines may share. More of them than 32 bits can count are want of memory.
+fn shared_names(alloc: Global, names: &FileNames) -> Result<Vec<SharedText>, Memory>
+    ensures { IfOk result (λ shared. shared.items ≡ names.now) }
+{
+    let Ok(count) = u32::try_from(names.len()) else {
+        return Err(Memory);
+    };
+    let mut shared = Vec::with_capacity(alloc, names.len())?;
+    for file in 0..count {
+        let Some(name) = names.get(file) else {
+            unreachable!()
+        };
+        shared.push(SharedText::copy_of(alloc, name.as_bytes())?)?;
+    }
+    Ok(shared)
+}
+
 /// What is given of the pieces of a source, and its warnings, where files of these names were met.
 fn output_of(
     alloc: Global,
@@ -63,9 +81,10 @@ fn output_of(
 {
     let resolution = resolve_blocks(alloc, pieces, options)?;
     let own_switch = switch_themselves(resolution.parts.as_slice());
+    let names = shared_names(alloc, names)?;
     let frame = Frame {
         options,
-        names,
+        names: names.as_slice(),
         own_switch,
     };
     let made = make(alloc, &frame, resolution.parts)?;

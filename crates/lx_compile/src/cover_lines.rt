@@ -11,11 +11,12 @@ ghost use Rattle.lx_compile.specs.Covering.{end_text, entry_text, goes_text, gro
 ghost use Rattle.lx_compile.specs.Telling.{TellsEnd};
 
 use crate::warning_lines::append_units;
-use lx_base::{ByteText, Memory, append_parts};
+use lx_base::{Memory, append_parts};
 use lx_ccode::hexadecimal;
 use lx_cover::TagValue;
 use lx_layout::EndIndex;
 use lx_regex::Tag;
+use lx_shared::SharedText;
 use std::alloc::Global;
 
 /// Appends the units of a word with spaces between them, or `-` for the empty word.
@@ -146,7 +147,7 @@ fn append_groups(alloc: Global, text: &mut Vec<u8>, values: &[TagValue]) -> Resu
 }
 
 /// Appends the condition that a rule goes to, if it goes to one.
-fn append_goes(text: &mut Vec<u8>, goes: &Option<ByteText>) -> Result<(), Memory>
+fn append_goes(text: &mut Vec<u8>, goes: &Option<SharedText>) -> Result<(), Memory>
     ensures { OnOk result (text.new.items ≡ text.old.items ++ goes_text goes.now) }
 {
     match goes {
@@ -156,7 +157,7 @@ fn append_goes(text: &mut Vec<u8>, goes: &Option<ByteText>) -> Result<(), Memory
 }
 
 /// The word that tells how a rule is entered.
-fn entry_text(action: &Option<ByteText>) -> &[u8]
+fn entry_text(action: &Option<SharedText>) -> &[u8]
     ensures { result.now ≡ entry_text action.now }
 {
     match action {
@@ -168,14 +169,14 @@ fn entry_text(action: &Option<ByteText>) -> &[u8]
 /// What is told of the end of a rule; no tags, no condition and no action where there is no such rule.
 #[derive(Clone, Copy)]
 struct ToldEnd<'a> {
-    action: &'a Option<ByteText>,
+    action: &'a Option<SharedText>,
     slash: Option<u32>,
     tags: &'a [Tag],
-    goes: &'a Option<ByteText>,
+    goes: &'a Option<SharedText>,
 }
 
 /// What is told of the end of the rule with a number, with `none` for what it has not.
-fn told_end<'a>(index: &'a EndIndex<'_>, number: u32, none: &'a Option<ByteText>) -> ToldEnd<'a>
+fn told_end<'a>(index: &'a EndIndex<'_>, number: u32, none: &'a Option<SharedText>) -> ToldEnd<'a>
     requires indexed { AreEndsIndexed index.now }
     requires none { none.now ≡ None }
     ensures { TellsEnd result (endings_of index.now.ends.now number) }
@@ -263,7 +264,7 @@ pub(crate) fn append_heading(
     alloc: Global,
     text: &mut Vec<u8>,
     number: u32,
-    cond: &Option<ByteText>,
+    cond: &Option<SharedText>,
 ) -> Result<(), Memory>
     ensures { OnOk result (text.new.items ≡ text.old.items ++ scanner_line number cond.now) }
 {

@@ -297,7 +297,7 @@ pub(crate) fn copy_cases(alloc: Global, cases: &[CondCase]) -> Result<Sequence<C
     let mut copies = Sequence::new(alloc);
     for case in cases {
         copies.push(CondCase {
-            cond: ByteText::copy_of(alloc, case.cond.as_slice())?,
+            cond: case.cond.share()?,
             block: case.block,
         })?;
     }

@@ -1,5 +1,5 @@
 //! The pieces of the scanners of a source.
-ghost use Rattle.std.specs.Prelude.{◌≡◌, ◌<◌, ◌+◌, [], All, IfOk, IfSome, IsSome, MatchResult, OnOk, length, None, slice_index_or};
+ghost use Rattle.std.specs.Prelude.{◌≡◌, ◌<◌, ◌+◌, All, IfOk, IfSome, IsSome, MatchResult, OnOk, length, None};
 ghost use Rattle.lx_ccode.specs.Counts.{state_count};
 ghost use Rattle.lx_ccode.specs.Validity.{IsLine};
 ghost use Rattle.lx_compile.specs.Covering.{AreCovered};
@@ -16,12 +16,13 @@ use crate::covered::BlockFrame;
 use crate::made::Made;
 use crate::parts::{Content, Part};
 use crate::warned::{PlacedWarning, block_warnings};
-use lx_base::{ByteText, FileNames, Memory, Options, Pos, Sequence, Stop};
+use lx_base::{ByteText, Memory, Options, Pos, Sequence, Stop};
 use lx_ccode::{LineMark, Piece};
 use lx_fill::CheckList;
 use lx_gen::{Generated, generate};
 use lx_renumber::Repeats;
 use lx_rules::Resolved;
+use lx_shared::SharedText;
 use std::alloc::Global;
 
 /// The greatest number that the first state of a piece may have.
@@ -32,7 +33,7 @@ const STATE_LIMIT: u64 = 4611686018427387904;
 pub(crate) struct Frame<'a> {
     pub options: &'a Options,
     /// The names of the files met.
-    pub names: &'a FileNames,
+    pub names: &'a [SharedText],
     /// Whether pieces switch over their states themselves.
     pub own_switch: bool,
 }
@@ -42,16 +43,6 @@ pub(crate) struct Frame<'a> {
 struct Numbers {
     piece: u32,
     state: u64,
-}
-
-/// The name of a file by its place, empty past the list.
-pub(crate) fn file_of(alloc: Global, names: &FileNames, file: u32) -> Result<ByteText, Memory>
-    ensures { IfOk result (λ name. name ≡ slice_index_or names.now file []) }
-{
-    match names.get(file) {
-        None => Ok(ByteText::new(alloc)),
-        Some(name) => ByteText::copy_of(alloc, name.as_bytes()),
-    }
 }
 
 /// The line of a place's file that is told behind a piece, where lines are told.
@@ -67,8 +58,7 @@ fn line_mark(
     if !frame.options.lines {
         return Ok(None);
     }
-    let file = file_of(alloc, frame.names, at.file)?;
-    Ok(Some(LineMark { line, file }))
+    Ok(Some(LineMark::of(alloc, frame.names, at.file, line)?))
 }
 
 /// The automata of a block whose opener stands at `at`.

@@ -14,10 +14,11 @@ ghost use Rattle.lx_compile.specs.Warnings.{AreWarned, act_place, placed, told_w
 use crate::automata::first_of;
 use crate::made::Made;
 use lx_auto::Auto;
-use lx_base::{ByteText, Memory, Options, Pos, Sequence};
+use lx_base::{Memory, Options, Pos, Sequence};
 use lx_gen::ScannerAuto;
-use lx_renumber::copied;
+use lx_renumber::renumbered;
 use lx_rules::{Act, Resolved, Scanner, numbered_act};
+use lx_shared::{Shared, SharedText};
 use lx_warn::{Warning, warnings};
 use std::alloc::Global;
 
@@ -26,7 +27,7 @@ pub struct PlacedWarning {
     /// The place of the rule's action, or that of the block's opener.
     pub at: Pos,
     /// The name of the scanner's condition.
-    pub cond: Option<ByteText>,
+    pub cond: Option<SharedText>,
     pub warning: Warning,
 }
 
@@ -68,27 +69,26 @@ fn warning_place(at: Pos, acts: &[Act], warning: &Warning) -> Pos
 }
 
 /// A condition's name, if there is one.
-fn copy_of(alloc: Global, cond: &Option<ByteText>) -> Result<Option<ByteText>, Memory>
-    ensures { IfOk result (λ copy. copy ≡ cond.now) }
+fn shared_name(cond: &Option<SharedText>) -> Result<Option<SharedText>, Memory>
+    ensures { IfOk result (λ same. same ≡ cond.now) }
 {
     match cond {
         None => Ok(None),
-        Some(name) => Ok(Some(ByteText::copy_of(alloc, name.as_slice())?)),
+        Some(name) => Ok(Some(name.share()?)),
     }
 }
 
 /// A warning of the scanner of a condition, at its place.
 fn placed(
-    alloc: Global,
     at: Pos,
     acts: &[Act],
-    cond: &Option<ByteText>,
+    cond: &Option<SharedText>,
     warning: Warning,
 ) -> Result<PlacedWarning, Memory>
     ensures { IfOk result (λ one. one ≡ placed at acts.now cond.now warning) }
 {
     let at = warning_place(at, acts, &warning);
-    let cond = copy_of(alloc, cond)?;
+    let cond = shared_name(cond)?;
     Ok(PlacedWarning { at, cond, warning })
 }
 
@@ -109,7 +109,7 @@ fn append_warnings(
 {
     let own = warnings(alloc, scanner, options.enc, auto)?;
     for warning in own.into_vec() {
-        all.push(placed(alloc, at, acts, &scanner.cond, warning)?)?;
+        all.push(placed(at, acts, &scanner.cond, warning)?)?;
     }
     Ok(())
 }
@@ -123,7 +123,7 @@ fn append_item_warnings(
     at: Pos,
     acts: &[Act],
     scanner: &Scanner,
-    first: &Auto,
+    first: &Shared<Auto>,
     item: &ScannerAuto,
     all: &mut Sequence<PlacedWarning>,
 ) -> Result<(), Memory>
@@ -134,11 +134,11 @@ fn append_item_warnings(
 {
     match item {
         ScannerAuto::Own { auto, .. } => {
-            append_warnings(alloc, options, at, acts, scanner, auto, all)
+            append_warnings(alloc, options, at, acts, scanner, auto.get(), all)
         }
         ScannerAuto::AsFirst(by) => {
-            let auto = copied(alloc, first, *by)?.ok_or(Memory)?;
-            append_warnings(alloc, options, at, acts, scanner, &auto, all)
+            let auto = renumbered(alloc, first, *by)?.ok_or(Memory)?;
+            append_warnings(alloc, options, at, acts, scanner, auto.get(), all)
         }
     }
 }

@@ -1,12 +1,12 @@
 //! The line that tells a warning.
-ghost use Rattle.std.specs.Prelude.{◌≡◌, ◌++◌, IfOk, OnOk, None, Some};
+ghost use Rattle.std.specs.Prelude.{◌≡◌, ◌++◌, [], IfOk, OnOk, None, Some, slice_index_or};
 ghost use Rattle.lx_base.specs.Message.{heading};
 ghost use Rattle.lx_compile.specs.Warnings.{condition_text, rule_text, saying, units_text, warning_text};
 
-use crate::making::file_of;
 use crate::warned::PlacedWarning;
 use lx_base::{ByteText, FileNames, Memory, Pos, append_parts};
 use lx_ccode::hexadecimal;
+use lx_shared::SharedText;
 use lx_warn::Warning;
 use std::alloc::Global;
 
@@ -21,6 +21,16 @@ pub(crate) fn append_units(alloc: Global, text: &mut Vec<u8>, word: &[u32]) -> R
     Ok(())
 }
 
+/// The name of a file by its place, empty past the list.
+fn file_name(names: &FileNames, file: u32) -> &[u8]
+    ensures { result.now ≡ slice_index_or names.now file [] }
+{
+    match names.get(file) {
+        None => &[],
+        Some(name) => name.as_bytes(),
+    }
+}
+
 /// Appends the place, as the messages of faults have it.
 fn append_heading(
     alloc: Global,
@@ -30,13 +40,12 @@ fn append_heading(
 ) -> Result<(), Memory>
     ensures { OnOk result (text.new.items ≡ text.old.items ++ heading names.now (Some at)) }
 {
-    let file = file_of(alloc, names, at.file)?;
     let line = format!(in alloc; "{}", at.line)?;
     let col = format!(in alloc; "{}", at.col)?;
     append_parts(
         text,
         &[
-            file.as_slice(),
+            file_name(names, at.file),
             b":",
             line.as_bytes(),
             b":",
@@ -69,7 +78,7 @@ fn append_saying(alloc: Global, text: &mut Vec<u8>, warning: &Warning) -> Result
 }
 
 /// Appends in which condition it is.
-fn append_condition(text: &mut Vec<u8>, cond: &Option<ByteText>) -> Result<(), Memory>
+fn append_condition(text: &mut Vec<u8>, cond: &Option<SharedText>) -> Result<(), Memory>
     ensures { OnOk result (text.new.items ≡ text.old.items ++ condition_text cond.now) }
 {
     match cond {

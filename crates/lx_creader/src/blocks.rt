@@ -6,8 +6,9 @@ ghost use Rattle.lx_creader.specs.Fitted.{fitted_block, fitted_statement};
 
 use crate::lines::{Scope, begins_statement};
 use crate::words::{after_identifier, byte_at, front_identifier, skip};
-use lx_base::{ByteText, Memory, Sequence, names};
+use lx_base::{Memory, Sequence, names};
 use lx_ccode::{CodeBlock, Stmt};
+use lx_shared::SharedText;
 
 impl Scope<'_> {
     /// The statements at the front, at most as many as the fuel; whether one names the context marker as
@@ -38,7 +39,7 @@ impl Scope<'_> {
     fn body_at<'b>(
         &self,
         fuel: usize,
-        cond: Option<ByteText>,
+        cond: Option<SharedText>,
         bytes: &'b [u8],
     ) -> Result<(CodeBlock, bool, &'b [u8]), Memory>
         ensures { IfOk result (λ read. (read.0 ≡ fitted_block (body_at fuel self.now.custom self.now.names.now cond bytes.now).0) × (read.1 ≡ (body_at fuel self.now.custom self.now.names.now cond bytes.now).1) × (read.2.now ≡ (body_at fuel self.now.custom self.now.names.now cond bytes.now).2)) }

@@ -13,8 +13,9 @@ use crate::words::{
 };
 use lx_base::letters::{begins_with, equal_words, is_digit, is_in_identifier};
 use lx_base::names::{self, is_history_register, is_register};
-use lx_base::{ByteText, Memory, Names};
+use lx_base::{Memory, Names};
 use lx_ccode::{LineMark, Stmt};
+use lx_shared::SharedText;
 use std::alloc::Global;
 
 /// A statement, whether it names the context marker as register 1, and what comes behind its line.
@@ -31,10 +32,10 @@ pub(crate) struct Scope<'a> {
 }
 
 impl Scope<'_> {
-    pub(crate) fn text(&self, word: &[u8]) -> Result<ByteText, Memory>
+    pub(crate) fn text(&self, word: &[u8]) -> Result<SharedText, Memory>
         ensures { IfOk result (λ text. text ≡ word.now) }
     {
-        ByteText::copy_of(self.alloc, word)
+        SharedText::copy_of(self.alloc, word)
     }
 
     fn is_context_marker(&self, word: &[u8]) -> bool

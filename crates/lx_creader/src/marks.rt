@@ -6,10 +6,11 @@ ghost use Rattle.lx_creader.specs.Fitted.{fitted_line, fitted_mark};
 use crate::words::{after_digits, byte_at, long_at, short_at, skip};
 use lx_base::{ByteText, Memory};
 use lx_ccode::LineMark;
+use lx_shared::{Shared, SharedText};
 use std::alloc::Global;
 
 /// The file's name up to the closing quote, and what comes behind that.
-fn file_at(alloc: Global, bytes: &[u8]) -> Result<(ByteText, &[u8]), Memory>
+fn file_at(alloc: Global, bytes: &[u8]) -> Result<(SharedText, &[u8]), Memory>
     ensures { IfOk result (λ file. (file.0 ≡ (file_at false bytes.now).0) × (file.1.now ≡ (file_at false bytes.now).1)) }
 {
     let mut name = Vec::new(alloc);
@@ -25,7 +26,7 @@ fn file_at(alloc: Global, bytes: &[u8]) -> Result<(ByteText, &[u8]), Memory>
             name.push(*letter)?;
         }
     }
-    Ok((ByteText::from_vec(name), rest))
+    Ok((Shared::of(alloc, ByteText::from_vec(name))?, rest))
 }
 
 /// `#line L "FILE"`, at its `#`, and what comes behind its line.

@@ -11,9 +11,10 @@ use crate::statements::{
     has_few_groups, has_spelling, is_ending, is_need, is_peek, is_refill, is_state, is_try,
     jumps_below, names_one_of,
 };
+use lx_base::Names;
 use lx_base::letters::is_identifier;
-use lx_base::{ByteText, Names};
 use lx_ccode::{CodeBlock, NameSet, Stmt, has_register_one};
+use lx_shared::SharedText;
 
 /// What the rules of statements and blocks depend on.
 #[derive(Clone, Copy)]
@@ -72,7 +73,7 @@ impl Rules<'_> {
 }
 
 /// Whether a condition's name, where there is one, is an identifier.
-fn is_label(cond: &Option<ByteText>) -> bool
+fn is_label(cond: &Option<SharedText>) -> bool
     ensures { IsTrue result ↔ IsLabel cond.now }
 {
     match cond {

@@ -20,11 +20,12 @@ use crate::automata::ScannerAuto;
 use crate::contexts::has_context_marker;
 use crate::scanner_ends::{Marks, rule_ends};
 use lx_auto::Auto;
-use lx_base::{FileNames, Memory, Options, Sequence};
+use lx_base::{Memory, Options, Sequence};
 use lx_ccode::{LineMark, Piece};
 use lx_fill::CheckList;
 use lx_layout::{PieceForm, RuleEnd, ScannerInput, piece_of};
 use lx_rules::{Act, Config, Resolved, Scanner, end_rule};
+use lx_shared::SharedText;
 use std::alloc::Global;
 
 /// The ends of the rules of each scanner.
@@ -64,7 +65,7 @@ fn given_auto<'a>(auto: &'a Auto, checks: &'a CheckList, item: &'a ScannerAuto) 
 {
     match item {
         ScannerAuto::Own { auto, checks } => GivenAuto {
-            auto,
+            auto: auto.get(),
             checks,
             by: None,
         },
@@ -122,15 +123,16 @@ fn inputs<'a, 'b>(
     else {
         return Ok(inputs);
     };
+    let auto = first.get();
     for place in 0..scanners.len() {
-        let given = given_auto(first, checks, &autos[place]);
+        let given = given_auto(auto, checks, &autos[place]);
         inputs.push(input(&scanners[place], given, ends[place].as_slice()))?;
     }
     Ok(inputs)
 }
 
 /// Where the lines of actions are told: where the line behind the block is.
-fn marks_of<'a>(line: &Option<LineMark>, names: &'a FileNames) -> Marks<'a>
+fn marks_of<'a>(line: &Option<LineMark>, names: &'a [SharedText]) -> Marks<'a>
     ensures marks { seen_marks result ≡ marks_of line.now names.now }
     ensures line { IsLine line.now }
 {
@@ -191,7 +193,7 @@ pub fn generate(
     resolved: Resolved,
     autos: &[ScannerAuto],
     options: &Options,
-    names: &FileNames,
+    names: &[SharedText],
     number: u32,
     first_state: u64,
     own_switch: bool,

@@ -1,5 +1,5 @@
 //! What the rules of a scanner do at their ends, by what the block says.
-ghost use Rattle.std.specs.Prelude.{◌≡◌, ◌<◌, ◌≤◌, All, IfOk, [], length, slice_index_or, Some};
+ghost use Rattle.std.specs.Prelude.{◌≡◌, ◌<◌, ◌≤◌, All, IfOk, length, Some};
 ghost use Rattle.lx_ccode.specs.Validity.{IsLine};
 ghost use Rattle.lx_layout.specs.RuleEnds.{ending_of, endings_of};
 ghost use Rattle.lx_regex.specs.declared.rules.Rule.{Rule as rule_type};
@@ -7,27 +7,18 @@ ghost use Rattle.lx_gen.specs.Generated.{act_ending, endings_by, mark_of};
 ghost use Rattle.lx_rules.specs.Numbered.{numbered_act};
 ghost use Rattle.lx_gen.specs.Seen.{HaveShortLines, seen_marks};
 
-use lx_base::{ByteText, FileNames, Memory, Pos};
+use lx_base::{Memory, Pos};
 use lx_ccode::LineMark;
 use lx_layout::RuleEnd;
 use lx_regex::Rule;
 use lx_rules::{Act, numbered_act};
+use lx_shared::SharedText;
 use std::alloc::Global;
 
 /// The names of files, where the lines of actions are told.
 #[derive(Clone, Copy)]
 pub struct Marks<'a> {
-    pub names: Option<&'a FileNames>,
-}
-
-/// The name of a file by its place, empty past the list.
-fn file_of(alloc: Global, names: &FileNames, file: u32) -> Result<ByteText, Memory>
-    ensures { IfOk result (λ name. name ≡ slice_index_or names.now file []) }
-{
-    match names.get(file) {
-        None => Ok(ByteText::new(alloc)),
-        Some(name) => ByteText::copy_of(alloc, name.as_bytes()),
-    }
+    pub names: Option<&'a [SharedText]>,
 }
 
 /// The line where an action stands, if it is told.
@@ -37,10 +28,7 @@ fn mark_of(alloc: Global, marks: Marks<'_>, at: Pos) -> Result<Option<LineMark>,
 {
     match marks.names {
         None => Ok(None),
-        Some(names) => Ok(Some(LineMark {
-            line: at.line,
-            file: file_of(alloc, names, at.file)?,
-        })),
+        Some(names) => Ok(Some(LineMark::of(alloc, names, at.file, at.line)?)),
     }
 }
 

@@ -17,10 +17,10 @@ use crate::blocks::{append_block, sum};
 use crate::demands::PartInput;
 use crate::part_ends::PartEnds;
 use crate::parts::{append_end_rule, append_front, input_places, label};
-use crate::rule_endings::{ending_code, line_copy};
+use crate::rule_endings::{ending_code, shared_line};
 use crate::rule_ends::{EndIndex, index_of};
 use lx_auto::Accept;
-use lx_base::{ByteText, Memory};
+use lx_base::Memory;
 use lx_ccode::{CodeBlock, Stmt};
 use std::alloc::Global;
 
@@ -60,7 +60,7 @@ pub(crate) fn front_of<'a>(alloc: Global, input: &PartInput<'a>) -> Result<Front
 }
 
 /// The statement, where the block that it names stands so many places further on, and the number of a stored state is greater by so much.
-fn moved(alloc: Global, statement: &Stmt, by: u64, stored: u64) -> Result<Stmt, Memory>
+fn moved(statement: &Stmt, by: u64, stored: u64) -> Result<Stmt, Memory>
     ensures { IfOk result (λ copy. copy ≡ moved by stored statement.now) }
 {
     Ok(match statement {
@@ -81,21 +81,15 @@ fn moved(alloc: Global, statement: &Stmt, by: u64, stored: u64) -> Result<Stmt, 
         Stmt::State(state) => Stmt::State(sum(*state, stored)?),
         Stmt::Need(units) => Stmt::Need(*units),
         Stmt::Try(block) => Stmt::Try(sum(*block, by)?),
-        Stmt::Cond(cond) => Stmt::Cond(ByteText::copy_of(alloc, cond.as_slice())?),
-        Stmt::Tag(tag, many, from) => {
-            Stmt::Tag(ByteText::copy_of(alloc, tag.as_slice())?, *many, *from)
-        }
+        Stmt::Cond(cond) => Stmt::Cond(cond.share()?),
+        Stmt::Tag(tag, many, from) => Stmt::Tag(tag.share()?, *many, *from),
         Stmt::Count(groups) => Stmt::Count(*groups),
         Stmt::End(place, register) => Stmt::End(*place, *register),
         Stmt::Back(register) => Stmt::Back(*register),
         Stmt::Goto(block) => Stmt::Goto(sum(*block, by)?),
         Stmt::Leave => Stmt::Leave,
-        Stmt::Code(rule, line, code) => Stmt::Code(
-            *rule,
-            line_copy(alloc, line)?,
-            ByteText::copy_of(alloc, code.as_slice())?,
-        ),
-        Stmt::Jump(cond, rule) => Stmt::Jump(ByteText::copy_of(alloc, cond.as_slice())?, *rule),
+        Stmt::Code(rule, line, code) => Stmt::Code(*rule, shared_line(line)?, code.share()?),
+        Stmt::Jump(cond, rule) => Stmt::Jump(cond.share()?, *rule),
     })
 }
 
@@ -105,7 +99,7 @@ fn moved_code(alloc: Global, code: &[Stmt], by: u64, stored: u64) -> Result<Vec<
 {
     let mut copy = Vec::with_capacity(alloc, code.len())?;
     for statement in code {
-        copy.push(moved(alloc, statement, by, stored)?)?;
+        copy.push(moved(statement, by, stored)?)?;
     }
     Ok(copy)
 }
@@ -210,7 +204,7 @@ pub(crate) fn append_like(
 {
     let begin = blocks.len();
     append_copy(alloc, blocks, front, input, by, begin as u64, first)?;
-    label(alloc, blocks, begin, input.cond)?;
+    label(blocks, begin, input.cond)?;
     let next = sum(first, front.asked)?;
     Ok(next)
 }

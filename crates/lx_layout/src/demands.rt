@@ -7,7 +7,7 @@ ghost use Rattle.lx_layout.specs.RefillCounts.{turn_count};
 
 use crate::rule_ends::RuleEnd;
 use lx_auto::Auto;
-use lx_base::ByteText;
+use lx_shared::SharedText;
 
 /// How a scanner gets its units, before the states that it stores have numbers.
 #[derive(Clone, Copy)]
@@ -26,7 +26,7 @@ pub(crate) struct Demand<'a> {
 #[derive(Clone, Copy)]
 pub(crate) struct PartInput<'a> {
     /// The name of its condition, if it has one.
-    pub cond: &'a Option<ByteText>,
+    pub cond: &'a Option<SharedText>,
     pub demand: Demand<'a>,
     /// The greatest unit.
     pub greatest: u32,

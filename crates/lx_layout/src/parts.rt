@@ -22,8 +22,9 @@ use crate::part_states::append_states;
 use crate::rule_endings::{end_rule_code, ending_code};
 use crate::rule_ends::{EndIndex, index_of};
 use crate::state_plans::part_plans;
-use lx_base::{ByteText, Memory};
+use lx_base::Memory;
 use lx_ccode::CodeBlock;
+use lx_shared::SharedText;
 use std::alloc::Global;
 
 /// Appends the blocks of the ends of rules.
@@ -158,10 +159,9 @@ fn append_unlabelled(
 
 /// Makes the block with the number `begin` that at which the scanner of a condition begins.
 pub(crate) fn label(
-    alloc: Global,
     blocks: &mut Vec<CodeBlock>,
     begin: usize,
-    cond: &Option<ByteText>,
+    cond: &Option<SharedText>,
 ) -> Result<(), Memory>
     ensures { OnOk result ((front : List CodeBlock) (codes : List (List Stmt)) → blocks.old.items ≡ front ++ unlabelled codes → begin ≡ length front
         → blocks.new.items ≡ front ++ labelled cond.now codes) }
@@ -170,7 +170,7 @@ pub(crate) fn label(
         return Ok(());
     };
     if begin < blocks.len() {
-        let name = ByteText::copy_of(alloc, cond.as_slice())?;
+        let name = cond.share()?;
         blocks[begin].cond = Some(name);
     }
     Ok(())
@@ -191,6 +191,6 @@ pub(crate) fn append_part(
 {
     let begin = blocks.len();
     let next = append_unlabelled(alloc, blocks, input, begin as u64, first)?;
-    label(alloc, blocks, begin, input.cond)?;
+    label(blocks, begin, input.cond)?;
     Ok(next)
 }

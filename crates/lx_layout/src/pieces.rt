@@ -22,11 +22,12 @@ use crate::parts::append_part;
 use crate::rule_ends::RuleEnd;
 use crate::switches::{cond_cases, names_register_one, state_cases};
 use lx_auto::Auto;
-use lx_base::{ByteText, Enc, Memory, Names, Sequence};
+use lx_base::{Enc, Memory, Names, Sequence};
 use lx_ccode::{
     CodeBlock, Head, LineMark, Mode, Piece, StateCase, count_statements, mregs_of, regs_of,
 };
 use lx_encode::{greatest_unit, unit_bytes};
+use lx_shared::SharedText;
 use std::alloc::Global;
 
 /// What a piece is beside its scanners.
@@ -58,7 +59,7 @@ pub struct PieceForm {
 #[derive(Clone, Copy)]
 pub struct ScannerInput<'a, 'b> {
     /// The name of its condition, if it has one.
-    pub cond: &'a Option<ByteText>,
+    pub cond: &'a Option<SharedText>,
     pub auto: &'a Auto,
     /// By how much the numbers of its rules are greater than those of its automaton, where that is the automaton of the first scanner.
     pub by: Option<u32>,

@@ -10,6 +10,7 @@ use lx_auto::Held;
 use lx_base::{ByteText, Memory};
 use lx_ccode::{LineMark, Stmt};
 use lx_regex::Tag;
+use lx_shared::{Shared, SharedText};
 use std::alloc::Global;
 
 /// The statement that gives a tag its value. Statements count registers from 1 and histories from 0.
@@ -17,7 +18,7 @@ fn tag_code(alloc: Global, held: Held, name: &ByteText) -> Result<Stmt, Memory>
     requires { IsHeld 1073741824 1073741824 held }
     ensures { IfOk result (λ stmt. stmt ≡ tag_code held name.now) }
 {
-    let name = ByteText::copy_of(alloc, name.as_slice())?;
+    let name = SharedText::copy_of(alloc, name.as_slice())?;
     Ok(match held {
         Held::Reg(reg) => Stmt::Tag(name, false, reg + 1),
         Held::MReg(mreg) => Stmt::Tag(name, true, mreg),
@@ -121,35 +122,35 @@ fn append_back(stmts: &mut Vec<Stmt>, held: Option<Held>) -> Result<(), Memory>
 }
 
 /// Appends the statement that sets the condition that a rule goes to, if it goes to one.
-fn append_cond(alloc: Global, stmts: &mut Vec<Stmt>, goes: &Option<ByteText>) -> Result<(), Memory>
+fn append_cond(stmts: &mut Vec<Stmt>, goes: &Option<SharedText>) -> Result<(), Memory>
     ensures { OnOk result (stmts.new.items ≡ stmts.old.items ++ cond_code goes.now []) }
 {
     if let Some(cond) = goes {
-        stmts.push(Stmt::Cond(ByteText::copy_of(alloc, cond.as_slice())?))?;
+        stmts.push(Stmt::Cond(cond.share()?))?;
     }
     Ok(())
 }
 
-/// A copy of where an action stands.
-pub(crate) fn line_copy(alloc: Global, line: &Option<LineMark>) -> Result<Option<LineMark>, Memory>
-    ensures { IfOk result (λ copy. copy ≡ line.now) }
+/// Where an action stands, once more.
+pub(crate) fn shared_line(line: &Option<LineMark>) -> Result<Option<LineMark>, Memory>
+    ensures { IfOk result (λ same. same ≡ line.now) }
 {
     match line {
         None => Ok(None),
         Some(mark) => Ok(Some(LineMark {
             line: mark.line,
-            file: ByteText::copy_of(alloc, mark.file.as_slice())?,
+            file: mark.file.share()?,
         })),
     }
 }
 
-/// A copy of a name, or the empty name.
-fn name_or_none(alloc: Global, name: &Option<ByteText>) -> Result<ByteText, Memory>
-    ensures { IfOk result (λ copy. copy ≡ name_or_none name.now) }
+/// The name, or the empty one.
+fn name_or_none(alloc: Global, name: &Option<SharedText>) -> Result<SharedText, Memory>
+    ensures { IfOk result (λ same. same ≡ name_or_none name.now) }
 {
     match name {
-        None => Ok(ByteText::new(alloc)),
-        Some(name) => ByteText::copy_of(alloc, name.as_slice()),
+        None => Shared::of(alloc, ByteText::new(alloc)),
+        Some(name) => name.share(),
     }
 }
 
@@ -159,11 +160,7 @@ fn action_code(alloc: Global, end: &RuleEnd<'_>) -> Result<Stmt, Memory>
 {
     match end.action {
         None => Ok(Stmt::Jump(name_or_none(alloc, end.goes)?, end.rule.number)),
-        Some(action) => Ok(Stmt::Code(
-            end.rule.number,
-            line_copy(alloc, &end.line)?,
-            ByteText::copy_of(alloc, action.as_slice())?,
-        )),
+        Some(action) => Ok(Stmt::Code(end.rule.number, shared_line(&end.line)?, action.share()?)),
     }
 }
 
@@ -177,7 +174,7 @@ fn end_code(alloc: Global, end: &RuleEnd<'_>, values: &[Held]) -> Result<Vec<Stm
     let mut stmts = Vec::with_capacity(alloc, values.len() + fixed)?;
     append_tags(alloc, &mut stmts, end, values)?;
     append_back(&mut stmts, slash_held(end.rule.slash, values))?;
-    append_cond(alloc, &mut stmts, end.goes)?;
+    append_cond(&mut stmts, end.goes)?;
     stmts.push(action_code(alloc, end)?)?;
     Ok(stmts)
 }

@@ -3,9 +3,10 @@ ghost use Rattle.std.specs.Prelude.{◌≡◌, None, IfOk, MatchOption};
 ghost use Rattle.lx_layout.specs.RuleEnds.{AreEndsIndexed, ending_of, endings_of, end_place, no_ending};
 
 use crate::number_index::NumberIndex;
-use lx_base::{ByteText, Memory};
+use lx_base::Memory;
 use lx_ccode::LineMark;
 use lx_regex::Rule;
+use lx_shared::SharedText;
 use std::alloc::Global;
 
 /// What a rule does at its end.
@@ -13,9 +14,9 @@ use std::alloc::Global;
 pub struct RuleEnd<'a> {
     pub rule: &'a Rule,
     /// The condition that it goes to.
-    pub goes: &'a Option<ByteText>,
+    pub goes: &'a Option<SharedText>,
     /// Its action, with the braces.
-    pub action: &'a Option<ByteText>,
+    pub action: &'a Option<SharedText>,
     /// The line where the action stands, where that is told.
     pub line: Option<LineMark>,
 }

@@ -6,7 +6,7 @@ ghost use Rattle.lx_ccode.specs.States.{states_from, states_in, try_first};
 ghost use Rattle.lx_ccode.specs.Statements.{all_statements, has_register_one};
 ghost use Rattle.lx_layout.specs.Switches.{cond_cases};
 
-use lx_base::{ByteText, Memory};
+use lx_base::Memory;
 use lx_ccode::{CodeBlock, CondCase, StateCase, Stmt, has_register_one};
 use std::alloc::Global;
 
@@ -57,7 +57,7 @@ pub(crate) fn cond_cases(alloc: Global, blocks: &[CodeBlock]) -> Result<Vec<Cond
     for (block, code) in blocks.iter().enumerate() {
         if let Some(cond) = &code.cond {
             cases.push(CondCase {
-                cond: ByteText::copy_of(alloc, cond.as_slice())?,
+                cond: cond.share()?,
                 block: block as u64,
             })?;
         }

@@ -1,5 +1,6 @@
 pub mod EqualValues
 pub mod Images
+pub mod RenumberedByNothing
 pub mod RenumberedReads
 pub mod RenumberedRules
 pub mod RenumberedRuns

@@ -1,5 +1,5 @@
 -- Rules and automata with greater numbers of rules.
-use Rattle.std.specs.Prelude.{ℕ, ◌+◌, map, option_map, Option, Some, None}
+use Rattle.std.specs.Prelude.{ℕ, ◌+◌, ◌<◌, ◌^◌, All, IfSome, map, option_map, Option, Some, None}
 use Rattle.lx_auto.specs.declared.automaton.Accept.{Accept}
 use Rattle.lx_auto.specs.declared.automaton.Auto.{Auto}
 use Rattle.lx_auto.specs.declared.automaton.State.{State}
@@ -22,6 +22,14 @@ module _ (by : ℕ) where
   -- the automaton
   abbrev pub renumbered : Auto → Auto
   renumbered auto = record auto { states = map renumbered_state auto.states }
+
+  -- the number of the rule that a state accepts has 32 bits then
+  abbrev pub StateFits : State → Type 0
+  StateFits state = IfSome state.accept (λ accept. accept.rule + by < 2 ^ 32)
+
+  -- each number of a rule has 32 bits then
+  abbrev pub Fits : Auto → Type 0
+  Fits auto = All StateFits auto.states
 
 -- the automaton itself, or with greater numbers if it is said by how much
 abbrev pub based : Option ℕ → Auto → Auto

@@ -1,9 +1,10 @@
-//! Copies of automata, with greater numbers of rules.
-ghost use Rattle.std.specs.Prelude.{◌≡◌, IfOk, IfSome};
-ghost use Rattle.lx_renumber.specs.Renumbered.{renumbered, renumbered_state};
+//! Automata with greater numbers of rules.
+ghost use Rattle.std.specs.Prelude.{◌≡◌, IfOk, IfSome, IsSome};
+ghost use Rattle.lx_renumber.specs.Renumbered.{Fits, StateFits, renumbered, renumbered_state};
 
 use lx_auto::{Accept, Auto, Edge, Ops, State};
 use lx_base::{Memory, Sequence};
+use lx_shared::Shared;
 use std::alloc::Global;
 
 /// The same operations.
@@ -35,7 +36,8 @@ fn copied_edges(alloc: Global, edges: &[Edge]) -> Result<Sequence<Edge>, Memory>
 
 /// The state with a greater number of the rule that it accepts, if that fits.
 fn copied_state(alloc: Global, state: &State, by: u32) -> Result<Option<State>, Memory>
-    ensures { IfOk result (λ answer. IfSome answer (λ copy. copy ≡ renumbered_state by state.now)) }
+    ensures copy { IfOk result (λ answer. IfSome answer (λ copy. copy ≡ renumbered_state by state.now)) }
+    ensures fits { StateFits by state.now → IfOk result IsSome }
 {
     let accept = match &state.accept {
         None => None,
@@ -58,8 +60,9 @@ fn copied_state(alloc: Global, state: &State, by: u32) -> Result<Option<State>, 
 }
 
 /// A copy of an automaton in which each number of a rule is greater by so much. `None` where one does not fit into 32 bits.
-pub fn copied(alloc: Global, auto: &Auto, by: u32) -> Result<Option<Auto>, Memory>
-    ensures { IfOk result (λ answer. IfSome answer (λ copy. copy ≡ renumbered by auto.now)) }
+fn copied_auto(alloc: Global, auto: &Auto, by: u32) -> Result<Option<Auto>, Memory>
+    ensures copy { IfOk result (λ answer. IfSome answer (λ copy. copy ≡ renumbered by auto.now)) }
+    ensures fits { Fits by auto.now → IfOk result IsSome }
 {
     let states = auto.states.as_slice();
     let mut copies = Vec::with_capacity(alloc, states.len())?;
@@ -74,4 +77,23 @@ pub fn copied(alloc: Global, auto: &Auto, by: u32) -> Result<Option<Auto>, Memor
         regs: auto.regs,
         mregs: auto.mregs,
     }))
+}
+
+/// The automaton in which each number of a rule is greater by so much: the same one, shared, where that is nothing, and else a copy.
+/// `None` only where a number does not fit into 32 bits.
+pub fn renumbered(
+    alloc: Global,
+    auto: &Shared<Auto>,
+    by: u32,
+) -> Result<Option<Shared<Auto>>, Memory>
+    ensures copy { IfOk result (λ answer. IfSome answer (λ copy. copy ≡ renumbered by auto.now)) }
+    ensures fits { Fits by auto.now → IfOk result IsSome }
+{
+    if by == 0 {
+        return Ok(Some(auto.share()?));
+    }
+    match copied_auto(alloc, auto.get(), by)? {
+        None => Ok(None),
+        Some(copy) => Ok(Some(Shared::of(alloc, copy)?)),
+    }
 }

@@ -6,6 +6,6 @@ mod expressions;
 mod repeats;
 mod rules;
 
-pub use copies::copied;
+pub use copies::renumbered;
 pub use repeats::Repeats;
 pub use rules::difference;

@@ -8,7 +8,8 @@ ghost use Rattle.lx_rules.specs.Items.{TargetChecks, act_of};
 
 use crate::items::Block;
 use crate::resolved::Act;
-use lx_base::{ByteText, Fault, Memory, Pos, Stop};
+use lx_base::{Fault, Memory, Pos, Stop};
+use lx_shared::SharedText;
 use std::alloc::Global;
 
 /// The place of the `=>` or `:=>` before a target.
@@ -50,13 +51,13 @@ fn target_name(
     alloc: Global,
     block: Block<'_>,
     goes: Option<u32>,
-) -> Result<Option<ByteText>, Memory>
+) -> Result<Option<SharedText>, Memory>
     ensures { IfOk result (λ name. name ≡ option_map (λ target. (nth_lexeme (lexemes_view block.entry.lexemes) target).text) goes) }
 {
     match goes {
         Some(target) => {
             let lexeme = block.lexemes.at(target as usize);
-            Ok(Some(ByteText::copy_of(alloc, lexeme.text)?))
+            Ok(Some(SharedText::copy_of(alloc, lexeme.text)?))
         }
         None => Ok(None),
     }
@@ -89,7 +90,7 @@ pub(crate) fn act(
             Ok(Act {
                 number,
                 goes: name,
-                code: Some(ByteText::copy_of(alloc, lexeme.text)?),
+                code: Some(SharedText::copy_of(alloc, lexeme.text)?),
                 at: lexeme.at,
             })
         }

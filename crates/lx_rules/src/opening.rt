@@ -14,17 +14,18 @@ use crate::environment::{Env, KeptBlock, Settings};
 use crate::items::Known;
 use crate::kept::KeptRule;
 use crate::resolved::Act;
-use lx_base::{BlockKind, ByteText, Fault, Memory, Pos, Stop};
+use lx_base::{BlockKind, Fault, Memory, Pos, Stop};
 use lx_exprs::definitions::Definitions;
+use lx_shared::SharedText;
 use std::alloc::Global;
 use std::rc::Rc;
 
-/// A copy of a text, if there is one.
-fn text_copy(alloc: Global, text: &Option<ByteText>) -> Result<Option<ByteText>, Memory>
-    ensures { IfOk result (λ copy. copy ≡ text.now) }
+/// The same text, if there is one.
+fn shared_text(text: &Option<SharedText>) -> Result<Option<SharedText>, Memory>
+    ensures { IfOk result (λ same. same ≡ text.now) }
 {
     match text {
-        Some(text) => Ok(Some(ByteText::copy_of(alloc, text.as_slice())?)),
+        Some(text) => Ok(Some(text.share()?)),
         None => Ok(None),
     }
 }
@@ -33,12 +34,12 @@ fn text_copy(alloc: Global, text: &Option<ByteText>) -> Result<Option<ByteText>,
 fn act_copies(alloc: Global, acts: &[Act]) -> Result<Vec<Act>, Memory>
     ensures { IfOk result (λ copies. copies.items ≡ acts.now) }
 {
-    let mut copies = Vec::new(alloc);
+    let mut copies = Vec::with_capacity(alloc, acts.len())?;
     for act in acts {
         copies.push(Act {
             number: act.number,
-            goes: text_copy(alloc, &act.goes)?,
-            code: text_copy(alloc, &act.code)?,
+            goes: shared_text(&act.goes)?,
+            code: shared_text(&act.code)?,
             at: act.at,
         })?;
     }

@@ -3,13 +3,14 @@ ghost use Rattle.std.specs.Prelude.{◌≡◌, option_copied};
 ghost use Rattle.lx_regex.specs.Pattern.{end_rule, patterns_of};
 ghost use Rattle.lx_rules.specs.Numbered.{numbered_act};
 
-use lx_base::{ByteText, Names, Pos, Sequence};
+use lx_base::{Names, Pos, Sequence};
 use lx_regex::{Kind, Rule, RuleSet};
+use lx_shared::SharedText;
 
 /// A scanner: the rules that stand under one condition, or all rules of a block where conditions are not in use.
 pub struct Scanner {
     /// The name of the condition.
-    pub cond: Option<ByteText>,
+    pub cond: Option<SharedText>,
     pub set: RuleSet,
 }
 
@@ -24,9 +25,9 @@ pub struct Act {
     /// The number of the rule, which is its place in the block, from 1.
     pub number: u32,
     /// The condition that it goes to.
-    pub goes: Option<ByteText>,
+    pub goes: Option<SharedText>,
     /// Its action with the braces, as it stands in the source.
-    pub code: Option<ByteText>,
+    pub code: Option<SharedText>,
     /// The place of the action's `{`, or that of `:=>`.
     pub at: Pos,
 }

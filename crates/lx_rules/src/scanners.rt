@@ -17,8 +17,9 @@ use crate::items::Known;
 use crate::kept::{KeptRule, is_default, is_end};
 use crate::resolved::Scanner;
 use lx_base::limits::{NESTING_LIMIT, SIZE_LIMIT, TAG_LIMIT};
-use lx_base::{ByteText, Fault, Memory, Pos, Sequence, Stop};
+use lx_base::{Fault, Memory, Pos, Sequence, Stop};
 use lx_regex::RuleSet;
+use lx_shared::SharedText;
 use std::alloc::Global;
 
 /// The rules that have a condition.
@@ -190,11 +191,11 @@ fn scanner_fault(rules: &[&KeptRule], eof: Option<u32>, at: Pos) -> Option<Fault
 }
 
 /// The name of a scanner, which it has where conditions are in use.
-fn cond_name(alloc: Global, named: bool, cond: &[u8]) -> Result<Option<ByteText>, Memory>
+fn cond_name(alloc: Global, named: bool, cond: &[u8]) -> Result<Option<SharedText>, Memory>
     ensures { IfOk result (λ name. name ≡ cond_name named cond.now) }
 {
     if named {
-        Ok(Some(ByteText::copy_of(alloc, cond)?))
+        Ok(Some(SharedText::copy_of(alloc, cond)?))
     } else {
         Ok(None)
     }

@@ -10,13 +10,14 @@ ghost use Rattle.lx_step.specs.Steps.{IsStep, KeepsTables, given_after, machine_
 use crate::conds::cond_number;
 use crate::scanner::{Going, Scanner};
 use crate::slots::Slots;
-use lx_base::{ByteText, Memory};
+use lx_base::Memory;
 use lx_ccode::CondCase;
+use lx_shared::SharedText;
 use std::alloc::Global;
 
 impl Scanner {
     /// Sets the condition, which is one of these.
-    pub(crate) fn set_cond(&mut self, conds: &[CondCase], cond: &ByteText) -> Going
+    pub(crate) fn set_cond(&mut self, conds: &[CondCase], cond: &SharedText) -> Going
         requires { NamesOneOf (map (λ case. case.cond) conds.now) (stmt.Cond cond.now) }
         ensures { (stream : List ℕ) (eof : Option ℕ) → IsStep stream eof conds.now (stmt.Cond cond.now) self.old self.new result }
     {

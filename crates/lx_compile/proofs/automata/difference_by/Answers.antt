@@ -13,6 +13,6 @@ returns-in-Some c =
     let clauses = c.difference.ensures in
     rw c.in-Some.is
     (DiffersBy-renumbered options c.args.scanner.now model serves unasked c.difference.result
-    (rw c.as_slice.ensures at clauses.patterns) ((rw c.as_slice.ensures at clauses.promised) (policy_of options) options.enc serves.automaton)
-    (rw c.as_slice.ensures at clauses.terms) (clauses.apart serves.reduced.states) (clauses.read serves.reduced.operations)
-    (clauses.interfere serves.reduced.registers))
+    (rw c.as_slice.ensures at clauses.patterns) ((rw (c.as_slice.ensures, c.get.ensures) at clauses.promised) (policy_of options) options.enc serves.automaton)
+    (rw c.as_slice.ensures at clauses.terms) ((rw c.get.ensures at clauses.apart) serves.reduced.states)
+    ((rw c.get.ensures at clauses.read) serves.reduced.operations) ((rw c.get.ensures at clauses.interfere) serves.reduced.registers))

@@ -1,6 +1,7 @@
 use Rattle.std.proofs.Common.{◌≡◌, ◌∙◌, ap, sym, ◌<◌, ◌≤◌, ◌∷◌, ◌++◌, Some, refl, drop, map, length, arith}
 use Rattle.std.proofs.lemmas.List.{append-nil}
 use Rattle.std.specs.Prelude.{option_copied}
+use Rattle.lx_auto.specs.declared.automaton.Auto.{Auto}
 use Rattle.lx_layout.specs.PieceViews.{seen_sources}
 use Rattle.lx_layout.specs.RuleEnds.{endings_of}
 use Rattle.lx_renumber.specs.Renumbered.{based}
@@ -19,11 +20,12 @@ loop-place-preserved c =
     let k = c.loop-place.place in
     let scanners = c.args.scanners.now in
     let autos = c.args.autos.now in
-    let first = c.in-Some-Own.first in
+    let first = c.get-auto.result.now in
     let list = c.in-Some-Own.checks in
     let rest = drop 1 autos in
     let begins : autos ≡ Own first list ∷ rest =
-    begins-with autos (Own first list) (sym c.first.ensures.value ∙ ap option_copied c.in-Some-Own.is ∙ ap Some c.in-Some-Own.field-0-is) in
+    begins-with autos (Own c.in-Some-Own.first list) (sym c.first.ensures.value ∙ ap option_copied c.in-Some-Own.is ∙ ap Some c.in-Some-Own.field-0-is)
+    ∙ ap (λ (auto : Auto). Own auto list ∷ rest) (sym c.get-auto.ensures) in
     let counts = autos-count first list rest autos begins in
     let item = c.index-autos-place.result in
     let given = c.given_auto-given.result in
@@ -65,4 +67,4 @@ returns-clause-sources c =
 
 pub returns-clause-like : goal.returns-clause-like
 returns-clause-like c =
-    AreLike-have c.args.scanners.now c.in-Some-Own.first c.in-Some-Own.checks c.loop-place.inputs.items c.loop-place.invariant.like
+    AreLike-have c.args.scanners.now c.get-auto.result.now c.in-Some-Own.checks c.loop-place.inputs.items c.loop-place.invariant.like

@@ -12,6 +12,6 @@ invariant-loop-place l = record {
       ++ sources_with (map (λ one. endings_of one.items) (drop l.place l.ends)) (drop l.place l.scanners) (drop l.place (seen_autos l.autos))
       (drop l.place (seen_checks l.autos))
       ≡ sources_with (map (λ one. endings_of one.items) l.ends) l.scanners (seen_autos l.autos) (seen_checks l.autos);
-  like : HaveLike l.scanners l.first l.checks l.inputs.items;
+  like : HaveLike l.scanners l.auto' l.checks l.inputs.items;
   count : length l.inputs.items ≡ l.place;
 }
