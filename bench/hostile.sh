@@ -16,6 +16,9 @@
 # are done or end for want of it, within 10 s.
 # The third has sources of 16 MiB of one form repeated, which are refused or done. Each may take 10 s, and so may those that are a quarter
 # as long, which show how it grows. What memory they take is told.
+#
+# A run that takes 10 s or more is made up to twice again, and the shortest counts: on a machine that others share, the same run may take
+# twice the time a minute later. The line tells how many runs there were.
 cd "$(dirname "$0")/.." || exit 1
 work=$(mktemp -d) || exit 1
 trap 'rm -rf "$work"' EXIT
@@ -33,6 +36,8 @@ GROWTH = 6.0
 LEAST = 0.05
 # the limits on processor time in seconds, and on memory in MiB
 SECONDS, MEMORY = 10.0, 1024
+# how often a run that takes longer is made, since others may use the same processors
+RUNS = 3
 MIB = 1 << 20
 BEGIN = '/*!re2c\nre2c:yyfill:enable = 0;\n'
 NAMES = ('YYCTYPE YYCURSOR YYLIMIT YYMARKER YYCTXMARKER YYFILL YYGETSTATE YYSETSTATE YYGETCONDITION YYSETCONDITION '
@@ -111,7 +116,7 @@ _, status, usage = os.wait4(child, 0)
 print(os.waitstatus_to_exitcode(status), usage.ru_utime + usage.ru_stime, usage.ru_maxrss)
 """
 
-def measured(words, memory=16 * MEMORY):
+def once(words, memory):
     """The status, the seconds of processor time, the MiB and the message with which it ends; a run much past its limits is ended, and one
     gets no more MiB than that."""
     limits = [str(6 * int(SECONDS)), str(memory * MIB)]
@@ -119,6 +124,14 @@ def measured(words, memory=16 * MEMORY):
     status, seconds, peak = ran.stdout.split()
     with open('err', errors='replace') as told:
         return int(status), float(seconds), int(peak) / 1024, told.read().strip().rpartition('error: ')[2]
+
+def measured(words, memory=16 * MEMORY):
+    """The same of the shortest of up to RUNS runs, which are made while one takes longer than it may."""
+    results = [once(words, memory)]
+    while results[-1][1] >= SECONDS and len(results) < RUNS:
+        results.append(once(words, memory))
+    status, seconds, peak, message = min(results, key=lambda result: result[1])
+    return status, seconds, peak, message + (f' (the best of {len(results)} runs)' if len(results) > 1 else '')
 
 def file(name, text):
     with open(name, 'w') as given:
@@ -245,7 +258,7 @@ LIMITS = {
 print('\nlimits: the greatest number, and one more, with the status of this')
 for name, (make, most, message) in LIMITS.items():
     taken, refused = measured(make(most)), measured(make(most + 1))
-    told = 'refused' if taken[0] else '' if refused[0] == 1 and refused[3] == message else 'not refused'
+    told = 'refused' if taken[0] else '' if refused[0] == 1 and refused[3].startswith(message) else 'not refused'
     wrong = excess(taken) or excess(refused) or told
     tell(f'{name}, {most}', [taken, refused], wrong)
 
