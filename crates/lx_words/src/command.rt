@@ -1,11 +1,51 @@
 //! The command by which the words are read.
-ghost use Rattle.std.specs.Prelude.{◌≡◌, IfOk, option_map, true, false};
+ghost use Rattle.std.specs.Prelude.{◌≡◌, IfOk, map, option_map, true, false};
 ghost use Rattle.clap.specs.Words.{app_of, rule_of, with_rule};
-ghost use Rattle.lx_words.specs.Command.{bare_command, option_rule, with_encodings, with_features, with_files, with_runs, words_command};
+ghost use Rattle.lx_words.specs.Command.{bare_command, option_rule, with_options, words_command};
 
 use clap::{Arg, ArgAction, Command};
 use lx_base::Memory;
 use std::alloc::Global;
+
+/// An option: the name by which what was read of it is found, and its short and its long spelling.
+type Spelling = (&'static str, Option<char>, Option<&'static str>);
+
+/// The file, and where the output goes and includes are: each has a value, and stands at most once.
+const FILES: [Spelling; 3] = [
+    ("file", None, None),
+    ("output", Some('o'), Some("output")),
+    ("include", Some('I'), None),
+];
+
+/// What is compiled, how, and in which encoding: flags, which may be repeated.
+const FLAGS: [Spelling; 14] = [
+    ("no-debug-info", Some('i'), Some("no-debug-info")),
+    ("conditions", Some('c'), Some("conditions")),
+    ("storable-state", Some('f'), Some("storable-state")),
+    ("reusable", Some('r'), None),
+    ("tags", Some('T'), Some("tags")),
+    ("nested-ifs", Some('s'), Some("nested-ifs")),
+    ("captures", None, Some("captures")),
+    ("posix", Some('P'), None),
+    ("warnings", Some('W'), None),
+    ("x-cover", None, Some("x-cover")),
+    ("utf-8", Some('8'), Some("utf-8")),
+    ("utf-16", Some('x'), Some("utf-16")),
+    ("utf-32", Some('u'), None),
+    ("ucs-2", Some('w'), None),
+];
+
+/// Policies, how input is read, and what runs and generated sources take: each has a value, and stands at most once.
+const VALUES: [Spelling; 8] = [
+    ("encoding-policy", None, Some("encoding-policy")),
+    ("empty-class", None, Some("empty-class")),
+    ("input", None, Some("input")),
+    ("x-run", None, Some("x-run")),
+    ("x-block", None, Some("x-block")),
+    ("x-window", None, Some("x-window")),
+    ("x-piece", None, Some("x-piece")),
+    ("x-source", None, Some("x-source")),
+];
 
 /// An option, by its short and its long spelling.
 fn option<'a>(
@@ -29,6 +69,15 @@ fn option<'a>(
     }
 }
 
+/// The command without options.
+fn bare_command<'a>(alloc: Global) -> Command<'a>
+    ensures { app_of result ≡ bare_command }
+{
+    Command::new(alloc, "re2c")
+        .no_binary_name(true)
+        .disable_help_flag(true)
+}
+
 /// The command with an option more.
 fn with_option<'a>(
     alloc: Global,
@@ -43,117 +92,27 @@ fn with_option<'a>(
     Ok(command.arg(option(alloc, id, short, long, action))?)
 }
 
-/// The command without options.
-fn bare_command<'a>(alloc: Global) -> Command<'a>
-    ensures { app_of result ≡ bare_command }
+/// The command with options more.
+fn with_options<'a>(
+    alloc: Global,
+    command: Command<'a>,
+    options: &[Spelling],
+    action: ArgAction,
+) -> Result<Command<'a>, Memory>
+    ensures { IfOk result (λ longer. app_of longer ≡ with_options (map (λ row. option_rule row.0.now row.1 (option_map (λ name. name.now) row.2) action) options.now) (app_of command.entry)) }
 {
-    Command::new(alloc, "re2c")
-        .no_binary_name(true)
-        .disable_help_flag(true)
-}
-
-/// The command with the file, and with where the output goes and where includes are.
-fn with_files<'a>(alloc: Global, command: Command<'a>) -> Result<Command<'a>, Memory>
-    ensures { IfOk result (λ longer. app_of longer ≡ with_files (app_of command.entry)) }
-{
-    let set = ArgAction::Set;
-    let command = with_option(alloc, command, "file", None, None, set)?;
-    let command = with_option(alloc, command, "output", Some('o'), Some("output"), set)?;
-    with_option(alloc, command, "include", Some('I'), None, set)
-}
-
-/// The command with the flags that say what is compiled, and how.
-fn with_features<'a>(alloc: Global, command: Command<'a>) -> Result<Command<'a>, Memory>
-    ensures { IfOk result (λ longer. app_of longer ≡ with_features (app_of command.entry)) }
-{
-    let count = ArgAction::Count;
-    let command = with_option(
-        alloc,
-        command,
-        "no-debug-info",
-        Some('i'),
-        Some("no-debug-info"),
-        count,
-    )?;
-    let command = with_option(
-        alloc,
-        command,
-        "conditions",
-        Some('c'),
-        Some("conditions"),
-        count,
-    )?;
-    let command = with_option(
-        alloc,
-        command,
-        "storable-state",
-        Some('f'),
-        Some("storable-state"),
-        count,
-    )?;
-    let command = with_option(alloc, command, "reusable", Some('r'), None, count)?;
-    let command = with_option(alloc, command, "tags", Some('T'), Some("tags"), count)?;
-    let command = with_option(
-        alloc,
-        command,
-        "nested-ifs",
-        Some('s'),
-        Some("nested-ifs"),
-        count,
-    )?;
-    let command = with_option(alloc, command, "captures", None, Some("captures"), count)?;
-    let command = with_option(alloc, command, "posix", Some('P'), None, count)?;
-    let command = with_option(alloc, command, "warnings", Some('W'), None, count)?;
-    with_option(alloc, command, "x-cover", None, Some("x-cover"), count)
-}
-
-/// The command with encodings and policies, and with how input is read.
-fn with_encodings<'a>(alloc: Global, command: Command<'a>) -> Result<Command<'a>, Memory>
-    ensures { IfOk result (λ longer. app_of longer ≡ with_encodings (app_of command.entry)) }
-{
-    let count = ArgAction::Count;
-    let set = ArgAction::Set;
-    let command = with_option(alloc, command, "utf-8", Some('8'), Some("utf-8"), count)?;
-    let command = with_option(alloc, command, "utf-16", Some('x'), Some("utf-16"), count)?;
-    let command = with_option(alloc, command, "utf-32", Some('u'), None, count)?;
-    let command = with_option(alloc, command, "ucs-2", Some('w'), None, count)?;
-    let command = with_option(
-        alloc,
-        command,
-        "encoding-policy",
-        None,
-        Some("encoding-policy"),
-        set,
-    )?;
-    let command = with_option(
-        alloc,
-        command,
-        "empty-class",
-        None,
-        Some("empty-class"),
-        set,
-    )?;
-    with_option(alloc, command, "input", None, Some("input"), set)
-}
-
-/// The command with the options of runs and of generated sources.
-fn with_runs<'a>(alloc: Global, command: Command<'a>) -> Result<Command<'a>, Memory>
-    ensures { IfOk result (λ longer. app_of longer ≡ with_runs (app_of command.entry)) }
-{
-    let set = ArgAction::Set;
-    let command = with_option(alloc, command, "x-run", None, Some("x-run"), set)?;
-    let command = with_option(alloc, command, "x-block", None, Some("x-block"), set)?;
-    let command = with_option(alloc, command, "x-window", None, Some("x-window"), set)?;
-    let command = with_option(alloc, command, "x-piece", None, Some("x-piece"), set)?;
-    with_option(alloc, command, "x-source", None, Some("x-source"), set)
+    let mut command = command;
+    for (id, short, long) in options {
+        command = with_option(alloc, command, id, *short, *long, action)?;
+    }
+    Ok(command)
 }
 
 /// The command by which the words are read.
 pub fn words_command<'a>(alloc: Global) -> Result<Command<'a>, Memory>
     ensures { IfOk result (λ command. app_of command ≡ words_command) }
 {
-    let command = with_files(alloc, bare_command(alloc))?;
-    let command = with_features(alloc, command)?;
-    let command = with_encodings(alloc, command)?;
-    with_runs(alloc, command)
+    let command = with_options(alloc, bare_command(alloc), &FILES, ArgAction::Set)?;
+    let command = with_options(alloc, command, &FLAGS, ArgAction::Count)?;
+    with_options(alloc, command, &VALUES, ArgAction::Set)
 }
