@@ -68,16 +68,6 @@ fn warning_place(at: Pos, acts: &[Act], warning: &Warning) -> Pos
     }
 }
 
-/// A condition's name, if there is one.
-fn shared_name(cond: &Option<SharedText>) -> Result<Option<SharedText>, Memory>
-    ensures { IfOk result (λ same. same ≡ cond.now) }
-{
-    match cond {
-        None => Ok(None),
-        Some(name) => Ok(Some(name.share()?)),
-    }
-}
-
 /// A warning of the scanner of a condition, at its place.
 fn placed(
     at: Pos,
@@ -88,7 +78,7 @@ fn placed(
     ensures { IfOk result (λ one. one ≡ placed at acts.now cond.now warning) }
 {
     let at = warning_place(at, acts, &warning);
-    let cond = shared_name(cond)?;
+    let cond = SharedText::share_option(cond)?;
     Ok(PlacedWarning { at, cond, warning })
 }
 

@@ -20,16 +20,6 @@ use lx_shared::SharedText;
 use std::alloc::Global;
 use std::rc::Rc;
 
-/// The same text, if there is one.
-fn shared_text(text: &Option<SharedText>) -> Result<Option<SharedText>, Memory>
-    ensures { IfOk result (λ same. same ≡ text.now) }
-{
-    match text {
-        Some(text) => Ok(Some(text.share()?)),
-        None => Ok(None),
-    }
-}
-
 /// Copies of what rules do.
 fn act_copies(alloc: Global, acts: &[Act]) -> Result<Vec<Act>, Memory>
     ensures { IfOk result (λ copies. copies.items ≡ acts.now) }
@@ -38,8 +28,8 @@ fn act_copies(alloc: Global, acts: &[Act]) -> Result<Vec<Act>, Memory>
     for act in acts {
         copies.push(Act {
             number: act.number,
-            goes: shared_text(&act.goes)?,
-            code: shared_text(&act.code)?,
+            goes: SharedText::share_option(&act.goes)?,
+            code: SharedText::share_option(&act.code)?,
             at: act.at,
         })?;
     }

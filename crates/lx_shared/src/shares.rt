@@ -39,6 +39,16 @@ impl<T: Drop> Shared<T> {
         })
     }
 
+    /// The same value for one more owner, where there is one. It takes no memory; want of memory is answered as by `share`.
+    pub fn share_option(value: &Option<Self>) -> Result<Option<Self>, Memory>
+        ensures { IfOk result (λ same. same ≡ value.now) }
+    {
+        match value {
+            Some(value) => Ok(Some(value.share()?)),
+            None => Ok(None),
+        }
+    }
+
     /// The value. It takes no memory.
     pub fn get(&self) -> &T
         ensures { result.now ≡ self.now }

@@ -15,9 +15,6 @@ pub record Skips (text rest : List ℕ) : Type 0 where
   pub enough : length rest ≤ steps
   pub same : after_blanks steps rest ≡ after_blanks (length text) text
 
-pub Skips-start : (text : List ℕ) → Skips text text
-Skips-start text = record { steps = length text; enough = omega arith; same = refl }
-
 module _ (text rest : List ℕ) where
   next_at : (steps : ℕ) (next : List ℕ) → after_blank rest ≡ Some next → length next < length rest → length rest ≤ steps →
       after_blanks steps rest ≡ after_blanks (length text) text → Skips text next

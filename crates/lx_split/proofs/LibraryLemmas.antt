@@ -9,9 +9,7 @@ use Rattle.lx_files.specs.Counts.{Rose}
 use Rattle.lx_files.specs.Held.{Sees, bytes_of}
 use Rattle.lx_files.specs.declared.files.HeldFile.{HeldFile}
 use Rattle.lx_split.specs.declared.library.Library.{Library}
-use Rattle.lx_split.specs.declared.expanding.ExpandStop.{ExpandStop}
-use Rattle.lx_split.specs.declared.expanding.ExpandStop.TheVariants as stops
-use Rattle.lx_split.specs.Includes.{StopsRead, file_or, first_file}
+use Rattle.lx_split.specs.Includes.{file_or, first_file}
 use Rattle.lx_split.specs.Libraries.{Agrees, IsReadFrom, ReadsOn, known, known_bytes, known_file}
 
 -- an entry behind others is found where they have none that passes
@@ -117,21 +115,6 @@ ReadsOn-more held before after name answer unknown added given = record {
   read = read-more held before after name answer unknown added given;
 }
 
--- nothing more was read
-pub ReadsOn-kept : (held : Option (List HeldFile)) (before after : Library) → ((other : List ℕ) → known after other ≡ known before other) → ReadsOn held before after
-ReadsOn-kept held before after kept = record {
-  agrees = λ seen agrees other found is. agrees other found (kept other ∙ is);
-  read = λ from. record {
-    seen = from.seen;
-    sees = from.sees;
-    agrees = λ other found is. from.agrees other found (sym (kept other) ∙ is);
-    others = λ untold other none. from.others untold other (sym (kept other) ∙ none);
-  };
-}
-
-pub ReadsOn-same : (held : Option (List HeldFile)) (library : Library) → ReadsOn held library library
-ReadsOn-same held library = record { agrees = λ seen agrees. agrees; read = λ from. from }
-
 -- first from files that hold this, and then from files that hold the same
 pub ReadsOn-trans : (held held' : Option (List HeldFile)) (first second third : Library) → held' ≡ held → ReadsOn held first second → ReadsOn held' second third →
     ReadsOn held first third
@@ -148,11 +131,6 @@ IsReadFrom-empty None library none = record { seen = []; sees = tt; agrees = λ 
 -- a count that rose from a later value rose from an earlier one
 pub Rose-from : (first second third : ℕ) → first ≤ second → Rose second third → Rose first third
 Rose-from first second third le rose = λ less. rose (omega arith)
-
-pub StopsRead-from : (first second third : ℕ) (stop : ExpandStop) → first ≤ second → StopsRead (Rose second third) stop → StopsRead (Rose first third) stop
-StopsRead-from first second third stops.Memory le stop = tt
-StopsRead-from first second third (stops.Fault fault) le stop = stop
-StopsRead-from first second third stops.ReadFailed le stop = Rose-from first second third le stop
 
 pub missing-given : (held : Option (List HeldFile)) (CountRose : Type 0) (name : List ℕ) → MatchOption held CountRose (λ files. bytes_of files name ≡ None) →
     IfSome held (λ files. bytes_of files name ≡ None)

@@ -11,9 +11,6 @@ pub record Passes (kind : BlockKind) (text rest : List ℕ) : Type 0 where
   pub enough : length rest ≤ steps
   pub same : after_body kind steps rest ≡ after_body kind (length text) text
 
-pub Passes-start : (kind : BlockKind) (text : List ℕ) → Passes kind text text
-Passes-start kind text = record { steps = length text; enough = omega arith; same = refl }
-
 no_part : (kind : BlockKind) → after_part_of kind [] ≡ None
 no_part Include = refl
 no_part kind = refl

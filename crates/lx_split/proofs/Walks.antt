@@ -1,5 +1,5 @@
 -- What is still to be expanded, as files are walked through.
-use Rattle.std.proofs.Common.{◌≡◌, ℕ, suc, ◌+◌, ◌-◌, ◌<◌, ◌≤◌, List, [], ◌∷◌, ◌++◌, reverse, length, Option, Some, None, Ok, Err, refl, sym, ◌∙◌, ap, arith, append-nil, length-append}
+use Rattle.std.proofs.Common.{◌≡◌, ℕ, suc, ◌+◌, ◌-◌, ◌<◌, ◌≤◌, List, [], ◌∷◌, ◌++◌, reverse, length, Option, Some, None, Ok, Err, refl, sym, ◌∙◌, ap, arith, length-append}
 use Rattle.std.specs.Prelude.{option_to_list}
 use Rattle.std.proofs.lemmas.List.{reverse-append, length-reverse}
 use Rattle.lx_base.specs.declared.faults.Fault.{Fault}
@@ -77,9 +77,6 @@ pub record WalksOn (before after : Walk) : Type 0 where
   pub waits : waiting (open_files after) ≤ waiting (open_files before)
   pub depth : length after.stack.items ≤ length before.stack.items
 
-pub WalksOn-same : (walk : Walk) → WalksOn walk walk
-WalksOn-same walk = record { whole = λ options seen names. refl; total = refl; waits = omega arith; depth = omega arith }
-
 pub WalksOn-trans : (first second third : Walk) → WalksOn first second → WalksOn second third → WalksOn first third
 WalksOn-trans first second third one two = record {
   whole = λ options seen names. one.whole options seen names ∙ two.whole options seen names;
@@ -156,27 +153,6 @@ module _ (before after : Walk) (front : List OpenFile) (file : OpenFile) (top : 
       stack = let f = is_fewer in omega arith;
       inside = is_fewer.2;
     }
-
--- nothing is open
-pub Advances-none : (walk : Walk) → walk.stack.items ≡ [] → Advances walk walk None
-Advances-none walk none = record {
-  whole = λ options seen names.
-      ap (λ (l : List OpenFile). behind walk.pieces (remaining options seen (reverse l) (met names walk.total))) none
-      ∙ ap (λ (l : List SourcePiece). gives (met names walk.total) l) (append-nil walk.pieces);
-  total = refl;
-  waiting = omega arith;
-  stack = omega arith;
-  inside = tt;
-}
-
-pub Advances-behind : (first second third : Walk) (next : Option IncludeBlock) → WalksOn first second → Advances second third next → Advances first third next
-Advances-behind first second third next one two = record {
-  whole = λ options seen names. one.whole options seen names ∙ two.whole options seen names;
-  total = two.total ∙ one.total;
-  waiting = let a = one.waits in let b = two.waiting in omega arith;
-  stack = let a = one.depth in let b = two.stack in omega arith;
-  inside = two.inside;
-}
 
 -- the innermost file, and those around it
 pub record HasInner (walk : Walk) : Type 0 where

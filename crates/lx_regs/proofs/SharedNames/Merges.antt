@@ -1,5 +1,5 @@
 -- The graph of the colours of a graph, as it is built number by number.
-use Rattle.std.proofs.Common.{◌≡◌, ℕ, ◌+◌, ◌<◌, ◌≤◌, List, [], ◌∷◌, ◌++◌, refl, Contains, sym, ◌∙◌, subst, arith}
+use Rattle.std.proofs.Common.{◌≡◌, ℕ, ◌+◌, ◌<◌, ◌≤◌, List, [], ◌∷◌, ◌++◌, Contains, sym, ◌∙◌, subst, arith}
 use Rattle.std.proofs.Common.{inl, inr}
 use Rattle.std.proofs.lemmas.Bool.{cases_lt}
 use Rattle.std.proofs.lemmas.List.Elements.{Contains-append_left, Contains-push, Contains-push_cases}
@@ -8,15 +8,6 @@ use Rattle.lx_auto.proofs.SameLists.{Contains-map, map-Contains}
 use Rattle.lx_regs.specs.declared.graphs.Graph.{Graph}
 use Rattle.lx_regs.specs.Colours.{IsMerged}
 use Rattle.lx_regs.specs.Graphs.{AreNeighbours, IsGraph, IsPair, Joins, JoinsEach, list_at, size_of}
-
-pub joins_each-begins : (graph : Graph) (first : ℕ) → IsGraph graph → JoinsEach graph graph first []
-joins_each-begins graph first is = record {
-  formed = is;
-  size = refl;
-  joined = λ second has. absurd (omega (arith, has.1));
-  kept = λ number other near. near;
-  only = λ number other near. inl near;
-}
 
 pub joins_each-pushed : (old middle new : Graph) (first : ℕ) (others : List ℕ) (second : ℕ) → JoinsEach old middle first others
     → Joins middle new first second → JoinsEach old new first (others ++ second ∷ [])

@@ -2,7 +2,7 @@
 use Rattle.std.proofs.Common.{◌≡◌, ℕ, ◌+◌, ◌-◌, ◌<◌, List, [], ◌∷◌, ◌++◌, refl, Contains, sym, ap, ◌∙◌, subst, arith}
 use Rattle.std.proofs.Common.{inl, inr}
 use Rattle.std.proofs.lemmas.List.Elements.{Contains-append_left, Contains-push, Contains-push_cases}
-use Rattle.std.specs.Prelude.{◌⊎◌, ◌≢◌}
+use Rattle.std.specs.Prelude.{◌⊎◌}
 use Rattle.lx_auto.specs.declared.automaton.Held.{Held}
 use Rattle.lx_auto.specs.declared.automaton.Held.TheVariants.{Reg, MReg}
 use Rattle.lx_auto.specs.declared.ops.Op.{Op}
@@ -154,38 +154,7 @@ notes-mregs old new mreg other is above other_above same joins = record {
     only (MReg first) (Reg second) near = inl near
     only (MReg first) (MReg second) near = of_pair first second near.0 near.1 (joins.only (first - 1) (second - 1) near.2)
 
--- these are not two
-pub not_two-regs : (reg other : ℕ) → reg ≡ other → (held second : Held) → AreThese (Reg reg) (Reg other) held second → AreTwo held second → ⊥
-not_two-regs reg other same (Reg first) (Reg second) these two = two (cc (these.0, these.1, same))
-not_two-regs reg other same (Reg first) (MReg second) these two = two
-not_two-regs reg other same (MReg first) (Reg second) these two = two
-not_two-regs reg other same (MReg first) (MReg second) these two = cc these.0
-
-pub not_two-mregs : (mreg other : ℕ) → ((0 < mreg) → (0 < other) → mreg ≢ other → ⊥) → (held second : Held)
-    → AreThese (MReg mreg) (MReg other) held second → AreTwo held second → ⊥
-not_two-mregs mreg other none (Reg first) (Reg second) these two = cc these.0
-not_two-mregs mreg other none (Reg first) (MReg second) these two = two
-not_two-mregs mreg other none (MReg first) (Reg second) these two = two
-not_two-mregs mreg other none (MReg first) (MReg second) these two =
-    let one : mreg ≡ first = cc these.0 in
-    let last : other ≡ second = cc these.1 in
-    none (subst (λ n. 0 < n) (sym one) two.0) (subst (λ n. 0 < n) (sym last) two.1) (λ same. two.2 (sym one ∙ same ∙ last))
-
--- one of two sorts is not two
-pub not_two-sorts : (reg mreg : ℕ) (held second : Held) → AreThese (Reg reg) (MReg mreg) held second → AreTwo held second → ⊥
-not_two-sorts reg mreg (Reg first) (Reg second) these two = cc these.1
-not_two-sorts reg mreg (Reg first) (MReg second) these two = two
-not_two-sorts reg mreg (MReg first) second these two = cc these.0
-
-pub not_two-sorts_back : (mreg reg : ℕ) (held second : Held) → AreThese (MReg mreg) (Reg reg) held second → AreTwo held second → ⊥
-not_two-sorts_back mreg reg (Reg first) second these two = cc these.0
-not_two-sorts_back mreg reg (MReg first) (Reg second) these two = two
-not_two-sorts_back mreg reg (MReg first) (MReg second) these two = cc these.1
-
 -- ---- of lists
-
-pub among-begins : (first : Held) (graph : HeldGraph) → IsHeldGraph graph → Notes (AreAmong first []) graph graph
-among-begins first graph is = notes-none (AreAmong first []) graph is (λ held other among two. omega (arith, among.1.1))
 
 pub among-pushed : (first : Held) (others : List Held) (second : Held) (old middle new : HeldGraph) → Notes (AreAmong first others) old middle
     → Notes (AreThese first second) middle new → Notes (AreAmong first (others ++ second ∷ [])) old new
@@ -202,9 +171,6 @@ among-pushed first others second old middle new before one =
         → AreAmong first others held other ⊎ AreThese first second held other
     back held other same (inl has) = inl (same, has)
     back held other same (inr last) = inr (same, last)
-
-pub beside-begins : (live : List Held) (graph : HeldGraph) → IsHeldGraph graph → Notes (AreBeside [] live) graph graph
-beside-begins live graph is = notes-none (AreBeside [] live) graph is (λ held other beside two. omega (arith, beside.0.1.1))
 
 pub beside-pushed : (ops : List Op) (op : Op) (live : List Held) (old middle new : HeldGraph) → Notes (AreBeside ops live) old middle
     → Notes (AreAmong (target_of op) live) middle new → Notes (AreBeside (ops ++ op ∷ []) live) old new

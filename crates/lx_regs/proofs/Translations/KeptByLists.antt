@@ -1,5 +1,5 @@
 -- Where all lists are kept by the names of registers, so are the edges of an automaton.
-use Rattle.std.proofs.Common.{◌≡◌, ℕ, ◌+◌, ◌*◌, ◌<◌, Bool, true, false, List, [], ◌∷◌, ◌++◌, get_or, None, nat_eq, if◌then◌else◌, refl, sym, ap, ap₂, ◌∙◌, subst, arith}
+use Rattle.std.proofs.Common.{◌≡◌, ℕ, ◌+◌, ◌*◌, ◌<◌, Bool, true, false, List, [], ◌∷◌, ◌++◌, get_or, None, nat_eq, if◌then◌else◌, refl, sym, ap, ap₂, ◌∙◌}
 use Rattle.indexmap.specs.IndexMap.{get}
 use Rattle.lx_auto.specs.declared.automaton.Auto.{Auto}
 use Rattle.lx_auto.specs.declared.automaton.Held.{Held}

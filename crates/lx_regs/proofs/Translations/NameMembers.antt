@@ -82,9 +82,6 @@ members-noted bound count names members new name are is noted = at (cases_lt nam
 
 -- ---- names, one by one
 
-pub fixed-none : (table : NameTable) (count : ℕ) (names : List ℕ) → names ≡ [] → AreFixedNames table count 0 names
-fixed-none table count names none = record { fit = ap length none; each = λ reg within. absurd (omega (arith, within)) }
-
 module _ (table : NameTable) (count bound : ℕ) (names : List ℕ) (name : ℕ) (are : AreFixedNames table count bound names)
     (is : IsFixedName table count bound name) where
   pub fixed-more : AreFixedNames table count (bound + 1) (names ++ name ∷ [])

@@ -1,5 +1,5 @@
 -- What is kept goes through two passes, and no edge of the answer holds a unit that no edge of what was given holds.
-use Rattle.std.proofs.Common.{◌≡◌, ℕ, ◌≤◌, Contains, Option, Some, None, Bool, true, false, option_map, nat_le, ◌&&◌, refl, sym, ap, ◌∙◌, subst}
+use Rattle.std.proofs.Common.{◌≡◌, ℕ, Contains, Option, Some, None, Bool, true, false, option_map, nat_le, ◌&&◌, refl, sym, ap, ◌∙◌, subst}
 use Rattle.std.specs.Bool.{IsTrue, then_some}
 use Rattle.std.specs.Option.{IfSome}
 use Rattle.lx_auto.specs.declared.automaton.Accept.{Accept}
@@ -9,9 +9,6 @@ use Rattle.lx_auto.specs.Automaton.{has_unit, state_of}
 use Rattle.lx_auto.specs.Shapes.{HasAcceptLike, HasEdgeOn, StaysWithin}
 use Rattle.lx_auto.proofs.SameLists.{Contains-images}
 use Rattle.lx_regs.specs.Shapes.{AcceptShape, EdgeShape, KeepsShape, StandsFor, shape_of_accept, shape_of_edge}
-
-pub KeepsShape-itself : (auto : Auto) → KeepsShape auto auto
-KeepsShape-itself auto = record { count = refl; edges = λ state. refl; accepts = λ state. refl; agreed = λ agreed. agreed }
 
 -- an answer that is given if it may stand for the given automaton
 StandsFor-told : (given answer : Auto) (may : Bool) → (IsTrue may → StandsFor given answer) → IfSome (then_some may answer) (StandsFor given)
@@ -38,18 +35,6 @@ pub edge-kept : (given answer : Auto) → KeepsShape given answer → (state : �
 edge-kept given answer kept state other has =
     Contains-images shape_of_edge shape_of_edge (state_of given.states state).edges (state_of answer.states state).edges
     (sym (kept.edges state)) other has
-
--- so a unit of an edge of the answer is one of an edge of the given automaton
-pub unit-kept : (given answer : Auto) → KeepsShape given answer → (state : ℕ) (other : Edge) (unit : ℕ)
-    → Contains (state_of answer.states state).edges other → other.lo ≤ unit → unit ≤ other.hi
-    → (edge : Edge) × Contains (state_of given.states state).edges edge × (edge.lo ≤ unit) × (unit ≤ edge.hi)
-unit-kept given answer kept state other unit has from to =
-    let found = edge-kept given answer kept state other has in (
-      found.0,
-      found.1,
-      subst (λ low. low ≤ unit) (sym (ap (λ (shape : EdgeShape). shape.low) found.2)) from,
-      subst (λ high. unit ≤ high) (sym (ap (λ (shape : EdgeShape). shape.high) found.2)) to,
-    )
 
 shape-unit : (edge other : Edge) (unit : ℕ) → shape_of_edge edge ≡ shape_of_edge other → has_unit other unit ≡ true → has_unit edge unit ≡ true
 shape-unit edge other unit same on =

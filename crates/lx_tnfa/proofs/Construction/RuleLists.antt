@@ -1,5 +1,5 @@
 -- Rules that are added one by one.
-use Rattle.std.proofs.Common.{◌≡◌, ℕ, suc, ◌-◌, ◌*◌, ◌<◌, ◌≤◌, arith, Bool, true, false, List, [], ◌∷◌, ◌++◌, length, sym, ap, ap₂, ◌∙◌, subst, append_assoc, append-nil, Some, ◌⊎◌, ⊎_elim}
+use Rattle.std.proofs.Common.{◌≡◌, ℕ, suc, ◌-◌, ◌*◌, ◌<◌, arith, Bool, true, false, List, [], ◌∷◌, ◌++◌, length, sym, ap, ap₂, ◌∙◌, subst, append_assoc, append-nil, Some, ◌⊎◌, ⊎_elim}
 use Rattle.std.proofs.lemmas.List.{map-append}
 use Rattle.std.specs.Prelude.{replicate, if◌then◌else◌}
 use Rattle.lx_regex.specs.Automaton.{table, final}
@@ -33,11 +33,6 @@ ends_next now mid new all groups counter lt first second so =
     ap (λ l. l ++ group_ends (groups - suc counter)) (second ∙ ap (λ l. l ++ false ∷ []) first ∙ append_assoc now (false ∷ []) (false ∷ []))
     ∙ append_assoc now (false ∷ false ∷ []) (group_ends (groups - suc counter))
     ∙ ap (λ n. now ++ group_ends n) next ∙ so
-
-pub ends_done : (now all : List Bool) (groups counter : ℕ) → groups ≤ counter → now ++ group_ends (groups - counter) ≡ all → now ≡ all
-ends_done now all groups counter le so =
-    let none : 0 ≡ groups - counter = omega arith in
-    sym (append-nil now) ∙ ap (λ n. now ++ group_ends n) none ∙ so
 
 -- one rule more with its tags
 pub seen_push : (old new : List RuleTags) (rule : RuleTags) (number : ℕ) (sorts : List Bool) → new ≡ old ++ rule ∷ [] → rule.number ≡ number

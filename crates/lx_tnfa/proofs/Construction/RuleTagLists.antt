@@ -1,8 +1,7 @@
 -- Lists of rules with the kinds of their tags.
-use Rattle.std.proofs.Common.{◌≡◌, ℕ, suc, ◌<◌, Bool, true, false, List, ◌∷◌, length, get_or, drop, Some, refl, sym, ap, ◌∙◌, eq-eqb}
+use Rattle.std.proofs.Common.{◌≡◌, ℕ, suc, ◌<◌, List, ◌∷◌, length, get_or, drop, Some, sym, ap, ◌∙◌, eq-eqb}
 use Rattle.std.proofs.Math.Seq.{drop-cons}
-use Rattle.std.proofs.lemmas.Bool.{eqb-true}
-use Rattle.std.specs.Prelude.{nat_eq, if◌then◌else◌}
+use Rattle.std.specs.Prelude.{if◌then◌else◌}
 use Rattle.lx_tnfa.specs.Making.{seen_tags}
 use Rattle.lx_tnfa.specs.Tnfa.{kinds_for}
 use Rattle.lx_tnfa.specs.declared.tnfa.RuleTags.{RuleTags}
@@ -16,14 +15,3 @@ pub rule_found : (rules : List RuleTags) (i number : ℕ) (rule : RuleTags) → 
 rule_found rules i number rule lt is same =
     ap (λ l. kinds_for (seen_tags l) number) (next_rule rules i rule lt is)
     ∙ ap (λ b. if b then Some rule.many.items else kinds_for (seen_tags (drop (suc i) rules)) number) (eq-eqb rule.number number same)
-
-pub rule_passed : (rules : List RuleTags) (i number : ℕ) (rule : RuleTags) → i < length rules → rule ≡ get_or rules i rule
-    → (rule.number ≡ number → ⊥) → kinds_for (seen_tags (drop (suc i) rules)) number ≡ kinds_for (seen_tags (drop i rules)) number
-rule_passed rules i number rule lt is other =
-    sym
-    (ap (λ l. kinds_for (seen_tags l) number) (next_rule rules i rule lt is)
-    ∙ ap (λ b. if b then Some rule.many.items else kinds_for (seen_tags (drop (suc i) rules)) number) (differs (nat_eq rule.number number) refl))
-  where
-    differs : (b : Bool) → nat_eq rule.number number ≡ b → nat_eq rule.number number ≡ false
-    differs true e = absurd (other (eqb-true rule.number number e))
-    differs false e = e

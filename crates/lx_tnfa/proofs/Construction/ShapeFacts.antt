@@ -4,11 +4,11 @@ use Rattle.std.proofs.Math.Seq.{drop-cons}
 use Rattle.std.proofs.lemmas.Bool.{cases_lt}
 use Rattle.std.specs.Prelude.{◌^◌, min, nat_eq, if◌then◌else◌}
 use Rattle.lx_regex.specs.Expr.{term_of}
-use Rattle.lx_regex.specs.Script.{merge_tags, put_tag, tags_among, tags_in}
+use Rattle.lx_regex.specs.Script.{merge_tags, tags_among, tags_in}
 use Rattle.lx_regex.specs.Term.{Term, empty, class, any_unit, cat, alt, repeat, tag, group, Terms, nil, cons, copies, parts, parts_of_all}
 use Rattle.lx_regex.specs.declared.expr.Expr.{Expr}
-use Rattle.lx_regex.specs.declared.expr.Expr.TheVariants.{Cat, Alt, Rep, Group}
-use Rattle.lx_regex.proofs.Trees.Folds.{term_of-cat, term_of-alt, term_of-rep, term_of-group}
+use Rattle.lx_regex.specs.declared.expr.Expr.TheVariants.{Cat, Alt, Rep}
+use Rattle.lx_regex.proofs.Trees.Folds.{term_of-cat, term_of-alt, term_of-rep}
 use Rattle.lx_regex.proofs.Trees.NoUnits.{terms_in}
 use Rattle.lx_tnfa.specs.Moves.{counted_size}
 use Rattle.lx_tnfa.specs.Shapes.{HasShape, HaveShapes, IsAround, IsOnly, Tells, parts_together, tags_together}
@@ -117,20 +117,6 @@ repeat_shape tags e body low high inner made is has count marks kept =
       (
         count ∙ ap (λ n. min (1 + copies low high * n) (2 ^ 31)) (tells b inner has).0 ∙ capped_times (copies low high) (parts b),
         marks ∙ (tells b inner has).1,
-      ),
-      subst (IsOnly (HasShape b)) (sym kept) has,
-    )
-
-pub group_shape : (tags : ℕ) (e : Expr) (number : ℕ) (body : Box Expr Global) (inner made : Shape) → e ≡ Group number body
-    → HasShape (term_of tags body.value) inner → (out-Shape made).parts ≡ min (1 + (out-Shape inner).parts) (2 ^ 31)
-    → (out-Shape made).tags.items ≡ put_tag (tags + 2 * number) (put_tag (tags + 2 * number + 1) (out-Shape inner).tags.items)
-    → (out-Shape made).members.items ≡ inner ∷ [] → HasShape (term_of tags e) made
-group_shape tags e number body inner made is has count marks kept =
-    let b = term_of tags body.value in
-    subst (λ t. HasShape t made) (sym (ap (term_of tags) is ∙ term_of-group tags number body)) (
-      (
-        omega (arith, count, (tells b inner has).0),
-        marks ∙ ap (λ l. put_tag (tags + 2 * number) (put_tag (tags + 2 * number + 1) l)) (tells b inner has).1,
       ),
       subst (IsOnly (HasShape b)) (sym kept) has,
     )

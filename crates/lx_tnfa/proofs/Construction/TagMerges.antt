@@ -104,10 +104,6 @@ passed f list i x lt is on so =
 next_is : (list : List ℕ) (i x : ℕ) → i < length list → x ≡ get_or list i x → drop i list ≡ x ∷ drop (suc i) list
 next_is list i x lt is = drop-cons list i x lt ∙ ap (λ y. y ∷ drop (suc i) list) (sym is)
 
-pub put_passed : (n : ℕ) (list : List ℕ) (i x : ℕ) → i < length list → x ≡ get_or list i x → x < n
-    → put_tag n list ≡ take i list ++ put_tag n (drop i list) → put_tag n list ≡ take (suc i) list ++ put_tag n (drop (suc i) list)
-put_passed n list i x lt is less so = passed (put_tag n) list i x lt is (put-behind n x (drop (suc i) list) less) so
-
 pub put_here : (n : ℕ) (list : List ℕ) (i x : ℕ) → i < length list → x ≡ get_or list i x → n ≤ x
     → put_tag n list ≡ take i list ++ put_tag n (drop i list) → put_tag n list ≡ take i list ++ n ∷ drop i list
 put_here n list i x lt is le so =
@@ -117,11 +113,6 @@ put_here n list i x lt is le so =
 pub put_last : (n : ℕ) (list : List ℕ) (i : ℕ) → length list ≤ i → put_tag n list ≡ take i list ++ put_tag n (drop i list)
     → put_tag n list ≡ list ++ n ∷ []
 put_last n list i le so = so ∙ ap₂ (λ a b. a ++ put_tag n b) (take_all i list le) (drop_of_length-le list le)
-
-pub remove_passed : (n : ℕ) (list : List ℕ) (i x : ℕ) → i < length list → x ≡ get_or list i x → (x ≡ n → ⊥)
-    → remove_tag n list ≡ take i list ++ remove_tag n (drop i list)
-    → remove_tag n list ≡ take (suc i) list ++ remove_tag n (drop (suc i) list)
-remove_passed n list i x lt is other so = passed (remove_tag n) list i x lt is (remove-on n x (drop (suc i) list) other) so
 
 pub remove_at : (n : ℕ) (list : List ℕ) (i x : ℕ) → i < length list → x ≡ get_or list i x → x ≡ n
     → remove_tag n list ≡ take i list ++ remove_tag n (drop i list) → remove_tag n list ≡ take i list ++ drop (suc i) list

@@ -128,38 +128,6 @@ pub record IsShown (tnfa : Tnfa) (places : List Place) (found : Found) (arrival 
 abbrev pub IsSeen : Tnfa → List Place → Found → Type 0
 IsSeen tnfa places found = ((number : ℕ) × (found.state ≡ stop_number (AtState number))) ⊎ ((arrival : Arrival) × IsShown tnfa places found arrival)
 
-pub seen_found : (tnfa : Tnfa) → 0 < length tnfa.states → (places : List Place) (found : Found) → IsFoundPath tnfa places found.choices found.state
-    → IsSeen tnfa places found
-seen_found tnfa some places found path = at found.choices refl path.1
-  where
-    at : (choices : List ℕ) → found.choices ≡ choices → PathFrom (stop_graph tnfa) (begin_numbers tnfa places) choices path.0 found.state
-        → IsSeen tnfa places found
-    at [] same p = absurd p
-    at (from ∷ choices) same p =
-        let place = begin_place tnfa places from p.0 p.1 p.2 in
-        let begin = beginning_of tnfa place.0 in
-        let w =
-        path_walk tnfa some begin choices path.0 found.state
-        (subst (λ n. Path (stop_graph tnfa) n choices path.0 found.state) (sym place.2) p.3) in
-        let once = simple_stops w.1 (subst IsSimple w.4 path.2) in
-        let live = live_stops tnfa w.1 (subst (Avoids (dead_stops tnfa)) w.4 path.3) in
-        ending from choices same place.0 place.1 w.0 w.1 w.2 w.3 w.5 once live
-      where
-        ending : (from : ℕ) (choices : List ℕ) → found.choices ≡ from ∷ choices → (place : Place) → slice_get places from ≡ Some place
-            → (to : Stop) (visited : List Stop) (events : List Event) → found.state ≡ stop_number to
-            → IsWalk tnfa (beginning_of tnfa place) choices visited events to → AllPairs (λ stop other. stop ≢ other) visited
-            → All (λ stop. ¬ IsDead tnfa stop) visited → IsSeen tnfa places found
-        ending from choices same place begins (AtState number) visited events state walk once live = inl (number, state)
-        ending from choices same place begins (AtTarget target) visited events state walk once live =
-            inr (
-              record { from = from; choices = choices; events = events; to = target },
-              record {
-                state = state;
-                choices = same;
-                plain = record { place = place; begins = begins; visited = visited; walk = walk; once = once; live = live };
-              },
-            )
-
 -- the arrivals that a list of found stops shows, in its order
 abbrev pub Shows : Tnfa → List Place → List Found → List Arrival → Type 0
 Shows tnfa places [] arrivals = arrivals ≡ []

@@ -5,7 +5,7 @@ use Rattle.lx_tnfa.specs.DepthFirst.{IsIn, decide_in, successors, Found, all_wit
 use Rattle.lx_tnfa.proofs.Searching.SimplePaths.{IsAt, counted, unvisited}
 use Rattle.lx_tnfa.proofs.Searching.SearchBasics.{IsWithin, IsWithin-cons, IsWithin-visited, unvisited-fewer}
 use Rattle.lx_tnfa.proofs.Searching.SearchLaws.{begun, unvisited-kids}
-use Rattle.lx_tnfa.proofs.Searching.SearchPaths.{IsSearch, IsSearchFrom, search_within-is_search, search_each_within-is_search}
+use Rattle.lx_tnfa.proofs.Searching.SearchPaths.{IsSearchFrom, search_each_within-is_search}
 
 pub unvisited-le : (avoided : List ℕ) (n : ℕ) → unvisited avoided n ≤ n
 unvisited-le avoided zero = omega arith
@@ -21,9 +21,6 @@ search_at graph avoided s = search_within graph (suc (length graph)) avoided s
 
 pub enough : (graph : List (List ℕ)) (avoided : List ℕ) → unvisited avoided (length graph) < suc (length graph)
 enough graph avoided = let h : unvisited avoided (length graph) ≤ length graph = unvisited-le avoided (length graph) in omega arith
-
-pub search_at-is_search : (graph : List (List ℕ)) (avoided : List ℕ) (s : ℕ) → IsSearch graph avoided s (search_at graph avoided s)
-search_at-is_search graph avoided s = search_within-is_search graph (suc (length graph)) avoided s (enough graph avoided)
 
 pub search_from-is_search : (graph : List (List ℕ)) (avoided starts : List ℕ) → IsSearchFrom graph avoided starts (search_from graph avoided starts)
 search_from-is_search graph avoided starts = search_each_within-is_search graph (suc (length graph)) avoided starts (enough graph avoided)

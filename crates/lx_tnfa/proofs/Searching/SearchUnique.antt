@@ -1,11 +1,10 @@
 -- The order of choices is a total order, and the laws determine the search's list.
-use Rattle.std.specs.Prelude.{◌≡◌, ℕ, zero, suc, ◌<◌, ◌⊎◌, List, [], ◌∷◌, refl, length, AllPairs, Contains, map, get_or}
+use Rattle.std.specs.Prelude.{◌≡◌, ℕ, zero, suc, ◌<◌, ◌⊎◌, List, [], ◌∷◌, refl, length, Contains, map, get_or}
 use Rattle.std.proofs.Common.{inl, inr, sym, ap₂, ◌∙◌, subst, arith}
 use Rattle.lx_regex.specs.Dictionary.{IsBefore}
 use Rattle.lx_tnfa.specs.DepthFirst.{Found}
-use Rattle.lx_tnfa.proofs.Searching.SearchBasics.{Each, Each-weaker}
+use Rattle.lx_tnfa.proofs.Searching.SearchBasics.{Each}
 use Rattle.lx_tnfa.proofs.Searching.SearchLaws.{IsAscending}
-use Rattle.lx_tnfa.proofs.Searching.SearchPaths.{Each-from_all, Path, PathFrom, IsSimple, Avoids, IsSearch, IsSearchFrom}
 
 pub IsBefore-irrefl : (x : List ℕ) → IsBefore x x → ⊥
 IsBefore-irrefl [] b = b
@@ -102,52 +101,3 @@ least_within P es fs A B e m =
 
 pub least_unique : (P : Found → Type 0) (es fs : List Found) → IsLeastOf P es → IsLeastOf P fs → es ≡ fs
 least_unique P es fs A B = ascending_unique es fs A.3 B.3 (least_within P es fs A B) (least_within P fs es B A)
-
-pub IsAscending-from_pairs : (es : List Found) → AllPairs (λ e f. IsBefore e.choices f.choices) es → IsAscending es
-IsAscending-from_pairs [] h = tt
-IsAscending-from_pairs (e ∷ es) h = (
-  Each-from_all (λ f. IsBefore e.choices f.choices) es (λ k d l. h 0 (suc k) d (omega arith) (omega arith)),
-  IsAscending-from_pairs es (λ i j d l k. h (suc i) (suc j) d (omega arith) (omega arith)),
-)
-
-pub IsSearch-unique : (graph : List (List ℕ)) (avoided : List ℕ) (s : ℕ) (es fs : List Found) → IsSearch graph avoided s es → IsSearch graph avoided s fs → es ≡ fs
-IsSearch-unique graph avoided s es fs A B = least_unique P es fs (of es A) (of fs B)
-  where
-    P : Found → Type 0
-    P e = (ss : List ℕ) × Path graph s e.choices ss e.state × IsSimple ss × Avoids avoided ss
-
-    of : (xs : List Found) → IsSearch graph avoided s xs → IsLeastOf P xs
-    of xs A = (
-      Each-from_all P xs A.path,
-      (λ e p. A.complete e.choices p.0 e.state p.1 p.3),
-      Each-weaker (λ e. (ws ss : List ℕ) → Path graph s ws ss e.state → IsSimple ss → Avoids avoided ss → IsBefore ws e.choices → ⊥)
-          (λ e. (ws : List ℕ) → P (record { state = e.state; choices = ws }) → IsBefore ws e.choices → ⊥)
-          (λ e f ws p b. f ws p.0 p.1 p.2 p.3 b) xs
-          (Each-from_all (λ e. (ws ss : List ℕ) → Path graph s ws ss e.state → IsSimple ss → Avoids avoided ss → IsBefore ws e.choices → ⊥) xs A.least),
-      IsAscending-from_pairs xs A.order,
-    )
-
-pub IsSearchFrom-unique : (graph : List (List ℕ)) (avoided starts : List ℕ) (es fs : List Found) → IsSearchFrom graph avoided starts es → IsSearchFrom graph avoided starts fs → es ≡ fs
-IsSearchFrom-unique graph avoided starts es fs A B = least_unique P es fs (of es A) (of fs B)
-  where
-    P : Found → Type 0
-    P e = (ss : List ℕ) × PathFrom graph starts e.choices ss e.state × IsSimple ss × Avoids avoided ss
-
-    of : (xs : List Found) → IsSearchFrom graph avoided starts xs → IsLeastOf P xs
-    of xs A = (
-      Each-from_all P xs A.path,
-      (λ e p. A.complete e.choices p.0 e.state p.1 p.3),
-      Each-weaker (λ e. (ws ss : List ℕ) → PathFrom graph starts ws ss e.state → IsSimple ss → Avoids avoided ss → IsBefore ws e.choices → ⊥)
-          (λ e. (ws : List ℕ) → P (record { state = e.state; choices = ws }) → IsBefore ws e.choices → ⊥)
-          (λ e f ws p b. f ws p.0 p.1 p.2 p.3 b) xs
-          (Each-from_all (λ e. (ws ss : List ℕ) → PathFrom graph starts ws ss e.state → IsSimple ss → Avoids avoided ss → IsBefore ws e.choices → ⊥) xs A.least),
-      IsAscending-from_pairs xs A.order,
-    )
-
--- any other choices for a state come later than those listed
-pub IsSearch-later : (graph : List (List ℕ)) (avoided : List ℕ) (s : ℕ) (es : List Found) → IsSearch graph avoided s es → (k : ℕ) (d : Found) → k < length es → (ws ss : List ℕ) → Path graph s ws ss (get_or es k d).state → IsSimple ss → Avoids avoided ss → (ws ≡ (get_or es k d).choices) ⊎ IsBefore (get_or es k d).choices ws
-IsSearch-later graph avoided s es A k d l ws ss p q r = go (IsBefore-cases ws (get_or es k d).choices)
-  where
-    go : IsBefore ws (get_or es k d).choices ⊎ ((ws ≡ (get_or es k d).choices) ⊎ IsBefore (get_or es k d).choices ws) → (ws ≡ (get_or es k d).choices) ⊎ IsBefore (get_or es k d).choices ws
-    go (inl b) = absurd (A.least k d l ws ss p q r b)
-    go (inr h) = h
