@@ -26,10 +26,6 @@ front_letters-take test (letter ∷ text) = by_test (test letter) (front_letters
         let none : length (letter ∷ text) - length (letter ∷ text) ≡ 0 = omega arith in
         sym (ap (λ n. take n (letter ∷ text)) none)
 
--- what stands before the rest is the front_letters
-pub taken_letters : (test : ℕ → Bool) (text before rest : List ℕ) → rest ≡ after_letters test text → before ≡ take (length text - length rest) text → before ≡ front_letters test text
-taken_letters test text before rest is taken = taken ∙ ap (λ r. take (length text - length r) text) is ∙ sym (front_letters-take test text)
-
 pub equal_words-value : (word other : List ℕ) → pointwise nat_eq word other ≡ equal_words word other
 equal_words-value [] [] = refl
 equal_words-value [] (letter ∷ other) = refl
@@ -48,5 +44,3 @@ front_letters-after test (letter ∷ text) = by_test (test letter) (front_letter
         → cond t (letter ∷ front_letters test text) [] ++ cond t (after_letters test text) (letter ∷ text) ≡ letter ∷ text
     by_test true same = ap (λ (l : List ℕ). letter ∷ l) same
     by_test false same = refl
-
--- what stands after_letters the part before the last letters

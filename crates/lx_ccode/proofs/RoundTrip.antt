@@ -179,10 +179,6 @@ reading-piece fuel piece tail v le =
       blocks_name_context-ctx piece.ctx piece.blocks v.ctx,
     ) refl
 
-pub reading-text : (fuel : ℕ) (piece : Piece) (tail : List ℕ) → IsValid piece → list_sizes piece ≤ fuel
-    → reading fuel (piece_text piece ++ tail) ≡ (piece, tail)
-reading-text fuel piece tail v le = ap (reading fuel) (piece_text-append piece tail) ∙ reading-piece fuel piece tail v le
-
 -- the text of a valid piece is read as that piece, and what stands behind it is left
 pub piece_at-text : (piece : Piece) (tail : List ℕ) → IsValid piece → piece_at (piece_text piece ++ tail) ≡ (piece, tail)
 unfolding piece_at

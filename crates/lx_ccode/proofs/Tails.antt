@@ -172,11 +172,6 @@ pub statement_then-nil : (wording : Wording) (statement : Stmt) (before tail : L
 statement_then-nil wording statement before tail = append_assoc before (statement_then wording statement []) tail
     ∙ ap (λ (b : List ℕ). before ++ b) (statement_then-append wording statement [] tail)
 
-pub statements_then-nil : (wording : Wording) (statements : List Stmt) (before tail : List ℕ)
-    → (before ++ statements_then wording statements []) ++ tail ≡ before ++ statements_then wording statements tail
-statements_then-nil wording statements before tail = append_assoc before (statements_then wording statements []) tail
-    ∙ ap (λ (b : List ℕ). before ++ b) (statements_then-append wording statements [] tail)
-
 pub label_then-nil : (names : Spellings) (label : Option (List ℕ)) (before tail : List ℕ)
     → (before ++ label_then names label []) ++ tail ≡ before ++ label_then names label tail
 label_then-nil names label before tail = append_assoc before (label_then names label []) tail
@@ -206,11 +201,6 @@ pub declarations_then-nil : (names : Spellings) (declares : Bool) (before tail :
 declarations_then-nil names declares before tail = append_assoc before (declarations_then names declares []) tail
     ∙ ap (λ (b : List ℕ). before ++ b) (declarations_then-append names declares [] tail)
 
-pub start_then-nil : (number : ℕ) (conds : List CondCase) (before tail : List ℕ)
-    → (before ++ start_then number conds []) ++ tail ≡ before ++ start_then number conds tail
-start_then-nil number conds before tail = append_assoc before (start_then number conds []) tail
-    ∙ ap (λ (b : List ℕ). before ++ b) (start_then-append number conds [] tail)
-
 pub state_cases_then-nil : (number : ℕ) (cases : List StateCase) (before tail : List ℕ)
     → (before ++ state_cases_then number cases []) ++ tail ≡ before ++ state_cases_then number cases tail
 state_cases_then-nil number cases before tail = append_assoc before (state_cases_then number cases []) tail
@@ -225,11 +215,6 @@ pub cond_cases_then-nil : (number : ℕ) (names : Spellings) (conds : List CondC
     → (before ++ cond_cases_then number names conds []) ++ tail ≡ before ++ cond_cases_then number names conds tail
 cond_cases_then-nil number names conds before tail = append_assoc before (cond_cases_then number names conds []) tail
     ∙ ap (λ (b : List ℕ). before ++ b) (cond_cases_then-append number names conds [] tail)
-
-pub cond_switch_then-nil : (number : ℕ) (names : Spellings) (conds : List CondCase) (before tail : List ℕ)
-    → (before ++ cond_switch_then number names conds []) ++ tail ≡ before ++ cond_switch_then number names conds tail
-cond_switch_then-nil number names conds before tail = append_assoc before (cond_switch_then number names conds []) tail
-    ∙ ap (λ (b : List ℕ). before ++ b) (cond_switch_then-append number names conds [] tail)
 
 pub joined-nil : (words : List (List ℕ)) (before tail : List ℕ) → (before ++ joined words []) ++ tail ≡ before ++ joined words tail
 joined-nil words before tail = append_assoc before (joined words []) tail ∙ ap (λ (b : List ℕ). before ++ b) (joined-append words [] tail)

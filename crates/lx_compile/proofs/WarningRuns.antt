@@ -1,5 +1,5 @@
 -- The warnings of a block's scanners, one scanner behind another.
-use Rattle.std.proofs.Common.{◌≡◌, ◌∙◌, ℕ, suc, List, [], ◌∷◌, ◌++◌, Option, map, length, refl, ap, sym, subst, append_assoc, append-nil}
+use Rattle.std.proofs.Common.{◌≡◌, ◌∙◌, suc, List, [], ◌∷◌, ◌++◌, map, length, refl, ap, sym, subst, append_assoc, append-nil}
 use Rattle.std.specs.List.{AllByRecursion}
 use Rattle.lx_auto.specs.declared.automaton.Auto.{Auto}
 use Rattle.lx_base.specs.declared.places.Pos.{Pos}
@@ -28,11 +28,6 @@ pub AreWarningsOf-none : (options : Options) (at : Pos) (acts : List Act) (scann
 AreWarningsOf-none options at acts [] autos all are none is = is
 AreWarningsOf-none options at acts (scanner ∷ scanners) [] all are none is = absurd are
 AreWarningsOf-none options at acts (scanner ∷ scanners) (auto ∷ autos) all are none is = absurd (let some = none in cc)
-
--- one warning more, at its place
-pub placed-more : (at : Pos) (acts : List Act) (cond : Option (List ℕ)) (all : List PlacedWarning) (warning : Warning) (rest : List Warning) (whole : List PlacedWarning)
-    → all ++ map (placed at acts cond) (warning ∷ rest) ≡ whole → (all ++ placed at acts cond warning ∷ []) ++ map (placed at acts cond) rest ≡ whole
-placed-more at acts cond all warning rest whole before = append_assoc all (placed at acts cond warning ∷ []) (map (placed at acts cond) rest) ∙ before
 
 module _ (options : Options) (at : Pos) (acts : List Act) where
   -- what holds behind some scanners, which have these warnings, where the others are left, and their automata

@@ -9,7 +9,7 @@ use Rattle.lx_auto.specs.declared.automaton.Held.{Held}
 use Rattle.lx_auto.specs.declared.automaton.State.{State}
 use Rattle.lx_auto.specs.declared.ops.Op.{Op}
 use Rattle.lx_cover.specs.Machine.{LeadsWithin}
-use Rattle.lx_cover.specs.Registers.{HasAll, KeepsCounts}
+use Rattle.lx_cover.specs.Registers.{HasAll}
 use Rattle.lx_cover.specs.declared.registers.Registers.{Registers}
 
 -- what is held at a place
@@ -18,9 +18,6 @@ pub held-at : (regs mregs : ℕ) (held : List Held) (place : ℕ) (none : Held) 
 held-at regs mregs [] place none are within = absurd (omega arith)
 held-at regs mregs (first ∷ held) zero none are within = are.0
 held-at regs mregs (first ∷ held) (suc place) none are within = held-at regs mregs held place none are.1 (omega arith)
-
-pub kept-all : (auto : Auto) (before after : Registers) → HasAll auto before → KeepsCounts before after → HasAll auto after
-kept-all auto before after all kept = record { values = kept.values ∙ all.values; histories = kept.histories ∙ all.histories }
 
 module _ (auto : Auto) (registers : Registers) (all : HasAll auto registers) where
   -- the operations of the automaton are on registers that are there

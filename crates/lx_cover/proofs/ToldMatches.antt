@@ -1,5 +1,5 @@
 -- What is taken by a machine is told as the match that is found.
-use Rattle.std.proofs.Common.{◌≡◌, ℕ, ◌+◌, ◌<◌, ◌≤◌, List, [], length, map, drop, get_or, Option, Some, None, ap, ◌∙◌}
+use Rattle.std.proofs.Common.{◌≡◌, ℕ, ◌+◌, ◌<◌, ◌≤◌, List, length, map, drop, get_or, Option, Some, None, ap, ◌∙◌}
 use Rattle.std.proofs.lemmas.List.{drop_all, drop_more}
 use Rattle.lx_auto.specs.Automaton.{edge_on, state_of}
 use Rattle.lx_auto.specs.Run.{Found, Standing, behind_edge, by_edge}
@@ -13,8 +13,6 @@ use Rattle.lx_cover.specs.Matches.{Tells, told, value_of}
 use Rattle.lx_cover.specs.Outcomes.{outcome_of}
 use Rattle.lx_cover.specs.declared.machine.Taken.{Taken}
 use Rattle.lx_cover.specs.declared.matches.CoverMatch.{CoverMatch}
-use Rattle.lx_cover.specs.declared.matches.CoverMatch.TheVariants.{NoRule}
-use Rattle.lx_cover.specs.declared.values.TagValue.{TagValue}
 
 pub taken-told : (acts : List Act) (rules : List Rule) (end : ℕ) (found : Option Found) (taken : Taken) (answer : CoverMatch)
     → IsTaken found (Some taken)
@@ -23,11 +21,6 @@ pub taken-told : (acts : List Act) (rules : List Rule) (end : ℕ) (found : Opti
 taken-told acts rules end None taken answer is says = absurd is
 taken-told acts rules end (Some found) taken answer is says =
     (says ∙ (λ i. told acts (is.0 i) (cursor_at (slash_of rules (is.0 i)) (is.2 i) (is.1 i))), is.2)
-
-pub none-told : (acts : List Act) (rules : List Rule) (end : ℕ) (found : Option Found) (values : List TagValue) (answer : CoverMatch)
-    → IsTaken found None → answer ≡ NoRule end → values ≡ [] → Tells acts (outcome_of rules end found) answer values
-none-told acts rules end None values answer is says empty = (says, empty)
-none-told acts rules end (Some found) values answer is says empty = absurd is
 
 -- ---- the run, unit by unit
 

@@ -15,7 +15,7 @@ use Rattle.lx_regex.specs.Kernel.{IsWord}
 use Rattle.lx_regex.specs.Limits.{AreRegular, HaveDifferentNumbers, IsRegular, IsSlashOf, IsWithinLimits, NoneHasNumber}
 use Rattle.lx_regex.specs.Match.{IsEnd, IsMatch, IsWordAt, Takes, at_end, by_none, by_rule, matched, part_at, unmatched}
 use Rattle.lx_regex.specs.Order.{Policy}
-use Rattle.lx_regex.specs.Pattern.{Pattern, end_rule, is_end, pattern_of, patterns_of, sorts_of, terms_of, with_terms}
+use Rattle.lx_regex.specs.Pattern.{Pattern, is_end, pattern_of, patterns_of, sorts_of, terms_of, with_terms}
 use Rattle.lx_regex.specs.Script.{Symbol, script}
 use Rattle.lx_regex.specs.Tree.{Tree}
 use Rattle.lx_regex.specs.Values.{Value, cursor_behind, group_ends, last_event, single, value_of, values_of}
@@ -126,14 +126,6 @@ regular-at (rule ∷ rules) place pattern are is = by (is_end rule.kind) refl pl
     by false end (suc place) is rest = rest place is
 
 -- ---- the rule at the end
-
-pub end_at-empty : (rules : List Rule) (word : List ℕ) → length word ≡ 0 → end_rule (patterns_of rules) ≡ end_at rules word
-end_at-empty rules [] none = refl
-end_at-empty rules (unit ∷ word) none = absurd (omega arith)
-
-pub end_at-more : (rules : List Rule) (word : List ℕ) → (length word ≡ 0 → ⊥) → None ≡ end_at rules word
-end_at-more rules [] some = absurd (some refl)
-end_at-more rules (unit ∷ word) some = refl
 
 pub end-match : (policy : Policy) (enc : Enc) (rules : List Rule) (word : List ℕ) (number : ℕ) → end_at rules word ≡ Some number
     → IsMatch policy enc (patterns_of rules) word 0 (matched number 0 [])

@@ -145,21 +145,6 @@ has_no_opener-word word text lacks none =
 pub has_no_opener-nil : HasNoOpener []
 has_no_opener-nil = HasNoOpener-places [] tt
 
--- a word without a slash alone
-pub has_no_opener-alone : (word : List ℕ) → EachLetter is_no_slash word → HasNoOpener word
-has_no_opener-alone word lacks = subst HasNoOpener (append-nil word) (has_no_opener-word word [] lacks has_no_opener-nil)
-
--- a text that ends with a letter that is neither `/` nor `*`, and any text
-pub has_no_opener-ended : (text : List ℕ) (letter : ℕ) (more : List ℕ) → is_no_slash letter ≡ true → Stops (codes "*!") (letter ∷ [])
-    → HasNoOpener text → HasNoOpener more → HasNoOpener (text ++ letter ∷ more)
-has_no_opener-ended text letter more slash stops none free =
-    has_no_opener-append text (letter ∷ more) stops none (has_no_opener-word (letter ∷ []) more (slash, tt) free)
-
--- both parts of a text
-pub has_no_opener-behind : (text more : List ℕ) → HasNoOpener (text ++ more) → HasNoOpener more
-has_no_opener-behind text more none front tail is =
-    none (text ++ front) tail (ap (λ (l : List ℕ). text ++ l) is ∙ sym (append_assoc text front tail))
-
 begins_with-more : (word text more : List ℕ) → begins_with word text ≡ true → begins_with word (text ++ more) ≡ true
 begins_with-more [] text more h = refl
 begins_with-more (letter ∷ word) [] more h = absurd (false≢true h)
@@ -203,9 +188,6 @@ lacks-decimal number h = lacks-word (decimal number) (decimal_lacks number h)
 
 lacks-short : (number : ℕ) → IsShort number → each_letter is_no_slash (decimal number) ≡ true
 lacks-short number h = lacks-decimal number (omega (arith, h))
-
-pub lacks-identifier : (word : List ℕ) → IsIdentifier word → each_letter is_no_slash word ≡ true
-lacks-identifier word h = lacks-word word (identifier_lacks word h)
 
 -- ---- line marks
 

@@ -66,10 +66,6 @@ all_above : (low high : ℕ) (cases : List StateCase) → low < high → AllByRe
 all_above low high [] less all = tt
 all_above low high (case ∷ cases) less all = let first = all.0 in (omega arith, all_above low high cases less all.1)
 
--- one case more before cases that ascend
-pub AreAscending-cons : (case next : StateCase) (cases : List StateCase) → case.state < next.state → AreAscending (next ∷ cases) → AreAscending (case ∷ next ∷ cases)
-AreAscending-cons case next cases less up = ((less, all_above case.state next.state cases less up.0), up)
-
 -- cases that ascend stand once each
 pub AreAscending-fresh : (case : StateCase) (cases : List StateCase) → AreAscending (case ∷ cases) → IsFresh case.state cases
 AreAscending-fresh case [] up = tt

@@ -1,7 +1,6 @@
 -- The rules of a valid piece, from its groups of rules and back; and a valid piece's numbers stay as they are.
-use Rattle.std.proofs.Common.{◌≡◌, ◌↔◌, ◌∙◌, ℕ, Bool, IsTrue, true, false, List, [], ◌∷◌, ◌++◌, length, map, Some, sym, subst}
+use Rattle.std.proofs.Common.{◌≡◌, ◌↔◌, ℕ, Bool, IsTrue, true, List, [], ◌∷◌, ◌++◌, length, map, Some, sym, subst}
 use Rattle.std.specs.Prelude.{IfSome}
-use Rattle.std.proofs.lemmas.Bool.{false≢true}
 use Rattle.std.specs.List.{AllByRecursion}
 use Rattle.lx_base.specs.Letters.{IsIdentifier}
 use Rattle.lx_base.specs.Names.{AreDistinct, Spellings}
@@ -164,10 +163,3 @@ IsValid-decides piece blocks conds head named valid kinds agree all blocks_is co
       λ e. let each = all_is.0 e in IsValid-from piece states.0 states.1 (head_is.0 each.0) (named_is.0 each.1) (fine_is.0 each.2) (kinds_is.0 each.3) (agree_is.0 each.4),
       λ valid. all_is.1 (head_is.1 (head_of piece valid), named_is.1 (conds_of piece valid), fine_is.1 (blocks_of piece valid), kinds_is.1 (kinds_of piece valid), agree_is.1 valid.head),
     )
-
-pub IsValid-refused : (piece : Piece) (blocks : List CodeBlock) (kept : Bool) → blocks ≡ piece.blocks
-    → IsTrue kept ↔ (AreOnce (states_from 0 blocks) × IfSome piece.states (IsStateSwitch blocks)) → kept ≡ false → IsTrue false ↔ IsValid piece
-IsValid-refused piece blocks kept blocks_is decides is = (
-  λ e. absurd (false≢true e),
-  λ valid. sym is ∙ decides.1 (subst (λ (b : List CodeBlock). AreOnce (states_from 0 b) × IfSome piece.states (IsStateSwitch b)) (sym blocks_is) (valid.states_differ, valid.state_switch)),
-)

@@ -1,6 +1,5 @@
 -- What cannot fail to hold. Excluded middle is free there: a proof may take cases by any fact.
-use Rattle.std.proofs.Common.{◌⊎◌, inl, inr, List, [], ◌∷◌}
-use Rattle.std.specs.List.{AllByRecursion}
+use Rattle.std.proofs.Common.{◌⊎◌, inl, inr}
 
 -- it cannot be that the fact does not hold
 abbrev pub Surely : Type 0 → Type 0
@@ -16,10 +15,3 @@ and_then sure follows fails = sure (λ fact. follows fact fails)
 
 pub excluded_middle : (Fact : Type 0) → Surely (Fact ⊎ (Fact → ⊥))
 excluded_middle Fact fails = fails (inr (λ fact. fails (inl fact)))
-
--- what surely holds of each of the items of a list surely holds of all at once
-pub all_surely : {Item : Type 0} (Holds : Item → Type 0) (items : List Item) → ((item : Item) → Surely (Holds item))
-    → Surely (AllByRecursion Holds items)
-all_surely Holds [] each = surely tt
-all_surely Holds (item ∷ items) each =
-    and_then (each item) (λ one. and_then (all_surely Holds items each) (λ others. surely (one, others)))

@@ -1,11 +1,9 @@
 -- The terminals of an expression are those of a form.
-use Rattle.std.proofs.Common.{◌≡◌, ℕ, ◌<◌, List, [], ◌∷◌, drop, length, refl, sym, ap, ◌∙◌, subst, arith}
-use Rattle.std.proofs.lemmas.List.{length-drop}
+use Rattle.std.proofs.Common.{◌≡◌, ◌<◌, List, [], ◌∷◌, length, refl, sym, ap, ◌∙◌, subst, arith}
 use Rattle.lx_parse.specs.declared.sorts.Sort.{Sort}
 use Rattle.lx_parse.specs.declared.sorts.Sort.TheVariants.{Bar, Backslash, Open, Close}
 use Rattle.lx_parse.specs.Sorts.{is_atom, is_postfix}
 use Rattle.lx_parse.specs.Expressions.{Part, alt, diff, post, Reads, sign, group, bare, repeated, first_post, next_post, first_cat, next_cat, first_diff, next_diff}
-use Rattle.lx_parse.specs.Ranges.{IsPart}
 use Rattle.lx_forms.specs.Lexemes.{Lexeme, sort_at, sorts_at}
 use Rattle.lx_forms.specs.Forms as forms
 use Rattle.lx_forms.specs.Forms.{Form, IsForm, is_leaf, is_group, is_bare, is_repeated, is_first_post, is_sequence, is_first_cat, is_difference, is_first_diff, is_alternative}
@@ -74,8 +72,3 @@ reads_some part text rest (next_cat _ middle _ read more) =
 reads_some part text rest (first_diff _ _ read) = reads_some _ text rest read
 reads_some part text rest (next_diff _ middle _ read more) =
     let one = reads_some _ text (Bar ∷ middle) read in let two = reads_some _ middle rest more in omega (arith, one, two)
-
-pub part_some : (sorts : List Sort) (from until : ℕ) → IsPart sorts alt from until → from < until
-part_some sorts from until part =
-    let less = reads_some alt (drop from sorts) (drop until sorts) part.reads in
-    omega (arith, less, length-drop from sorts, length-drop until sorts, part.within)

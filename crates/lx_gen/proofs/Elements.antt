@@ -11,8 +11,3 @@ All-each P (x ∷ xs) h (suc k) d lt = All-each P xs h.1 k d (omega (arith, lt))
 pub each-All : {A : Type 0} (P : A → Type 0) (xs : List A) → All P xs → AllByRecursion P xs
 each-All P [] h = tt
 each-All P (x ∷ xs) h = (h 0 x (omega arith), each-All P xs (λ k d lt. h (suc k) d (omega (arith, lt))))
-
--- what follows from it
-pub each-so : {A : Type 0} (P Q : A → Type 0) → ((x : A) → P x → Q x) → (xs : List A) → AllByRecursion P xs → AllByRecursion Q xs
-each-so P Q f [] h = tt
-each-so P Q f (x ∷ xs) h = (f x h.0, each-so P Q f xs h.1)

@@ -6,10 +6,6 @@ use Rattle.lx_files.specs.declared.sinks.PutAnswer.{PutAnswer}
 use Rattle.lx_files.proofs.PutLemmas.{HasPut, given_then-given_then, given_then-nil}
 use Rattle.lx_run.specs.Puts.{IsPut}
 
--- nothing was given
-pub GivesFront-nothing : (given : Option (List ℕ)) (text : List ℕ) → GivesFront given given text
-GivesFront-nothing given text = ([], (text, refl), given_then-nil given)
-
 pub GivesFront-same : (given given' : Option (List ℕ)) (text : List ℕ) → given' ≡ given → GivesFront given given' text
 GivesFront-same given given' text same = ([], (text, refl), same ∙ given_then-nil given)
 
@@ -76,17 +72,6 @@ module _ {given given' given'' : Option (List ℕ)} {faults faults' faults'' : �
     front = GivesFront-behind given given' given'' has.front rest [] text has.gave (ap (λ (tail : List ℕ). has.front ++ tail) (append-nil rest) ∙ has.splits) put.front;
     never_falls = let calm = has.calm in let rises = put.never_falls in omega (arith, calm, rises);
   }
-
--- all parts were put
-pub IsPut-all : {A : Type 0} {value : A} {given given' : Option (List ℕ)} {faults faults' : ℕ} {text : List ℕ} → HasPut given given' faults faults' text []
-    → IsPut given given' faults faults' text (Ok value)
-IsPut-all {given = given} {faults = faults} {faults' = faults'} {text = text} has = record {
-  gave = has.gave ∙ ap (given_then given) (sym (append-nil has.front) ∙ has.splits);
-  calm = has.calm;
-  refuses = tt;
-  front = tt;
-  never_falls = let calm = has.calm in omega (arith, calm);
-}
 
 -- ---- the first part
 

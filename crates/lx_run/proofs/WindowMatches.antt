@@ -6,7 +6,7 @@ use Rattle.lx_ccode.specs.Machine.{Machine, Value, units_of}
 use Rattle.lx_ccode.specs.Runs.{entry_block, fresh_machine, loop_count}
 use Rattle.lx_window.specs.Ahead.{Ahead}
 use Rattle.lx_window.specs.WindowView.{WindowView}
-use Rattle.lx_window.specs.Windows.{IsFedBy, IsFormed, IsWindowOf, Refills, begun}
+use Rattle.lx_window.specs.Windows.{IsWindowOf, Refills}
 use Rattle.lx_window.specs.declared.refills.Fill.{Fill}
 use Rattle.lx_step.specs.declared.answers.Outcome.{Outcome}
 use Rattle.lx_step.specs.declared.answers.Outcome.TheVariants.{NeedFill, ReadFailed, Memory}
@@ -19,7 +19,6 @@ use Rattle.lx_step.specs.Held.{Held, is_last}
 use Rattle.lx_step.specs.Left.{Left}
 use Rattle.lx_step.specs.Points.{LeadsTo, Point, point_at}
 use Rattle.lx_step.specs.Tags.{tag_names}
-use Rattle.lx_window.proofs.StreamWindows.{IsFedBy-begun}
 use Rattle.lx_step.proofs.FedWindows.{IsFed-limit}
 use Rattle.lx_run.specs.Matches.{MatchEnd, ended, match_from, match_fuel, match_of, point_back, stand_back}
 use Rattle.lx_run.specs.Readings.{Reading, is_whole, refill_at}
@@ -437,37 +436,3 @@ module _ (piece : Piece) (reading : Reading) (leaves : Bool) (between : Between)
               (subst (λ one. chances reading leaving_again again.window.limit < chances reading one before.window.limit) (sym leaves_before)
               (omega (arith, chances-again, grows)));
         }
-
--- ---- behind a match
-
--- the window begins at the cursor, and the next match can be made
-pub IsBetween-behind : (piece : Piece) (reading : Reading) (leaves : Bool) (between : Between) (end : MatchEnd) (held : Held)
-    (feed next : Feed) → between.held.piece ≡ piece
-    → IsBehind reading piece.unit leaves between end held feed → is_last end.told ≡ false
-    → next.window ≡ begun feed.window end.stand.point.machine.cursor → next.ahead ≡ feed.ahead → IsFormed next.window
-    → IsBetween piece reading leaves (behind between end) held next
-IsBetween-behind piece reading leaves between end held feed next piece_is matched goes window ahead formed =
-    let at = matched.at goes in
-    let cursor : ℕ = end.stand.point.machine.cursor in
-    record {
-      held_is = matched.held_is;
-      piece_is = piece_is;
-      unleft = refl;
-      fit = goes;
-      at = record {
-        formed = formed;
-        unit_is = ap (λ (one : WindowView). one.unit) window ∙ at.unit_is;
-        size_is = ap (λ (one : WindowView). one.size) window ∙ at.size_is;
-        start_is = ap (λ (one : WindowView). one.start) window;
-        limit_is = ap (λ (one : WindowView). one.limit) window ∙ at.limit_is;
-        fed =
-            let from : feed.window.start ≤ cursor = let b = matched.from in omega (arith, at.start_is, b) in
-            let within : cursor ≤ feed.window.limit = let b = matched.within in omega (arith, at.limit_is, b) in
-            subst (IsFedBy reading.stream next.window) (sym ahead)
-            (subst (λ one. IsFedBy reading.stream one feed.ahead) (sym window) (IsFedBy-begun reading.stream feed.window cursor feed.ahead at.fed from within));
-        bytes = at.bytes;
-        ahead_is = ahead ∙ at.ahead_is;
-        closed = at.closed;
-        never = at.never;
-      };
-    }

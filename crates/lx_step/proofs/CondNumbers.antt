@@ -1,5 +1,5 @@
 -- Conditions by their numbers.
-use Rattle.std.proofs.Common.{arith, ◌<◌, ◌≡◌, ◌∙◌, sym, ap, subst, refl, ℕ, suc, ◌==◌, Bool, true, false, ◌||◌, List, [], ◌∷◌, ◌++◌, length, map, Option, slice_get}
+use Rattle.std.proofs.Common.{arith, ◌<◌, ◌≡◌, ◌∙◌, sym, ap, subst, refl, ℕ, ◌==◌, Bool, true, false, ◌||◌, List, [], ◌∷◌, ◌++◌, length, map, Option, slice_get}
 use Rattle.std.specs.List.{list_any}
 use Rattle.std.specs.Option.{option_map}
 use Rattle.std.proofs.lemmas.Bool.{false≢true}
@@ -13,9 +13,6 @@ use Rattle.lx_step.specs.declared.scanner.Going.TheVariants.{Next}
 use Rattle.lx_step.specs.declared.scanner.Scanner.{Scanner}
 use Rattle.lx_step.specs.Conds.{IsCond, cond_name, cond_number}
 use Rattle.lx_step.specs.Steps.{IsStep, machine_of}
-
-cond_name-next : (case : CondCase) (cases : List CondCase) (number : ℕ) → cond_name (case ∷ cases) (suc number) ≡ cond_name cases number
-cond_name-next case cases number = refl
 
 -- a condition that is one of them has its name back by its number
 pub cond_name-number : (conds : List CondCase) (cond : List ℕ) → list_any (equal_words cond) (map (λ case. case.cond) conds) ≡ true → cond_name conds (cond_number conds cond) ≡ cond

@@ -1,11 +1,5 @@
 -- Facts about lists.
-use Rattle.std.proofs.Common.{◌≡◌, ap, refl, ℕ, zero, suc, ◌<◌, List, [], ◌∷◌, ◌++◌, length, take, drop, set, arith, Some, None, slice_get}
-
--- an element put in the place of another
-pub set-parts : {A : Type 0} (items : List A) (place : ℕ) (item : A) → place < length items → set items place item ≡ take place items ++ item ∷ drop (suc place) items
-set-parts [] place item h = absurd (omega (arith, h))
-set-parts (first ∷ items) zero item h = refl
-set-parts (first ∷ items) (suc place) item h = ap (λ rest. first ∷ rest) (set-parts items place item (omega (arith, h)))
+use Rattle.std.proofs.Common.{◌≡◌, ap, refl, ℕ, zero, suc, ◌<◌, List, [], ◌∷◌, length, drop, arith, Some, None, slice_get}
 
 -- what stands behind a place, by the element there
 pub drop-slice_get : {A : Type 0} (items : List A) (place : ℕ) (item : A) → slice_get items place ≡ Some item → drop place items ≡ item ∷ drop (suc place) items

@@ -1,18 +1,17 @@
 -- That the tables have room for what statements name.
-use Rattle.std.proofs.Common.{◌∙◌, sym, ap, subst, ℕ, ◌≤◌, List, [], ◌∷◌, length, Option, arith}
+use Rattle.std.proofs.Common.{sym, subst, ℕ, ◌≤◌, List, [], ◌∷◌, length, Option, arith}
 use Rattle.std.specs.List.{AllByRecursion}
 use Rattle.lx_ccode.specs.declared.piece.CodeBlock.{CodeBlock}
 use Rattle.lx_ccode.specs.declared.piece.Stmt.{Stmt}
 use Rattle.lx_ccode.specs.Statements.{all_statements}
 use Rattle.lx_step.specs.declared.matches.Position.{Position}
-use Rattle.lx_step.specs.declared.numbers.Numbering.{Numbering}
 use Rattle.lx_step.specs.declared.numbers.Sort.TheVariants.{Register, History}
 use Rattle.lx_step.specs.declared.scanner.Scanner.{Scanner}
 use Rattle.lx_step.specs.Given.{Given}
 use Rattle.lx_step.specs.Numbers.{numbers_of}
 use Rattle.lx_step.specs.Places.{StandsAt}
 use Rattle.lx_step.specs.Sizes.{groups_of, groups_of_all}
-use Rattle.lx_step.specs.Steps.{HasRoomFor, HasTables, IsPlaced, KeepsLengths, KeepsTables}
+use Rattle.lx_step.specs.Steps.{HasRoomFor, HasTables, IsPlaced}
 use Rattle.lx_step.proofs.CountedNumbers.{AreAmong, IsAmong, IsPlaced-among, all-among-from}
 use Rattle.lx_step.proofs.Places.{all-stands}
 
@@ -38,16 +37,3 @@ HasRoomFor-statement blocks at statement scanner given tables stands =
       other = history _ histories.second;
       groups = omega (arith, groups, tables.entries);
     }
-
-pub HasTables-kept : (blocks : List CodeBlock) (old new : Scanner) (given more : Given) → HasTables blocks old given → KeepsTables old new → KeepsLengths given more → HasTables blocks new more
-HasTables-kept blocks old new given more tables kept lengths = record {
-  numbering = record {
-    registers = ap (λ (numbering : Numbering). numbering.registers.keys) kept.numbering ∙ tables.numbering.registers;
-    histories = ap (λ (numbering : Numbering). numbering.histories.keys) kept.numbering ∙ tables.numbering.histories;
-  };
-  registers = kept.registers ∙ tables.registers;
-  histories = kept.histories ∙ tables.histories;
-  offsets = lengths.offsets ∙ tables.offsets;
-  tag_histories = lengths.histories ∙ tables.tag_histories;
-  entries = lengths.entries ∙ tables.entries;
-}

@@ -1,6 +1,6 @@
 -- Registers and histories as functions of their numbers.
 use mathlib.Core.Path.{fun_ext}
-use Rattle.std.proofs.Common.{◌≤◌, ◌≡◌, ◌∙◌, sym, ap, subst, refl, ℕ, zero, suc, ◌+◌, ◌<◌, ◌==◌, Bool, true, false, List, [], ◌∷◌, length, length-set, set, get_or, replicate, get_or-set_other, eqb-true, eq-eqb, Option, None, Some, position, arith, if◌then◌else◌, Result, Ok, Err, IfOk}
+use Rattle.std.proofs.Common.{◌≤◌, ◌≡◌, ◌∙◌, sym, ap, subst, refl, ℕ, zero, suc, ◌+◌, ◌<◌, ◌==◌, Bool, true, false, List, [], ◌∷◌, length, length-set, set, get_or, get_or-set_other, eqb-true, eq-eqb, Option, None, Some, position, arith, if◌then◌else◌, Result, Ok, Err, IfOk}
 use Rattle.std.specs.List.{AllByRecursion}
 use Rattle.std.proofs.lemmas.Bool.{false≢true}
 use Rattle.std.proofs.lemmas.Grind.{get_or-set_at}
@@ -20,15 +20,6 @@ use Rattle.lx_step.specs.Conds.{IsCond}
 use Rattle.lx_step.specs.Left.{IsBehind, IsFrom}
 use Rattle.lx_step.specs.Numbers.{place_of}
 use Rattle.lx_step.specs.Steps.{content_of, history_at, machine_of, IsStep, Moves, SetsRegister, state_after, values_after}
-
--- a table in which nothing stands
-pub empty_table : {A : Type 0} (count : ℕ) (none : A)
-    → (let read : ℕ → A = λ at. get_or (replicate count none) at none in read) ≡ (λ at. none)
-empty_table {A} count none = fun_ext (λ at. one count at) where
-  one : (count at : ℕ) → get_or (replicate count none) at none ≡ none
-  one zero at = refl
-  one (suc count) zero = refl
-  one (suc count) (suc at) = one count at
 
 -- ---- by numbers
 

@@ -3,7 +3,7 @@ use Rattle.std.proofs.Common.{◌≡◌, ◌∙◌, sym, ap, subst, refl, if◌t
 use Rattle.std.specs.List.{list_any}
 use Rattle.std.specs.Option.{option_map}
 use Rattle.std.proofs.lemmas.Bool.{false≢true}
-use Rattle.std.proofs.Math.Seq.{drop-cons, take-suc}
+use Rattle.std.proofs.Math.Seq.{take-suc}
 use Rattle.lx_base.specs.Letters.{equal_words}
 use Rattle.lx_ccode.proofs.Words.{equal_words-true}
 use Rattle.lx_ccode.specs.declared.piece.Stmt.{Stmt}
@@ -12,7 +12,6 @@ use Rattle.lx_ccode.specs.declared.piece.CodeBlock.{CodeBlock}
 use Rattle.lx_ccode.specs.NameSets.{first_place}
 use Rattle.lx_ccode.specs.Statements.{all_statements, statement_count}
 use Rattle.lx_step.specs.Tags.{gives, has_name, is_new, names_from, tag_names, with_name}
-use Rattle.lx_step.proofs.BlockLists.{all_statements-drop}
 
 -- ---- which names there are
 
@@ -163,26 +162,6 @@ pub length-names_from : (statements : List Stmt) (names : List (List ℕ)) → l
 length-names_from [] names = omega arith
 length-names_from (Tag name is_history place ∷ statements) names = omega (arith, length-with_name name names, length-names_from statements (with_name name names))
 length-names_from (_ ∷ statements) names = length-names_from statements names
-
--- with the names of the next statement there are at most as many as in the end
-pub length-next_name : (statements : List Stmt) (place : ℕ) (statement : Stmt) (names all : List (List ℕ)) → place < length statements → statement ≡ get_or statements place statement
-    → names_from (drop place statements) names ≡ all → length (names_from (statement ∷ []) names) ≤ length all
-length-next_name statements place statement names all below is so_far =
-    let split : drop place statements ≡ statement ∷ drop (suc place) statements = drop-cons statements place statement below ∙ ap (λ one. one ∷ drop (suc place) statements) (sym is) in
-    let total : names_from (drop (suc place) statements) (names_from (statement ∷ []) names) ≡ all =
-    sym (names_from-append (statement ∷ []) (drop (suc place) statements) names) ∙ ap (λ rest. names_from rest names) (sym split) ∙ so_far in
-    let long : length (names_from (statement ∷ []) names) ≤ length (names_from (drop (suc place) statements) (names_from (statement ∷ []) names)) =
-    length-names_from (drop (suc place) statements) (names_from (statement ∷ []) names) in
-    omega (arith, long, ap length total)
-
-pub length-next_names : (blocks : List CodeBlock) (place : ℕ) (block : CodeBlock) (front : List Stmt) (names all : List (List ℕ)) → place < length blocks → block ≡ get_or blocks place block
-    → front ≡ block.stmts → names_from (all_statements (drop place blocks)) names ≡ all → length (names_from front names) ≤ length all
-length-next_names blocks place block front names all below is front_is so_far =
-    let rest : List Stmt = all_statements (drop (place + 1) blocks) in
-    let total : names_from rest (names_from front names) ≡ all =
-    sym (names_from-append front rest names) ∙ ap (λ statements. names_from statements names) (sym (all_statements-drop blocks place block front below is front_is)) ∙ so_far in
-    let long : length (names_from front names) ≤ length (names_from rest (names_from front names)) = length-names_from rest (names_from front names) in
-    omega (arith, long, ap length total)
 
 -- ---- counted
 

@@ -1,10 +1,10 @@
 -- Tables of tags, and how tags are found in them by their names.
-use Rattle.std.proofs.Common.{◌≡◌, ◌∙◌, sym, ap, subst, refl, inl, inr, ◌⊎◌, ltb, ltb-true, ltb-false, if◌then◌else◌, ℕ, zero, suc, ◌+◌, ◌<◌, ◌≤◌, ◌==◌, Bool, true, false, ◌||◌, List, [], ◌∷◌, ◌++◌, length, append_assoc, drop, take-append-drop, length-append, length-set, length-take-le, map, replicate, set, take, get_or, get_or-set_other, get_or-set_same, get_or-take, take-suc, take-take, mod-lt, eq-eqb, eqb-true, Option, Some, None, arith}
+use Rattle.std.proofs.Common.{◌≡◌, ◌∙◌, sym, ap, subst, refl, inl, inr, ◌⊎◌, ltb, ltb-true, ltb-false, if◌then◌else◌, ℕ, zero, suc, ◌+◌, ◌<◌, ◌≤◌, ◌==◌, Bool, true, false, ◌||◌, List, [], ◌∷◌, ◌++◌, length, append_assoc, drop, take-append-drop, length-append, length-set, length-take-le, map, set, take, get_or, get_or-set_other, get_or-set_same, get_or-take, take-suc, take-take, mod-lt, eq-eqb, eqb-true, Option, Some, None, arith}
 use Rattle.std.specs.List.{AllByRecursion, list_any}
 use Rattle.std.specs.Option.{option_map}
 use Rattle.std.proofs.Math.Seq.{map-set_same}
 use Rattle.std.proofs.lemmas.Bool.{false≢true}
-use Rattle.std.proofs.lemmas.List.{get_or_append_left, get_or_at, length-map, map-append, take-append-le, take_at, get_or-map, get_or-replicate, get_or_default, length-replicate}
+use Rattle.std.proofs.lemmas.List.{get_or_append_left, get_or_at, length-map, map-append, take-append-le, take_at, get_or-map, get_or_default}
 use Rattle.std.proofs.lemmas.List.Folds.{list_any-append}
 use Rattle.lx_base.specs.Letters.{equal_words}
 use Rattle.lx_base.specs.Names.{AreDistinct, IsNoneOf}
@@ -506,21 +506,6 @@ module _ (blocks : List CodeBlock) (statements : List Stmt) where
             subst (AllByRecursion (HasFlags blocks (statements ++ Tag word history register ∷ []))) (sym marks)
             (all-HasFlags-marked blocks statements word register history middle.tags.items (length old.tags.items) (subst AreDistinct (sym table.named) table.distinct) place flags);
       }
-
--- no tags of no statements, in buckets that are all empty
-pub AreTagsOf-none : (blocks : List CodeBlock) (table : TagTable) (buckets : ℕ) → table.tags.items ≡ [] → table.latest.items ≡ replicate buckets None → 0 < buckets → AreTagsOf blocks [] table
-AreTagsOf-none blocks table buckets none empty some = record {
-  listed = record {
-    named = ap (map (told_name blocks)) none;
-    distinct = tt;
-    linked = subst (λ latest. AreLinked [] (map (λ (tag : TagName). tag.before) table.tags.items) latest) (sym empty) (record {
-      some = omega (arith, some, length-replicate {A = Option ℕ} buckets None);
-      last = λ bucket h. get_or-replicate buckets bucket None None (omega (arith, h, length-replicate {A = Option ℕ} buckets None));
-      before = λ place h. absurd (omega (arith, h));
-    });
-  };
-  flags = subst (AllByRecursion (HasFlags blocks [])) (sym none) tt;
-}
 
 -- ---- room
 

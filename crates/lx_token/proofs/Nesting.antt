@@ -1,16 +1,13 @@
 -- The steps by which braces are passed over.
-use Rattle.std.proofs.Common.{unwrap_or, false, ◌≡◌, ℕ, zero, suc, ◌+◌, ◌-◌, ◌<◌, ◌≤◌, ◌≢◌, List, [], ◌∷◌, length, Some, None, refl, arith, eq-eqb, sym, ◌∙◌, add-one}
+use Rattle.std.proofs.Common.{◌≡◌, ℕ, zero, suc, ◌+◌, ◌-◌, ◌<◌, ◌≤◌, ◌≢◌, List, [], ◌∷◌, length, Some, None, refl, arith, eq-eqb, sym, ◌∙◌, add-one}
 use Rattle.std.proofs.lemmas.Bool.{ne_eqb}
-use Rattle.lx_token.specs.Braces.{after_braces, after_literal, after_unquoted, after_piece}
+use Rattle.lx_token.specs.Braces.{after_braces, after_piece}
 
 -- the braces of the text are passed over as those of its rest are at this depth
 pub record Reaches (text rest : List ℕ) (depth : ℕ) : Type 0 where
   pub steps : ℕ
   pub enough : length rest ≤ steps
   pub same : after_braces steps depth rest ≡ after_braces (length text) 0 text
-
-pub Reaches-start : (text : List ℕ) → Reaches text text 0
-Reaches-start text = record { steps = length text; enough = omega arith; same = refl }
 
 end_at : (steps depth : ℕ) → after_braces steps depth [] ≡ None
 end_at zero depth = refl
@@ -79,16 +76,3 @@ module _ (text tail : List ℕ) (letter depth : ℕ) where
   pub Reaches-stuck : letter ≢ 123 → letter ≢ 125 → after_piece (letter ∷ tail) ≡ None → Reaches text (letter ∷ tail) depth →
       after_braces (length text) 0 text ≡ None
   Reaches-stuck no_open no_close piece at = stuck_at at.steps no_open no_close piece at.enough at.same
-
--- the piece at a quote, and the piece at any other byte
-pub after_piece-string : (letter : ℕ) (text : List ℕ) → letter ≡ 34 → after_piece (letter ∷ text) ≡ Some (unwrap_or (after_literal 34 false text) text)
-after_piece-string letter text is = rw is refl
-
-pub after_piece-character : (letter : ℕ) (text : List ℕ) → letter ≡ 39 → after_piece (letter ∷ text) ≡ Some (unwrap_or (after_literal 39 false text) text)
-after_piece-character letter text is = rw is refl
-
-pub after_piece-other : (letter : ℕ) (text : List ℕ) → letter ≢ 34 → letter ≢ 39 → after_piece (letter ∷ text) ≡ after_unquoted (letter ∷ text)
-after_piece-other letter text no_string no_character =
-    let first = ne_eqb letter 34 no_string in
-    let second = ne_eqb letter 39 no_character in
-    rw (first, second)

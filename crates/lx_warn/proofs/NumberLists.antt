@@ -75,28 +75,6 @@ search-has numbers number result ascend found =
 
 -- ---- the numbers of rules that are entered
 
-pub entered-none : (rule : ℕ → Option ℕ) (at_end : Option ℕ) → AreEntered rule at_end 0 ([] ++ listed at_end)
-entered-none rule None = record {
-  sound = λ number has. absurd (Contains-nothing number has);
-  complete = λ number entered. absurd (at number entered);
-}
-  where
-    at : (number : ℕ) → IsEnteredBelow rule None 0 number → ⊥
-    at number (inl is) = cc is
-    at number (inr (state, lt, is)) = omega arith
-entered-none rule (Some first) = record {
-  sound = λ number has. inl (ap Some (one number has));
-  complete = at;
-}
-  where
-    one : (number : ℕ) → Contains (first ∷ []) number → first ≡ number
-    one number (zero, within, is) = is
-    one number (suc place, within, is) = absurd (omega arith)
-
-    at : (number : ℕ) → IsEnteredBelow rule (Some first) 0 number → Contains (first ∷ []) number
-    at number (inl is) = let same : first ≡ number = cc is in (0, omega arith, same)
-    at number (inr (state, lt, is)) = absurd (omega arith)
-
 pub entered-more : (rule : ℕ → Option ℕ) (at_end : Option ℕ) (bound : ℕ) (numbers : List ℕ) → AreEntered rule at_end bound numbers
     → AreEntered rule at_end (bound + 1) (numbers ++ listed (rule bound))
 entered-more rule at_end bound numbers is = record {

@@ -166,17 +166,6 @@ others_has options definitions ranges raw set all rest same taken every canonica
   );
 }
 
--- and those of the class itself, where it is not
-pub own_has : (options : Options) (definitions : List Definition) (ranges raw set : List Range) → HaveSamePoints ranges raw
-    → IsSetOf (IsAfter options.surrogates raw) set → IsSetOf (ClassHas options definitions false ranges) set
-own_has options definitions ranges raw set same taken = record {
-  canonical = taken.canonical;
-  points = λ point. (
-    λ is. (after-same ranges raw same options.surrogates point).1 ((taken.points point).0 is),
-    λ has. (taken.points point).1 ((after-same ranges raw same options.surrogates point).0 has),
-  );
-}
-
 -- a set that is not empty is a class that is filled
 pub filled_some : (options : Options) (definitions : List Definition) (policy : EmptyPolicy) (operand : Bool) (at : Pos) (set : List Range)
     → IsCanonical set → (length set == 0) ≡ false → IsFilled options definitions policy operand at (InRanges set) None

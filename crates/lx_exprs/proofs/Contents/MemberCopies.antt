@@ -1,13 +1,12 @@
 -- Copies of expressions, form by form.
-use Rattle.std.proofs.Common.{◌≡◌, ℕ, zero, suc, ◌+◌, ◌*◌, ◌<◌, ◌≤◌, ◌⊎◌, inl, inr, arith, Bool, false, List, [], ◌∷◌, ◌++◌, map, take, get_or, length, Vec, Box, Global, Option, refl, sym, ap, ap₂, ◌∙◌, subst}
+use Rattle.std.proofs.Common.{◌≡◌, ℕ, zero, suc, ◌+◌, ◌*◌, ◌<◌, ◌≤◌, ◌⊎◌, inl, inr, arith, List, [], ◌∷◌, ◌++◌, map, take, get_or, length, Vec, Box, Global, Option, refl, sym, ap, ap₂, ◌∙◌, subst}
 use Rattle.std.proofs.Math.Seq.{take-suc}
 use Rattle.std.proofs.lemmas.List.{map-append}
-use Rattle.std.specs.Prelude.{◌==◌, if◌then◌else◌}
 use Rattle.lx_regex.specs.Term.{cat, alt, repeat, group, cons}
-use Rattle.lx_regex.specs.Expr.{members_of, size_of, term_of}
+use Rattle.lx_regex.specs.Expr.{members_of, term_of}
 use Rattle.lx_regex.specs.declared.expr.Expr.{Expr}
 use Rattle.lx_regex.specs.declared.expr.Expr.TheVariants.{Cat, Alt, Rep, Group}
-use Rattle.lx_regex.proofs.Trees.Folds.{size_of-group, term_of-cat, term_of-alt, term_of-rep, term_of-group}
+use Rattle.lx_regex.proofs.Trees.Folds.{term_of-cat, term_of-alt, term_of-rep, term_of-group}
 use Rattle.lx_exprs.specs.Meanings.{shifted, shifted_all}
 use Rattle.lx_exprs.specs.Values.{HasTagsBelow, HaveTagsBelow}
 
@@ -85,18 +84,6 @@ pub group-below : (first bound number : ℕ) (body : Box Expr Global) → HasTag
 group-below first bound number body below =
     let is = subst (HasTagsBelow first bound) (term_of-group 0 number body) below in
     (omega (arith, is.0), omega (arith, is.1), is.2)
-
--- a copy of a group has its size, where it has its number, or another one than 0
-pub group-size : (groups number : ℕ) (copy body : Box Expr Global) → (groups ≡ 0) ⊎ (1 ≤ number) → size_of copy.value ≡ size_of body.value
-    → size_of (Group (number + groups) copy) ≡ size_of (Group number body)
-group-size groups number copy body some same =
-    let tests : (number + groups == 0) ≡ (number == 0) = elim some [
-      | inl none ↦ let sum : number + groups ≡ number = omega (arith, none) in ap (λ n. n == 0) sum
-      | inr more ↦
-          let other : (number + groups == 0) ≡ false = search (arith, more) in let none : (number == 0) ≡ false = search (arith, more) in
-          other ∙ sym none
-    ] in
-    size_of-group (number + groups) copy ∙ ap₂ (λ (b : Bool) (n : ℕ). if b then n else n + 2) tests same ∙ sym (size_of-group number body)
 
 -- what stands in a copy may be a copy with its size
 module _ (groups : ℕ) where

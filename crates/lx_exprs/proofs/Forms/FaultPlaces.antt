@@ -1,5 +1,5 @@
 -- The faults that the checks of an expression find stand at its tokens, and so in their file.
-use Rattle.std.proofs.Common.{◌≡◌, ℕ, suc, ◌<◌, arith, Bool, true, false, List, [], ◌∷◌, ◌++◌, length, Option, Some, None, subst, inl, inr}
+use Rattle.std.proofs.Common.{◌≡◌, ℕ, suc, Bool, true, false, List, [], ◌∷◌, ◌++◌, Option, Some, None, subst, inl, inr}
 use Rattle.std.specs.Prelude.{◌&&◌, if◌then◌else◌}
 use Rattle.std.specs.Option.{option_map, option_or}
 use Rattle.lx_base.specs.declared.faults.Fault.{Fault}
@@ -25,19 +25,6 @@ use Rattle.lx_exprs.specs.FaultPlaces.{StandsIn}
 use Rattle.lx_exprs.specs.Points.{least_from, points_fault, singles, surrogate_fault, up_to}
 use Rattle.lx_token.specs.declared.kinds.TokenKind.{TokenKind}
 use Rattle.lx_token.specs.declared.kinds.TokenKind.TheVariants as kind
-
--- a form has a token
-form_some : {part : Part} {text rest : List Lexeme} {form : Form} → IsForm part text rest form → 0 < length text
-form_some (is_leaf lexeme rest atom) = omega arith
-form_some (is_group opening closing text rest inner opens closes form) = omega arith
-form_some (is_bare text rest form is) = form_some is
-form_some (is_repeated text rest sign inner is postfix) = form_some is
-form_some (is_first_post text rest form is) = form_some is
-form_some (is_sequence text middle rest front back is other) = form_some is
-form_some (is_first_cat text rest form is) = form_some is
-form_some (is_difference text middle rest sign left right signs is other) = form_some is
-form_some (is_first_diff text rest form is) = form_some is
-form_some (is_alternative text middle rest sign left right signs is other) = form_some is
 
 module _ (file : ℕ) where
   -- a fault that is found stands in the file

@@ -1,18 +1,11 @@
 -- Names and tags, one by one.
 use Rattle.std.proofs.Common.{◌≡◌, ℕ, ◌+◌, ◌<◌, List, drop, get_or, length, sym, ap, ◌∙◌}
-use Rattle.std.specs.Prelude.{◌||◌, Some, if◌then◌else◌}
-use Rattle.std.specs.Str.{bytes_eq}
+use Rattle.std.specs.Prelude.{Some, if◌then◌else◌}
 use Rattle.std.proofs.lemmas.List.{at_drop_more}
 use Rattle.lx_base.specs.declared.places.Pos.{Pos}
 use Rattle.lx_base.specs.declared.faults.Fault.TheVariants.{DuplicateTag}
-use Rattle.lx_exprs.specs.Checks.{is_among, is_tag_among, repeated_tag}
+use Rattle.lx_exprs.specs.Checks.{is_tag_among, repeated_tag}
 use Rattle.lx_regex.specs.declared.rules.Tag.{Tag}
-
--- the next of the names that are left
-pub is_among-drop : (name : List ℕ) (names : List (List ℕ)) (i : ℕ) (item : List ℕ) → i < length names → item ≡ get_or names i item
-    → is_among name (drop i names) ≡ (bytes_eq name item || is_among name (drop (i + 1) names))
-is_among-drop name names i item lt is =
-    at_drop_more (is_among name) names i item lt ∙ ap (λ other. bytes_eq name other || is_among name (drop (i + 1) names)) (sym is)
 
 -- and the next of the tags
 pub repeated_tag-drop : (at : Pos) (tags seen : List Tag) (i : ℕ) (item : Tag) → i < length tags → item ≡ get_or tags i item

@@ -1,6 +1,6 @@
 -- What is right of an automaton with greater numbers of rules: the same marks and trees, and as many states ask for a refill.
 use Rattle.std.specs.Prelude.{◌≡◌, ℕ, zero, suc, ◌+◌, ◌<◌, ◌||◌, ◌&&◌, List, [], ◌∷◌, length, map, Option, Some, None, Contains, option_map, is_some, nat_eq, refl}
-use Rattle.std.proofs.Common.{sym, ap, ap₂, ◌∙◌, subst, arith, true≢false}
+use Rattle.std.proofs.Common.{sym, ap, ap₂, ◌∙◌, subst, true≢false}
 use Rattle.std.proofs.lemmas.Bool.{false≢true}
 use Rattle.std.proofs.lemmas.List.{length-map}
 use Rattle.std.specs.List.{list_any}
@@ -17,24 +17,6 @@ use Rattle.lx_layout.specs.TestTrees.{IsTreeOf, TestTree}
 use Rattle.lx_layout.specs.UnitApart.{reader_split}
 use Rattle.lx_renumber.specs.Renumbered.{renumbered, renumbered_accept, renumbered_state}
 use Rattle.lx_layout.proofs.Fronts.RenumberedAccepts.{ended_accepts-renumbered, state_of-renumbered}
-
--- ---- numbers that are no greater
-
-same_accept : (accept : Accept) → renumbered_accept 0 accept ≡ accept
-same_accept accept = let e : accept.rule + 0 ≡ accept.rule = omega arith in ap (λ rule. record accept { rule = rule }) e
-
-same_option : (accept : Option Accept) → option_map (renumbered_accept 0) accept ≡ accept
-same_option None = refl
-same_option (Some accept) = ap Some (same_accept accept)
-
-same_states : (states : List State) → map (renumbered_state 0) states ≡ states
-same_states [] = refl
-same_states (given ∷ states) =
-    ap₂ (λ (state : State) (others : List State). state ∷ others)
-    (ap (λ accept. record given { accept = accept }) (same_option given.accept)) (same_states states)
-
-pub renumbered-none : (auto : Auto) → renumbered 0 auto ≡ auto
-renumbered-none auto = ap (λ states. record auto { states = states }) (same_states auto.states)
 
 module _ (by : ℕ) where
   -- ---- states

@@ -23,10 +23,6 @@ module _ (demand : Demand) (end_rule other : Option ℕ) (auto auto_on : Auto)
   supply_from-behind : SuppliesBehind first (supply_from demand other auto_on first) (supply_from demand end_rule auto 0)
   supply_from-behind = record { eof = refl; tries = refl; check = refl; numbers = stored_from-behind demand.stores }
 
-pub supplies-behind : (demand : Demand) (end_rule : Option ℕ) (auto : Auto) (first : ℕ)
-    → SuppliesBehind first (supply_from demand end_rule auto first) (supply_from demand end_rule auto 0)
-supplies-behind demand end_rule auto first = supply_from-behind demand end_rule end_rule auto auto (λ number. refl) first
-
 pub supplies-renumbered : (by : ℕ) (demand : Demand) (end_rule other : Option ℕ) → is_some other ≡ is_some end_rule → (auto : Auto)
     (first : ℕ)
     → SuppliesBehind first (supply_from demand other (renumbered by auto) first) (supply_from demand end_rule auto 0)

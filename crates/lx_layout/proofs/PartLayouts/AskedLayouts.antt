@@ -12,7 +12,7 @@ use Rattle.lx_ccode.specs.declared.piece.Stmt.TheVariants.{Goto, Peek}
 use Rattle.lx_layout.specs.Endings.{Ending}
 use Rattle.lx_layout.specs.Halting.{Halting}
 use Rattle.lx_layout.specs.SuppliedLayout.{blocks_at_end, read_blocks, reader_blocks, supplied_layout}
-use Rattle.lx_layout.specs.Supplies.{Reader, Supply, need_code, try_code}
+use Rattle.lx_layout.specs.Supplies.{Reader, Supply, need_code}
 use Rattle.lx_layout.specs.TestTrees.{TestTree, fork, inner_blocks, leaf, test, tree_code}
 use Rattle.lx_layout.proofs.PartLayouts.CalmBlocks.{Calm, IsCalm}
 use Rattle.lx_layout.proofs.PartLayouts.CalmLayouts.{calm_layout}
@@ -137,10 +137,6 @@ checks_need stored reader zero from tree some = absurd (some refl)
 checks_need stored reader (suc units) from (leaf block) some = ap (λ t. t || false) (need_has stored reader units (Goto block ∷ []))
 checks_need stored reader (suc units) from (test greatest block high) some = read_needs stored reader units from (test greatest block high)
 checks_need stored reader (suc units) from (fork greatest low high) some = read_needs stored reader units from (fork greatest low high)
-
-try_has : (stored : Option (Reader → ℕ)) (reader : Reader) (block end : ℕ) → list_any is_try (try_code stored reader block end) ≡ true
-try_has None reader block end = refl
-try_has (Some number) reader block end = refl
 
 pub turn_tries : (stored : Option (Reader → ℕ)) (reader : Reader) (eof : Option ℕ) (tries : Bool) (block here : ℕ) (to : ℕ → ℕ) (end : ℕ)
     → is_some eof ≡ true → tries ≡ true → Has is_try (blocks_at_end stored reader eof tries block here to end)

@@ -24,9 +24,6 @@ with_given part given = record { given = given; halting = part.halting; trees = 
 pub of_given : (Q : Part → Type 0) (part : Part) (given : Given) → part.given ≡ given → Q (with_given part given) → Q part
 of_given Q part given same h = subst (λ other. Q (with_given part other)) (sym same) h
 
-pub with_own : (Q : Part → Type 0) (part : Part) (given : Given) → part.given ≡ given → Q part → Q (with_given part given)
-with_own Q part given same h = subst (λ other. Q (with_given part other)) same h
-
 module _ (form : Form) (conds : List (List ℕ)) where
   abbrev pub AreFitScanners : List Source → Type 0
   AreFitScanners scanners = AllByRecursion (IsFitScanner form conds) scanners

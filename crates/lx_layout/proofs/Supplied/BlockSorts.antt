@@ -15,7 +15,7 @@ use Rattle.lx_layout.specs.Codes.{list_code, ops_code, save_code}
 use Rattle.lx_layout.specs.Fallback.{edge_code}
 use Rattle.lx_layout.specs.Halting.{Halting, saves_on}
 use Rattle.lx_layout.specs.Layout.{StandsFrom}
-use Rattle.lx_layout.specs.Supplies.{Reader, need_code, try_code}
+use Rattle.lx_layout.specs.Supplies.{Reader, need_code}
 use Rattle.lx_layout.specs.TestTrees.{TestTree, fork, inner_blocks, inner_size, leaf, test, tree_code}
 use Rattle.lx_layout.proofs.BlockLayouts.StandingCodes.{others}
 use Rattle.lx_layout.proofs.Validity.EachElement.{each-append}
@@ -147,7 +147,3 @@ pub sort_of-need : (stored : Option (Reader → ℕ)) (reader : Reader) (units :
 sort_of-need stored reader zero rest = refl
 sort_of-need None reader (suc units) rest = refl
 sort_of-need (Some number) reader (suc units) rest = refl
-
-pub sort_of-try : (stored : Option (Reader → ℕ)) (reader : Reader) (block end : ℕ) → sort_of (try_code stored reader block end) ≡ asking
-sort_of-try None reader block end = refl
-sort_of-try (Some number) reader block end = refl

@@ -93,12 +93,6 @@ level_at-past [] index le = refl
 level_at-past (x ∷ bs) zero le = absurd (omega arith)
 level_at-past (x ∷ bs) (suc index) le = level_at-past bs index (omega arith)
 
--- a start's level is no greater than the depth of its beginning
-pub level_at-depth : (bs : List Beginning) (index : ℕ) (b : Beginning) → level_at bs index ≤ (get_or bs index b).depth
-level_at-depth [] index b = omega arith
-level_at-depth (x ∷ bs) zero b = omega arith
-level_at-depth (x ∷ bs) (suc index) b = level_at-depth bs index b
-
 pub number_at-read : (bs : List Beginning) (index : ℕ) (b : Beginning) → index < length bs → b ≡ get_or bs index b
     → number_at bs index ≡ b.number
 number_at-read [] index b lt e = absurd (omega arith)

@@ -181,12 +181,6 @@ module _ (enc : Enc) (patterns : List Pattern) (tnfa : Tnfa) (of : IsTnfaOf enc 
       → Keeps tnfa (terms_of patterns) false other ranks → kernel ≡ other
   one_kernel_kept kernel other ranks keeps too = same_kernels kernel other (keeps.0 ∙ sym too.0) keeps.1 too.1
 
--- and what they keep is fixed by them
-pub one_list_kept : (tnfa : Tnfa) (rules : List Term) (first : Bool) (kernel : List Kept) (ranks others : List Ranked)
-    → Keeps tnfa rules first kernel ranks → Keeps tnfa rules first kernel others → ranks ≡ others
-one_list_kept tnfa rules true kernel ranks others keeps too = keeps.1 ∙ sym too.1
-one_list_kept tnfa rules false kernel ranks others keeps too = sym keeps.0 ∙ too.0
-
 -- ---- what is kept after a word
 
 module _ (enc : Enc) (patterns : List Pattern) (tnfa : Tnfa) (of : IsTnfaOf enc patterns tnfa)

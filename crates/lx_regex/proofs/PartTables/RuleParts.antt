@@ -2,7 +2,6 @@
 use Rattle.std.proofs.Common.{◌≡◌, ◌≢◌, ℕ, zero, suc, ◌+◌, ◌-◌, ◌*◌, ◌<◌, ◌≤◌, arith, Bool, true, false, List, [], ◌∷◌, ◌++◌, map, length, get_or, drop, refl, sym, ap, ap₂, ◌∙◌, subst, append_assoc, append-nil, length-append, eq-eqb}
 use Rattle.std.proofs.lemmas.Bool.{eqb-true}
 use Rattle.std.proofs.lemmas.List.{map-append, length-map}
-use Rattle.std.proofs.Math.ListN.{drop_of_length-le}
 use Rattle.std.proofs.Math.Seq.{drop-cons}
 use Rattle.std.specs.Bool.{OnFalse}
 use Rattle.std.specs.Prelude.{nat_eq, ◌^◌, if◌then◌else◌}
@@ -225,13 +224,6 @@ rules_more rules now new place rule lt is limits left more =
           ∙ left.left;
       room = omega (arith, count, fits, sizes_next rules place rule lt is, left.room);
     }
-
-pub rules_done : (rules : List Rule) (now : List program.Part) (place : ℕ) → length rules ≤ place → RulesLeft rules now place
-    → now ≡ shown_parts (patterns_of rules)
-rules_done rules now place le left =
-    sym (append-nil now)
-    ∙ ap (λ l. now ++ map (λ (part : Part). shown (tags_of_rule (patterns_of rules) part.rule) part) (parts_of_rules place (length now) (patterns_of l))) (sym (drop_of_length-le rules le))
-    ∙ left.left
 
 -- there are few rules
 pub few_rules : (rules : List Rule) → IsWithinLimits rules → length rules ≤ 4097

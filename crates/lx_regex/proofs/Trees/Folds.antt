@@ -1,22 +1,13 @@
 -- The equations of the definitions on expressions.
-use Rattle.std.proofs.Common.{◌≡◌, ℕ, ◌+◌, ◌*◌, List, map, sum, Vec, Box, Global, Option, sym, ap, ◌∙◌}
+use Rattle.std.proofs.Common.{◌≡◌, ℕ, ◌+◌, ◌*◌, List, map, Vec, Box, Global, Option, sym, ap, ◌∙◌}
 use Rattle.std.specs.Prelude.{◌==◌, if◌then◌else◌}
 use Rattle.lx_regex.specs.Term.{Term, empty, class, any_unit, cat, alt, repeat, tag, group}
-use Rattle.lx_regex.specs.Expr.{members_of, ranges_of, term_step, term_of, times, size_step, size_of}
+use Rattle.lx_regex.specs.Expr.{members_of, ranges_of, term_step, term_of, size_step, size_of}
 use Rattle.lx_class.specs.declared.ranges.Range.{Range}
 use Rattle.lx_regex.specs.declared.expr.Expr.{Expr}
 use Rattle.lx_regex.specs.declared.expr.Expr.TheOpen.{Expr-F}
 use Rattle.lx_regex.specs.declared.expr.Expr.TheVariants.{Empty, Class, AnyUnit, Cat, Alt, Rep, STag, MTag, Group, rolls-Empty, rolls-Class, rolls-AnyUnit, rolls-Cat, rolls-Alt, rolls-Rep, rolls-STag, rolls-MTag, rolls-Group}
 use Rattle.lx_regex.specs.declared.expr.Expr.TheFolds.{fold-roll-Expr}
-
-pub size_of-cat : (members : Vec Expr Global) → size_of (Cat members) ≡ sum (map size_of members.items)
-size_of-cat members = ap size_of (sym (rolls-Cat members)) ∙ fold-roll-Expr ℕ size_step (Expr-F.Cat members)
-
-pub size_of-alt : (members : Vec Expr Global) → size_of (Alt members) ≡ sum (map size_of members.items) + 1
-size_of-alt members = ap size_of (sym (rolls-Alt members)) ∙ fold-roll-Expr ℕ size_step (Expr-F.Alt members)
-
-pub size_of-rep : (body : Box Expr Global) (low : ℕ) (high : Option ℕ) → size_of (Rep body low high) ≡ size_of body.value * times low high + 1
-size_of-rep body low high = ap size_of (sym (rolls-Rep body low high)) ∙ fold-roll-Expr ℕ size_step (Expr-F.Rep body low high)
 
 pub size_of-group : (number : ℕ) (body : Box Expr Global) → size_of (Group number body) ≡ (if number == 0 then size_of body.value else size_of body.value + 2)
 size_of-group number body = ap size_of (sym (rolls-Group number body)) ∙ fold-roll-Expr ℕ size_step (Expr-F.Group number body)

@@ -183,10 +183,6 @@ terms_in tags members = members_of (map (λ e. term_of tags e) members)
 abbrev pub AreNullable : List Expr → Type 0
 AreNullable members = (enc : Enc) (tags part : ℕ) → HasEmptyRow enc part (terms_in tags members)
 
--- some tree of a member without units
-abbrev pub HasNullable : List Expr → Type 0
-HasNullable members = (enc : Enc) (tags part : ℕ) → HasEmptyChoice enc part (terms_in tags members)
-
 -- and if one member has no tree without units, they have none
 pub row_at : (enc : Enc) (tags part : ℕ) (members : List Expr) (i : ℕ) (member : Expr) → i < length members → member ≡ get_or members i member
     → HasEmptyRow enc part (terms_in tags members) → (place : ℕ) × HasTree enc place (term_of tags member) []
@@ -275,13 +271,6 @@ answer-some answer e body low high is most some inner =
       (λ h. body_repeat enc part _ low high most (inr (λ place. (inner enc tags place).0 h))),
       (λ h. ⊎_elim (λ none. absurd (some none)) (λ has. (inner enc tags has.0).1 has.1) (repeat_body enc part _ low high h).1),
     ))
-
--- and one whose bounds leave no number of iterations
-pub answer-over : (e : Expr) (body : Box Expr Global) (low : ℕ) (high : Option ℕ) → e ≡ Rep body low high → (IsAtMost low high → ⊥)
-    → IsAnswer false e
-answer-over e body low high is over =
-    answer_for false e (Rep body low high) _ is (λ tags. term_of-rep tags body low high) (λ enc tags part.
-    no (λ h. over (repeat_body enc part _ low high h).0))
 
 pub next_member : (members : List Expr) (i : ℕ) (member : Expr) → i < length members → member ≡ get_or members i member
     → drop i members ≡ member ∷ drop (suc i) members

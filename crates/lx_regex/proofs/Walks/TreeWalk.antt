@@ -1,13 +1,13 @@
 -- A tree gives a walk with its script.
 use Rattle.std.specs.Prelude.{◌≡◌, ℕ, suc, ◌+◌, ◌*◌, ◌≤◌, List, [], ◌∷◌, ◌++◌, map, length, Option, Some, None, Bool, true, false, nat_le, nat_eq, if◌then◌else◌, slice_get, refl}
-use Rattle.std.proofs.Common.{sym, ap, ap₂, ◌∙◌, subst, arith, append_assoc, append-nil, le-leb, lt-ltb}
+use Rattle.std.proofs.Common.{sym, ap, ap₂, ◌∙◌, subst, arith, append_assoc, le-leb, lt-ltb}
 use Rattle.lx_base.specs.declared.settings.Enc.{Enc}
 use Rattle.lx_base.specs.Spelling.{spell}
 use Rattle.lx_regex.specs.Automaton.{Move, State, moves_after, member_moves, alternatives_table, copies_table, label, move, moves, iteration_moves, next_member, members_table, table, target}
 use Rattle.lx_regex.specs.Script.{Symbol, begins, choice_script, copy_part, ends, iterate_choice, leaf_choice, may_iterate, merge_tags, picks, chosen_place, reads, iterations_script, row_script, script, sets, tags_among, tags_beside, tags_in, unsets}
 use Rattle.lx_regex.specs.Term.{IsAtMost, Term, Terms, alt, any_unit, cat, class, copies, empty, group, parts, repeat, tag}
 use Rattle.lx_regex.specs.Tree.{Choice, Iterations, Row, Tree, blank, beside, chosen, row_end, event, here, inside, later, point, iteration, iterations, row, stop, unit}
-use Rattle.lx_regex.specs.Walk.{IsAmong, Walk, at_point, at_unit, first, moved, next, stay, symbols}
+use Rattle.lx_regex.specs.Walk.{IsAmong, Walk, at_point, at_unit, first, moved, next, symbols}
 use Rattle.lx_regex.proofs.PartTables.Rows.{copy_stands, mark_begins, mark_ends, stands_at, stands_back, stands_front, table_length, Stands}
 
 -- the row at the end of a part
@@ -228,11 +228,3 @@ module _ (enc : Enc) (states : List State) (last_state : ℕ) (tail : List Symbo
               iteration_label (nat_le low n) (2 * copy_part p body low high n) (symbols enc w.walk tail)
               ∙ ap (λ k. iterate_choice low n ++ k) w.says ∙ sym (simp append_assoc);
         }
-
--- a walk from the beginning of the part to its end
-pub walk_of_part :
-    (enc : Enc) (states : List State) (e : Term) (p : ℕ) (exits : List Move) → Stands states (2 * p) (table e p exits) → (t : Tree e)
-    → (w : Walk states (2 * p + 1) (2 * p)) × (symbols enc w (ends p ∷ []) ≡ script enc p t)
-walk_of_part enc states e p exits h t =
-    let r = tree_walk enc states (2 * p + 1) (ends p ∷ []) t p exits h [] (record { walk = stay; says = refl }) in
-    (r.walk, r.says ∙ append-nil (script enc p t))

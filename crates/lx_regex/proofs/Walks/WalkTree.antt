@@ -408,13 +408,3 @@ module _ (enc : Enc) (states : List State) (last_state : ℕ) (tail : List Symbo
               ∙ ap (λ k. picks k ∷ (map unsets (join (merge_tags (tags_in e) (tags_beside r.choice))) ++ (choice_script enc (q + parts e) r.choice ++ symbols enc r.walk tail))) n;
           shorter = r.shorter;
         }
-
--- a walk from the beginning of a part that ends outside of it goes through a tree of the part and on by an exit
-pub tree_of_part :
-    (enc : Enc) (states : List State) (last_state : ℕ) (tail : List Symbol) (e : Term) (p : ℕ) (exits : List Move)
-    → Stands states (2 * p) (table e p exits) → IsOutside last_state p (parts e) → (w : Walk states last_state (2 * p))
-    → (t : Tree e) × (m : Move) × IsAmong m exits × (rest : Walk states last_state (target m))
-    × (symbols enc w tail ≡ script enc p t ++ (label m ++ symbols enc rest tail))
-tree_of_part enc states last_state tail e p exits h out w =
-    let s = split enc states last_state tail e p exits h out w in
-    (s.tree, s.by, s.among, s.walk, s.says)

@@ -319,7 +319,3 @@ module _ (kind : BlockKind) (has : HasRules kind) (other : kind ≢ block.Rules)
 -- the code unit at the end that is known
 pub eof_known : (known : Known) (state : State) → Holds known state → (config_of (settings_view known.settings)).eof ≡ (config_of state.settings).eof
 eof_known known state holds = ap (λ (settings : Settings). (config_of settings).eof) holds.settings
-
--- the spellings that are known
-pub names_known : (known : Known) (state : State) → Holds known state → (config_of (settings_view known.settings)).names ≡ (config_of state.settings).names
-names_known known state holds = ap (λ (settings : Settings). (config_of settings).names) holds.settings

@@ -1,6 +1,6 @@
 -- Conditions as entries of a map.
-use Rattle.std.proofs.Common.{◌≡◌, ℕ, zero, suc, ◌+◌, ◌<◌, Bool, true, false, List, [], ◌∷◌, ◌++◌, map, length, get_or, Option, None, Some, refl, sym, ap, ◌∙◌, arith, Vec, Global}
-use Rattle.std.specs.Prelude.{◌||◌, is_some, nat_lt, not, position, slice_get, if◌then◌else◌}
+use Rattle.std.proofs.Common.{◌≡◌, ℕ, zero, suc, ◌+◌, ◌<◌, Bool, true, false, List, [], ◌∷◌, ◌++◌, map, get_or, Option, None, Some, refl, sym, ap, ◌∙◌, arith, Vec, Global}
+use Rattle.std.specs.Prelude.{◌||◌, is_some, not, slice_get, if◌then◌else◌}
 use Rattle.std.specs.List.{position_or_len}
 use Rattle.std.specs.Map.{keys_of, lookup, values_of}
 use Rattle.std.specs.Option.{option_map_or}
@@ -193,18 +193,6 @@ module _ {K V : Type 0} (items : K → List ℕ) where
       at false e later =
           ap (λ (test : Bool). if not test then 1 + number_in (items key) (insert_entry (same_key items) entries key value) else 0) e
           ∙ ap (λ n. 1 + n) later
-
--- a place that is found is that of the first one
-pub position-found : {A : Type 0} (test : A → Bool) (list : List A) (number : ℕ) → Some number ≡ position test list
-    → (number ≡ position_or_len test list) × (number < length list)
-position-found test list number found = at (nat_lt (position_or_len test list) (length list)) refl found
-  where
-    at : (b : Bool) → nat_lt (position_or_len test list) (length list) ≡ b → Some number ≡ (if b then Some (position_or_len test list) else None)
-        → (number ≡ position_or_len test list) × (number < length list)
-    at true e same =
-        let is : number ≡ position_or_len test list = cc in
-        let below : position_or_len test list < length list = search (arith, e) in (is, omega (arith, is, below))
-    at false e same = absurd (let h : Some number ≡ None = same in cc)
 
 -- a name that is not that of `<*>` is appended where it is new
 pub add_conds-one : (cond : List ℕ) (seen : List (List ℕ)) → bytes_eq cond every ≡ false

@@ -1,5 +1,5 @@
 -- The texts that values say, and what of them may stand in the place of a name.
-use Rattle.std.proofs.Common.{◌≡◌, ℕ, zero, suc, ◌-◌, ◌<◌, ◌≤◌, Bool, true, false, List, [], ◌∷◌, length, take, drop, get_or, refl, ap, arith}
+use Rattle.std.proofs.Common.{◌≡◌, ℕ, zero, suc, ◌-◌, ◌<◌, ◌≤◌, Bool, true, false, List, [], ◌∷◌, length, take, drop, refl, ap, arith}
 use Rattle.std.specs.Prelude.{◌==◌, ◌&&◌, ◌||◌, nat_lt, if◌then◌else◌}
 use Rattle.std.specs.List.{list_any}
 use Rattle.std.proofs.lemmas.Bool.{false≢true}
@@ -20,21 +20,6 @@ use Rattle.lx_token.specs.declared.kinds.TokenKind.TheVariants as kind
 -- one of the code points is over 255
 abbrev pub has_wide : (points : List ℕ) → Bool
 has_wide points = list_any (λ point. nat_lt 255 point) points
-
-pub wide_at : (characters : List Character) (place : ℕ) (other : Character) → place < length characters
-    → 255 < (get_or characters place other).point → has_wide (points_of characters) ≡ true
-wide_at [] place other within wide = absurd (omega (arith, within))
-wide_at (first ∷ characters) zero other within wide = here (nat_lt 255 first.point) (search (arith, nat_tests))
-  where
-    here : (test : Bool) → test ≡ true → (test || has_wide (points_of characters)) ≡ true
-    here true is = refl
-    here false is = absurd (false≢true is)
-wide_at (first ∷ characters) (suc place) other within wide =
-    there (nat_lt 255 first.point) (wide_at characters place other (omega (arith, within)) wide)
-  where
-    there : (test : Bool) → has_wide (points_of characters) ≡ true → (test || has_wide (points_of characters)) ≡ true
-    there true is = refl
-    there false is = is
 
 wide_in_identifier : (letter : ℕ) → 255 < letter → is_in_identifier letter ≡ false
 wide_in_identifier letter wide = grind (arith, nat_tests)

@@ -98,9 +98,6 @@ rule_of_state rules state some lt =
     below : (rows : List State) (n : ℕ) → length rows ≡ 2 * n → state < suc (suc (length rows)) → state / 2 - 1 < n
     below rows n e lt = omega arith
 
-pub part_state : (rules : List Term) (index : ℕ) (e : Term) (state : ℕ) → IsPartOf rules index e (state / 2) → IsStateOf rules index e state
-part_state rules index e state is = let low = is.0 in let high = is.1 in (omega arith, omega arith)
-
 constant_at : {A : Type 0} (number : ℕ) (xs : List A) (k : ℕ) → k < length xs → get_or (map (λ (x : A). number) xs) k 0 ≡ number
 constant_at number [] k lt = absurd (omega arith)
 constant_at number (x ∷ xs) zero lt = refl
