@@ -9,7 +9,7 @@ use Rattle.lx_base.specs.declared.faults.Stop.TheVariants as split_stop
 use Rattle.lx_base.specs.declared.settings.Options.{Options}
 use Rattle.lx_files.specs.declared.files.HeldFile.{HeldFile}
 use Rattle.lx_rules.specs.Environments.{Environment, config_of, first_environment}
-use Rattle.lx_split.specs.Expanded.{AreSound, IsSound}
+use Rattle.lx_split.specs.Expanded.{AreExpanded, IsPieceWithin}
 use Rattle.lx_split.specs.Includes.{Expands, Expansion, StopsExpansion, expand_stop, expansion}
 use Rattle.lx_split.specs.Pieces.{Split}
 use Rattle.lx_split.specs.declared.expanding.ExpandStop.{ExpandStop}
@@ -56,13 +56,13 @@ module _ (options : Options) (names : List (List ℕ)) (pieces : List SourcePiec
 -- ---- over files
 
 -- a block of a source with its includes put in is near
-IsNearPiece-sound : (file_count : ℕ) (one : SourcePiece) → IsSound file_count one → IsNearPiece one
+IsNearPiece-sound : (file_count : ℕ) (one : SourcePiece) → IsPieceWithin file_count one → IsNearPiece one
 IsNearPiece-sound file_count (piece.Outside text) sound = tt
 IsNearPiece-sound file_count (piece.Block kind body at start end_line) sound =
     record { size = sound.size; line = sound.start.line; col = sound.start.col }
 
-pub EachIsNear-sound : (file_count : ℕ) (pieces : List SourcePiece) → AreSound file_count pieces → All IsNearPiece pieces
-EachIsNear-sound file_count pieces sound = All-weaker (IsSound file_count) IsNearPiece (IsNearPiece-sound file_count) pieces sound.each
+pub EachIsNear-sound : (file_count : ℕ) (pieces : List SourcePiece) → AreExpanded file_count pieces → All IsNearPiece pieces
+EachIsNear-sound file_count pieces sound = All-weaker (IsPieceWithin file_count) IsNearPiece (IsNearPiece-sound file_count) pieces sound.each
 
 -- the fault of the pieces is that of the expansion which gives them
 IsFaultOfPieces-expands : (options : Options) (whole : Expansion) (names : List (List ℕ)) (pieces : List SourcePiece) (made : List Made) (fault : Option Fault)

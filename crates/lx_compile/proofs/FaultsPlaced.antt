@@ -21,12 +21,12 @@ use Rattle.lx_rules.specs.Environments.{Environment, config_of, first_environmen
 use Rattle.lx_rules.specs.Items.{first_state}
 use Rattle.lx_rules.proofs.Blocks.FaultPlaces.{block_fault-place}
 use Rattle.lx_rules.specs.declared.resolved.Scanner.{Scanner}
-use Rattle.lx_split.specs.Expanded.{IsSound, IsSoundBlock}
+use Rattle.lx_split.specs.Expanded.{IsPieceWithin, IsBlockWithin}
 use Rattle.lx_split.specs.Includes.{expansion}
 use Rattle.lx_split.specs.Pieces.{Split}
 use Rattle.lx_split.specs.declared.pieces.SourcePiece.{SourcePiece}
 use Rattle.lx_split.specs.declared.pieces.SourcePiece.TheVariants as piece
-use Rattle.lx_split.proofs.SoundExpansions.{expansion-placed, expansion-sound}
+use Rattle.lx_split.proofs.ExpandedPieces.{expansion-placed, expansion-sound}
 use Rattle.lx_token.specs.Spans.{EachStands}
 use Rattle.lx_token.specs.declared.list.Token.{Token}
 use Rattle.lx_token.proofs.Walk.{fault_is_bad_token, tokens_stand}
@@ -72,7 +72,7 @@ module _ (names : List (List ℕ)) where
   module _ (options : Options) where
     -- the fault of a block
     block-placed : (environment : Environment) (kind : BlockKind) (body : List ℕ) (at start : Pos) (end_line : ℕ) (fault : Fault)
-        → IsFaultOf options environment kind body at start fault → IsSoundBlock (length names) body at start end_line
+        → IsFaultOf options environment kind body at start fault → IsBlockWithin (length names) body at start end_line
         → IsKeptMet names environment.kept → IsPlaced names fault
     block-placed environment kind body at start end_line fault (no_token has none) sound kept =
         let bad = fault_is_bad_token body start fault none in
@@ -89,17 +89,17 @@ module _ (names : List (List ℕ)) where
         ]
 
     among-placed : (environment : Environment) (pieces : List SourcePiece) (fault : Fault) → IsFaultAmong options environment pieces fault
-        → All (IsSound (length names)) pieces → IsKeptMet names environment.kept → IsPlaced names fault
+        → All (IsPieceWithin (length names)) pieces → IsKeptMet names environment.kept → IsPlaced names fault
     among-placed environment [] fault is sound kept = absurd is
     among-placed environment (piece.Outside text ∷ pieces) fault is sound kept =
-        among-placed environment pieces fault is (All-tail (IsSound (length names)) (piece.Outside text) pieces sound) kept
+        among-placed environment pieces fault is (All-tail (IsPieceWithin (length names)) (piece.Outside text) pieces sound) kept
     among-placed environment (piece.Block kind body at start end_line ∷ pieces) fault (inl is) sound kept =
         block-placed environment kind body at start end_line fault is
-        (All-head (IsSound (length names)) (piece.Block kind body at start end_line) pieces sound) kept
+        (All-head (IsPieceWithin (length names)) (piece.Block kind body at start end_line) pieces sound) kept
     among-placed environment (piece.Block kind body at start end_line ∷ pieces) fault (inr is) sound kept =
         let block = piece.Block kind body at start end_line in
-        let here = All-head (IsSound (length names)) block pieces sound in
-        among-placed is.0 pieces fault is.3 (All-tail (IsSound (length names)) block pieces sound)
+        let here = All-head (IsPieceWithin (length names)) block pieces sound in
+        among-placed is.0 pieces fault is.3 (All-tail (IsPieceWithin (length names)) block pieces sound)
         (met_behind names options environment kind body at start is.0 is.1 is.2 here.start.in_file kept)
 
   -- ---- parts
@@ -111,20 +111,20 @@ module _ (names : List (List ℕ)) where
   ArePartsMet (Block at line content ∷ parts) = IsMet names at × ArePartsMet parts
 
   parts-met : (options : Options) (environment : Environment) (pieces : List SourcePiece) (parts : List Part) (last : Environment)
-      → AreParts options environment pieces parts last → All (IsSound (length names)) pieces → ArePartsMet parts
+      → AreParts options environment pieces parts last → All (IsPieceWithin (length names)) pieces → ArePartsMet parts
   parts-met options environment [] [] last are sound = tt
   parts-met options environment [] (part ∷ parts) last are sound = absurd are
   parts-met options environment (piece.Outside text ∷ pieces) [] last are sound = absurd are
   parts-met options environment (piece.Outside text ∷ pieces) (Block place line content ∷ parts) last are sound = absurd are
   parts-met options environment (piece.Outside text ∷ pieces) (Outside other ∷ parts) last are sound =
-      parts-met options environment pieces parts last are.1 (All-tail (IsSound (length names)) (piece.Outside text) pieces sound)
+      parts-met options environment pieces parts last are.1 (All-tail (IsPieceWithin (length names)) (piece.Outside text) pieces sound)
   parts-met options environment (piece.Block kind body at start end_line ∷ pieces) [] last are sound = absurd are
   parts-met options environment (piece.Block kind body at start end_line ∷ pieces) (Outside other ∷ parts) last are sound = absurd are
   parts-met options environment (piece.Block kind body at start end_line ∷ pieces) (Block place line content ∷ parts) last are sound =
       let block = piece.Block kind body at start end_line in
-      let here = All-head (IsSound (length names)) block pieces sound in (
+      let here = All-head (IsPieceWithin (length names)) block pieces sound in (
         same-met place at (ap (λ (p : Pos). p.file) are.0) here.opener.in_file,
-        parts-met options are.2.0 pieces parts last are.2.2 (All-tail (IsSound (length names)) block pieces sound),
+        parts-met options are.2.0 pieces parts last are.2.2 (All-tail (IsPieceWithin (length names)) block pieces sound),
       )
 
   -- the fault of a scanner
@@ -223,7 +223,7 @@ module _ (names : List (List ℕ)) where
     end-placed parts last fault met (inr is) =
         subst IsFoundPlaced (sym is.2) (directives-placed (config_of last.settings).names made made (made-met (setting_of options names parts) 1 0 parts made is.1 met))
 
-    pieces-placed : (pieces : List SourcePiece) (fault : Fault) → All (IsSound (length names)) pieces
+    pieces-placed : (pieces : List SourcePiece) (fault : Fault) → All (IsPieceWithin (length names)) pieces
         → IsFaultOfPieces options names (Ok pieces) made (Some fault) → IsPlaced names fault
     pieces-placed pieces fault sound (inl is) = among-placed options first_environment pieces fault is sound tt
     pieces-placed pieces fault sound (inr is) =

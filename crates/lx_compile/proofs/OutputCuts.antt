@@ -28,14 +28,14 @@ use Rattle.lx_rules.specs.Environments.{Environment, first_environment}
 use Rattle.lx_rules.specs.declared.resolved.Resolved.{Resolved}
 use Rattle.lx_split.specs.Cuts as split
 use Rattle.lx_split.specs.Cuts.{AreApart, HasNoMark, source_text}
-use Rattle.lx_split.specs.Expanded.{AreSound, IsSound}
+use Rattle.lx_split.specs.Expanded.{AreExpanded, IsPieceWithin}
 use Rattle.lx_split.specs.Includes.{expansion}
 use Rattle.lx_split.specs.Marks.{begins_mark}
 use Rattle.lx_split.specs.Openers.{word_of}
 use Rattle.lx_split.specs.declared.pieces.SourcePiece.{SourcePiece}
 use Rattle.lx_split.specs.declared.pieces.SourcePiece.TheVariants as piece
 use Rattle.lx_split.proofs.CleanNames.{expansion-clean}
-use Rattle.lx_split.proofs.SoundExpansions.{expansion-sound}
+use Rattle.lx_split.proofs.ExpandedPieces.{expansion-sound}
 use Rattle.lx_compile.specs.Cut.{number_behind, output_part, output_parts}
 use Rattle.lx_compile.specs.Facts.{body_of, directive_fault, fault_among, has_wrong_strings, holds_opener, missing_fault, pieces_among, text_fault}
 use Rattle.lx_compile.specs.FirstFault.{setting_of}
@@ -150,7 +150,7 @@ abbrev EndsInRange : SourcePiece → Type 0
 EndsInRange (piece.Outside text) = Unit {0}
 EndsInRange (piece.Block kind body at start end_line) = end_line ≤ 16777217
 
-ends_in_range : (count : ℕ) (pieces : List SourcePiece) → AllByRecursion (IsSound count) pieces → AllByRecursion EndsInRange pieces
+ends_in_range : (count : ℕ) (pieces : List SourcePiece) → AllByRecursion (IsPieceWithin count) pieces → AllByRecursion EndsInRange pieces
 ends_in_range count [] sound = tt
 ends_in_range count (piece.Outside text ∷ pieces) sound = (tt, ends_in_range count pieces sound.1)
 ends_in_range count (piece.Block kind body at start end_line ∷ pieces) sound = (sound.0.last, ends_in_range count pieces sound.1)
@@ -303,9 +303,9 @@ cut-output options seen main output made main_plain dir_plain is =
     let whole = expansion options seen main in
     let files : List (List ℕ) = whole.met.names in
     let names : Spellings = last_names is in
-    let sound : AreSound (length files) is.pieces = expansion-sound options seen main is.pieces is.pieces_are in
+    let sound : AreExpanded (length files) is.pieces = expansion-sound options seen main is.pieces is.pieces_are in
     let plain : ArePlain files = ArePlain-all files (expansion-clean options seen main dir_plain main_plain) in
-    let ranges = ends_in_range (length files) is.pieces (recursion_from_All (IsSound (length files)) is.pieces sound.each) in
+    let ranges = ends_in_range (length files) is.pieces (recursion_from_All (IsPieceWithin (length files)) is.pieces sound.each) in
     let found = cut_from options names made (setting_of options files is.is.parts) plain first_environment 1 0 is.pieces is.is.parts made is.is.last
     is.is.parts_are is.is.made_are (no_faults names made made is.is.no_fault) tt ranges sound.apart sound.no_mark sound.completes_no_mark
     (omega (arith, sound.few)) in

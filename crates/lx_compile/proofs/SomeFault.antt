@@ -16,12 +16,12 @@ use Rattle.lx_rules.specs.Environments.{Environment, config_of, first_environmen
 use Rattle.lx_rules.proofs.Blocks.BlockVerdicts.{body_expressions, verdict_among}
 use Rattle.lx_rules.proofs.Blocks.ItemRuns.{body-alike}
 use Rattle.lx_rules.proofs.Blocks.Readiness.{stands_ready}
-use Rattle.lx_split.specs.Expanded.{IsSound}
+use Rattle.lx_split.specs.Expanded.{IsPieceWithin}
 use Rattle.lx_split.specs.Includes.{expansion}
 use Rattle.lx_split.specs.Pieces.{Split}
 use Rattle.lx_split.specs.declared.pieces.SourcePiece.{SourcePiece}
 use Rattle.lx_split.specs.declared.pieces.SourcePiece.TheVariants as piece
-use Rattle.lx_split.proofs.SoundExpansions.{expansion-sound}
+use Rattle.lx_split.proofs.ExpandedPieces.{expansion-sound}
 use Rattle.lx_token.specs.Tokens.{tokens_of}
 use Rattle.lx_token.specs.declared.list.Token.{Token}
 use Rattle.lx_compile.specs.Blocks.{IsBlock, IsFaultOf, IsRead, asks, content_of, gives_nothing, no_items, no_token, refused, resolves}
@@ -100,19 +100,19 @@ module _ (options : Options) where
 
   module _ (count : ℕ) where
     -- the blocks of a source all give something, or one has a fault
-    parts_or_fault : (environment : Environment) (pieces : List SourcePiece) → All (IsSound count) pieces → StandsUnder options environment
+    parts_or_fault : (environment : Environment) (pieces : List SourcePiece) → All (IsPieceWithin count) pieces → StandsUnder options environment
         → ((parts : List Part) (last : Environment) → AreParts options environment pieces parts last → ⊥)
         → ((fault : Fault) → IsFaultAmong options environment pieces fault → ⊥) → ⊥
     parts_or_fault environment [] sound stands no_parts no_fault = no_parts [] environment refl
     parts_or_fault environment (piece.Outside text ∷ pieces) sound stands no_parts no_fault =
-        parts_or_fault environment pieces (All-tail (IsSound count) (piece.Outside text) pieces sound) stands
+        parts_or_fault environment pieces (All-tail (IsPieceWithin count) (piece.Outside text) pieces sound) stands
         (λ parts last are. no_parts (Outside text ∷ parts) last (refl, are)) no_fault
     parts_or_fault environment (piece.Block kind body at start end_line ∷ pieces) sound stands no_parts no_fault =
         let block = piece.Block kind body at start end_line in
-        let short = (All-head (IsSound count) block pieces sound).size in
+        let short = (All-head (IsPieceWithin count) block pieces sound).size in
         block_or_fault environment kind body at start stands
         (λ after content is.
-        parts_or_fault after pieces (All-tail (IsSound count) block pieces sound)
+        parts_or_fault after pieces (All-tail (IsPieceWithin count) block pieces sound)
         (stands_behind environment kind body at start after content stands short is)
         (λ parts last are. no_parts (Block at end_line content ∷ parts) last (refl, refl, (after, is, are)))
         (λ fault among. no_fault fault (inr (after, content, is, among))))
@@ -120,7 +120,7 @@ module _ (options : Options) where
 
   module _ (names : List (List ℕ)) (made : List Made) where
     -- the blocks of a source have a fault, or none
-    blocks_fault : (pieces : List SourcePiece) → All (IsSound (length names)) pieces
+    blocks_fault : (pieces : List SourcePiece) → All (IsPieceWithin (length names)) pieces
         → ((parts : List Part) (last : Environment) → AreParts options first_environment pieces parts last → IsScanningFault options parts None
         → AreMade (setting_of options names parts) 1 0 parts made)
         → ((fault : Option Fault) → IsFaultOfBlocks options names pieces made fault → ⊥) → ⊥

@@ -4,6 +4,7 @@ pub mod ContextSteps
 pub mod CopiedRules
 pub mod EndRules
 pub mod FirstRules
+pub mod FittingRules
 pub mod HeadSteps
 pub mod KeptRules
 pub mod NamedRules
@@ -14,5 +15,4 @@ pub mod RuleItems
 pub mod RuleLists
 pub mod RuleNumbers
 pub mod RuleSteps
-pub mod SoundRules
 pub mod TakenRules

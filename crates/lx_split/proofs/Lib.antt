@@ -2,6 +2,7 @@ pub mod BlockEnds
 pub mod CleanNames
 pub mod Cutting
 pub mod ExpandStops
+pub mod ExpandedPieces
 pub mod Expansions
 pub mod Faults
 pub mod FirstMark
@@ -9,14 +10,13 @@ pub mod Growth
 pub mod IncludeTexts
 pub mod Known
 pub mod LibraryLemmas
+pub mod MarkFreePieces
 pub mod Needles
 pub mod OpenerTexts
 pub mod Openings
 pub mod Passing
 pub mod PieceCounts
 pub mod PlaceBounds
-pub mod SoundExpansions
-pub mod SoundPieces
 pub mod Straddles
 pub mod Walking
 pub mod Walks

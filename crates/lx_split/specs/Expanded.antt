@@ -14,28 +14,28 @@ abbrev pub HasNoOpening : List ℕ → Type 0
 HasNoOpening bytes = (front tail : List ℕ) → bytes ≡ front ++ tail → begins_with (codes "/*!") tail ≡ false
 
 -- a place in one of so many files, in a line and a column that a source may have
-pub record IsSoundPlace (file_count : ℕ) (place : Pos) : Type 0 where
+pub record IsPlaceWithin (file_count : ℕ) (place : Pos) : Type 0 where
   pub in_file : place.file < file_count
   pub line : place.line ≤ 16777217
   pub col : place.col ≤ 16777217
 
 -- a block of one of so many files, which is no longer than a source may be
-pub record IsSoundBlock (file_count : ℕ) (body : List ℕ) (at body_at : Pos) (last_line : ℕ) : Type 0 where
+pub record IsBlockWithin (file_count : ℕ) (body : List ℕ) (at body_at : Pos) (last_line : ℕ) : Type 0 where
   pub size : length body ≤ SOURCE_LIMIT
-  pub opener : IsSoundPlace file_count at
-  pub start : IsSoundPlace file_count body_at
+  pub opener : IsPlaceWithin file_count at
+  pub start : IsPlaceWithin file_count body_at
   pub same_file : body_at.file ≡ at.file
   pub last : last_line ≤ 16777217
 
 -- no mark stands in an outside text, and a block stands in one of the files
-abbrev pub IsSound : (file_count : ℕ) → SourcePiece → Type 0
-IsSound file_count (Outside text) = HasNoMark text
-IsSound file_count (Block kind body at body_at end_line) = IsSoundBlock file_count body at body_at end_line
+abbrev pub IsPieceWithin : (file_count : ℕ) → SourcePiece → Type 0
+IsPieceWithin file_count (Outside text) = HasNoMark text
+IsPieceWithin file_count (Block kind body at body_at end_line) = IsBlockWithin file_count body at body_at end_line
 
 -- What is true of the pieces of so many files. No mark stands in their texts put together, also with a `/` before them, and so
 -- none stands across the end of an outside text. No include is left.
-pub record AreSound (file_count : ℕ) (pieces : List SourcePiece) : Type 0 where
-  pub each : All (IsSound file_count) pieces
+pub record AreExpanded (file_count : ℕ) (pieces : List SourcePiece) : Type 0 where
+  pub each : All (IsPieceWithin file_count) pieces
   pub apart : AreApart pieces
   pub no_mark : HasNoMark (source_text pieces)
   pub completes_no_mark : begins_mark (47 ∷ source_text pieces) ≡ false

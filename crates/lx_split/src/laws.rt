@@ -7,7 +7,7 @@ ghost use Rattle.lx_base.specs.declared.settings.Options.{Options};
 ghost use Rattle.lx_files.specs.declared.files.HeldFile.{HeldFile};
 ghost use Rattle.lx_split.specs.declared.pieces.SourcePiece.{SourcePiece};
 ghost use Rattle.lx_split.specs.Cuts.{AreCut, AreOpened, IsFaultOf};
-ghost use Rattle.lx_split.specs.Expanded.{AreSound, HasNoOpening};
+ghost use Rattle.lx_split.specs.Expanded.{AreExpanded, HasNoOpening};
 ghost use Rattle.lx_split.specs.Includes.{expansion};
 ghost use Rattle.lx_split.specs.Pieces.{pieces_of};
 
@@ -34,9 +34,9 @@ pub fn faults_stand_in_the_source()
 
 /// The pieces of a source with its includes put in stand in the files that are met. No mark of emitted text stands in them
 /// put together, no include is left, and there are no more of them than a source may have bytes.
-pub fn pieces_with_includes_are_sound()
+pub fn pieces_with_includes_are_expanded()
     ensures { (options : Options) (seen : List HeldFile) (main : List ℕ) (pieces : List SourcePiece) →
-        (expansion options seen main).found ≡ Ok pieces → AreSound (length (expansion options seen main).met.names) pieces }
+        (expansion options seen main).found ≡ Ok pieces → AreExpanded (length (expansion options seen main).met.names) pieces }
 {}
 
 /// The fault of a source with its includes put in stands in one of the files that are met.

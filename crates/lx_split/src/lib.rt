@@ -15,6 +15,6 @@ mod walk;
 pub use expanding::{ExpandStop, expand};
 pub use laws::{
     faults_stand_in_files_that_are_met, faults_stand_in_the_source, no_opener_stands_in_names,
-    openers_begin_blocks, pieces_are_the_source, pieces_with_includes_are_sound,
+    openers_begin_blocks, pieces_are_the_source, pieces_with_includes_are_expanded,
 };
 pub use pieces::{Pieces, SourcePiece, split};

@@ -21,7 +21,7 @@ use Rattle.lx_step.specs.Left.{IsFrom, IsStored}
 use Rattle.lx_step.specs.Places.{StandsAt}
 use Rattle.lx_step.specs.Points.{goes_to}
 use Rattle.lx_step.specs.Steps.{IsAnswer, machine_of, state_after}
-use Rattle.lx_step.specs.Ways.{IsNearer, IsPassed, IsReady}
+use Rattle.lx_step.specs.Ways.{IsNearer, IsPassed, ReadsWindow}
 use Rattle.lx_step.proofs.FedWindows.{IsFed-limit, Refills-more}
 use Rattle.lx_step.proofs.Places.{any-stands}
 
@@ -34,9 +34,9 @@ IsStored-after blocks at _ state stands stored = stored
 
 module _ (piece : Piece) (at : Position) (statement : Stmt) (old new : Scanner) (before after : Feed) where
   -- the scanner stands in the window again
-  pub IsReady-made : (one : Made) (unit unit' : ℕ) → IsMade piece statement old new before after one → StandsAt piece.blocks at statement → IsReady piece unit before.window old
-      → unit' ≡ unit → KeepsStart before.window after.window → IsFormed after.window → IsReady piece unit' after.window new
-  IsReady-made one unit unit' so stands ready same kept formed = record {
+  pub ReadsWindow-made : (one : Made) (unit unit' : ℕ) → IsMade piece statement old new before after one → StandsAt piece.blocks at statement → ReadsWindow piece unit before.window old
+      → unit' ≡ unit → KeepsStart before.window after.window → IsFormed after.window → ReadsWindow piece unit' after.window new
+  ReadsWindow-made one unit unit' so stands ready same kept formed = record {
     same_unit = same ∙ ready.same_unit ∙ sym kept.same_unit;
     formed = formed;
     limit = limit one so;

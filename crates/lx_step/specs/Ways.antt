@@ -34,7 +34,7 @@ pub record HasParts (piece : Piece) (scanner : Scanner) (given : Given) (assigne
   pub within : StaysIn piece.blocks assigned
 
 -- the scanner reads from the window, and asks a source with the same units
-pub record IsReady (piece : Piece) (unit : ℕ) (window : WindowView) (scanner : Scanner) : Type 0 where
+pub record ReadsWindow (piece : Piece) (unit : ℕ) (window : WindowView) (scanner : Scanner) : Type 0 where
   pub same_unit : unit ≡ window.unit
   pub formed : IsFormed window
   pub limit : scanner.limit ≡ window.limit

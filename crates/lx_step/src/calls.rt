@@ -20,7 +20,7 @@ ghost use Rattle.lx_step.specs.Places.{AreRoomy, StaysIn, room_of};
 ghost use Rattle.lx_step.specs.Points.{Point};
 ghost use Rattle.lx_step.specs.Steps.{KeepsTables};
 ghost use Rattle.lx_step.specs.Tags.{AreTags};
-ghost use Rattle.lx_step.specs.Ways.{Comes, HasParts, HasStopped, IsNearer, IsOnWay, IsPassed, IsReady, left_by};
+ghost use Rattle.lx_step.specs.Ways.{Comes, HasParts, HasStopped, IsNearer, IsOnWay, IsPassed, ReadsWindow, left_by};
 
 use crate::advances::{Made, make};
 use crate::answers::{Outcome, StmtAt};
@@ -101,10 +101,10 @@ impl<'p> Program<'p> {
         requires tags { AreTags self.now.piece.now.blocks tags.now }
         requires block { IfSome at (λ one. code_at self.now.piece.now.blocks (Some one.block) ≡ Some one.code.now) }
         requires parts { HasParts self.now.piece.now scanner.old slots.old assigned.old.keys (room_of assigned.old) }
-        requires ready { IsReady self.now.piece.now (S.unit src.old) w.old scanner.old }
+        requires ready { ReadsWindow self.now.piece.now (S.unit src.old) w.old scanner.old }
         ensures stopped { (entry : Point) → Enters self.now.piece.now entry at.entry scanner.old steps.old assigned.old.keys → HasStopped self.now.piece.now entry (feed_of (S.ahead src.old) w.old) (feed_of (S.ahead src.new) w.new) slots.old (told result) scanner.new slots.new steps.new assigned.new.keys }
         ensures parts { HasParts self.now.piece.now scanner.new slots.new assigned.new.keys (room_of assigned.new) }
-        ensures ready { IfOk result (λ outcome. IsReady self.now.piece.now (S.unit src.new) w.new scanner.new) }
+        ensures ready { IfOk result (λ outcome. ReadsWindow self.now.piece.now (S.unit src.new) w.new scanner.new) }
         ensures formed { IsFormed w.new }
         ensures start_kept { KeepsStart w.old w.new }
         ensures leaves { result ≡ Ok Outcome.NeedFill → Rose (S.pauses src.old) (S.pauses src.new) }
@@ -140,13 +140,13 @@ impl<'p> Program<'p> {
         requires tags { AreTags self.now.piece.now.blocks tags.now }
         requires block { code_at self.now.piece.now.blocks (Some at.block) ≡ Some at.code.now }
         requires parts { HasParts self.now.piece.now scanner.old slots.old assigned.old.keys (room_of assigned.old) }
-        requires ready { IsReady self.now.piece.now (S.unit src.old) w.old scanner.old }
+        requires ready { ReadsWindow self.now.piece.now (S.unit src.old) w.old scanner.old }
         requires unlooped { steps.old < 2 * ((w.old.limit - w.old.start) + 2) * self.now.statements }
         requires few { steps.old + 1 < 2 ^ 128 }
         ensures comes { (entry : Point) (before : Feed) (given : Given) → before.window.start ≡ w.old.start → before.window.size ≡ w.old.size → IsOnWay self.now.piece.now entry before given at.entry scanner.old slots.old steps.old assigned.old.keys (feed_of (S.ahead src.old) w.old) → Comes self.now.piece.now entry before (feed_of (S.ahead src.new) w.new) given result scanner.new slots.new steps.new assigned.new.keys }
         ensures nearer { IsNearer self.now.piece.now.blocks result steps.old steps.new w.old.limit w.new.limit }
         ensures parts { HasParts self.now.piece.now scanner.new slots.new assigned.new.keys (room_of assigned.new) }
-        ensures ready { IfOk result (λ passed. IsReady self.now.piece.now (S.unit src.new) w.new scanner.new) }
+        ensures ready { IfOk result (λ passed. ReadsWindow self.now.piece.now (S.unit src.new) w.new scanner.new) }
         ensures formed { IsFormed w.new }
         ensures start_kept { KeepsStart w.old w.new }
         ensures leaves { result ≡ Ok (Passed.Ends Outcome.NeedFill) → Rose (S.pauses src.old) (S.pauses src.new) }

@@ -19,12 +19,12 @@ use Rattle.lx_layout.specs.PartPieces.{cond_cases, with_case}
 use Rattle.lx_layout.specs.Parts.{EachPart, Part, given_asked, part_codes, parts_blocks}
 use Rattle.lx_layout.specs.Writable.{PartsCanBeWritten}
 use Rattle.lx_layout.proofs.PartLayouts.ClosedParts.{length-parts}
-use Rattle.lx_layout.proofs.PartLayouts.Spelled.{IsFine}
+use Rattle.lx_layout.proofs.PartLayouts.Spelled.{IsSpellable}
 
 -- ---- registers
 
 module _ (names : Spellings) (conds : List (List ℕ)) where
-  register_short : (statement : Stmt) → IsFine names conds statement → IsShort (register_in statement)
+  register_short : (statement : Stmt) → IsSpellable names conds statement → IsShort (register_in statement)
   register_short (Set register) fine = fine.1
   register_short (Unset register) fine = fine.1
   register_short (Copy register source) fine = let one = fine.0.1 in let other = fine.1.1 in omega (arith, one, other)
@@ -34,7 +34,7 @@ module _ (names : Spellings) (conds : List (List ℕ)) where
   register_short (Back register) fine = fine.1
   register_short _ fine = omega arith
 
-  history_short : (statement : Stmt) → IsFine names conds statement → IsShort (history_in statement)
+  history_short : (statement : Stmt) → IsSpellable names conds statement → IsShort (history_in statement)
   history_short (MSet history) fine = fine
   history_short (MUnset history) fine = fine
   history_short (MCopy history source) fine = let one = fine.0 in let other = fine.1 in omega (arith, one, other)
@@ -42,18 +42,18 @@ module _ (names : Spellings) (conds : List (List ℕ)) where
   history_short (Tag tag false register) fine = omega arith
   history_short _ fine = omega arith
 
-  greatest_short : (number : Stmt → ℕ) → ((statement : Stmt) → IsFine names conds statement → IsShort (number statement)) → (code : List Stmt)
-      → AllByRecursion (IsFine names conds) code → IsShort (greatest_of number code)
+  greatest_short : (number : Stmt → ℕ) → ((statement : Stmt) → IsSpellable names conds statement → IsShort (number statement)) → (code : List Stmt)
+      → AllByRecursion (IsSpellable names conds) code → IsShort (greatest_of number code)
   greatest_short number short [] fine = omega arith
   greatest_short number short (statement ∷ code) fine =
       let here = short statement fine.0 in
       let again = greatest_short number short code fine.1 in
       omega (arith, here, again)
 
-  pub regs_short : (blocks : List CodeBlock) → AllByRecursion (IsFine names conds) (all_statements blocks) → IsShort (regs_of blocks)
+  pub regs_short : (blocks : List CodeBlock) → AllByRecursion (IsSpellable names conds) (all_statements blocks) → IsShort (regs_of blocks)
   regs_short blocks fine = greatest_short register_in register_short (all_statements blocks) fine
 
-  pub mregs_short : (blocks : List CodeBlock) → AllByRecursion (IsFine names conds) (all_statements blocks) → IsShort (mregs_of blocks)
+  pub mregs_short : (blocks : List CodeBlock) → AllByRecursion (IsSpellable names conds) (all_statements blocks) → IsShort (mregs_of blocks)
   mregs_short blocks fine = greatest_short history_in history_short (all_statements blocks) fine
 
 -- ---- blocks

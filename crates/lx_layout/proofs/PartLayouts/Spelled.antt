@@ -35,27 +35,27 @@ abbrev pub HasRoom : ℕ → Type 0
 HasRoom history = IsShort (history + 1)
 
 -- the statement has a spelling if its block has one; it has few groups, and its condition is one of these
-abbrev pub IsFine : Spellings → (conds : List (List ℕ)) → Stmt → Type 0
-IsFine names conds (SaveAccept accept) = IsShort accept
-IsFine names conds (Set register) = IsRegister register
-IsFine names conds (Unset register) = IsRegister register
-IsFine names conds (Copy register source) = IsRegister register × IsRegister source
-IsFine names conds (MSet history) = HasRoom history
-IsFine names conds (MUnset history) = HasRoom history
-IsFine names conds (MCopy history source) = HasRoom history × HasRoom source
-IsFine names conds (IfUnit greatest block) = IsShort greatest
-IsFine names conds (IfAccept accept block) = IsShort accept
-IsFine names conds (Store number) = IsLong number
-IsFine names conds (Need units) = IsShort units
-IsFine names conds (Cond cond) = IsIdentifier cond × (list_any (equal_words cond) conds ≡ true)
-IsFine names conds (Tag tag true history) = IsTagName names tag × HasRoom history
-IsFine names conds (Tag tag false register) = IsTagName names tag × IsRegister register
-IsFine names conds (Count groups) = groups ≤ 65
-IsFine names conds (End place register) = (place ≤ 129) × IsRegister register
-IsFine names conds (Back register) = IsRegister register
-IsFine names conds (Code rule line action) = IsShort rule × IsLine line × IsShort (length action)
-IsFine names conds (Jump cond rule) = (IsIdentifier cond × (list_any (equal_words cond) conds ≡ true)) × IsShort rule
-IsFine names conds _ = Unit {0}
+abbrev pub IsSpellable : Spellings → (conds : List (List ℕ)) → Stmt → Type 0
+IsSpellable names conds (SaveAccept accept) = IsShort accept
+IsSpellable names conds (Set register) = IsRegister register
+IsSpellable names conds (Unset register) = IsRegister register
+IsSpellable names conds (Copy register source) = IsRegister register × IsRegister source
+IsSpellable names conds (MSet history) = HasRoom history
+IsSpellable names conds (MUnset history) = HasRoom history
+IsSpellable names conds (MCopy history source) = HasRoom history × HasRoom source
+IsSpellable names conds (IfUnit greatest block) = IsShort greatest
+IsSpellable names conds (IfAccept accept block) = IsShort accept
+IsSpellable names conds (Store number) = IsLong number
+IsSpellable names conds (Need units) = IsShort units
+IsSpellable names conds (Cond cond) = IsIdentifier cond × (list_any (equal_words cond) conds ≡ true)
+IsSpellable names conds (Tag tag true history) = IsTagName names tag × HasRoom history
+IsSpellable names conds (Tag tag false register) = IsTagName names tag × IsRegister register
+IsSpellable names conds (Count groups) = groups ≤ 65
+IsSpellable names conds (End place register) = (place ≤ 129) × IsRegister register
+IsSpellable names conds (Back register) = IsRegister register
+IsSpellable names conds (Code rule line action) = IsShort rule × IsLine line × IsShort (length action)
+IsSpellable names conds (Jump cond rule) = (IsIdentifier cond × (list_any (equal_words cond) conds ≡ true)) × IsShort rule
+IsSpellable names conds _ = Unit {0}
 
 -- ---- numbers by which what reads is stored
 
@@ -84,11 +84,11 @@ module _ (names : Spellings) (conds : List (List ℕ)) where
   tags_named slash number [] h = tt
   tags_named slash number (tag ∷ tags) h = (h.0, tags_named slash (suc number) tags h.1)
 
-  last_fine : (endings : ℕ → Ending) (rule : ℕ) → RuleCanBeWritten names conds endings rule → AllByRecursion (IsFine names conds) (last_code endings rule)
+  last_fine : (endings : ℕ → Ending) (rule : ℕ) → RuleCanBeWritten names conds endings rule → AllByRecursion (IsSpellable names conds) (last_code endings rule)
   last_fine endings rule h = by (endings rule).goes_to (endings rule).action refl h.ending.goes h.ending.acts
     where
       by : (cond action : Option (List ℕ)) → (endings rule).goes_to ≡ cond → IsOneOf conds cond → ActsOrGoes action cond
-          → AllByRecursion (IsFine names conds) (cond_code cond (action_code rule (endings rule) action))
+          → AllByRecursion (IsSpellable names conds) (cond_code cond (action_code rule (endings rule) action))
       by None None e named acts = absurd (false≢true acts)
       by None (Some action) e named acts = ((h.short, h.ending.line, acts), tt)
       by (Some cond) None e named acts = (
@@ -101,7 +101,7 @@ module _ (names : Spellings) (conds : List (List ℕ)) where
       by (Some cond) (Some action) e named acts = (named, ((h.short, h.ending.line, acts), tt))
 
   module _ (auto : Auto) (formed : IsAuto auto) where
-    op_fine : (op : Op) → IsOwnOp auto.regs auto.mregs op → IsFine names conds (op_code op)
+    op_fine : (op : Op) → IsOwnOp auto.regs auto.mregs op → IsSpellable names conds (op_code op)
     op_fine (act.Here r) h = let few = formed.few_regs in (omega arith, omega (arith, h, few))
     op_fine (act.Null r) h = let few = formed.few_regs in (omega arith, omega (arith, h, few))
     op_fine (act.Copy r s) h = let few = formed.few_regs in ((omega arith, omega (arith, h.0, few)), (omega arith, omega (arith, h.1, few)))
@@ -109,11 +109,11 @@ module _ (names : Spellings) (conds : List (List ℕ)) where
     op_fine (act.MNull r) h = let few = formed.few_mregs in omega (arith, h.1, few)
     op_fine (act.MCopy r s) h = let few = formed.few_mregs in (omega (arith, h.0.1, few), omega (arith, h.1, few))
 
-    tag_fine : (held : Held) (name : List ℕ) → IsHeld auto.regs auto.mregs held → IsTagName names name → IsFine names conds (tag_code held name)
+    tag_fine : (held : Held) (name : List ℕ) → IsHeld auto.regs auto.mregs held → IsTagName names name → IsSpellable names conds (tag_code held name)
     tag_fine (Reg r) name lt is = let few = formed.few_regs in (is, (omega arith, omega (arith, lt, few)))
     tag_fine (MReg r) name lt is = let few = formed.few_mregs in (is, omega (arith, lt, few))
 
-    ends_fine : HoldsOfEnds (IsFine names conds) (IsHeld auto.regs auto.mregs) (IsTagName names) 130
+    ends_fine : HoldsOfEnds (IsSpellable names conds) (IsHeld auto.regs auto.mregs) (IsTagName names) 130
     ends_fine = record {
       tags = tag_fine;
       ends = λ reg place is lt. let few = formed.few_regs in (omega (arith, lt), (omega arith, omega (arith, is, few)));
@@ -121,21 +121,21 @@ module _ (names : Spellings) (conds : List (List ℕ)) where
     }
 
     ending_fine : (endings : ℕ → Ending) (rule : ℕ) (values : List Held) → RuleCanBeWritten names conds endings rule → AreHeld auto.regs auto.mregs values
-        → length values ≤ length (endings rule).tags + 2 * (endings rule).groups → AllByRecursion (IsFine names conds) (ending_code endings rule values)
+        → length values ≤ length (endings rule).tags + 2 * (endings rule).groups → AllByRecursion (IsSpellable names conds) (ending_code endings rule values)
     ending_fine endings rule values h held fit =
         let groups = h.ending.groups in
-        ending_each (IsFine names conds) (IsHeld auto.regs auto.mregs) (IsTagName names) 130 ends_fine endings rule values
+        ending_each (IsSpellable names conds) (IsHeld auto.regs auto.mregs) (IsTagName names) 130 ends_fine endings rule values
         (λ n is. omega (arith, is, groups)) (tags_named (endings rule).slash 0 (endings rule).tags h.ending.tags) (each_held auto.regs auto.mregs values held)
         (omega (arith, fit, groups)) (last_fine endings rule h)
 
     accepts_fine : (endings : ℕ → Ending) (count : ℕ) (states : List State) → AreStates auto.regs auto.mregs count states
         → AllByRecursion (λ (given : State). IfSome given.accept (AcceptCanBeWritten names conds endings)) states
-        → OfAccepts (λ accept. AllByRecursion (IsFine names conds) (ending_code endings accept.rule accept.values)) states
+        → OfAccepts (λ accept. AllByRecursion (IsSpellable names conds) (ending_code endings accept.rule accept.values)) states
     accepts_fine endings count [] are h = tt
     accepts_fine endings count (given ∷ states) are h = (by given.accept are.0.accept h.0, accepts_fine endings count states are.1 h.1)
       where
         by : (o : Option Accept) → IsAccept auto.regs auto.mregs o → IfSome o (AcceptCanBeWritten names conds endings)
-            → OfAccept (λ accept. AllByRecursion (IsFine names conds) (ending_code endings accept.rule accept.values)) o
+            → OfAccept (λ accept. AllByRecursion (IsSpellable names conds) (ending_code endings accept.rule accept.values)) o
         by None is h = tt
         by (Some accept) is h =
             let g : AcceptCanBeWritten names conds endings accept = h in ending_fine endings accept.rule accept.values g.rule is.1 g.values
@@ -153,7 +153,7 @@ module _ (names : Spellings) (conds : List (List ℕ)) where
     abbrev CanBeStored : Reader → Type 0
     CanBeStored reader = IsLong (number_of part.given.demand part.given.end_rule part.given.auto first reader)
 
-    plain_fine : PlainStatements (IsFine names conds) IsShort part.halting part.given.endings part.given.auto
+    plain_fine : PlainStatements (IsSpellable names conds) IsShort part.halting part.given.endings part.given.auto
     plain_fine = record {
       goes = λ block. tt;
       skips = tt;
@@ -164,7 +164,7 @@ module _ (names : Spellings) (conds : List (List ℕ)) where
       chooses = λ saved block is. is;
     }
 
-    readers_fine : ReaderStatements (IsFine names conds) IsShort CanBeStored IsShort supply
+    readers_fine : ReaderStatements (IsSpellable names conds) IsShort CanBeStored IsShort supply
     readers_fine = record {
       goes = λ block. tt;
       unit = λ greatest block is. is;
@@ -177,11 +177,11 @@ module _ (names : Spellings) (conds : List (List ℕ)) where
       at_end = λ block. tt;
     }
 
-    pub part_fine : (begin : ℕ) → AllByRecursion (λ code. AllByRecursion (IsFine names conds) code) (part_codes part begin first)
+    pub part_fine : (begin : ℕ) → AllByRecursion (λ code. AllByRecursion (IsSpellable names conds) code) (part_codes part begin first)
     part_fine begin =
         let few = formed.auto.few in
         let saved = few_saved part.halting part.given.auto.states in
-        statements_each (IsFine names conds) IsShort CanBeStored IsShort IsShort supply part.halting part.given.endings part.given.end_rule part.trees
+        statements_each (IsSpellable names conds) IsShort CanBeStored IsShort IsShort supply part.halting part.given.endings part.given.end_rule part.trees
         part.given.auto
         (record {
           plain = plain_fine;

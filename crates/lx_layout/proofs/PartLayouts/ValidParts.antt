@@ -37,7 +37,7 @@ use Rattle.lx_layout.proofs.PartLayouts.PartBlocks.{OfBlocks, of_statements}
 use Rattle.lx_layout.proofs.PartLayouts.PartOrder.{parts_begin, parts_labelled, some_block}
 use Rattle.lx_layout.proofs.PartLayouts.PartStates.{no_states, nothing_stored, states_ascend, states_numbered, states_once}
 use Rattle.lx_layout.proofs.PartLayouts.ShortNumbers.{blocks_few, cases_begin, cases_named, cases_short, mregs_short, regs_short, stored_below, within_from}
-use Rattle.lx_layout.proofs.PartLayouts.Spelled.{IsFine}
+use Rattle.lx_layout.proofs.PartLayouts.Spelled.{IsSpellable}
 use Rattle.lx_layout.proofs.PartLayouts.WrittenParts.{blocks_fine, parts_written}
 use Rattle.lx_layout.proofs.Validity.EachElement.{each-both, each-map}
 
@@ -133,10 +133,10 @@ module _ (custom : Bool) (enc : Enc) (mode : Mode) (stores : Bool) (first : ℕ)
           let own = some_block (greatest_unit enc) 0 first part are.0 in
           omega (arith, l, own)
 
-  statements_fine : AllByRecursion (IsFine piece.names (conds_of parts)) (all_statements piece.blocks)
+  statements_fine : AllByRecursion (IsSpellable piece.names (conds_of parts)) (all_statements piece.blocks)
   statements_fine =
-      of_statements (IsFine piece.names (conds_of parts)) piece.blocks
-      (subst (λ l. OfBlocks (λ code. AllByRecursion (IsFine piece.names (conds_of parts)) code) l) (sym is.blocks)
+      of_statements (IsSpellable piece.names (conds_of parts)) piece.blocks
+      (subst (λ l. OfBlocks (λ code. AllByRecursion (IsSpellable piece.names (conds_of parts)) code) l) (sym is.blocks)
       (blocks_fine piece.names (conds_of parts) (greatest_unit enc) first parts are (greatest_short enc) written room))
 
   are_written : EachBlockHasSpelling piece.names piece.blocks × AllByRecursion HasFewGroups (all_statements piece.blocks)

@@ -16,13 +16,13 @@ use Rattle.lx_layout.specs.Plans.{unlabelled}
 use Rattle.lx_layout.specs.Writable.{PartsCanBeWritten}
 use Rattle.lx_layout.proofs.PartLayouts.ClosedParts.{all_end, all_jump}
 use Rattle.lx_layout.proofs.PartLayouts.PartBlocks.{OfBlocks, of_parts, of_statements}
-use Rattle.lx_layout.proofs.PartLayouts.Spelled.{IsFine, part_fine}
+use Rattle.lx_layout.proofs.PartLayouts.Spelled.{IsSpellable, part_fine}
 use Rattle.lx_layout.proofs.Validity.EachElement.{each-append, each-back, each-front, each-map}
 
 module _ (names : Spellings) (conds : List (List ℕ)) where
   parts_fine : (greatest begin first : ℕ) (parts : List Part) → AreFormed greatest parts → IsShort greatest → PartsCanBeWritten names conds parts
       → IsLong (first + all_asked parts)
-      → EachPart (λ part begin from. AllByRecursion (λ code. AllByRecursion (IsFine names conds) code) (part_codes part begin from)) begin first parts
+      → EachPart (λ part begin from. AllByRecursion (λ code. AllByRecursion (IsSpellable names conds) code) (part_codes part begin from)) begin first parts
   parts_fine greatest begin first [] are short written room = tt
   parts_fine greatest begin first (part ∷ parts) are short written room = (
     part_fine names conds greatest first part short are.0 written.0 (omega (arith, room)) begin,
@@ -30,13 +30,13 @@ module _ (names : Spellings) (conds : List (List ℕ)) where
   )
 
   pub blocks_fine : (greatest first : ℕ) (parts : List Part) → AreFormed greatest parts → IsShort greatest → PartsCanBeWritten names conds parts
-      → IsLong (first + all_asked parts) → OfBlocks (λ code. AllByRecursion (IsFine names conds) code) (parts_blocks 0 first parts)
+      → IsLong (first + all_asked parts) → OfBlocks (λ code. AllByRecursion (IsSpellable names conds) code) (parts_blocks 0 first parts)
   blocks_fine greatest first parts are short written room =
-      of_parts (λ code. AllByRecursion (IsFine names conds) code) 0 first parts (parts_fine greatest 0 first parts are short written room)
+      of_parts (λ code. AllByRecursion (IsSpellable names conds) code) 0 first parts (parts_fine greatest 0 first parts are short written room)
 
   -- ---- one statement
 
-  spelled : (count : ℕ) (statement : Stmt) → count ≤ STATEMENT_LIMIT → IsFine names conds statement → JumpsBelow count statement
+  spelled : (count : ℕ) (statement : Stmt) → count ≤ STATEMENT_LIMIT → IsSpellable names conds statement → JumpsBelow count statement
       → HasSpelling names statement
   spelled count Peek small fine below = tt
   spelled count Skip small fine below = tt
@@ -66,12 +66,12 @@ module _ (names : Spellings) (conds : List (List ℕ)) where
   spelled count (Code rule line action) small fine below = fine
   spelled count (Jump cond rule) small fine below = (fine.0.0, fine.1)
 
-  pub one_of : (statement : Stmt) → IsFine names conds statement → NamesOneOf conds statement
+  pub one_of : (statement : Stmt) → IsSpellable names conds statement → NamesOneOf conds statement
   one_of (Cond cond) fine = fine.1
   one_of (Jump cond rule) fine = fine.0.1
   one_of _ fine = tt
 
-  pub few_groups : (statement : Stmt) → IsFine names conds statement → HasFewGroups statement
+  pub few_groups : (statement : Stmt) → IsSpellable names conds statement → HasFewGroups statement
   few_groups (Count groups) fine = fine
   few_groups (End place register) fine = fine.0
   few_groups _ fine = tt
@@ -101,13 +101,13 @@ module _ (names : Spellings) (conds : List (List ℕ)) where
   some_statement [] ends = absurd (false≢true ends)
   some_statement (statement ∷ code) ends = omega arith
 
-  code_spelled : (count : ℕ) (code : List Stmt) → count ≤ STATEMENT_LIMIT → AllByRecursion (IsFine names conds) code
+  code_spelled : (count : ℕ) (code : List Stmt) → count ≤ STATEMENT_LIMIT → AllByRecursion (IsSpellable names conds) code
       → AllByRecursion (JumpsBelow count) code → EachHasSpelling names code
   code_spelled count [] small fine below = tt
   code_spelled count (statement ∷ code) small fine below =
       (spelled count statement small fine.0 below.0, code_spelled count code small fine.1 below.1)
 
-  pub blocks_spelled : (count : ℕ) (blocks : List CodeBlock) → count ≤ STATEMENT_LIMIT → OfBlocks (λ code. AllByRecursion (IsFine names conds) code) blocks
+  pub blocks_spelled : (count : ℕ) (blocks : List CodeBlock) → count ≤ STATEMENT_LIMIT → OfBlocks (λ code. AllByRecursion (IsSpellable names conds) code) blocks
       → LabelsWritten blocks → AllByRecursion (λ (block : CodeBlock). ends_once block.stmts ≡ true) blocks
       → AllByRecursion (JumpsBelow count) (all_statements blocks) → EachBlockHasSpelling names blocks
   blocks_spelled count [] small fine labels ends below = tt
@@ -126,10 +126,10 @@ module _ (names : Spellings) (conds : List (List ℕ)) where
       → PartsCanBeWritten names conds parts → blocks ≡ parts_blocks 0 first parts → length blocks ≤ STATEMENT_LIMIT → IsLong (first + all_asked parts)
       → EachBlockHasSpelling names blocks × AllByRecursion HasFewGroups (all_statements blocks) × AllByRecursion (NamesOneOf conds) (all_statements blocks)
   parts_written greatest first parts blocks are short written same small room =
-      let fine : OfBlocks (λ code. AllByRecursion (IsFine names conds) code) blocks =
-      subst (λ l. OfBlocks (λ code. AllByRecursion (IsFine names conds) code) l) (sym same) (blocks_fine greatest first parts are short written room) in
+      let fine : OfBlocks (λ code. AllByRecursion (IsSpellable names conds) code) blocks =
+      subst (λ l. OfBlocks (λ code. AllByRecursion (IsSpellable names conds) code) l) (sym same) (blocks_fine greatest first parts are short written room) in
       let labels : LabelsWritten blocks = subst (λ l. LabelsWritten l) (sym same) (labels_written 0 first parts written) in (
         blocks_spelled (length blocks) blocks small fine labels (all_end greatest first parts blocks are same) (all_jump greatest first parts blocks are same),
-        each-map (IsFine names conds) HasFewGroups few_groups (all_statements blocks) (of_statements (IsFine names conds) blocks fine),
-        each-map (IsFine names conds) (NamesOneOf conds) one_of (all_statements blocks) (of_statements (IsFine names conds) blocks fine),
+        each-map (IsSpellable names conds) HasFewGroups few_groups (all_statements blocks) (of_statements (IsSpellable names conds) blocks fine),
+        each-map (IsSpellable names conds) (NamesOneOf conds) one_of (all_statements blocks) (of_statements (IsSpellable names conds) blocks fine),
       )

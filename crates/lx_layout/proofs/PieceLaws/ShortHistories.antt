@@ -19,7 +19,7 @@ use Rattle.lx_layout.proofs.PartLayouts.ClosedParts.{all_end}
 use Rattle.lx_layout.proofs.PartLayouts.PartBlocks.{OfBlocks, of_statements}
 use Rattle.lx_layout.proofs.PartLayouts.PartStates.{no_states}
 use Rattle.lx_layout.proofs.PartLayouts.ShortNumbers.{blocks_few, mregs_short}
-use Rattle.lx_layout.proofs.PartLayouts.Spelled.{IsFine}
+use Rattle.lx_layout.proofs.PartLayouts.Spelled.{IsSpellable}
 use Rattle.lx_layout.proofs.PartLayouts.ValidParts.{greatest_short}
 use Rattle.lx_layout.proofs.PartLayouts.WrittenParts.{blocks_fine}
 use Rattle.lx_layout.proofs.PieceLaws.AskedFew.{all_few}
@@ -51,8 +51,8 @@ module _ (form : Form) (scanners : List Source) (parts : List Part) (blocks : Li
   pub histories_short : IsShort (mregs_of blocks)
   histories_short =
       mregs_short form.names (formed.conds_of parts) blocks
-      (of_statements (IsFine form.names (formed.conds_of parts)) blocks
-      (subst (λ l. OfBlocks (λ code. AllByRecursion (IsFine form.names (formed.conds_of parts)) code) l) (sym is)
+      (of_statements (IsSpellable form.names (formed.conds_of parts)) blocks
+      (subst (λ l. OfBlocks (λ code. AllByRecursion (IsSpellable form.names (formed.conds_of parts)) code) l) (sym is)
       (blocks_fine form.names (formed.conds_of parts) (greatest_unit form.enc) form.first_state parts formed_parts (greatest_short form.enc) written room)))
 
   pub states_none : form.stores ≡ false → states_from 0 blocks ≡ []

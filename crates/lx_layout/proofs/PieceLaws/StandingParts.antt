@@ -17,7 +17,7 @@ use Rattle.lx_layout.specs.SuppliedLayout.{supplied_layout}
 use Rattle.lx_layout.proofs.PieceLaws.EachPart.{AreFitScanners}
 use Rattle.lx_layout.proofs.PieceLaws.PartActions.{actions_own}
 use Rattle.lx_layout.proofs.PieceLaws.ScannerEntries.{AreDifferent, BeginsAt}
-use Rattle.lx_layout.proofs.PieceLaws.StandingScanners.{IsReady, scanner_stands}
+use Rattle.lx_layout.proofs.PieceLaws.StandingScanners.{FitsForm, scanner_stands}
 use Rattle.lx_layout.proofs.Validity.EachElement.{each-map}
 
 module _ (form : Form) where
@@ -78,7 +78,7 @@ module _ (form : Form) where
 
   -- ---- scanners
 
-  pub parts_in : (conds : List (List ℕ)) (piece : Piece) → IsReady form piece → (begin first : ℕ) (scanners : List Source) (parts : List Part)
+  pub parts_in : (conds : List (List ℕ)) (piece : Piece) → FitsForm form piece → (begin first : ℕ) (scanners : List Source) (parts : List Part)
       → AreFitScanners form conds scanners → ArePartsOf form scanners parts
       → EachPart (λ part begin first. StandsFrom (code_of piece.blocks) begin (part_codes part begin first)) begin first parts
       → EachPart (λ part begin first. AllByRecursion (λ code. AllByRecursion (NamesItsOwn part.given.auto) code) (part_codes part begin first)) begin first parts

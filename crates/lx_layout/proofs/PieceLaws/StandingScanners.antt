@@ -50,7 +50,7 @@ unit_within Utf32 unit lt = omega (arith, lt)
 
 -- What is known of a piece: its unit, and that at the end; that each state is stored once, and none where none is to be; and that it asks for
 -- nothing where no refill is asked for.
-pub record IsReady (form : Form) (piece : Piece) : Type 0 where
+pub record FitsForm (form : Form) (piece : Piece) : Type 0 where
   pub eof : piece.eof ≡ form.eof
   pub unit : piece.unit ≡ unit_size form.enc
   pub once : AreOnce (states_from 0 piece.blocks)
@@ -58,7 +58,7 @@ pub record IsReady (form : Form) (piece : Piece) : Type 0 where
   pub asks : form.fill ≡ false → AsksNothing piece
 
 module _ (form : Form) (conds : List (List ℕ)) (scanner : Source) (fit : IsFitScanner form conds scanner) (halting : Halting)
-    (trees : Reader → TestTree (Option ℕ)) (begin first : ℕ) (piece : Piece) (ready : IsReady form piece)
+    (trees : Reader → TestTree (Option ℕ)) (begin first : ℕ) (piece : Piece) (ready : FitsForm form piece)
     (marked : AreHalting form.eof scanner.end_rule (greatest_unit form.enc) scanner.auto halting)
     (are : EachReader IsTreeOf form.eof (greatest_unit form.enc) trees scanner.auto)
     (stands : StandsFrom (code_of piece.blocks) begin

@@ -42,7 +42,7 @@ use Rattle.lx_layout.proofs.PieceLaws.EachPart.{AreFitScanners}
 use Rattle.lx_layout.proofs.PieceLaws.FitParts.{all_eof, all_store, all_suit, all_written, are_formed}
 use Rattle.lx_layout.proofs.PieceLaws.ScannerEntries.{AreDifferent, BeginsAt, cases_of, conds_distinct, parts_enter}
 use Rattle.lx_layout.proofs.PieceLaws.StandingParts.{conds_differ, parts_act, parts_in, same_conds, same_length}
-use Rattle.lx_layout.proofs.PieceLaws.StandingScanners.{IsReady}
+use Rattle.lx_layout.proofs.PieceLaws.StandingScanners.{FitsForm}
 use Rattle.lx_layout.proofs.PieceLaws.StoredRefills.{refills_none, stored_blocks}
 use Rattle.lx_layout.proofs.Validity.EachElement.{each-map}
 
@@ -192,7 +192,7 @@ module _ (form : Form) (scanners : List Source) (parts : List Part) (piece : Pie
       (of_parts (λ code. AllByRecursion (IsActionOf scanners) code) 0 form.first_state parts
       (parts_act form scanners 0 form.first_state scanners parts are_parts are (λ scanner has. has))))
 
-  ready : IsReady form piece
+  ready : FitsForm form piece
   ready = record { eof = fields.eof; unit = fields.unit; once = is_valid.states_differ; none = nothing; asks = asks_nothing }
 
   begin : EachPart (BeginsAt piece.conds) 0 form.first_state parts

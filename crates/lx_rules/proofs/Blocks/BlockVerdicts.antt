@@ -26,7 +26,7 @@ use Rattle.lx_rules.proofs.Blocks.Openings.{opening_is}
 use Rattle.lx_rules.proofs.Blocks.ItemFits.{IsStateWithin}
 use Rattle.lx_rules.proofs.Blocks.ItemRuns.{sorts_of-lexemes}
 use Rattle.lx_rules.proofs.ScannerSets.BuildableMeanings.{IsRuleBuildable}
-use Rattle.lx_rules.proofs.Blocks.Readiness.{IsReady, first_buildable, first_within}
+use Rattle.lx_rules.proofs.Blocks.Readiness.{IsUsable, first_buildable, first_within}
 use Rattle.lx_rules.proofs.Blocks.ItemVerdicts.{IsStateBuildable, goes_buildable, goes_decides}
 
 -- the checks behind the items find a fault, or nothing
@@ -62,7 +62,7 @@ kind_built options kind to_keep at state checked buildable =
     (record { scanners = []; acts = []; config = config_of state.settings }, (refl, refl, refl))
 
 module _ (options : Options) (kind : BlockKind) (has : HasRules kind) (at : Pos) (environment : Environment) (lexemes : List Lexeme) (items : List Item)
-    (ready : IsReady options environment) where
+    (ready : IsUsable options environment) where
   abbrev before : State
   before = first_state kind environment
 

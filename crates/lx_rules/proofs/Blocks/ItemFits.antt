@@ -117,13 +117,13 @@ module _ (options : Options) (lexemes : List Lexeme) where
   act_number number None None = refl
 
   -- an expression whose checks find nothing
-  record IsReady (definitions : List Definition) (meaning : Meaning) : Type 0 where
+  record PassesChecks (definitions : List Definition) (meaning : Meaning) : Type 0 where
     within : IsMeantWithin options.enc nothing meaning
     grouped : are_groups options definitions ≡ false → meaning.groups ≡ 0
 
   expression_within : (definitions : List Definition) → AreDefinedWithin options definitions → (from until : ℕ) (form : Form) (meaning : Meaning)
       → ExpressionChecks options lexemes definitions from until None → IsExpression options lexemes from until form
-      → IsMeaning options definitions false nothing form meaning → IsReady definitions meaning
+      → IsMeaning options definitions false nothing form meaning → PassesChecks definitions meaning
   expression_within definitions ready from until form meaning checked stands means =
       let same = one_form (drop from lexemes) (drop until lexemes) checked.0 form checked.1 stands in
       let found = subst (λ f. Checks options definitions false [] f None) same checked.2 in

@@ -16,7 +16,7 @@ use Rattle.lx_forms.specs.Lexemes.{lexemes_of}
 use Rattle.lx_rules.proofs.Blocks.ItemRuns.{body-alike}
 use Rattle.lx_rules.proofs.CondSets.ListForms.{body_lists}
 use Rattle.lx_rules.proofs.Rules.RuleNumbers.{all_both, all_drop}
-use Rattle.lx_rules.proofs.Rules.SoundRules.{AreSound, goes_sound}
+use Rattle.lx_rules.proofs.Rules.FittingRules.{AllFitConditions, goes_sound}
 
 -- what holds of definitions holds of some more, and of those behind some of them
 within_both : (options : Options) (definitions more : List Definition) → AreDefinedWithin options definitions → AreDefinedWithin options more
@@ -34,23 +34,23 @@ within_drop options (suc count) (definition ∷ definitions) are = within_drop o
 abbrev pub kept_state : KeptBlock → State
 kept_state kept = record { definitions = kept.definitions; settings = kept.settings; rules = kept.rules }
 
-abbrev pub KeptReady : Options → Option KeptBlock → Type 0
-KeptReady options None = Unit {0}
-KeptReady options (Some kept) =
-    IsStateWithin options (kept_state kept) × IsStateBuildable (kept_state kept) × AreSound options.conds kept.rules
+abbrev pub KeptUsable : Options → Option KeptBlock → Type 0
+KeptUsable options None = Unit {0}
+KeptUsable options (Some kept) =
+    IsStateWithin options (kept_state kept) × IsStateBuildable (kept_state kept) × AllFitConditions options.conds kept.rules
 
 -- the definitions can stand in expressions and be built, and so can those of the rules block that is kept, with its rules
-pub record IsReady (options : Options) (environment : Environment) : Type 0 where
+pub record IsUsable (options : Options) (environment : Environment) : Type 0 where
   pub within : AreDefinedWithin options environment.definitions
   pub buildable : AllByRecursion IsBuildable environment.definitions
-  pub kept : KeptReady options environment.kept
+  pub kept : KeptUsable options environment.kept
 
 -- before the first block nothing is asked
-pub first_ready : (options : Options) → IsReady options first_environment
+pub first_ready : (options : Options) → IsUsable options first_environment
 first_ready options = record { within = tt; buildable = tt; kept = tt }
 
-module _ (options : Options) (environment : Environment) (ready : IsReady options environment) where
-  used_within : (kept : Option KeptBlock) → KeptReady options kept → IsStateWithin options (state_behind kept environment)
+module _ (options : Options) (environment : Environment) (ready : IsUsable options environment) where
+  used_within : (kept : Option KeptBlock) → KeptUsable options kept → IsStateWithin options (state_behind kept environment)
   used_within None is = no_rules_within options (state_behind None environment) ready.within refl
   used_within (Some kept) is = record {
     definitions = within_both options kept.definitions environment.definitions is.0.definitions ready.within;
@@ -67,7 +67,7 @@ module _ (options : Options) (environment : Environment) (ready : IsReady option
   first_within kind to_keep = no_rules_within options (first_state Rules environment) ready.within refl
   first_within kind of_use = used_within environment.kept ready.kept
 
-  used_buildable : (kept : Option KeptBlock) → KeptReady options kept → IsStateBuildable (state_behind kept environment)
+  used_buildable : (kept : Option KeptBlock) → KeptUsable options kept → IsStateBuildable (state_behind kept environment)
   used_buildable None is = record { definitions = ready.buildable; rules = tt }
   used_buildable (Some kept) is = record {
     definitions = all_both IsBuildable kept.definitions environment.definitions is.1.definitions ready.buildable;
@@ -79,18 +79,18 @@ module _ (options : Options) (environment : Environment) (ready : IsReady option
   first_buildable kind to_keep = record { definitions = ready.buildable; rules = tt }
   first_buildable kind of_use = used_buildable environment.kept ready.kept
 
-  used_sound : (kept : Option KeptBlock) → KeptReady options kept → AreSound options.conds (state_behind kept environment).rules
+  used_sound : (kept : Option KeptBlock) → KeptUsable options kept → AllFitConditions options.conds (state_behind kept environment).rules
   used_sound None is = tt
   used_sound (Some kept) is = is.2
 
-  pub first_sound : (kind : BlockKind) → HasRules kind → AreSound options.conds (first_state kind environment).rules
+  pub first_sound : (kind : BlockKind) → HasRules kind → AllFitConditions options.conds (first_state kind environment).rules
   first_sound kind of_scanners = tt
   first_sound kind to_keep = tt
   first_sound kind of_use = used_sound environment.kept ready.kept
 
   -- and what holds behind a block
   pub ready_behind : (kind : BlockKind) → HasRules kind → (state : State) → IsStateWithin options state → IsStateBuildable state
-      → AreSound options.conds state.rules → IsReady options (environment_behind kind environment state)
+      → AllFitConditions options.conds state.rules → IsUsable options (environment_behind kind environment state)
   ready_behind kind of_scanners state within buildable sound = record { within = within.definitions; buildable = buildable.definitions; kept = ready.kept }
   ready_behind kind of_use state within buildable sound = ready
   ready_behind kind to_keep state within buildable sound = record {
@@ -114,13 +114,13 @@ module _ (options : Options) (environment : Environment) (ready : IsReady option
   }
 
 -- what stands under options is ready
-pub stands_ready : (options : Options) (environment : Environment) → StandsUnder options environment → IsReady options environment
+pub stands_ready : (options : Options) (environment : Environment) → StandsUnder options environment → IsUsable options environment
 stands_ready options environment before_all = first_ready options
 stands_ready options environment (behind_block {environment = before} stands kind at start body tokens items after resolved has short tokens_are items_are is) =
     let ready = stands_ready options before stands in
     let lexemes = lexemes_of body tokens in
     let lists = body_lists body start tokens items tokens_are (body-alike kind has body tokens items items_are) in
-    subst (IsReady options) (sym is.after_is)
+    subst (IsUsable options) (sym is.after_is)
     (ready_behind options before ready kind has is.state
     (goes_within options lexemes (first_state kind before) is.state items (first_within options before ready kind has) is.goes)
     (goes_buildable options lexemes (first_state kind before) is.state items (first_buildable options before ready kind has) is.goes)

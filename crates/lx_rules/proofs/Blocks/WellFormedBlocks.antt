@@ -43,7 +43,7 @@ use Rattle.lx_rules.proofs.Blocks.Readiness.{first_sound, first_within, stands_r
 use Rattle.lx_rules.proofs.ScannerSets.ScannerFits.{resolved_within, scanners_checked}
 use Rattle.lx_rules.proofs.ScannerSets.ScannerLimits.{or_none, scanner_ended}
 use Rattle.lx_rules.proofs.Rules.RuleFits.{IsRuleMeant, IsSlashIn}
-use Rattle.lx_rules.proofs.Rules.SoundRules.{all_apart, goes_sound}
+use Rattle.lx_rules.proofs.Rules.FittingRules.{all_apart, goes_sound}
 
 -- ---- the rules of a scanner
 

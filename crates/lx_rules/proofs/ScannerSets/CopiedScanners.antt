@@ -203,19 +203,19 @@ module _ (named : Bool) (at : Pos) (eof : Option ℕ) (names : List (List ℕ)) 
         )
 
 module _ (named : Bool) (at : Pos) (eof : Option ℕ) (rules : List RuleOf) where
-  abbrev AreSound : List (List ℕ) → List Scanner → Type 0
-  AreSound conds scanners = AllZip (IsBuiltScanner named at eof rules) conds scanners
+  abbrev AreBuiltScanners : List (List ℕ) → List Scanner → Type 0
+  AreBuiltScanners conds scanners = AllZip (IsBuiltScanner named at eof rules) conds scanners
 
   -- one scanner more
   pub sound_more : (conds : List (List ℕ)) (place : ℕ) (cond : List ℕ) (scanners : List Scanner) (scanner : Scanner) → place < length conds
-      → get_or conds place [] ≡ cond → AreSound (take place conds) scanners → IsBuiltScanner named at eof rules cond scanner
-      → AreSound (take (place + 1) conds) (scanners ++ scanner ∷ [])
+      → get_or conds place [] ≡ cond → AreBuiltScanners (take place conds) scanners → IsBuiltScanner named at eof rules cond scanner
+      → AreBuiltScanners (take (place + 1) conds) (scanners ++ scanner ∷ [])
   sound_more conds place cond scanners scanner lt is are one =
       let next = take_more conds place [] lt ∙ ap (λ c. take place conds ++ c ∷ []) is in
-      subst (λ l. AreSound l (scanners ++ scanner ∷ [])) (sym next)
+      subst (λ l. AreBuiltScanners l (scanners ++ scanner ∷ [])) (sym next)
       (all_zipped_more (IsBuiltScanner named at eof rules) (take place conds) scanners cond scanner are one)
 
-  first_fault : (conds : List (List ℕ)) (place : ℕ) (scanners : List Scanner) (fault : Fault) → place < length conds → AreSound (take place conds) scanners
+  first_fault : (conds : List (List ℕ)) (place : ℕ) (scanners : List Scanner) (fault : Fault) → place < length conds → AreBuiltScanners (take place conds) scanners
       → Some fault ≡ scanner_fault at eof (rules_of (get_or conds place []) rules) → Some fault ≡ scanners_fault at eof rules conds
   first_fault [] place scanners fault lt are is = absurd (omega (arith, lt))
   first_fault (cond ∷ conds) zero scanners fault lt are is = ap (λ found. option_or found (scanners_fault at eof rules conds)) is
@@ -226,14 +226,14 @@ module _ (named : Bool) (at : Pos) (eof : Option ℕ) (rules : List RuleOf) wher
 
   -- the fault of the scanner behind others is the first one
   pub scanners_stop : (conds : List (List ℕ)) (place : ℕ) (cond : List ℕ) (scanners : List Scanner) (stopped : Stop) → place < length conds
-      → get_or conds place [] ≡ cond → AreSound (take place conds) scanners → StopsAt (Finds (scanner_fault at eof (rules_of cond rules))) stopped
+      → get_or conds place [] ≡ cond → AreBuiltScanners (take place conds) scanners → StopsAt (Finds (scanner_fault at eof (rules_of cond rules))) stopped
       → StopsAt (Finds (scanners_fault at eof rules conds)) stopped
   scanners_stop conds place cond scanners stop.Memory lt is are stops = tt
   scanners_stop conds place cond scanners (stop.Fault fault) lt is are stops =
       first_fault conds place scanners fault lt are (stops ∙ ap (λ c. scanner_fault at eof (rules_of c rules)) (sym is))
 
   -- the checks of scanners that are built so find nothing
-  pub built_checked : (conds : List (List ℕ)) (scanners : List Scanner) → AreSound conds scanners → scanners_fault at eof rules conds ≡ None
+  pub built_checked : (conds : List (List ℕ)) (scanners : List Scanner) → AreBuiltScanners conds scanners → scanners_fault at eof rules conds ≡ None
   built_checked [] [] are = refl
   built_checked [] (scanner ∷ scanners) are = absurd are
   built_checked (cond ∷ conds) [] are = absurd are
@@ -241,13 +241,13 @@ module _ (named : Bool) (at : Pos) (eof : Option ℕ) (rules : List RuleOf) wher
       ap (λ found. option_or found (scanners_fault at eof rules conds)) are.0.0 ∙ built_checked conds scanners are.1
 
   -- and they are as is wanted, within the limits
-  pub built_scanners : (conds : List (List ℕ)) (scanners : List Scanner) → AreSound conds scanners → AreScanners named rules conds scanners
+  pub built_scanners : (conds : List (List ℕ)) (scanners : List Scanner) → AreBuiltScanners conds scanners → AreScanners named rules conds scanners
   built_scanners [] [] are = tt
   built_scanners [] (scanner ∷ scanners) are = absurd are
   built_scanners (cond ∷ conds) [] are = absurd are
   built_scanners (cond ∷ conds) (scanner ∷ scanners) are = (are.0.1, built_scanners conds scanners are.1)
 
-  pub built_fit : (conds : List (List ℕ)) (scanners : List Scanner) → AreSound conds scanners → AllByRecursion (IsFit (length rules)) scanners
+  pub built_fit : (conds : List (List ℕ)) (scanners : List Scanner) → AreBuiltScanners conds scanners → AllByRecursion (IsFit (length rules)) scanners
   built_fit [] [] are = tt
   built_fit [] (scanner ∷ scanners) are = absurd are
   built_fit (cond ∷ conds) [] are = absurd are

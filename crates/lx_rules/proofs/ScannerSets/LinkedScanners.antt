@@ -41,7 +41,7 @@ use Rattle.lx_rules.proofs.Blocks.ItemRuns.{body-alike}
 use Rattle.lx_rules.proofs.Blocks.Readiness.{first_sound, stands_ready}
 use Rattle.lx_rules.proofs.Rules.RuleNumbers.{all_both, all_so}
 use Rattle.lx_rules.proofs.ScannerSets.ScannerLimits.{or_none}
-use Rattle.lx_rules.proofs.Rules.SoundRules.{AreSound, goes_sound}
+use Rattle.lx_rules.proofs.Rules.FittingRules.{AllFitConditions, goes_sound}
 
 -- ---- the names of conditions
 
@@ -105,18 +105,18 @@ conditions_behind-distinct seen [] distinct = distinct
 conditions_behind-distinct seen (rule ∷ rules) distinct =
     conditions_behind-distinct (add_conds rule.conds seen) rules (add_conds-distinct rule.conds seen distinct)
 
-conditions_behind-names : (seen : List (List ℕ)) (rules : List RuleOf) → AreSound true rules → AllByRecursion IsIdentifier seen
+conditions_behind-names : (seen : List (List ℕ)) (rules : List RuleOf) → AllFitConditions true rules → AllByRecursion IsIdentifier seen
     → AllByRecursion IsIdentifier (conditions_behind seen rules)
 conditions_behind-names seen [] sound names = names
 conditions_behind-names seen (rule ∷ rules) sound names =
     conditions_behind-names (add_conds rule.conds seen) rules sound.1 (add_conds-names rule.conds seen (listed_words rule.conds (sound.0.listed refl)) names)
 
 -- where conditions are not in used there is one without a name
-conditions_behind-alone : (rules : List RuleOf) → AreSound false rules → conditions_behind ([] ∷ []) rules ≡ [] ∷ []
+conditions_behind-alone : (rules : List RuleOf) → AllFitConditions false rules → conditions_behind ([] ∷ []) rules ≡ [] ∷ []
 conditions_behind-alone [] sound = refl
 conditions_behind-alone (rule ∷ rules) sound = let conds = sound.0.alone refl in rw (conds) (conditions_behind-alone rules sound.1)
 
-conditions_of-few : (rules : List RuleOf) → AreSound false rules → length (conditions_of rules) ≤ 1
+conditions_of-few : (rules : List RuleOf) → AllFitConditions false rules → length (conditions_of rules) ≤ 1
 conditions_of-few [] sound = omega arith
 conditions_of-few (rule ∷ rules) sound =
     let conds = sound.0.alone refl in
@@ -304,7 +304,7 @@ module _ (options : Options) (lexemes : List Lexeme) where
 -- ---- what a block resolves to
 
 -- a rule without an action has a target
-complete : (conds : Bool) (rules : List RuleOf) → AreSound conds rules
+complete : (conds : Bool) (rules : List RuleOf) → AllFitConditions conds rules
     → AllByRecursion (λ (act : Act). act.code ≡ None → IsSome act.goes) (acts_of rules)
 complete conds [] sound = tt
 complete conds (rule ∷ rules) sound = (of rule.act.goes refl, complete conds rules sound.1)
@@ -331,7 +331,7 @@ module _ (all : List RuleOf) (conds : List (List ℕ)) (scanners : List Scanner)
       at true e found = in_scanners all name conds scanners e are
       at false e found = absurd (let h : Some (Condition place) ≡ None = found in cc)
 
-  targets_in : (used : Bool) (rules : List RuleOf) → AreScanners used all conds scanners → AreSound used rules → targets_fault rules conds ≡ None
+  targets_in : (used : Bool) (rules : List RuleOf) → AreScanners used all conds scanners → AllFitConditions used rules → targets_fault rules conds ≡ None
       → AllByRecursion IsIn (acts_of rules)
   targets_in used [] are sound none = tt
   targets_in used (rule ∷ rules) are sound none =
@@ -341,17 +341,17 @@ module _ (all : List RuleOf) (conds : List (List ℕ)) (scanners : List Scanner)
       )
 
 module _ (resolved : Resolved) (rules : List RuleOf) where
-  conds_identified : (used : Bool) → AreSound used rules → AreScanners used rules (conditions_of rules) resolved.scanners
+  conds_identified : (used : Bool) → AllFitConditions used rules → AreScanners used rules (conditions_of rules) resolved.scanners
       → AllByRecursion (λ (scanner : Scanner). IfSome scanner.cond IsIdentifier) resolved.scanners
   conds_identified true sound are = identified rules (conditions_of rules) resolved.scanners (conditions_behind-names [] rules sound tt) are
   conds_identified false sound are = unidentified rules (conditions_of rules) resolved.scanners are
 
-  conds_differ : (used : Bool) → AreSound used rules → AreScanners used rules (conditions_of rules) resolved.scanners
+  conds_differ : (used : Bool) → AllFitConditions used rules → AreScanners used rules (conditions_of rules) resolved.scanners
       → HaveDifferentConditions resolved.scanners
   conds_differ true sound are = differ rules (conditions_of rules) resolved.scanners (conditions_behind-distinct [] rules tt) are
   conds_differ false sound are = few_differ rules false (conditions_of rules) resolved.scanners (conditions_of-few rules sound) are
 
-  linked : (used : Bool) → AreSound used rules → AreNumbered 1 rules → resolved.acts ≡ acts_of rules
+  linked : (used : Bool) → AllFitConditions used rules → AreNumbered 1 rules → resolved.acts ≡ acts_of rules
       → AreScanners used rules (conditions_of rules) resolved.scanners → targets_fault rules (conditions_of rules) ≡ None → AreLinked used resolved
   linked used sound numbers acts are targets =
       let once = all_so (IsOnce 1 rules) (λ (rule : RuleOf). HasOneAct resolved.acts rule.act.number)
@@ -392,7 +392,7 @@ none_linked used resolved scanners acts = record {
       subst (AllByRecursion (λ (act : Act). IfSome act.goes (λ cond. Contains (map (λ (scanner : Scanner). scanner.cond) resolved.scanners) (Some cond)))) (sym acts) tt;
 }
 
-kind_linked : (options : Options) (kind : BlockKind) → HasRules kind → (at : Pos) (state : State) (resolved : Resolved) → AreSound options.conds state.rules
+kind_linked : (options : Options) (kind : BlockKind) → HasRules kind → (at : Pos) (state : State) (resolved : Resolved) → AllFitConditions options.conds state.rules
     → AreNumbered 1 state.rules → BlockChecks options.custom kind at state None → IsResolvedAs kind options.conds state resolved → AreLinked options.conds resolved
 kind_linked options kind of_scanners at state resolved sound numbers checked is =
     linked resolved state.rules options.conds sound numbers is.acts is.scanners (targets_checked options.custom at state checked)

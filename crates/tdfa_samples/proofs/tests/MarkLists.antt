@@ -9,7 +9,7 @@ use Rattle.lx_regex.specs.Script.{put_tag, tags_among}
 use Rattle.lx_regex.specs.Term.{Term, alt, tag}
 use Rattle.lx_regex.specs.declared.expr.Expr.{Expr}
 use Rattle.lx_regex.specs.ClassLimits.{ClassesFitAmong}
-use Rattle.tdfa_samples.proofs.tests.OneRuleLists.{IsSound}
+use Rattle.tdfa_samples.proofs.tests.OneRuleLists.{HasTags}
 
 one_number_more : (number count : ℕ) → numbers_from number count ++ (number + count) ∷ [] ≡ numbers_from number (suc count)
 one_number_more number zero = ap (λ (n : ℕ). n ∷ []) (omega arith)
@@ -44,5 +44,5 @@ sound_marks first (suc count) =
     ((tt, sequences), ap (put_tag first) tags ∙ put_first first count, (tt, fits))
 
 -- one of some tags
-pub sound_choice_of_marks : (count : ℕ) (e : Term) → e ≡ alt (members_of (map tag (numbers_from 0 count))) → IsSound e (numbers_from 0 count)
+pub sound_choice_of_marks : (count : ℕ) (e : Term) → e ≡ alt (members_of (map tag (numbers_from 0 count))) → HasTags e (numbers_from 0 count)
 sound_choice_of_marks count e is = let (sequences, tags, fits) = sound_marks 0 count in rw is (sequences, tags, fits)

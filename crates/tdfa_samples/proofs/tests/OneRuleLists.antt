@@ -13,21 +13,21 @@ use Rattle.lx_regex.specs.declared.rules.Tag.{Tag}
 use Rattle.lx_regex.proofs.Trees.OneRule.{limits_of_one, plain}
 
 -- its sequences are long, these are its tags, and UTF-8 has its classes
-abbrev pub IsSound : Term → (told : List ℕ) → Type 0
-IsSound e told = HasLongSequences e × (tags_in e ≡ told) × ClassesFit Utf8 e
+abbrev pub HasTags : Term → (told : List ℕ) → Type 0
+HasTags e told = HasLongSequences e × (tags_in e ≡ told) × ClassesFit Utf8 e
 
 -- a term repeated
-pub sound_repeat : (body e : Term) (low : ℕ) (high : Option ℕ) (told : List ℕ) → e ≡ repeat body low high → IsSound body told → IsSound e told
+pub sound_repeat : (body e : Term) (low : ℕ) (high : Option ℕ) (told : List ℕ) → e ≡ repeat body low high → HasTags body told → HasTags e told
 sound_repeat body e low high told is sound = rw is sound
 
 -- a term with the first tag, or nothing
-pub sound_or_nothing : (first e : Term) → e ≡ alt (cons first (cons empty nil)) → IsSound first (0 ∷ []) → IsSound e (0 ∷ [])
+pub sound_or_nothing : (first e : Term) → e ≡ alt (cons first (cons empty nil)) → HasTags first (0 ∷ []) → HasTags e (0 ∷ [])
 sound_or_nothing first e is (sequences, tags, fits) =
     rw is ((sequences, (tt, tt)), ap (λ list. merge_tags list (merge_tags [] [])) tags, (fits, (tt, tt)))
 
 -- a rule without a trailing context and without groups
 pub within_one : (expr : Expr) (list : List Tag) (count : ℕ) → length list ≡ count → size_of expr ≤ 4096 → count ≤ 128
-    → ((tags : ℕ) → IsSound (term_of tags expr) (numbers_from 0 count))
+    → ((tags : ℕ) → HasTags (term_of tags expr) (numbers_from 0 count))
     → IsWithinLimits (plain 1 expr list None 0 ∷ []) × AllClassesFit Utf8 (terms_of (patterns_of (plain 1 expr list None 0 ∷ [])))
 within_one expr list count is few few_tags sound =
     let (sequences, told, fits) = sound (length list) in

@@ -2,7 +2,7 @@ use Rattle.std.proofs.Common.{length, arith, sym}
 use Rattle.std.proofs.lemmas.Result.{err_from_is_err_and}
 use Rattle.lx_files.specs.Counts.{Rose}
 use Rattle.lx_split.specs.Includes.{expansion}
-use Rattle.lx_split.proofs.SoundExpansions.{expansion-sound}
+use Rattle.lx_split.proofs.ExpandedPieces.{expansion-sound}
 use Rattle.lx_compile.proofs.Compilations.{EachIsNear-sound, IsFirstFault-none, IsGiven-of, StopsWith-behind, StopsWith-expansion}
 use Rattle.lx_compile.proofs.compiling.compile.Goals as goal
 

@@ -1,4 +1,4 @@
-use Rattle.lx_split.proofs.SoundExpansions.{expansion-placed}
+use Rattle.lx_split.proofs.ExpandedPieces.{expansion-placed}
 use Rattle.lx_split.proofs.laws.faults_stand_in_files_that_are_met.Goals as goal
 
 pub returns : goal.returns

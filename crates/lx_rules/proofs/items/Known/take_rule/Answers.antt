@@ -9,7 +9,7 @@ use Rattle.lx_rules.specs.Keeping.{IsHeadRead, IsNew, StopsHead}
 use Rattle.lx_rules.proofs.Blocks.CheckSteps.{stops_first, stops_second}
 use Rattle.lx_rules.proofs.Rules.RuleItems.{rule_taken, taken, taken_new}
 use Rattle.lx_rules.proofs.Rules.RuleSteps.{acts_counted}
-use Rattle.lx_rules.proofs.Rules.SoundRules.{conds_at-apart}
+use Rattle.lx_rules.proofs.Rules.FittingRules.{conds_at-apart}
 use Rattle.lx_rules.proofs.items.Known.take_rule.Goals as goal
 
 abbrev names_in : List (Bor (List ℕ)) → List (List ℕ)

@@ -6,7 +6,7 @@ use Rattle.lx_step.specs.Entries.{Enters}
 use Rattle.lx_step.specs.Feeds.{feed_of}
 use Rattle.lx_step.specs.Places.{room_of}
 use Rattle.lx_step.specs.Points.{Point}
-use Rattle.lx_step.specs.Ways.{HasParts, IsOnWay, IsReady}
+use Rattle.lx_step.specs.Ways.{HasParts, IsOnWay, ReadsWindow}
 use Rattle.lx_step.proofs.matches.Program.advance.Given as goal
 
 abbrev pub invariant-loop-steps : goal.invariant-loop-steps
@@ -18,7 +18,7 @@ invariant-loop-steps l = λ c.
           → IsOnWay piece entry (feed_of (ahead c.fn.src) c.fn.w) c.fn.slots c.at c.scanner c.slots c.steps c.assigned.keys (feed_of (ahead c.src) c.w);
       block : code_at piece.blocks (Some c.at.block) ≡ Some c.at.code.now;
       parts : HasParts piece c.scanner c.slots c.assigned.keys (room_of c.assigned);
-      ready : IsReady piece (l.S.Refill.unit c.src) c.w c.scanner;
+      ready : ReadsWindow piece (l.S.Refill.unit c.src) c.w c.scanner;
       start_kept : KeepsStart c.fn.w c.w;
       source : KeepsSource (l.S.Refill.unit c.fn.src) (l.S.Refill.unit c.src) (l.S.Refill.faults c.fn.src) (l.S.Refill.faults c.src) (l.S.Refill.pauses c.fn.src) (l.S.Refill.pauses c.src);
     }

@@ -5,7 +5,7 @@ use Rattle.lx_step.specs.Asking.{IsMade}
 use Rattle.lx_step.specs.Held.{is_on_histories}
 use Rattle.lx_step.specs.Feeds.{feed_of}
 use Rattle.lx_step.proofs.Lists.{slice_get-within}
-use Rattle.lx_step.proofs.Passes.{IsNearer-made, IsReady-made, stops_of}
+use Rattle.lx_step.proofs.Passes.{IsNearer-made, ReadsWindow-made, stops_of}
 use Rattle.lx_step.proofs.Places.{all-stands, any-stands}
 use Rattle.lx_step.proofs.Room.{HasRoomFor-statement}
 use Rattle.lx_step.proofs.Underway.{OnErr-always}
@@ -65,7 +65,7 @@ returns-clause-nearer g c =
 
 pub returns-clause-ready : goal.returns-clause-ready
 returns-clause-ready g c =
-    IsReady-made c.args.self.now.piece.now c.args.at c.in-Some.stmt.now c.args.scanner.now c.make.new.scanner (feed_of (g.S.Refill.ahead c.args.src.now) c.args.w.now) (feed_of (g.S.Refill.ahead c.make.new.src) c.make.new.w)
+    ReadsWindow-made c.args.self.now.piece.now c.args.at c.in-Some.stmt.now c.args.scanner.now c.make.new.scanner (feed_of (g.S.Refill.ahead c.args.src.now) c.args.w.now) (feed_of (g.S.Refill.ahead c.make.new.src) c.make.new.w)
     c.in_ok-made.made (g.S.Refill.unit c.args.src.now) (g.S.Refill.unit c.make.new.src) c.in_ok-made.ensures.made (record { block = c.requires.block; stmt = sym c.in-Some.ensures }) c.requires.ready c.make.ensures.source.same_unit
     c.make.ensures.start_kept c.make.ensures.formed
 

@@ -25,15 +25,15 @@ use Rattle.lx_rules.proofs.CondSets.ListForms.{HasAct}
 use Rattle.lx_rules.proofs.Rules.RuleNumbers.{all_both}
 
 -- what conditions in use, or none, leave to a rule; and it has an action or a target
-pub record IsSound (conds : Bool) (rule : RuleOf) : Type 0 where
+pub record FitsConditions (conds : Bool) (rule : RuleOf) : Type 0 where
   pub listed : conds ≡ true → AreListed rule.conds
   pub alone : conds ≡ false → rule.conds ≡ [] ∷ []
   pub stays : conds ≡ false → rule.act.goes ≡ None
   pub acts : rule.act.goes ≡ None → rule.act.code ≡ None → ⊥
   pub targeted : rule.target ≡ None → rule.act.goes ≡ None
 
-abbrev pub AreSound : (conds : Bool) → List RuleOf → Type 0
-AreSound conds rules = AllByRecursion (IsSound conds) rules
+abbrev pub AllFitConditions : (conds : Bool) → List RuleOf → Type 0
+AllFitConditions conds rules = AllByRecursion (FitsConditions conds) rules
 
 -- identifiers are other words than that of `<*>`
 identifiers_others : (names : List (List ℕ)) → AllByRecursion IsIdentifier names → is_among every names ≡ false
@@ -51,11 +51,11 @@ listed_apart conds (inl star) = inl star
 listed_apart conds (inr names) = inr (identifiers_others conds names)
 
 -- a rule has the condition of `<*>` alone, or others
-pub sound_apart : (conds : Bool) (rule : RuleOf) → IsSound conds rule → AreConds rule.conds
+pub sound_apart : (conds : Bool) (rule : RuleOf) → FitsConditions conds rule → AreConds rule.conds
 sound_apart true rule is = listed_apart rule.conds (is.listed refl)
 sound_apart false rule is = subst AreConds (sym (is.alone refl)) (inr refl)
 
-pub all_apart : (conds : Bool) (rules : List RuleOf) → AreSound conds rules → AllByRecursion (λ (rule : RuleOf). AreConds rule.conds) rules
+pub all_apart : (conds : Bool) (rules : List RuleOf) → AllFitConditions conds rules → AllByRecursion (λ (rule : RuleOf). AreConds rule.conds) rules
 all_apart conds [] are = tt
 all_apart conds (rule ∷ rules) are = (sound_apart conds rule are.0, all_apart conds rules are.1)
 
@@ -105,7 +105,7 @@ module _ (options : Options) (lexemes : List Lexeme) where
   rule_sound : (number first head : ℕ) (slash : Option ℕ) (until : ℕ) (goes code : Option ℕ) (kind : Kind) (meaning : RuleMeaning)
       → ListChecks options lexemes (first == head) (nth_lexeme lexemes first).at None → TargetChecks options lexemes goes None
       → IsListed lexemes first head → (goes ≡ None → code ≡ None → ⊥)
-      → IsSound options.conds (rule_of options lexemes number first head goes code kind meaning)
+      → FitsConditions options.conds (rule_of options lexemes number first head goes code kind meaning)
   rule_sound number first head slash until goes code kind meaning list target conds acts = record {
     listed = λ used. listed_by conds (absent ∙ ap not used);
     alone = λ unused. ap (λ (b : Bool). if b then [] ∷ [] else listed_words lexemes first head) (absent ∙ ap not unused);
@@ -121,25 +121,25 @@ module _ (options : Options) (lexemes : List Lexeme) where
       listed_by (inl same) apart = absurd (let h : true ≡ false = sym (eq-eqb first head same) ∙ apart in cc)
       listed_by (inr listed) apart = subst AreListed (sym (ap (λ (b : Bool). if b then [] ∷ [] else listed_words lexemes first head) apart)) listed
 
-  item_sound : (state after : State) (item : Item) → AreSound options.conds state.rules → HasConds lexemes item → HasAct item
-      → ItemChecks options lexemes state item None → IsAfter options lexemes state item after → AreSound options.conds after.rules
+  item_sound : (state after : State) (item : Item) → AllFitConditions options.conds state.rules → HasConds lexemes item → HasAct item
+      → ItemChecks options lexemes state item None → IsAfter options lexemes state item after → AllFitConditions options.conds after.rules
   item_sound state after (Define name from until) sound conds acts checked is =
-      subst (λ (s : State). AreSound options.conds s.rules) (sym is.6) sound
+      subst (λ (s : State). AllFitConditions options.conds s.rules) (sym is.6) sound
   item_sound state after (Configure name value) sound conds acts checked is =
-      subst (λ (s : State). AreSound options.conds s.rules) (sym is.2) sound
+      subst (λ (s : State). AllFitConditions options.conds s.rules) (sym is.2) sound
   item_sound state after (Rule first head slash until goes code) sound conds acts checked is =
       let Head : Check = HeadChecks options lexemes state (head_sort (sort_at (nth_lexeme lexemes head))) (conds_of options lexemes first head) head slash until in
       let found =
       then-none (ListChecks options lexemes (first == head) (nth_lexeme lexemes first).at) (λ fault. Then Head (TargetChecks options lexemes goes) fault) checked in
       let later = then-none Head (TargetChecks options lexemes goes) found.1 in
-      subst (λ (s : State). AreSound options.conds s.rules) (sym is.3)
-      (all_both (IsSound options.conds) state.rules _ sound
+      subst (λ (s : State). AllFitConditions options.conds s.rules) (sym is.3)
+      (all_both (FitsConditions options.conds) state.rules _ sound
       (rule_sound (suc (length state.rules)) first head slash until goes code is.0 is.1 found.0 later.1 conds acts, tt))
-  item_sound state after (Text value) sound conds acts checked is = subst (λ (s : State). AreSound options.conds s.rules) (sym is) sound
+  item_sound state after (Text value) sound conds acts checked is = subst (λ (s : State). AllFitConditions options.conds s.rules) (sym is) sound
 
   -- behind all items each rule is so
-  pub goes_sound : (state after : State) (items : List Item) → AreSound options.conds state.rules → EachHasConds lexemes items → AllByRecursion HasAct items
-      → Goes options lexemes state items (Ok after) → AreSound options.conds after.rules
+  pub goes_sound : (state after : State) (items : List Item) → AllFitConditions options.conds state.rules → EachHasConds lexemes items → AllByRecursion HasAct items
+      → Goes options lexemes state items (Ok after) → AllFitConditions options.conds after.rules
   goes_sound state after [] sound conds acts ends = sound
   goes_sound state after (item ∷ items) sound conds acts (next middle checked is rest) =
       goes_sound middle after items (item_sound state middle item sound conds.0 acts.0 checked is) conds.1 acts.1 rest

@@ -16,7 +16,7 @@ use Rattle.lx_split.specs.declared.includes.IncludeBlock.{IncludeBlock}
 use Rattle.lx_split.specs.declared.pieces.SourcePiece.{SourcePiece}
 use Rattle.lx_split.specs.declared.pieces.SourcePiece.TheVariants.{Outside, Block}
 use Rattle.lx_split.specs.Cuts.{HasNoMark, IsFaultOf, IsOpenerFault, begins_outside, completed, faulty, marked, piece_text, refused, source_text, unclosed}
-use Rattle.lx_split.specs.Expanded.{AreSound}
+use Rattle.lx_split.specs.Expanded.{AreExpanded}
 use Rattle.lx_split.specs.IncludeNames.{file_name_of, folder_of, names_for}
 use Rattle.lx_split.specs.Includes.{Expansion, Met, behind, enter_block, expanded, expansion, fails, file_expansion, first_file, found_include, found_then, gives, go_on, if_named, include_expansion, include_of, leave_block, main_expansion, met, piece_then, pieces_expansion, pieces_then, with_file}
 use Rattle.lx_split.specs.Marks.{begins_mark}
@@ -24,7 +24,7 @@ use Rattle.lx_split.specs.Pieces.{Split, pieces_of}
 use Rattle.lx_split.proofs.Cutting.{pieces_of-cut}
 use Rattle.lx_split.proofs.Faults.{pieces_of-fault}
 use Rattle.lx_split.proofs.PlaceBounds.{place_after-file}
-use Rattle.lx_split.proofs.SoundPieces.{AreFine, AreFine-append, AreFine-more, AreFine-sound, FitsBefore, IsFine, IsFine-more, pieces_of-fine}
+use Rattle.lx_split.proofs.MarkFreePieces.{AreMarkFree, AreMarkFree-append, AreMarkFree-more, AreMarkFree-sound, FitsBefore, IsMarkFree, IsMarkFree-more, pieces_of-fine}
 use Rattle.lx_split.proofs.Straddles.{HasNone-cons, HasNone-nil, StopsAtSlash-mark}
 
 abbrev IsNoInclude : SourcePiece → Type 0
@@ -34,8 +34,8 @@ IsNoInclude piece = include_of piece ≡ None
 
 -- for a piece, before others
 record HasPut (files : Met) (piece : SourcePiece) (later : Met) (found : List SourcePiece) : Type 0 where
-  fine : (count : ℕ) (rest : List SourcePiece) → length later.names ≤ count → AreFine count rest → FitsBefore piece rest →
-      AreFine count (found ++ rest)
+  fine : (count : ℕ) (rest : List SourcePiece) → length later.names ≤ count → AreMarkFree count rest → FitsBefore piece rest →
+      AreMarkFree count (found ++ rest)
   first : (rest : List SourcePiece) → begins_outside (found ++ rest) ≡ begins_outside (piece ∷ [])
   no_include : All IsNoInclude found
   few : length found + files.total ≤ length (piece_text piece) + later.total
@@ -44,7 +44,7 @@ record HasPut (files : Met) (piece : SourcePiece) (later : Met) (found : List So
 
 -- for pieces of a file
 record HasPutAll (files : Met) (pieces : List SourcePiece) (later : Met) (found : List SourcePiece) : Type 0 where
-  fine : AreFine (length later.names) found
+  fine : AreMarkFree (length later.names) found
   first : begins_outside found ≡ begins_outside pieces
   no_include : All IsNoInclude found
   few : length found + files.total ≤ length (source_text pieces) + later.total
@@ -53,7 +53,7 @@ record HasPutAll (files : Met) (pieces : List SourcePiece) (later : Met) (found 
 
 -- for a file that is met
 record HasPutFile (files : Met) (later : Met) (found : List SourcePiece) : Type 0 where
-  fine : AreFine (length later.names) found
+  fine : AreMarkFree (length later.names) found
   no_include : All IsNoInclude found
   few : length found + files.total ≤ later.total
   within : later.total ≤ 16777216
@@ -106,10 +106,10 @@ module _ (files : Met) (piece : SourcePiece) (pieces : List SourcePiece) (fits :
   PutsAll-found_then later (Err fault) next one two = one
 
 -- a piece that is no include
-Puts-itself : (files : Met) (piece : SourcePiece) → IsFine (length files.names) piece → files.total ≤ 16777216 → include_of piece ≡ None →
+Puts-itself : (files : Met) (piece : SourcePiece) → IsMarkFree (length files.names) piece → files.total ≤ 16777216 → include_of piece ≡ None →
     Puts files piece (gives files (piece ∷ []))
 Puts-itself files piece fine within none = record {
-  fine = λ count rest le behind fits. (IsFine-more (length files.names) count piece le fine, fits, behind);
+  fine = λ count rest le behind fits. (IsMarkFree-more (length files.names) count piece le fine, fits, behind);
   first = λ rest. first-of piece rest;
   no_include = All-cons IsNoInclude piece [] none (All-nil IsNoInclude);
   few = let some = some-text piece fine in omega arith;
@@ -121,7 +121,7 @@ Puts-itself files piece fine within none = record {
     first-of (Outside text) rest = refl
     first-of (Block kind body at body_at end_line) rest = refl
 
-    some-text : (piece : SourcePiece) → IsFine (length files.names) piece → 1 ≤ length (piece_text piece)
+    some-text : (piece : SourcePiece) → IsMarkFree (length files.names) piece → 1 ≤ length (piece_text piece)
     some-text (Outside []) fine = absurd (fine.0 refl)
     some-text (Outside (letter ∷ text)) fine = omega arith
     some-text (Block kind body at body_at end_line) fine = omega arith
@@ -133,11 +133,11 @@ include_piece include body_at = Block Include include.body include.at body_at in
 -- what an expander of includes gives
 abbrev PutsIncludes : (expand_include : Met → IncludeBlock → Expansion) → Type 0
 PutsIncludes expand_include =
-    (files : Met) (include : IncludeBlock) (body_at : Pos) → IsFine (length files.names) (include_piece include body_at) → files.total ≤ 16777216 →
+    (files : Met) (include : IncludeBlock) (body_at : Pos) → IsMarkFree (length files.names) (include_piece include body_at) → files.total ≤ 16777216 →
     Puts files (include_piece include body_at) (expand_include files include)
 
 module _ (expand_include : Met → IncludeBlock → Expansion) (puts : PutsIncludes expand_include) where
-  Puts-piece_then : (files : Met) (piece : SourcePiece) → IsFine (length files.names) piece → files.total ≤ 16777216 →
+  Puts-piece_then : (files : Met) (piece : SourcePiece) → IsMarkFree (length files.names) piece → files.total ≤ 16777216 →
       Puts files piece (piece_then expand_include files piece (include_of piece))
   Puts-piece_then files (Outside text) fine within = Puts-itself files (Outside text) fine within refl
   Puts-piece_then files (Block Include body at body_at end_line) fine within =
@@ -145,7 +145,7 @@ module _ (expand_include : Met → IncludeBlock → Expansion) (puts : PutsInclu
   Puts-piece_then files (Block kind body at body_at end_line) fine within =
       Puts-itself files (Block kind body at body_at end_line) fine within refl
 
-  PutsAll-expanded : (files : Met) (pieces : List SourcePiece) → AreFine (length files.names) pieces → files.total ≤ 16777216 →
+  PutsAll-expanded : (files : Met) (pieces : List SourcePiece) → AreMarkFree (length files.names) pieces → files.total ≤ 16777216 →
       PutsAll files pieces (expanded expand_include files pieces)
   PutsAll-expanded files [] fine within = record {
     fine = tt;
@@ -159,7 +159,7 @@ module _ (expand_include : Met → IncludeBlock → Expansion) (puts : PutsInclu
       let one = piece_then expand_include files piece (include_of piece) in
       PutsAll-found_then files piece pieces fine.1 one.met one.found (λ later. expanded expand_include later pieces)
       (Puts-piece_then files piece fine.0 within)
-      (λ later le within. PutsAll-expanded later pieces (AreFine-more (length files.names) (length later.names) pieces le fine.2) within)
+      (λ later le within. PutsAll-expanded later pieces (AreMarkFree-more (length files.names) (length later.names) pieces le fine.2) within)
 
 -- ---- a file
 
@@ -185,7 +185,7 @@ IsPlaced-fault names options file bytes fault in_file (faulty completes unmarked
 -- what an expander of pieces gives
 abbrev PutsPieces : (expand : Met → List SourcePiece → Expansion) → Type 0
 PutsPieces expand =
-    (files : Met) (pieces : List SourcePiece) → AreFine (length files.names) pieces → files.total ≤ 16777216 → PutsAll files pieces (expand files pieces)
+    (files : Met) (pieces : List SourcePiece) → AreMarkFree (length files.names) pieces → files.total ≤ 16777216 → PutsAll files pieces (expand files pieces)
 
 HasPutFile-all : (files : Met) (file : HeldFile) (pieces : List SourcePiece) (last : Met) (found : Split) →
     length (source_text pieces) ≡ length file.bytes → MatchResult found (HasPutAll (with_file files file) pieces last) (IsPlaced last.names) →
@@ -238,7 +238,7 @@ unmarked-empty =
     (HasNone-cons begins_mark 33 (codes "*/") refl (HasNone-cons begins_mark 42 (codes "/") refl
     (HasNone-cons begins_mark 47 [] refl (HasNone-nil begins_mark StopsAtSlash-mark)))))
 
-module _ (files : Met) (include : IncludeBlock) (body_at : Pos) (fine : IsFine (length files.names) (include_piece include body_at)) where
+module _ (files : Met) (include : IncludeBlock) (body_at : Pos) (fine : IsMarkFree (length files.names) (include_piece include body_at)) where
   abbrev piece : SourcePiece
   piece = include_piece include body_at
 
@@ -246,7 +246,7 @@ module _ (files : Met) (include : IncludeBlock) (body_at : Pos) (fine : IsFine (
   at_file = fine.0.opener.in_file
 
   -- the blocks around the pieces of its file
-  fine-enter : (count : ℕ) → length files.names < count → IsFine count (enter_block (length files.names))
+  fine-enter : (count : ℕ) → length files.names < count → IsMarkFree count (enter_block (length files.names))
   fine-enter count less = (
     record {
       size = omega arith;
@@ -258,7 +258,7 @@ module _ (files : Met) (include : IncludeBlock) (body_at : Pos) (fine : IsFine (
     unmarked-empty,
   )
 
-  fine-leave : (count : ℕ) → length files.names ≤ count → IsFine count (leave_block include)
+  fine-leave : (count : ℕ) → length files.names ≤ count → IsMarkFree count (leave_block include)
   fine-leave count le =
       let opener = fine.0.opener in
       let in_file : include.at.file < count = let less = at_file in omega arith in (
@@ -280,11 +280,11 @@ module _ (files : Met) (include : IncludeBlock) (body_at : Pos) (fine : IsFine (
     fine = λ count rest le behind fits.
         let more = put.more in
         let same = append_assoc found (leave_block include ∷ []) rest in
-        let inner : AreFine count (found ++ leave_block include ∷ rest) =
-        AreFine-append count found Leave [] include.at include.at include.end_line rest
-        (AreFine-more (length last.names) count found le put.fine)
+        let inner : AreMarkFree count (found ++ leave_block include ∷ rest) =
+        AreMarkFree-append count found Leave [] include.at include.at include.end_line rest
+        (AreMarkFree-more (length last.names) count found le put.fine)
         (fine-leave count (omega arith), refl, behind) in
-        (fine-enter count (omega arith), refl, subst (AreFine count) (sym same) inner);
+        (fine-enter count (omega arith), refl, subst (AreMarkFree count) (sym same) inner);
     first = λ rest. refl;
     no_include =
         All-cons IsNoInclude (enter_block (length files.names)) (found ++ leave_block include ∷ []) refl
@@ -340,16 +340,16 @@ module _ (options : Options) (seen : List HeldFile) where
 
   module _ (main : List ℕ) where
     sound-found : (last : Met) (found : Split) → MatchResult found (HasPutFile (met [] 0) last) (IsPlaced last.names) →
-        (pieces : List SourcePiece) → found ≡ Ok pieces → AreSound (length last.names) pieces
+        (pieces : List SourcePiece) → found ≡ Ok pieces → AreExpanded (length last.names) pieces
     sound-found last (Ok found) put pieces is =
         let few = put.few in
         let within = put.within in
         let same : found ≡ pieces = cc in
-        subst (AreSound (length last.names)) same (AreFine-sound (length last.names) found put.fine put.no_include (omega arith))
+        subst (AreExpanded (length last.names)) same (AreMarkFree-sound (length last.names) found put.fine put.no_include (omega arith))
     sound-found last (Err fault) put pieces is = absurd (cc)
 
     pub expansion-sound : (pieces : List SourcePiece) → (expansion options seen main).found ≡ Ok pieces →
-        AreSound (length (expansion options seen main).met.names) pieces
+        AreExpanded (length (expansion options seen main).met.names) pieces
     expansion-sound pieces is =
         sound-found (expansion options seen main).met (expansion options seen main).found (PutsFile-main main (bytes_of seen main)) pieces is
 
