@@ -1,13 +1,13 @@
 -- Scanners one behind another are a piece of scanners.
-pub mod EnoughChecks
-pub mod PartEntries
-pub mod PartActions
 pub mod AskedFew
 pub mod EachPart
+pub mod EachScanner
+pub mod EnoughChecks
 pub mod FitParts
-pub mod StoredRefills
+pub mod OneScanner
+pub mod PartActions
+pub mod PartEntries
 pub mod ScannerEntries
-pub mod StandingScanners
-pub mod StandingParts
-pub mod WholePieces
 pub mod ShortHistories
+pub mod StoredRefills
+pub mod WholePieces

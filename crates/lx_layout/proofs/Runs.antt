@@ -8,10 +8,10 @@ pub mod CarriedSteps
 pub mod CheckedCarried
 pub mod DottedCarried
 pub mod EndedCarried
-pub mod PairsCarried
-pub mod RunMachines
 pub mod Matches
+pub mod OperationSteps
+pub mod PairsCarried
+pub mod PartialRuns
 pub mod SlashValues
 pub mod TestedRuns
 pub mod UnitsLeft
-pub mod PartialRuns

@@ -14,8 +14,8 @@ pub mod ReaderClaims
 pub mod ReaderRuns
 pub mod Readers
 pub mod Refills
-pub mod Standings
 pub mod StateRuns
 pub mod StoredStates
+pub mod SufficientUnits
 pub mod SuppliedMatches
 pub mod SuppliedRuns

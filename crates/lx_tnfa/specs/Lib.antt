@@ -14,7 +14,7 @@ pub mod Rows
 pub mod RuleNumbers
 pub mod Search
 pub mod Shapes
-pub mod Standing
+pub mod CutPlaces
 pub mod TagLists
 pub mod TakenWalks
 pub mod Tnfa

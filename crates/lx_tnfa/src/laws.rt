@@ -16,7 +16,7 @@ ghost use Rattle.lx_tnfa.specs.Live.{state_of};
 ghost use Rattle.lx_tnfa.specs.Moves.{shown_move};
 ghost use Rattle.lx_tnfa.specs.PlainWalks.{VisitsOnce};
 ghost use Rattle.lx_tnfa.specs.PlaceNumbers.{number_behind, numbers_after, symbols_added};
-ghost use Rattle.lx_tnfa.specs.Standing.{StandsAt};
+ghost use Rattle.lx_tnfa.specs.CutPlaces.{StandsAt};
 ghost use Rattle.lx_tnfa.specs.TakenWalks.{GoesOnAt, ReadsAt, Takes, first_events};
 ghost use Rattle.lx_tnfa.specs.Tnfa.{IsTnfaOf, Tnfa};
 ghost use Rattle.lx_tnfa.specs.declared.closure.Reach.{Reach};

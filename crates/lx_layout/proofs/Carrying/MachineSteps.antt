@@ -23,11 +23,11 @@ use Rattle.lx_layout.specs.Layout.{StandsFrom}
 use Rattle.lx_layout.specs.Stops.{bank_from}
 use Rattle.lx_layout.specs.Supplies.{Reader, need_code}
 use Rattle.lx_layout.specs.TestTrees.{TestTree, fork, inner_blocks, inner_size, leaf, picked, test, tree_code}
-use Rattle.lx_layout.proofs.BlockLayouts.StandingCodes.{StandsFrom-back, StandsFrom-front}
+use Rattle.lx_layout.proofs.BlockLayouts.CodesInBlocks.{StandsFrom-back, StandsFrom-front}
 use Rattle.lx_layout.proofs.BlockLayouts.TreeCodes.{length-inner_blocks}
 use Rattle.lx_layout.proofs.Operations.OpBounds.{ArePositive-sequentialized}
-use Rattle.lx_layout.proofs.Runs.RunMachines.{ArePositive, IsPositive, raised, raised-shift, updated-raised}
-use Rattle.lx_layout.proofs.Carrying.Stretches.{Walks, stays, walk_on, walk_step}
+use Rattle.lx_layout.proofs.Runs.OperationSteps.{ArePositive, IsPositive, raised, raised-shift, updated-raised}
+use Rattle.lx_layout.proofs.Carrying.SilentTraces.{Walks, stays, walk_on, walk_step}
 
 -- ---- the registers of the machine
 

@@ -19,8 +19,8 @@ use Rattle.lx_layout.specs.Endings.{Ending}
 use Rattle.lx_layout.specs.Fallback.{edge_code}
 use Rattle.lx_layout.specs.Halting.{Halting, saves_on}
 use Rattle.lx_layout.proofs.Carrying.MachineSteps.{acted, bank_of, list_walk}
-use Rattle.lx_layout.proofs.Carrying.StandingMachines.{Stands, kept, registers_agree, stands_behind}
-use Rattle.lx_layout.proofs.Carrying.Stretches.{Walks, stays, walk_leads, walk_on, walk_step}
+use Rattle.lx_layout.proofs.Carrying.SavedAccepts.{Stands, kept, registers_agree, stands_behind}
+use Rattle.lx_layout.proofs.Carrying.SilentTraces.{Walks, stays, walk_leads, walk_on, walk_step}
 
 module _ (piece : Piece) (endings : ℕ → Ending) (auto : Auto) (place saved : ℕ → ℕ) (halting : Halting) (formed : IsAuto auto) (stream : List ℕ) (answers : List Answer) where
   save_walk : (saves : Bool) (number : ℕ) (rest : List Stmt) (machine : Machine)

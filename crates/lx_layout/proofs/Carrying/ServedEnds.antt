@@ -30,9 +30,9 @@ use Rattle.lx_layout.specs.Supplies.{Supply}
 use Rattle.lx_layout.specs.Told.{told_at}
 use Rattle.lx_layout.proofs.Carrying.GivenValues.{ending_ends}
 use Rattle.lx_layout.proofs.Carrying.MachineSteps.{acted, bank_of, fallback_ends, fallback_walk, list_walk}
-use Rattle.lx_layout.proofs.Carrying.StandingMachines.{Stands, registers_agree}
-use Rattle.lx_layout.proofs.Carrying.Stretches.{walk_ends}
-use Rattle.lx_layout.proofs.Supplied.Standings.{IsFresh}
+use Rattle.lx_layout.proofs.Carrying.SavedAccepts.{Stands, registers_agree}
+use Rattle.lx_layout.proofs.Carrying.SilentTraces.{walk_ends}
+use Rattle.lx_layout.proofs.Supplied.SufficientUnits.{IsFresh}
 use Rattle.lx_layout.proofs.Supplied.StateRuns.{IsFoundAgain}
 
 -- where no rule is matched

@@ -17,7 +17,7 @@ use Rattle.lx_layout.specs.Supplied.{ServesReader, at_end, by_jump, by_tests, it
 use Rattle.lx_layout.specs.Supplies.{Reader, Supply, end_test, need_code}
 use Rattle.lx_layout.specs.TestTrees.{TestTree, inner_blocks, picked, tree_code}
 use Rattle.lx_layout.proofs.Carrying.MachineSteps.{need_walk, tree_walk}
-use Rattle.lx_layout.proofs.Carrying.Stretches.{Walks, stays, walk_on, walk_peek, walk_step}
+use Rattle.lx_layout.proofs.Carrying.SilentTraces.{Walks, stays, walk_on, walk_peek, walk_step}
 
 -- before the limit the test of the end fails
 end_step : (piece : Piece) (stream : List ℕ) (block : ℕ) (rest : List Stmt) (machine : Machine) (answers : List Answer)

@@ -29,9 +29,9 @@ use Rattle.lx_layout.proofs.Supplied.EnteredStates.{behind_entry, entered-lone}
 use Rattle.lx_layout.proofs.Carrying.ServedEdges.{edge_leads, passed, passed_stands}
 use Rattle.lx_layout.proofs.Carrying.ServedEnds.{stop_ends}
 use Rattle.lx_layout.proofs.Carrying.ServedReaders.{Enters, reader_code, reader_enters}
-use Rattle.lx_layout.proofs.Carrying.StandingMachines.{Stands, stands_still}
-use Rattle.lx_layout.proofs.Carrying.Stretches.{walk_ends, walk_leads, walk_step}
-use Rattle.lx_layout.proofs.Carrying.UsualStandings.{IsUsual, edge_within, usual_reached, usual_start}
+use Rattle.lx_layout.proofs.Carrying.SavedAccepts.{Stands, stands_still}
+use Rattle.lx_layout.proofs.Carrying.SilentTraces.{walk_ends, walk_leads, walk_step}
+use Rattle.lx_layout.proofs.Carrying.RunStates.{IsUsual, edge_within, usual_reached, usual_start}
 use Rattle.lx_layout.proofs.Runs.CarriedSteps.{ends_as, follows}
 use Rattle.lx_layout.proofs.Runs.UnitsLeft.{edge_on-one}
 

@@ -5,7 +5,7 @@ use Rattle.lx_auto.specs.Automaton.{AreOps, IsWritable}
 use Rattle.lx_auto.specs.declared.ops.Op.{Op}
 use Rattle.lx_auto.specs.declared.ops.Op.TheVariants.{Here, Null, MHere, MNull, MCopy}
 use Rattle.lx_sequence.specs.ParallelCopies.{Copies, sources, is_in, read_from, unread_target, next_copies, in_sequence, writes, copies_into, unless_later, copies, marks, mcopies, added_marks, copy_ops, mcopy_ops, sequentialized}
-use Rattle.lx_layout.proofs.Runs.RunMachines.{ArePositive}
+use Rattle.lx_layout.proofs.Runs.OperationSteps.{ArePositive}
 
 pub ArePositive-append : (a b : List Op) → ArePositive a → ArePositive b → ArePositive (a ++ b)
 ArePositive-append [] b h g = g

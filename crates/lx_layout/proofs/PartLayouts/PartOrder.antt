@@ -19,7 +19,7 @@ use Rattle.lx_layout.specs.SuppliedLayout.{blocks_by, class_blocks, end_rule_par
 use Rattle.lx_layout.specs.Supplies.{Reader, Supply}
 use Rattle.lx_layout.specs.TestTrees.{TestTree}
 use Rattle.lx_layout.specs.TransitionClasses.{classes_onto, has_class, transition_classes}
-use Rattle.lx_layout.proofs.BlockLayouts.StandingCodes.{StandsFrom-back, StandsFrom-front, StandsFrom-itself}
+use Rattle.lx_layout.proofs.BlockLayouts.CodesInBlocks.{StandsFrom-back, StandsFrom-front, StandsFrom-itself}
 use Rattle.lx_layout.proofs.PartLayouts.StoredLayouts.{codes-parts}
 
 -- ---- a scanner has a block

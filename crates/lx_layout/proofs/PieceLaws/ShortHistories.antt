@@ -25,7 +25,7 @@ use Rattle.lx_layout.proofs.PartLayouts.WrittenParts.{blocks_fine}
 use Rattle.lx_layout.proofs.PieceLaws.AskedFew.{all_few}
 use Rattle.lx_layout.proofs.PieceLaws.EachPart.{AreFitScanners}
 use Rattle.lx_layout.proofs.PieceLaws.FitParts.{all_store, all_written, are_formed}
-use Rattle.lx_layout.proofs.PieceLaws.StandingParts.{same_conds}
+use Rattle.lx_layout.proofs.PieceLaws.EachScanner.{same_conds}
 
 module _ (form : Form) (scanners : List Source) (parts : List Part) (blocks : List CodeBlock) (fit : AreFit form scanners) (are : ArePartsOf form scanners parts)
     (is : blocks ≡ parts_blocks 0 form.first_state parts) (small : statement_count blocks ≤ STATEMENT_LIMIT) where

@@ -41,8 +41,8 @@ use Rattle.lx_layout.proofs.PieceLaws.AskedFew.{all_few}
 use Rattle.lx_layout.proofs.PieceLaws.EachPart.{AreFitScanners}
 use Rattle.lx_layout.proofs.PieceLaws.FitParts.{all_eof, all_store, all_suit, all_written, are_formed}
 use Rattle.lx_layout.proofs.PieceLaws.ScannerEntries.{AreDifferent, BeginsAt, cases_of, conds_distinct, parts_enter}
-use Rattle.lx_layout.proofs.PieceLaws.StandingParts.{conds_differ, parts_act, parts_in, same_conds, same_length}
-use Rattle.lx_layout.proofs.PieceLaws.StandingScanners.{FitsForm}
+use Rattle.lx_layout.proofs.PieceLaws.EachScanner.{conds_differ, parts_act, parts_in, same_conds, same_length}
+use Rattle.lx_layout.proofs.PieceLaws.OneScanner.{FitsForm}
 use Rattle.lx_layout.proofs.PieceLaws.StoredRefills.{refills_none, stored_blocks}
 use Rattle.lx_layout.proofs.Validity.EachElement.{each-map}
 

@@ -15,7 +15,7 @@ use Rattle.lx_regex.specs.Values.{Value}
 use Rattle.lx_tdfa.specs.Promise.{tag_value}
 use Rattle.lx_layout.specs.Endings.{Ending, action_code, back_code, cond_code, ending_code, ends_code, groups_code, is_slash, last_code, rule_code, slash_held, tag_code, tags_code, unless}
 use Rattle.lx_layout.specs.Told.{cond_behind, cond_given, ends_given, groups_given, outcome_by, put_back, slash_value, tag_given, told_at, told_with, values_given}
-use Rattle.lx_layout.proofs.Runs.RunMachines.{machine_at}
+use Rattle.lx_layout.proofs.Runs.OperationSteps.{machine_at}
 use Rattle.lx_layout.proofs.Runs.PartialRuns.{EndsIn, end_in, last_in, step_in, widen_end}
 
 -- the values that are held so, as values of tags

@@ -17,7 +17,7 @@ use Rattle.lx_ccode.proofs.TraceSteps.{All-code, All-implied}
 use Rattle.lx_layout.specs.Carries.{Carries, EndsAs, GoesBy, HasUnits, IsReached, IsUnitOf, LeadsTo, ReadsAs, StandsAs}
 use Rattle.lx_layout.specs.Endings.{Ending}
 use Rattle.lx_layout.specs.Stops.{told_found}
-use Rattle.lx_layout.proofs.Carrying.Stretches.{counted_on, next_on}
+use Rattle.lx_layout.proofs.Carrying.SilentTraces.{counted_on, next_on}
 use Rattle.lx_layout.proofs.Runs.UnitsLeft.{left_unit}
 
 -- a run that stands somewhere stands behind each further step

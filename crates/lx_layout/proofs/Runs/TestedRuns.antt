@@ -12,7 +12,7 @@ use Rattle.lx_layout.specs.Layout.{StandsFrom, class_block, numbered}
 use Rattle.lx_layout.specs.TestRuns.{ComesTo, is_test}
 use Rattle.lx_layout.specs.TestTrees.{IsTreeOf, TestTree, depth, fork, inner_blocks, inner_size, leaf, picked, split_class, test, tree_code}
 use Rattle.lx_layout.specs.TransitionClasses.{Split}
-use Rattle.lx_layout.proofs.BlockLayouts.StandingCodes.{StandsFrom-back, StandsFrom-front}
+use Rattle.lx_layout.proofs.BlockLayouts.CodesInBlocks.{StandsFrom-back, StandsFrom-front}
 use Rattle.lx_layout.proofs.BlockLayouts.TreeCodes.{length-inner_blocks, picked-numbered}
 
 -- the blocks of the ways in place of the classes leave a tree as deep as it was

@@ -21,7 +21,7 @@ use Rattle.lx_layout.specs.Supplies.{Reader, Supply}
 use Rattle.lx_layout.specs.TestTrees.{TestTree}
 use Rattle.lx_layout.proofs.BlockLayouts.FirstAccepts.{rule_place-below}
 use Rattle.lx_layout.proofs.BlockLayouts.LayoutLengths.{length-ending_blocks, length-restore_blocks}
-use Rattle.lx_layout.proofs.BlockLayouts.StandingCodes.{StandsFrom-front, StandsFrom-get}
+use Rattle.lx_layout.proofs.BlockLayouts.CodesInBlocks.{StandsFrom-front, StandsFrom-get}
 use Rattle.lx_layout.proofs.ScannerLaws.CalmCodes.{At, Up, UpAt, known, lower, up_accept, up_ending, up_fallback, up_goto, up_restore}
 use Rattle.lx_layout.proofs.SuppliedLayouts.FirstsFrom.{each-firsts_from, has_rule-ended, kept_some}
 use Rattle.lx_layout.proofs.SuppliedLayouts.LayoutServes.{behind, behind_ends, behind_fallback, behind_restores, fallback_stands}

@@ -21,7 +21,7 @@ use Rattle.lx_layout.specs.Supplies.{Reader, Supply}
 use Rattle.lx_layout.specs.TestTrees.{TestTree}
 use Rattle.lx_layout.specs.TransitionClasses.{class_place, edge_class, has_class, transition_classes}
 use Rattle.lx_layout.proofs.BlockLayouts.ClassLists.{class_found, has_class-on}
-use Rattle.lx_layout.proofs.BlockLayouts.StandingCodes.{StandsFrom-get}
+use Rattle.lx_layout.proofs.BlockLayouts.CodesInBlocks.{StandsFrom-get}
 use Rattle.lx_layout.proofs.ScannerLaws.CalmCodes.{At, UpAt, known, lower, up_edge}
 use Rattle.lx_layout.proofs.ScannerLaws.CalmEnds.{end_calm}
 use Rattle.lx_layout.proofs.ScannerLaws.LayoutReaders.{StandWays}

@@ -24,7 +24,7 @@ use Rattle.lx_layout.specs.SuppliedLayout.{EachReader, blocks_by, class_blocks, 
 use Rattle.lx_layout.specs.Supplies.{Reader, Supply, need_code, state}
 use Rattle.lx_layout.specs.TestTrees.{TestTree, TestsWithin, fork, inner_size, leaf, test, tree_code}
 use Rattle.lx_layout.specs.TransitionClasses.{transition_classes}
-use Rattle.lx_layout.proofs.Carrying.UsualStandings.{edge_within}
+use Rattle.lx_layout.proofs.Carrying.RunStates.{edge_within}
 use Rattle.lx_layout.proofs.ScannerLaws.CheckedCodes.{ChecksAtHome, ChecksNone, IsCheckFor, checked_sorts, needed-check, none_needed, others_check}
 use Rattle.lx_layout.proofs.SuppliedLayouts.ApartPlaces.{entered_place, size_some}
 use Rattle.lx_layout.proofs.SuppliedLayouts.CommonCodes.{none-edge}

@@ -25,7 +25,7 @@ use Rattle.lx_layout.specs.SuppliedLayout.{EachReader, blocks_by, entry_by, entr
 use Rattle.lx_layout.specs.Supplies.{Reader, Supply, entry, state}
 use Rattle.lx_layout.specs.TestTrees.{IsTreeOf, TestTree, TestsWithin, depth, fork, leaf, test}
 use Rattle.lx_layout.specs.UnitApart.{reader_split}
-use Rattle.lx_layout.proofs.Carrying.UsualStandings.{edge_within}
+use Rattle.lx_layout.proofs.Carrying.RunStates.{edge_within}
 use Rattle.lx_layout.proofs.ScannerLaws.CalmCodes.{At}
 use Rattle.lx_layout.proofs.ScannerLaws.CalmLayouts.{Base, Is, IsBack, IsStored, base_all, class_first, class_some, here_of, home_at, home_of, home_stored, leads_at, once_of, own_of, place_own, state_ways, stop_of, to_of, tree_of, turn_stored, units_of, ways_of}
 use Rattle.lx_layout.proofs.ScannerLaws.CalmReaders.{one_calm}

@@ -12,7 +12,7 @@ use Rattle.lx_ccode.specs.declared.piece.Stmt.TheVariants.{Peek, Skip, Backup, R
 use Rattle.lx_layout.specs.Layout.{StandsFrom}
 use Rattle.lx_layout.specs.TestRuns.{is_test}
 use Rattle.lx_layout.specs.TestTrees.{EachTest, TestTree, depth, fork, inner_blocks, inner_size, leaf, test, tree_code}
-use Rattle.lx_layout.proofs.BlockLayouts.StandingCodes.{StandsFrom-back, StandsFrom-front}
+use Rattle.lx_layout.proofs.BlockLayouts.CodesInBlocks.{StandsFrom-back, StandsFrom-front}
 use Rattle.lx_layout.proofs.BlockLayouts.TreeCodes.{length-inner_blocks}
 
 -- the statement neither reads nor tests a unit, jumps, stores a state or asks for a refill

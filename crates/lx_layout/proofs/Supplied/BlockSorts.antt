@@ -17,7 +17,7 @@ use Rattle.lx_layout.specs.Halting.{Halting, saves_on}
 use Rattle.lx_layout.specs.Layout.{StandsFrom}
 use Rattle.lx_layout.specs.Supplies.{Reader, need_code}
 use Rattle.lx_layout.specs.TestTrees.{TestTree, fork, inner_blocks, inner_size, leaf, test, tree_code}
-use Rattle.lx_layout.proofs.BlockLayouts.StandingCodes.{others}
+use Rattle.lx_layout.proofs.BlockLayouts.CodesInBlocks.{others}
 use Rattle.lx_layout.proofs.Validity.EachElement.{each-append}
 
 -- a block reads a unit, passes one, tests whether the limit is reached, asks for a refill there, or does none of these

@@ -14,7 +14,7 @@ use Rattle.lx_ccode.specs.Statements.{all_statements, code_of, statement_count}
 use Rattle.lx_ccode.proofs.TraceSteps.{All-code}
 use Rattle.lx_layout.specs.RightInMode.{AreStoredBy}
 use Rattle.lx_layout.specs.Supplies.{Reader, Supply, need_code}
-use Rattle.lx_layout.proofs.BlockLayouts.StandingCodes.{length-block}
+use Rattle.lx_layout.proofs.BlockLayouts.CodesInBlocks.{length-block}
 use Rattle.lx_layout.proofs.Runs.PartialRuns.{LeadsIn, end_in, last_in, stays_in, step_in, then_in, widen}
 use Rattle.lx_layout.proofs.Supplied.Checks.{Checked, check_run, has, no_answer, short, was_left}
 use Rattle.lx_layout.proofs.Supplied.Readers.{EndsBefore, ReaderRun, again, at, stops, stores_states}

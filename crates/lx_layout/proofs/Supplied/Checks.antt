@@ -6,7 +6,7 @@ use Rattle.lx_ccode.specs.declared.piece.CodeBlock.{CodeBlock}
 use Rattle.lx_ccode.specs.declared.piece.Stmt.{Stmt}
 use Rattle.lx_ccode.specs.Machine.{Answer, Machine, Refill, at_end, come_back, ends, goes_on, left, more, need, no_more, refilled, unanswered}
 use Rattle.lx_ccode.specs.Schedules.{Buffer, after_refill}
-use Rattle.lx_layout.proofs.Runs.RunMachines.{machine_at}
+use Rattle.lx_layout.proofs.Runs.OperationSteps.{machine_at}
 use Rattle.lx_layout.proofs.Supplied.Refills.{Buffered, Refilled, Refilled-none}
 
 module _ (blocks : List CodeBlock) (len start : ℕ) (states : Bool) (units : ℕ) (rest : List Stmt) (cur mk : ℕ) (u : Option ℕ) (ac : ℕ)

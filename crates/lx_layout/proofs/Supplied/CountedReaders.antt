@@ -14,7 +14,7 @@ use Rattle.lx_layout.specs.Supplies.{Reader, Supply, need_code}
 use Rattle.lx_layout.specs.TestTrees.{TestTree, inner_blocks, picked, tree_code}
 use Rattle.lx_layout.proofs.BlockLayouts.TreeCodes.{tree_length}
 use Rattle.lx_layout.proofs.Runs.PartialRuns.{LeadsIn, stays_in, step_in, then_in}
-use Rattle.lx_layout.proofs.Runs.RunMachines.{tree_run}
+use Rattle.lx_layout.proofs.Runs.OperationSteps.{tree_run}
 use Rattle.lx_layout.proofs.Supplied.BlockSorts.{lengths_of-block, lengths_of-row, lengths_within, other, reading, sort_of-need, sorts_of-inner}
 use Rattle.lx_layout.proofs.Supplied.CheckFronts.{front_run}
 use Rattle.lx_layout.proofs.Supplied.Readers.{ReaderRun, at, reads, stores_states, unit_there}

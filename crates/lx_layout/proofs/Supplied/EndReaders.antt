@@ -16,7 +16,7 @@ use Rattle.lx_layout.specs.Supplies.{Reader, Supply, back_code, end_test, try_co
 use Rattle.lx_layout.specs.TestTrees.{TestTree, inner_blocks, picked, tree_code}
 use Rattle.lx_layout.proofs.BlockLayouts.TreeCodes.{tree_length}
 use Rattle.lx_layout.proofs.Runs.PartialRuns.{LeadsIn, end_in, last_in, step_in, then_in, widen}
-use Rattle.lx_layout.proofs.Runs.RunMachines.{tree_run}
+use Rattle.lx_layout.proofs.Runs.OperationSteps.{tree_run}
 use Rattle.lx_layout.proofs.Supplied.BlockSorts.{asking, lengths_of, lengths_of-block, lengths_of-row, lengths_within, other, passing, reading, sorts_of-inner, testing}
 use Rattle.lx_layout.proofs.Supplied.CountedReaders.{peek_run}
 use Rattle.lx_layout.proofs.Supplied.Readers.{ReaderRun, again, at, ended, reads, stops, stores_states, unit_there}

@@ -20,14 +20,14 @@ use Rattle.lx_layout.specs.Supplied.{IsTarget, Serves, ServesEntry}
 use Rattle.lx_layout.specs.Halting.{Halting, is_entered}
 use Rattle.lx_layout.specs.Supplies.{Supply, entry}
 use Rattle.lx_layout.specs.Told.{told_at}
-use Rattle.lx_layout.proofs.BlockLayouts.StandingCodes.{length-block}
+use Rattle.lx_layout.proofs.BlockLayouts.CodesInBlocks.{length-block}
 use Rattle.lx_layout.proofs.Rules.RuleEnds.{ending_run}
 use Rattle.lx_layout.proofs.Runs.PartialRuns.{EndsIn, widen_end}
-use Rattle.lx_layout.proofs.Runs.RunMachines.{machine_at, raised-shift}
+use Rattle.lx_layout.proofs.Runs.OperationSteps.{machine_at, raised-shift}
 use Rattle.lx_layout.proofs.Supplied.EnteredStates.{entered-edge}
 use Rattle.lx_layout.proofs.Supplied.ReaderClaims.{TellsOrEnds, reader_claim, told_behind}
 use Rattle.lx_layout.proofs.Supplied.ReaderRuns.{reader_code}
-use Rattle.lx_layout.proofs.Supplied.Standings.{HoldsAs, HoldsAs-edge, StandsAt}
+use Rattle.lx_layout.proofs.Supplied.SufficientUnits.{HoldsAs, HoldsAs-edge, StandsAt}
 use Rattle.lx_layout.proofs.Supplied.SuppliedRuns.{Tells, next_code, state_claim, suffices-start, target}
 
 -- what is told of the rest of the stream where a match begins, by the rule that stands at the end, if there is one

@@ -25,13 +25,13 @@ use Rattle.lx_layout.specs.Stops.{Stops, bank_from, last_standing, or_here, or_l
 use Rattle.lx_layout.specs.Supplied.{Serves}
 use Rattle.lx_layout.specs.Supplies.{Supply}
 use Rattle.lx_layout.specs.TestTrees.{inner_blocks, picked, tree_code}
-use Rattle.lx_layout.proofs.BlockLayouts.StandingCodes.{length-block, length-with_row}
+use Rattle.lx_layout.proofs.BlockLayouts.CodesInBlocks.{length-block, length-with_row}
 use Rattle.lx_layout.proofs.BlockLayouts.TreeCodes.{inner_blocks-read, tree_length}
 use Rattle.lx_layout.proofs.Runs.PartialRuns.{EndsIn, LeadsIn, end_in, loop_count-mono, stays_in, step_in, then_in, widen}
-use Rattle.lx_layout.proofs.Runs.RunMachines.{machine_at, raised-shift, tree_run}
+use Rattle.lx_layout.proofs.Runs.OperationSteps.{machine_at, raised-shift, tree_run}
 use Rattle.lx_layout.proofs.Runs.UnitsLeft.{left_unit}
 use Rattle.lx_layout.proofs.Supplied.PlainServing.{ReadsPlain, by_jump, by_tests, itself, plain_state}
-use Rattle.lx_layout.proofs.Supplied.Standings.{HoldsAs, HoldsAs-edge, bank_behind, left_behind}
+use Rattle.lx_layout.proofs.Supplied.SufficientUnits.{HoldsAs, HoldsAs-edge, bank_behind, left_behind}
 use Rattle.lx_layout.proofs.Supplied.StateRuns.{Has, Target, all, at, edge_run, stop_run, target_code}
 
 module _ (p : Piece) (x : List ℕ) (start : ℕ) (supply : Supply) (halting : Halting) (endings : ℕ → Ending) (greatest : ℕ) (auto : Auto)

@@ -26,16 +26,16 @@ use Rattle.lx_layout.specs.Stops.{last_standing, or_here, told_found}
 use Rattle.lx_layout.specs.Supplied.{IsTarget, Serves, ServesReader, at_end, by_jump, by_tests, itself}
 use Rattle.lx_layout.specs.Supplies.{Reader, Supply, need_code}
 use Rattle.lx_layout.specs.TestTrees.{tree_code}
-use Rattle.lx_layout.proofs.BlockLayouts.StandingCodes.{length-block}
+use Rattle.lx_layout.proofs.BlockLayouts.CodesInBlocks.{length-block}
 use Rattle.lx_layout.proofs.Runs.PartialRuns.{EndsIn, LeadsIn, end_in, then_in}
-use Rattle.lx_layout.proofs.Runs.RunMachines.{machine_at}
+use Rattle.lx_layout.proofs.Runs.OperationSteps.{machine_at}
 use Rattle.lx_layout.proofs.Runs.UnitsLeft.{left_unit}
 use Rattle.lx_layout.proofs.Supplied.BlockSorts.{lengths_of, lengths_of-block, passing, sort_of-edge}
 use Rattle.lx_layout.proofs.Supplied.Claims.{Claim, carry, ends_so}
 use Rattle.lx_layout.proofs.Supplied.Readers.{EndsBefore, ReaderRun, again, ended, reads, stops, stores_states}
 use Rattle.lx_layout.proofs.Supplied.ReaderRuns.{reader_run}
 use Rattle.lx_layout.proofs.Supplied.Refills.{Buffered, Refilled}
-use Rattle.lx_layout.proofs.Supplied.Standings.{HoldsAs, StandsAt, bank_behind, left_behind, suffices-edge, suffices-more}
+use Rattle.lx_layout.proofs.Supplied.SufficientUnits.{HoldsAs, StandsAt, bank_behind, left_behind, suffices-edge, suffices-more}
 use Rattle.lx_layout.proofs.Supplied.StateRuns.{edge_run, marker_of, number_of, stop_run, target_code, target_some}
 
 -- what is told where a run of the automaton stopped

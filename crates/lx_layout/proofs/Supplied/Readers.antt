@@ -14,7 +14,7 @@ use Rattle.lx_ccode.specs.Statements.{all_statements, code_of, is_state, stateme
 use Rattle.lx_layout.specs.RightInMode.{EndsAtCheck}
 use Rattle.lx_layout.specs.Supplies.{Supply}
 use Rattle.lx_layout.proofs.Runs.PartialRuns.{EndsIn, LeadsIn}
-use Rattle.lx_layout.proofs.Runs.RunMachines.{machine_at}
+use Rattle.lx_layout.proofs.Runs.OperationSteps.{machine_at}
 use Rattle.lx_layout.proofs.Supplied.BlockSorts.{lengths_of, passing}
 use Rattle.lx_layout.proofs.Supplied.Refills.{Buffered, Refilled}
 

@@ -28,10 +28,10 @@ use Rattle.lx_layout.specs.Stops.{told_found}
 use Rattle.lx_layout.specs.Supplied.{EndsBy, HasCode, IsTarget, Serves}
 use Rattle.lx_layout.specs.Supplies.{Supply}
 use Rattle.lx_layout.specs.Told.{told_at}
-use Rattle.lx_layout.proofs.Runs.RunMachines.{save_size, length-save_code, length-ops_code, machine_at, ops_run}
+use Rattle.lx_layout.proofs.Runs.OperationSteps.{save_size, length-save_code, length-ops_code, machine_at, ops_run}
 use Rattle.lx_layout.proofs.Operations.OpBounds.{ArePositive-sequentialized}
 use Rattle.lx_layout.proofs.Rules.RuleEnds.{ending_run, goto_run}
-use Rattle.lx_layout.proofs.BlockLayouts.StandingCodes.{length-block}
+use Rattle.lx_layout.proofs.BlockLayouts.CodesInBlocks.{length-block}
 use Rattle.lx_layout.proofs.Runs.PartialRuns.{EndsIn, LeadsIn, end_in, stays_in, step_in, then_in, widen_end}
 use Rattle.lx_layout.proofs.Supplied.Fallbacks.{fallback_code-some, fallback_end, fallback_run}
 

@@ -20,13 +20,13 @@ use Rattle.lx_layout.specs.Stops.{last_standing, or_here}
 use Rattle.lx_layout.specs.Supplied.{IsEnd, IsTarget, Serves, ServesEntry, ServesState, ends, goes, reads}
 use Rattle.lx_layout.specs.Halting.{Halting, is_entered}
 use Rattle.lx_layout.specs.Supplies.{Supply, entry, state}
-use Rattle.lx_layout.proofs.BlockLayouts.StandingCodes.{length-block}
+use Rattle.lx_layout.proofs.BlockLayouts.CodesInBlocks.{length-block}
 use Rattle.lx_layout.proofs.Runs.PartialRuns.{EndsIn, end_in, step_in, widen_end}
 use Rattle.lx_layout.proofs.Supplied.Claims.{ends_so}
 use Rattle.lx_layout.proofs.Supplied.EnteredStates.{behind_entry, entered-edge}
 use Rattle.lx_layout.proofs.Supplied.ReaderClaims.{Claims, TellsOrEnds, mach, reader_claim, told_behind}
 use Rattle.lx_layout.proofs.Supplied.ReaderRuns.{reader_code}
-use Rattle.lx_layout.proofs.Supplied.Standings.{HoldsAs, HoldsAs-edge, StandsAt, suffices-more, suffices-one}
+use Rattle.lx_layout.proofs.Supplied.SufficientUnits.{HoldsAs, HoldsAs-edge, StandsAt, suffices-more, suffices-one}
 use Rattle.lx_layout.proofs.Supplied.StateRuns.{stop_run, target_code}
 
 -- where no edge leads on, the run stands

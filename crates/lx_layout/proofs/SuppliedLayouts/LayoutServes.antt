@@ -21,7 +21,7 @@ use Rattle.lx_layout.specs.Supplies.{Reader, Supply, entry, state}
 use Rattle.lx_layout.specs.TestTrees.{PicksAs, TestTree}
 use Rattle.lx_layout.specs.UnitApart.{reader_split}
 use Rattle.lx_layout.proofs.BlockLayouts.LayoutLengths.{length-ending_blocks, length-restore_blocks}
-use Rattle.lx_layout.proofs.BlockLayouts.StandingCodes.{StandsFrom-back, StandsFrom-front, StandsFrom-get}
+use Rattle.lx_layout.proofs.BlockLayouts.CodesInBlocks.{StandsFrom-back, StandsFrom-front, StandsFrom-get}
 use Rattle.lx_layout.proofs.Rules.RuleBlocks.{restore_stands}
 use Rattle.lx_layout.proofs.Supplied.EnteredStates.{entered-lone}
 use Rattle.lx_layout.proofs.SuppliedLayouts.FirstsFrom.{chosen-below, chosen-choices_from, end_stands, has_rule-saved}

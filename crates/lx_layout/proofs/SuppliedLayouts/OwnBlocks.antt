@@ -19,7 +19,7 @@ use Rattle.lx_layout.specs.Layout.{StandsFrom}
 use Rattle.lx_layout.specs.SuppliedLayout.{EachReader, JumpsTo, entry_by, entry_of, place_of, supplied_layout}
 use Rattle.lx_layout.specs.Supplies.{Reader, Supply}
 use Rattle.lx_layout.specs.TestTrees.{TestTree, TestsWithin}
-use Rattle.lx_layout.proofs.BlockLayouts.StandingCodes.{StandsFrom-get}
+use Rattle.lx_layout.proofs.BlockLayouts.CodesInBlocks.{StandsFrom-get}
 use Rattle.lx_layout.proofs.SuppliedLayouts.ClosedLayouts.{closed_jumps}
 use Rattle.lx_layout.proofs.SuppliedLayouts.EachBlock.{EachFrom}
 use Rattle.lx_layout.proofs.SuppliedLayouts.HeldLayouts.{accepts_any, edges_any, layout_holds, places_hold}

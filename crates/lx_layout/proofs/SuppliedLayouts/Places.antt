@@ -13,7 +13,7 @@ use Rattle.lx_layout.specs.Supplies.{Reader, Supply, state}
 use Rattle.lx_layout.specs.TestTrees.{TestTree}
 use Rattle.lx_layout.specs.TransitionClasses.{Split}
 use Rattle.lx_layout.specs.UnitApart.{reader_split}
-use Rattle.lx_layout.proofs.BlockLayouts.StandingCodes.{StandsFrom-back, StandsFrom-front}
+use Rattle.lx_layout.proofs.BlockLayouts.CodesInBlocks.{StandsFrom-back, StandsFrom-front}
 use Rattle.lx_layout.proofs.SuppliedLayouts.Lengths.{length-state_blocks}
 
 module _ (supply : Supply) (halting : Halting) (end_rule : Option ℕ) (trees : Reader → TestTree (Option ℕ)) (auto : Auto) where

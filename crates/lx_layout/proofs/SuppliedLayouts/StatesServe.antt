@@ -24,7 +24,7 @@ use Rattle.lx_layout.specs.TransitionClasses.{class_place, edge_class, has_class
 use Rattle.lx_layout.specs.UnitApart.{reader_split}
 use Rattle.lx_layout.proofs.BlockLayouts.ClassLists.{class_found, class_place-first, has_class-on, same_class-ops, same_class-to}
 use Rattle.lx_layout.proofs.BlockLayouts.Splits.{picked-tree}
-use Rattle.lx_layout.proofs.BlockLayouts.StandingCodes.{StandsFrom-back, StandsFrom-front, StandsFrom-get}
+use Rattle.lx_layout.proofs.BlockLayouts.CodesInBlocks.{StandsFrom-back, StandsFrom-front, StandsFrom-get}
 use Rattle.lx_layout.proofs.SuppliedLayouts.ApartUnits.{picked-other, picked-own}
 use Rattle.lx_layout.proofs.SuppliedLayouts.Lengths.{length-class_blocks, length-tests_of, length-turn_of}
 use Rattle.lx_layout.proofs.SuppliedLayouts.Readers.{LeadsRight, picked-with_blocks, reader_serves}

@@ -21,7 +21,7 @@ use Rattle.lx_tnfa.specs.LeafReadings.{IsLeft}
 use Rattle.lx_tnfa.specs.Live.{state_of}
 use Rattle.lx_tnfa.specs.PlaceNumbers.{rest_left}
 use Rattle.lx_tnfa.specs.Rows.{RepresentEach}
-use Rattle.lx_tnfa.specs.Standing.{StandsAt}
+use Rattle.lx_tnfa.specs.CutPlaces.{StandsAt}
 use Rattle.lx_tnfa.specs.Tnfa.{IsRest, IsTnfaOf, Tnfa}
 use Rattle.lx_tnfa.specs.declared.places.Place.{Place}
 use Rattle.lx_tnfa.proofs.Leaves.FrontLeaves.{front_leaf, front_left, since}

@@ -7,7 +7,7 @@ use Rattle.lx_regex.specs.Cut.{Cut, IsCut, SamePlace}
 use Rattle.lx_regex.specs.Pattern.{Pattern, terms_of}
 use Rattle.lx_regex.proofs.KernelCuts.RuleCuts.{cuts_one_rule}
 use Rattle.lx_tnfa.specs.Classes.{AreClasses}
-use Rattle.lx_tnfa.specs.Standing.{StandsAt}
+use Rattle.lx_tnfa.specs.CutPlaces.{StandsAt}
 use Rattle.lx_tnfa.specs.Tnfa.{Tnfa, FinishesPlace, FinishesRest, IsRest, IsTnfaOf, rows_at, state_at}
 use Rattle.lx_tnfa.specs.declared.classes.ClassGraph.{ClassGraph}
 use Rattle.lx_tnfa.specs.declared.places.Place.{Place}

@@ -12,7 +12,7 @@ use Rattle.lx_auto.proofs.States.{edge_on-leads, state_formed}
 use Rattle.lx_layout.specs.Carries.{HasEdge, IsReached}
 use Rattle.lx_layout.specs.Halting.{Halting, is_saved, saves_on}
 use Rattle.lx_layout.proofs.Runs.UnitsLeft.{edge_on-one, list_any-edge_on}
-use Rattle.lx_layout.proofs.Supplied.Standings.{IsFresh, IsFresh-edge}
+use Rattle.lx_layout.proofs.Supplied.SufficientUnits.{IsFresh, IsFresh-edge}
 use Rattle.lx_layout.proofs.Supplied.StateRuns.{FallsOnward, IsFoundAgain}
 
 -- only states of the automaton have an edge

@@ -17,7 +17,7 @@ use Rattle.lx_layout.specs.SuppliedLayout.{supplied_layout}
 use Rattle.lx_layout.proofs.PieceLaws.EachPart.{AreFitScanners}
 use Rattle.lx_layout.proofs.PieceLaws.PartActions.{actions_own}
 use Rattle.lx_layout.proofs.PieceLaws.ScannerEntries.{AreDifferent, BeginsAt}
-use Rattle.lx_layout.proofs.PieceLaws.StandingScanners.{FitsForm, scanner_stands}
+use Rattle.lx_layout.proofs.PieceLaws.OneScanner.{FitsForm, scanner_stands}
 use Rattle.lx_layout.proofs.Validity.EachElement.{each-map}
 
 module _ (form : Form) where
