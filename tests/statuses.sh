@@ -2,9 +2,10 @@
 # Runs the program where it ends with the statuses 0 to 4, and compares what it puts to the standard output and to the
 # standard error. A read fails on a folder, and a write or a put on a full device.
 #
-# Usage: tests/statuses.sh, from anywhere.
+# Usage: tests/statuses.sh, from anywhere; RE2C names the program (bin/re2c where it is unset).
 set -eu
 root=$(cd "$(dirname "$0")/.." && pwd)
+program=${RE2C:-$root/bin/re2c}
 work=$(mktemp -d)
 trap 'rm -rf "$work"' EXIT
 cd "$work"
@@ -19,7 +20,7 @@ ends() {
 	err=$3
 	shift 3
 	got=0
-	"$root/bin/re2c" "$@" > out.txt 2> err.txt || got=$?
+	"$program" "$@" > out.txt 2> err.txt || got=$?
 	# shellcheck disable=SC2059
 	printf "$out" | cmp - out.txt
 	# shellcheck disable=SC2059
@@ -40,7 +41,7 @@ ends 2 '' 're2c: error: read failed\n' -i folder
 # no source that can be generated has a fault, and the scanner of each matches once by each of its rules
 count=1
 while [ "$count" -le 200 ]; do
-	"$root/bin/re2c" --x-source "$count" -o source.c > out.txt
+	"$program" --x-source "$count" -o source.c > out.txt
 	sed -n 2p out.txt | grep -qx "matches $count"
 	sed -n 3p out.txt | grep -q "^rule $count "
 	count=$((count + 1))
@@ -55,7 +56,7 @@ head -c 12000000 /dev/zero | tr '\0' 'x' > long.c
 if [ -c /dev/full ]; then
 	ends 3 '' 're2c: error: write failed\n' -i -o /dev/full plain.c
 	got=0
-	"$root/bin/re2c" -i plain.c > /dev/full 2> err.txt || got=$?
+	"$program" -i plain.c > /dev/full 2> err.txt || got=$?
 	printf 're2c: error: write failed\n' | cmp - err.txt
 	test "$got" = 3
 	echo "status 3: -i plain.c, to a full device"
