@@ -1,5 +1,5 @@
 #!/bin/sh
-# Compiles the scanners of the examples as C, and runs each: it prints lines that were worked out by hand.
+# Compiles the scanners of the examples as C, and runs each: it prints lines that were worked out by hand, and ends with status 0.
 #
 # Usage: tests/c/examples.sh, from anywhere; RE2C names the program (bin/re2c where it is unset), and CC the compiler (cc where it is unset).
 . "$(dirname "$0")/setup.sh"
@@ -12,8 +12,28 @@ prints() {
 	"$program" -i "$@" "$root/examples/$name.re" > "$work/$name.c"
 	# shellcheck disable=SC2086
 	"$compiler" $options "$work/$name.c" -o "$work/$name"
-	test "$("$work/$name" | tr '\n' ' ')" = "$expected "
+	"$work/$name" > "$work/$name.out"
+	test "$(tr '\n' ' ' < "$work/$name.out")" = "$expected "
 	echo "$name: $expected"
+}
+
+# warns NAME LINES: what is told of the example with -W, without the name of its file
+warns() {
+	"$program" -i -W -o "$work/$1.c" "$root/examples/$1.re" 2> "$work/$1.told"
+	test "$(sed "s|^$root/examples/||" "$work/$1.told")" = "$2"
+	echo "$1: $(wc -l < "$work/$1.told") warnings"
+}
+
+# refused NAME MESSAGE [OPTION ..]: the message of the example with these options, without the name of its file
+refused() {
+	name=$1
+	message=$2
+	shift 2
+	got=0
+	"$program" -i "$@" -o "$work/$name.c" "$root/examples/$name.re" 2> "$work/$name.told" || got=$?
+	test "$got" = 1
+	test "$(sed "s|^$root/examples/||" "$work/$name.told")" = "$message"
+	echo "$message"
 }
 
 prints quoted "2 3 1"
@@ -50,3 +70,22 @@ prints uris "scheme:0-3 authority:6-22 name:6-17 port:18-22 path:22-33 query:34-
 literal:58-71 path:71-76 query:77-84 scheme:85-91 authority:94-112 userinfo:94-100 ipv4:101-111 port:112-112 path:112-113 \
 scheme:114-117 authority:120-131 name:120-131 path:131-131 scheme:132-136 absolute:137-147 fragment:148-148 scheme:149-152 \
 rootless:153-166 scheme:167-172 query:174-174 fault:175-191" -T
+prints everywhere "word:1:0-3 word:3:20-24 word:5:36-39 end:6:43-43" -c
+prints rulers "heading:7 line:10 ruler:14 ruler:28 line:32 line:46 fence:51 line:54 line:55 end:56"
+prints queries "select:0-6 name:7-8 from:9-13 name:14-22 where:23-28 name:29-30 other:30-31 mark:31-33 name:33-34 other:34-35 name:36-37 \
+other:37-38 end:38-39"
+prints ignored "number:0-2 sign:2-3 number:3-6 sign:6-7 other:7-8 end:8-9"
+prints ucs_2 "latin:0-4 blank:4-5 greek:5-10 cyrillic:10-12 surrogate:12-13 surrogate:13-14 other:14-15 end:15-16" -w
+prints warned "if:0-2 number:2-4 word:4-8 number:8-11 word:11-12 number:12-12"
+warns warned "warned.re:18:13: warning: rule 3 is never chosen
+warned.re:13:2: warning: no rule after 0x00
+warned.re:28:13: warning: rule 1 matches the empty string"
+prints empty_classes "number:0-1 other:1-2 number:2-5 other:5-6 number:6-11 end:11-12" --empty-class match-none
+refused empty_classes "empty_classes.re:17:14: error: empty class" --empty-class error
+prints surrogates "small:0-1 replaced:1-4 letter:4-7 wrong:7-8 wrong:8-9 wrong:9-10 small:10-11 end:11-12" -8 --encoding-policy substitute
+refused surrogates "surrogates.re:19:2: error: surrogate" -8 --encoding-policy fail
+prints own_type "word:0-5 other:5-6 word:6-10 end:10-11"
+prints own_refill "a bird sings oneword"
+prints own_variables "shift:0-3 shift:3-4 shift:4-6 error:6-6 accept:9"
+prints own_prefixes "width 80 ratio 1.5 colour red width" -c -T
+prints two_at_once "width=80 depth=12 colour=- x=y title=a-b shape=round fault last=1 end end" -T

@@ -77,3 +77,17 @@ compare without_buffer '--input custom' '--input custom'
 compare log_lines -T -T
 compare http_messages -T -T
 compare uris -T -T
+compare everywhere -c -c
+compare rulers '' ''
+compare queries '' ''
+compare ignored '' ''
+compare ucs_2 -w -w
+compare warned '' ''
+compare empty_classes '--empty-class match-none' '--empty-class match-none'
+compare surrogates '-8 --encoding-policy substitute' '-8 --encoding-policy substitute'
+compare own_type '' ''
+compare own_refill '' ''
+compare own_variables '' ''
+# The original declares the number of an accepting state where a scanner keeps one, and only there.
+compare own_prefixes '-c -T' '-c -T' 's/yyaccept = 0; //'
+compare two_at_once -T -T
