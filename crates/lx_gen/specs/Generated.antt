@@ -1,5 +1,5 @@
 -- What the piece of a block of scanners is made of, by what the block resolves to.
-use Rattle.std.specs.Prelude.{◌&&◌, ◌||◌, ℕ, Bool, not, List, [], ◌∷◌, Option, Some, None, is_some, nat_eq, slice_index_or, if◌then◌else◌}
+use Rattle.std.specs.Prelude.{◌&&◌, ◌||◌, ℕ, Bool, not, List, [], ◌∷◌, Option, Some, None, is_some, false, nat_eq, slice_index_or, if◌then◌else◌}
 use Rattle.std.specs.List.{AllByRecursion, list_any}
 use Rattle.lx_auto.specs.declared.automaton.Auto.{Auto}
 use Rattle.lx_base.specs.declared.places.Pos.{Pos}
@@ -48,6 +48,7 @@ act_ending marks rule (Some act) = record {
   goes_to = act.goes;
   action = act.code;
   line = mark_of marks act.at;
+  forgets = false;
 }
 
 -- the end of the first rule with a number

@@ -11,3 +11,4 @@ pub mod Laying
 pub mod PieceLaws
 pub mod ScannerLaws
 pub mod Fronts
+pub mod Jumps

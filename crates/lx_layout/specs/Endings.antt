@@ -4,7 +4,7 @@ use Rattle.lx_auto.specs.declared.automaton.Held.{Held}
 use Rattle.lx_auto.specs.declared.automaton.Held.TheVariants.{Reg, MReg}
 use Rattle.lx_ccode.specs.declared.piece.LineMark.{LineMark}
 use Rattle.lx_ccode.specs.declared.piece.Stmt.{Stmt}
-use Rattle.lx_ccode.specs.declared.piece.Stmt.TheVariants.{Back, Code, Cond, Count, End, Jump, Tag}
+use Rattle.lx_ccode.specs.declared.piece.Stmt.TheVariants.{Accept, Back, Code, Cond, Count, End, Jump, Tag}
 
 -- What a rule does at its end: it gives its tags, which have these names in the order of their numbers, puts the cursor back to
 -- the tag of its trailing context, tells its groups, sets a condition, and does its action. Without one it goes on in the condition.
@@ -15,6 +15,8 @@ pub record Ending : Type 0 where
   pub goes_to : Option (List ℕ)
   pub action : Option (List ℕ)
   pub line : Option LineMark
+  -- whether what the match kept is forgotten before it goes on there
+  pub forgets : Bool
 
 -- the tag with this number is that of the trailing context, which has no name
 abbrev pub is_slash : Option ℕ → (number : ℕ) → Bool
@@ -69,9 +71,10 @@ abbrev pub name_or_none : Option (List ℕ) → List ℕ
 name_or_none None = []
 name_or_none (Some name) = name
 
-abbrev pub action_code : (rule : ℕ) → Ending → (action : Option (List ℕ)) → List Stmt
-action_code rule ending None = Jump (name_or_none ending.goes_to) rule ∷ []
-action_code rule ending (Some action) = Code rule ending.line action ∷ []
+abbrev pub action_code : (rule : ℕ) → Ending → (action : Option (List ℕ)) → (forgets : Bool) → List Stmt
+action_code rule ending None true = Accept 0 ∷ Jump (name_or_none ending.goes_to) rule ∷ []
+action_code rule ending None false = Jump (name_or_none ending.goes_to) rule ∷ []
+action_code rule ending (Some action) forgets = Code rule ending.line action ∷ []
 
 -- what a rule gives where a match ends, with the values held so, and then the rest
 abbrev pub rule_code : (endings : ℕ → Ending) → (rule : ℕ) → List Held → List Stmt → List Stmt
@@ -80,7 +83,7 @@ rule_code endings rule values rest =
 
 -- and its last statements
 abbrev pub last_code : (endings : ℕ → Ending) → (rule : ℕ) → List Stmt
-last_code endings rule = cond_code (endings rule).goes_to (action_code rule (endings rule) (endings rule).action)
+last_code endings rule = cond_code (endings rule).goes_to (action_code rule (endings rule) (endings rule).action (endings rule).forgets)
 
 -- the whole, which stands in one block for all states that accept by the rule
 abbrev pub ending_code : (endings : ℕ → Ending) → (rule : ℕ) → List Held → List Stmt

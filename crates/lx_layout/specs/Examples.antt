@@ -19,7 +19,7 @@ use Rattle.lx_layout.specs.TransitionClasses.{Split}
 
 -- each rule has the tag `t`, and the action `a`
 abbrev pub tagged : ℕ → Ending
-tagged rule = record { tags = (116 ∷ []) ∷ []; slash = None; groups = 0; goes_to = None; action = Some (97 ∷ []); line = None }
+tagged rule = record { tags = (116 ∷ []) ∷ []; slash = None; groups = 0; goes_to = None; action = Some (97 ∷ []); line = None; forgets = false }
 
 -- Trees of tests for the automaton of `[a-cx-z] ("." [a-cx-z])* @t` for bytes. In state 0 the units behind 96 are parted behind 119.
 abbrev pub dotted_tree : (number : ℕ) → TestTree (Option ℕ)
@@ -86,7 +86,7 @@ any_blocks =
     ∷ []
 
 abbrev pub untagged : ℕ → Ending
-untagged rule = record { tags = []; slash = None; groups = 0; goes_to = None; action = Some (97 ∷ []); line = None }
+untagged rule = record { tags = []; slash = None; groups = 0; goes_to = None; action = Some (97 ∷ []); line = None; forgets = false }
 
 -- the layouts stand, and their trees are trees of the tests of the states
 pub record LayoutsStand : Type 0 where

@@ -9,6 +9,7 @@ pub mod Endings
 pub mod Examples
 pub mod Fallback
 pub mod FewTests
+pub mod Forgetting
 pub mod FormedParts
 pub mod Halting
 pub mod LaidParts

@@ -32,6 +32,7 @@ use Rattle.lx_layout.specs.CheckedStates.{ChecksAs, ChecksByWalks}
 use Rattle.lx_layout.specs.Endings.{Ending}
 use Rattle.lx_layout.specs.EndedRules.{EndsRules}
 use Rattle.lx_layout.specs.FewTests.{HasFewTests}
+use Rattle.lx_layout.specs.Forgetting.{JumpsForget, endings_in}
 use Rattle.lx_auto.specs.Shapes.{AreAgreed}
 use Rattle.lx_layout.specs.Parts.{Demand, Given, IsPartOf, Part, checked, checked_by}
 use Rattle.lx_layout.specs.RightInMode.{HaveEndings, IsRightInMode}
@@ -87,6 +88,13 @@ demand_of form checks = record {
   check = checked_by (counted form.eof form.fill checks);
   stores = form.stores;
 }
+
+-- the scanner as it stands in blocks
+abbrev pub source_in : List CodeBlock → Source → Source
+source_in blocks scanner = record scanner { endings = endings_in blocks scanner.endings }
+
+abbrev pub sources_in : List CodeBlock → List Source → List Source
+sources_in blocks scanners = map (source_in blocks) scanners
 
 abbrev pub given_of : Form → Source → Given
 given_of form scanner = record {
@@ -168,14 +176,14 @@ ChecksIn Count piece entry place auto checks =
     ChecksAs piece entry place auto (checked checks) × ChecksByWalks piece entry place auto checks
 ChecksIn mode piece entry place auto checks = Unit {0}
 
--- A scanner stands in a piece: it carries its automaton, checks as the list says where units are counted, ends its rules as they are given,
--- and tests units few times. It is right in its mode where the automaton is that of its rules.
+-- A scanner stands in a piece: it carries its automaton, checks as the list says where units are counted, ends its rules as they are given
+-- and forgets what it kept before it goes on, and tests units few times. It is right in its mode where the automaton is that of its rules.
 pub record IsScannerIn (mode : Mode) (enc : Enc) (given : Given) (checks : List ℕ) (piece : Piece) : Type 0 where
   pub entry : ℕ
   pub begins : (cond : List ℕ) → MayBegin given.cond cond → entry_block piece.conds cond ≡ Some entry
-  pub carries : Carries piece entry given.endings given.auto
+  pub carries : Carries piece entry (endings_in piece.blocks given.endings) given.auto
   pub needs : ChecksIn mode piece entry carries.place given.auto checks
-  pub rules : EndsRules piece entry given.endings
+  pub rules : EndsRules piece entry (endings_in piece.blocks given.endings)
   pub tests : HasFewTests piece entry carries.place given.demand.eof (greatest_unit enc) given.auto
   pub right : (policy : Policy) (patterns : List Pattern) (cond : List ℕ) → IsAutoUnder policy enc patterns given.auto
       → HaveEndings enc patterns given.endings → end_rule patterns ≡ given.end_rule → MayBegin given.cond cond
@@ -212,12 +220,13 @@ abbrev pub IsActionOf : List Source → Stmt → Type 0
 IsActionOf scanners statement = (scanner : Source) × Contains scanners scanner × IsOwnAction scanner.endings statement
 
 -- The piece of scanners is valid, and each of them stands in it. The states that it stores are numbered from the first number on, in
--- their order; it stores one before each refill, or none.
+-- their order; it stores one before each refill, or none. What a match kept is forgotten before another one begins by a jump.
 pub record IsPieceOf (form : Form) (scanners : List Source) (piece : Piece) : Type 0 where
   pub valid : IsValid piece
   pub fields : HasFields form (conds_of scanners) piece
   pub numbered : map (λ case. case.state) (states_from 0 piece.blocks) ≡ range_with_len form.first_state (state_count piece.blocks)
   pub stored : list_any is_state (all_statements piece.blocks) ≡ form.stores && list_any is_refill (all_statements piece.blocks)
+  pub forgets : JumpsForget piece.blocks
   pub actions : AllByRecursion (IsActionOf scanners) (all_statements piece.blocks)
   pub stand : AllByRecursion (λ (scanner : Source).
       IsScannerIn (mode_of form.eof form.fill) form.enc (given_of form scanner) scanner.checks piece) scanners

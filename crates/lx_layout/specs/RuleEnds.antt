@@ -1,5 +1,5 @@
 -- What the rules of a scanner do at their ends, as the code has it.
-use Rattle.std.specs.Prelude.{◌≡◌, ℕ, ◌+◌, ◌*◌, ◌≤◌, List, [], ◌∷◌, length, Option, None, IsSome, nat_eq, if◌then◌else◌}
+use Rattle.std.specs.Prelude.{◌≡◌, ℕ, ◌+◌, ◌*◌, ◌≤◌, List, [], ◌∷◌, length, Option, None, IsSome, false, nat_eq, if◌then◌else◌}
 use Rattle.lx_auto.specs.declared.automaton.Accept.{Accept}
 use Rattle.lx_auto.specs.declared.automaton.Held.{Held}
 use Rattle.lx_layout.specs.Endings.{Ending}
@@ -16,11 +16,12 @@ ending_of end = record {
   goes_to = end.goes.now;
   action = end.action.now;
   line = end.line;
+  forgets = false;
 }
 
 -- where there is no rule
 abbrev pub no_ending : Ending
-no_ending = record { tags = []; slash = None; groups = 0; goes_to = None; action = None; line = None }
+no_ending = record { tags = []; slash = None; groups = 0; goes_to = None; action = None; line = None; forgets = false }
 
 -- the ending of the first rule with a number
 abbrev pub endings_of : List RuleEnd → (number : ℕ) → Ending

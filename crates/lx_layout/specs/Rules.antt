@@ -23,11 +23,12 @@ ending_of rule texts = record {
   goes_to = None;
   action = text_of texts rule.number;
   line = None;
+  forgets = false;
 }
 
 -- where there is no rule
 abbrev pub no_ending : Ending
-no_ending = record { tags = []; slash = None; groups = 0; goes_to = None; action = None; line = None }
+no_ending = record { tags = []; slash = None; groups = 0; goes_to = None; action = None; line = None; forgets = false }
 
 -- the ending of the first rule with this number; rule K does the K-th text
 abbrev pub endings_of : List Rule → (texts : List (List ℕ)) → (number : ℕ) → Ending

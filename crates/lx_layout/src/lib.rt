@@ -6,6 +6,7 @@ mod blocks;
 mod copies;
 mod demands;
 pub mod examples;
+mod forgetting;
 mod halting;
 pub mod laws;
 mod number_index;

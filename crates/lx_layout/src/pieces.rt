@@ -8,16 +8,18 @@ ghost use Rattle.lx_ccode.specs.States.{states_from};
 ghost use Rattle.lx_ccode.specs.Statements.{all_statements, has_register_one, statement_count};
 ghost use Rattle.lx_ccode.specs.Validity.{IsShort, labels};
 ghost use Rattle.lx_layout.specs.Copies.{given_by};
+ghost use Rattle.lx_layout.specs.Forgetting.{JumpsForget};
 ghost use Rattle.lx_layout.specs.LaidParts.{seen_given};
 ghost use Rattle.lx_layout.specs.LikeScanners.{AreLike, HasFront, IsFrontOf, is_like};
 ghost use Rattle.lx_layout.specs.Parts.{IsPartOf, Part, given_asked, part_blocks, parts_blocks};
 ghost use Rattle.lx_layout.specs.PieceViews.{seen_form, seen_source, seen_sources};
-ghost use Rattle.lx_layout.specs.Pieces.{AreFit, ArePartsOf, HasFields, IsFitScanner, IsPieceOf, given_of, head_of, mode_of};
+ghost use Rattle.lx_layout.specs.Pieces.{AreFit, ArePartsOf, HasFields, IsFitScanner, IsPieceOf, given_of, head_of, mode_of, sources_in};
 ghost use Rattle.lx_layout.specs.Switches.{cond_cases};
 ghost use Rattle.lx_layout.specs.declared.pieces.ScannerInput.{ScannerInput};
 
 use crate::copies::{Front, append_like, front_of};
 use crate::demands::{Demand, PartInput};
+use crate::forgetting::forget_before_jumps;
 use crate::parts::append_part;
 use crate::rule_ends::RuleEnd;
 use crate::switches::{cond_cases, names_register_one, state_cases};
@@ -175,7 +177,7 @@ fn append_scanners(
     Ok(())
 }
 
-/// The blocks of scanners one behind another.
+/// The blocks of scanners one behind another. What a match kept is forgotten before each jump, if a statement tests it.
 ///
 /// Blocks with more than 2^62 statements count as want of memory.
 pub(crate) fn scanner_blocks(
@@ -185,13 +187,16 @@ pub(crate) fn scanner_blocks(
 ) -> Result<Vec<CodeBlock>, Memory>
     requires fit { AreFit (seen_form form.now) (seen_sources scanners.now) }
     requires like { AreLike scanners.now }
-    ensures parts { IfOk result (λ blocks. (parts : List Part) × ArePartsOf (seen_form form.now) (seen_sources scanners.now) parts
+    ensures parts { IfOk result (λ blocks. (parts : List Part)
+        × ArePartsOf (seen_form form.now) (sources_in blocks.items (seen_sources scanners.now)) parts
         × (blocks.items ≡ parts_blocks 0 form.now.first_state parts)) }
+    ensures forgets { IfOk result (λ blocks. JumpsForget blocks.items) }
     ensures few { IfOk result (λ blocks. statement_count blocks.items ≤ STATEMENT_LIMIT) }
 {
     let front = shared_front(alloc, form, scanners)?;
     let mut blocks = Vec::new(alloc);
     append_scanners(alloc, &mut blocks, form, &front, scanners)?;
+    forget_before_jumps(alloc, &mut blocks)?;
     if count_statements(&blocks).is_none() {
         return Err(Memory);
     }

@@ -1,5 +1,5 @@
 //! The code of the ends of rules: the tags in the order of their numbers, the groups, the trailing context, the condition, and the action.
-ghost use Rattle.std.specs.Prelude.{◌≡◌, ℕ, ◌+◌, ◌≤◌, List, ◌∷◌, [], ◌++◌, IfOk, IfSome, OnOk, length};
+ghost use Rattle.std.specs.Prelude.{◌≡◌, ℕ, ◌+◌, ◌≤◌, List, ◌∷◌, [], ◌++◌, IfOk, IfSome, OnOk, false, length};
 ghost use Rattle.lx_auto.specs.Automaton.{AreHeld, IsHeld};
 ghost use Rattle.lx_layout.specs.Endings.{action_code, back_code, cond_code, ending_code, ends_code, groups_code, is_slash, name_or_none, slash_held, tag_code, tags_code, unless};
 ghost use Rattle.lx_layout.specs.RuleEnds.{AreEndsIndexed, HasEnd, IsToldRule, ending_of, endings_of};
@@ -156,7 +156,7 @@ fn name_or_none(alloc: Global, name: &Option<SharedText>) -> Result<SharedText, 
 
 /// The last statement of a rule: its action, or without one the jump to the condition.
 fn action_code(alloc: Global, end: &RuleEnd<'_>) -> Result<Stmt, Memory>
-    ensures { IfOk result (λ stmt. stmt ∷ [] ≡ action_code end.now.rule.now.number (ending_of end.now) end.now.action.now) }
+    ensures { IfOk result (λ stmt. stmt ∷ [] ≡ action_code end.now.rule.now.number (ending_of end.now) end.now.action.now false) }
 {
     match end.action {
         None => Ok(Stmt::Jump(name_or_none(alloc, end.goes)?, end.rule.number)),
@@ -170,7 +170,7 @@ fn end_code(alloc: Global, end: &RuleEnd<'_>, values: &[Held]) -> Result<Vec<Stm
     requires few { length values.now ≤ length end.now.rule.now.tags + 130 }
     ensures { IfOk result (λ stmts. stmts.items ≡ ending_code (λ number. ending_of end.now) end.now.rule.now.number values.now) }
 {
-    let fixed = if end.goes.is_some() { 2 } else { 1 };
+    let fixed = if end.goes.is_some() { 3 } else { 1 };
     let mut stmts = Vec::with_capacity(alloc, values.len() + fixed)?;
     append_tags(alloc, &mut stmts, end, values)?;
     append_back(&mut stmts, slash_held(end.rule.slash, values))?;

@@ -6,7 +6,7 @@ use Rattle.lx_auto.specs.declared.automaton.Held.{Held}
 use Rattle.lx_auto.specs.declared.automaton.Held.TheVariants.{Reg, MReg}
 use Rattle.lx_ccode.specs.declared.piece.Piece.{Piece}
 use Rattle.lx_ccode.specs.declared.piece.Stmt.{Stmt}
-use Rattle.lx_ccode.specs.declared.piece.Stmt.TheVariants.{Back, Code, Cond, Count, End, Jump, Tag}
+use Rattle.lx_ccode.specs.declared.piece.Stmt.TheVariants.{Accept, Back, Code, Cond, Count, End, Jump, Tag}
 use Rattle.lx_ccode.specs.Machine.{Answer, Machine, Value as Given, back, condition, goes_on, group_count, group_end, step, stuck}
 use Rattle.lx_ccode.specs.Runs.{Ended}
 use Rattle.lx_ccode.specs.Traces.{is_peek, is_skip}
@@ -86,22 +86,30 @@ module _ (piece : Piece) (stream : List ℕ) (answers : List Answer) (machine : 
 
   -- ---- the last statements
 
-  action_gives : (rule : ℕ) (ending : Ending) (action : Option (List ℕ)) (cursor : ℕ) (cond : List ℕ) (given : List Given)
-      → Gives (action_code rule ending action) cursor cond given
+  -- what is kept counts for nothing where the match ends
+  action_gives : (rule : ℕ) (ending : Ending) (action : Option (List ℕ)) (forgets : Bool) (cursor : ℕ) (cond : List ℕ) (given : List Given)
+      → Gives (action_code rule ending action forgets) cursor cond given
       (record { outcome = outcome_by rule action; cursor = cursor; cond = cond; values = given })
-  action_gives rule ending None cursor cond given =
+  action_gives rule ending None true cursor cond given = record { gives = ends_quiet piece stream (Accept 0) refl refl refl jumps }
+    where
+      jumps : EndsSo piece stream 0 0 (Jump (name_or_none ending.goes_to) rule ∷ [])
+          (record machine { cursor = cursor; cond = cond; values = given; accept = 0 }) answers
+          (record { outcome = outcome_by rule None; cursor = cursor; cond = cond; values = given })
+      jumps = ends_at piece stream (Jump (name_or_none ending.goes_to) rule) refl refl refl
+  action_gives rule ending None false cursor cond given =
       record { gives = ends_at piece stream (Jump (name_or_none ending.goes_to) rule) refl refl refl }
-  action_gives rule ending (Some action) cursor cond given = record { gives = ends_at piece stream (Code rule ending.line action) refl refl refl }
+  action_gives rule ending (Some action) forgets cursor cond given =
+      record { gives = ends_at piece stream (Code rule ending.line action) refl refl refl }
 
-  cond_gives : (rule : ℕ) (ending : Ending) (goes_to action : Option (List ℕ)) (cursor : ℕ) (cond : List ℕ) (given : List Given)
-      → Gives (cond_code goes_to (action_code rule ending action)) cursor cond given
+  cond_gives : (rule : ℕ) (ending : Ending) (goes_to action : Option (List ℕ)) (forgets : Bool) (cursor : ℕ) (cond : List ℕ) (given : List Given)
+      → Gives (cond_code goes_to (action_code rule ending action forgets)) cursor cond given
       (record { outcome = outcome_by rule action; cursor = cursor; cond = cond_behind goes_to cond; values = given ++ cond_given goes_to })
-  cond_gives rule ending None action cursor cond given =
-      subst (λ l. Gives (action_code rule ending action) cursor cond given
+  cond_gives rule ending None action forgets cursor cond given =
+      subst (λ l. Gives (action_code rule ending action forgets) cursor cond given
       (record { outcome = outcome_by rule action; cursor = cursor; cond = cond; values = l })) (sym (append-nil given))
-      (action_gives rule ending action cursor cond given)
-  cond_gives rule ending (Some next) action cursor cond given =
-      first (Cond next) refl refl refl (action_gives rule ending action cursor next (given ++ condition next ∷ []))
+      (action_gives rule ending action forgets cursor cond given)
+  cond_gives rule ending (Some next) action forgets cursor cond given =
+      first (Cond next) refl refl refl (action_gives rule ending action forgets cursor next (given ++ condition next ∷ []))
 
   -- what is told, where these values were given
   abbrev told_on : (rule : ℕ) → Ending → (cond : List ℕ) → List Given → (cursor : ℕ) → (to : Option ℕ) → Ended
@@ -124,9 +132,9 @@ module _ (piece : Piece) (stream : List ℕ) (answers : List Answer) (machine : 
       → Gives (back_code held (last_code endings rule)) cursor cond given
       (told_on rule (endings rule) cond given cursor (put_back (held_value bank held) cursor))
   back_gives endings rule None cursor cond given =
-      cond_gives rule (endings rule) (endings rule).goes_to (endings rule).action cursor cond given
+      cond_gives rule (endings rule) (endings rule).goes_to (endings rule).action (endings rule).forgets cursor cond given
   back_gives endings rule (Some (MReg mreg)) cursor cond given =
-      cond_gives rule (endings rule) (endings rule).goes_to (endings rule).action cursor cond given
+      cond_gives rule (endings rule) (endings rule).goes_to (endings rule).action (endings rule).forgets cursor cond given
   back_gives endings rule (Some (Reg reg)) cursor cond given = by (bank.regs reg) refl where
     by : (value : Option ℕ) → bank.regs reg ≡ value
         → Gives (Back (suc reg) ∷ last_code endings rule) cursor cond given (told_on rule (endings rule) cond given cursor value)
@@ -134,7 +142,7 @@ module _ (piece : Piece) (stream : List ℕ) (answers : List Answer) (machine : 
         record { gives = ends_at piece stream (Back (suc reg)) refl refl (ap (λ o. back o (last_code endings rule) (at cursor cond given) answers) e) }
     by (Some to) e =
         first (Back (suc reg)) refl refl (ap (λ o. back o (last_code endings rule) (at cursor cond given) answers) e)
-        (cond_gives rule (endings rule) (endings rule).goes_to (endings rule).action to cond given)
+        (cond_gives rule (endings rule) (endings rule).goes_to (endings rule).action (endings rule).forgets to cond given)
 
   rule_gives : (endings : ℕ → Ending) (rule : ℕ) (values : List Held) (cursor : ℕ) (cond : List ℕ)
       → Gives (ending_code endings rule values) cursor cond [] (told_at endings cond rule cursor (held_values bank values))

@@ -103,13 +103,16 @@ held_any [] = tt
 held_any (value ∷ values) = (tt, held_any values)
 
 calm_last : (endings : ℕ → Ending) (rule : ℕ) → Calm (last_code endings rule)
-calm_last endings rule = by (endings rule).goes_to (endings rule).action
+calm_last endings rule = by (endings rule).goes_to
   where
-    by : (cond action : Option (List ℕ)) → Calm (cond_code cond (action_code rule (endings rule) action))
-    by None None = (calm refl refl refl refl, tt)
-    by None (Some action) = (calm refl refl refl refl, tt)
-    by (Some cond) None = (calm refl refl refl refl, (calm refl refl refl refl, tt))
-    by (Some cond) (Some action) = (calm refl refl refl refl, (calm refl refl refl refl, tt))
+    acts : (action : Option (List ℕ)) (forgets : Bool) → Calm (action_code rule (endings rule) action forgets)
+    acts None true = (calm refl refl refl refl, (calm refl refl refl refl, tt))
+    acts None false = (calm refl refl refl refl, tt)
+    acts (Some action) forgets = (calm refl refl refl refl, tt)
+
+    by : (cond : Option (List ℕ)) → Calm (cond_code cond (action_code rule (endings rule) (endings rule).action (endings rule).forgets))
+    by None = acts (endings rule).action (endings rule).forgets
+    by (Some cond) = (calm refl refl refl refl, acts (endings rule).action (endings rule).forgets)
 
 pub calm_ending : (endings : ℕ → Ending) (rule : ℕ) (values : List Held) → Calm (ending_code endings rule values)
 calm_ending endings rule values =

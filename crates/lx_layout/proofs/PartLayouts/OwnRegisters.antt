@@ -72,15 +72,17 @@ module _ (auto : Auto) where
       by false = tt
 
   last_own : (endings : ℕ → Ending) (rule : ℕ) → AllByRecursion (NamesItsOwn auto) (last_code endings rule)
-  last_own endings rule = by (endings rule).goes_to (endings rule).action
+  last_own endings rule = by (endings rule).goes_to
     where
-      by : (cond action : Option (List ℕ)) → AllByRecursion (NamesItsOwn auto) (cond_code cond (action_code rule (endings rule) action))
-      by None None = (nothing refl refl refl, tt)
-      by None (Some action) = (nothing refl refl refl, tt)
-      by (Some cond) None =
-          (nothing refl refl refl, (nothing refl refl refl, tt))
-      by (Some cond) (Some action) =
-          (nothing refl refl refl, (nothing refl refl refl, tt))
+      acts : (action : Option (List ℕ)) (forgets : Bool) → AllByRecursion (NamesItsOwn auto) (action_code rule (endings rule) action forgets)
+      acts None true = (nothing refl refl refl, (nothing refl refl refl, tt))
+      acts None false = (nothing refl refl refl, tt)
+      acts (Some action) forgets = (nothing refl refl refl, tt)
+
+      by : (cond : Option (List ℕ))
+          → AllByRecursion (NamesItsOwn auto) (cond_code cond (action_code rule (endings rule) (endings rule).action (endings rule).forgets))
+      by None = acts (endings rule).action (endings rule).forgets
+      by (Some cond) = (nothing refl refl refl, acts (endings rule).action (endings rule).forgets)
 
   ending_own : (endings : ℕ → Ending) (rule : ℕ) (values : List Held) → AreHeld auto.regs auto.mregs values
       → AllByRecursion (NamesItsOwn auto) (ending_code endings rule values)

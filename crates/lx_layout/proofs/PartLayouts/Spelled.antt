@@ -85,20 +85,27 @@ module _ (names : Spellings) (conds : List (List ℕ)) where
   tags_named slash number (tag ∷ tags) h = (h.0, tags_named slash (suc number) tags h.1)
 
   last_fine : (endings : ℕ → Ending) (rule : ℕ) → RuleCanBeWritten names conds endings rule → AllByRecursion (IsSpellable names conds) (last_code endings rule)
-  last_fine endings rule h = by (endings rule).goes_to (endings rule).action refl h.ending.goes h.ending.acts
+  last_fine endings rule h = by (endings rule).goes_to refl h.ending.goes h.ending.acts
     where
-      by : (cond action : Option (List ℕ)) → (endings rule).goes_to ≡ cond → IsOneOf conds cond → ActsOrGoes action cond
-          → AllByRecursion (IsSpellable names conds) (cond_code cond (action_code rule (endings rule) action))
-      by None None e named acts = absurd (false≢true acts)
-      by None (Some action) e named acts = ((h.short, h.ending.line, acts), tt)
-      by (Some cond) None e named acts = (
-        named,
-        (
-          (subst (λ o. IsIdentifier (name_or_none o) × (list_any (equal_words (name_or_none o)) conds ≡ true)) (sym e) named, h.short),
-          tt,
-        ),
-      )
-      by (Some cond) (Some action) e named acts = (named, ((h.short, h.ending.line, acts), tt))
+      goes_on : (forgets : Bool) → IsSpellable names conds (Jump (name_or_none (endings rule).goes_to) rule)
+          → AllByRecursion (IsSpellable names conds) (action_code rule (endings rule) None forgets)
+      goes_on true jump = (omega arith, (jump, tt))
+      goes_on false jump = (jump, tt)
+
+      finishes : (cond action : Option (List ℕ)) → (endings rule).goes_to ≡ cond → IsOneOf conds cond → ActsOrGoes action cond
+          → AllByRecursion (IsSpellable names conds) (action_code rule (endings rule) action (endings rule).forgets)
+      finishes None None e named acts = absurd (false≢true acts)
+      finishes None (Some action) e named acts = ((h.short, h.ending.line, acts), tt)
+      finishes (Some cond) None e named acts =
+          goes_on (endings rule).forgets
+          (subst (λ o. IsIdentifier (name_or_none o) × (list_any (equal_words (name_or_none o)) conds ≡ true)) (sym e) named, h.short)
+      finishes (Some cond) (Some action) e named acts = ((h.short, h.ending.line, acts), tt)
+
+      by : (cond : Option (List ℕ)) → (endings rule).goes_to ≡ cond → IsOneOf conds cond → ActsOrGoes (endings rule).action cond
+          → AllByRecursion (IsSpellable names conds)
+          (cond_code cond (action_code rule (endings rule) (endings rule).action (endings rule).forgets))
+      by None e named acts = finishes None (endings rule).action e named acts
+      by (Some cond) e named acts = (named, finishes (Some cond) (endings rule).action e named acts)
 
   module _ (auto : Auto) (formed : IsAuto auto) where
     op_fine : (op : Op) → IsOwnOp auto.regs auto.mregs op → IsSpellable names conds (op_code op)

@@ -1,19 +1,25 @@
 -- Each scanner stands in the piece of scanners one behind another, and each action is that of a rule of one of them.
-use Rattle.std.specs.Prelude.{◌≡◌, ◌≢◌, ℕ, suc, ◌+◌, List, [], ◌∷◌, length, Option, Some, None, Contains, refl}
+use Rattle.std.specs.Prelude.{◌≡◌, ◌≢◌, ℕ, suc, ◌+◌, Bool, List, [], ◌∷◌, length, Option, Some, None, Contains, refl}
 use Rattle.std.proofs.Common.{◌∙◌, ap, arith, subst, sym}
 use Rattle.std.specs.List.{AllByRecursion}
 use Rattle.lx_base.specs.Spelling.{greatest_unit}
 use Rattle.lx_ccode.specs.Runs.{entry_block}
 use Rattle.lx_ccode.specs.Statements.{code_of}
+use Rattle.lx_ccode.specs.declared.piece.CodeBlock.{CodeBlock}
 use Rattle.lx_ccode.specs.declared.piece.Piece.{Piece}
+use Rattle.lx_ccode.specs.declared.piece.Stmt.{Stmt}
+use Rattle.lx_ccode.specs.declared.piece.Stmt.TheVariants.{Code, Jump}
 use Rattle.lx_layout.specs.Actions.{IsOwnAction}
 use Rattle.lx_layout.specs.Carries.{NamesItsOwn}
+use Rattle.lx_layout.specs.Endings.{Ending}
+use Rattle.lx_layout.specs.Forgetting.{any_tests_kept, forgetting_by}
 use Rattle.lx_layout.specs.FormedParts as formed
 use Rattle.lx_layout.specs.FormedParts.{AreFormed}
 use Rattle.lx_layout.specs.Layout.{StandsFrom}
 use Rattle.lx_layout.specs.Parts.{EachPart, Part, given_asked, given_supply, part_codes}
-use Rattle.lx_layout.specs.Pieces.{ArePartsOf, Form, HaveDifferentConditions, IsActionOf, IsScannerIn, MayBegin, Source, conds_of, given_of, mode_of, onto_conds}
+use Rattle.lx_layout.specs.Pieces.{ArePartsOf, Form, HaveDifferentConditions, IsActionOf, IsScannerIn, MayBegin, Source, conds_of, given_of, mode_of, onto_conds, source_in, sources_in}
 use Rattle.lx_layout.specs.SuppliedLayout.{supplied_layout}
+use Rattle.lx_layout.proofs.Jumps.ForgettingTold.{as_given}
 use Rattle.lx_layout.proofs.PieceLaws.EachPart.{AreFitScanners}
 use Rattle.lx_layout.proofs.PieceLaws.PartActions.{actions_own}
 use Rattle.lx_layout.proofs.PieceLaws.ScannerEntries.{AreDifferent, BeginsAt}
@@ -60,26 +66,38 @@ module _ (form : Form) where
 
   -- ---- actions
 
-  pub parts_act : (all : List Source) (begin first : ℕ) (scanners : List Source) (parts : List Part) → AreFormed (greatest_unit form.enc) parts
-      → ArePartsOf form scanners parts → ((scanner : Source) → Contains scanners scanner → Contains all scanner)
+  own_given : (forgets : Bool) (endings : ℕ → Ending) (statement : Stmt) → IsOwnAction (forgetting_by forgets endings) statement
+      → IsOwnAction endings statement
+  own_given forgets endings (Code rule line action) own = own
+  own_given forgets endings (Jump cond rule) own = own
+  own_given forgets endings statement own = own
+
+  pub parts_act : (blocks : List CodeBlock) (all : List Source) (begin first : ℕ) (scanners : List Source) (parts : List Part)
+      → AreFormed (greatest_unit form.enc) parts → ArePartsOf form (sources_in blocks scanners) parts
+      → ((scanner : Source) → Contains scanners scanner → Contains all scanner)
       → EachPart (λ part begin first. AllByRecursion (λ code. AllByRecursion (IsActionOf all) code) (part_codes part begin first)) begin first parts
-  parts_act all begin first [] [] formed are within = tt
-  parts_act all begin first [] (part ∷ parts) formed are within = absurd are
-  parts_act all begin first (scanner ∷ scanners) [] formed are within = absurd are
-  parts_act all begin first (scanner ∷ scanners) (part ∷ parts) formed are within = (
+  parts_act blocks all begin first [] [] formed are within = tt
+  parts_act blocks all begin first [] (part ∷ parts) formed are within = absurd are
+  parts_act blocks all begin first (scanner ∷ scanners) [] formed are within = absurd are
+  parts_act blocks all begin first (scanner ∷ scanners) (part ∷ parts) formed are within = (
     each-map (λ code. AllByRecursion (IsOwnAction part.given.endings) code) (λ code. AllByRecursion (IsActionOf all) code)
         (λ code own. each-map (IsOwnAction part.given.endings) (IsActionOf all)
-        (λ statement is.
-        (scanner, within scanner (0, omega arith, refl), subst (λ endings. IsOwnAction endings statement) (ap (λ given. given.endings) are.0.is) is)) code own)
+        (λ statement is. (
+          scanner,
+          within scanner (0, omega arith, refl),
+          own_given (any_tests_kept blocks) scanner.endings statement
+              (subst (λ endings. IsOwnAction endings statement) (ap (λ given. given.endings) are.0.is) is),
+        )) code own)
         (part_codes part begin first) (actions_own (greatest_unit form.enc) begin first part formed.0),
-    parts_act all (begin + length (part_codes part begin first)) (first + given_asked part.given) scanners parts formed.1 are.1
+    parts_act blocks all (begin + length (part_codes part begin first)) (first + given_asked part.given) scanners parts formed.1 are.1
         (λ other has. within other (suc has.0, (let lt = has.1 in omega (arith, lt)), has.2)),
   )
 
   -- ---- scanners
 
+  -- in blocks in which what was kept is forgotten before jumps
   pub parts_in : (conds : List (List ℕ)) (piece : Piece) → FitsForm form piece → (begin first : ℕ) (scanners : List Source) (parts : List Part)
-      → AreFitScanners form conds scanners → ArePartsOf form scanners parts
+      → AreFitScanners form conds (sources_in piece.blocks scanners) → ArePartsOf form (sources_in piece.blocks scanners) parts
       → EachPart (λ part begin first. StandsFrom (code_of piece.blocks) begin (part_codes part begin first)) begin first parts
       → EachPart (λ part begin first. AllByRecursion (λ code. AllByRecursion (NamesItsOwn part.given.auto) code) (part_codes part begin first)) begin first parts
       → EachPart (BeginsAt piece.conds) begin first parts
@@ -88,12 +106,13 @@ module _ (form : Form) where
   parts_in conds piece ready begin first [] (part ∷ parts) fit are stand own begins = tt
   parts_in conds piece ready begin first (scanner ∷ scanners) [] fit are stand own begins = absurd are
   parts_in conds piece ready begin first (scanner ∷ scanners) (part ∷ parts) fit are stand own begins = (
-    scanner_stands form conds scanner fit.0 part.halting part.trees begin first piece ready are.0.marked are.0.trees
+    as_given (mode_of form.eof form.fill) form scanner piece
+        (scanner_stands form conds (source_in piece.blocks scanner) fit.0 part.halting part.trees begin first piece ready are.0.marked are.0.trees
         (subst (λ given. StandsFrom (code_of piece.blocks) begin
-        (supplied_layout (given_supply given first) part.halting given.endings given.end_rule part.trees given.auto begin)) are.0.is stand.0)
+        (supplied_layout (given_supply given first) part.halting given.endings given.end_rule part.trees given.auto begin)) are.0.is stand.0) refl
         (subst (λ given. AllByRecursion (λ code. AllByRecursion (NamesItsOwn given.auto) code)
         (supplied_layout (given_supply given first) part.halting given.endings given.end_rule part.trees given.auto begin)) are.0.is own.0)
-        (subst (λ given. (cond : List ℕ) → MayBegin given.cond cond → entry_block piece.conds cond ≡ Some begin) are.0.is begins.0),
+        (subst (λ given. (cond : List ℕ) → MayBegin given.cond cond → entry_block piece.conds cond ≡ Some begin) are.0.is begins.0)),
     parts_in conds piece ready (begin + length (part_codes part begin first)) (first + given_asked part.given) scanners parts fit.1 are.1 stand.1 own.1
         begins.1,
   )

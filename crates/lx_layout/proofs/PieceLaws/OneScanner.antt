@@ -20,6 +20,7 @@ use Rattle.lx_layout.specs.Carries.{Carries, NamesItsOwn}
 use Rattle.lx_layout.specs.CheckedStates.{ChecksAs, ChecksByWalks}
 use Rattle.lx_layout.specs.EndedRules.{EndsRules}
 use Rattle.lx_layout.specs.FewTests.{HasFewTests}
+use Rattle.lx_layout.specs.Forgetting.{endings_in}
 use Rattle.lx_layout.specs.Halting.{AreHalting, Halting}
 use Rattle.lx_layout.specs.Layout.{StandsFrom}
 use Rattle.lx_layout.specs.Parts.{checked, checked_by, given_supply, stored_from}
@@ -62,7 +63,8 @@ module _ (form : Form) (conds : List (List ℕ)) (scanner : Source) (fit : IsFit
     (marked : AreHalting form.eof scanner.end_rule (greatest_unit form.enc) scanner.auto halting)
     (are : EachReader IsTreeOf form.eof (greatest_unit form.enc) trees scanner.auto)
     (stands : StandsFrom (code_of piece.blocks) begin
-    (supplied_layout (given_supply (given_of form scanner) first) halting scanner.endings scanner.end_rule trees scanner.auto begin)) where
+    (supplied_layout (given_supply (given_of form scanner) first) halting scanner.endings scanner.end_rule trees scanner.auto begin))
+    (told : endings_in piece.blocks scanner.endings ≡ scanner.endings) where
   abbrev supply : Supply
   supply = given_supply (given_of form scanner) first
 
@@ -78,13 +80,21 @@ module _ (form : Form) (conds : List (List ℕ)) (scanner : Source) (fit : IsFit
   stored : (supply.stored ≡ None) ⊎ AreOnce (states_from 0 piece.blocks)
   stored = inr ready.once
 
-  carried : AllByRecursion (λ code. AllByRecursion (NamesItsOwn scanner.auto) code)
+  carried_as : AllByRecursion (λ code. AllByRecursion (NamesItsOwn scanner.auto) code)
       (supplied_layout supply halting scanner.endings scanner.end_rule trees scanner.auto begin)
       → (carries : Carries piece entry scanner.endings scanner.auto) × (carries.place ≡ place_of supply halting scanner.end_rule trees scanner.auto begin)
-  carried own =
+  carried_as own =
       layout_carries_at piece scanner.endings scanner.end_rule (greatest_unit form.enc) scanner.auto supply halting trees begin fit.formed fit.units fit.agreed
       (end_unit form conds scanner fit) are marked stands stored ready.eof
       (λ unit lt. unit_within form.enc unit (subst (λ n. unit < 2 ^ (8 * n)) ready.unit lt)) own
+
+  carried : AllByRecursion (λ code. AllByRecursion (NamesItsOwn scanner.auto) code)
+      (supplied_layout supply halting scanner.endings scanner.end_rule trees scanner.auto begin)
+      → (carries : Carries piece entry (endings_in piece.blocks scanner.endings) scanner.auto)
+      × (carries.place ≡ place_of supply halting scanner.end_rule trees scanner.auto begin)
+  carried own =
+      subst (λ endings. (carries : Carries piece entry endings scanner.auto)
+      × (carries.place ≡ place_of supply halting scanner.end_rule trees scanner.auto begin)) (sym told) (carried_as own)
 
   needs : (place : ℕ → ℕ) → place ≡ place_of supply halting scanner.end_rule trees scanner.auto begin
       → ChecksIn (mode_of form.eof form.fill) piece entry place scanner.auto scanner.checks
@@ -180,7 +190,7 @@ module _ (form : Form) (conds : List (List ℕ)) (scanner : Source) (fit : IsFit
         begins = enters;
         carries = carries.0;
         needs = needs carries.0.place carries.1;
-        rules = rules_end;
+        rules = subst (λ endings. EndsRules piece entry endings) (sym told) rules_end;
         tests =
             subst (λ p. HasFewTests piece entry p form.eof (greatest_unit form.enc) scanner.auto) (sym carries.1)
             (layout_tests_few piece supply halting scanner.endings scanner.end_rule (greatest_unit form.enc) trees scanner.auto begin fit.formed are

@@ -49,14 +49,18 @@ module _ (endings : ℕ → Ending) where
   held_any (value ∷ values) = (tt, held_any values)
 
   own_last : (rule : ℕ) → AllByRecursion (IsOwnAction endings) (last_code endings rule)
-  own_last rule = by (endings rule).goes_to (endings rule).action refl
+  own_last rule = by (endings rule).goes_to
     where
-      by : (cond action : Option (List ℕ)) → (endings rule).action ≡ action
-          → AllByRecursion (IsOwnAction endings) (cond_code cond (action_code rule (endings rule) action))
-      by None None e = (e, tt)
-      by None (Some action) e = ((e, refl), tt)
-      by (Some cond) None e = (tt, (e, tt))
-      by (Some cond) (Some action) e = (tt, ((e, refl), tt))
+      acts : (action : Option (List ℕ)) (forgets : Bool) → (endings rule).action ≡ action
+          → AllByRecursion (IsOwnAction endings) (action_code rule (endings rule) action forgets)
+      acts None true e = (tt, (e, tt))
+      acts None false e = (e, tt)
+      acts (Some action) forgets e = ((e, refl), tt)
+
+      by : (cond : Option (List ℕ))
+          → AllByRecursion (IsOwnAction endings) (cond_code cond (action_code rule (endings rule) (endings rule).action (endings rule).forgets))
+      by None = acts (endings rule).action (endings rule).forgets refl
+      by (Some cond) = (tt, acts (endings rule).action (endings rule).forgets refl)
 
   own_ending : (rule : ℕ) (values : List Held) → AllByRecursion (IsOwnAction endings) (ending_code endings rule values)
   own_ending rule values =

@@ -20,15 +20,17 @@ use Rattle.lx_ccode.specs.declared.piece.Mode.TheVariants.{Count, Eof, EofFixed,
 use Rattle.lx_ccode.specs.declared.piece.Piece.{Piece}
 use Rattle.lx_ccode.specs.declared.piece.StateCase.{StateCase}
 use Rattle.lx_encode.specs.Units.{unit_size}
+use Rattle.lx_layout.specs.Forgetting.{JumpsForget}
 use Rattle.lx_layout.specs.FormedParts as formed
 use Rattle.lx_layout.specs.FormedParts.{AllStore, AreFormed, all_asked}
 use Rattle.lx_layout.specs.PartModes.{CountsNothing, TriesNothing}
 use Rattle.lx_layout.specs.PartPieces as parts_of
 use Rattle.lx_layout.specs.PartPieces.{Suits}
 use Rattle.lx_layout.specs.Parts.{EachPart, Part, parts_blocks}
-use Rattle.lx_layout.specs.Pieces.{AreFit, ArePartsOf, Form, HasFields, IsActionOf, IsPieceOf, IsScannerIn, Source, conds_of, given_of, mode_of}
+use Rattle.lx_layout.specs.Pieces.{AreFit, ArePartsOf, Form, HasFields, IsActionOf, IsPieceOf, IsScannerIn, Source, conds_of, given_of, mode_of, sources_in}
 use Rattle.lx_layout.specs.Switches.{cond_cases}
 use Rattle.lx_layout.specs.Writable.{PartsCanBeWritten}
+use Rattle.lx_layout.proofs.Jumps.ForgettingSources.{conds_of-in, fit_in}
 use Rattle.lx_layout.proofs.PartLayouts.AskingParts.{needs_none, refills_after, states_before, tries_none}
 use Rattle.lx_layout.proofs.PartLayouts.ClosedParts.{all_end}
 use Rattle.lx_layout.proofs.PartLayouts.OwnRegisters.{parts_own}
@@ -58,10 +60,19 @@ size_fits Utf8 unit le = omega (arith, le)
 size_fits Utf16 unit le = omega (arith, le)
 size_fits Utf32 unit le = omega (arith, le)
 
-module _ (form : Form) (scanners : List Source) (parts : List Part) (piece : Piece) (fit : AreFit form scanners) (are : ArePartsOf form scanners parts)
+module _ (form : Form) (given : List Source) (parts : List Part) (piece : Piece) (fits : AreFit form given)
+    (are : ArePartsOf form (sources_in piece.blocks given) parts)
     (short : IsShort form.number) (blocks : piece.blocks ≡ parts_blocks 0 form.first_state parts)
     (small : statement_count piece.blocks ≤ STATEMENT_LIMIT) (fields : HasFields form (labels piece.blocks) piece)
-    (states : IfSome piece.states (λ cases. cases ≡ states_from 0 piece.blocks)) (conds : piece.conds ≡ cond_cases 0 piece.blocks) where
+    (states : IfSome piece.states (λ cases. cases ≡ states_from 0 piece.blocks)) (conds : piece.conds ≡ cond_cases 0 piece.blocks)
+    (forgets : JumpsForget piece.blocks) where
+  -- the scanners as they stand in the piece
+  abbrev scanners : List Source
+  scanners = sources_in piece.blocks given
+
+  fit : AreFit form scanners
+  fit = fit_in piece.blocks form given fits
+
   abbrev greatest : ℕ
   greatest = greatest_unit form.enc
 
@@ -185,12 +196,12 @@ module _ (form : Form) (scanners : List Source) (parts : List Part) (piece : Pie
 
   -- ---- actions and scanners
 
-  actions : AllByRecursion (IsActionOf scanners) (all_statements piece.blocks)
+  actions : AllByRecursion (IsActionOf given) (all_statements piece.blocks)
   actions =
-      subst (λ l. AllByRecursion (IsActionOf scanners) (all_statements l)) (sym blocks)
-      (of_statements (IsActionOf scanners) (parts_blocks 0 form.first_state parts)
-      (of_parts (λ code. AllByRecursion (IsActionOf scanners) code) 0 form.first_state parts
-      (parts_act form scanners 0 form.first_state scanners parts are_parts are (λ scanner has. has))))
+      subst (λ l. AllByRecursion (IsActionOf given) (all_statements l)) (sym blocks)
+      (of_statements (IsActionOf given) (parts_blocks 0 form.first_state parts)
+      (of_parts (λ code. AllByRecursion (IsActionOf given) code) 0 form.first_state parts
+      (parts_act form piece.blocks given 0 form.first_state given parts are_parts are (λ scanner has. has))))
 
   ready : FitsForm form piece
   ready = record { eof = fields.eof; unit = fields.unit; once = is_valid.states_differ; none = nothing; asks = asks_nothing }
@@ -202,18 +213,20 @@ module _ (form : Form) (scanners : List Source) (parts : List Part) (piece : Pie
       (subst (λ list. (length list ≡ length parts) ⊎ (length parts ≡ 1)) (sym (same_conds form scanners parts are))
       (subst (λ n. (length (conds_of scanners) ≡ n) ⊎ (n ≡ 1)) (sym (same_length form scanners parts are)) fit.conds)))
 
-  stand : AllByRecursion (λ (scanner : Source). IsScannerIn (mode_of form.eof form.fill) form.enc (given_of form scanner) scanner.checks piece) scanners
+  stand : AllByRecursion (λ (scanner : Source). IsScannerIn (mode_of form.eof form.fill) form.enc (given_of form scanner) scanner.checks piece) given
   stand =
-      parts_in form (conds_of scanners) piece ready 0 form.first_state scanners parts each are
+      parts_in form (conds_of scanners) piece ready 0 form.first_state given parts each are
       (parts_stand form.first_state parts piece.blocks blocks) (parts_own greatest 0 form.first_state parts are_parts) begin
 
-  pub is_piece : IsPieceOf form scanners piece
+  pub is_piece : IsPieceOf form given piece
   is_piece = record {
     valid = is_valid;
     fields = subst (λ list. HasFields form list piece)
-        (parts_labelled greatest form.first_state parts piece.blocks are_parts blocks ∙ same_conds form scanners parts are) fields;
+        (parts_labelled greatest form.first_state parts piece.blocks are_parts blocks ∙ same_conds form scanners parts are
+        ∙ conds_of-in piece.blocks given) fields;
     numbered = numbered;
     stored = stored;
+    forgets = forgets;
     actions = actions;
     stand = stand;
   }

@@ -12,11 +12,11 @@ cond_code-append (Some cond) rest = refl
 
 pub ending_code-parts : (ending : Ending) (rule : ℕ) (values : List Held)
     → ((tags_code ending 0 ending.tags values [] ++ back_code (slash_held ending.slash values) []) ++ cond_code ending.goes_to [])
-    ++ action_code rule ending ending.action
+    ++ action_code rule ending ending.action ending.forgets
     ≡ ending_code (λ (number : ℕ). ending) rule values
 ending_code-parts ending rule values =
     let front : List Stmt = tags_code ending 0 ending.tags values [] ++ back_code (slash_held ending.slash values) [] in
-    let last : List Stmt = action_code rule ending ending.action in
+    let last : List Stmt = action_code rule ending ending.action ending.forgets in
     append_assoc front (cond_code ending.goes_to []) last
     ∙ ap (λ l. front ++ l) (sym (cond_code-append ending.goes_to last))
     ∙ rule_code-parts ending ending.tags values (slash_held ending.slash values) (cond_code ending.goes_to last)

@@ -6,17 +6,17 @@ use Rattle.lx_auto.specs.declared.automaton.Held.{Held}
 use Rattle.lx_auto.specs.declared.automaton.Held.TheVariants.{Reg, MReg}
 use Rattle.lx_ccode.specs.declared.piece.Piece.{Piece}
 use Rattle.lx_ccode.specs.declared.piece.Stmt.{Stmt}
-use Rattle.lx_ccode.specs.declared.piece.Stmt.TheVariants.{Back, Goto}
+use Rattle.lx_ccode.specs.declared.piece.Stmt.TheVariants.{Accept, Back, Goto, Jump}
 use Rattle.lx_ccode.specs.Machine as machine
 use Rattle.lx_ccode.specs.Machine.{Answer, Machine, back, condition, goes_on, group_count, group_end, jump, step, stuck}
 use Rattle.lx_ccode.specs.Runs.{Ended}
 use Rattle.lx_ccode.specs.Statements.{code_of}
 use Rattle.lx_regex.specs.Values.{Value}
 use Rattle.lx_tdfa.specs.Promise.{tag_value}
-use Rattle.lx_layout.specs.Endings.{Ending, action_code, back_code, cond_code, ending_code, ends_code, groups_code, is_slash, last_code, rule_code, slash_held, tag_code, tags_code, unless}
+use Rattle.lx_layout.specs.Endings.{Ending, action_code, back_code, cond_code, ending_code, ends_code, groups_code, is_slash, last_code, name_or_none, rule_code, slash_held, tag_code, tags_code, unless}
 use Rattle.lx_layout.specs.Told.{cond_behind, cond_given, ends_given, groups_given, outcome_by, put_back, slash_value, tag_given, told_at, told_with, values_given}
 use Rattle.lx_layout.proofs.Runs.OperationSteps.{machine_at}
-use Rattle.lx_layout.proofs.Runs.PartialRuns.{EndsIn, end_in, last_in, step_in, widen_end}
+use Rattle.lx_layout.proofs.Runs.PartialRuns.{EndsIn, LeadsIn, end_in, last_in, step_in, widen_end}
 
 -- the values that are held so, as values of tags
 abbrev pub held_values : Bank → List Held → List Value
@@ -87,18 +87,30 @@ module _ (p : Piece) (x : List ℕ) (start : ℕ) (mk lim : ℕ) (u : Option ℕ
           tag_first d t (tags_code a (suc i) ts hs b) cur c l e
           (again (l ++ v ∷ []) (subst (λ z. Gives b cur c z e) (sym (append_assoc l (v ∷ []) (values_given a (suc i) ts (held_values k hs)))) h))
 
-  action_run : (n : ℕ) (a : Ending) (t : Option (List ℕ)) (cur : ℕ) (c : List ℕ) (l : List machine.Value)
-      → Gives (action_code n a t) cur c l (record { outcome = outcome_by n t; cursor = cur; cond = c; values = l })
-  action_run n a None cur c l = record { gives = widen_end p x start (1 + n0) (last_in p x start refl) (omega arith) }
-  action_run n a (Some t) cur c l = record { gives = widen_end p x start (1 + n0) (last_in p x start refl) (omega arith) }
+  -- what is kept counts for nothing where the match ends
+  action_run : (n : ℕ) (a : Ending) (t : Option (List ℕ)) (f : Bool) (cur : ℕ) (c : List ℕ) (l : List machine.Value)
+      → Gives (action_code n a t f) cur c l (record { outcome = outcome_by n t; cursor = cur; cond = c; values = l })
+  action_run n a None true cur c l = record { gives = end_in p x start (2 + n0) forgets jumps (omega arith) }
+    where
+      last : List Stmt
+      last = Jump (name_or_none a.goes_to) n ∷ []
 
-  cond_run : (n : ℕ) (a : Ending) (g t : Option (List ℕ)) (cur : ℕ) (c : List ℕ) (l : List machine.Value)
-      → Gives (cond_code g (action_code n a t)) cur c l (record
+      forgets : LeadsIn p x start 1 (Accept 0 ∷ last) (machine_at cur mk lim u ac kept r0 k c l) q last (machine_at cur mk lim u 0 kept r0 k c l) q
+      forgets = step_in p x start refl (omega arith)
+
+      jumps : EndsIn p x start 1 last (machine_at cur mk lim u 0 kept r0 k c l) q
+          (record { outcome = outcome_by n None; cursor = cur; cond = c; values = l })
+      jumps = last_in p x start refl
+  action_run n a None false cur c l = record { gives = widen_end p x start (1 + n0) (last_in p x start refl) (omega arith) }
+  action_run n a (Some t) f cur c l = record { gives = widen_end p x start (1 + n0) (last_in p x start refl) (omega arith) }
+
+  cond_run : (n : ℕ) (a : Ending) (g t : Option (List ℕ)) (f : Bool) (cur : ℕ) (c : List ℕ) (l : List machine.Value)
+      → Gives (cond_code g (action_code n a t f)) cur c l (record
       { outcome = outcome_by n t; cursor = cur; cond = cond_behind g c; values = l ++ cond_given g })
-  cond_run n a None t cur c l =
-      subst (λ z. Gives (action_code n a t) cur c l (record { outcome = outcome_by n t; cursor = cur; cond = c; values = z })) (sym (append-nil l))
-      (action_run n a t cur c l)
-  cond_run n a (Some d) t cur c l = first refl (action_run n a t cur d (l ++ condition d ∷ []))
+  cond_run n a None t f cur c l =
+      subst (λ z. Gives (action_code n a t f) cur c l (record { outcome = outcome_by n t; cursor = cur; cond = c; values = z })) (sym (append-nil l))
+      (action_run n a t f cur c l)
+  cond_run n a (Some d) t f cur c l = first refl (action_run n a t f cur d (l ++ condition d ∷ []))
 
   -- what is told, where these values were given
   abbrev told_on : (n : ℕ) (a : Ending) (c : List ℕ) (l : List machine.Value) (cur : ℕ) (o : Option ℕ) → Ended
@@ -110,7 +122,7 @@ module _ (p : Piece) (x : List ℕ) (start : ℕ) (mk lim : ℕ) (u : Option ℕ
   EndsBy rest n a = (cur : ℕ) (c : List ℕ) (l : List machine.Value) → Gives rest cur c l (told_on n a c l cur (Some cur))
 
   last_run : (endings : ℕ → Ending) (n : ℕ) → EndsBy (last_code endings n) n (endings n)
-  last_run endings n cur c l = cond_run n (endings n) (endings n).goes_to (endings n).action cur c l
+  last_run endings n cur c l = cond_run n (endings n) (endings n).goes_to (endings n).action (endings n).forgets cur c l
 
   back_run : (n : ℕ) (a : Ending) (rest : List Stmt) (s : Option Held) (cur : ℕ) (c : List ℕ) (l : List machine.Value) → EndsBy rest n a
       → Gives (back_code s rest) cur c l (told_on n a c l cur (put_back (held_value k s) cur))

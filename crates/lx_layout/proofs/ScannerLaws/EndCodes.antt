@@ -5,7 +5,7 @@ use Rattle.std.specs.List.{AllByRecursion}
 use Rattle.lx_auto.specs.declared.automaton.Held.{Held}
 use Rattle.lx_auto.specs.declared.automaton.Held.TheVariants.{Reg, MReg}
 use Rattle.lx_ccode.specs.declared.piece.Stmt.{Stmt}
-use Rattle.lx_ccode.specs.declared.piece.Stmt.TheVariants.{Back, Code, Cond, Count, End, Jump}
+use Rattle.lx_ccode.specs.declared.piece.Stmt.TheVariants.{Accept, Back, Code, Cond, Count, End, Jump}
 use Rattle.lx_layout.specs.EndedRules.{ended_rule}
 use Rattle.lx_layout.specs.Endings.{Ending, action_code, back_code, cond_code, ending_code, ends_code, groups_code, is_slash, last_code, name_or_none, slash_held, tag_code, tags_code, unless}
 
@@ -60,14 +60,18 @@ module _ (rule : ℕ) where
   back_by (Some (Reg r)) rest h = more (Back (suc r)) rest refl h
   back_by (Some (MReg r)) rest h = h
 
-  action_by : (ending : Ending) (action : Option (List ℕ)) → EndsBy (action_code rule ending action)
-  action_by ending None = record {
+  jump_by : (ending : Ending) → EndsBy (Jump (name_or_none ending.goes_to) rule ∷ [])
+  jump_by ending = record {
     alone = ((λ other is. cc), tt);
     statement = Jump (name_or_none ending.goes_to) rule;
     has = (0, omega arith, refl);
     is = refl;
   }
-  action_by ending (Some action) = record {
+
+  action_by : (ending : Ending) (action : Option (List ℕ)) (forgets : Bool) → EndsBy (action_code rule ending action forgets)
+  action_by ending None true = more (Accept 0) (Jump (name_or_none ending.goes_to) rule ∷ []) refl (jump_by ending)
+  action_by ending None false = jump_by ending
+  action_by ending (Some action) forgets = record {
     alone = ((λ other is. cc), tt);
     statement = Code rule ending.line action;
     has = (0, omega arith, refl);
@@ -82,4 +86,5 @@ module _ (rule : ℕ) where
   ending_by endings values =
       tags_by (endings rule) 0 (endings rule).tags values (back_code (slash_held (endings rule).slash values) (last_code endings rule))
       (back_by (slash_held (endings rule).slash values) (last_code endings rule)
-      (cond_by (endings rule).goes_to (action_code rule (endings rule) (endings rule).action) (action_by (endings rule) (endings rule).action)))
+      (cond_by (endings rule).goes_to (action_code rule (endings rule) (endings rule).action (endings rule).forgets)
+      (action_by (endings rule) (endings rule).action (endings rule).forgets)))

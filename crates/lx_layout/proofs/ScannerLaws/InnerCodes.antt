@@ -143,7 +143,7 @@ inner_gives statement inner e = true≢false (sym e)
 
 -- ends of rules that have no more than these
 abbrev pub acting : ℕ → Ending
-acting rule = record { tags = []; slash = None; groups = 0; goes_to = None; action = Some []; line = None }
+acting rule = record { tags = []; slash = None; groups = 0; goes_to = None; action = Some []; line = None; forgets = false }
 
 abbrev pub jumping : ℕ → Ending
-jumping rule = record { tags = []; slash = None; groups = 0; goes_to = None; action = None; line = None }
+jumping rule = record { tags = []; slash = None; groups = 0; goes_to = None; action = None; line = None; forgets = false }

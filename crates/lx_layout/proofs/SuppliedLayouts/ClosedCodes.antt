@@ -12,7 +12,7 @@ use Rattle.lx_auto.specs.declared.ops.Op.TheVariants.{Here, Null, Copy, MHere, M
 use Rattle.lx_ccode.specs.Statements.{is_ending}
 use Rattle.lx_ccode.specs.Validity.{ends_once}
 use Rattle.lx_ccode.specs.declared.piece.Stmt.{Stmt}
-use Rattle.lx_ccode.specs.declared.piece.Stmt.TheVariants.{Accept as SaveAccept, Back, Backup, Count, End, Goto, IfAccept, IfEnd, IfUnit, Need, Peek, Restore, Skip, State as Store, Try}
+use Rattle.lx_ccode.specs.declared.piece.Stmt.TheVariants.{Accept as SaveAccept, Back, Backup, Cond, Count, End, Goto, IfAccept, IfEnd, IfUnit, Need, Peek, Restore, Skip, State as Store, Try}
 use Rattle.lx_sequence.specs.ParallelCopies.{sequentialized}
 use Rattle.lx_layout.specs.Codes.{Choice, list_code, op_code, ops_code, save_code}
 use Rattle.lx_layout.specs.Endings.{Ending, action_code, back_code, cond_code, ending_code, ends_code, groups_code, is_slash, last_code, slash_held, tag_code, tags_code, unless}
@@ -102,13 +102,18 @@ module _ (B : ℕ → Type 0) where
   back_fits (Some (MReg r)) rest h = h
 
   last_fits : (endings : ℕ → Ending) (rule : ℕ) → Fits (last_code endings rule)
-  last_fits endings rule = by (endings rule).goes_to (endings rule).action
+  last_fits endings rule = by (endings rule).goes_to
     where
-      by : (cond action : Option (List ℕ)) → Fits (cond_code cond (action_code rule (endings rule) action))
-      by None None = record { ends = refl; jumps = (tt, tt) }
-      by None (Some action) = record { ends = refl; jumps = (tt, tt) }
-      by (Some cond) None = record { ends = refl; jumps = (tt, (tt, tt)) }
-      by (Some cond) (Some action) = record { ends = refl; jumps = (tt, (tt, tt)) }
+      acts : (action : Option (List ℕ)) (forgets : Bool) → Fits (action_code rule (endings rule) action forgets)
+      acts None true = record { ends = refl; jumps = (tt, (tt, tt)) }
+      acts None false = record { ends = refl; jumps = (tt, tt) }
+      acts (Some action) forgets = record { ends = refl; jumps = (tt, tt) }
+
+      by : (cond : Option (List ℕ)) → Fits (cond_code cond (action_code rule (endings rule) (endings rule).action (endings rule).forgets))
+      by None = acts (endings rule).action (endings rule).forgets
+      by (Some cond) =
+          more (Cond cond) (action_code rule (endings rule) (endings rule).action (endings rule).forgets) refl tt
+          (acts (endings rule).action (endings rule).forgets)
 
   pub ending_fits : (endings : ℕ → Ending) (rule : ℕ) (values : List Held) → Fits (ending_code endings rule values)
   ending_fits endings rule values =

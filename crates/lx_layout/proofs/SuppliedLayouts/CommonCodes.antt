@@ -84,13 +84,16 @@ back_common (Some (Reg r)) rest h = (refl, h)
 back_common (Some (MReg r)) rest h = h
 
 last_common : (endings : ℕ → Ending) (rule : ℕ) → AreCommon (last_code endings rule)
-last_common endings rule = by (endings rule).goes_to (endings rule).action
+last_common endings rule = by (endings rule).goes_to
   where
-    by : (cond action : Option (List ℕ)) → AreCommon (cond_code cond (action_code rule (endings rule) action))
-    by None None = (refl, tt)
-    by None (Some action) = (refl, tt)
-    by (Some cond) None = (refl, (refl, tt))
-    by (Some cond) (Some action) = (refl, (refl, tt))
+    acts : (action : Option (List ℕ)) (forgets : Bool) → AreCommon (action_code rule (endings rule) action forgets)
+    acts None true = (refl, (refl, tt))
+    acts None false = (refl, tt)
+    acts (Some action) forgets = (refl, tt)
+
+    by : (cond : Option (List ℕ)) → AreCommon (cond_code cond (action_code rule (endings rule) (endings rule).action (endings rule).forgets))
+    by None = acts (endings rule).action (endings rule).forgets
+    by (Some cond) = (refl, acts (endings rule).action (endings rule).forgets)
 
 pub ending_common : (endings : ℕ → Ending) (rule : ℕ) (values : List Held) → AreCommon (ending_code endings rule values)
 ending_common endings rule values =

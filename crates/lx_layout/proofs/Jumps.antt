@@ -1,0 +1,4 @@
+pub mod ForgettingCodes
+pub mod ForgettingLayouts
+pub mod ForgettingSources
+pub mod ForgettingTold
