@@ -2,11 +2,16 @@
 # Measures runs of emitted scanners through a window of 4,096 units, over an input of 64 MiB: the statements a second, which are to be
 # 20 million or more, and the memory above the input's bytes, which is to stay under 32 MiB. The lines go to /dev/null.
 #
-# One scanner asks for units by checks, one by refills at the end of its window, and one stores states, so that it is left, saved and resumed
-# at each refill. Statements are counted on the first units, which repeat, by a reading of the emitted text. Seconds are those of the
+# One scanner asks for units by checks, one by refills at the end of its window, and one stores states, so that it is left at each refill, and
+# comes back. Statements are counted on the first units, which repeat, by a reading of the emitted text. Seconds are those of the
 # processor, with those that the system takes for the lines.
 #
-# Usage: bench/running.sh, from anywhere; RE2C names the program (that of bin/re2c where it is unset).
+# Two scanners of keywords store states too. Their pieces have about 1,000 and 8,000 lines, and they are run with refills of one unit. The
+# time of a refill is that of such a run, less that of one with refills of 4,096 units, by the refills that it has more. It is to be at
+# most 1.5 times as long with the longer piece.
+#
+# Usage: bench/running.sh [refills], from anywhere: with the word the scanners of keywords alone. RE2C names the program (that of bin/re2c
+# where it is unset).
 cd "$(dirname "$0")/.." || exit 1
 program=${RE2C:-}
 if [ -z "$program" ]; then
@@ -15,7 +20,7 @@ if [ -z "$program" ]; then
 fi
 work=$(mktemp -d) || exit 1
 trap 'rm -rf "$work"' EXIT
-python3 - "$program" "$work" <<'PYTHON'
+python3 - "$program" "$work" "${1:-}" <<'PYTHON'
 import os, re, subprocess, sys
 MEASURE = """
 import os, sys
@@ -24,7 +29,9 @@ _, status, usage = os.wait4(child, 0)
 print(status, usage.ru_utime, usage.ru_stime, usage.ru_maxrss)
 """
 
-program, work = os.path.abspath(sys.argv[1]), sys.argv[2]
+program, work, word = os.path.abspath(sys.argv[1]), sys.argv[2], sys.argv[3]
+if word not in ('', 'refills'):
+    sys.exit(f'running: {word}: only "refills" is known')
 os.chdir(work)
 RULES = '" " { }\n[a-z]+ { }\n[0-9]+ { }\n* { }\n'
 SCANNERS = {
@@ -34,6 +41,10 @@ SCANNERS = {
 }
 WORDS = b'the 25 quick brown foxes jump over 1 lazy dog '
 SIZE = 64 << 20
+# how many keywords make pieces of about 1,000 and 8,000 lines, and the most by which a refill may take longer with the longer one
+KEYWORDS, MOST_GROWTH = (6, 50), 1.5
+# how long the refills that are timed take at least, in seconds
+LONG_ENOUGH = 0.5
 
 def statements(text):
     """The statements behind each label of an emitted text, in order, as they are spelled."""
@@ -72,27 +83,73 @@ def count(text, stream):
             at = where[test.group(2)] if unit <= int(test.group(1), 16) else at
     return made, cursor
 
-def run(name, options, rules):
+def compiled(options, rules):
+    """The emitted text of a scanner, which stands in s.c."""
     with open('s.re', 'w') as file:
-        file.write('/*!re2c\n' + rules + RULES + '*/\n')
+        file.write('/*!re2c\n' + rules + '*/\n')
     subprocess.run([program, '-i', *options, '-o', 's.c', 's.re'], check=True)
-    text = open('s.c').read()
-    made, units = count(text, WORDS * 2000)
+    return open('s.c').read()
+
+def measured(name, piece):
+    """The seconds of a run of s.c over in.txt, those of the system among them, and its peak, with refills of so many units."""
     # (the peak of a process counts that of the one that began it, so a small one begins it)
-    words = [program, '--x-run', 'in.txt', '--x-window', '4096', '--x-piece', '4096', 's.c']
+    words = [program, '--x-run', 'in.txt', '--x-window', '4096', '--x-piece', str(piece), 's.c']
     ran = subprocess.run([sys.executable, '-c', MEASURE, *words], stdout=subprocess.PIPE, check=True, text=True)
     status, user, system, peak = map(float, ran.stdout.split())
     if status:
         sys.exit(f'running: {name}: status {status:.0f}')
-    seconds = user + system
+    return user + system, system, peak
+
+def write_input(size):
+    with open('in.txt', 'wb') as file:
+        file.write((WORDS * (size // len(WORDS) + 1))[:size])
+
+def keywords(count):
+    """So many words of six letters, the same in each run."""
+    words, number = [], 1
+    while len(words) < count:
+        number = (number * 1103515245 + 12345) % (1 << 31)
+        word = ''.join(chr(97 + (number >> 4) // 26 ** place % 26) for place in range(6))
+        if word not in words:
+            words.append(word)
+    return words
+
+def least_seconds(name, piece):
+    """The seconds of the shortest of three runs."""
+    return min(measured(name, piece)[0] for _ in range(3))
+
+def refill_time(count):
+    """The lines of a scanner of so many keywords, and the seconds that a refill of one unit takes it."""
+    rules = 're2c:eof = 0;\n$ { }\n' + ''.join(f'"{word}" {{ }}\n' for word in keywords(count)) + RULES
+    lines, size, name = compiled(['-f'], rules).count('\n'), 1 << 8, f'{count} keywords'
+    taken = 0.0
+    while taken < LONG_ENOUGH:
+        size *= 4
+        write_input(size)
+        taken = least_seconds(name, 1) - least_seconds(name, 4096)
+    return lines, taken / (size - size / 4096)
+
+def refills():
+    """Whether a refill takes about as long with a long piece as with a short one."""
+    (few, short), (many, long) = map(refill_time, KEYWORDS)
+    print(f'refills of one unit with stored states: {short * 1e6:.3g} us each in a piece of {few} lines, {long * 1e6:.3g} us in one of '
+          f'{many}: {long / short:.2f} times as long (at most {MOST_GROWTH})')
+    return long <= MOST_GROWTH * short
+
+def run(name, options, rules):
+    text = compiled(options, rules + RULES)
+    made, units = count(text, WORDS * 2000)
+    seconds, system, peak = measured(name, 4096)
     speed, above = made / units * SIZE / seconds, peak / 1024 - SIZE / (1 << 20)
     print(f'{name}: {made / units:.2f} statements a unit, {seconds:.1f} s ({system:.1f} of the system), '
           f'{speed / 1e6:.1f} million statements a second, {above:.1f} MiB above the input')
     return speed >= 20e6 and above < 32
 
-with open('in.txt', 'wb') as file:
-    file.write((WORDS * (SIZE // len(WORDS) + 1))[:SIZE])
-met = [run(name, *scanner) for name, scanner in SCANNERS.items()]
-print(f'{sum(met)} of {len(met)} are met (20 million statements a second, 32 MiB)')
+met = []
+if not word:
+    write_input(SIZE)
+    met = [run(name, *scanner) for name, scanner in SCANNERS.items()]
+    print(f'{sum(met)} of {len(met)} are met (20 million statements a second, 32 MiB)')
+met.append(refills())
 sys.exit(not all(met))
 PYTHON
